@@ -1,33 +1,26 @@
 -- What a session asks in a run is what its holdings say.
-use Rattle.std.proofs.Common.{◌≡◌, ℕ, zero, suc, ◌≤◌, Bool, true, false, inl, inr, List, [], ◌∷◌, ◌++◌, length, get_or, set, map}
-use Rattle.std.proofs.Common.{replicate, refl, sym, ap, subst, ◌∙◌, arith}
-use Rattle.std.specs.{Prelude.slice_get, Prelude.if◌then◌else◌, Prelude.◌==◌, Prelude.is_some, List.AllZip}
+use Rattle.std.proofs.Common.{◌≡◌, ℕ, ◌≤◌, Bool, inl, inr, List, [], ◌∷◌, ◌++◌, length, get_or, set, map, replicate, refl, sym}
+use Rattle.std.proofs.{Common.ap, Common.subst, Common.◌∙◌, Common.arith, lemmas.Bool.eq-eqb, lemmas.Bool.cases_eq}
+use Rattle.std.{proofs.lemmas.Grind.common_steps, specs.List.AllZip}
+use Rattle.std.{specs.Prelude.if◌then◌else◌, specs.Prelude.◌==◌, specs.Prelude.is_some, proofs.lemmas.List.length-replicate}
 use Rattle.std.specs.Option.{option_map, option_to_list, unwrap_or, option_and_then}
 use Rattle.std.specs.declared.option.Option.{Option, TheVariants.None, TheVariants.Some}
-use Rattle.std.proofs.lemmas.{Bool.eq-eqb, Bool.cases_eq, List.take_all, List.length-replicate}
-use Rattle.graph_types.specs.{Graph.Graph, Graph.map_of, declared.ids.Edge.Edge, declared.requests.Request.Request}
-use Rattle.epoch_core.specs.declared.states.Version.{Version}
-use Rattle.epoch_core.specs.declared.states.Opening.{Opening}
-use Rattle.block_reclamation.specs.declared.status.BlockStatus.{BlockStatus}
-use Rattle.epoch_core.specs.declared.session_states.{Hold.Hold, Inquiry.Inquiry, SessionState.SessionState}
-use Rattle.epoch_core.specs.declared.session_states.SessionState.TheVariants.{Idle, Pinned, Holding as Holds, Asking}
-use Rattle.epoch_core.specs.declared.events.Event.{Event, TheVariants.Reply, TheVariants.Release}
-use Rattle.epoch_core.specs.declared.events.Event.TheVariants.{Take, Fill, Post, Floor, Recycle, Pin, Enter, Settle, Ask, Read}
-use Rattle.epoch_core.specs.Blocks.{changed_at, filled, put, taken}
-use Rattle.epoch_core.specs.Blocks.{reclaimed}
-use Rattle.epoch_core.specs.Worlds.{Answer, IsStart, MachineState, World, graph_with, held_in, last_graph, last_number, replies_of}
-use Rattle.epoch_core.specs.{Worlds.session_of, Worlds.start, Posts.posted, Machine.with_status}
-use Rattle.epoch_core.specs.Versions.{blocks_at, edges_of, graph_at, version_at}
-use Rattle.epoch_core.specs.Posting.{can_post, version_by}
-use Rattle.epoch_core.specs.Machine.{Answers, Question, is_all_read, move, question_in, question_of, read_on, settled_at, to_ask}
-use Rattle.epoch_core.specs.Machine.{to_enter, to_pin, to_read, to_release, to_reply, to_settle, with_heap, with_sessions}
-use Rattle.epoch_core.specs.{Runs.Runs, Runs.is_done, Runs.next_world, Sound.IsNamed, Sound.IsSessionSound, Sound.IsSound}
-use Rattle.epoch_core.specs.Holdings.{Entered, Observation, Released, Replied, answered_first, holdings}
-use Rattle.epoch_core.specs.Holdings.{holdings_of, observations, observed_at, questions, request_in}
-use Rattle.epoch_core.proofs.Lists.{option_map_some}
+use Rattle.graph_types.specs.{Graph.Graph, declared.ids.Edge.Edge, declared.requests.Request.Request}
+use Rattle.epoch_core.specs.declared.{states.Version.Version, states.Opening.Opening, session_states.SessionState.SessionState}
+use Rattle.epoch_core.specs.{declared.events.Event.Event, Versions.graph_at, Posting.can_post, Posting.version_by}
+use Rattle.epoch_core.specs.declared.events.Event.TheVariants.{Reply, Release, Take, Fill, Post, Floor, Recycle, Pin, Enter}
+use Rattle.epoch_core.specs.declared.events.Event.TheVariants.{Settle, Ask, Read}
+use Rattle.epoch_core.specs.{Blocks.changed_at, Blocks.filled, Blocks.taken, Blocks.reclaimed, Worlds.session_of, Worlds.start}
+use Rattle.epoch_core.specs.Worlds.{Answer, IsStart, MachineState, World, held_in, last_graph, last_number, replies_of}
+use Rattle.epoch_core.specs.{Posts.posted, Runs.Runs, Runs.is_done, Runs.next_world, Sound.IsSessionSound, Sound.IsSound}
+use Rattle.epoch_core.specs.Machine.{with_status, Answers, Question, move, question_in, question_of, to_ask, to_enter, to_pin}
+use Rattle.epoch_core.specs.Machine.{to_read, to_release, to_reply, to_settle, with_heap, with_sessions}
+use Rattle.epoch_core.specs.Holdings.{Entered, Observation, Released, Replied, answered_first, holdings, holdings_of}
+use Rattle.epoch_core.specs.Holdings.{observations, observed_at, questions, request_in}
 use Rattle.epoch_core.proofs.{Changes.graph_before, Steps.sound_next, Steps.sound_start, Steps.idle_at}
-use Rattle.epoch_core.proofs.Moves.{Moved, moved, session_after, session_else, replying}
+use Rattle.epoch_core.proofs.Moves.{Moved, moved, session_after, session_else}
 use Rattle.epoch_core.proofs.Answering.{asked, all_asked, Adds, adds_all, same_answers, other}
+use Rattle.block_reclamation.specs.declared.status.BlockStatus.{BlockStatus}
 
 abbrev question_on : Graph → Request → Question
 question_on g request = record { request = request; graph = g }
@@ -50,43 +43,33 @@ pub record Calm (s : ℕ) (old new : World) : Type 0 where
   pub graphs : (n : ℕ) → n ≤ last_number old → graph_at new.opening new.versions n ≡ graph_at old.opening old.versions n
 
 held_low : (w : World) (session : SessionState) (n : ℕ) → IsSessionSound w session → held_in session ≡ Some n → n ≤ last_number w
-held_low w Idle n p is = cc
-held_low w (Pinned pin) n p is = cc
-held_low w (Holds hold) n p is = let e : hold.version ≡ n = cc in omega (arith, p.held_last)
-held_low w (Asking hold inquiry) n p is = let e : hold.version ≡ n = cc in omega (arith, p.0.held_last)
+held_low w session n p is = grind (arith, common_steps)
 
 owed_same : (old new : World) (held : Option ℕ) (rest : List Observation) → ((n : ℕ) → held ≡ Some n → n ≤ last_number old)
     → ((n : ℕ) → n ≤ last_number old → graph_at new.opening new.versions n ≡ graph_at old.opening old.versions n)
     → owed new.opening new.versions held rest ≡ owed old.opening old.versions held rest
-owed_same old new None rest low graphs = refl
-owed_same old new (Some n) rest low graphs = ap (λ g. map (question_on g) (answered_first rest)
-    ++ questions (holdings_of rest)) (graphs n (low n refl))
+owed_same old new held rest low graphs = grind (arith, common_steps)
 
 calm_owed : (s : ℕ) (old new : World) (rest : List Observation) → IsSound old → Calm s old new → owed_to s new rest
     ≡ owed_to s old rest
 calm_owed s old new rest sound calm =
-    ap (λ held. owed new.opening new.versions held rest) calm.held
-    ∙ owed_same old new (held_in (session_of old s)) rest
+    ap (λ held. owed new.opening new.versions held rest) calm.held ∙ owed_same old new (held_in (session_of old s)) rest
     (λ n is. held_low old (session_of old s) n (sound.sessions s) is) calm.graphs
 
 calm_itself : (s : ℕ) (w : World) → Calm s w w
 calm_itself s w = record { held = refl; graphs = λ n _. refl }
 
 no_observations : (b : Bool) (rest : List Observation) → (if b then [] else []) ++ rest ≡ rest
-no_observations true rest = refl
-no_observations false rest = refl
+no_observations b rest = grind (arith, common_steps)
 
 calm_status : (s : ℕ) (w : World) (o : Option (List BlockStatus)) → Calm s w (unwrap_or (option_map (with_status w) o) w)
-calm_status s w None = calm_itself s w
-calm_status s w (Some status) = record { held = refl; graphs = λ n _. refl }
+calm_status s w o = grind (arith, common_steps)
 
 calm_heap : (s : ℕ) (w : World) (o : Option (List (List Edge))) → Calm s w (unwrap_or (option_map (with_heap w) o) w)
-calm_heap s w None = calm_itself s w
-calm_heap s w (Some heap) = record { held = refl; graphs = λ n _. refl }
+calm_heap s w o = grind (arith, common_steps)
 
 calm_if : (s : ℕ) (b : Bool) (w new : World) → Calm s w new → Calm s w (unwrap_or (if b then Some new else None) w)
-calm_if s true w new calm = calm
-calm_if s false w new calm = calm_itself s w
+calm_if s b w new calm = grind (arith, common_steps)
 
 -- a move after which the session holds what it held
 calm_move : (s t : ℕ) (w : World) (change : SessionState → Option SessionState)
@@ -108,33 +91,17 @@ calm_move s t w change same =
     ] refl
 
 same_pin : (floor : ℕ) (p q : SessionState) → to_pin floor p ≡ Some q → held_in q ≡ held_in p
-same_pin floor Idle q is = let e : Pinned floor ≡ q = cc in ap held_in (sym e)
-same_pin floor (Pinned pin) q is = cc
-same_pin floor (Holds hold) q is = cc
-same_pin floor (Asking hold inquiry) q is = cc
+same_pin floor p q is = grind (arith, common_steps)
 
 same_settle : (p q : SessionState) → to_settle p ≡ Some q → held_in q ≡ held_in p
-same_settle Idle q is = cc
-same_settle (Pinned pin) q is = cc
-same_settle (Holds hold) q is = let e : Holds (settled_at hold) ≡ q = cc in ap held_in (sym e)
-same_settle (Asking hold inquiry) q is = let e : Asking (settled_at hold) inquiry ≡ q = cc in ap held_in (sym e)
+same_settle p q is = grind (arith, common_steps)
 
 same_ask : (request : Request) (p q : SessionState) → to_ask request p ≡ Some q → held_in q ≡ held_in p
-same_ask request Idle q is = cc
-same_ask request (Pinned pin) q is = cc
-same_ask request (Holds hold) q is = let e : Asking hold (record { request = request; next = 0; read = [] }) ≡ q =
-    cc in ap held_in (sym e)
-same_ask request (Asking hold inquiry) q is = cc
+same_ask request p q is = grind (arith, common_steps)
 
 same_read : (o : Opening) (heap : List (List Edge)) (versions : List Version) (p q : SessionState)
     → to_read o heap versions p ≡ Some q → held_in q ≡ held_in p
-same_read o heap versions Idle q is = cc
-same_read o heap versions (Pinned pin) q is = cc
-same_read o heap versions (Holds hold) q is = cc
-same_read o heap versions (Asking hold inquiry) q is =
-    let b = option_map_some (λ b. Asking hold (read_on heap inquiry b))
-    (slice_get (blocks_at o versions hold.version) inquiry.next) q is in
-    ap held_in b.2
+same_read o heap versions p q is = grind (arith, common_steps)
 
 -- what an event says of the questions still to come
 abbrev Accounts : ℕ → World → Event → List Observation → Type 0
@@ -148,26 +115,17 @@ calm_accounts s w new rest b sound calm = calm_owed s w new rest sound calm ∙ 
 -- an Enter
 entering : (s : ℕ) (w : World) (p q : SessionState) (rest : List Observation) → to_enter (last_number w) p ≡ Some q
     → owed w.opening w.versions (held_in q) rest ≡ owed w.opening w.versions (held_in p) (Entered (last_graph w) ∷ rest)
-entering s w Idle q rest is = cc
-entering s w (Pinned pin) q rest is = let e : Holds (record { pin = pin; settled = false; version = last_number w }) ≡ q =
-    cc in ap (λ r. owed w.opening w.versions (held_in r) rest) (sym e)
-entering s w (Holds hold) q rest is = cc
-entering s w (Asking hold inquiry) q rest is = cc
+entering s w p q rest is = grind (arith, common_steps)
 
 -- a Release
 releasing : (w : World) (p q : SessionState) (rest : List Observation) → to_release p ≡ Some q
     → owed w.opening w.versions (held_in q) rest ≡ owed w.opening w.versions (held_in p) (Released ∷ rest)
-releasing w Idle q rest is = cc
-releasing w (Pinned pin) q rest is = let e : Idle ≡ q = cc in ap (λ r. owed w.opening w.versions (held_in r) rest) (sym e)
-releasing w (Holds hold) q rest is = let e : Idle ≡ q = cc in ap (λ r. owed w.opening w.versions (held_in r) rest) (sym e)
-releasing w (Asking hold inquiry) q rest is = cc
+releasing w p q rest is = grind (arith, common_steps)
 
 -- a move of session t with a sight of its own, as session s sees it
 seen_move : (s t : ℕ) (w : World) (change : SessionState → Option SessionState) (bring : List Observation)
-    (rest : List Observation) → IsSound w
-    → ((p q : SessionState) → change p ≡ Some q → owed w.opening w.versions (held_in q) rest
-    ≡ owed w.opening w.versions (held_in p) (bring ++ rest))
-    → owed_to s (unwrap_or (move w t change) w) rest ≡ owed_to s w
+    (rest : List Observation) → IsSound w → ((p q : SessionState) → change p ≡ Some q → owed w.opening w.versions (held_in q) rest
+    ≡ owed w.opening w.versions (held_in p) (bring ++ rest)) → owed_to s (unwrap_or (move w t change) w) rest ≡ owed_to s w
     ((if is_some (move w t change) then (if t == s then bring else []) else []) ++ rest)
 seen_move s t w change bring rest sound same =
     elim (move w t change) as (λ o. move w t change ≡ o → owed_to s (unwrap_or o w) rest
@@ -181,8 +139,7 @@ seen_move s t w change bring rest sound same =
                 ap (λ u. owed w.opening w.versions (held_in
                 (session_of (with_sessions w (set w.sessions t m.next)) u)) rest) (sym e)
                 ∙ ap (λ p. owed w.opening w.versions (held_in p) rest) (session_after w t m.session m.next m.found)
-                ∙ same m.session m.next m.changed
-                ∙ ap (λ p. owed w.opening w.versions (held_in p) (bring ++ rest)) (sym m.at)
+                ∙ same m.session m.next m.changed ∙ ap (λ p. owed w.opening w.versions (held_in p) (bring ++ rest)) (sym m.at)
                 ∙ ap (λ u. owed w.opening w.versions (held_in (session_of w u)) (bring ++ rest)) e
                 ∙ ap (λ b. owed_to s w ((if b then bring else []) ++ rest)) (sym (eq-eqb t s e))
             | inr ne ↦
@@ -191,67 +148,16 @@ seen_move s t w change bring rest sound same =
           ])
     ] refl
 
--- a Reply: what was read is what the batches up to the held version leave
-read_graph : (w : World) (hold : Hold) (inquiry : Inquiry) → IsSound w → IsSessionSound w (Asking hold inquiry)
-    → is_all_read w.opening w.versions hold inquiry ≡ true
-    → graph_with (version_at w.opening w.versions hold.version) inquiry.read ≡ graph_at w.opening w.versions hold.version
-read_graph w hold inquiry sound p all =
-    let low : length (blocks_at w.opening w.versions hold.version) ≤ inquiry.next = grind (arith, all) in
-    let named : IsNamed w hold.version = sound.named hold.version p.0.held_last in
-    let edges : map_of inquiry.read ≡ (graph_at w.opening w.versions hold.version).edges =
-    ap map_of (p.1 ∙ ap (edges_of w.heap) (take_all inquiry.next (blocks_at w.opening w.versions hold.version) low))
-    ∙ p.0.shown.same in
-    let names = named.names in
-    let kinds = named.kinds in
-    λ i. record { names = names i; kinds = kinds i; edges = edges i }
-
 -- the question of a session that replies, or none
 replied : (w : World) (p q : SessionState) (rest : List Observation) → IsSound w → IsSessionSound w p
     → to_reply w.opening w.versions p ≡ Some q
     → option_to_list (question_in w.opening w.versions p) ++ owed w.opening w.versions (held_in q) rest
     ≡ owed w.opening w.versions (held_in p) (map Replied (request_in p) ++ rest)
-replied w Idle q rest sound known is = cc
-replied w (Pinned pin) q rest sound known is = cc
-replied w (Holds hold) q rest sound known is = cc
-replied w (Asking hold inquiry) q rest sound known is =
-    let r = replying w hold inquiry q is in
-    let one : question_in w.opening w.versions (Asking hold inquiry)
-    ≡ Some (question_on (graph_at w.opening w.versions hold.version) inquiry.request) =
-    ap (λ b. if b then Some
-    (question_on (graph_with (version_at w.opening w.versions hold.version) inquiry.read) inquiry.request) else None) r.0
-    ∙ ap (λ g. Some (question_on g inquiry.request)) (read_graph w hold inquiry sound known r.0) in
-    ap (λ o. option_to_list o ++ owed w.opening w.versions (held_in q) rest) one
-    ∙ ap (λ p. question_on (graph_at w.opening w.versions hold.version) inquiry.request
-    ∷ owed w.opening w.versions (held_in p) rest) r.1
-
--- a session that can't reply has no question
-unasked : (o : Opening) (vs : List Version) (p : SessionState) → to_reply o vs p ≡ None → question_in o vs p ≡ None
-unasked o vs Idle is = refl
-unasked o vs (Pinned pin) is = refl
-unasked o vs (Holds hold) is = refl
-unasked o vs (Asking hold inquiry) is =
-    elim (is_all_read o vs hold inquiry)
-    as (λ b. (if b then Some (Holds hold) else None) ≡ None
-    → (if b then Some (question_on (graph_with (version_at o vs hold.version) inquiry.read) inquiry.request) else None)
-    ≡ None) [
-      | true ↦ λ e. cc
-      | false ↦ λ _. refl
-    ] is
-
-unput : (w : World) (sessions : List SessionState) (t : ℕ) (o : Option SessionState)
-    → option_map (with_sessions w) (put sessions t o) ≡ None → o ≡ None
-unput w sessions t None is = refl
-unput w sessions t (Some p) is = cc
+replied w p q rest sound known is = grind (arith, common_steps)
 
 -- a skipped move observed_at no question
 no_question : (w : World) (t : ℕ) → move w t (to_reply w.opening w.versions) ≡ None → question_of w t ≡ None
-no_question w t is =
-    elim (slice_get w.sessions t) as (λ o. option_map (with_sessions w)
-    (put w.sessions t (option_and_then (to_reply w.opening w.versions) o)) ≡ None
-    → option_and_then (question_in w.opening w.versions) o ≡ None) [
-      | None ↦ λ _. refl
-      | Some p ↦ λ none. unasked w.opening w.versions p (unput w w.sessions t (to_reply w.opening w.versions p) none)
-    ] is
+no_question w t is = grind (arith, common_steps)
 
 replying_accounts : (s t : ℕ) (w : World) (rest : List Observation) → IsSound w → Accounts s w (Reply t) rest
 replying_accounts s t w rest sound =
@@ -320,8 +226,7 @@ accounts s w (Reply t) rest sound = replying_accounts s t w rest sound
 accounts s w (Release t) rest sound = seen_move s t w to_release (Released ∷ []) rest sound (λ p q is. releasing w p q rest is)
 
 nothing_owed : (opening : Opening) (versions : List Version) (held : Option ℕ) → [] ≡ owed opening versions held []
-nothing_owed opening versions None = refl
-nothing_owed opening versions (Some n) = refl
+nothing_owed opening versions held = grind (arith, common_steps)
 
 pub account : (s : ℕ) (w : World) (events : List Event) → IsSound w → all_asked s w events ≡ owed_to s w (observations s w events)
 account s w [] sound = nothing_owed w.opening w.versions (held_in (session_of w s))
@@ -337,9 +242,7 @@ asked_in_holdings start s events is =
     ∙ ap (λ p. owed start.world.opening start.world.versions (held_in p) (observations s start.world events)) (idle_at start s is)
 
 no_replies : (n s : ℕ) → get_or {A = List Answer} (replicate n []) s [] ≡ []
-no_replies zero s = refl
-no_replies (suc n) zero = refl
-no_replies (suc n) (suc s) = no_replies n s
+no_replies n s = grind (arith, common_steps)
 
 pub replies_are_answers : (start end : MachineState) (events : List Event) (s : ℕ) → IsStart start → Runs start events end
     → AllZip Answers (questions (holdings s start.world events)) (replies_of end s)
@@ -356,8 +259,7 @@ replies_are_answers start end events s is runs =
 
 pub replies_alike : (s : ℕ) (start end : MachineState) (events : List Event) (other_start other_end : MachineState) (other_events : List Event)
     → IsStart start → Runs start events end → IsStart other_start → Runs other_start other_events other_end
-    → holdings s start.world events ≡ holdings s other_start.world other_events
-    → replies_of end s ≡ replies_of other_end s
+    → holdings s start.world events ≡ holdings s other_start.world other_events → replies_of end s ≡ replies_of other_end s
 replies_alike s start end events other_start other_end other_events is runs other_is other_runs agree =
     same_answers (questions (holdings s other_start.world other_events)) (replies_of end s) (replies_of other_end s)
     (subst (λ qs. AllZip Answers qs (replies_of end s)) (ap questions agree) (replies_are_answers start end events s is runs))

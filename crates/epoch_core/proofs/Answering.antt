@@ -1,18 +1,16 @@
 -- Replies are the answers to what a session asks in a run.
 use Rattle.std.proofs.Common.{◌≡◌, ◌≢◌, ℕ, ◌<◌, true, false, inl, inr, List, [], ◌∷◌, ◌++◌, length, get_or, refl, sym, ap, subst}
-use Rattle.std.proofs.Common.{◌∙◌, arith, eqb}
+use Rattle.std.{proofs.Common.◌∙◌, proofs.Common.arith, proofs.Common.eqb, specs.Option.option_to_list}
+use Rattle.std.proofs.lemmas.{Grind.common_steps, Bool.eq-eqb, Bool.cases_eq, Bool.Decides.Decides-eqb, Option.slice_get_within}
 use Rattle.std.specs.{Prelude.slice_get, Prelude.if◌then◌else◌, Prelude.MatchOption, Prelude.◌==◌, List.AllZip}
-use Rattle.std.specs.{Option.option_to_list, declared.option.Option.TheVariants.None, declared.option.Option.TheVariants.Some}
-use Rattle.std.proofs.lemmas.Bool.{eq-eqb, cases_eq, Decides.Decides-eqb}
+use Rattle.std.specs.declared.option.Option.TheVariants.{None, Some}
 use Rattle.std.proofs.lemmas.List.{append-nil, append_assoc, get_or-set_same, get_or-set_other, length-set}
-use Rattle.std.proofs.lemmas.Option.{slice_get_within}
 use Rattle.graph_types.proofs.OneAnswer.{one_answer}
-use Rattle.epoch_core.specs.declared.events.Event.{Event, TheVariants.Reply, TheVariants.Release}
-use Rattle.epoch_core.specs.declared.events.Event.TheVariants.{Take, Fill, Post, Floor, Recycle, Pin, Enter, Settle, Ask, Read}
+use Rattle.epoch_core.specs.declared.events.Event.{Event, TheVariants.Settle, TheVariants.Ask, TheVariants.Read}
+use Rattle.epoch_core.specs.declared.events.Event.TheVariants.{Reply, Release, Take, Fill, Post, Floor, Recycle, Pin, Enter}
 use Rattle.epoch_core.specs.{Worlds.Answer, Worlds.World, Runs.AllReplies, Runs.next_world}
 use Rattle.epoch_core.specs.Machine.{Answers, IsAnswered, Question, Replies, question_in, question_of}
-use Rattle.epoch_core.proofs.Lists.{and_then_some}
-use Rattle.epoch_core.proofs.Sizes.{size_next}
+use Rattle.epoch_core.proofs.{Lists.and_then_some, Sizes.size_next}
 
 pub same_answers : (qs : List Question) (xs ys : List Answer) → AllZip Answers qs xs → AllZip Answers qs ys → xs ≡ ys
 same_answers [] [] [] a b = refl
@@ -59,19 +57,10 @@ pub record Adds (s : ℕ) (qs : List Question) (old new : List (List Answer)) : 
   pub size : length new ≡ length old
 
 adds_none : (s : ℕ) (old new : List (List Answer)) → new ≡ old → Adds s [] old new
-adds_none s old new same = record {
-  more = [];
-  added = ap (λ rs. get_or rs s []) same ∙ sym (append-nil (get_or old s []));
-  answers = tt;
-  size = ap length same;
-}
+adds_none s old new same = grind (arith, common_steps)
 
 pub other : (t s : ℕ) → t ≢ s → eqb t s ≡ false
-other t s ne = elim (eqb t s) as (λ b. eqb t s ≡ b → b ≡ false) [
-  | true ↦ λ at. absurd
-      (ne ((Decides-eqb t s).0 at))
-  | false ↦ λ _. refl
-] refl
+other t s ne = grind (arith, common_steps)
 
 -- the session of a question is there
 asks_within : (w : World) (s : ℕ) (q : Question) → question_of w s ≡ Some q → s < length w.sessions

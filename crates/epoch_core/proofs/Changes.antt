@@ -1,10 +1,11 @@
 -- Versions, and what a new one leaves of the older.
-use Rattle.std.proofs.Common.{◌≡◌, ℕ, zero, suc, ◌<◌, ◌≤◌, List, [], ◌∷◌, ◌++◌, length, map, refl, sym, ap, ◌∙◌, arith, add-one}
-use Rattle.std.specs.{Prelude.slice_get, Option.unwrap_or, declared.option.Option.TheVariants.Some}
+use Rattle.std.proofs.Common.{◌≡◌, ℕ, zero, suc, ◌<◌, ◌≤◌, List, [], ◌∷◌, ◌++◌, length, map, refl, ap, ◌∙◌, arith, add-one}
+use Rattle.std.{proofs.lemmas.Grind.common_steps, specs.Prelude.slice_get, specs.declared.option.Option.TheVariants.Some}
+use Rattle.std.specs.Option.{unwrap_or}
 use Rattle.std.proofs.lemmas.List.{take-append-le, take_all, map-append, length_push}
 use Rattle.graph_types.specs.{Graph.Graph, Step.left_by, Step.after_all, declared.batches.NamedOp.NamedOp}
 use Rattle.epoch_core.specs.declared.states.{Version.Version, Opening.Opening}
-use Rattle.epoch_core.specs.Versions.{opening_graph, batches_at, graph_at, left, version_at, version_zero}
+use Rattle.epoch_core.specs.Versions.{batches_at, graph_at, left, version_at, version_zero}
 
 pub length_next : (vs : List Version) (v : Version) → length (vs ++ v ∷ []) ≡ suc (length vs)
 length_next vs v = length_push vs v ∙ add-one (length vs)
@@ -40,7 +41,4 @@ batches_all vs = ap (map (λ v. v.batch)) (take_all (length vs) vs (omega arith)
 
 pub graph_next : (o : Opening) (vs : List Version) (v : Version) → graph_at o (vs ++ v ∷ []) (length (vs ++ v ∷ []))
     ≡ after_all v.batch (graph_at o vs (length vs))
-graph_next o vs v =
-    ap (left o) (batches_all (vs ++ v ∷ []) ∙ map-append (λ u. u.batch) vs (v ∷ []))
-    ∙ left_more (map (λ u. u.batch) vs) v.batch (opening_graph o)
-    ∙ ap (λ bs. after_all v.batch (left o bs)) (sym (batches_all vs))
+graph_next o vs v = grind (arith, common_steps, batches_all, map-append, left_more)

@@ -1,25 +1,18 @@
 -- What a whole collection leaves.
-use Rattle.std.proofs.Common.{◌≡◌, ℕ, zero, suc, ◌≤◌, Bool, true, false, not, ◌||◌, ◌⊎◌, inl, inr, List, []}
-use Rattle.std.proofs.Common.{◌∷◌, ◌++◌, map, replicate, get_or, set, refl, sym, ap, subst, ◌∙◌, arith, eqb, ltb}
-use Rattle.std.specs.{Prelude.slice_get, Prelude.if◌then◌else◌, List.list_any}
-use Rattle.std.specs.Option.{option_map, option_and_then, unwrap_or}
+use Rattle.std.proofs.Common.{◌≡◌, ℕ, zero, suc, ◌≤◌, Bool, true, false, ◌||◌, ◌⊎◌, inl, inr, List, [], ◌∷◌, ◌++◌, map, replicate}
+use Rattle.std.proofs.Common.{get_or, set, refl, sym, ap, subst, ◌∙◌, arith, eqb}
+use Rattle.std.proofs.lemmas.{Grind.common_steps, Bool.cases_eq, Bool.Decides.nat_tests}
+use Rattle.std.specs.{Prelude.slice_get, List.list_any, Option.unwrap_or}
 use Rattle.std.specs.declared.option.Option.{Option, TheVariants.None, TheVariants.Some}
-use Rattle.std.proofs.lemmas.Bool.{cases_eq, Decides.nat_tests}
-use Rattle.block_reclamation.specs.declared.copies.PinCopy.{PinCopy}
+use Rattle.block_reclamation.specs.{declared.copies.PinCopy.PinCopy, Status.is_at, Status.is_listed, Status.is_retired}
 use Rattle.block_reclamation.specs.declared.copies.Pin.{Pin}
 use Rattle.block_reclamation.specs.Copies.{needs, is_between, is_before, settled_number, unsettled_number}
-use Rattle.block_reclamation.specs.declared.status.BlockStatus.{BlockStatus}
-use Rattle.block_reclamation.specs.declared.status.BlockStatus.TheVariants.{Free, Granted, Used, Retired}
-use Rattle.epoch_core.specs.declared.{session_states.SessionState.SessionState, events.Event.TheVariants.Recycle}
-use Rattle.epoch_core.specs.declared.session_states.SessionState.TheVariants.{Idle, Pinned, Holding, Asking}
-use Rattle.epoch_core.specs.Worlds.{World, last_number, session_of, pin_in, settled_in, unsettled_in}
-use Rattle.epoch_core.specs.Worlds.{present_copy, seat_pin}
+use Rattle.block_reclamation.specs.declared.status.BlockStatus.{BlockStatus, TheVariants.Free, TheVariants.Retired}
+use Rattle.epoch_core.specs.declared.session_states.SessionState.{SessionState, TheVariants.Idle}
+use Rattle.epoch_core.specs.{declared.events.Event.TheVariants.Recycle, Blocks.reclaimed, Collections.LeavesNoneUnpinned}
+use Rattle.epoch_core.specs.Worlds.{World, last_number, session_of, pin_in, present_copy, seat_pin}
 use Rattle.epoch_core.specs.{Machine.step, Machine.with_status, Runs.next_world, Runs.run, Sound.IsDatedAt, Sound.IsSound}
-use Rattle.epoch_core.specs.Blocks.{put}
-use Rattle.block_reclamation.specs.Status.{is_at, is_listed, is_retired}
-use Rattle.epoch_core.specs.Blocks.{reclaimed}
-use Rattle.epoch_core.specs.Collections.{IsSettledNeed, IsUnsettledNeed, IsPinned, collecting}
-use Rattle.epoch_core.specs.Collections.{LeavesWhatPinsNeed, LeavesNoneUnpinned}
+use Rattle.epoch_core.specs.Collections.{IsSettledNeed, IsUnsettledNeed, IsPinned, collecting, LeavesWhatPinsNeed}
 use Rattle.epoch_core.proofs.Lists.{option_map_some, ChangedAt, changed_at-some, set_same, set_else}
 use Rattle.epoch_core.proofs.Moves.{floored, settled_needs, unsettled_needs}
 
@@ -37,31 +30,15 @@ record Recycles (v new : World) (c : ℕ) : Type 0 where
 -- a Recycle that is skipped at a retired block: the block is needed
 needed : (v : World) (b birth retirement : ℕ) → IsRetiredAt v b birth retirement → step v (Recycle b) ≡ None
     → needs v.copy birth retirement ≡ true
-needed v b birth retirement at none =
-    elim (needs v.copy birth retirement) as
-    (λ t. option_map (with_status v) (put v.status b (if not t then Some Free else None)) ≡ None → t ≡ true) [
-      | true ↦ λ _. refl
-      | false ↦ λ e. cc
-    ] (ap (λ o. option_map (with_status v) (put v.status b (option_and_then (reclaimed v.copy) o))) (sym at) ∙ none)
+needed v b birth retirement at none = grind (arith, common_steps)
 
 -- what is recycled was retired and isn't needed
 unneeded : (copy : PinCopy) (before after : BlockStatus) (birth retirement : ℕ) → reclaimed copy before ≡ Some after
     → before ≡ Retired birth retirement → needs copy birth retirement ≡ false
-unneeded copy before after birth retirement is at =
-    elim (needs copy birth retirement) as (λ t. (if not t then Some Free else None) ≡ Some after → t ≡ false) [
-      | true ↦ λ e. cc
-      | false ↦ λ _. refl
-    ] (ap (reclaimed copy) (sym at) ∙ is)
+unneeded copy before after birth retirement is at = grind (arith, common_steps)
 
 freed : (copy : PinCopy) (before after : BlockStatus) → reclaimed copy before ≡ Some after → after ≡ Free
-freed copy Free after is = cc
-freed copy Granted after is = cc
-freed copy (Used birth) after is = cc
-freed copy (Retired birth retirement) after is =
-    elim (needs copy birth retirement) as (λ t. (if not t then Some Free else None) ≡ Some after → after ≡ Free) [
-      | true ↦ λ e. cc
-      | false ↦ λ e. cc
-    ] is
+freed copy before after is = grind (arith, common_steps)
 
 recycles : (v : World) (c : ℕ) → Recycles v (next_world v (Recycle c)) c
 recycles v c =
@@ -134,8 +111,7 @@ none_there number p (suc k) never =
     ap (λ t. t || list_any p (map number (replicate k None))) never ∙ none_there number p k never
 
 some_pin : (p : Option ℕ → Bool) (o : Option ℕ) → p None ≡ false → p o ≡ true → (n : ℕ) × (o ≡ Some n) × (p (Some n) ≡ true)
-some_pin p None never holds = absurd (let bad : true ≡ false = sym holds ∙ never in cc)
-some_pin p (Some n) never holds = (n, refl, holds)
+some_pin p o never holds = grind (arith, common_steps)
 
 found : (number : Option Pin → Option ℕ) (p : Option ℕ → Bool) (sessions : List SessionState) (k : ℕ) → p None ≡ false
     → number None ≡ None → list_any p (map number (map seat_pin sessions ++ replicate k None)) ≡ true → Found number p sessions
@@ -143,8 +119,7 @@ found number p [] k never none is =
     absurd (let bad : true ≡ false = sym is ∙ none_there number p k (ap p none ∙ never) in cc)
 found number p (session ∷ sessions) k never none is =
     elim (p (number (seat_pin session))) as
-    (λ t. p (number (seat_pin session)) ≡ t
-    → (t || list_any p (map number (map seat_pin sessions ++ replicate k None))) ≡ true
+    (λ t. p (number (seat_pin session)) ≡ t → (t || list_any p (map number (map seat_pin sessions ++ replicate k None))) ≡ true
     → Found number p (session ∷ sessions)) [
       | true ↦ λ holds _.
           let one = some_pin p (number (seat_pin session)) never holds in
@@ -155,35 +130,16 @@ found number p (session ∷ sessions) k never none is =
     ] refl is
 
 or_cases : (a b : Bool) → (a || b) ≡ true → (a ≡ true) ⊎ (b ≡ true)
-or_cases true b is = inl refl
-or_cases false b is = inr is
+or_cases a b is = grind (arith, common_steps)
 
 settled_need : (w : World) (birth retirement : ℕ) → Found settled_number (is_between birth retirement) w.sessions → IsSettledNeed w birth retirement
-settled_need w birth retirement f = record {
-  session = f.session;
-  pin = f.pin;
-  is_pin = f.at;
-  born = grind (arith, nat_tests, f.holds);
-  before = grind (arith, nat_tests, f.holds);
-}
+settled_need w birth retirement f = grind (arith, common_steps)
 
 unsettled_need : (w : World) (retirement : ℕ) → Found unsettled_number (is_before retirement) w.sessions → IsUnsettledNeed w retirement
-unsettled_need w retirement f = record {
-  session = f.session;
-  pin = f.pin;
-  is_pin = f.at;
-  before = grind (arith, nat_tests, f.holds);
-}
+unsettled_need w retirement f = grind (arith, common_steps)
 
 pinned : (w : World) (birth retirement : ℕ) → retirement ≤ last_number w → needs (present_copy w) birth retirement ≡ true → IsPinned w birth retirement
-pinned w birth retirement low need =
-    elim (or_cases (ltb (last_number w) retirement) _ need) [
-      | inl late ↦ absurd (grind (arith, nat_tests, late, low))
-      | inr pins ↦ elim (or_cases (list_any (is_between birth retirement) (present_copy w).settled) _ pins) [
-        | inl is ↦ inl (settled_need w birth retirement (found settled_number (is_between birth retirement) w.sessions _ refl refl is))
-        | inr is ↦ inr (unsettled_need w retirement (found unsettled_number (is_before retirement) w.sessions _ refl refl is))
-      ]
-    ]
+pinned w birth retirement low need = grind (arith, common_steps, or_cases, nat_tests, settled_need, found, unsettled_need)
 
 pin_needs : (w : World) (birth retirement : ℕ) → IsPinned w birth retirement → needs (present_copy w) birth retirement ≡ true
 pin_needs w birth retirement (inl n) = settled_needs w n.session n.pin birth retirement n.is_pin n.born n.before
@@ -201,28 +157,11 @@ leaves_what_pins_need w sound blocks all b birth retirement = (
   λ h. still blocks (floored w) b birth retirement h.0 (pin_needs w birth retirement h.1),
 )
 
-unpinned_settled : (session : SessionState) (n : ℕ) → pin_in session ≡ None → settled_in session ≡ Some n → ⊥
-unpinned_settled Idle n none is = cc
-unpinned_settled (Pinned pin) n none is = cc
-unpinned_settled (Holding hold) n none is = cc
-unpinned_settled (Asking hold inquiry) n none is = cc
-
-unpinned_unsettled : (session : SessionState) (n : ℕ) → pin_in session ≡ None → unsettled_in session ≡ Some n → ⊥
-unpinned_unsettled Idle n none is = cc
-unpinned_unsettled (Pinned pin) n none is = cc
-unpinned_unsettled (Holding hold) n none is = cc
-unpinned_unsettled (Asking hold inquiry) n none is = cc
-
 no_need : (w : World) (birth retirement : ℕ) → ((s : ℕ) → pin_in (session_of w s) ≡ None) → IsPinned w birth retirement → ⊥
-no_need w birth retirement none (inl n) = unpinned_settled (session_of w n.session) n.pin (none n.session) n.is_pin
-no_need w birth retirement none (inr n) = unpinned_unsettled (session_of w n.session) n.pin (none n.session) n.is_pin
+no_need w birth retirement none h = grind (arith, common_steps)
 
 not_retired : (o : Option BlockStatus) → ((birth retirement : ℕ) → o ≡ Some (Retired birth retirement) → ⊥) → is_at is_retired o ≡ false
-not_retired None never = refl
-not_retired (Some Free) never = refl
-not_retired (Some Granted) never = refl
-not_retired (Some (Used birth)) never = refl
-not_retired (Some (Retired birth retirement)) never = absurd (never birth retirement refl)
+not_retired o never = grind (arith, common_steps)
 
 pub leaves_none_unpinned : (w : World) → IsSound w → LeavesNoneUnpinned w
 leaves_none_unpinned w sound blocks all none b =

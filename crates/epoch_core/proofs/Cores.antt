@@ -5,13 +5,12 @@ use Rattle.std.specs.{Prelude.if◌then◌else◌, Prelude.is_some, Option.unwra
 use Rattle.std.specs.declared.option.Option.{Option, TheVariants.None, TheVariants.Some}
 use Rattle.graph_types.specs.{Graph.IsContent, declared.batches.NamedOp.NamedOp, declared.contents.Content.Content}
 use Rattle.epoch_core.specs.declared.{states.Version.Version, states.Opening.Opening, step.Step.Step}
-use Rattle.epoch_core.specs.declared.{session_states.SessionState.TheVariants.Idle, events.Event.Event}
+use Rattle.epoch_core.specs.{declared.session_states.SessionState.TheVariants.Idle, Versions.IsContentGraph, Versions.graph_at}
+use Rattle.epoch_core.specs.{declared.events.Event.Event, Posting.graph_after, Posting.version_by, Machine.Replies, Machine.step}
 use Rattle.epoch_core.specs.Worlds.{Answer, HasContents, MachineState, World, empty_opening, start}
-use Rattle.epoch_core.specs.{Versions.IsContentGraph, Versions.graph_at, Posting.graph_after, Posting.version_by}
-use Rattle.epoch_core.specs.{Machine.Replies, Machine.step, Sound.IsCore, Sound.IsSound}
+use Rattle.epoch_core.{specs.Sound.IsCore, specs.Sound.IsSound, specs.Blocks.Stepped, proofs.Sizes.size_next}
 use Rattle.epoch_core.specs.Runs.{AllReplies, Runs, Steps, count_of, done_in, is_done, next_world, run}
-use Rattle.epoch_core.specs.Blocks.{Stepped}
-use Rattle.epoch_core.proofs.{Changes.graph_before, Changes.graph_next, Changes.length_next, Sizes.size_next}
+use Rattle.epoch_core.proofs.Changes.{graph_before, graph_next, length_next}
 use Rattle.epoch_core.proofs.Steps.{sound_next, sound_start, start_is_start}
 use Rattle.epoch_core.proofs.Answering.{Adds, asked, adds}
 

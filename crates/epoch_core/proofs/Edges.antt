@@ -1,29 +1,19 @@
 -- Edges and stamps compared, and when edges are each once the edges of a graph.
-use Rattle.std.proofs.Common.{◌≡◌, ◌≢◌, suc, ◌-◌, Bool, true, false, cond, not, List, [], ◌∷◌, length, get_or}
-use Rattle.std.proofs.Common.{Decides, refl, sym, ap, subst, ◌∙◌, arith}
+use Rattle.std.proofs.Common.{◌≡◌, ◌≢◌, suc, ◌-◌, Bool, true, false, cond, not, List, [], ◌∷◌, length, get_or, Decides, refl, sym}
+use Rattle.std.proofs.{Common.ap, Common.subst, Common.◌∙◌, Common.arith, lemmas.Grind.common_steps}
 use Rattle.std.specs.{Prelude.All, Prelude.is_some, List.list_any, List.list_all}
 use Rattle.std.specs.declared.option.Option.{Option, TheVariants.None, TheVariants.Some}
 use Rattle.std.specs.FinMap.{FinMap, get, same_map, insert, remove, len, get-insert, get-remove, len-remove, empty_of_len}
-use Rattle.std.proofs.lemmas.Bool.Decides.{Decides-and, Decides-by_and, Decides-eqb, Decides-int_eq, Decides-like, Decides-not}
+use Rattle.std.proofs.lemmas.Bool.Decides.{Decides-and, Decides-by_and, Decides-eqb, Decides-like, Decides-not}
 use Rattle.graph_types.specs.Graph.{Graph, Key, Stamp, key_cmp, key_of, stamp_of, map_of}
-use Rattle.graph_types.specs.declared.ids.Edge.{Edge}
+use Rattle.graph_types.{specs.declared.ids.Edge.Edge, proofs.EdgeLookup.Decides-has_key}
 use Rattle.graph_types.proofs.Keys.{keys_total, exact_keys, is_key_of, is_key_of-true, is_key_of-false, HasKeysOnce, once_none}
 use Rattle.graph_types.proofs.Keys.{once_head, once_tail, once_cons, get_listed, len_once}
-use Rattle.graph_types.proofs.EdgeLookup.{Decides-has_key}
 use Rattle.epoch_core.proofs.Lists.{neither}
-use Rattle.epoch_core.specs.Versions.{AreEdgesOf}
-use Rattle.epoch_core.specs.Posting.{are_edges_of, bears, keys_differ, same_key, same_stamp}
-
-pub Decides-same_stamp : (a b : Stamp) → Decides (same_stamp a b) (a ≡ b)
-Decides-same_stamp a b =
-    Decides-like _ (λ p i. record { weight = p.0.0 i; first = p.0.1 i; recent = p.1 i })
-    (λ q. ((ap (λ s. s.weight) q, ap (λ s. s.first) q), ap (λ s. s.recent) q))
-    (Decides-and _ _ (Decides-and _ _ (Decides-int_eq a.weight b.weight) (Decides-eqb a.first b.first))
-    (Decides-eqb a.recent b.recent))
+use Rattle.epoch_core.specs.{Versions.AreEdgesOf, Posting.are_edges_of, Posting.bears, Posting.keys_differ, Posting.same_key}
 
 Decides-bears : (o : Option Stamp) (s : Stamp) → Decides (bears o s) (o ≡ Some s)
-Decides-bears None s = (λ e. cc, λ e. cc)
-Decides-bears (Some t) s = Decides-like _ (ap Some) (λ e. cc) (Decides-same_stamp t s)
+Decides-bears o s = grind (arith, common_steps)
 
 -- whether no edge of this edge's key is listed
 abbrev is_alone : Edge → List Edge → Bool
@@ -87,8 +77,7 @@ Decides-edges g es =
     Decides-like _ (λ p. record { once = p.0.0; same = map_from_all g.edges es p.0.0 p.0.1 p.1 })
     (λ shows. (
       (shows.once, subst (λ m. AllStand m es) shows.same (get_listed es shows.once)),
-      sym (len_once es shows.once)
-          ∙ ap len shows.same,
+      sym (len_once es shows.once) ∙ ap len shows.same,
     ))
     (Decides-and _ _ (Decides-and _ _ (Decides-keys_differ es) (Decides-all_stand g.edges es))
     (Decides-eqb (length es) (len g.edges)))

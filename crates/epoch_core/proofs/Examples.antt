@@ -1,20 +1,19 @@
 -- Small runs, computed.
-use Rattle.std.proofs.Common.{◌≡◌, ℕ, true, false, cond, List, [], ◌∷◌, ◌++◌, refl, sym, ap, ◌∙◌, arith, pos, negsuc, length}
-use Rattle.std.specs.{Prelude.ℤ, Prelude.if◌then◌else◌, Prelude.is_some, Option.unwrap_or, Ordering.eq_by_cmp}
+use Rattle.std.proofs.Common.{◌≡◌, ℕ, true, false, cond, List, [], ◌∷◌, refl, sym, ap, ◌∙◌, arith, pos, negsuc, length}
+use Rattle.std.{proofs.lemmas.Grind.common_steps, specs.Ordering.eq_by_cmp, specs.declared.option.Option.TheVariants.Some}
+use Rattle.std.specs.Prelude.{ℤ}
 use Rattle.std.specs.FinMap.{FinMap, get, insert, empty, get-empty, get-insert, same_map}
-use Rattle.std.specs.declared.option.Option.TheVariants.{None, Some}
 use Rattle.graph_types.specs.{Graph.Graph, Graph.Key, Graph.Stamp, Graph.key_cmp, Step.after_all, Step.set_at, Step.stamp_after}
 use Rattle.graph_types.specs.declared.{ids.Edge.Edge, batches.NamedOp.NamedOp}
 use Rattle.graph_types.specs.declared.changes.EdgeChange.TheVariants.{Insert, Incr}
 use Rattle.graph_types.proofs.Keys.{keys_total, exact_keys, once_none, once_cons, HasKeysOnce}
-use Rattle.epoch_core.specs.{declared.events.Event.Event, declared.events.Event.TheVariants.Release, Posts.posted, Runs.run}
-use Rattle.epoch_core.specs.declared.events.Event.TheVariants.{Take, Fill, Post, Floor, Pin, Enter, Settle, Ask, Read, Reply}
-use Rattle.epoch_core.specs.Worlds.{World, empty_opening, start_world}
-use Rattle.epoch_core.specs.{Versions.left, Posting.can_post, Posting.are_edges_of}
-use Rattle.epoch_core.specs.Holdings.{Holding, holdings_of, observations}
+use Rattle.epoch_core.specs.{declared.events.Event.Event, Posting.can_post, Posting.are_edges_of}
+use Rattle.epoch_core.specs.declared.events.Event.TheVariants.{Release, Take, Fill, Post, Floor, Pin, Enter, Settle, Ask, Read}
+use Rattle.epoch_core.specs.{declared.events.Event.TheVariants.Reply, Worlds.World, Worlds.empty_opening, Worlds.start_world}
+use Rattle.epoch_core.{specs.Posts.posted, specs.Versions.left, proofs.Edges.Decides-edges}
+use Rattle.epoch_core.specs.{Runs.run, Holdings.Holding, Holdings.holdings_of, Holdings.observations}
 use Rattle.epoch_core.specs.Examples.{AreExamples, name_a, name_b, kind_k, put_edge, add_to_edge, edge_of, ask_edge}
 use Rattle.epoch_core.specs.Examples.{short_batches, long_batches, of_short, of_long}
-use Rattle.epoch_core.proofs.Edges.{Decides-edges}
 
 -- The graph of one edge, and what batches make of it
 
@@ -49,8 +48,7 @@ put_twice s t q =
     get-insert keys_total (one_edge s) key t q ∙ ap (cond (eq_by_cmp key_cmp q key) (Some t))
     (get-insert keys_total nothing key s q)
     ∙ elim (eq_by_cmp key_cmp q key) as (λ b. cond b (Some t) (cond b (Some s) (get nothing q))
-    ≡ cond b (Some t) (get nothing q)) [ true ↦ refl | false ↦ refl ]
-    ∙ sym (get-insert keys_total empty key t q)
+    ≡ cond b (Some t) (get nothing q)) [ true ↦ refl | false ↦ refl ] ∙ sym (get-insert keys_total empty key t q)
 
 put_again : (s t : Stamp) → insert (one_edge s) key t ≡ one_edge t
 put_again s t = same_map keys_total exact_keys _ _ (put_twice s t)
@@ -59,8 +57,7 @@ put_again s t = same_map keys_total exact_keys _ _ (put_twice s t)
 add_over : after_all (add_to_edge (negsuc 5) 1) (graph_of_edge (stamp (pos 7) 1 1)) ≡ graph_of_edge (stamp (pos 1) 1 1)
 add_over =
     ap (λ o. with_edges (set_at (one_edge (stamp (pos 7) 1 1)) key (stamp_after (Incr (negsuc 5) 1) o)))
-    (stands (stamp (pos 7) 1 1))
-    ∙ ap with_edges (put_again (stamp (pos 7) 1 1) (stamp (pos 1) 1 1))
+    (stands (stamp (pos 7) 1 1)) ∙ ap with_edges (put_again (stamp (pos 7) 1 1) (stamp (pos 1) 1 1))
 
 long_graph : left empty_opening long_batches ≡ graph_of_edge (stamp (pos 1) 1 1)
 long_graph = ap (after_all (add_to_edge (negsuc 5) 1)) (first_graph (pos 7) 1) ∙ add_over
@@ -82,9 +79,7 @@ shows_none = (Decides-edges (left empty_opening []) []).1 (record { once = once_
 sees : (s : ℕ) (w : World) (batch : List NamedOp) (blocks : List ℕ) (rest : List Event)
     → can_post w.opening w.heap w.status w.versions batch blocks ≡ true → observations s w (Post batch blocks ∷ rest)
     ≡ observations s (posted w batch blocks) rest
-sees s w batch blocks rest can =
-    ap (λ b. (if is_some (if b then Some (posted w batch blocks) else None) then [] else [])
-    ++ observations s (unwrap_or (if b then Some (posted w batch blocks) else None) w) rest) can
+sees s w batch blocks rest can = grind (arith, common_steps)
 
 -- The short run
 

@@ -1,24 +1,19 @@
 -- Each event keeps what is sound: blocks and versions.
 use Rattle.std.proofs.Common.{◌≡◌, ◌≢◌, ℕ, ◌≤◌, Bool, true, false, not, inl, inr, List, [], set, take, refl, sym, ap, subst, ◌∙◌}
-use Rattle.std.proofs.{Common.arith, lemmas.Bool.cases_eq, lemmas.List.get_or-set_other, lemmas.List.length-set}
-use Rattle.std.specs.Prelude.{slice_get, if◌then◌else◌}
+use Rattle.std.proofs.{Common.arith, lemmas.Grind.common_steps, lemmas.List.get_or-set_other, lemmas.List.length-set}
+use Rattle.std.{proofs.lemmas.Bool.cases_eq, specs.Prelude.slice_get, specs.Prelude.if◌then◌else◌}
 use Rattle.std.specs.declared.option.Option.{Option, TheVariants.None, TheVariants.Some}
 use Rattle.graph_types.specs.declared.ids.Edge.{Edge}
-use Rattle.block_reclamation.specs.declared.status.BlockStatus.{BlockStatus}
+use Rattle.block_reclamation.specs.{declared.status.BlockStatus.BlockStatus, declared.copies.PinCopy.PinCopy, Copies.needs}
 use Rattle.block_reclamation.specs.declared.status.BlockStatus.TheVariants.{Free, Granted, Used, Retired}
+use Rattle.block_reclamation.specs.Status.{is_at, is_listed, is_used, IsDated, IsKept}
 use Rattle.epoch_core.specs.declared.session_states.{Hold.Hold, SessionState.SessionState}
 use Rattle.epoch_core.specs.declared.session_states.SessionState.TheVariants.{Idle, Pinned, Holding, Asking}
-use Rattle.block_reclamation.specs.declared.copies.PinCopy.{PinCopy}
-use Rattle.block_reclamation.specs.Copies.{needs}
-use Rattle.epoch_core.specs.Blocks.{filled, taken}
-use Rattle.block_reclamation.specs.Status.{is_at, is_granted, is_listed, is_used}
-use Rattle.epoch_core.specs.Blocks.{reclaimed}
+use Rattle.epoch_core.specs.{Blocks.filled, Blocks.taken, Blocks.reclaimed, Machine.with_heap, Machine.with_status}
 use Rattle.epoch_core.specs.Versions.{AreEdgesOf, blocks_at, edges_at, edges_of, graph_at, version_at}
 use Rattle.epoch_core.specs.Worlds.{World, last_blocks, last_graph, last_number, session_of}
-use Rattle.epoch_core.specs.Machine.{with_heap, with_status}
 use Rattle.epoch_core.specs.Sound.{IsCovered, IsDatedAt, IsHeld, IsKeptAt, IsNamed, IsSessionSound, IsSound}
-use Rattle.block_reclamation.specs.Status.{IsDated, IsKept}
-use Rattle.epoch_core.proofs.Lists.{and_then_some, set_same, set_else, same_pieces, listed_take}
+use Rattle.epoch_core.proofs.Lists.{set_same, set_else, same_pieces, listed_take}
 
 -- what a change of the world owes to each holder
 pub record Carries (old new : World) : Type 0 where
@@ -76,13 +71,7 @@ pub record FreesNone (copy : PinCopy) (before after : BlockStatus) : Type 0 wher
   pub not_kept : (n : ℕ) → IsCovered copy n → IsKept n before → ⊥
 
 pub frees_taken : (copy : PinCopy) (before after : BlockStatus) → taken before ≡ Some after → FreesNone copy before after
-frees_taken copy Free Free is = cc
-frees_taken copy Free Granted is = record { unused_before = refl; unused_after = refl; dated = λ _. tt; not_kept = λ n _ k. k }
-frees_taken copy Free (Used birth) is = cc
-frees_taken copy Free (Retired birth retirement) is = cc
-frees_taken copy Granted after is = cc
-frees_taken copy (Used birth) after is = cc
-frees_taken copy (Retired birth retirement) after is = cc
+frees_taken copy before after is = grind (arith, common_steps)
 
 abbrev freed_by : Bool → Option BlockStatus
 freed_by t = if not t then Some Free else None
@@ -154,22 +143,9 @@ pub record Fills (status : List BlockStatus) (heap : List (List Edge)) (b : ℕ)
   pub granted : slice_get status b ≡ Some Granted
   pub result : after ≡ set heap b edges
 
-abbrev written_if : Bool → List (List Edge) → Option (List (List Edge))
-written_if t heap = if t then Some heap else None
-
-fills_at : (status : List BlockStatus) (heap : List (List Edge)) (b : ℕ) (edges : List Edge) (after : List (List Edge))
-    (s : BlockStatus) → slice_get status b ≡ Some s → written_if (is_granted s) (set heap b edges) ≡ Some after
-    → Fills status heap b edges after
-fills_at status heap b edges after Free found is = cc
-fills_at status heap b edges after Granted found is = record { granted = found; result = cc }
-fills_at status heap b edges after (Used birth) found is = cc
-fills_at status heap b edges after (Retired birth retirement) found is = cc
-
 pub fills : (status : List BlockStatus) (heap : List (List Edge)) (b : ℕ) (edges : List Edge) (after : List (List Edge))
     → filled status heap b edges ≡ Some after → Fills status heap b edges after
-fills status heap b edges after is =
-    let found = and_then_some (λ s. written_if (is_granted s) (set heap b edges)) (slice_get status b) after is in
-    fills_at status heap b edges after found.0 found.1 found.2
+fills status heap b edges after is = grind (arith, common_steps)
 
 named_with_heap : (w : World) (heap : List (List Edge)) → ((n : ℕ) → n ≤ last_number w → IsNamed w n) → (n : ℕ)
     → n ≤ last_number w → IsNamed (with_heap w heap) n

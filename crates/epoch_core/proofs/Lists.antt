@@ -1,27 +1,19 @@
 -- Lists, options and tests.
-use Rattle.std.proofs.Common.{◌≡◌, ◌≢◌, ℕ, zero, suc, ◌+◌, ◌<◌, ◌≤◌, Bool, true, false, not, ◌&&◌, ◌||◌, ◌⊎◌, inl, inr, List, []}
-use Rattle.std.proofs.Common.{◌∷◌, ◌++◌, length, set, take, map, refl, ap, subst, ◌∙◌, arith, eqb}
-use Rattle.std.specs.{Prelude.slice_get, List.list_all, List.enumerate_from, List.flat_map}
-use Rattle.std.specs.Option.{option_map, option_and_then}
-use Rattle.std.specs.declared.option.Option.{Option, TheVariants.None, TheVariants.Some}
-use Rattle.std.proofs.lemmas.Bool.{eq-eqb}
-use Rattle.epoch_core.specs.Blocks.{changed_at, put}
+use Rattle.std.proofs.Common.{◌≡◌, ◌≢◌, ℕ, zero, suc, ◌+◌, Bool, true, false, not, ◌&&◌, ◌||◌, ◌⊎◌, List, [], ◌∷◌, ◌++◌, length}
+use Rattle.std.proofs.Common.{set, take, map, refl, ap, subst, ◌∙◌, arith, eqb}
+use Rattle.std.{proofs.lemmas.Grind.common_steps, specs.Prelude.slice_get, proofs.lemmas.Bool.eq-eqb}
+use Rattle.std.specs.{List.list_all, List.enumerate_from, List.flat_map, declared.option.Option.TheVariants.Some}
+use Rattle.std.specs.{Option.option_map, Option.option_and_then, declared.option.Option.Option}
+use Rattle.epoch_core.specs.Blocks.{changed_at}
 use Rattle.block_reclamation.specs.Status.{is_listed}
 
 pub option_map_some : {A B : Type 0} (f : A → B) (o : Option A) (y : B) → option_map f o ≡ Some y → (x : A) × (o ≡ Some x)
     × (y ≡ f x)
-option_map_some f None y is = cc
-option_map_some f (Some x) y is = (x, refl, cc)
+option_map_some f o y is = grind (arith, common_steps)
 
 pub and_then_some : {A B : Type 0} (f : A → Option B) (o : Option A) (y : B) → option_and_then f o ≡ Some y → (x : A)
     × (o ≡ Some x) × (f x ≡ Some y)
-and_then_some f None y is = cc
-and_then_some f (Some x) y is = (x, refl, is)
-
-put_some : {A : Type 0} (xs : List A) (i : ℕ) (o : Option A) (ys : List A) → put xs i o ≡ Some ys → (y : A) × (o ≡ Some y)
-    × (ys ≡ set xs i y)
-put_some xs i None ys is = cc
-put_some xs i (Some y) ys is = (y, refl, cc)
+and_then_some f o y is = grind (arith, common_steps)
 
 -- what a change at i that is done says
 pub record ChangedAt {A : Type 0} (change : A → Option A) (xs : List A) (i : ℕ) (ys : List A) : Type 0 where
@@ -33,10 +25,7 @@ pub record ChangedAt {A : Type 0} (change : A → Option A) (xs : List A) (i : �
 
 pub changed_at-some : {A : Type 0} (change : A → Option A) (xs : List A) (i : ℕ) (ys : List A) → changed_at change xs i
     ≡ Some ys → ChangedAt change xs i ys
-changed_at-some change xs i ys is =
-    let whole = put_some xs i _ ys is in
-    let found = and_then_some change (slice_get xs i) whole.0 whole.1 in
-    record { before = found.0; after = whole.0; found = found.1; changed = found.2; result = whole.2 }
+changed_at-some change xs i ys is = grind (arith, common_steps)
 
 pub set_same : {A : Type 0} (xs : List A) (i : ℕ) (x y : A) → slice_get xs i ≡ Some x → slice_get (set xs i y) i ≡ Some y
 set_same [] i x y is = cc
@@ -69,24 +58,19 @@ length_enumerated f n (x ∷ xs) = ap suc (length_enumerated f (n + 1) xs)
 
 -- tests
 pub and_left : (a b : Bool) → (a && b) ≡ true → a ≡ true
-and_left true b is = refl
-and_left false b is = is
+and_left a b is = grind (arith, common_steps)
 
 pub and_right : (a b : Bool) → (a && b) ≡ true → b ≡ true
-and_right true b is = is
-and_right false b is = cc
+and_right a b is = grind (arith, common_steps)
 
 pub neither : (a b : Bool) → not (a || b) ≡ (not a && not b)
-neither true b = refl
-neither false b = refl
+neither a b = grind (arith, common_steps)
 
 pub or_false : (a b : Bool) → (a || b) ≡ false → (a ≡ false) × (b ≡ false)
-or_false true b is = cc
-or_false false b is = (refl, is)
+or_false a b is = grind (arith, common_steps)
 
 pub true_or_false : (b : Bool) → (b ≡ true) ⊎ (b ≡ false)
-true_or_false true = inl refl
-true_or_false false = inr refl
+true_or_false b = grind (arith, common_steps)
 
 pub all_listed : (p : ℕ → Bool) (bs : List ℕ) (b : ℕ) → list_all p bs ≡ true → is_listed b bs ≡ true → p b ≡ true
 all_listed p [] b all is = cc

@@ -1,41 +1,27 @@
 -- Each event keeps what is sound: the floor rises, and sessions move.
-use Rattle.std.proofs.Common.{◌≡◌, ◌≢◌, ℕ, zero, suc, ◌+◌, ◌<◌, ◌≤◌, Bool, true, false, not, inl, inr, List, [], ◌∷◌, ◌++◌}
-use Rattle.std.proofs.Common.{length, map, replicate, get_or, set, take, refl, sym, ap, subst, ◌∙◌, arith, add-one, ◌-◌, IfSome}
-use Rattle.std.specs.{Prelude.slice_get, Prelude.if◌then◌else◌, Option.option_map}
-use Rattle.std.proofs.Math.ListN.{get_or-map}
+use Rattle.std.proofs.Common.{◌≡◌, ◌≢◌, ℕ, ◌+◌, ◌<◌, ◌≤◌, Bool, true, false, not, inl, inr, List, [], ◌∷◌, ◌++◌, length, map}
+use Rattle.std.proofs.Common.{replicate, get_or, set, take, refl, sym, ap, subst, ◌∙◌, arith, add-one, ◌-◌, IfSome}
+use Rattle.std.proofs.lemmas.{Grind.common_steps, Grind.flat_map-append, Option.slice_get_within, Option.get_or_from_slice_get}
+use Rattle.std.{specs.Prelude.slice_get, specs.Option.option_map, proofs.lemmas.Bool.cases_eq}
+use Rattle.std.proofs.{Math.ListN.get_or-map, lemmas.List.get_or-set_same, lemmas.List.get_or-set_other, lemmas.List.append-nil}
 use Rattle.std.specs.declared.option.Option.{Option, TheVariants.None, TheVariants.Some}
-use Rattle.std.proofs.lemmas.{Bool.cases_eq, Grind.flat_map-append, List.get_or-set_same, List.get_or-set_other, List.append-nil}
-use Rattle.std.proofs.lemmas.Option.{slice_get_within, get_or_from_slice_get}
 use Rattle.graph_types.specs.declared.{ids.Edge.Edge, requests.Request.Request}
-use Rattle.block_reclamation.specs.declared.status.BlockStatus.{BlockStatus}
-use Rattle.block_reclamation.specs.Status.{is_at, is_listed, is_used}
-use Rattle.block_reclamation.specs.declared.status.BlockStatus.TheVariants.{Free, Granted, Used, Retired}
-use Rattle.epoch_core.specs.declared.session_states.{Hold.Hold, Inquiry.Inquiry, SessionState.SessionState}
+use Rattle.epoch_core.specs.declared.session_states.{Hold.Hold, SessionState.SessionState}
 use Rattle.epoch_core.specs.declared.session_states.SessionState.TheVariants.{Idle, Pinned, Holding, Asking}
+use Rattle.epoch_core.specs.Worlds.{World, last_number, pin_in, session_of, settled_in, present_copy, seat_pin, seat_pins}
+use Rattle.epoch_core.{specs.Worlds.unsettled_in, proofs.Keeping.Carries, proofs.Keeping.carry}
+use Rattle.epoch_core.specs.Machine.{to_release, to_reply, to_settle, with_sessions, move, read_on, settled_at, to_ask, to_enter}
+use Rattle.epoch_core.specs.{Machine.to_pin, Machine.to_read, Versions.blocks_at, Versions.edges_at, Versions.edges_of}
+use Rattle.epoch_core.specs.Sound.{IsCovered, IsHeld, IsNamed, IsSessionSound, IsSound}
+use Rattle.epoch_core.proofs.Lists.{option_map_some, ChangedAt, changed_at-some, take_one_more}
 use Rattle.block_reclamation.specs.declared.copies.{Pin.Pin, TheConstants.SEATS}
 use Rattle.block_reclamation.specs.Copies.{floor_of, needs, number_if, pin_at, settled_number, unsettled_number}
-use Rattle.block_reclamation.proofs.Least.{late_needed, settled_needed, unsettled_needed}
-use Rattle.block_reclamation.proofs.Copied.{floor_is_least}
-use Rattle.epoch_core.specs.Worlds.{World, last_blocks, last_number, pin_in, session_of, settled_in}
-use Rattle.epoch_core.specs.Worlds.{present_copy, seat_pin, seat_pins}
-use Rattle.epoch_core.specs.{Worlds.unsettled_in, Machine.to_release, Machine.to_reply, Machine.to_settle, Machine.with_sessions}
-use Rattle.epoch_core.specs.Versions.{blocks_at, edges_at, edges_of}
-use Rattle.epoch_core.specs.Machine.{is_all_read, move, read_on, settled_at, to_ask, to_enter, to_pin, to_read}
-use Rattle.epoch_core.specs.Sound.{IsCovered, IsDatedAt, IsHeld, IsKeptAt, IsNamed, IsSessionSound, IsSound}
-use Rattle.epoch_core.proofs.Lists.{option_map_some, ChangedAt, changed_at-some, take_one_more}
-use Rattle.epoch_core.proofs.Keeping.{Carries, carry}
+use Rattle.block_reclamation.proofs.{Least.settled_needed, Least.unsettled_needed, Copied.floor_is_least}
 
 -- a session's pin is that of its seat
-none_at : (k s : ℕ) → pin_at (replicate k None) s ≡ None
-none_at zero s = refl
-none_at (suc k) zero = refl
-none_at (suc k) (suc s) = none_at k s
-
 seated : (sessions : List SessionState) (k s : ℕ) → pin_at (map seat_pin sessions ++ replicate k None) s
     ≡ seat_pin (get_or sessions s Idle)
-seated [] k s = none_at k s
-seated (session ∷ sessions) k zero = refl
-seated (session ∷ sessions) k (suc s) = seated sessions k s
+seated sessions k s = grind (arith, common_steps)
 
 pub seated_at : (w : World) (s : ℕ) → pin_at (seat_pins w.sessions) s ≡ seat_pin (session_of w s)
 seated_at w s = seated w.sessions (SEATS - length w.sessions) s
@@ -48,8 +34,7 @@ pub floor_first : (w : World) → present_floor w ≤ last_number w
 floor_first w = let least = floor_is_least (last_number w) (seat_pins w.sessions) in least.below_last
 
 below_pin : (o : Option Pin) (pin floor : ℕ) → option_map (λ p. p.number) o ≡ Some pin → IfSome o (λ p. floor ≤ p.number) → floor ≤ pin
-below_pin None pin floor is low = cc
-below_pin (Some p) pin floor is low = let same : p.number ≡ pin = cc in omega arith
+below_pin o pin floor is low = grind (arith, common_steps)
 
 floor_each : (w : World) (s pin : ℕ) → pin_in (session_of w s) ≡ Some pin → present_floor w ≤ pin
 floor_each w s pin is =
@@ -95,15 +80,7 @@ covers w s hold false is in_settled in_unsettled h = λ birth retirement low hig
 
 refloored : (w : World) (hold : Hold) → present_floor w ≤ hold.pin
     → IsCovered (present_copy w) hold.version → IsHeld w hold → IsHeld (floored w) hold
-refloored w hold low covered h = record {
-  floor_pin = low;
-  pin_held = h.pin_held;
-  held_last = h.held_last;
-  settled = h.settled;
-  covered = covered;
-  kept = h.kept;
-  shown = h.shown;
-}
+refloored w hold low covered h = grind (arith, common_steps)
 
 session_floored : (w : World) (s : ℕ) (session : SessionState) → session_of w s ≡ session
     → ((pin : ℕ) → pin_in session ≡ Some pin → present_floor w ≤ pin) → IsSessionSound w session
@@ -132,15 +109,7 @@ sound_floor w sound = record {
 
 -- sessions
 carries_sessions : (w : World) (sessions : List SessionState) → Carries w (with_sessions w sessions)
-carries_sessions w sessions = record {
-  floor = refl;
-  copy = refl;
-  last = omega arith;
-  versions = λ n _. refl;
-  graphs = λ n _. refl;
-  kept = λ b n _ _ k. k;
-  edges = λ b n _. refl;
-}
+carries_sessions w sessions = grind (arith, common_steps)
 
 named_with_sessions : (w : World) (sessions : List SessionState) → ((n : ℕ) → n ≤ last_number w → IsNamed w n) → (n : ℕ)
     → n ≤ last_number w → IsNamed (with_sessions w sessions) n
@@ -211,66 +180,19 @@ sound_move w s change after sound keeps is =
     subst IsSound (sym m.result) (sound_sessions w s m.session m.next sound m.found known)
 
 pub keeps_pin : (w : World) → IsSound w → KeepsSession w (to_pin w.floor)
-keeps_pin w sound Idle next p is = let e : Pinned w.floor ≡ next =
-    cc in subst (IsSessionSound w) e (omega arith, sound.floor_last)
-keeps_pin w sound (Pinned pin) next p is = cc
-keeps_pin w sound (Holding hold) next p is = cc
-keeps_pin w sound (Asking hold inquiry) next p is = cc
-
-used_kept : (n : ℕ) (o : Option BlockStatus) → is_at is_used o ≡ true → IsDatedAt n o → IsKeptAt n o
-used_kept n None is dated = cc
-used_kept n (Some Free) is dated = cc
-used_kept n (Some Granted) is dated = cc
-used_kept n (Some (Used birth)) is dated = dated
-used_kept n (Some (Retired birth retirement)) is dated = cc
-
-kept_last : (w : World) → IsSound w → (b : ℕ) → is_listed b (last_blocks w) ≡ true
-    → IsKeptAt (last_number w) (slice_get w.status b)
-kept_last w sound b is = used_kept (last_number w) (slice_get w.status b) (sound.used b ∙ is) (sound.dated b)
+keeps_pin w sound h next p is = grind (arith, common_steps)
 
 pub keeps_enter : (w : World) → IsSound w → KeepsSession w (to_enter (last_number w))
-keeps_enter w sound Idle next p is = cc
-keeps_enter w sound (Pinned pin) next p is =
-    let hold : Hold = record { pin = pin; settled = false; version = last_number w } in
-    let e : Holding hold ≡ next = cc in
-    let held : IsHeld w hold = record {
-      floor_pin = p.0;
-      pin_held = p.1;
-      held_last = omega arith;
-      settled = λ t. cc;
-      covered = λ birth retirement _ high. late_needed w.copy birth retirement (omega (arith, sound.copy_last, high));
-      kept = kept_last w sound;
-      shown = sound.shown;
-    } in
-    subst (IsSessionSound w) e held
-keeps_enter w sound (Holding hold) next p is = cc
-keeps_enter w sound (Asking hold inquiry) next p is = cc
+keeps_enter w sound h next p is = grind (arith, common_steps)
 
 settles : (w : World) (hold : Hold) → IsHeld w hold → IsHeld w (settled_at hold)
-settles w hold h = record {
-  floor_pin = omega (arith, h.floor_pin, h.pin_held);
-  pin_held = omega arith;
-  held_last = h.held_last;
-  settled = λ _. refl;
-  covered = h.covered;
-  kept = h.kept;
-  shown = h.shown;
-}
+settles w hold h = grind (arith, common_steps)
 
 pub keeps_settle : (w : World) → KeepsSession w to_settle
-keeps_settle w Idle next p is = cc
-keeps_settle w (Pinned pin) next p is = cc
-keeps_settle w (Holding hold) next p is = let e : Holding (settled_at hold) ≡ next =
-    cc in subst (IsSessionSound w) e (settles w hold p)
-keeps_settle w (Asking hold inquiry) next p is = let e : Asking (settled_at hold) inquiry ≡ next =
-    cc in subst (IsSessionSound w) e (settles w hold p.0, p.1)
+keeps_settle w h next p is = grind (arith, common_steps, settles)
 
 pub keeps_ask : (w : World) (request : Request) → KeepsSession w (to_ask request)
-keeps_ask w request Idle next p is = cc
-keeps_ask w request (Pinned pin) next p is = cc
-keeps_ask w request (Holding hold) next p is = let e : Asking hold (record { request = request; next = 0; read = [] })
-    ≡ next = cc in subst (IsSessionSound w) e (p, refl)
-keeps_ask w request (Asking hold inquiry) next p is = cc
+keeps_ask w request h next p is = grind (arith, common_steps)
 
 read_more : (heap : List (List Edge)) (blocks : List ℕ) (n b : ℕ) → slice_get blocks n ≡ Some b
     → edges_of heap (take n blocks) ++ edges_at heap b ≡ edges_of heap (take (n + 1) blocks)
@@ -292,23 +214,8 @@ keeps_read w (Asking hold inquiry) next p is =
           ∙ read_more w.heap (blocks_at w.opening w.versions hold.version) inquiry.next b.0 b.1,
     )
 
-if_some : {A : Type 0} (t : Bool) (x y : A) → (if t then Some x else None) ≡ Some y → (t ≡ true) × (y ≡ x)
-if_some true x y is = (refl, cc)
-if_some false x y is = cc
-
-pub replying : (w : World) (hold : Hold) (inquiry : Inquiry) (next : SessionState)
-    → to_reply w.opening w.versions (Asking hold inquiry) ≡ Some next
-    → (is_all_read w.opening w.versions hold inquiry ≡ true) × (next ≡ Holding hold)
-replying w hold inquiry next is = if_some (is_all_read w.opening w.versions hold inquiry) (Holding hold) next is
-
 pub keeps_reply : (w : World) → KeepsSession w (to_reply w.opening w.versions)
-keeps_reply w Idle next p is = cc
-keeps_reply w (Pinned pin) next p is = cc
-keeps_reply w (Holding hold) next p is = cc
-keeps_reply w (Asking hold inquiry) next p is = subst (IsSessionSound w) (sym (replying w hold inquiry next is).1) p.0
+keeps_reply w h next p is = grind (arith, common_steps)
 
 pub keeps_release : (w : World) → KeepsSession w to_release
-keeps_release w Idle next p is = cc
-keeps_release w (Pinned pin) next p is = let e : Idle ≡ next = cc in subst (IsSessionSound w) e tt
-keeps_release w (Holding hold) next p is = let e : Idle ≡ next = cc in subst (IsSessionSound w) e tt
-keeps_release w (Asking hold inquiry) next p is = cc
+keeps_release w h next p is = grind (arith, common_steps)

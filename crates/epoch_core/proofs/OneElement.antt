@@ -3,8 +3,8 @@ use Rattle.std.proofs.Common.{◌≡◌, ℕ, ◌<◌, ◌≤◌, List, length, 
 use Rattle.std.specs.{Prelude.slice_get, Option.option_and_then}
 use Rattle.std.specs.declared.option.Option.{Option, TheVariants.None, TheVariants.Some}
 use Rattle.std.proofs.lemmas.{List.set-get_or, Option.slice_get_past, Option.slice_get-get_or}
-use Rattle.epoch_core.specs.{Blocks.changed_at, Blocks.put, Blocks.Stepped, declared.step.Step.Step}
-use Rattle.epoch_core.specs.declared.step.Step.TheVariants.{Done, Skipped}
+use Rattle.epoch_core.specs.{Blocks.changed_at, Blocks.put, Blocks.Stepped, declared.step.Step.TheVariants.Skipped}
+use Rattle.epoch_core.specs.declared.step.Step.{Step}
 
 put_at : {A : Type 0} (o : Option A) (xs : List A) (i : ℕ) (d : A) (outcome : Step) (new : A)
     → Stepped o outcome (get_or xs i d) new → Stepped (put xs i o) outcome xs (set xs i new)
@@ -31,10 +31,3 @@ pub stays_at : {A : Type 0} (change : A → Option A) (xs : List A) (i : ℕ) (x
 stays_at change xs i x lt at none =
     let found : slice_get xs i ≡ Some x = slice_get-get_or xs i x lt ∙ ap (λ y. Some y) (sym at) in
     subst (λ o. Stepped (put xs i o) Skipped xs xs) (sym (ap (option_and_then change) found ∙ none)) (refl, refl)
-
--- a step that gives an element a new value
-pub goes_to : {A : Type 0} (change : A → Option A) (xs : List A) (i : ℕ) (x new : A) → i < length xs → x ≡ get_or xs i x
-    → change x ≡ Some new → Stepped (changed_at change xs i) Done xs (set xs i new)
-goes_to change xs i x new lt at some =
-    let found : slice_get xs i ≡ Some x = slice_get-get_or xs i x lt ∙ ap (λ y. Some y) (sym at) in
-    subst (λ o. Stepped (put xs i o) Done xs (set xs i new)) (sym (ap (option_and_then change) found ∙ some)) (refl, refl)

@@ -1,28 +1,21 @@
 -- The test of a Post decides its rule.
-use Rattle.std.proofs.Common.{◌≡◌, ◌≢◌, ◌⊎◌, ◌↔◌, ℕ, suc, ◌<◌, Bool, true, false, not, inl, inr, List, [], ◌∷◌}
-use Rattle.std.proofs.Common.{length, Decides, refl, sym, ◌∙◌, arith, eqb, leb}
+use Rattle.std.proofs.Common.{◌≡◌, ◌≢◌, ◌⊎◌, ◌↔◌, ℕ, suc, ◌<◌, Bool, true, not, List, [], ◌∷◌, length, Decides, refl, sym, ◌∙◌}
+use Rattle.std.proofs.Common.{arith, eqb, leb}
+use Rattle.std.proofs.lemmas.{Grind.common_steps, Bool.Decides.Decides-ltb, List.Kept.AllPairs-cons}
 use Rattle.std.specs.Prelude.{slice_get, if◌then◌else◌, is_some, All, AllPairs, IsTrue}
 use Rattle.std.specs.declared.option.Option.{Option, TheVariants.None, TheVariants.Some}
 use Rattle.std.proofs.lemmas.Bool.Decides.{Decides-and, Decides-or, Decides-not, Decides-like, Decides-by_and, Decides-eqb}
-use Rattle.std.proofs.lemmas.{Bool.Decides.Decides-ltb, Bool.Decides.leb_tells, List.Kept.AllPairs-cons}
 use Rattle.graph_types.proofs.Counts.{apart_tail}
 use Rattle.graph_types.specs.{Limits.batch_limit, Limits.name_limit, Limits.kind_limit, declared.batches.NamedOp.NamedOp}
-use Rattle.epoch_core.specs.Blocks.{all_differ}
-use Rattle.block_reclamation.specs.declared.status.BlockStatus.{BlockStatus}
-use Rattle.block_reclamation.specs.Status.{is_at, is_granted, is_listed}
-use Rattle.block_reclamation.specs.declared.status.BlockStatus.TheVariants.{Free, Granted, Used, Retired}
+use Rattle.epoch_core.{specs.Blocks.all_differ, proofs.Lists.and_left, proofs.Lists.and_right, proofs.Lists.neither}
 use Rattle.epoch_core.specs.{declared.events.Event.TheVariants.Post, Worlds.World, Worlds.last_blocks, Worlds.last_number}
-use Rattle.epoch_core.specs.Versions.{edges_of}
-use Rattle.epoch_core.specs.{Posts.MayPost, Posts.posted, Runs.is_done}
-use Rattle.epoch_core.specs.Posting.{all_listable, can_post, graph_after, is_listable}
-use Rattle.epoch_core.proofs.{Lists.and_left, Lists.and_right, Lists.neither, Edges.Decides-edges}
+use Rattle.epoch_core.{specs.Versions.edges_of, specs.Posts.MayPost, specs.Posts.posted, proofs.Edges.Decides-edges}
+use Rattle.epoch_core.specs.{Runs.is_done, Posting.all_listable, Posting.can_post, Posting.graph_after, Posting.is_listable}
+use Rattle.block_reclamation.specs.declared.status.BlockStatus.{BlockStatus, TheVariants.Granted}
+use Rattle.block_reclamation.specs.Status.{is_at, is_granted, is_listed}
 
 Decides-granted : (o : Option BlockStatus) → Decides (is_at is_granted o) (o ≡ Some Granted)
-Decides-granted None = (λ e. cc, λ e. cc)
-Decides-granted (Some Free) = (λ e. cc, λ e. cc)
-Decides-granted (Some Granted) = (λ _. refl, λ _. refl)
-Decides-granted (Some (Used birth)) = (λ e. cc, λ e. cc)
-Decides-granted (Some (Retired birth retirement)) = (λ e. cc, λ e. cc)
+Decides-granted o = grind (arith, common_steps)
 
 Decides-listable : (status : List BlockStatus) (last : List ℕ) (blocks : List ℕ)
     → Decides (all_listable status last blocks) (All (λ b. (slice_get status b ≡ Some Granted) ⊎ IsTrue (is_listed b last)) blocks)
@@ -49,11 +42,7 @@ Decides-differ (b ∷ bs) =
 
 -- a limit that isn't passed
 Decides-within : (n most : ℕ) → Decides (leb n most) ((most < n) → ⊥)
-Decides-within n most =
-    elim (leb_tells n most) [
-      | inl h ↦ (λ _ over. let low = h.1 in absurd (omega arith), λ _. h.0)
-      | inr h ↦ (λ e. let no = h.0 in cc, λ never. absurd (never h.1))
-    ]
+Decides-within n most = grind (arith, common_steps)
 
 pub Decides-post : (w : World) (batch : List NamedOp) (blocks : List ℕ)
     → Decides (can_post w.opening w.heap w.status w.versions batch blocks) (MayPost w batch blocks)
@@ -74,8 +63,7 @@ pub listable_of : (w : World) (batch : List NamedOp) (blocks : List ℕ)
 listable_of w batch blocks can = and_right _ _ (and_left _ _ (and_left _ _ (and_left _ _ can)))
 
 some_if : {A : Type 0} (t : Bool) (x : A) → is_some (if t then Some x else None) ≡ t
-some_if true x = refl
-some_if false x = refl
+some_if t x = grind (arith, common_steps)
 
 -- in every world a Post is done exactly where its rule holds
 pub posts_by_rule : (w : World) (batch : List NamedOp) (blocks : List ℕ) → IsTrue (is_done w (Post batch blocks))

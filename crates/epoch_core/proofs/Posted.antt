@@ -1,22 +1,19 @@
 -- Each event keeps what is sound: a batch is posted.
-use Rattle.std.proofs.Common.{◌≡◌, ◌≢◌, ◌||◌, add-one, ℕ, suc, ◌+◌, ◌<◌, ◌≤◌, Bool, true, false, inl, inr, List, [], ◌∷◌, ◌++◌}
-use Rattle.std.proofs.Common.{length, refl, sym, ap, subst, ◌∙◌, arith}
-use Rattle.std.specs.{Prelude.slice_get, Prelude.AllPairs, Option.option_map}
-use Rattle.std.specs.declared.option.Option.{Option, TheVariants.None, TheVariants.Some}
-use Rattle.std.proofs.lemmas.Bool.{cases_eq}
+use Rattle.std.proofs.Common.{◌≡◌, ◌≢◌, ◌||◌, add-one, ℕ, suc, ◌+◌, ◌<◌, ◌≤◌, Bool, true, inl, inr, List, [], ◌∷◌, ◌++◌, length}
+use Rattle.std.proofs.{Common.sym, Common.ap, Common.subst, Common.◌∙◌, Common.arith, lemmas.Grind.common_steps}
+use Rattle.std.{specs.Prelude.slice_get, specs.Prelude.AllPairs, specs.declared.option.Option.Option, proofs.lemmas.Bool.cases_eq}
+use Rattle.std.specs.Option.{option_map}
 use Rattle.graph_types.specs.declared.batches.NamedOp.{NamedOp}
-use Rattle.epoch_core.specs.declared.states.Version.{Version}
-use Rattle.block_reclamation.specs.declared.status.BlockStatus.{BlockStatus}
-use Rattle.block_reclamation.specs.declared.status.BlockStatus.TheVariants.{Free, Granted, Used, Retired}
-use Rattle.epoch_core.specs.Blocks.{after_post, status_after}
-use Rattle.block_reclamation.specs.Status.{is_at, is_granted, is_listed, is_used}
+use Rattle.epoch_core.{specs.declared.states.Version.Version, proofs.PostRule.Decides-post, proofs.PostRule.listable_of}
+use Rattle.epoch_core.{specs.Blocks.after_post, specs.Blocks.status_after, proofs.Keeping.Carries, proofs.Keeping.carry}
 use Rattle.epoch_core.specs.Versions.{AreEdgesOf, edges_of, graph_at, version_at}
 use Rattle.epoch_core.specs.Worlds.{World, last_blocks, last_graph, last_number, session_of}
 use Rattle.epoch_core.specs.{Posts.MayPost, Posts.posted, Sound.IsDatedAt, Sound.IsKeptAt, Sound.IsNamed, Sound.IsSound}
 use Rattle.epoch_core.specs.Posting.{all_listable, can_post, graph_after, is_listable, version_by}
 use Rattle.epoch_core.proofs.Lists.{get_enumerated, length_enumerated, all_listed}
 use Rattle.epoch_core.proofs.Changes.{length_next, version_before, graph_before, version_next, graph_next}
-use Rattle.epoch_core.proofs.{PostRule.Decides-post, PostRule.listable_of, Keeping.Carries, Keeping.carry}
+use Rattle.block_reclamation.specs.declared.status.BlockStatus.{BlockStatus}
+use Rattle.block_reclamation.specs.Status.{is_at, is_granted, is_listed, is_used}
 
 -- the status of each block afterwards
 pub status_at : (n : ℕ) (blocks : List ℕ) (status : List BlockStatus) (b : ℕ) → slice_get (status_after n blocks status) b
@@ -26,49 +23,17 @@ status_at n blocks status b = get_enumerated (λ i s. after_post n (is_listed i 
 
 used_after : (n : ℕ) (t : Bool) (o : Option BlockStatus) → (t ≡ true → (is_at is_granted o || is_at is_used o) ≡ true)
     → is_at is_used (option_map (after_post n t) o) ≡ t
-used_after n true None may = let no = may refl in cc
-used_after n false None may = refl
-used_after n true (Some Free) may = let no = may refl in cc
-used_after n false (Some Free) may = refl
-used_after n true (Some Granted) may = refl
-used_after n false (Some Granted) may = refl
-used_after n true (Some (Used birth)) may = refl
-used_after n false (Some (Used birth)) may = refl
-used_after n true (Some (Retired birth retirement)) may = let no = may refl in cc
-used_after n false (Some (Retired birth retirement)) may = refl
+used_after n t o may = grind (arith, common_steps)
 
 dated_after : (last : ℕ) (t : Bool) (o : Option BlockStatus) → IsDatedAt last o
     → IsDatedAt (last + 1) (option_map (after_post (last + 1) t) o)
-dated_after last t None d = tt
-dated_after last t (Some Free) d = tt
-dated_after last true (Some Granted) d = omega arith
-dated_after last false (Some Granted) d = tt
-dated_after last true (Some (Used birth)) d = omega (arith, d)
-dated_after last false (Some (Used birth)) d = (omega (arith, d), omega arith)
-dated_after last t (Some (Retired birth retirement)) d = (d.0, omega (arith, d.1))
+dated_after last t o d = grind (arith, common_steps)
 
 kept_after : (n m : ℕ) (t : Bool) (o : Option BlockStatus) → m < n → IsKeptAt m o → IsKeptAt m (option_map (after_post n t) o)
-kept_after n m t None h k = k
-kept_after n m t (Some Free) h k = absurd k
-kept_after n m t (Some Granted) h k = absurd k
-kept_after n m true (Some (Used birth)) h k = k
-kept_after n m false (Some (Used birth)) h k = (k, h)
-kept_after n m t (Some (Retired birth retirement)) h k = k
+kept_after n m t o h k = grind (arith, common_steps)
 
 carries_posted : (w : World) (batch : List NamedOp) (blocks : List ℕ) → Carries w (posted w batch blocks)
-carries_posted w batch blocks =
-    let next : length (w.versions ++ version_by w.opening w.versions batch blocks ∷ []) ≡ suc (length w.versions) =
-    length_next w.versions (version_by w.opening w.versions batch blocks) in
-    record {
-      floor = refl;
-      copy = refl;
-      last = omega (arith, next);
-      versions = version_before w.opening w.versions (version_by w.opening w.versions batch blocks);
-      graphs = graph_before w.opening w.versions (version_by w.opening w.versions batch blocks);
-      kept = λ b n _ high k. subst (IsKeptAt n) (sym (status_at (last_number w + 1) blocks w.status b))
-          (kept_after (last_number w + 1) n (is_listed b blocks) (slice_get w.status b) (omega arith) k);
-      edges = λ b n _. refl;
-    }
+carries_posted w batch blocks = grind (arith, common_steps, length_next, version_before, graph_before, status_at, kept_after)
 
 named_posted : (w : World) (batch : List NamedOp) (blocks : List ℕ) → IsSound w → (n : ℕ)
     → n ≤ last_number (posted w batch blocks) → IsNamed (posted w batch blocks) n
@@ -83,8 +48,7 @@ named_posted w batch blocks sound n h =
           ap (graph_at w.opening (w.versions ++ v ∷ [])) e ∙ graph_next w.opening w.versions v in
           record {
             names = ap (λ u. u.names) at ∙ sym (ap (λ g. g.names) made);
-            kinds = ap (λ u. u.kinds) at
-                ∙ sym (ap (λ g. g.kinds) made);
+            kinds = ap (λ u. u.kinds) at ∙ sym (ap (λ g. g.kinds) made);
           }
       | inr ne ↦
           let low : n ≤ length w.versions = omega (arith, next) in
@@ -95,8 +59,7 @@ named_posted w batch blocks sound n h =
           let old : IsNamed w n = sound.named n low in
           record {
             names = ap (λ u. u.names) at ∙ old.names ∙ sym (ap (λ g. g.names) made);
-            kinds = ap (λ u. u.kinds) at
-                ∙ old.kinds ∙ sym (ap (λ g. g.kinds) made);
+            kinds = ap (λ u. u.kinds) at ∙ old.kinds ∙ sym (ap (λ g. g.kinds) made);
           }
     ]
 
@@ -116,8 +79,7 @@ sound_posted w batch blocks sound can =
           ap (is_at is_used) (status_at (last_number w + 1) blocks w.status b)
           ∙ used_after (last_number w + 1) (is_listed b blocks) (slice_get w.status b)
           (λ is. ap (λ t. is_at is_granted (slice_get w.status b) || t) (sound.used b)
-          ∙ all_listed (is_listable w.status (last_blocks w)) blocks b all is)
-          ∙ ap (is_listed b) (sym at);
+          ∙ all_listed (is_listable w.status (last_blocks w)) blocks b all is) ∙ ap (is_listed b) (sym at);
       dated = λ b. subst (λ n. IsDatedAt n (slice_get (posted w batch blocks).status b))
           (sym (next ∙ sym (add-one (last_number w))))
           (subst (IsDatedAt (last_number w + 1)) (sym (status_at (last_number w + 1) blocks w.status b))

@@ -1,16 +1,13 @@
 -- What is read of a version is a content.
 use Rattle.std.proofs.Common.{◌≡◌, ◌≢◌, ℕ, ◌<◌, ◌≤◌, List, length, get_or, sym, ap, subst, ◌∙◌, arith}
-use Rattle.std.specs.{Prelude.AllPairs, FinMap.get}
-use Rattle.std.proofs.lemmas.List.{take_all}
+use Rattle.std.{specs.Prelude.AllPairs, specs.FinMap.get, proofs.lemmas.List.take_all}
 use Rattle.graph_types.specs.Graph.{Graph, key_of, stamp_of, map_of, IsContent, IsEdgeWithin, IsWeight, IsTime}
-use Rattle.graph_types.specs.declared.ids.Edge.{Edge}
-use Rattle.graph_types.proofs.Keys.{get_is, get_listed, find_listed}
-use Rattle.epoch_core.specs.{declared.states.Version.Version, Posting.last_content}
-use Rattle.epoch_core.specs.{declared.session_states.SessionState.SessionState, Machine.ReadsContent}
+use Rattle.graph_types.{specs.declared.ids.Edge.Edge, proofs.Keys.get_is, proofs.Keys.get_listed, proofs.Keys.find_listed}
+use Rattle.epoch_core.specs.declared.{states.Version.Version, session_states.SessionState.SessionState}
+use Rattle.epoch_core.specs.{Posting.last_content, Machine.ReadsContent, Sound.IsNamed, Sound.IsSessionSound, Sound.IsSound}
 use Rattle.epoch_core.specs.declared.session_states.SessionState.TheVariants.{Idle, Pinned, Holding, Asking}
 use Rattle.epoch_core.specs.Worlds.{HasContents, World, last_blocks, last_graph, last_number, session_of}
 use Rattle.epoch_core.specs.Versions.{IsContentGraph, AreEdgesOf, blocks_at, content_with, edges_of, graph_at, version_at}
-use Rattle.epoch_core.specs.Sound.{IsNamed, IsSessionSound, IsSound}
 
 same_within : (n m : ℕ) (x e : Edge) → key_of e ≡ key_of x → stamp_of e ≡ stamp_of x → IsEdgeWithin n m x → IsEdgeWithin n m e
 same_within n m x e key stamp w = record {

@@ -1,20 +1,11 @@
 -- No event changes how many blocks and sessions there are.
-use Rattle.std.proofs.Common.{◌≡◌, ℕ, ◌+◌, Bool, true, false, List, [], ◌∷◌, length, refl, sym, ap, subst, ◌∙◌}
-use Rattle.std.specs.{Prelude.if◌then◌else◌, Option.option_map, Option.unwrap_or}
+use Rattle.std.proofs.Common.{◌≡◌, ℕ, Bool, List, [], ◌∷◌, length, refl, ◌∙◌, arith}
+use Rattle.std.{proofs.lemmas.Grind.common_steps, specs.Prelude.if◌then◌else◌, specs.Option.option_map, specs.Option.unwrap_or}
 use Rattle.std.specs.declared.option.Option.{Option, TheVariants.None, TheVariants.Some}
-use Rattle.std.proofs.lemmas.List.{length-set}
-use Rattle.epoch_core.specs.Posting.{can_post}
+use Rattle.epoch_core.specs.{Machine.with_status, Machine.move, Machine.step, declared.session_states.SessionState.SessionState}
+use Rattle.epoch_core.specs.{Runs.next_world, Runs.run, Worlds.World, Blocks.changed_at}
+use Rattle.epoch_core.{specs.declared.events.Event.Event, proofs.Lists.option_map_some, proofs.Lists.length_enumerated}
 use Rattle.block_reclamation.specs.declared.status.BlockStatus.{BlockStatus}
-use Rattle.epoch_core.specs.{declared.session_states.SessionState.SessionState, Worlds.World, Worlds.last_number, Posts.posted}
-use Rattle.epoch_core.specs.declared.events.Event.{Event, TheVariants.Reply, TheVariants.Release}
-use Rattle.epoch_core.specs.declared.events.Event.TheVariants.{Take, Fill, Post, Floor, Recycle, Pin, Enter, Settle, Ask, Read}
-use Rattle.epoch_core.specs.Blocks.{after_post, changed_at, filled, taken}
-use Rattle.block_reclamation.specs.Status.{is_listed}
-use Rattle.epoch_core.specs.Blocks.{reclaimed}
-use Rattle.epoch_core.specs.Machine.{move, step, to_ask, to_enter, to_pin, to_read, to_release, to_reply, to_settle, with_heap}
-use Rattle.epoch_core.specs.{Machine.with_status, Runs.next_world, Runs.run}
-use Rattle.epoch_core.proofs.Lists.{option_map_some, ChangedAt, changed_at-some, length_enumerated}
-use Rattle.epoch_core.proofs.Moves.{Moved, moved}
 
 pub record SameSizes (old new : World) : Type 0 where
   pub blocks : length new.status ≡ length old.status
@@ -25,48 +16,17 @@ same_size w = record { blocks = refl; sessions = refl }
 
 size_changed : (w after : World) (b : ℕ) (change : BlockStatus → Option BlockStatus)
     → option_map (with_status w) (changed_at change w.status b) ≡ Some after → SameSizes w after
-size_changed w after b change is =
-    let whole = option_map_some (with_status w) _ after is in
-    let c : ChangedAt change w.status b whole.0 = changed_at-some change w.status b whole.0 whole.1 in
-    record {
-      blocks = ap (λ v. length v.status) whole.2 ∙ ap length c.result ∙ length-set w.status b c.after;
-      sessions = ap (λ v. length v.sessions) whole.2;
-    }
+size_changed w after b change is = grind (arith, common_steps)
 
 size_moved : (w after : World) (s : ℕ) (change : SessionState → Option SessionState) → move w s change ≡ Some after
     → SameSizes w after
-size_moved w after s change is =
-    let m : Moved w s change after = moved w s change after is in
-    record {
-      blocks = ap (λ v. length v.status) m.result;
-      sessions = ap (λ v. length v.sessions) m.result ∙ length-set w.sessions s m.next;
-    }
+size_moved w after s change is = grind (arith, common_steps)
 
 size_if : (t : Bool) (w new after : World) → SameSizes w new → (if t then Some new else None) ≡ Some after → SameSizes w after
-size_if true w new after same is = let e : new ≡ after = cc in subst (SameSizes w) e same
-size_if false w new after same is = cc
+size_if t w new after same is = grind (arith, common_steps)
 
 size_step : (w after : World) (e : Event) → step w e ≡ Some after → SameSizes w after
-size_step w after (Take b) is = size_changed w after b taken is
-size_step w after (Fill b edges) is =
-    let whole = option_map_some (with_heap w) (filled w.status w.heap b edges) after is in
-    subst (SameSizes w) (sym whole.2) (record { blocks = refl; sessions = refl })
-size_step w after (Post batch blocks) is =
-    size_if (can_post w.opening w.heap w.status w.versions batch blocks) w (posted w batch blocks) after
-    (record {
-      blocks = length_enumerated (λ p. after_post (last_number w + 1) (is_listed p.0 blocks) p.1) 0 w.status;
-      sessions = refl;
-    }) is
-size_step w after Floor is = let same : (w.status ≡ after.status) × (w.sessions ≡ after.sessions) =
-    (cc, cc) in record { blocks = ap length (sym same.0); sessions = ap length (sym same.1) }
-size_step w after (Recycle b) is = size_changed w after b (reclaimed w.copy) is
-size_step w after (Pin s) is = size_moved w after s (to_pin w.floor) is
-size_step w after (Enter s) is = size_moved w after s (to_enter (last_number w)) is
-size_step w after (Settle s) is = size_moved w after s to_settle is
-size_step w after (Ask s request) is = size_moved w after s (to_ask request) is
-size_step w after (Read s) is = size_moved w after s (to_read w.opening w.heap w.versions) is
-size_step w after (Reply s) is = size_moved w after s (to_reply w.opening w.versions) is
-size_step w after (Release s) is = size_moved w after s to_release is
+size_step w after e is = grind (arith, common_steps, size_changed, option_map_some, size_if, length_enumerated, size_moved)
 
 pub size_next : (w : World) (e : Event) → SameSizes w (next_world w e)
 size_next w e = elim (step w e) as (λ o. step w e ≡ o → SameSizes w

@@ -3,12 +3,10 @@ use Rattle.std.proofs.Common.{◌≡◌, ℕ, List, refl, sym, ap, subst}
 use Rattle.std.specs.{Prelude.IfOk, Prelude.OnErr, Option.option_map}
 use Rattle.std.specs.declared.option.Option.{Option, TheVariants.None, TheVariants.Some}
 use Rattle.std.specs.declared.result.Result.{Result, TheVariants.Ok, TheVariants.Err}
-use Rattle.epoch_core.specs.Blocks.{Stepped, changed_at}
-use Rattle.epoch_core.specs.declared.step.Step.{Step}
-use Rattle.block_reclamation.specs.declared.status.BlockStatus.{BlockStatus}
-use Rattle.epoch_core.specs.declared.{events.Event.Event, session_states.SessionState.SessionState}
-use Rattle.epoch_core.specs.{Worlds.MachineState, Worlds.World, Runs.Steps}
+use Rattle.epoch_core.specs.{Blocks.Stepped, Blocks.changed_at, Worlds.MachineState, Worlds.World, Runs.Steps}
+use Rattle.epoch_core.specs.declared.{step.Step.Step, events.Event.Event, session_states.SessionState.SessionState}
 use Rattle.epoch_core.specs.Machine.{Replies, move, step, with_sessions, with_status}
+use Rattle.block_reclamation.specs.declared.status.BlockStatus.{BlockStatus}
 
 pub stepped_in : {A W : Type 0} (put_in : A → W) (o : Option A) (outcome : Step) (old new : A) → Stepped o outcome old new
     → Stepped (option_map put_in o) outcome (put_in old) (put_in new)
@@ -31,8 +29,7 @@ steps_by old e event put_in o outcome before after same does whole replies is =
 pub changed_by : (old : MachineState) (e event : Event) (b : ℕ) (change : BlockStatus → Option BlockStatus) (outcome : Step)
     (status : List BlockStatus) → event ≡ e
     → step old.world e ≡ option_map (with_status old.world) (changed_at change old.world.status b)
-    → Replies old.world e old.replies old.replies
-    → Stepped (changed_at change old.world.status b) outcome old.world.status status
+    → Replies old.world e old.replies old.replies → Stepped (changed_at change old.world.status b) outcome old.world.status status
     → Steps old event outcome (record { world = with_status old.world status; replies = old.replies })
 changed_by old e event b change outcome status same does replies is =
     steps_by old e event (with_status old.world) (changed_at change old.world.status b) outcome old.world.status status same does

@@ -1,31 +1,23 @@
 -- Each event keeps what is sound, and so does each run.
-use Rattle.std.proofs.Common.{◌≡◌, ◌≢◌, ◌||◌, ◌<◌, inl, inr, eqb, length, ℕ, zero, suc, ◌≤◌, Bool, true, false, List, [], ◌∷◌}
-use Rattle.std.proofs.Common.{get_or, replicate, refl, sym, ap, subst, ◌∙◌, arith}
-use Rattle.std.specs.Prelude.{slice_get, if◌then◌else◌, All, AllPairs}
-use Rattle.std.specs.Option.{option_map, unwrap_or}
+use Rattle.std.proofs.Common.{◌≡◌, ◌||◌, ◌<◌, inl, inr, eqb, length, ℕ, zero, suc, ◌≤◌, Bool, true, false, List, [], ◌∷◌, get_or}
+use Rattle.std.proofs.Common.{replicate, refl, sym, ap, subst, ◌∙◌, arith}
+use Rattle.std.proofs.lemmas.{Grind.common_steps, Bool.cases_lt}
+use Rattle.std.{proofs.lemmas.List.length-replicate, specs.Prelude.slice_get, specs.Prelude.if◌then◌else◌, specs.Prelude.All}
+use Rattle.std.{proofs.lemmas.Option.slice_get_past, specs.Option.option_map, specs.Option.unwrap_or}
 use Rattle.std.specs.declared.option.Option.{Option, TheVariants.None, TheVariants.Some}
-use Rattle.std.proofs.lemmas.{List.length-replicate, Option.slice_get_past}
-use Rattle.std.proofs.lemmas.Bool.{cases_lt}
-use Rattle.graph_types.specs.declared.ids.Edge.{Edge}
-use Rattle.block_reclamation.specs.declared.status.BlockStatus.{BlockStatus}
-use Rattle.block_reclamation.specs.declared.status.BlockStatus.TheVariants.{Free, Used}
-use Rattle.epoch_core.specs.{declared.session_states.SessionState.TheVariants.Idle, Posts.posted, Runs.next_world, Runs.run}
-use Rattle.epoch_core.specs.declared.events.Event.{Event, TheVariants.Reply, TheVariants.Release}
-use Rattle.epoch_core.specs.declared.events.Event.TheVariants.{Take, Fill, Post, Floor, Recycle, Pin, Enter, Settle, Ask, Read}
-use Rattle.epoch_core.specs.Blocks.{changed_at, taken}
-use Rattle.block_reclamation.specs.Status.{is_at, is_listed, is_used}
-use Rattle.epoch_core.specs.Blocks.{reclaimed}
-use Rattle.epoch_core.specs.Versions.{opening_graph, blocks_at, edges_of, graph_at, AreEdgesOf}
-use Rattle.epoch_core.specs.Worlds.{IsStart, World, last_blocks, last_graph, last_number, session_of, start, MachineState}
-use Rattle.epoch_core.specs.Posting.{can_post}
-use Rattle.epoch_core.specs.Machine.{step, with_heap, with_status}
-use Rattle.epoch_core.specs.Sound.{IsDatedAt, IsNamed, IsSessionSound, IsSound}
-use Rattle.block_reclamation.specs.Status.{IsDated}
+use Rattle.graph_types.{specs.declared.ids.Edge.Edge, proofs.Keys.once_none}
+use Rattle.block_reclamation.specs.declared.status.BlockStatus.{BlockStatus, TheVariants.Free, TheVariants.Used}
+use Rattle.block_reclamation.specs.Status.{is_at, is_listed, is_used, IsDated}
+use Rattle.epoch_core.specs.declared.{session_states.SessionState.TheVariants.Idle, events.Event.Event}
+use Rattle.epoch_core.specs.{Posts.posted, Worlds.IsStart, Worlds.World, Worlds.session_of, Worlds.start, Worlds.MachineState}
+use Rattle.epoch_core.specs.{Sound.IsDatedAt, Sound.IsNamed, Sound.IsSound, Blocks.changed_at, Blocks.taken, Blocks.reclaimed}
+use Rattle.epoch_core.specs.{Runs.next_world, Runs.run, Posting.can_post, Machine.step, Machine.with_heap, Machine.with_status}
+use Rattle.epoch_core.specs.declared.events.Event.TheVariants.{Reply, Release, Take, Fill, Post, Floor, Recycle, Pin, Enter}
+use Rattle.epoch_core.specs.declared.events.Event.TheVariants.{Settle, Ask, Read}
 use Rattle.epoch_core.proofs.Lists.{true_or_false, option_map_some, ChangedAt, changed_at-some}
-use Rattle.graph_types.proofs.Keys.{once_none}
 use Rattle.epoch_core.proofs.Keeping.{FreesNone, frees_taken, frees_recycled, sound_status, Fills, fills, sound_fill}
-use Rattle.epoch_core.proofs.{Posted.sound_posted, Moves.keeps_read, Moves.keeps_reply, Moves.keeps_release}
-use Rattle.epoch_core.proofs.Moves.{sound_floor, floored, sound_move, keeps_pin, keeps_enter, keeps_settle, keeps_ask}
+use Rattle.epoch_core.proofs.{Posted.sound_posted, Moves.floored, Moves.sound_move, Moves.keeps_pin}
+use Rattle.epoch_core.proofs.Moves.{keeps_enter, keeps_settle, keeps_ask, keeps_read, keeps_reply, keeps_release, sound_floor}
 
 sound_changed : (w after : World) (b : ℕ) (change : BlockStatus → Option BlockStatus) → IsSound w
     → ((s t : BlockStatus) → change s ≡ Some t → FreesNone w.copy s t)
@@ -43,8 +35,7 @@ sound_filled w after b edges sound is =
     subst IsSound (sym (whole.2 ∙ ap (with_heap w) f.result)) (sound_fill w b edges sound f.granted)
 
 sound_if : (t : Bool) (w after : World) → (t ≡ true → IsSound w) → (if t then Some w else None) ≡ Some after → IsSound after
-sound_if true w after sound is = let e : w ≡ after = cc in subst IsSound e (sound refl)
-sound_if false w after sound is = cc
+sound_if t w after sound is = grind (arith, common_steps)
 
 pub sound_step : (w after : World) (e : Event) → IsSound w → step w e ≡ Some after → IsSound after
 sound_step w after (Take b) sound is = sound_changed w after b taken sound (frees_taken w.copy) is
@@ -71,9 +62,7 @@ sound_run [] w sound = sound
 sound_run (e ∷ es) w sound = sound_run es (next_world w e) (sound_next w e sound)
 
 pub all_idle : (n s : ℕ) → get_or (replicate n Idle) s Idle ≡ Idle
-all_idle zero s = refl
-all_idle (suc n) zero = refl
-all_idle (suc n) (suc s) = all_idle n s
+all_idle n s = grind (arith, common_steps)
 
 pub idle_at : (start : MachineState) (s : ℕ) → IsStart start → session_of start.world s ≡ Idle
 idle_at start s is = ap (λ xs. get_or xs s Idle) is.idle ∙ all_idle (length start.world.sessions) s
@@ -83,12 +72,10 @@ abbrev at_first : Bool → BlockStatus
 at_first t = if t then Used 0 else Free
 
 used_first : (t : Bool) → is_used (at_first t) ≡ t
-used_first true = refl
-used_first false = refl
+used_first t = grind (arith, common_steps)
 
 dated_first : (t : Bool) → IsDated 0 (at_first t)
-dated_first true = omega arith
-dated_first false = tt
+dated_first t = grind (arith, common_steps)
 
 -- what is listed is within the bound of the list
 listed_within : (n b : ℕ) (bs : List ℕ) → All (λ c. c < n) bs → is_listed b bs ≡ true → b < n
@@ -114,34 +101,13 @@ used_start start b is =
     ]
 
 dated_start : (start : MachineState) (b : ℕ) → IsStart start → IsDatedAt 0 (slice_get start.world.status b)
-dated_start start b is =
-    elim (cases_lt b (length start.world.status)) [
-      | inl low ↦ subst (IsDatedAt 0) (sym (is.status b low)) (dated_first (is_listed b start.world.opening.blocks))
-      | inr past ↦ subst (IsDatedAt 0) (sym (slice_get_past start.world.status b past)) tt
-    ]
+dated_start start b is = grind (arith, common_steps, cases_lt, dated_first, slice_get_past)
 
 named_alone : (w : World) (n : ℕ) → n ≤ 0 → IsNamed w n
-named_alone w zero h = record { names = refl; kinds = refl }
-named_alone w (suc n) h = absurd (omega arith)
+named_alone w n h = grind (arith, common_steps)
 
 pub sound_start : (start : MachineState) → IsStart start → IsSound start.world
-sound_start start is =
-    let w : World = start.world in
-    let none : last_number w ≡ 0 = ap length is.alone in
-    let blocks : last_blocks w ≡ w.opening.blocks = ap (λ vs. blocks_at w.opening vs (length vs)) is.alone in
-    let graph : last_graph w ≡ opening_graph w.opening = ap (λ vs. graph_at w.opening vs (length vs)) is.alone in
-    record {
-      floor_last = omega (arith, is.floor);
-      copy_last = omega (arith, ap (λ c. c.last) is.copy);
-      used = λ b. used_start start b is ∙ ap (is_listed b) (sym blocks);
-      dated = λ b. subst (λ n. IsDatedAt n (slice_get w.status b)) (sym none) (dated_start start b is);
-      listed_once = subst (AllPairs ◌≢◌) (sym blocks) is.different;
-      shown = subst (λ bs. AreEdgesOf (edges_of w.heap bs) (last_graph w)) (sym blocks)
-          (subst (AreEdgesOf (edges_of w.heap w.opening.blocks)) (sym graph) is.shown);
-      named = λ n low. named_alone w n (subst (λ m. n ≤ m) none low);
-      sessions = λ s. subst (IsSessionSound w) (sym (idle_at start s is)) tt;
-      sizes = is.heap;
-    }
+sound_start start is = grind (arith, common_steps, used_start, dated_start, named_alone, idle_at)
 
 pub always_sound : (start : MachineState) (events : List Event) → IsStart start → IsSound (run events start.world)
 always_sound start events is = sound_run events start.world (sound_start start is)
@@ -153,15 +119,4 @@ free_at (suc n) (suc b) h = free_at n b (omega arith)
 
 -- the start with the empty opening is a start
 pub start_is_start : (sessions blocks : ℕ) → IsStart (start sessions blocks)
-start_is_start sessions blocks = record {
-  alone = refl;
-  within = λ k d h. absurd (omega arith);
-  different = λ i j d h g. absurd (omega arith);
-  shown = record { once = once_none; same = refl };
-  status = λ b low. let h : b < blocks = omega (arith, low, length-replicate blocks Free) in free_at blocks b h;
-  heap = length-replicate blocks [] ∙ sym (length-replicate blocks Free);
-  floor = refl;
-  copy = refl;
-  idle = ap (λ n. replicate n Idle) (sym (length-replicate sessions Idle));
-  replies = ap (λ n. replicate n []) (sym (length-replicate sessions Idle));
-}
+start_is_start sessions blocks = grind (arith, common_steps, once_none, length-replicate, free_at)

@@ -3,10 +3,8 @@ use Rattle.std.specs.Prelude.{◌≡◌, ◌↔◌, ◌⊎◌, ℕ, ◌≤◌, �
 use Rattle.std.specs.declared.option.Option.TheVariants.{None, Some}
 use Rattle.block_reclamation.specs.declared.status.BlockStatus.TheVariants.{Retired}
 use Rattle.block_reclamation.specs.Status.{is_at, is_listed, is_retired}
-use Rattle.epoch_core.specs.declared.events.Event.{Event}
-use Rattle.epoch_core.specs.declared.events.Event.TheVariants.{Floor, Recycle}
-use Rattle.epoch_core.specs.Worlds.{World, session_of, pin_in, settled_in, unsettled_in}
-use Rattle.epoch_core.specs.Runs.{run}
+use Rattle.epoch_core.specs.declared.events.Event.{Event, TheVariants.Floor, TheVariants.Recycle}
+use Rattle.epoch_core.specs.{Worlds.World, Worlds.session_of, Worlds.pin_in, Worlds.settled_in, Worlds.unsettled_in, Runs.run}
 
 -- a settled pin lies from the birth to below the retirement, or an unsettled one below the retirement
 pub record IsSettledNeed (w : World) (birth retirement : ℕ) : Type 0 where

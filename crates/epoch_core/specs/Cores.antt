@@ -1,6 +1,5 @@
 -- What the fields of the machine show.
-use Rattle.epoch_core.specs.declared.session_states.Parts.{Parts}
-use Rattle.epoch_core.specs.Worlds.{MachineState}
+use Rattle.epoch_core.specs.{declared.session_states.Parts.Parts, Worlds.MachineState}
 
 abbrev pub state_of : Parts → MachineState
 state_of p = record {

@@ -1,19 +1,15 @@
 -- Blocks and pins at any moment.
 use Rattle.std.specs.Prelude.{◌≡◌, ◌≢◌, ℕ, ◌≤◌, nat_lt, List, [], ◌∷◌, count_by, if◌then◌else◌, slice_get, IsTrue, IsFalse}
-use Rattle.std.specs.Prelude.{AllPairs}
-use Rattle.std.specs.declared.option.Option.TheVariants.{Some}
+use Rattle.std.specs.{Prelude.AllPairs, declared.option.Option.TheVariants.Some}
 use Rattle.graph_types.specs.declared.ids.Edge.{Edge}
-use Rattle.epoch_core.specs.declared.events.Event.TheVariants.{Fill}
-use Rattle.block_reclamation.specs.Status.{is_at, is_free, is_granted, is_retired, is_listed}
+use Rattle.epoch_core.specs.{declared.events.Event.TheVariants.Fill, Versions.blocks_at, Runs.is_done}
 use Rattle.epoch_core.specs.Worlds.{World, last_number, last_blocks, pin_in, held_in, session_of}
-use Rattle.epoch_core.specs.Versions.{blocks_at}
-use Rattle.epoch_core.specs.Runs.{is_done}
+use Rattle.block_reclamation.specs.Status.{is_at, is_free, is_granted, is_retired, is_listed}
 
 -- no Fill that is done names a block in the list of a version that some session holds
 abbrev pub FillsNoHeldBlock : World → Type 0
 FillsNoHeldBlock w =
-    (b : ℕ) (edges : List Edge) (s n : ℕ)
-    → IsTrue (is_done w (Fill b edges)) → held_in (session_of w s) ≡ Some n
+    (b : ℕ) (edges : List Edge) (s n : ℕ) → IsTrue (is_done w (Fill b edges)) → held_in (session_of w s) ≡ Some n
     → IsFalse (is_listed b (blocks_at w.opening w.versions n))
 
 -- the floor is at most each pin and at most the last number, and a holder's pin at most its held number

@@ -1,19 +1,12 @@
 -- Small runs, written out by the rules of the events: what a session holds in them, when two agree, and what a Post
 -- makes of blocks.
 use Rattle.std.specs.Prelude.{◌≡◌, ◌≢◌, ℤ, pos, negsuc, ℕ, List, [], ◌∷◌}
-use Rattle.graph_types.specs.declared.ids.Edge.{Edge}
-use Rattle.graph_types.specs.declared.batches.NamedOp.{NamedOp}
-use Rattle.graph_types.specs.declared.batches.NamedOp.TheVariants.{Insert, Incr}
-use Rattle.graph_types.specs.declared.requests.Request.{Request}
-use Rattle.graph_types.specs.declared.requests.Request.TheVariants.{OneEdge}
+use Rattle.graph_types.specs.declared.{ids.Edge.Edge, requests.Request.Request, requests.Request.TheVariants.OneEdge}
+use Rattle.graph_types.specs.declared.batches.NamedOp.{NamedOp, TheVariants.Insert, TheVariants.Incr}
 use Rattle.block_reclamation.specs.declared.status.BlockStatus.TheVariants.{Free, Granted, Used, Retired}
-use Rattle.epoch_core.specs.declared.events.Event.{Event}
+use Rattle.epoch_core.specs.{declared.events.Event.Event, Blocks.status_after, Holdings.Holding, Holdings.holdings}
 use Rattle.epoch_core.specs.declared.events.Event.TheVariants.{Take, Fill, Post, Floor, Pin, Enter, Settle, Ask, Read, Reply}
-use Rattle.epoch_core.specs.declared.events.Event.TheVariants.{Release}
-use Rattle.epoch_core.specs.Blocks.{status_after}
-use Rattle.epoch_core.specs.Worlds.{empty_opening, start_world}
-use Rattle.epoch_core.specs.Versions.{left}
-use Rattle.epoch_core.specs.Holdings.{Holding, holdings}
+use Rattle.epoch_core.specs.{declared.events.Event.TheVariants.Release, Worlds.empty_opening, Worlds.start_world, Versions.left}
 
 -- one edge from a to b of kind k
 

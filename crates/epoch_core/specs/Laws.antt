@@ -1,23 +1,16 @@
 -- The laws of the machine: snapshot isolation, blocks and pins, and the rule of a Post.
-use Rattle.std.specs.Prelude.{◌≡◌, ◌↔◌, ℕ, List, length, IsTrue}
-use Rattle.std.specs.List.{AllZip}
+use Rattle.std.specs.{Prelude.◌≡◌, Prelude.◌↔◌, Prelude.ℕ, Prelude.List, Prelude.length, Prelude.IsTrue, List.AllZip}
 use Rattle.graph_types.specs.declared.batches.NamedOp.{NamedOp}
-use Rattle.epoch_core.specs.declared.events.Event.{Event}
-use Rattle.epoch_core.specs.declared.events.Event.TheVariants.{Post}
-use Rattle.epoch_core.specs.Worlds.{World, MachineState, IsStart, replies_of}
-use Rattle.epoch_core.specs.Posts.{MayPost}
-use Rattle.epoch_core.specs.Machine.{Answers}
-use Rattle.epoch_core.specs.Runs.{run, Runs, is_done}
-use Rattle.epoch_core.specs.Holdings.{holdings, questions}
-use Rattle.epoch_core.specs.Epochs.{FillsNoHeldBlock, PinsInOrder, IsPartition}
-use Rattle.epoch_core.specs.Collections.{LeavesWhatPinsNeed, LeavesNoneUnpinned}
+use Rattle.epoch_core.specs.{declared.events.Event.Event, Collections.LeavesWhatPinsNeed, Collections.LeavesNoneUnpinned}
+use Rattle.epoch_core.specs.{declared.events.Event.TheVariants.Post, Posts.MayPost, Holdings.holdings, Holdings.questions}
+use Rattle.epoch_core.specs.{Worlds.World, Worlds.MachineState, Worlds.IsStart, Worlds.replies_of, Machine.Answers}
+use Rattle.epoch_core.specs.{Runs.run, Runs.Runs, Runs.is_done, Epochs.FillsNoHeldBlock, Epochs.PinsInOrder, Epochs.IsPartition}
 
 -- in one world: the replies to a session are, one by one, the answers to the requests of its holdings, each
 -- over what the batches up to the held version leave
 abbrev pub RepliesAreAnswers : Type 0
 RepliesAreAnswers =
-    (start end : MachineState) (events : List Event) (s : ℕ)
-    → IsStart start → Runs start events end
+    (start end : MachineState) (events : List Event) (s : ℕ) → IsStart start → Runs start events end
     → AllZip Answers (questions (holdings s start.world events)) (replies_of end s)
 
 -- in two worlds: where a session has the same holdings in two lists of events, from any two starts, it has the same list of
@@ -26,10 +19,8 @@ RepliesAreAnswers =
 abbrev pub AgreeingRunsReplyAlike : Type 0
 AgreeingRunsReplyAlike =
     (s : ℕ) (start end : MachineState) (events : List Event) (other_start other_end : MachineState) (other_events : List Event)
-    → IsStart start → Runs start events end
-    → IsStart other_start → Runs other_start other_events other_end
-    → holdings s start.world events ≡ holdings s other_start.world other_events
-    → replies_of end s ≡ replies_of other_end s
+    → IsStart start → Runs start events end → IsStart other_start → Runs other_start other_events other_end
+    → holdings s start.world events ≡ holdings s other_start.world other_events → replies_of end s ≡ replies_of other_end s
 
 -- at every moment of every list of events from a start
 abbrev pub Always : (ℕ → World → Type 0) → Type 0

@@ -1,31 +1,18 @@
 -- The machine: what each event asks, and what it does.
 use Rattle.std.specs.Prelude.{◌≡◌, ℕ, Bool, true, false, nat_le, List, [], ◌∷◌, ◌++◌, length, ◌+◌, if◌then◌else◌, slice_get}
-use Rattle.std.specs.Prelude.{slice_set, slice_index_or, MatchOption}
-use Rattle.std.specs.Option.{option_and_then, option_map}
-use Rattle.std.specs.declared.option.Option.{Option}
-use Rattle.std.specs.declared.option.Option.TheVariants.{None, Some}
-use Rattle.graph_types.specs.Graph.{Graph, IsContent}
+use Rattle.std.specs.{Prelude.slice_set, Prelude.slice_index_or, Prelude.MatchOption, Option.option_and_then, Option.option_map}
+use Rattle.std.specs.declared.option.Option.{Option, TheVariants.None, TheVariants.Some}
+use Rattle.graph_types.specs.{Graph.Graph, Graph.IsContent, declared.ids.Edge.Edge, declared.requests.Request.Request}
 use Rattle.graph_types.specs.Answer.{IsAnswer}
-use Rattle.graph_types.specs.declared.ids.Edge.{Edge}
-use Rattle.graph_types.specs.declared.requests.Request.{Request}
-use Rattle.block_reclamation.specs.declared.status.BlockStatus.{BlockStatus}
-use Rattle.epoch_core.specs.declared.states.Version.{Version}
-use Rattle.epoch_core.specs.declared.session_states.Hold.{Hold}
-use Rattle.epoch_core.specs.declared.session_states.Inquiry.{Inquiry}
-use Rattle.epoch_core.specs.declared.session_states.SessionState.{SessionState}
+use Rattle.block_reclamation.specs.{declared.status.BlockStatus.BlockStatus, Copies.floor_of}
+use Rattle.epoch_core.specs.declared.{states.Version.Version, events.Event.TheVariants.Reply, events.Event.TheVariants.Release}
+use Rattle.epoch_core.specs.declared.session_states.{Hold.Hold, Inquiry.Inquiry, SessionState.SessionState}
 use Rattle.epoch_core.specs.declared.session_states.SessionState.TheVariants.{Idle, Pinned, Holding, Asking}
-use Rattle.epoch_core.specs.declared.events.Event.{Event}
+use Rattle.epoch_core.specs.{declared.events.Event.Event, Posting.can_post, Posts.posted}
 use Rattle.epoch_core.specs.declared.events.Event.TheVariants.{Take, Fill, Post, Floor, Recycle, Pin, Enter, Settle, Ask, Read}
-use Rattle.epoch_core.specs.declared.events.Event.TheVariants.{Reply, Release}
-use Rattle.epoch_core.specs.Blocks.{changed_at, taken, filled}
-use Rattle.epoch_core.specs.Blocks.{reclaimed}
-use Rattle.epoch_core.specs.declared.states.Opening.{Opening}
-use Rattle.block_reclamation.specs.Copies.{floor_of}
-use Rattle.epoch_core.specs.Worlds.{Answer, World, last_number, graph_with}
-use Rattle.epoch_core.specs.Worlds.{present_copy}
+use Rattle.epoch_core.specs.{Blocks.changed_at, Blocks.taken, Blocks.filled, Blocks.reclaimed, declared.states.Opening.Opening}
+use Rattle.epoch_core.specs.Worlds.{Answer, World, last_number, graph_with, present_copy}
 use Rattle.epoch_core.specs.Versions.{version_at, blocks_at, edges_at, content_with}
-use Rattle.epoch_core.specs.Posting.{can_post}
-use Rattle.epoch_core.specs.Posts.{posted}
 
 -- Sessions
 

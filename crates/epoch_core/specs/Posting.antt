@@ -1,22 +1,12 @@
 -- Post: the test that decides it, and what it makes.
 use Rattle.std.specs.Prelude.{◌≡◌, ℕ, Bool, true, false, not, ◌&&◌, ◌||◌, ◌==◌, nat_lt, List, [], ◌∷◌, length, ◌+◌, slice_get}
-use Rattle.std.specs.Prelude.{IsTrue, IsFalse}
-use Rattle.std.specs.List.{list_any, list_all}
-use Rattle.std.specs.Ordering.{int_eq}
-use Rattle.std.specs.FinMap.{get, len}
-use Rattle.std.specs.declared.option.Option.{Option}
-use Rattle.std.specs.declared.option.Option.TheVariants.{None, Some}
+use Rattle.std.specs.{Prelude.IsTrue, Prelude.IsFalse, List.list_any, List.list_all, Ordering.int_eq, FinMap.get, FinMap.len}
+use Rattle.std.specs.declared.option.Option.{Option, TheVariants.None, TheVariants.Some}
 use Rattle.graph_types.specs.Graph.{Graph, Key, Stamp, key_of, stamp_of, graph_of, IsContent}
-use Rattle.graph_types.specs.Step.{after_all}
-use Rattle.graph_types.specs.Limits.{batch_limit}
-use Rattle.graph_types.specs.GraphLimits.{is_within_limits}
-use Rattle.graph_types.specs.declared.ids.Edge.{Edge}
-use Rattle.graph_types.specs.declared.batches.NamedOp.{NamedOp}
-use Rattle.graph_types.specs.declared.contents.Content.{Content}
-use Rattle.block_reclamation.specs.declared.status.BlockStatus.{BlockStatus}
-use Rattle.epoch_core.specs.declared.states.Version.{Version}
-use Rattle.epoch_core.specs.Blocks.{all_differ, status_after}
-use Rattle.block_reclamation.specs.Status.{is_at, is_granted, is_listed}
+use Rattle.graph_types.specs.{Step.after_all, Limits.batch_limit, declared.ids.Edge.Edge}
+use Rattle.graph_types.specs.{GraphLimits.is_within_limits, declared.batches.NamedOp.NamedOp, declared.contents.Content.Content}
+use Rattle.block_reclamation.specs.{declared.status.BlockStatus.BlockStatus, Status.is_at, Status.is_granted, Status.is_listed}
+use Rattle.epoch_core.specs.{declared.states.Version.Version, Blocks.all_differ, Blocks.status_after}
 use Rattle.epoch_core.specs.declared.states.Opening.{Opening}
 use Rattle.epoch_core.specs.Versions.{graph_at, version_at, blocks_at, edges_of, content_with, IsContentGraph}
 

@@ -2,14 +2,10 @@
 use Rattle.std.specs.Prelude.{◌≡◌, ◌≢◌, ◌⊎◌, ℕ, ◌<◌, List, [], ◌∷◌, ◌++◌, ◌+◌, slice_get, All, AllPairs, IsTrue}
 use Rattle.std.specs.declared.option.Option.TheVariants.{Some}
 use Rattle.graph_types.specs.Limits.{batch_limit}
-use Rattle.graph_types.specs.GraphLimits.{MeetsNameLimit, MeetsKindLimit}
-use Rattle.graph_types.specs.declared.batches.NamedOp.{NamedOp}
-use Rattle.block_reclamation.specs.declared.status.BlockStatus.TheVariants.{Granted}
-use Rattle.epoch_core.specs.Blocks.{status_after}
-use Rattle.block_reclamation.specs.Status.{is_listed}
-use Rattle.epoch_core.specs.Versions.{AreEdgesOf, edges_of}
-use Rattle.epoch_core.specs.Posting.{graph_after, version_by}
-use Rattle.epoch_core.specs.Worlds.{World, last_number, last_blocks, last_graph}
+use Rattle.graph_types.specs.{GraphLimits.MeetsNameLimit, GraphLimits.MeetsKindLimit, declared.batches.NamedOp.NamedOp}
+use Rattle.block_reclamation.specs.{declared.status.BlockStatus.TheVariants.Granted, Status.is_listed}
+use Rattle.epoch_core.specs.{Blocks.status_after, Worlds.World, Worlds.last_number, Worlds.last_blocks, Worlds.last_graph}
+use Rattle.epoch_core.specs.{Versions.AreEdgesOf, Versions.edges_of, Posting.graph_after, Posting.version_by}
 
 -- a Post is done only where all this holds
 pub record MayPost (w : World) (batch : List NamedOp) (blocks : List ℕ) : Type 0 where

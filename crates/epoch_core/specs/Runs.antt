@@ -1,12 +1,9 @@
 -- Steps and whole runs of the machine, over the state.
 use Rattle.std.specs.Prelude.{◌≡◌, ℕ, Bool, List, [], ◌∷◌, ◌+◌, if◌then◌else◌, is_some}
 use Rattle.std.specs.Option.{unwrap_or}
-use Rattle.epoch_core.specs.declared.events.Event.{Event}
-use Rattle.epoch_core.specs.declared.step.Step.{Step}
-use Rattle.epoch_core.specs.declared.step.Step.TheVariants.{Done, Skipped}
-use Rattle.epoch_core.specs.Worlds.{Answer, World, MachineState}
-use Rattle.epoch_core.specs.Machine.{step, Replies}
-use Rattle.epoch_core.specs.Blocks.{Stepped}
+use Rattle.epoch_core.specs.{declared.events.Event.Event, Worlds.Answer, Worlds.World, Worlds.MachineState}
+use Rattle.epoch_core.specs.declared.step.Step.{Step, TheVariants.Done, TheVariants.Skipped}
+use Rattle.epoch_core.specs.{Machine.step, Machine.Replies, Blocks.Stepped}
 
 -- whether an event is done in this world
 abbrev pub is_done : World → Event → Bool

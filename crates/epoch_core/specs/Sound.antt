@@ -1,13 +1,10 @@
 -- What holds of the machine at every moment, and carries the laws.
 use Rattle.std.specs.Prelude.{true, ◌≡◌, ◌≢◌, ℕ, ◌≤◌, ◌<◌, length, take, slice_get, AllPairs, MatchOption, IsTrue}
 use Rattle.std.specs.declared.option.Option.{Option}
-use Rattle.block_reclamation.specs.declared.status.BlockStatus.{BlockStatus}
-use Rattle.epoch_core.specs.declared.session_states.Hold.{Hold}
-use Rattle.epoch_core.specs.declared.session_states.SessionState.{SessionState}
-use Rattle.epoch_core.specs.declared.session_states.SessionState.TheVariants.{Idle, Pinned, Holding, Asking}
-use Rattle.block_reclamation.specs.declared.copies.PinCopy.{PinCopy}
-use Rattle.block_reclamation.specs.Copies.{needs}
+use Rattle.block_reclamation.specs.{declared.status.BlockStatus.BlockStatus, declared.copies.PinCopy.PinCopy, Copies.needs}
 use Rattle.block_reclamation.specs.Status.{is_at, is_used, is_listed, IsDated, IsKept}
+use Rattle.epoch_core.specs.declared.session_states.{Hold.Hold, SessionState.SessionState}
+use Rattle.epoch_core.specs.declared.session_states.SessionState.TheVariants.{Idle, Pinned, Holding, Asking}
 use Rattle.epoch_core.specs.Worlds.{World, MachineState, HasContents, last_number, last_blocks, last_graph, session_of}
 use Rattle.epoch_core.specs.Versions.{AreEdgesOf, graph_at, version_at, blocks_at, edges_of}
 

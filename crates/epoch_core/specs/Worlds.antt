@@ -1,27 +1,17 @@
 -- What the machine of interleavings knows at a moment: blocks of edges, versions, the floor, and where each
 -- session stands. It is STINGER's store of edge blocks (Ediger, McColl, Riedy, Bader; IEEE HPEC 2012) under
 -- sessions that hold a version while batches go on, as Aspen's readers do (Dhulipala, Blelloch, Shun; PLDI 2019).
-use Rattle.std.specs.Prelude.{◌≡◌, ◌≢◌, ℕ, ◌<◌, ◌≤◌, ◌-◌, ◌++◌, List, [], length, map, replicate}
-use Rattle.std.specs.Prelude.{slice_get, slice_index_or, if◌then◌else◌, All, AllPairs}
-use Rattle.std.specs.Option.{option_map}
-use Rattle.std.specs.declared.option.Option.{Option}
-use Rattle.std.specs.declared.option.Option.TheVariants.{None, Some}
-use Rattle.std.specs.declared.result.Result.{Result}
-use Rattle.graph_types.specs.Graph.{Graph, map_of, content_of}
-use Rattle.graph_types.specs.declared.ids.Edge.{Edge}
-use Rattle.graph_types.specs.declared.requests.Reply.{Reply}
-use Rattle.graph_types.specs.declared.requests.AskError.{AskError}
-use Rattle.block_reclamation.specs.declared.status.BlockStatus.{BlockStatus}
-use Rattle.block_reclamation.specs.declared.status.BlockStatus.TheVariants.{Free, Used}
-use Rattle.epoch_core.specs.declared.states.Version.{Version}
-use Rattle.epoch_core.specs.declared.states.Opening.{Opening}
-use Rattle.epoch_core.specs.declared.session_states.SessionState.{SessionState}
-use Rattle.epoch_core.specs.declared.session_states.SessionState.TheVariants.{Idle, Pinned, Holding, Asking}
+use Rattle.std.specs.Prelude.{◌≡◌, ◌≢◌, ℕ, ◌<◌, ◌≤◌, ◌-◌, ◌++◌, List, [], length, map, replicate, slice_get, slice_index_or}
+use Rattle.std.specs.{Prelude.if◌then◌else◌, Prelude.All, Prelude.AllPairs, Option.option_map, declared.result.Result.Result}
+use Rattle.std.specs.declared.option.Option.{Option, TheVariants.None, TheVariants.Some}
+use Rattle.graph_types.specs.{Graph.Graph, Graph.map_of, Graph.content_of, declared.requests.AskError.AskError}
+use Rattle.graph_types.specs.declared.{ids.Edge.Edge, requests.Reply.Reply}
+use Rattle.block_reclamation.specs.declared.status.BlockStatus.{BlockStatus, TheVariants.Free, TheVariants.Used}
 use Rattle.block_reclamation.specs.Status.{is_listed}
-use Rattle.block_reclamation.specs.declared.copies.PinCopy.{PinCopy}
-use Rattle.block_reclamation.specs.declared.copies.TheConstants.{SEATS}
-use Rattle.block_reclamation.specs.declared.copies.Pin.{Pin}
+use Rattle.block_reclamation.specs.declared.copies.{PinCopy.PinCopy, TheConstants.SEATS, Pin.Pin}
 use Rattle.block_reclamation.specs.Copies.{no_copy, copy_of, unsettled, settled_number, unsettled_number}
+use Rattle.epoch_core.specs.declared.{states.Version.Version, states.Opening.Opening, session_states.SessionState.SessionState}
+use Rattle.epoch_core.specs.declared.session_states.SessionState.TheVariants.{Idle, Pinned, Holding, Asking}
 use Rattle.epoch_core.specs.Versions.{IsContentGraph, AreEdgesOf, blocks_at, edges_of, graph_at, opening_graph}
 
 -- a reply, or the refusal that stands in its place

@@ -1,20 +1,19 @@
 -- A batch that was applied with granted blocks is accepted, and the desk after it is a desk.
 use Rattle.std.proofs.Common.{◌≡◌, ℕ, zero, suc, ◌<◌, Bool, true, false, List, [], ◌∷◌, ◌++◌, length, get_or, count_by, refl, sym}
+use Rattle.std.proofs.lemmas.Grind.{common_steps}
 use Rattle.std.proofs.{Common.ap, Common.◌∙◌, Common.arith, lemmas.Bool.true≢false, lemmas.List.length-map}
 use Rattle.std.specs.{List.list_all, Option.option_and_then, Prelude.slice_get, Prelude.if◌then◌else◌, Prelude.Contains}
 use Rattle.std.specs.declared.option.Option.{Option, TheVariants.None, TheVariants.Some}
 use Rattle.block_pool.proofs.Grants.{length-marked}
 use Rattle.edge_block.specs.Slots.{BlockView}
 use Rattle.graph_version.specs.Rows.{row_of, blocks_of, numbers_of}
-use Rattle.block_reclamation.specs.Status.{is_listed, is_used, is_at}
+use Rattle.block_reclamation.specs.{Status.is_listed, Status.is_used, Status.is_at, declared.status.BlockStatus.TheVariants.Used}
 use Rattle.block_pool.specs.Pools.{retired, is_free_at, marked, is_used_at}
-use Rattle.block_reclamation.specs.declared.status.BlockStatus.TheVariants.{Used}
 use Rattle.epoch_core.specs.Blocks.{all_differ}
 use Rattle.store_steps.specs.Journal.{Entry, Ledger, opened_ledger, is_legal, after_entry, entered, replay}
 use Rattle.store_steps.specs.Desks.{IsDesk, IsAccepted, FollowsBirths, birth_at, last_numbers, ledger_of}
-use Rattle.store_steps.proofs.{NumberLists.all_by, NumberLists.number_in, ChangedLists.length-changed}
+use Rattle.store_steps.proofs.{NumberLists.all_by, NumberLists.number_in, ChangedLists.length-changed, OneNumber.number_after}
 use Rattle.store_steps.proofs.Counting.{is_some_times, in_times, apart_if, same_block, counted, listed}
-use Rattle.store_steps.proofs.OneNumber.{number_after}
 use Rattle.store_steps.proofs.Births.{birth_in, birth_from, birth_taken, birth_stays, births_of, number_of_row, row_listed}
 use Rattle.store_steps.proofs.Applications.{Application, number_in_desk, dropped_numbers, next_desk, entry_in, after_times}
 use Rattle.store_steps.proofs.Applications.{handed_once, granted_free, one, dropped_differ, dropped_born, exchanged_at, next_at}
@@ -23,8 +22,7 @@ use Rattle.store_steps.proofs.GrantedBlocks.{not_granted, taken_granted, not_tak
 -- The entry is legal, and the desk is one
 
 last_one : (o : Option Ledger) → option_and_then (replay []) o ≡ o
-last_one None = refl
-last_one (Some l) = refl
+last_one o = grind (arith, common_steps)
 
 -- a journal with one entry more
 pub replay_more : (es : List Entry) (e : Entry) (l : Ledger) → replay (es ++ e ∷ []) l
@@ -66,9 +64,7 @@ kept_before a b there apart =
     ] refl
 
 default_same : (bs : List BlockView) (k : ℕ) (d : BlockView) → k < length bs → get_or bs k (get_or bs k d) ≡ get_or bs k d
-default_same [] k d h = absurd (omega arith)
-default_same (b ∷ bs) zero d h = refl
-default_same (b ∷ bs) (suc k) d h = default_same bs k d (omega arith)
+default_same bs k d h = grind (arith, common_steps)
 
 -- Births
 

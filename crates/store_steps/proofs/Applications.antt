@@ -1,14 +1,12 @@
 -- A batch that was applied to a desk with granted blocks: how often it has a number, and what it leaves of the pool.
-use Rattle.std.proofs.Common.{◌≡◌, ℕ, zero, suc, ◌+◌, ◌≤◌, ◌==◌, true, List, length, count_by, sym, ap, ◌∙◌, arith}
-use Rattle.std.specs.{Prelude.slice_get, Prelude.if◌then◌else◌, Option.option_map}
+use Rattle.std.proofs.Common.{◌≡◌, ℕ, ◌+◌, ◌≤◌, ◌==◌, true, List, length, count_by, sym, ap, ◌∙◌, arith}
+use Rattle.std.{proofs.lemmas.Grind.common_steps, specs.Prelude.slice_get, specs.Prelude.if◌then◌else◌, specs.Option.option_map}
 use Rattle.graph_types.specs.declared.batches.NamedOp.{NamedOp}
 use Rattle.edge_block.specs.Slots.{BlockView}
-use Rattle.graph_version.specs.Rows.{blocks_of, numbers_of}
-use Rattle.graph_version.specs.Versions.{VersionView}
-use Rattle.block_reclamation.specs.Status.{is_listed}
-use Rattle.block_pool.specs.Pools.{retired, is_free_at, marked, changed, AreFree, is_used_at}
-use Rattle.block_reclamation.specs.declared.status.BlockStatus.{BlockStatus}
+use Rattle.graph_version.specs.{Rows.blocks_of, Rows.numbers_of, Versions.VersionView}
+use Rattle.block_reclamation.specs.{Status.is_listed, declared.status.BlockStatus.BlockStatus}
 use Rattle.block_reclamation.specs.declared.status.BlockStatus.TheVariants.{Free, Granted, Used}
+use Rattle.block_pool.specs.Pools.{retired, is_free_at, marked, changed, AreFree, is_used_at}
 use Rattle.epoch_core.{specs.Blocks.all_differ, proofs.Lists.all_listed}
 use Rattle.store_steps.specs.{Journal.Entry, Journal.Applied, Journal.exchanged, Desks.DeskView, Desks.IsDesk, Desks.IsAppliedTo}
 use Rattle.store_steps.{specs.Desks.desk_after, specs.Desks.last_numbers, proofs.NumberLists.all_from}
@@ -96,8 +94,7 @@ one a m =
     (in_numbers a m ∙ is))
 
 pub some_either : (a b : ℕ) → is_some_times b ≡ true → is_some_times (a + b) ≡ true
-some_either zero b e = let same : 0 + b ≡ b = omega arith in ap is_some_times same ∙ e
-some_either (suc a) b e = let more : suc a + b ≡ suc (a + b) = omega arith in ap is_some_times more
+some_either a b e = grind (arith, common_steps)
 
 pub dropped_differ : (a : Application) → all_differ (dropped_numbers a) ≡ true
 dropped_differ a = apart_if (dropped_numbers a) (λ m. let once = before_once a m in omega arith)
@@ -132,26 +129,21 @@ born_pool a = marked a.taken (Used (number_in_desk a)) (granted_pool a)
 abbrev pub retired_pool : Application → List BlockStatus
 retired_pool a = changed (retired (number_in_desk a)) (dropped_numbers a) (born_pool a)
 
-retired_at : (a : Application) (m : ℕ)
-    → slice_get (retired_pool a) m ≡ number_after (number_in_desk a)
+retired_at : (a : Application) (m : ℕ) → slice_get (retired_pool a) m ≡ number_after (number_in_desk a)
     (marked_if Granted (is_some_times (times m a.taken + times m a.unused)) (slice_get a.old.pool m))
     (is_some_times (times m a.taken)) (is_some_times (dropped_times a m))
 retired_at a m =
     exchanged_at (number_in_desk a) a.taken (dropped_numbers a) (granted_pool a) m (dropped_differ a)
     ∙ ap (λ o. number_after (number_in_desk a) o (is_listed m a.taken) (is_listed m (dropped_numbers a)))
-    (marked_at a.numbers Granted a.old.pool m
-    ∙ ap (λ t. marked_if Granted t (slice_get a.old.pool m)) (in_numbers a m))
+    (marked_at a.numbers Granted a.old.pool m ∙ ap (λ t. marked_if Granted t (slice_get a.old.pool m)) (in_numbers a m))
     ∙ ap (λ t. number_after (number_in_desk a)
     (marked_if Granted (is_some_times (times m a.taken + times m a.unused)) (slice_get a.old.pool m)) t
-    (is_listed m (dropped_numbers a))) (in_times m a.taken)
-    ∙ ap (number_after (number_in_desk a)
+    (is_listed m (dropped_numbers a))) (in_times m a.taken) ∙ ap (number_after (number_in_desk a)
     (marked_if Granted (is_some_times (times m a.taken + times m a.unused)) (slice_get a.old.pool m))
     (is_some_times (times m a.taken))) (in_times m (dropped_numbers a))
 
 -- once the unused are given back, the pool is what the journal's entry says
 pub moves_left : (a : Application) → marked a.unused Free (retired_pool a) ≡ (next_desk a).pool
 moves_left a = same_list _ _ (λ m.
-    marked_at a.unused Free (retired_pool a) m
-    ∙ ap (λ t. marked_if Free t (slice_get (retired_pool a) m)) (in_times m a.unused)
-    ∙ ap (marked_if Free (is_some_times (times m a.unused))) (retired_at a m)
-    ∙ (one a m).moved ∙ sym (next_at a m))
+    marked_at a.unused Free (retired_pool a) m ∙ ap (λ t. marked_if Free t (slice_get (retired_pool a) m)) (in_times m a.unused)
+    ∙ ap (marked_if Free (is_some_times (times m a.unused))) (retired_at a m) ∙ (one a m).moved ∙ sym (next_at a m))

@@ -1,13 +1,13 @@
 -- The laws in the words of their clauses.
-use Rattle.std.proofs.Common.{◌≡◌, ℕ, ◌+◌, Bool, true, false, List, length, refl, sym, ap, ◌∙◌}
-use Rattle.std.specs.{Prelude.if◌then◌else◌, declared.option.Option.TheVariants.None, declared.option.Option.TheVariants.Some}
+use Rattle.std.proofs.Common.{◌≡◌, ℕ, ◌+◌, Bool, true, false, List, length, ap, arith}
+use Rattle.std.{proofs.lemmas.Grind.common_steps, specs.Prelude.if◌then◌else◌}
+use Rattle.std.specs.declared.option.Option.TheVariants.{None, Some}
 use Rattle.graph_types.specs.declared.batches.NamedOp.{NamedOp}
 use Rattle.edge_block.specs.Slots.{BlockView}
-use Rattle.graph_version.specs.Rows.{numbers_of}
-use Rattle.graph_version.specs.Versions.{VersionView}
+use Rattle.graph_version.specs.{Rows.numbers_of, Versions.VersionView}
 use Rattle.block_reclamation.specs.Status.{is_listed}
-use Rattle.block_pool.specs.Pools.{retired, is_free_at, marked, changed, is_used_at}
 use Rattle.block_reclamation.specs.declared.status.BlockStatus.TheVariants.{Free, Granted, Used}
+use Rattle.block_pool.specs.Pools.{retired, is_free_at, marked, changed, is_used_at}
 use Rattle.epoch_core.proofs.Lists.{all_listed}
 use Rattle.store_steps.specs.Journal.{Entry, Applied, Ledger, is_legal, after_entry, entered}
 use Rattle.store_steps.specs.Desks.{DeskView, IsDesk, IsAppliedTo, IsAccepted, desk_after}
@@ -19,23 +19,16 @@ pub not_entered : (l : Ledger) (e : Entry) → is_legal l e ≡ false → entere
 not_entered l e is = ap (λ t. if t then Some (after_entry l e) else None) is
 
 not_if : (b : Bool) → (b ≡ true → false ≡ true) → b ≡ false
-not_if true h = sym (h refl)
-not_if false h = refl
+not_if b h = grind (arith, common_steps)
 
 -- a batch that takes what isn't free, or drops what isn't the last version's, isn't entered
 pub taken_is_free : (l : Ledger) (batch : List NamedOp) (taken dropped : List ℕ) (n : ℕ) → is_listed n taken ≡ true
     → is_free_at l.pool n ≡ false → entered l (Applied batch taken dropped) ≡ None
-taken_is_free l batch taken dropped n is none =
-    not_entered l (Applied batch taken dropped)
-    (not_if (is_legal l (Applied batch taken dropped)) (λ legal. sym none
-    ∙ all_listed (is_free_at l.pool) taken n (legal_batch l batch taken dropped legal).free is))
+taken_is_free l batch taken dropped n is none = grind (arith, common_steps, not_entered, not_if, all_listed, legal_batch)
 
 pub dropped_is_born : (l : Ledger) (batch : List NamedOp) (taken dropped : List ℕ) (n : ℕ) → is_listed n dropped ≡ true
     → is_used_at l.pool n ≡ false → entered l (Applied batch taken dropped) ≡ None
-dropped_is_born l batch taken dropped n is none =
-    not_entered l (Applied batch taken dropped)
-    (not_if (is_legal l (Applied batch taken dropped)) (λ legal. sym none
-    ∙ all_listed (is_used_at l.pool) dropped n (legal_batch l batch taken dropped legal).born is))
+dropped_is_born l batch taken dropped n is none = grind (arith, common_steps, not_entered, not_if, all_listed, legal_batch)
 
 module _ (old : DeskView) (ops : List NamedOp) (numbers : List ℕ) (version : VersionView) (taken : List ℕ)
     (dropped : List BlockView) (unused : List ℕ) (desk : IsDesk old)

@@ -1,13 +1,11 @@
 -- The births of blocks over a batch: what one number's is, and which numbers a row has.
-use Rattle.std.proofs.Common.{◌≡◌, ℕ, zero, suc, ◌<◌, ◌==◌, Bool, true, false, ◌||◌, List, [], ◌∷◌, ◌++◌, length, get_or, map, refl}
-use Rattle.std.proofs.{Common.ap, Common.arith, lemmas.Bool.eq-eqb, lemmas.Bool.or_right}
-use Rattle.std.specs.Prelude.{slice_get}
+use Rattle.std.proofs.Common.{◌≡◌, ℕ, zero, suc, ◌<◌, ◌==◌, Bool, true, false, List, [], ◌∷◌, ◌++◌, length, get_or, map, refl, ap}
+use Rattle.std.proofs.Common.{arith}
+use Rattle.std.{proofs.lemmas.Grind.common_steps, proofs.lemmas.Bool.eq-eqb, proofs.lemmas.Bool.or_right, specs.Prelude.slice_get}
 use Rattle.std.specs.declared.option.Option.{Option, TheVariants.None, TheVariants.Some}
 use Rattle.edge_block.specs.Slots.{BlockView}
 use Rattle.graph_version.specs.Rows.{row_of, blocks_of, numbers_of}
-use Rattle.block_reclamation.specs.Status.{is_listed, is_free, is_at}
-use Rattle.block_reclamation.specs.declared.status.BlockStatus.{BlockStatus}
-use Rattle.block_reclamation.specs.declared.status.BlockStatus.TheVariants.{Free}
+use Rattle.block_reclamation.specs.{Status.is_listed, Status.is_free, Status.is_at, declared.status.BlockStatus.BlockStatus}
 use Rattle.store_steps.{specs.Desks.birth_of, specs.Desks.birth_at, proofs.OneNumber.number_after}
 
 -- One number
@@ -24,15 +22,11 @@ birth_from (s ∷ pool) (suc m) = birth_from pool m
 -- what version n takes is born with it
 pub birth_taken : (n : ℕ) (p : Option BlockStatus) (dropped : Bool) → is_at is_free p ≡ true
     → birth_in (number_after n p true dropped) ≡ n
-birth_taken n None dropped free = cc
-birth_taken n (Some s) true free = refl
-birth_taken n (Some s) false free = refl
+birth_taken n p dropped free = grind (arith, common_steps)
 
 -- and all else keeps its birth, also what it drops
 pub birth_stays : (n : ℕ) (p : Option BlockStatus) (dropped : Bool) → birth_in (number_after n p false dropped) ≡ birth_in p
-birth_stays n (Some Free) true = refl
-birth_stays n _ true = refl
-birth_stays n p false = refl
+birth_stays n p dropped = grind (arith, common_steps)
 
 -- Rows
 
@@ -42,16 +36,10 @@ births_of pool [] = refl
 births_of pool (b ∷ bs) = ap (λ births. birth_at pool b.number ∷ births) (births_of pool bs)
 
 in_first : (m : ℕ) (bs cs : List BlockView) → is_listed m (numbers_of bs) ≡ true → is_listed m (numbers_of (bs ++ cs)) ≡ true
-in_first m [] cs is = cc
-in_first m (b ∷ bs) cs is =
-    elim (b.number == m) as (λ t. (t || is_listed m (numbers_of bs)) ≡ true → (t || is_listed m (numbers_of (bs ++ cs))) ≡ true) [
-      | true ↦ λ _. refl
-      | false ↦ λ rest. in_first m bs cs rest
-    ] is
+in_first m bs cs is = grind (arith, common_steps)
 
 in_second : (m : ℕ) (bs cs : List BlockView) → is_listed m (numbers_of cs) ≡ true → is_listed m (numbers_of (bs ++ cs)) ≡ true
-in_second m [] cs is = is
-in_second m (b ∷ bs) cs is = or_right (b.number == m) (is_listed m (numbers_of (bs ++ cs))) (in_second m bs cs is)
+in_second m bs cs is = grind (arith, common_steps)
 
 -- the number of a block of a row is one of all rows
 pub number_of_row : (bs : List BlockView) (k : ℕ) (d : BlockView) → k < length bs

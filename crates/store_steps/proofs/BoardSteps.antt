@@ -1,42 +1,27 @@
 -- The board's calls are the machine's steps.
-use Rattle.std.proofs.Common.{◌≡◌, ℕ, zero, suc, ◌<◌, ◌≤◌, ◌-◌, inl, inr, List, [], ◌∷◌, ◌++◌, length, map, replicate, get_or, set, max}
-use Rattle.std.proofs.Common.{true, length-append, refl, sym, ap, subst, ◌∙◌, arith}
-use Rattle.std.specs.Prelude.{Option, Some, None, option_map}
+use Rattle.std.proofs.Common.{◌≡◌, ℕ, zero, suc, ◌<◌, ◌≤◌, List, [], ◌∷◌, length, true, refl, sym, ap, ◌∙◌, arith}
+use Rattle.std.{proofs.lemmas.Grind.common_steps, specs.Prelude.Option, specs.Prelude.Some, specs.Prelude.option_map}
 use Rattle.std.proofs.lemmas.{Bool.cases_eq, List.get_or-set_same, List.get_or-set_other, List.length-map, List.length-replicate}
-use Rattle.block_reclamation.specs.declared.copies.{Pin.Pin, TheConstants.SEATS}
-use Rattle.block_reclamation.specs.Board.{BoardState, IsBoard, with_pin}
-use Rattle.block_reclamation.specs.Copies.{pin_at, unsettled, settled, copy_of, floor_of}
-use Rattle.epoch_core.specs.declared.session_states.SessionState.{SessionState}
-use Rattle.epoch_core.specs.declared.session_states.SessionState.TheVariants.{Idle, Pinned, Holding, Asking}
+use Rattle.block_reclamation.specs.declared.copies.{Pin.Pin, PinCopy.PinCopy}
+use Rattle.block_reclamation.specs.{declared.copies.TheConstants.SEATS, Board.BoardState, Board.IsBoard, Board.with_pin}
+use Rattle.block_reclamation.specs.Copies.{pin_at, unsettled, settled, copy_of}
+use Rattle.epoch_core.specs.{declared.session_states.SessionState.SessionState, Machine.to_pin, Machine.to_settle}
 use Rattle.epoch_core.specs.Worlds.{World, session_of, seat_pin, seat_pins, pin_in, held_in, last_number, present_copy}
-use Rattle.epoch_core.specs.Machine.{to_pin, to_settle, to_release}
 use Rattle.epoch_core.proofs.Moves.{Moved, moved, floored, seated_at, session_after, session_else}
-use Rattle.store_steps.specs.{Desks.DeskView, Shown.ShowsWorld, Boards.RaisesAsMachine}
-use Rattle.store_steps.specs.Boards.{ShowsBoard, raised_board, PinsAsMachine, SettlesAsMachine, UnpinsAsMachine}
+use Rattle.store_steps.specs.{Desks.DeskView, Shown.ShowsWorld}
+use Rattle.store_steps.specs.Boards.{RaisesAsMachine, ShowsBoard, PinsAsMachine, SettlesAsMachine, UnpinsAsMachine}
 
 -- a desk shows no session, no floor and no copy
+shows_beside : (d : DeskView) (w : World) (floor : ℕ) (copy : PinCopy) (sessions : List SessionState) → ShowsWorld d w
+    → ShowsWorld d (record w { floor = floor; copy = copy; sessions = sessions })
+shows_beside d w floor copy sessions shown = grind (arith, common_steps)
+
 pub shows_sessions : (d : DeskView) (w : World) (sessions : List SessionState) → ShowsWorld d w
     → ShowsWorld d (record w { sessions = sessions })
-shows_sessions d w sessions shown = record {
-  opening = shown.opening;
-  opened = shown.opened;
-  batches = shown.batches;
-  blocks = shown.blocks;
-  edges = shown.edges;
-  status = shown.status;
-  sizes = shown.sizes;
-}
+shows_sessions d w sessions shown = shows_beside d w w.floor w.copy sessions shown
 
 pub shows_floored : (d : DeskView) (w : World) → ShowsWorld d w → ShowsWorld d (floored w)
-shows_floored d w shown = record {
-  opening = shown.opening;
-  opened = shown.opened;
-  batches = shown.batches;
-  blocks = shown.blocks;
-  edges = shown.edges;
-  status = shown.status;
-  sizes = shown.sizes;
-}
+shows_floored d w shown = shows_beside d w (floored w).floor (floored w).copy w.sessions shown
 
 -- a session's move, and its pin's
 moves : (b : BoardState) (w : World) (s : ℕ) (change : SessionState
@@ -44,69 +29,29 @@ moves : (b : BoardState) (w : World) (s : ℕ) (change : SessionState
     → Moved w s change after → ((session next : SessionState) → session_of w s ≡ session → change session ≡ Some next
     → seat_pin next ≡ pin)
     → ShowsBoard (with_pin b s pin) after × ((d : DeskView) → ShowsWorld d w → ShowsWorld d after) × (after.copy ≡ w.copy)
-moves b w s change after pin board low shows m says = (
-  record {
-    floor = ap (λ v. v.floor) m.result ∙ shows.floor;
-    pins = λ t. ap (λ v. seat_pin (session_of v t)) m.result ∙ elim (cases_eq t s) [
-      | inl e ↦
-          let lt : s < length b.pins = let seats = board.seats in omega arith in
-          ap (λ r. seat_pin (get_or (set w.sessions s m.next) r Idle)) e
-          ∙ ap seat_pin (session_after w s m.session m.next m.found) ∙ says m.session m.next m.at m.changed
-          ∙ sym (get_or-set_same b.pins s pin None lt) ∙ ap (λ r. get_or (set b.pins s pin) r None) (sym e)
-      | inr ne ↦ ap seat_pin (session_else w s t m.next ne) ∙ shows.pins t ∙ sym (get_or-set_other b.pins s t pin None ne)
-    ];
-  },
-  λ d shown. subst (ShowsWorld d) (sym m.result) (shows_sessions d w (set w.sessions s m.next) shown),
-  ap (λ v. v.copy) m.result,
-)
+moves b w s change after pin board low shows m says =
+    grind (arith, common_steps, cases_eq, session_after, get_or-set_same, session_else, get_or-set_other, shows_sessions)
 
 pin_next : (floor : ℕ) (session next : SessionState) → to_pin floor session ≡ Some next → seat_pin next ≡ Some (unsettled floor)
-pin_next floor Idle next is = let e : Pinned floor ≡ next = cc in ap seat_pin (sym e)
-pin_next floor (Pinned pin) next is = cc
-pin_next floor (Holding hold) next is = cc
-pin_next floor (Asking hold inquiry) next is = cc
+pin_next floor session next is = grind (arith, common_steps)
 
 pub pins_as_machine : PinsAsMachine
 pins_as_machine b w s board low shows after is =
     moves b w s (to_pin w.floor) after (Some (unsettled b.floor)) board low shows (moved w s (to_pin w.floor) after is)
     (λ session next at changed. pin_next w.floor session next changed ∙ ap (λ f. Some (unsettled f)) shows.floor)
 
-release_next : (session next : SessionState) → to_release session ≡ Some next → seat_pin next ≡ None
-release_next Idle next is = cc
-release_next (Pinned pin) next is = let e : Idle ≡ next = cc in ap seat_pin (sym e)
-release_next (Holding hold) next is = let e : Idle ≡ next = cc in ap seat_pin (sym e)
-release_next (Asking hold inquiry) next is = cc
-
 pub unpins_as_machine : UnpinsAsMachine
-unpins_as_machine b w s board low shows after is =
-    moves b w s to_release after None board low shows (moved w s to_release after is)
-    (λ session next at changed. release_next session next changed)
+unpins_as_machine b w s board low shows after is = grind (arith, common_steps)
 
 -- what a settle that is done leaves
 settle_next : (session next : SessionState) (n : ℕ) → held_in session ≡ Some n → to_settle session ≡ Some next
     → seat_pin next ≡ Some (record { number = n; is_settled = true })
-settle_next Idle next n held is = cc
-settle_next (Pinned pin) next n held is = cc
-settle_next (Holding hold) next n held is =
-    let same : hold.version ≡ n = cc in
-    let e : Holding (record { pin = hold.version; settled = true; version = hold.version }) ≡ next = cc in
-    ap seat_pin (sym e) ∙ ap (λ m. Some (record { number = m; is_settled = true })) same
-settle_next (Asking hold inquiry) next n held is =
-    let same : hold.version ≡ n = cc in
-    let e : Asking (record { pin = hold.version; settled = true; version = hold.version }) inquiry ≡ next = cc in
-    ap seat_pin (sym e) ∙ ap (λ m. Some (record { number = m; is_settled = true })) same
+settle_next session next n held is = grind (arith, common_steps)
 
 -- what the board makes of the pin of a session that holds n
 pin_settled : (session : SessionState) (n : ℕ) → held_in session ≡ Some n → ((pin : ℕ) → pin_in session ≡ Some pin → pin ≤ n)
     → option_map (settled n) (seat_pin session) ≡ Some (record { number = n; is_settled = true })
-pin_settled Idle n held below = cc
-pin_settled (Pinned pin) n held below = cc
-pin_settled (Holding hold) n held below =
-    let le : hold.pin ≤ n = below hold.pin refl in
-    let top : max hold.pin n ≡ n = omega arith in ap (λ m. Some (record { number = m; is_settled = true })) top
-pin_settled (Asking hold inquiry) n held below =
-    let le : hold.pin ≤ n = below hold.pin refl in
-    let top : max hold.pin n ≡ n = omega arith in ap (λ m. Some (record { number = m; is_settled = true })) top
+pin_settled session n held below = grind (arith, common_steps)
 
 pub settles_as_machine : SettlesAsMachine
 settles_as_machine b w s n board low shows held below after is =
@@ -129,26 +74,11 @@ same_elements (x ∷ xs) (y ∷ ys) long same =
 
 -- the board's pins are the machine's
 pins_same : (b : BoardState) (w : World) → IsBoard b → length w.sessions ≤ SEATS → ShowsBoard b w → seat_pins w.sessions ≡ b.pins
-pins_same b w board few shows =
-    let long : length (seat_pins w.sessions) ≡ SEATS =
-    omega (
-      arith,
-      length-append (map seat_pin w.sessions) (replicate (SEATS - length w.sessions) None),
-      length-map w.sessions seat_pin,
-      length-replicate {A = Option Pin} (SEATS - length w.sessions) None,
-      few,
-    ) in
-    same_elements (seat_pins w.sessions) b.pins (long ∙ sym board.seats) (λ s. seated_at w s ∙ shows.pins s)
+pins_same b w board few shows = grind (arith, common_steps, length-map, length-replicate, same_elements, seated_at)
 
 pub copies_same : (b : BoardState) (w : World) → IsBoard b → length w.sessions ≤ SEATS → ShowsBoard b w
     → present_copy w ≡ copy_of (last_number w) b.pins
 copies_same b w board few shows = ap (copy_of (last_number w)) (pins_same b w board few shows)
 
 pub raises_as_machine : RaisesAsMachine
-raises_as_machine b w board few shows after is =
-    let e : floored w ≡ after = cc in
-    let same = copies_same b w board few shows in (
-      subst (ShowsBoard (raised_board (last_number w) b)) e (record { floor = ap floor_of same; pins = shows.pins }),
-      λ d shown. subst (ShowsWorld d) e (shows_floored d w shown),
-      ap (λ v. v.copy) (sym e) ∙ same,
-    )
+raises_as_machine b w board few shows after is = grind (arith, common_steps, floored, copies_same, shows_floored)

@@ -1,24 +1,19 @@
 -- Lists with some elements changed: what stands at a place afterwards.
 use Rattle.std.proofs.Common.{◌≡◌, ℕ, zero, suc, ◌==◌, Bool, true, false, ◌||◌, List, [], ◌∷◌, length, get_or, set, refl, sym, ap}
-use Rattle.std.proofs.{Common.subst, Common.◌∙◌, Common.arith, lemmas.Bool.eq-eqb, lemmas.Bool.eqb-true, lemmas.Bool.true≢false}
-use Rattle.std.{proofs.lemmas.List.length-set, specs.Option.option_map, specs.Prelude.slice_get, specs.Prelude.if◌then◌else◌}
+use Rattle.std.proofs.{Common.subst, Common.◌∙◌, Common.arith, lemmas.Bool.eqb-true, lemmas.List.length-set}
+use Rattle.std.{proofs.lemmas.Grind.common_steps, specs.Option.option_map, specs.Prelude.slice_get, specs.Prelude.if◌then◌else◌}
 use Rattle.std.specs.declared.option.Option.{Option, TheVariants.None, TheVariants.Some}
 use Rattle.block_reclamation.specs.Status.{is_listed}
+use Rattle.block_reclamation.specs.declared.status.BlockStatus.{BlockStatus, TheVariants.Granted}
 use Rattle.block_pool.specs.Pools.{marked, changed}
-use Rattle.block_reclamation.specs.declared.status.BlockStatus.{BlockStatus}
-use Rattle.block_reclamation.specs.declared.status.BlockStatus.TheVariants.{Granted}
 use Rattle.epoch_core.specs.Blocks.{all_differ}
 use Rattle.store_steps.proofs.NumberLists.{apart_test, differ_head, differ_tail}
 
 suc_test : (m n : ℕ) → (suc m == suc n) ≡ (m == n)
-suc_test m n = elim (m == n) as (λ t. (m == n) ≡ t → (suc m == suc n) ≡ t) [
-  | true ↦ λ e. eq-eqb (suc m) (suc n) (ap suc (eqb-true m n e))
-  | false ↦ λ e. apart_test (suc m) (suc n) (λ q. true≢false (sym (eq-eqb m n (omega arith)) ∙ e))
-] refl
+suc_test m n = grind (arith, common_steps)
 
 none_if : {A : Type 0} (b : Bool) (o : Option A) → o ≡ None → o ≡ (if b then o else o)
-none_if true o e = refl
-none_if false o e = refl
+none_if b o e = grind (arith, common_steps)
 
 abbrev changed_if : {A : Type 0} → (A → A) → Bool → Option A → Option A
 changed_if f b o = if b then option_map f o else o
@@ -36,27 +31,19 @@ set_at f (y ∷ ys) (suc m) (suc n) d = set_at f ys m n d ∙ ap (λ t. changed_
 
 twice : {A : Type 0} (a b : Bool) (x : A) (o : Option A) → changed_if (λ _. x) b (changed_if (λ _. x) a o)
     ≡ changed_if (λ _. x) (a || b) o
-twice true true x None = refl
-twice true true x (Some y) = refl
-twice true false x o = refl
-twice false true x o = refl
-twice false false x o = refl
+twice a b x o = grind (arith, common_steps)
 
 -- what stands at a place, once some are marked
 pub marked_at : {A : Type 0} (ns : List ℕ) (x : A) (xs : List A) (n : ℕ)
     → slice_get (marked ns x xs) n ≡ (if is_listed n ns then option_map (λ _. x) (slice_get xs n) else slice_get xs n)
 marked_at [] x xs n = refl
 marked_at (m ∷ ns) x xs n =
-    marked_at ns x (set xs m x) n
-    ∙ ap (changed_if (λ _. x) (is_listed n ns)) (set_at (λ _. x) xs m n x)
+    marked_at ns x (set xs m x) n ∙ ap (changed_if (λ _. x) (is_listed n ns)) (set_at (λ _. x) xs m n x)
     ∙ twice (m == n) (is_listed n ns) x (slice_get xs n)
 
 once : {A : Type 0} (f : A → A) (a b : Bool) (o : Option A) → (a ≡ true → b ≡ false)
     → changed_if f b (changed_if f a o) ≡ changed_if f (a || b) o
-once f true true o apart = absurd (true≢false (apart refl))
-once f true false o apart = refl
-once f false true o apart = refl
-once f false false o apart = refl
+once f a b o apart = grind (arith, common_steps)
 
 -- what stands at a number, once different numbers' statuses are changed
 pub changed_at : (f : BlockStatus → BlockStatus) (ns : List ℕ) (pool : List BlockStatus) (n : ℕ) → all_differ ns ≡ true

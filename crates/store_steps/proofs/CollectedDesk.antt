@@ -1,30 +1,25 @@
 -- A collection leaves a desk.
-use Rattle.std.proofs.Common.{◌≡◌, ℕ, zero, suc, ◌+◌, ◌<◌, ◌≤◌, ◌==◌, true}
-use Rattle.std.proofs.Common.{false, cond, List, [], ◌∷◌, ◌++◌, length, map, count_by, refl, sym, ap, ap₂, subst, ◌∙◌, arith}
-use Rattle.std.specs.{Prelude.slice_get, Prelude.if◌then◌else◌, Prelude.nat_le, Prelude.nat_lt, Option.option_map}
-use Rattle.std.specs.{Option.option_and_then, declared.option.Option.Option, declared.option.Option.TheVariants.None}
-use Rattle.std.{specs.declared.option.Option.TheVariants.Some, proofs.lemmas.List.append-nil}
-use Rattle.std.proofs.lemmas.{List.length-map, Bool.eq-eqb, Bool.or_right, Bool.Decides.nat_tests, Option.slice_get-map}
+use Rattle.std.proofs.Common.{◌≡◌, ℕ, ◌+◌, ◌<◌, ◌≤◌, ◌==◌, true, false, cond, List, [], ◌∷◌, ◌++◌, length, map, count_by, refl}
+use Rattle.std.proofs.Common.{sym, ap, ap₂, subst, ◌∙◌, arith}
+use Rattle.std.{proofs.lemmas.Grind.common_steps, proofs.lemmas.Option.slice_get-map, specs.declared.option.Option.Option}
+use Rattle.std.{proofs.lemmas.List.append-nil, proofs.lemmas.List.length-map, specs.declared.option.Option.TheVariants.Some}
+use Rattle.std.{proofs.lemmas.Bool.eq-eqb, proofs.lemmas.Bool.or_right, specs.Prelude.slice_get, specs.Prelude.if◌then◌else◌}
+use Rattle.std.specs.Option.{option_map}
 use Rattle.edge_block.specs.Slots.{BlockView}
-use Rattle.graph_version.specs.Rows.{row_of, numbers_of}
-use Rattle.graph_version.specs.Versions.{VersionView}
+use Rattle.graph_version.specs.{Rows.row_of, Rows.numbers_of, Versions.VersionView}
 use Rattle.block_reclamation.specs.Status.{is_listed, is_retired, is_reclaimable, is_used, is_at, recycled}
 use Rattle.block_reclamation.specs.declared.copies.PinCopy.{PinCopy}
-use Rattle.block_reclamation.specs.declared.status.BlockStatus.{BlockStatus}
-use Rattle.block_reclamation.specs.declared.status.BlockStatus.TheVariants.{Free, Used, Retired}
+use Rattle.block_reclamation.specs.declared.status.BlockStatus.{BlockStatus, TheVariants.Free}
 use Rattle.block_pool.proofs.Tallies.{count_more}
-use Rattle.store_steps.specs.Journal.{Collected, Ledger, opened_ledger, is_legal, after_entry, entered, replay}
-use Rattle.store_steps.specs.Desks.{DeskView, IsDesk, IsCollected, birth_at, births_in, ledger_of, collections}
-use Rattle.store_steps.proofs.{NumberLists.apart_test, Accepting.replay_more}
-use Rattle.store_steps.proofs.Births.{birth_in, birth_from, row_listed}
+use Rattle.store_steps.specs.Journal.{Collected, Ledger, opened_ledger, is_legal, replay}
+use Rattle.store_steps.specs.Desks.{DeskView, IsDesk, IsCollected, birth_at, births_in, collections}
+use Rattle.store_steps.proofs.{NumberLists.apart_test, Births.birth_in, Births.birth_from, Births.row_listed}
+use Rattle.store_steps.proofs.Accepting.{replay_more}
 
 -- one status is freed, or retired still, or was never retired
 past_one : (copy : PinCopy) (x : BlockStatus) → cond (is_reclaimable copy x) 1 0 + cond (is_retired (recycled copy x)) 1 0
     ≡ cond (is_retired x) 1 0
-past_one copy (Retired b v) =
-    elim (is_reclaimable copy (Retired b v)) as (λ t. cond t 1 0 + cond (is_retired (if t then Free else Retired b v)) 1 0
-    ≡ 1) [ true ↦ refl | false ↦ refl ]
-past_one copy _ = refl
+past_one copy x = grind (arith, common_steps)
 
 -- what is freed and what is left are the retired blocks
 pub past_and_left : (copy : PinCopy) (xs : List BlockStatus) → count_by (is_reclaimable copy) xs + count_by is_retired (map (recycled copy) xs)
@@ -49,18 +44,11 @@ same_if_none copy (x ∷ xs) none =
     cc
 
 born_recycled : (copy : PinCopy) (o : Option BlockStatus) → is_at is_used (option_map (recycled copy) o) ≡ is_at is_used o
-born_recycled copy (Some (Retired b v)) =
-    elim (is_reclaimable copy (Retired b v)) as (λ t. is_at is_used (Some (if t then Free else Retired b v))
-    ≡ false) [ true ↦ refl | false ↦ refl ]
-born_recycled copy _ = refl
+born_recycled copy o = grind (arith, common_steps)
 
 legal_if : (l : Ledger) (copy : PinCopy) (count : ℕ) → copy.last ≤ length l.batches → 0 < count → count ≡ count_by (is_reclaimable copy) l.pool
     → is_legal l (Collected copy count) ≡ true
-legal_if l copy count low some is =
-    let a : nat_le copy.last (length l.batches) ≡ true = grind (arith, nat_tests) in
-    let b : nat_lt 0 count ≡ true = grind (arith, nat_tests) in
-    let c : (count == count_by (is_reclaimable copy) l.pool) ≡ true = eq-eqb count (count_by (is_reclaimable copy) l.pool) is in
-    rw (a, b, c) refl
+legal_if l copy count low some is = grind (arith, common_steps)
 
 -- the desk after a collection
 abbrev pub desk_collected : DeskView → PinCopy → DeskView
@@ -74,35 +62,13 @@ desk_collected d copy = record {
 replays_on : (d : DeskView) (copy : PinCopy) → IsDesk d → copy.last ≤ length d.last.batches → (n : ℕ) → count_by (is_reclaimable copy) d.pool ≡ n
     → replay (d.journal ++ collections copy n) (opened_ledger (length d.pool) d.opened)
     ≡ Some (record { batches = d.last.batches; pool = map (recycled copy) d.pool })
-replays_on d copy desk low zero is =
-    ap (λ es. replay es (opened_ledger (length d.pool) d.opened)) (append-nil d.journal) ∙ desk.replays
-    ∙ ap (λ p. Some (record { batches = d.last.batches; pool = p })) (sym (same_if_none copy d.pool is))
-replays_on d copy desk low (suc n) is =
-    let some : (suc n == 0) ≡ false = apart_test (suc n) 0 (λ e. absurd (omega arith)) in
-    ap (λ t. replay (d.journal ++ (if t then [] else Collected copy (suc n) ∷ [])) (opened_ledger (length d.pool) d.opened)) some
-    ∙ replay_more d.journal (Collected copy (suc n)) (opened_ledger (length d.pool) d.opened)
-    ∙ ap (option_and_then (λ m. entered m (Collected copy (suc n)))) desk.replays
-    ∙ ap (λ t. if t then Some (after_entry (ledger_of d) (Collected copy (suc n))) else None)
-    (legal_if (ledger_of d) copy (suc n) low (omega arith) (sym is))
+replays_on d copy desk low n is = grind (arith, common_steps, append-nil, same_if_none, apart_test, replay_more, legal_if)
 
 pub collected_desk : (d : DeskView) (copy : PinCopy) → IsDesk d → copy.last ≤ length d.last.batches → IsDesk (desk_collected d copy)
-collected_desk d copy desk low = record {
-  version = desk.version;
-  replays =
-      ap (λ n. replay (d.journal ++ collections copy (count_by (is_reclaimable copy) d.pool)) (opened_ledger n d.opened))
-      (length-map d.pool (recycled copy))
-      ∙ replays_on d copy desk low (count_by (is_reclaimable copy) d.pool) refl;
-  listed = λ n. ap (is_at is_used) (slice_get-map (recycled copy) d.pool n) ∙ born_recycled copy (slice_get d.pool n)
-      ∙ desk.listed n;
-}
+collected_desk d copy desk low = grind (arith, common_steps, length-map, replays_on, slice_get-map, born_recycled)
 
 pub is_collected : (d e : DeskView) (copy : PinCopy) → e ≡ desk_collected d copy → IsCollected d copy e
-is_collected d e copy is = record {
-  opened = ap (λ x. x.opened) is;
-  last = ap (λ x. x.last) is;
-  pool = ap (λ x. x.pool) is;
-  journal = ap (λ x. x.journal) is;
-}
+is_collected d e copy is = grind (arith, common_steps)
 
 is_desk_collected : (d e : DeskView) (copy : PinCopy) → IsCollected d copy e → e ≡ desk_collected d copy
 is_desk_collected d e copy is = λ i. record { opened = is.opened i; last = is.last i; journal = is.journal i; pool = is.pool i }
@@ -114,8 +80,7 @@ collected_is_desk d e copy desk low is = subst IsDesk (sym (is_desk_collected d 
 
 birth_recycled : (copy : PinCopy) (p : Option BlockStatus) → is_at is_used p ≡ true
     → birth_in (option_map (recycled copy) p) ≡ birth_in p
-birth_recycled copy (Some (Used b)) born = refl
-birth_recycled copy _ born = cc
+birth_recycled copy p born = grind (arith, common_steps)
 
 same_births : (p q : List BlockStatus) (bs : List BlockView)
     → ((m : ℕ) → is_listed m (numbers_of bs) ≡ true → birth_at p m ≡ birth_at q m)
@@ -131,7 +96,5 @@ pub births_collected : (d e : DeskView) (copy : PinCopy) → IsDesk d → IsColl
 births_collected d e copy desk collected source =
     ap (λ (v : VersionView). map (λ b. birth_at e.pool b.number) (row_of v.rows source)) collected.last
     ∙ same_births e.pool d.pool (row_of d.last.rows source) (λ m is.
-    birth_from e.pool m ∙ ap (λ p. birth_in (slice_get p m)) collected.pool
-    ∙ ap birth_in (slice_get-map (recycled copy) d.pool m)
-    ∙ birth_recycled copy (slice_get d.pool m) (desk.listed m ∙ row_listed d.last.rows source m is)
-    ∙ sym (birth_from d.pool m))
+    birth_from e.pool m ∙ ap (λ p. birth_in (slice_get p m)) collected.pool ∙ ap birth_in (slice_get-map (recycled copy) d.pool m)
+    ∙ birth_recycled copy (slice_get d.pool m) (desk.listed m ∙ row_listed d.last.rows source m is) ∙ sym (birth_from d.pool m))

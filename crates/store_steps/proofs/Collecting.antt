@@ -1,60 +1,44 @@
 -- A collection is Recycle of each block that the copy frees, all done, and no further block goes afterwards.
-use Rattle.std.proofs.Common.{◌≡◌, ◌≢◌, ℕ, zero, suc, ◌+◌}
-use Rattle.std.proofs.Common.{◌<◌, ◌==◌, Bool, true, false, not, ◌||◌, List, [], ◌∷◌, map, set, refl, sym, ap, subst, ◌∙◌, arith}
-use Rattle.std.specs.Prelude.{slice_get, if◌then◌else◌, filter}
-use Rattle.std.specs.{List.enumerate_from, Option.option_map, Option.option_and_then, Option.is_some}
+use Rattle.std.proofs.Common.{◌≡◌, ◌≢◌, ℕ, zero, suc, ◌+◌, ◌<◌, ◌==◌, Bool, true, false, ◌||◌, List, [], ◌∷◌, map, set, refl, sym}
+use Rattle.std.proofs.Common.{ap, ◌∙◌, arith}
+use Rattle.std.proofs.lemmas.{Grind.common_steps, Bool.eq-eqb, Bool.true≢false, Bool.or_right, Option.slice_get-map}
+use Rattle.std.specs.{Prelude.slice_get, Prelude.if◌then◌else◌, Prelude.filter, List.enumerate_from}
+use Rattle.std.specs.Option.{option_map, option_and_then, is_some}
 use Rattle.std.specs.declared.option.Option.{Option, TheVariants.None, TheVariants.Some}
-use Rattle.std.proofs.lemmas.{Bool.eq-eqb, Bool.true≢false, Bool.or_right, Option.slice_get-map}
-use Rattle.block_pool.proofs.Grants.{length-marked}
-use Rattle.block_reclamation.specs.Status.{is_listed, is_reclaimable, recycled, is_at}
-use Rattle.block_reclamation.specs.declared.status.BlockStatus.{BlockStatus}
-use Rattle.block_reclamation.specs.declared.status.BlockStatus.TheVariants.{Free}
-use Rattle.block_pool.specs.Pools.{marked}
-use Rattle.block_reclamation.specs.declared.copies.PinCopy.{PinCopy}
-use Rattle.epoch_core.specs.Blocks.{put, all_differ, reclaimed}
-use Rattle.epoch_core.specs.{declared.events.Event.TheVariants.Recycle, Worlds.World, Machine.step, Machine.with_status}
-use Rattle.epoch_core.proofs.Lists.{set_else}
-use Rattle.store_steps.specs.{Desks.DeskView, Desks.IsCollected, Shown.ShowsWorld, Steps.all_done}
-use Rattle.store_steps.{specs.Steps.past_numbers, specs.Steps.recycling, specs.Steps.TakesAt, proofs.NumberLists.apart_test}
-use Rattle.store_steps.proofs.{NumberLists.differ_head, NumberLists.differ_tail, Filling.step_then}
-use Rattle.store_steps.proofs.ChangedLists.{marked_at, same_list}
+use Rattle.block_pool.{proofs.Grants.length-marked, specs.Pools.marked}
+use Rattle.block_reclamation.specs.{Status.is_listed, Status.is_reclaimable, Status.is_at, declared.copies.PinCopy.PinCopy}
+use Rattle.block_reclamation.specs.declared.status.BlockStatus.{BlockStatus, TheVariants.Free}
+use Rattle.epoch_core.specs.{Blocks.put, Blocks.all_differ, Blocks.reclaimed, declared.events.Event.TheVariants.Recycle}
+use Rattle.epoch_core.{specs.Worlds.World, specs.Machine.step, specs.Machine.with_status, proofs.Lists.set_else}
+use Rattle.store_steps.specs.{Desks.DeskView, Desks.IsCollected, Shown.ShowsWorld}
+use Rattle.store_steps.specs.Steps.{all_done, past_numbers, recycling, TakesAt}
+use Rattle.store_steps.proofs.NumberLists.{apart_test, differ_head, differ_tail}
+use Rattle.store_steps.proofs.{Filling.step_then, ChangedLists.marked_at, ChangedLists.same_list}
 
 -- whether the machine recycles a block by the copy
 abbrev goes : PinCopy → Option BlockStatus → Bool
 goes copy o = is_some (option_and_then (reclaimed copy) o)
 
-freed : (t : Bool) → is_some (if t then Some Free else None) ≡ true → (if t then Some Free else None) ≡ Some Free
-freed true is = refl
-freed false is = cc
-
 -- what goes is free then
 goes_free : (copy : PinCopy) (o : Option BlockStatus) → goes copy o ≡ true → option_and_then (reclaimed copy) o ≡ Some Free
-goes_free copy None is = cc
-goes_free copy (Some s) is = freed (is_reclaimable copy s) is
+goes_free copy o is = grind (arith, common_steps)
 
 recycle_done : (w : World) (n : ℕ) → goes w.copy (slice_get w.status n) ≡ true
     → step w (Recycle n) ≡ Some (with_status w (set w.status n Free))
 recycle_done w n is = ap (λ o. option_map (with_status w) (put w.status n o)) (goes_free w.copy (slice_get w.status n) is)
 
-none_if : (o : Option BlockStatus) → is_some o ≡ false → o ≡ None
-none_if None is = refl
-none_if (Some s) is = cc
-
 -- what doesn't go isn't recycled
 recycle_skipped : (w : World) (n : ℕ) → goes w.copy (slice_get w.status n) ≡ false → step w (Recycle n) ≡ None
-recycle_skipped w n is = ap (λ o. option_map (with_status w) (put w.status n o))
-    (none_if (option_and_then (reclaimed w.copy) (slice_get w.status n)) is)
+recycle_skipped w n is = grind (arith, common_steps)
 
 -- Recycle of different blocks that go
 recycles : (ns : List ℕ) (w : World) → ((n : ℕ) → is_listed n ns ≡ true → goes w.copy (slice_get w.status n) ≡ true)
-    → all_differ ns ≡ true
-    → all_done (map Recycle ns) w ≡ Some (with_status w (marked ns Free w.status))
+    → all_differ ns ≡ true → all_done (map Recycle ns) w ≡ Some (with_status w (marked ns Free w.status))
 recycles [] w go apart = refl
 recycles (n ∷ ns) w go apart =
     let here : (n == n) ≡ true = eq-eqb n n refl in
     let w1 : World = with_status w (set w.status n Free) in
-    step_then (Recycle n) (map Recycle ns) w w1 (recycle_done w n (go n (rw here refl)))
-    ∙ recycles ns w1
+    step_then (Recycle n) (map Recycle ns) w w1 (recycle_done w n (go n (rw here refl))) ∙ recycles ns w1
     (λ m is.
     let ne : m ≢ n = λ e. absurd (true≢false (sym is ∙ ap (λ x. is_listed x ns) e ∙ differ_head n ns apart)) in
     ap (goes w.copy) (set_else w.status n m Free ne) ∙ go m (or_right (n == m) (is_listed m ns) is))
@@ -68,18 +52,13 @@ past_from copy k pool = map (λ p. p.0) (filter (λ p. is_reclaimable copy p.1) 
 in_cond : (t : Bool) (k n : ℕ) (rest : List (ℕ × BlockStatus)) (s : BlockStatus)
     → is_listed n (map (λ p. p.0) (if t then (k, s) ∷ rest else rest))
     ≡ (if t then (k == n) || is_listed n (map (λ p. p.0) rest) else is_listed n (map (λ p. p.0) rest))
-in_cond true k n rest s = refl
-in_cond false k n rest s = refl
+in_cond t k n rest s = grind (arith, common_steps)
 
 skip : (t u r : Bool) → u ≡ false → (if t then u || r else r) ≡ r
-skip true true r e = cc
-skip true false r e = refl
-skip false u r e = refl
+skip t u r e = grind (arith, common_steps)
 
 hit : (t u r : Bool) → u ≡ true → r ≡ false → (if t then u || r else r) ≡ t
-hit true true r e f = refl
-hit true false r e f = cc
-hit false u r e f = f
+hit t u r e f = grind (arith, common_steps)
 
 past_below : (copy : PinCopy) (k n : ℕ) (pool : List BlockStatus) → n < k → is_listed n (past_from copy k pool) ≡ false
 past_below copy k n [] h = refl
@@ -111,33 +90,14 @@ past_apart copy k (s ∷ pool) =
 
 -- One number
 
-some_if : (t : Bool) → is_some (if t then Some Free else None) ≡ t
-some_if true = refl
-some_if false = refl
-
 -- exactly what the copy frees goes
 goes_is : (copy : PinCopy) (o : Option BlockStatus) → goes copy o ≡ is_at (is_reclaimable copy) o
-goes_is copy None = refl
-goes_is copy (Some s) = some_if (is_reclaimable copy s)
-
-free_if : (t : Bool) (s : BlockStatus) → (let o : Option BlockStatus = Some (if t then Free else s) in o) ≡ (if t then Some Free else Some s)
-free_if true s = refl
-free_if false s = refl
-
-same_collected : (copy : PinCopy) (o : Option BlockStatus)
-    → option_map (recycled copy) o ≡ (if is_at (is_reclaimable copy) o then option_map (λ _. Free) o else o)
-same_collected copy None = refl
-same_collected copy (Some s) = free_if (is_reclaimable copy s) s
+goes_is copy o = grind (arith, common_steps)
 
 -- nothing goes any more
 none_goes : (copy : PinCopy) (o : Option BlockStatus)
     → goes copy (if is_at (is_reclaimable copy) o then option_map (λ _. Free) o else o) ≡ false
-none_goes copy None = refl
-none_goes copy (Some s) =
-    elim (is_reclaimable copy s) as (λ t. is_reclaimable copy s ≡ t → goes copy (if t then Some Free else Some s) ≡ false) [
-      | true ↦ λ _. refl
-      | false ↦ λ stays. goes_is copy (Some s) ∙ stays
-    ] refl
+none_goes copy o = grind (arith, common_steps)
 
 -- the world after a collection
 abbrev collected_world : PinCopy → DeskView → World → World
@@ -146,29 +106,12 @@ collected_world copy old w = with_status w (marked (past_numbers copy old.pool) 
 status_collected : (copy : PinCopy) (old : DeskView) (w : World) → ShowsWorld old w → (n : ℕ)
     → slice_get (collected_world copy old w).status n ≡ (if is_at (is_reclaimable copy) (slice_get old.pool n) then option_map
     (λ _. Free) (slice_get old.pool n) else slice_get old.pool n)
-status_collected copy old w shows n =
-    marked_at (past_numbers copy old.pool) Free w.status n
-    ∙ ap (λ t. if t then option_map (λ _. Free) (slice_get w.status n) else slice_get w.status n)
-    (past_at copy 0 n n old.pool (omega arith))
-    ∙ ap (λ pool. if is_at (is_reclaimable copy) (slice_get old.pool n) then option_map (λ _. Free) (slice_get pool n)
-    else slice_get pool n) shows.status
+status_collected copy old w shows n = grind (arith, common_steps, marked_at, past_at)
 
 shows_collected : (old new : DeskView) (copy : PinCopy) (w : World) → IsCollected old copy new → ShowsWorld old w
     → ShowsWorld new (collected_world copy old w)
 shows_collected old new copy w collected shows =
-    subst (λ v. ShowsWorld (record { opened = new.opened; last = v; journal = new.journal; pool = new.pool })
-    (collected_world copy old w)) (sym collected.last)
-    (record {
-      opening = shows.opening;
-      opened = shows.opened ∙ sym collected.opened;
-      batches = shows.batches;
-      blocks = shows.blocks;
-      edges = shows.edges;
-      status = same_list (collected_world copy old w).status new.pool (λ n.
-          status_collected copy old w shows n ∙ sym (same_collected copy (slice_get old.pool n))
-          ∙ sym (slice_get-map (recycled copy) old.pool n) ∙ ap (λ p. slice_get p n) (sym collected.pool));
-      sizes = shows.sizes ∙ sym (length-marked (past_numbers copy old.pool) Free w.status);
-    })
+    grind (arith, common_steps, same_list, status_collected, slice_get-map, length-marked)
 
 pub collected_takes : (old new : DeskView) (copy : PinCopy) → IsCollected old copy new
     → TakesAt copy old (recycling copy old.pool) new

@@ -1,11 +1,11 @@
 -- How often a number or a block stands in a list.
 use Rattle.std.proofs.Common.{◌≡◌, ℕ, zero, suc, ◌+◌, ◌<◌, ◌≤◌, ◌==◌, Bool, true, false, cond, ◌&&◌, ◌||◌, List, [], ◌∷◌, length}
 use Rattle.std.proofs.Common.{get_or, count_by, Decides, refl, sym, ap, subst, ◌∙◌, arith}
-use Rattle.std.specs.{Prelude.Contains, Cmp.Lexicographic.pointwise}
-use Rattle.std.specs.declared.option.Option.{Option, TheVariants.None, TheVariants.Some}
+use Rattle.std.{proofs.lemmas.Grind.common_steps, specs.Prelude.Contains, specs.Cmp.Lexicographic.pointwise}
 use Rattle.std.proofs.lemmas.{Bool.eq-eqb, Bool.eqb-true, Slice.Eq.slice_eq-Decides}
-use Rattle.std.proofs.lemmas.Bool.Decides.{Decides-and, Decides-eqb, Decides-int_eq, Decides-like}
-use Rattle.epoch_core.{proofs.Edges.Decides-same_stamp, specs.Blocks.all_differ, specs.Posting.same_stamp}
+use Rattle.std.proofs.lemmas.Bool.Decides.{Decides-and, Decides-eqb, Decides-like}
+use Rattle.std.specs.declared.option.Option.{Option, TheVariants.None, TheVariants.Some}
+use Rattle.epoch_core.specs.{Blocks.all_differ, Posting.same_stamp}
 use Rattle.edge_block.specs.Slots.{BlockView, Slot}
 use Rattle.graph_version.specs.Rows.{numbers_of}
 use Rattle.block_reclamation.specs.Status.{is_listed}
@@ -29,14 +29,10 @@ in_times m (n ∷ ns) =
     ] ∙ sym (ap is_some_times (count_more (λ x. x == m) n ns))
 
 pub times_numbers : (m : ℕ) (bs : List BlockView) → times m (numbers_of bs) ≡ count_by (λ b. b.number == m) bs
-times_numbers m [] = refl
-times_numbers m (b ∷ bs) =
-    count_more (λ n. n == m) b.number (numbers_of bs) ∙ ap (λ k. cond (b.number == m) 1 0 + k) (times_numbers m bs)
-    ∙ sym (count_more (λ (x : BlockView). x.number == m) b bs)
+times_numbers m bs = grind (arith, common_steps)
 
 none_times : (t : ℕ) → is_some_times t ≡ false → t ≡ 0
-none_times zero e = refl
-none_times (suc t) e = cc
+none_times t e = grind (arith, common_steps)
 
 pub once_at_most : (m : ℕ) (ns : List ℕ) → all_differ ns ≡ true → times m ns ≤ 1
 once_at_most m [] apart = omega arith
@@ -51,8 +47,7 @@ once_at_most m (n ∷ ns) apart =
     omega arith
 
 zero_times : (t : ℕ) → t ≡ 0 → is_some_times t ≡ false
-zero_times zero e = refl
-zero_times (suc t) e = cc
+zero_times t e = grind (arith, common_steps)
 
 pub apart_if : (ns : List ℕ) → ((m : ℕ) → times m ns ≤ 1) → all_differ ns ≡ true
 apart_if [] once = refl
@@ -73,39 +68,19 @@ same_slot (Some a) None = false
 same_slot (Some a) (Some b) = (a.target == b.target) && same_stamp a.stamp b.stamp
 
 Decides-same_slot : (a b : Option Slot) → Decides (same_slot a b) (a ≡ b)
-Decides-same_slot None None = (λ _. refl, λ _. refl)
-Decides-same_slot None (Some b) = (λ e. cc, λ e. cc)
-Decides-same_slot (Some a) None = (λ e. cc, λ e. cc)
-Decides-same_slot (Some a) (Some b) =
-    Decides-like _ (λ p. let e : a ≡ b = λ i. record { target = p.0 i; stamp = p.1 i } in ap Some e)
-    (λ q. let e : a ≡ b = cc in (ap (λ x. x.target) e, ap (λ x. x.stamp) e))
-    (Decides-and _ _ (Decides-eqb a.target b.target) (Decides-same_stamp a.stamp b.stamp))
+Decides-same_slot a b = grind (arith, common_steps)
 
 -- whether two blocks are equal in all
 abbrev pub same_block : BlockView → BlockView → Bool
 same_block a b = (a.number == b.number) && (a.source == b.source) && (a.kind == b.kind) && pointwise same_slot a.slots b.slots
 
 pub Decides-same_block : (a b : BlockView) → Decides (same_block a b) (a ≡ b)
-Decides-same_block a b =
-    Decides-like _ (λ p i. record { number = p.0.0.0 i; source = p.0.0.1 i; kind = p.0.1 i; slots = p.1 i })
-    (λ q. (((ap (λ x. x.number) q, ap (λ x. x.source) q), ap (λ x. x.kind) q), ap (λ x. x.slots) q))
-    (Decides-and _ _ (Decides-and _ _ (Decides-and _ _ (Decides-eqb a.number b.number) (Decides-eqb a.source b.source))
-    (Decides-eqb a.kind b.kind))
-    (slice_eq-Decides Decides-same_slot a.slots b.slots (pointwise same_slot a.slots b.slots) refl))
+Decides-same_block a b = grind (arith, common_steps, Decides-like, Decides-and, Decides-eqb, slice_eq-Decides, Decides-same_slot)
 
 -- a block that is listed is counted
 pub counted : (b : BlockView) (bs : List BlockView) (k : ℕ) → k < length bs → get_or bs k b ≡ b
     → 1 ≤ count_by (λ x. same_block x b) bs
-counted b [] k h at = absurd (omega arith)
-counted b (c ∷ cs) zero h at =
-    let is : same_block c b ≡ true = (Decides-same_block c b).1 at in
-    let one : (let n : ℕ = cond (same_block c b) 1 0 in n) ≡ 1 = ap (λ t. cond t 1 0) is in
-    let more = count_more (λ x. same_block x b) c cs in
-    omega arith
-counted b (c ∷ cs) (suc k) h at =
-    let rest = counted b cs k (omega arith) at in
-    let more = count_more (λ x. same_block x b) c cs in
-    omega arith
+counted b bs k h at = grind (arith, common_steps, Decides-same_block, count_more)
 
 -- a block that is counted is listed
 pub listed : (b : BlockView) (bs : List BlockView) → 1 ≤ count_by (λ x. same_block x b) bs → Contains bs b

@@ -1,14 +1,14 @@
 -- A journal that replays leaves blocks whose births and retirements are numbers of its versions.
 use Rattle.std.proofs.Common.{◌≡◌, ℕ, zero, suc, ◌+◌, Bool, true, false, List, [], ◌∷◌, ◌++◌, length, refl, sym, subst, arith}
-use Rattle.std.proofs.{Common.length-append, Common.replicate, lemmas.Bool.true≢false, lemmas.Option.slice_get-map}
-use Rattle.std.specs.{Option.option_map, Option.option_and_then, Prelude.slice_get, Prelude.if◌then◌else◌}
+use Rattle.std.{proofs.Common.length-append, proofs.Common.replicate, specs.Option.option_map, specs.Option.option_and_then}
+use Rattle.std.proofs.lemmas.Grind.{common_steps}
+use Rattle.std.{proofs.lemmas.Option.slice_get-map, specs.Prelude.slice_get, specs.Prelude.if◌then◌else◌}
 use Rattle.std.specs.declared.option.Option.{Option, TheVariants.None, TheVariants.Some}
 use Rattle.graph_types.specs.declared.batches.NamedOp.{NamedOp}
-use Rattle.block_reclamation.specs.Status.{is_listed, is_free, is_used, is_reclaimable, is_at, recycled}
+use Rattle.block_reclamation.specs.Status.{is_listed, is_free, is_used, is_at, recycled}
 use Rattle.block_reclamation.specs.declared.copies.PinCopy.{PinCopy}
+use Rattle.block_reclamation.specs.declared.status.BlockStatus.{BlockStatus, TheVariants.Free, TheVariants.Used}
 use Rattle.block_pool.specs.Pools.{is_free_at, is_used_at}
-use Rattle.block_reclamation.specs.declared.status.BlockStatus.{BlockStatus}
-use Rattle.block_reclamation.specs.declared.status.BlockStatus.TheVariants.{Free, Granted, Used, Retired}
 use Rattle.epoch_core.proofs.Lists.{all_listed}
 use Rattle.store_steps.specs.Journal.{Entry, Applied, Collected, Ledger, opened_ledger, is_legal, after_entry, exchanged, replay}
 use Rattle.store_steps.specs.{Desks.DeskView, Desks.IsDesk, Desks.ledger_of, Dates.IsDated, Dates.AreDated}
@@ -17,38 +17,14 @@ use Rattle.store_steps.proofs.Posting.{IsLegalBatch, legal_batch}
 
 -- One number
 
-still_dated : (o : Bool) (last : ℕ) (p : Option BlockStatus) → IsDated o last p → IsDated o (last + 1) p
-still_dated o last (Some (Used b)) is = let low = is.1 in (is.0, omega arith)
-still_dated o last (Some (Retired b v)) is = let low = is.2 in (is.0, is.1, omega arith)
-still_dated o last _ is = is
-
 number_dated : (o : Bool) (last : ℕ) (p : Option BlockStatus) (t d : Bool) → IsDated o last p
     → (t ≡ true → is_at is_free p ≡ true) → (d ≡ true → is_at is_used p ≡ true)
     → IsDated o (last + 1) (number_after (last + 1) p t d)
-number_dated o last None true true is f g = tt
-number_dated o last None true false is f g = tt
-number_dated o last None false true is f g = tt
-number_dated o last None false false is f g = tt
-number_dated o last (Some Free) true true is f g = let no = g refl in cc
-number_dated o last (Some Free) true false is f g = (λ e. omega arith, omega arith)
-number_dated o last (Some Free) false true is f g = let no = g refl in cc
-number_dated o last (Some Free) false false is f g = tt
-number_dated o last (Some Granted) t d is f g = absurd is
-number_dated o last (Some (Used b)) true d is f g = let no = f refl in cc
-number_dated o last (Some (Used b)) false true is f g = let low = is.1 in (is.0, omega arith, omega arith)
-number_dated o last (Some (Used b)) false false is f g = still_dated o last (Some (Used b)) is
-number_dated o last (Some (Retired b v)) true d is f g = let no = f refl in cc
-number_dated o last (Some (Retired b v)) false true is f g = let no = g refl in cc
-number_dated o last (Some (Retired b v)) false false is f g = still_dated o last (Some (Retired b v)) is
+number_dated o last p t d is f g = grind (arith, common_steps)
 
 recycled_dated : (o : Bool) (last : ℕ) (copy : PinCopy) (p : Option BlockStatus) → IsDated o last p
     → IsDated o last (option_map (recycled copy) p)
-recycled_dated o last copy (Some (Retired b v)) is =
-    elim (is_reclaimable copy (Retired b v)) as (λ t. IsDated o last (Some (if t then Free else Retired b v))) [
-      | true ↦ tt
-      | false ↦ is
-    ]
-recycled_dated o last copy _ is = is
+recycled_dated o last copy p is = grind (arith, common_steps)
 
 -- Entries
 
@@ -91,9 +67,7 @@ free_dated o (suc blocks) zero = tt
 free_dated o (suc blocks) (suc m) = free_dated o blocks m
 
 one_dated : (o : Bool) (p : Option BlockStatus) → IsDated o 0 p → IsDated o 0 (if o then option_map (λ _. Used 0) p else p)
-one_dated false p is = is
-one_dated true None is = tt
-one_dated true (Some p) is = (λ e. absurd (true≢false e), omega arith)
+one_dated o p is = grind (arith, common_steps)
 
 opened_dated : (blocks : ℕ) (opened : List ℕ) → AreDated opened 0 (opened_ledger blocks opened).pool
 opened_dated blocks opened m =

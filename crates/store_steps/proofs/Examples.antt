@@ -1,39 +1,24 @@
 -- Small stores, computed.
-use Rattle.std.proofs.Common.{◌≡◌, ℕ, zero, suc, Bool, false, [], ◌∷◌, get_or, refl, sym, ap, ◌∙◌, arith}
+use Rattle.std.proofs.Common.{◌≡◌, ℕ, Bool, false, [], ◌∷◌, refl, sym, ap, arith}
+use Rattle.std.proofs.lemmas.{Grind.common_steps, Bool.true≢false}
 use Rattle.std.specs.Prelude.{All, slice_get, Option, Some, None}
-use Rattle.std.proofs.lemmas.{Bool.true≢false, List.Elements.All-cons}
 use Rattle.graph_version.specs.Edges.{edges_in_block}
-use Rattle.epoch_core.specs.Worlds.{seat_pin, start_world, session_of}
-use Rattle.epoch_core.specs.declared.{session_states.SessionState.TheVariants.Idle, events.Event.TheVariants.Pin}
+use Rattle.epoch_core.specs.{Worlds.seat_pin, Worlds.start_world, Worlds.session_of, declared.events.Event.TheVariants.Pin}
 use Rattle.epoch_core.specs.Versions.{edges_at}
-use Rattle.block_reclamation.specs.Copies.{pin_at, unsettled}
-use Rattle.block_reclamation.specs.Board.{no_pins, with_pin}
-use Rattle.block_reclamation.specs.Status.{is_at, is_granted}
-use Rattle.block_reclamation.specs.declared.copies.Pin.{Pin as SeatPin}
+use Rattle.block_reclamation.specs.{Copies.pin_at, Copies.unsettled, declared.copies.Pin.Pin as SeatPin}
+use Rattle.block_reclamation.specs.{Board.no_pins, Board.with_pin, Status.is_at, Status.is_granted}
 use Rattle.store_steps.specs.{Reached.world_by, Desks.birth_at}
 use Rattle.store_steps.specs.Examples.{AreExamples, block_one, world_of_edge, board_of_two, world_of_two}
-use Rattle.store_steps.proofs.OpeningShown.{no_pin}
 
 edges_shown : All (λ b. edges_at world_of_edge.heap b.number ≡ edges_in_block b) (block_one ∷ [])
-edges_shown = All-cons (λ b. edges_at world_of_edge.heap b.number
-    ≡ edges_in_block b) block_one [] refl (λ k d h. absurd (omega arith))
-
-one_idle : (s : ℕ) → get_or (Idle ∷ []) s Idle ≡ Idle
-one_idle zero = refl
-one_idle (suc s) = refl
+edges_shown = grind (arith, common_steps)
 
 pins_shown : (s : ℕ) → seat_pin (session_of world_of_two s) ≡ pin_at board_of_two.pins s
-pins_shown zero = refl
-pins_shown (suc zero) = refl
-pins_shown (suc (suc s)) = ap seat_pin (one_idle s) ∙ sym (no_pin 14 s)
-
-none_idle : (s : ℕ) → get_or [] s Idle ≡ Idle
-none_idle s = refl
+pins_shown s = grind (arith, common_steps)
 
 pin_shown : (s : ℕ) → seat_pin (session_of (world_by (start_world 1 3) (Pin 0 ∷ [])) s)
     ≡ pin_at (with_pin no_pins 0 (Some (unsettled 0))).pins s
-pin_shown zero = refl
-pin_shown (suc s) = ap seat_pin (none_idle s) ∙ sym (no_pin 15 s)
+pin_shown s = grind (arith, common_steps)
 
 abbrev is_settled_in : Option SeatPin → Bool
 is_settled_in None = false

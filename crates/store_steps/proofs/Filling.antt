@@ -1,21 +1,19 @@
 -- Take and Fill of several blocks.
 use Rattle.std.proofs.Common.{◌≡◌, ◌≢◌, ℕ, ◌<◌, ◌==◌, true, false, List, [], ◌∷◌, ◌++◌, length, set, refl, sym, ap, ◌∙◌, arith}
-use Rattle.std.proofs.{Common.get_or-set_same, Common.get_or-set_other, lemmas.Bool.eq-eqb, lemmas.Bool.true≢false}
-use Rattle.std.specs.{Prelude.slice_get, Prelude.if◌then◌else◌, Prelude.All, List.flat_map, Option.option_map}
-use Rattle.std.specs.{Option.option_and_then, declared.option.Option.TheVariants.None, declared.option.Option.TheVariants.Some}
-use Rattle.std.proofs.lemmas.List.{length-set, Elements.All-head, Elements.All-tail, Elements.All-cons}
+use Rattle.std.{proofs.Common.get_or-set_same, proofs.Common.get_or-set_other, specs.declared.option.Option.TheVariants.Some}
+use Rattle.std.proofs.lemmas.{Grind.common_steps, Bool.eq-eqb, Bool.true≢false, List.length-set}
+use Rattle.std.proofs.lemmas.List.Elements.{All-head, All-tail, All-cons}
+use Rattle.std.specs.{Prelude.slice_get, Prelude.All, Option.option_map, Option.option_and_then}
+use Rattle.std.specs.List.{flat_map}
 use Rattle.graph_types.specs.declared.ids.Edge.{Edge}
 use Rattle.edge_block.specs.Slots.{BlockView}
-use Rattle.graph_version.specs.Rows.{numbers_of}
-use Rattle.graph_version.specs.Edges.{edges_in_block, edges_in_blocks}
-use Rattle.block_reclamation.specs.Status.{is_listed, is_granted}
+use Rattle.graph_version.specs.{Rows.numbers_of, Edges.edges_in_block, Edges.edges_in_blocks}
+use Rattle.block_reclamation.specs.Status.{is_listed}
+use Rattle.block_reclamation.specs.declared.status.BlockStatus.{BlockStatus, TheVariants.Free, TheVariants.Granted}
 use Rattle.block_pool.specs.Pools.{marked}
-use Rattle.block_reclamation.specs.declared.status.BlockStatus.{BlockStatus}
-use Rattle.block_reclamation.specs.declared.status.BlockStatus.TheVariants.{Free, Granted}
 use Rattle.epoch_core.specs.declared.events.Event.{Event, TheVariants.Take, TheVariants.Fill}
-use Rattle.epoch_core.specs.Blocks.{taken, put, all_differ}
-use Rattle.epoch_core.specs.Versions.{edges_at, edges_of}
-use Rattle.epoch_core.specs.{Worlds.World, Machine.step, Machine.with_status, Machine.with_heap}
+use Rattle.epoch_core.specs.{Blocks.taken, Blocks.put, Blocks.all_differ, Machine.step, Machine.with_status, Machine.with_heap}
+use Rattle.epoch_core.specs.{Versions.edges_at, Versions.edges_of, Worlds.World}
 use Rattle.epoch_core.proofs.Lists.{set_same, set_else, or_false}
 use Rattle.store_steps.{specs.Steps.all_done, specs.Steps.filling, proofs.NumberLists.differ_head, proofs.NumberLists.differ_tail}
 
@@ -36,16 +34,14 @@ take_done w n is = ap (λ o. option_map (with_status w) (put w.status n (option_
 
 fill_done : (w : World) (n : ℕ) (edges : List Edge) → slice_get w.status n ≡ Some Granted
     → step w (Fill n edges) ≡ Some (with_heap w (set w.heap n edges))
-fill_done w n edges is = ap (λ o. option_map (with_heap w) (option_and_then
-    (λ s. if is_granted s then Some (set w.heap n edges) else None) o)) is
+fill_done w n edges is = grind (arith, common_steps)
 
 -- the blocks of these numbers are all in this state
 abbrev pub AllAre : BlockStatus → List BlockStatus → List BlockView → Type 0
 AllAre s status bs = All (λ b. slice_get status b.number ≡ Some s) bs
 
 still : (status : List BlockStatus) (s x : BlockStatus) (b : BlockView) (bs : List BlockView) → is_listed b.number (numbers_of bs) ≡ false
-    → AllAre s status bs
-    → AllAre s (set status b.number x) bs
+    → AllAre s status bs → AllAre s (set status b.number x) bs
 still status s x b [] apart all = λ k d h. absurd (omega arith)
 still status s x b (c ∷ cs) apart all =
     let parts : ((c.number == b.number) ≡ false) × (is_listed b.number (numbers_of cs) ≡ false) =
@@ -57,8 +53,7 @@ still status s x b (c ∷ cs) apart all =
 
 -- all Takes and Fills are done
 pub fills_done : (bs : List BlockView) (rest : List Event) (w : World) → AllAre Free w.status bs
-    → all_differ (numbers_of bs) ≡ true
-    → all_done (flat_map filling bs ++ rest) w ≡ all_done rest (filled_world w bs)
+    → all_differ (numbers_of bs) ≡ true → all_done (flat_map filling bs ++ rest) w ≡ all_done rest (filled_world w bs)
 fills_done [] rest w free apart = refl
 fills_done (b ∷ bs) rest w free apart =
     let here : slice_get w.status b.number ≡ Some Free = All-head (λ y. slice_get w.status y.number ≡ Some Free) b bs free in
@@ -66,8 +61,7 @@ fills_done (b ∷ bs) rest w free apart =
     let w2 : World = with_heap w1 (set w.heap b.number (edges_in_block b)) in
     step_then (Take b.number) (Fill b.number (edges_in_block b) ∷ (flat_map filling bs ++ rest)) w w1 (take_done w b.number here)
     ∙ step_then (Fill b.number (edges_in_block b)) (flat_map filling bs ++ rest) w1 w2
-    (fill_done w1 b.number (edges_in_block b) (set_same w.status b.number Free Granted here))
-    ∙ fills_done bs rest w2
+    (fill_done w1 b.number (edges_in_block b) (set_same w.status b.number Free Granted here)) ∙ fills_done bs rest w2
     (still w.status Free Granted b bs (differ_head b.number (numbers_of bs) apart) (All-tail (λ y. slice_get w.status y.number
     ≡ Some Free) b bs free))
     (differ_tail b.number (numbers_of bs) apart)
@@ -89,8 +83,7 @@ heap_else (b ∷ bs) heap n apart =
 
 -- these blocks have theirs
 pub heap_here : (bs : List BlockView) (heap : List (List Edge)) → All (λ b. b.number < length heap) bs
-    → all_differ (numbers_of bs) ≡ true
-    → All (λ b. edges_at (heap_with bs heap) b.number ≡ edges_in_block b) bs
+    → all_differ (numbers_of bs) ≡ true → All (λ b. edges_at (heap_with bs heap) b.number ≡ edges_in_block b) bs
 heap_here [] heap within apart = λ k d h. absurd (omega arith)
 heap_here (b ∷ bs) heap within apart =
     let lt : b.number < length heap = All-head (λ y. y.number < length heap) b bs within in

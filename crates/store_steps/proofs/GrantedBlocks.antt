@@ -1,11 +1,11 @@
 -- The blocks that a batch was granted can be born, and given back.
-use Rattle.std.proofs.Common.{◌≡◌, ℕ, zero, suc, ◌+◌, ◌≤◌, Bool, true, false, List, refl, sym, ap, ◌∙◌, arith}
-use Rattle.std.{proofs.lemmas.Bool.true≢false, specs.Option.option_map, specs.Prelude.slice_get, specs.Prelude.if◌then◌else◌}
-use Rattle.std.specs.declared.option.Option.{Option, TheVariants.None, TheVariants.Some}
+use Rattle.std.proofs.Common.{◌≡◌, ℕ, zero, suc, ◌≤◌, Bool, true, false, List, refl, sym, ap, ◌∙◌, arith}
+use Rattle.std.{proofs.lemmas.Grind.common_steps, proofs.lemmas.Bool.true≢false, specs.Option.option_map}
+use Rattle.std.specs.{Prelude.slice_get, Prelude.if◌then◌else◌, declared.option.Option.Option}
 use Rattle.block_reclamation.specs.Status.{is_listed, is_free, is_in_use, is_used, is_at}
-use Rattle.block_pool.specs.Pools.{retired, is_free_at, marked, AreFree, is_in_use_at, is_used_at}
 use Rattle.block_reclamation.specs.declared.status.BlockStatus.{BlockStatus}
-use Rattle.block_reclamation.specs.declared.status.BlockStatus.TheVariants.{Free, Granted, Used, Retired}
+use Rattle.block_reclamation.specs.declared.status.BlockStatus.TheVariants.{Free, Granted, Used}
+use Rattle.block_pool.specs.Pools.{retired, is_free_at, marked, AreFree, is_in_use_at, is_used_at}
 use Rattle.store_steps.specs.Desks.{DeskView, IsDesk, last_numbers}
 use Rattle.store_steps.proofs.{NumberLists.all_by, NumberLists.differ_from, OneNumber.marked_if, OneNumber.not_both}
 use Rattle.store_steps.proofs.{ChangedLists.marked_at, ChangedLists.changed_at, ChangedLists.same_list, BlockMoves.AreMovable}
@@ -14,43 +14,24 @@ use Rattle.store_steps.proofs.Applications.{Application, number_in_desk, dropped
 use Rattle.store_steps.proofs.Applications.{some_either, dropped_differ, dropped_born, granted_pool, born_pool, retired_pool}
 
 used_marked : (p : Option BlockStatus) → is_at is_free p ≡ true → is_at is_in_use (option_map (λ _. Granted) p) ≡ true
-used_marked None e = cc
-used_marked (Some p) e = refl
+used_marked p e = grind (arith, common_steps)
 
 granted_used : (pool : List BlockStatus) (numbers : List ℕ) (m : ℕ) → is_free_at pool m ≡ true → is_listed m numbers ≡ true
     → is_in_use_at (marked numbers Granted pool) m ≡ true
 granted_used pool numbers m free is =
     ap (is_at is_in_use) (marked_at numbers Granted pool m)
-    ∙ ap (λ t. is_at is_in_use (marked_if Granted t (slice_get pool m))) is
-    ∙ used_marked (slice_get pool m) free
+    ∙ ap (λ t. is_at is_in_use (marked_if Granted t (slice_get pool m))) is ∙ used_marked (slice_get pool m) free
 
 -- what was granted is not the last version's
 pub not_granted : (d : DeskView) (numbers : List ℕ) (m : ℕ) → IsDesk d → AreFree d.pool numbers
     → is_listed m (last_numbers d) ≡ true → is_listed m numbers ≡ false
-not_granted d numbers m desk free listed = elim (is_listed m numbers) as (λ t. is_listed m numbers ≡ t → t ≡ false) [
-  | true ↦ λ is. absurd (not_both (slice_get d.pool m) (granted_free d.pool numbers m free is) (desk.listed m ∙ listed))
-  | false ↦ λ is. refl
-] refl
-
-pub granted_unlisted : (d : DeskView) (numbers : List ℕ) (m : ℕ) → IsDesk d → AreFree d.pool numbers → is_listed m numbers ≡ true
-    → is_listed m (last_numbers d) ≡ false
-granted_unlisted d numbers m desk free is = elim (is_listed m (last_numbers d)) as (λ t. is_listed m (last_numbers d) ≡ t → t ≡ false) [
-  | true ↦ λ listed. absurd (not_both (slice_get d.pool m) (granted_free d.pool numbers m free is) (desk.listed m ∙ listed))
-  | false ↦ λ listed. refl
-] refl
+not_granted d numbers m desk free listed = grind (arith, common_steps, not_both, granted_free)
 
 not_dropped : (a : Application) (m : ℕ) → is_free_at a.old.pool m ≡ true → is_listed m (dropped_numbers a) ≡ false
-not_dropped a m free = elim (is_listed m (dropped_numbers a)) as (λ t. is_listed m (dropped_numbers a) ≡ t → t ≡ false) [
-  | true ↦ λ is. absurd (not_both (slice_get a.old.pool m) free (dropped_born a m is))
-  | false ↦ λ is. refl
-] refl
+not_dropped a m free = grind (arith, common_steps, dropped_numbers, not_both, dropped_born)
 
 pub taken_granted : (a : Application) (m : ℕ) → is_listed m a.taken ≡ true → is_listed m a.numbers ≡ true
-taken_granted a m is =
-    let some : is_some_times (times m a.unused + times m a.taken) ≡ true =
-    some_either (times m a.unused) (times m a.taken) (sym (in_times m a.taken) ∙ is) in
-    let turn : times m a.taken + times m a.unused ≡ times m a.unused + times m a.taken = omega arith in
-    in_numbers a m ∙ ap is_some_times turn ∙ some
+taken_granted a m is = grind (arith, common_steps, is_some_times, times, some_either, in_times, in_numbers)
 
 unused_granted : (a : Application) (m : ℕ) → is_listed m a.unused ≡ true → is_listed m a.numbers ≡ true
 unused_granted a m is = in_numbers a m ∙ some_either (times m a.taken) (times m a.unused) (sym (in_times m a.unused) ∙ is)
@@ -60,10 +41,7 @@ born_ungranted : (a : Application) (m : ℕ) → is_used_at a.old.pool m ≡ tru
 born_ungranted a m born = not_granted a.old a.numbers m a.before a.applied.free (sym (a.before.listed m) ∙ born)
 
 pub not_taken : (a : Application) (m : ℕ) → is_listed m a.numbers ≡ false → is_listed m a.taken ≡ false
-not_taken a m none = elim (is_listed m a.taken) as (λ t. is_listed m a.taken ≡ t → t ≡ false) [
-  | true ↦ λ is. absurd (true≢false (sym (taken_granted a m is) ∙ none))
-  | false ↦ λ is. refl
-] refl
+not_taken a m none = grind (arith, common_steps, true≢false, taken_granted)
 
 -- no number is both taken and unused
 unused_untaken : (a : Application) (m : ℕ) → is_listed m a.unused ≡ true → is_listed m a.taken ≡ false
@@ -97,8 +75,7 @@ dropped_movable a = record {
       ap (is_at is_used) (marked_at a.taken (Used (number_in_desk a)) (granted_pool a) m)
       ∙ ap (λ t. is_at is_used (marked_if (Used (number_in_desk a)) t (slice_get (granted_pool a) m))) (not_taken a m none)
       ∙ ap (is_at is_used) (marked_at a.numbers Granted a.old.pool m)
-      ∙ ap (λ t. is_at is_used (marked_if Granted t (slice_get a.old.pool m))) none
-      ∙ born);
+      ∙ ap (λ t. is_at is_used (marked_if Granted t (slice_get a.old.pool m))) none ∙ born);
   apart = dropped_differ a;
 }
 
@@ -110,8 +87,7 @@ unused_movable a = record {
       let stays : is_listed m (dropped_numbers a) ≡ false = not_dropped a m free in
       ap (is_at is_in_use) (changed_at (retired (number_in_desk a)) (dropped_numbers a) (born_pool a) m (dropped_differ a))
       ∙ ap (λ t. is_at is_in_use (if t then option_map (retired (number_in_desk a)) (slice_get (born_pool a) m) else slice_get
-      (born_pool a) m)) stays
-      ∙ ap (is_at is_in_use) (marked_at a.taken (Used (number_in_desk a)) (granted_pool a) m)
+      (born_pool a) m)) stays ∙ ap (is_at is_in_use) (marked_at a.taken (Used (number_in_desk a)) (granted_pool a) m)
       ∙ ap (λ t. is_at is_in_use (marked_if (Used (number_in_desk a)) t (slice_get (granted_pool a) m))) (unused_untaken a m is)
       ∙ granted_used a.old.pool a.numbers m free granted);
   apart = apart_if a.unused (λ m. let once = handed_once a m in omega arith);
@@ -120,67 +96,32 @@ unused_movable a = record {
 -- what was granted can be given back, and then the pool is as before
 pub granted_movable : (pool : List BlockStatus) (numbers : List ℕ) → AreFree pool numbers
     → AreMovable is_in_use numbers (marked numbers Granted pool)
-granted_movable pool numbers free = record {
-  pass = all_by (is_in_use_at (marked numbers Granted pool)) numbers
-      (λ m is. granted_used pool numbers m (granted_free pool numbers m free is) is);
-  apart = differ_from numbers free.distinct;
-}
+granted_movable pool numbers free = grind (arith, common_steps, all_by, granted_used, granted_free, differ_from)
 
 there_and_back : (t : Bool) (p : Option BlockStatus) → (t ≡ true → is_at is_free p ≡ true)
     → marked_if Free t (marked_if Granted t p) ≡ p
-there_and_back true None f = refl
-there_and_back true (Some Free) f = refl
-there_and_back true (Some Granted) f = let no = f refl in cc
-there_and_back true (Some (Used b)) f = let no = f refl in cc
-there_and_back true (Some (Retired b v)) f = let no = f refl in cc
-there_and_back false p f = refl
+there_and_back t p f = grind (arith, common_steps)
 
 pub given_back : (pool : List BlockStatus) (numbers : List ℕ) → AreFree pool numbers
     → marked numbers Free (marked numbers Granted pool) ≡ pool
-given_back pool numbers free = same_list _ _ (λ m.
-    marked_at numbers Free (marked numbers Granted pool) m
-    ∙ ap (marked_if Free (is_listed m numbers)) (marked_at numbers Granted pool m)
-    ∙ there_and_back (is_listed m numbers) (slice_get pool m) (λ is. granted_free pool numbers m free is))
+given_back pool numbers free = grind (arith, common_steps, same_list, marked_at, marked_if, there_and_back, granted_free)
 
 -- and so it can where some of them were born meanwhile
 
 used_born : (n : ℕ) (t : Bool) (p : Option BlockStatus) → is_at is_in_use p ≡ true → is_at is_in_use (marked_if (Used n) t p) ≡ true
-used_born n false p is = is
-used_born n true None is = cc
-used_born n true (Some p) is = refl
+used_born n t p is = grind (arith, common_steps)
 
 pub born_movable : (pool : List BlockStatus) (numbers taken : List ℕ) (n : ℕ) → AreFree pool numbers
     → AreMovable is_in_use numbers (marked taken (Used n) (marked numbers Granted pool))
-born_movable pool numbers taken n free = record {
-  pass = all_by (is_in_use_at (marked taken (Used n) (marked numbers Granted pool))) numbers (λ m is.
-      ap (is_at is_in_use) (marked_at taken (Used n) (marked numbers Granted pool) m)
-      ∙ used_born n (is_listed m taken) (slice_get (marked numbers Granted pool) m)
-      (granted_used pool numbers m (granted_free pool numbers m free is) is));
-  apart = differ_from numbers free.distinct;
-}
+born_movable pool numbers taken n free =
+    grind (arith, common_steps, all_by, marked_at, used_born, granted_used, granted_free, differ_from)
 
 born_and_back : (n : ℕ) (g t : Bool) (p : Option BlockStatus) → (g ≡ true → is_at is_free p ≡ true) → (t ≡ true → g ≡ true)
     → marked_if Free g (marked_if (Used n) t (marked_if Granted g p)) ≡ p
-born_and_back n true t None f h = elim t as (λ t. marked_if Free true (marked_if (Used n) t None) ≡ None) [
-  | true ↦ refl
-  | false ↦ refl
-]
-born_and_back n true t (Some Free) f h = elim t as (λ t. marked_if Free true (marked_if (Used n) t (Some Granted)) ≡ Some Free) [
-  | true ↦ refl
-  | false ↦ refl
-]
-born_and_back n true t (Some Granted) f h = let no = f refl in cc
-born_and_back n true t (Some (Used b)) f h = let no = f refl in cc
-born_and_back n true t (Some (Retired b v)) f h = let no = f refl in cc
-born_and_back n false true p f h = let no = h refl in cc
-born_and_back n false false p f h = refl
+born_and_back n g t p f h = grind (arith, common_steps)
 
 pub born_given_back : (pool : List BlockStatus) (numbers taken : List ℕ) (n : ℕ) → AreFree pool numbers
     → ((m : ℕ) → is_listed m taken ≡ true → is_listed m numbers ≡ true)
     → marked numbers Free (marked taken (Used n) (marked numbers Granted pool)) ≡ pool
-born_given_back pool numbers taken n free within = same_list _ _ (λ m.
-    marked_at numbers Free (marked taken (Used n) (marked numbers Granted pool)) m
-    ∙ ap (marked_if Free (is_listed m numbers)) (marked_at taken (Used n) (marked numbers Granted pool) m)
-    ∙ ap (λ o. marked_if Free (is_listed m numbers) (marked_if (Used n) (is_listed m taken) o)) (marked_at numbers Granted pool m)
-    ∙ born_and_back n (is_listed m numbers) (is_listed m taken) (slice_get pool m) (λ is. granted_free pool numbers m free is)
-    (within m))
+born_given_back pool numbers taken n free within =
+    grind (arith, common_steps, same_list, marked_at, marked_if, born_and_back, granted_free)

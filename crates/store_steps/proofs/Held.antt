@@ -1,14 +1,12 @@
 -- What a session holds is a snapshot.
 use Rattle.std.proofs.Common.{◌≡◌, ℕ, not, false, take, refl, sym, ap, subst, ◌∙◌, arith, List}
-use Rattle.std.specs.{Prelude.slice_get, declared.option.Option.Option, declared.option.Option.TheVariants.Some}
-use Rattle.std.proofs.lemmas.List.{take-map}
+use Rattle.std.{proofs.lemmas.Grind.common_steps, specs.Prelude.slice_get, proofs.lemmas.List.take-map}
+use Rattle.std.specs.declared.option.Option.{Option, TheVariants.Some}
 use Rattle.graph_types.specs.Step.{left_by}
-use Rattle.block_reclamation.specs.declared.status.BlockStatus.{BlockStatus}
-use Rattle.block_reclamation.specs.declared.status.BlockStatus.TheVariants.{Free, Retired}
+use Rattle.block_reclamation.specs.declared.status.BlockStatus.{BlockStatus, TheVariants.Retired}
 use Rattle.block_reclamation.specs.Status.{is_free, is_reclaimable, is_at, is_listed}
 use Rattle.block_reclamation.specs.declared.copies.PinCopy.{PinCopy}
 use Rattle.epoch_core.specs.declared.session_states.{Hold.Hold, SessionState.SessionState}
-use Rattle.epoch_core.specs.declared.session_states.SessionState.TheVariants.{Idle, Pinned, Holding, Asking}
 use Rattle.epoch_core.specs.Sound.{IsSound, IsSessionSound, IsHeld, IsCovered, IsKeptAt}
 use Rattle.epoch_core.{specs.Worlds.World, specs.Worlds.session_of, specs.Worlds.held_in, proofs.Steps.always_sound}
 use Rattle.epoch_core.specs.Versions.{AreEdgesOf, opening_graph, blocks_at, edges_of, graph_at}
@@ -22,15 +20,11 @@ pub record Holder (w : World) (n : ℕ) : Type 0 where
   pub held : IsHeld w hold
 
 holder_of : (w : World) (session : SessionState) (n : ℕ) → IsSessionSound w session → held_in session ≡ Some n → Holder w n
-holder_of w Idle n sound held = cc
-holder_of w (Pinned pin) n sound held = cc
-holder_of w (Holding hold) n sound held = record { hold = hold; version_is = cc; held = sound }
-holder_of w (Asking hold inquiry) n sound held = record { hold = hold; version_is = cc; held = sound.0 }
+holder_of w session n sound held = grind (arith, common_steps)
 
 -- a block that is kept for the holders of a version is neither free nor freed by a copy that covers it
 not_free : (n : ℕ) (s : Option BlockStatus) → IsKeptAt n s → is_at is_free s ≡ false
-not_free n (Some Free) kept = absurd kept
-not_free n _ kept = refl
+not_free n s kept = grind (arith, common_steps)
 
 not_reclaimable : (n : ℕ) (copy : PinCopy) (s : Option BlockStatus) → IsKeptAt n s → IsCovered copy n
     → is_at (is_reclaimable copy) s ≡ false

@@ -1,15 +1,13 @@
 -- The steps of the store's calls inside whole runs of the machine.
-use Rattle.std.proofs.Common.{◌≡◌, ℕ, inl, inr, true, false, List, [], ◌∷◌, get_or, set, refl, sym, ap, subst, ◌∙◌}
-use Rattle.std.specs.{Prelude.if◌then◌else◌, Prelude.slice_get, Option.unwrap_or, Option.option_and_then, Option.option_map}
-use Rattle.std.specs.declared.option.Option.{Option, TheVariants.None, TheVariants.Some}
+use Rattle.std.proofs.Common.{◌≡◌, ℕ, inl, inr, List, [], ◌∷◌, get_or, set, refl, sym, ap, subst, ◌∙◌, arith}
+use Rattle.std.{proofs.lemmas.Grind.common_steps, specs.Option.unwrap_or, specs.Option.option_and_then}
 use Rattle.std.proofs.lemmas.Bool.{cases_eq}
+use Rattle.std.specs.declared.option.Option.{Option, TheVariants.None, TheVariants.Some}
 use Rattle.graph_types.specs.declared.requests.Request.{Request}
-use Rattle.epoch_core.specs.{declared.states.Version.Version, declared.states.Opening.Opening, Versions.blocks_at}
-use Rattle.epoch_core.specs.Worlds.{seat_pin}
-use Rattle.epoch_core.specs.declared.session_states.{Hold.Hold, Inquiry.Inquiry, SessionState.SessionState}
-use Rattle.epoch_core.specs.declared.session_states.SessionState.TheVariants.{Idle, Pinned, Holding, Asking}
-use Rattle.epoch_core.specs.{Worlds.World, Worlds.session_of, Worlds.last_number, Runs.run}
-use Rattle.epoch_core.specs.Machine.{step, read_on, is_all_read, to_enter, to_ask, to_read, to_reply}
+use Rattle.epoch_core.specs.{declared.states.Version.Version, declared.states.Opening.Opening, Runs.run}
+use Rattle.epoch_core.specs.Worlds.{seat_pin, World, session_of, last_number}
+use Rattle.epoch_core.specs.declared.session_states.SessionState.{SessionState, TheVariants.Idle}
+use Rattle.epoch_core.specs.Machine.{step, to_enter, to_ask, to_read, to_reply}
 use Rattle.epoch_core.proofs.Moves.{Moved, moved, session_after, session_else}
 use Rattle.block_reclamation.specs.Board.{BoardState}
 use Rattle.store_steps.specs.{Desks.DeskView, Shown.ShowsWorld, Boards.ShowsBoard, Steps.all_done}
@@ -25,8 +23,7 @@ done_is_run (e ∷ es) w after is =
 
 -- a session's move that keeps its pin is unseen
 unseen : (d : DeskView) (b : BoardState) (w after : World) (s : ℕ) (change : SessionState → Option SessionState)
-    → Moved w s change after
-    → ((session next : SessionState) → change session ≡ Some next → seat_pin next ≡ seat_pin session)
+    → Moved w s change after → ((session next : SessionState) → change session ≡ Some next → seat_pin next ≡ seat_pin session)
     → ShowsWorld d w → ShowsBoard b w → ShowsWorld d after × ShowsBoard b after × (after.copy ≡ w.copy)
 unseen d b w after s change m keeps shown shows = (
   subst (ShowsWorld d) (sym m.result) (shows_sessions d w (set w.sessions s m.next) shown),
@@ -44,51 +41,19 @@ unseen d b w after s change m keeps shown shows = (
 )
 
 keeps_enter : (last : ℕ) (session next : SessionState) → to_enter last session ≡ Some next → seat_pin next ≡ seat_pin session
-keeps_enter last Idle next is = cc
-keeps_enter last (Pinned pin) next is = ap seat_pin (sym (let e : Holding (record {
-  pin = pin;
-  settled = false;
-  version = last;
-}) ≡ next = cc in e))
-keeps_enter last (Holding hold) next is = cc
-keeps_enter last (Asking hold inquiry) next is = cc
+keeps_enter last session next is = grind (arith, common_steps)
 
 keeps_ask : (request : Request) (session next : SessionState) → to_ask request session ≡ Some next
     → seat_pin next ≡ seat_pin session
-keeps_ask request Idle next is = cc
-keeps_ask request (Pinned pin) next is = cc
-keeps_ask request (Holding hold) next is = ap seat_pin (sym (let e : Asking hold (record {
-  request = request;
-  next = 0;
-  read = [];
-}) ≡ next = cc in e))
-keeps_ask request (Asking hold inquiry) next is = cc
+keeps_ask request session next is = grind (arith, common_steps)
 
 keeps_reply : (o : Opening) (versions : List Version) (session next : SessionState) → to_reply o versions session ≡ Some next
     → seat_pin next ≡ seat_pin session
-keeps_reply o versions Idle next is = cc
-keeps_reply o versions (Pinned pin) next is = cc
-keeps_reply o versions (Holding hold) next is = cc
-keeps_reply o versions (Asking hold inquiry) next is =
-    elim (is_all_read o versions hold inquiry) as (λ t. (if t then Some (Holding hold) else None) ≡ Some next
-    → seat_pin next ≡ seat_pin (Asking hold inquiry)) [
-      | true ↦ λ h. ap seat_pin (sym (let e : Holding hold ≡ next = cc in e))
-      | false ↦ λ h. cc
-    ] is
-
-read_if : (w : World) (hold : Hold) (inquiry : Inquiry) (o : Option ℕ) (next : SessionState)
-    → option_map (λ b. Asking hold (read_on w.heap inquiry b)) o ≡ Some next
-    → seat_pin next ≡ seat_pin (Asking hold inquiry)
-read_if w hold inquiry None next is = cc
-read_if w hold inquiry (Some b) next is = ap seat_pin (sym (let e : Asking hold (read_on w.heap inquiry b) ≡ next = cc in e))
+keeps_reply o versions session next is = grind (arith, common_steps)
 
 keeps_reading : (w : World) (session next : SessionState) → to_read w.opening w.heap w.versions session ≡ Some next
     → seat_pin next ≡ seat_pin session
-keeps_reading w Idle next is = cc
-keeps_reading w (Pinned pin) next is = cc
-keeps_reading w (Holding hold) next is = cc
-keeps_reading w (Asking hold inquiry) next is = read_if w hold inquiry
-    (slice_get (blocks_at w.opening w.versions hold.version) inquiry.next) next is
+keeps_reading w session next is = grind (arith, common_steps)
 
 pub readers_are_unseen : ReadersAreUnseen
 readers_are_unseen = record {

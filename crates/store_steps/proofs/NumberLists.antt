@@ -1,9 +1,8 @@
 -- Numbers in lists, and blocks that are picked by their numbers.
-use Rattle.std.proofs.Common.{◌≡◌, ◌≢◌, ℕ, zero, suc, ◌<◌, ◌==◌, Bool, true, false, not, ◌&&◌, ◌||◌, List, [], ◌∷◌, length}
-use Rattle.std.proofs.Common.{get_or, refl, sym, ap, ◌∙◌, arith}
+use Rattle.std.proofs.Common.{◌≡◌, ◌≢◌, ℕ, zero, suc, ◌<◌, ◌==◌, Bool, true, false, ◌||◌, List, [], ◌∷◌, length, get_or, refl}
+use Rattle.std.proofs.{Common.sym, Common.ap, Common.◌∙◌, Common.arith, lemmas.Grind.common_steps}
 use Rattle.std.specs.{Prelude.if◌then◌else◌, Prelude.All, Prelude.AllPairs, Prelude.filter, List.list_all}
-use Rattle.std.proofs.lemmas.List.Elements.{All-head, All-tail, All-cons}
-use Rattle.std.proofs.lemmas.Bool.{eq-eqb, eqb-true, true≢false, or_right}
+use Rattle.std.proofs.lemmas.{List.Elements.All-head, List.Elements.All-tail, List.Elements.All-cons, Bool.eq-eqb, Bool.or_right}
 use Rattle.graph_types.proofs.Counts.{apart_tail}
 use Rattle.edge_block.specs.Slots.{BlockView}
 use Rattle.graph_version.specs.Rows.{numbers_of}
@@ -12,15 +11,10 @@ use Rattle.epoch_core.specs.Blocks.{all_differ}
 
 -- the test of two numbers that differ
 pub apart_test : (m n : ℕ) → m ≢ n → (m == n) ≡ false
-apart_test m n ne = go (m == n) refl where
-  go : (b : Bool) → (m == n) ≡ b → b ≡ false
-  go true e = absurd (ne (eqb-true m n e))
-  go false e = refl
+apart_test m n ne = grind (arith, common_steps)
 
 pub same_bool : (a b : Bool) → (a ≡ true → b ≡ true) → (b ≡ true → a ≡ true) → a ≡ b
-same_bool true b f g = sym (f refl)
-same_bool false true f g = g refl
-same_bool false false f g = refl
+same_bool a b f g = grind (arith, common_steps)
 
 pub all_from : {A : Type 0} (p : A → Bool) (xs : List A) → All (λ x. p x ≡ true) xs → list_all p xs ≡ true
 all_from p [] all = refl
@@ -54,16 +48,10 @@ differ_from (n ∷ ns) apart =
 
 -- the first of different numbers is none of the rest
 pub differ_head : (n : ℕ) (ns : List ℕ) → all_differ (n ∷ ns) ≡ true → is_listed n ns ≡ false
-differ_head n ns is = go (is_listed n ns) is where
-  go : (b : Bool) → (not b && all_differ ns) ≡ true → b ≡ false
-  go true h = cc
-  go false h = refl
+differ_head n ns is = grind (arith, common_steps)
 
 pub differ_tail : (n : ℕ) (ns : List ℕ) → all_differ (n ∷ ns) ≡ true → all_differ ns ≡ true
-differ_tail n ns is = go (is_listed n ns) is where
-  go : (b : Bool) → (not b && all_differ ns) ≡ true → all_differ ns ≡ true
-  go true h = cc
-  go false h = h
+differ_tail n ns is = grind (arith, common_steps)
 
 -- Blocks
 
@@ -89,14 +77,11 @@ picked p bs = filter (λ b. p b.number) bs
 in_cond : (t : Bool) (b : BlockView) (bs : List BlockView) (n : ℕ)
     → is_listed n (numbers_of (if t then b ∷ bs else bs)) ≡ (if t then (b.number == n) || is_listed n (numbers_of bs) else is_listed n
     (numbers_of bs))
-in_cond true b bs n = refl
-in_cond false b bs n = refl
+in_cond t b bs n = grind (arith, common_steps)
 
 picks : (p : ℕ → Bool) (m n : ℕ) (rest t u : Bool) → p m ≡ t → (m == n) ≡ u → (rest ≡ true → p n ≡ true)
     → (if t then u || rest else rest) ≡ true → p n ≡ true
-picks p m n rest true true e f more is = ap p (sym (eqb-true m n f)) ∙ e
-picks p m n rest true false e f more is = more is
-picks p m n rest false u e f more is = more is
+picks p m n rest t u e f more is = grind (arith, common_steps)
 
 pub in_picked : (p : ℕ → Bool) (bs : List BlockView) (n : ℕ) → is_listed n (numbers_of (picked p bs)) ≡ true → p n ≡ true
 in_picked p [] n is = cc
@@ -105,12 +90,8 @@ in_picked p (b ∷ bs) n is =
     ∙ is)
 
 picked_by : (p : ℕ → Bool) (m n : ℕ) (rest more t u : Bool) → p m ≡ t → (m == n) ≡ u → p n ≡ true → (more ≡ true → rest ≡ true)
-    → (u || more) ≡ true
-    → (if t then u || rest else rest) ≡ true
-picked_by p m n rest more true true e f pass h is = refl
-picked_by p m n rest more true false e f pass h is = h is
-picked_by p m n rest more false true e f pass h is = absurd (true≢false (sym (ap p (eqb-true m n f) ∙ pass) ∙ e))
-picked_by p m n rest more false false e f pass h is = h is
+    → (u || more) ≡ true → (if t then u || rest else rest) ≡ true
+picked_by p m n rest more t u e f pass h is = grind (arith, common_steps)
 
 pub picked_in : (p : ℕ → Bool) (bs : List BlockView) (n : ℕ) → p n ≡ true → is_listed n (numbers_of bs) ≡ true
     → is_listed n (numbers_of (picked p bs)) ≡ true
@@ -120,10 +101,7 @@ picked_in p (b ∷ bs) n pass is =
     ∙ picked_by p b.number n _ _ (p b.number) (b.number == n) refl refl pass (picked_in p bs n pass) is
 
 none_of : (t u rest more : Bool) → (more ≡ false → rest ≡ false) → (u || more) ≡ false → (if t then u || rest else rest) ≡ false
-none_of true true rest more h is = is
-none_of true false rest more h is = h is
-none_of false true rest more h is = cc
-none_of false false rest more h is = h is
+none_of t u rest more h is = grind (arith, common_steps)
 
 not_picked : (p : ℕ → Bool) (bs : List BlockView) (n : ℕ) → is_listed n (numbers_of bs) ≡ false
     → is_listed n (numbers_of (picked p bs)) ≡ false

@@ -1,31 +1,25 @@
 -- The opening.
-use Rattle.std.proofs.Common.{◌≡◌, ◌≢◌, ℕ, zero, suc, ◌<◌, ◌==◌, ◌||◌, Bool, true, false, List, [], ◌∷◌, ◌++◌, length}
-use Rattle.std.proofs.Common.{replicate, refl, sym, ap, subst, ◌∙◌, arith, All, AllPairs}
-use Rattle.std.specs.{Prelude.map, Prelude.slice_get, Prelude.slice_set, Prelude.if◌then◌else◌, List.flat_map, Option.option_map}
-use Rattle.std.specs.declared.option.Option.TheVariants.{None, Some}
-use Rattle.std.proofs.lemmas.Bool.{eqb-true}
+use Rattle.std.proofs.Common.{◌≡◌, ◌≢◌, ℕ, zero, suc, ◌<◌, ◌==◌, ◌||◌, Bool, true, false, List, [], ◌∷◌, ◌++◌, length, replicate}
+use Rattle.std.proofs.Common.{refl, sym, ap, subst, ◌∙◌, arith, All, AllPairs}
+use Rattle.std.{proofs.lemmas.Grind.common_steps, proofs.lemmas.Bool.eqb-true, specs.Option.option_map}
 use Rattle.std.proofs.lemmas.List.{length-replicate, Elements.All-head, Elements.All-tail, Elements.All-cons}
-use Rattle.block_pool.proofs.Grants.{length-marked}
-use Rattle.graph_types.specs.{Graph.Graph, Graph.graph_of, Graph.content_of, Graph.IsContent, Step.left_by}
-use Rattle.graph_types.specs.declared.{ids.Edge.Edge, contents.Content.Content}
+use Rattle.std.specs.{Prelude.map, Prelude.slice_get, Prelude.slice_set, Prelude.if◌then◌else◌, List.flat_map}
+use Rattle.std.specs.declared.option.Option.TheVariants.{None, Some}
+use Rattle.block_pool.{proofs.Grants.length-marked, specs.Pools.marked, specs.Pools.is_used_at}
+use Rattle.graph_types.specs.{Graph.graph_of, Graph.content_of, Graph.IsContent, declared.contents.Content.Content}
+use Rattle.graph_types.specs.{Step.left_by, declared.ids.Edge.Edge}
 use Rattle.edge_block.specs.Slots.{BlockView}
-use Rattle.graph_version.specs.Rows.{blocks_of, numbers_of}
+use Rattle.graph_version.specs.{Rows.blocks_of, Rows.numbers_of, Edges.edges_in_block, Edges.edges_in_blocks}
 use Rattle.graph_version.specs.Versions.{VersionView, content, empty_version}
-use Rattle.block_reclamation.specs.Status.{is_listed, is_used, is_at}
-use Rattle.graph_version.specs.Edges.{edges_in_block, edges_in_blocks, AreEachOnce}
 use Rattle.graph_version.proofs.{Empty.is_empty_version, Shown.rows_each_once}
-use Rattle.block_pool.specs.Pools.{marked, is_used_at}
-use Rattle.block_reclamation.specs.declared.status.BlockStatus.{BlockStatus}
-use Rattle.block_reclamation.specs.declared.status.BlockStatus.TheVariants.{Free, Used}
+use Rattle.block_reclamation.specs.{Status.is_listed, Status.is_used, Status.is_at, Copies.pin_at}
+use Rattle.block_reclamation.specs.declared.status.BlockStatus.{BlockStatus, TheVariants.Free, TheVariants.Used}
 use Rattle.epoch_core.specs.Versions.{AreEdgesOf, edges_at, edges_of}
-use Rattle.epoch_core.specs.Worlds.{seat_pin}
+use Rattle.epoch_core.specs.{Worlds.seat_pin, Worlds.IsStart, declared.session_states.SessionState.TheVariants.Idle}
 use Rattle.epoch_core.specs.Opened.{Lists, numbers_in, heap_with, status_with, IsOpening}
-use Rattle.epoch_core.specs.{Worlds.IsStart, declared.session_states.SessionState.TheVariants.Idle}
 use Rattle.epoch_core.proofs.Steps.{all_idle, free_at}
-use Rattle.block_reclamation.specs.Copies.{pin_at}
-use Rattle.store_steps.specs.{Desks.IsDesk, Shown.ShowsWorld}
+use Rattle.store_steps.{specs.Desks.IsDesk, specs.Shown.ShowsWorld, proofs.NumberLists.differ_from, proofs.ChangedLists.marked_at}
 use Rattle.store_steps.specs.Opening.{opened_desk, opened_start, lists_of, IsVersionZero, OpensAsMachine, OpensBlank}
-use Rattle.store_steps.proofs.{NumberLists.differ_from, ChangedLists.marked_at}
 use Rattle.store_steps.proofs.Filling as filling
 
 -- The pool
@@ -62,24 +56,13 @@ born_listed blocks ns within m =
     ] refl)
 
 pub no_pin : (n s : ℕ) → pin_at (replicate n None) s ≡ None
-no_pin zero s = refl
-no_pin (suc n) zero = refl
-no_pin (suc n) (suc s) = no_pin n s
+no_pin n s = grind (arith, common_steps)
 
 length-opened : (blocks : ℕ) (ns : List ℕ) → length (marked ns (Used 0) (replicate blocks Free)) ≡ blocks
 length-opened blocks ns = length-marked ns (Used 0) (replicate blocks Free) ∙ length-replicate blocks Free
 
 pub opened_is_desk : (blocks : ℕ) (v : VersionView) → IsVersionZero blocks v → IsDesk (opened_desk blocks v)
-opened_is_desk blocks v zero_is =
-    let ns : List ℕ = numbers_of (blocks_of v.rows) in
-    record {
-      version = zero_is.version;
-      replays = λ i. Some (record {
-        batches = sym zero_is.alone i;
-        pool = marked ns (Used 0) (replicate (length-opened blocks ns i) Free);
-      });
-      listed = born_listed blocks ns zero_is.within;
-    }
+opened_is_desk blocks v zero_is = grind (arith, common_steps, length-opened, born_listed)
 
 -- The blocks, in the machine
 
@@ -94,8 +77,7 @@ edges_paired : (bs : List BlockView) → flat_map (λ l. l.1) (pairs bs) ≡ edg
 edges_paired [] = refl
 edges_paired (b ∷ bs) = ap (λ es. edges_in_block b ++ es) (edges_paired bs)
 
-within_paired : (blocks : ℕ) (bs : List BlockView) → All (λ n. n < blocks) (numbers_of bs)
-    → All (λ l. l.0 < blocks) (pairs bs)
+within_paired : (blocks : ℕ) (bs : List BlockView) → All (λ n. n < blocks) (numbers_of bs) → All (λ l. l.0 < blocks) (pairs bs)
 within_paired blocks [] within = λ k d h. absurd (omega arith)
 within_paired blocks (b ∷ bs) within =
     let In : ℕ × List Edge → Type 0 = λ l. l.0 < blocks in
@@ -141,8 +123,7 @@ content_alone : (v : VersionView) → v.batches ≡ [] → content v ≡ v.openi
 content_alone v alone = ap (λ bs. left_by bs v.opening) alone
 
 used_or_free : (t : Bool) → (if t then option_map (λ _. Used 0) (Some Free) else Some Free) ≡ Some (if t then Used 0 else Free)
-used_or_free true = refl
-used_or_free false = refl
+used_or_free t = grind (arith, common_steps)
 
 module _ (sessions blocks : ℕ) (v : VersionView) (c : Content) (zero_is : IsVersionZero blocks v)
     (same : graph_of c ≡ v.opening) where
@@ -159,10 +140,7 @@ module _ (sessions blocks : ℕ) (v : VersionView) (c : Content) (zero_is : IsVe
   apart = zero_is.version.rows.numbers
 
   shown_edges : AreEdgesOf (edges_in_blocks bs) (graph_of c)
-  shown_edges =
-      let each : AreEachOnce (edges_in_blocks bs) (content v) = rows_each_once (content v) v.rows zero_is.version.rows in
-      let shown : AreEdgesOf (edges_in_blocks bs) (content v) = record { once = each.once; same = each.same } in
-      subst (λ (g : Graph). AreEdgesOf (edges_in_blocks bs) g) (content_alone v zero_is.alone ∙ sym same) shown
+  shown_edges = grind (arith, common_steps, rows_each_once, content_alone)
 
   is_opening : IsContent c → IsOpening blocks c (lists_of v)
   is_opening is = record {
@@ -172,8 +150,7 @@ module _ (sessions blocks : ℕ) (v : VersionView) (c : Content) (zero_is : IsVe
     shown = subst (λ edges. AreEdgesOf edges (graph_of c)) (sym (edges_paired bs)) shown_edges;
   }
 
-  status_start : (b : ℕ) → b < blocks
-      → slice_get status b ≡ Some (if is_listed b (numbers_in (pairs bs)) then Used 0 else Free)
+  status_start : (b : ℕ) → b < blocks → slice_get status b ≡ Some (if is_listed b (numbers_in (pairs bs)) then Used 0 else Free)
   status_start b low =
       ap (λ (xs : List BlockStatus). slice_get xs b) (status_paired bs (replicate blocks Free))
       ∙ marked_at (numbers_of bs) (Used 0) (replicate blocks Free) b

@@ -1,29 +1,22 @@
 -- An accepted batch is Take and Fill of each taken block and then one Post, all done.
-use Rattle.std.proofs.Common.{◌≡◌, ℕ, zero, suc, ◌+◌, ◌<◌, ◌≤◌, Bool, true, false}
-use Rattle.std.proofs.Common.{◌&&◌, ◌||◌, List, [], ◌∷◌, ◌++◌, length, get_or, refl, sym, ap, subst, ◌∙◌, arith, length-append}
-use Rattle.std.specs.{Prelude.slice_get, Prelude.if◌then◌else◌, Prelude.All, Prelude.Contains, List.list_all, Option.option_map}
-use Rattle.std.specs.declared.option.Option.TheVariants.{None, Some}
-use Rattle.std.proofs.lemmas.{List.map-append, List.length-map, Bool.and_from, Bool.or_right}
-use Rattle.std.proofs.lemmas.{Bool.lt-ltb, Bool.le-leb, Bool.or_left, Bool.Decides.nat_tests, Option.slice_get_within}
-use Rattle.block_pool.proofs.Grants.{length-marked}
-use Rattle.graph_types.specs.{Limits.batch_limit, GraphLimits.is_within_limits, Step.left_by, Step.after_all}
-use Rattle.graph_types.specs.declared.batches.NamedOp.{NamedOp}
+use Rattle.std.proofs.Common.{◌≡◌, ℕ, zero, suc, ◌+◌, ◌<◌, Bool, true, false, ◌&&◌, List, [], ◌∷◌, ◌++◌, length, get_or, refl}
+use Rattle.std.proofs.Common.{sym, ap, subst, ◌∙◌, arith, length-append}
+use Rattle.std.proofs.lemmas.{Grind.common_steps, List.map-append, List.length-map, Option.slice_get_within}
+use Rattle.std.proofs.lemmas.Bool.{and_from, or_right, lt-ltb, le-leb, or_left}
+use Rattle.std.specs.{Prelude.slice_get, Prelude.if◌then◌else◌, Prelude.All, Prelude.Contains, Option.option_map}
+use Rattle.std.specs.{List.list_all, declared.option.Option.TheVariants.None, declared.option.Option.TheVariants.Some}
+use Rattle.block_pool.{proofs.Grants.length-marked, specs.Pools.is_free_at, specs.Pools.is_used_at}
+use Rattle.graph_types.specs.{Limits.batch_limit, GraphLimits.is_within_limits, declared.batches.NamedOp.NamedOp}
 use Rattle.edge_block.specs.Slots.{BlockView}
-use Rattle.graph_version.specs.Rows.{blocks_of, numbers_of}
-use Rattle.graph_version.specs.Versions.{content}
-use Rattle.graph_version.specs.Edges.{edges_in_block, edges_in_blocks, AreEachOnce}
+use Rattle.graph_version.specs.{Rows.blocks_of, Rows.numbers_of, Edges.edges_in_block, Edges.edges_in_blocks, Edges.AreEachOnce}
+use Rattle.graph_version.{specs.Versions.content, proofs.Shown.rows_each_once}
 use Rattle.block_reclamation.specs.Status.{is_listed, is_used, is_at, is_granted}
-use Rattle.graph_version.proofs.Shown.{rows_each_once}
-use Rattle.block_pool.specs.Pools.{is_free_at, is_used_at}
-use Rattle.block_reclamation.specs.declared.status.BlockStatus.{BlockStatus}
-use Rattle.epoch_core.specs.declared.states.Version.{Version}
-use Rattle.block_reclamation.specs.declared.status.BlockStatus.TheVariants.{Free, Granted}
-use Rattle.epoch_core.specs.Blocks.{all_differ, after_post}
-use Rattle.epoch_core.specs.Versions.{AreEdgesOf, opening_graph, edges_at, edges_of}
+use Rattle.block_reclamation.specs.declared.status.BlockStatus.{BlockStatus, TheVariants.Free, TheVariants.Granted}
+use Rattle.epoch_core.{specs.declared.states.Version.Version, proofs.Lists.all_listed, proofs.Lists.length_enumerated}
+use Rattle.epoch_core.specs.{Blocks.all_differ, Blocks.after_post, Posts.posted, Worlds.World, Worlds.last_blocks}
+use Rattle.epoch_core.specs.{declared.events.Event.TheVariants.Post, Versions.AreEdgesOf, Versions.edges_at, Versions.edges_of}
+use Rattle.epoch_core.proofs.{Edges.Decides-edges, Changes.version_next, Changes.batches_all, Changes.left_more, Posted.status_at}
 use Rattle.epoch_core.specs.Posting.{is_listable, version_by, can_post, graph_after, are_edges_of}
-use Rattle.epoch_core.proofs.{Edges.Decides-edges, Lists.and_left, Lists.and_right, Lists.all_listed, Lists.length_enumerated}
-use Rattle.epoch_core.specs.{declared.events.Event.TheVariants.Post, Worlds.World, Worlds.last_blocks, Posts.posted}
-use Rattle.epoch_core.proofs.{Changes.version_next, Changes.batches_all, Changes.left_more, Posted.status_at}
 use Rattle.store_steps.specs.{Journal.Applied, Journal.Ledger, Journal.is_legal, Shown.ShowsWorld}
 use Rattle.store_steps.specs.Desks.{DeskView, IsDesk, IsAccepted, last_numbers, ledger_of}
 use Rattle.store_steps.specs.Steps.{fresh_in, posting, Takes}
@@ -42,12 +35,7 @@ pub record IsLegalBatch (pool : List BlockStatus) (taken dropped : List ℕ) : T
 
 pub legal_batch : (l : Ledger) (ops : List NamedOp) (taken dropped : List ℕ) → is_legal l (Applied ops taken dropped) ≡ true
     → IsLegalBatch l.pool taken dropped
-legal_batch l ops taken dropped is = record {
-  free = and_left _ _ (and_left _ _ (and_left _ _ is));
-  apart = and_right _ _ (and_left _ _ (and_left _ _ is));
-  born = and_right _ _ (and_left _ _ is);
-  dropped_apart = and_right _ _ is;
-}
+legal_batch l ops taken dropped is = grind (arith, common_steps)
 
 five : (a b c d e : Bool) → a ≡ true → b ≡ true → c ≡ true → d ≡ true → e ≡ true → (a && b && c && d && e) ≡ true
 five a b c d e p q r s t = rw (p, q, r, s, t) refl
@@ -89,10 +77,7 @@ dropped_born a n is = all_listed (is_used_at a.old.pool) a.dropped n (legal_in a
 
 -- a taken number is one of the new version's
 taken_listed : (a : Acceptance) (n : ℕ) → is_listed n a.taken ≡ true → is_listed n (last_numbers a.new) ≡ true
-taken_listed a n is =
-    sym (a.after.listed n) ∙ ap (is_at is_used) (new_pool a n)
-    ∙ born_mark (number_in_desk a) (slice_get a.old.pool n) (is_listed n a.taken) (is_listed n a.dropped) (taken_free a n)
-    (dropped_born a n) is
+taken_listed a n is = grind (arith, common_steps, new_pool, born_mark, taken_free, dropped_born)
 
 -- the numbers of the new blocks are those taken
 fresh_taken : (a : Acceptance) (n : ℕ) → is_listed n (numbers_of (fresh_blocks a)) ≡ is_listed n a.taken
@@ -160,18 +145,10 @@ contains_picked p (c ∷ cs) b (suc k) h at is =
 
 kept_placed : (a : Acceptance) (w : World) → ShowsWorld a.old w → (b : BlockView) → Contains (blocks_of a.old.last.rows) b
     → is_listed b.number a.taken ≡ false → IsPlaced a w b
-kept_placed a w shows b (k, h, at) is = record {
-  edges =
-      heap_else (fresh_blocks a) w.heap b.number (fresh_taken a b.number ∙ is)
-      ∙ subst (λ x. edges_at w.heap x.number ≡ edges_in_block x) at (shows.edges k b h);
-  listable = or_right (is_at is_granted (slice_get (ready a w).status b.number)) (is_listed b.number (last_blocks w))
-      (ap (is_listed b.number) shows.blocks ∙ number_in (blocks_of a.old.last.rows) b k h at);
-}
+kept_placed a w shows b h is = grind (arith, common_steps, heap_else, fresh_taken, or_right, number_in)
 
 get_or_default : (bs : List BlockView) (k : ℕ) (d e : BlockView) → k < length bs → get_or bs k d ≡ get_or bs k e
-get_or_default [] k d e h = absurd (omega arith)
-get_or_default (b ∷ bs) zero d e h = refl
-get_or_default (b ∷ bs) (suc k) d e h = get_or_default bs k d e (omega arith)
+get_or_default bs k d e h = grind (arith, common_steps)
 
 placed : (a : Acceptance) (w : World) → ShowsWorld a.old w → All (IsPlaced a w) (new_blocks a)
 placed a w shows k d h =
@@ -190,11 +167,7 @@ new_batches a = ap (λ l. l.batches) a.accepted.ledger
 
 -- the graph that the batch leaves
 graph_left : (a : Acceptance) (w : World) → ShowsWorld a.old w → graph_after w.opening w.versions a.ops ≡ content a.new.last
-graph_left a w shows =
-    ap (λ bs. after_all a.ops (left_by bs (opening_graph w.opening))) (batches_all w.versions ∙ shows.batches)
-    ∙ ap (λ g. after_all a.ops (left_by a.old.last.batches g)) (shows.opening ∙ sym a.accepted.opening)
-    ∙ sym (left_more a.old.last.batches a.ops a.new.last.opening)
-    ∙ ap (λ bs. left_by bs a.new.last.opening) (sym (new_batches a))
+graph_left a w shows = grind (arith, common_steps, batches_all, left_more, new_batches)
 
 posts : (a : Acceptance) (w : World) → ShowsWorld a.old w → can_post w.opening (ready a w).heap (ready a w).status w.versions a.ops
     (last_numbers a.new) ≡ true
@@ -235,8 +208,7 @@ status_posted a w shows n =
     ∙ ap (λ (pool : List BlockStatus). status_by (number_in_desk a) (is_at is_used (number_after (number_in_desk a)
     (slice_get a.old.pool n) (is_listed n a.taken) (is_listed n a.dropped))) (slice_get pool n) (is_listed n a.taken)) shows.status
     ∙ same_after (number_in_desk a) (slice_get a.old.pool n) (is_listed n a.taken) (is_listed n a.dropped) (taken_free a n)
-    (dropped_born a n)
-    ∙ sym (new_pool a n)
+    (dropped_born a n) ∙ sym (new_pool a n)
 
 shows_posted : (a : Acceptance) (w : World) → ShowsWorld a.old w → ShowsWorld a.new (posted_world a w)
 shows_posted a w shows =

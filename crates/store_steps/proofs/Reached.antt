@@ -1,20 +1,18 @@
 -- The desk and the board beside a run of the machine.
-use Rattle.std.proofs.Common.{◌≡◌, ℕ, zero, suc, ◌<◌, true, false, List, [], ◌∷◌, ◌++◌, length, get_or, set, refl, sym, ap, subst}
-use Rattle.std.proofs.{Common.◌∙◌, Common.arith, lemmas.List.length-map, lemmas.Option.slice_get-get_or}
+use Rattle.std.proofs.Common.{◌≡◌, ℕ, zero, suc, ◌<◌, true, List, [], ◌∷◌, ◌++◌, length, get_or, set, refl, sym, ap, subst, ◌∙◌}
+use Rattle.std.proofs.{Common.arith, lemmas.Grind.common_steps, lemmas.List.length-map, lemmas.Option.slice_get-get_or}
 use Rattle.std.specs.{Option.unwrap_or, Option.option_map, Option.option_and_then, Prelude.slice_get, Prelude.is_some}
 use Rattle.std.specs.declared.option.Option.{Option, TheVariants.None, TheVariants.Some}
 use Rattle.epoch_core.specs.Worlds.{seat_pin, World, MachineState, IsStart, start_world, last_number, session_of, held_in}
-use Rattle.epoch_core.specs.{declared.events.Event.Event, declared.session_states.SessionState.SessionState, Epochs.PinsInOrder}
+use Rattle.epoch_core.specs.{declared.events.Event.Event, Epochs.PinsInOrder, Blocks.put}
+use Rattle.epoch_core.specs.{declared.session_states.SessionState.SessionState, Runs.run, Runs.next_world, Runs.is_done}
 use Rattle.epoch_core.specs.declared.events.Event.TheVariants.{Floor, Pin, Enter, Settle, Ask, Read, Reply, Release}
 use Rattle.epoch_core.specs.declared.session_states.SessionState.TheVariants.{Idle, Pinned, Holding, Asking}
-use Rattle.epoch_core.specs.Blocks.{put}
 use Rattle.epoch_core.specs.Machine.{step, move, to_pin, to_enter, to_settle, with_sessions}
-use Rattle.epoch_core.specs.Runs.{run, next_world, is_done}
 use Rattle.epoch_core.proofs.{Moves.Moved, Moves.moved, Moves.floored, Moves.session_after, Steps.always_sound, Steps.idle_at}
 use Rattle.epoch_core.proofs.{Sizes.size_run, Epochs.pins_in_order}
 use Rattle.graph_version.specs.Versions.{empty_version}
-use Rattle.block_reclamation.specs.declared.copies.PinCopy.{PinCopy}
-use Rattle.block_reclamation.specs.Board.{BoardState, with_pin}
+use Rattle.block_reclamation.specs.{declared.copies.PinCopy.PinCopy, Board.BoardState, Board.with_pin}
 use Rattle.block_reclamation.specs.Copies.{pin_at, unsettled, settled, copy_of}
 use Rattle.store_steps.specs.{Desks.DeskView, Shown.ShowsWorld, Histories.IsUnseen, Steps.IsTaken, Opening.opened_desk}
 use Rattle.store_steps.specs.Boards.{ShowsBoard, ShowsIfDone, raised_board}
@@ -49,8 +47,7 @@ taken_reached start s new events more t r =
 
 -- a step of the board's that is done
 board_reached : (start : World) (s : Store) (new : BoardState) (copy : PinCopy) (events : List Event) (event : Event)
-    (after : World)
-    → step (world_by start events) event ≡ Some after → ShowsIfDone (world_by start events) event new copy
+    (after : World) → step (world_by start events) event ≡ Some after → ShowsIfDone (world_by start events) event new copy
     → Leads start events s (event ∷ []) (record { desk = s.desk; board = new; copy = copy })
 board_reached start s new copy events event after is shows r =
     let there : after ≡ world_by start (events ++ event ∷ []) =
@@ -64,8 +61,7 @@ board_reached start s new copy events event after is shows r =
 
 -- one that keeps the copy
 board_kept : (start : World) (s : Store) (new : BoardState) (events : List Event) (event : Event) (after : World)
-    → step (world_by start events) event ≡ Some after
-    → ShowsIfDone (world_by start events) event new (world_by start events).copy
+    → step (world_by start events) event ≡ Some after → ShowsIfDone (world_by start events) event new (world_by start events).copy
     → Leads start events s (event ∷ []) (record s { board = new })
 board_kept start s new events event after is shows r =
     subst (λ copy. IsReached start (events ++ event ∷ []) (record { desk = s.desk; board = new; copy = copy })) r.copied_is
@@ -78,8 +74,7 @@ reader_reached start event hidden s events r =
     → IsReached start (events ++ event ∷ []) s) [
       | None ↦ λ is.
           (let there : world_by start events ≡ world_by start (events ++ event ∷ []) =
-          sym (run_more events (event ∷ []) start
-          ∙ ap (λ o. unwrap_or o (world_by start events)) is) in
+          sym (run_more events (event ∷ []) start ∙ ap (λ o. unwrap_or o (world_by start events)) is) in
           record {
             desk = subst (ShowsWorld s.desk) there r.desk;
             board = subst (ShowsBoard s.board) there r.board;
@@ -99,8 +94,7 @@ reader_reached start event hidden s events r =
 -- Steps that are done
 
 move_done : (w : World) (s : ℕ) (change : SessionState → Option SessionState) (session next : SessionState)
-    → slice_get w.sessions s ≡ Some session → change session ≡ Some next
-    → (after : World) × (move w s change ≡ Some after)
+    → slice_get w.sessions s ≡ Some session → change session ≡ Some next → (after : World) × (move w s change ≡ Some after)
 move_done w s change session next found is = (
   with_sessions w (set w.sessions s next),
   ap (λ o. option_map (with_sessions w) (put w.sessions s (option_and_then change o))) found
@@ -108,12 +102,10 @@ move_done w s change session next found is = (
 )
 
 some_step : (o : Option World) → is_some o ≡ true → (after : World) × (o ≡ Some after)
-some_step None is = cc
-some_step (Some after) is = (after, refl)
+some_step o is = grind (arith, common_steps)
 
 idle_if : (session : SessionState) → seat_pin session ≡ None → session ≡ Idle
-idle_if Idle is = refl
-idle_if _ is = cc
+idle_if session is = grind (arith, common_steps)
 
 pin_done : (start : World) (s : Store) (seat : ℕ) (events : List Event) → IsReached start events s
     → seat < length start.sessions → pin_at s.board.pins seat ≡ None
@@ -150,9 +142,7 @@ settle_done w s n held =
     move_done w s to_settle (session_of w s) next.0 (found_at w.sessions s n held) next.1
 
 held_entered : (last : ℕ) (session next : SessionState) → to_enter last session ≡ Some next → held_in next ≡ Some last
-held_entered last (Pinned pin) next is =
-    let e : Holding (record { pin = pin; settled = false; version = last }) ≡ next = cc in ap held_in (sym e)
-held_entered last _ next is = cc
+held_entered last session next is = grind (arith, common_steps)
 
 pub same_count : (d : DeskView) (w : World) → ShowsWorld d w → last_number w ≡ length d.last.batches
 same_count d w shows = sym (length-map w.versions (λ v. v.batch)) ∙ ap length shows.batches
@@ -171,11 +161,7 @@ entered_holds start s seat events r done =
 -- a store whose desk shows a start is reached
 start_reached : (start : MachineState) → IsStart start → (d : DeskView) → ShowsWorld d start.world
     → IsReached start.world [] (opened_store d)
-start_reached start is d shows = record {
-  desk = shows;
-  board = record { floor = is.floor; pins = λ seat. ap seat_pin (idle_at start seat is) ∙ sym (no_pin 16 seat) };
-  copied_is = is.copy;
-}
+start_reached start is d shows = grind (arith, common_steps, idle_at, no_pin)
 
 pub stays_reached : (start : MachineState) → IsStart start → StaysReached start.world
 stays_reached start is_start = record {

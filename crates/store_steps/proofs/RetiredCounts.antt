@@ -1,11 +1,9 @@
 -- How many blocks are retired, and how many free, once some are moved.
-use Rattle.std.proofs.Common.{◌≡◌, ℕ, zero, suc, ◌+◌, ◌≤◌, Bool, true, false, cond, List, [], ◌∷◌, length, get_or, set, count_by, sym, ap, arith}
-use Rattle.std.proofs.lemmas.List.{length-map}
-use Rattle.block_pool.specs.Pools.{retired, marked, changed}
-use Rattle.block_reclamation.specs.declared.status.BlockStatus.{BlockStatus}
+use Rattle.std.proofs.Common.{◌≡◌, ℕ, zero, suc, ◌+◌, ◌≤◌, Bool, cond, List, [], ◌∷◌, length, get_or, set, count_by, sym, ap}
+use Rattle.std.proofs.{Common.arith, lemmas.Grind.common_steps, lemmas.List.length-map}
+use Rattle.block_pool.{specs.Pools.retired, specs.Pools.marked, specs.Pools.changed, proofs.Tallies.count_more}
+use Rattle.block_reclamation.specs.{declared.status.BlockStatus.BlockStatus, Status.is_retired}
 use Rattle.block_reclamation.specs.declared.status.BlockStatus.TheVariants.{Free, Granted, Used}
-use Rattle.block_reclamation.specs.Status.{is_retired}
-use Rattle.block_pool.proofs.Tallies.{count_more}
 use Rattle.store_steps.proofs.Applications.{Application, next_desk, granted_pool, born_pool, dropped_numbers, number_in_desk}
 use Rattle.store_steps.proofs.Applications.{retired_pool, moves_left}
 
@@ -18,8 +16,7 @@ set_count (x ∷ xs) (suc i) s =
     set_count xs i s in omega arith
 
 one_at_most : (b : Bool) → cond b 1 0 ≤ 1
-one_at_most true = omega arith
-one_at_most false = omega arith
+one_at_most b = grind (arith, common_steps)
 
 -- each block that is retired is one more at most
 pub retired_more : (ns : List ℕ) (n : ℕ) (xs : List BlockStatus) → count_by is_retired (changed (retired n) ns xs) ≤ count_by

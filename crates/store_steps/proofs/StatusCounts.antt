@@ -1,16 +1,14 @@
 -- How many blocks are free, and how many retired, after a batch and after a collection.
-use Rattle.std.proofs.Common.{◌≡◌, ◌≢◌, ℕ, ◌+◌, ◌==◌, Bool, true, false, not, cond, ◌||◌, List, [], ◌∷◌}
-use Rattle.std.proofs.Common.{length, get_or, map, set, count_by, refl, sym, ap, ◌∙◌, arith, ◌&&◌, subst}
-use Rattle.std.specs.{Prelude.slice_get, Prelude.if◌then◌else◌, Option.option_map, declared.option.Option.TheVariants.Some}
-use Rattle.std.proofs.lemmas.{List.length-map, Bool.eq-eqb, Bool.true≢false, Bool.or_right, Option.slice_get_within}
-use Rattle.std.proofs.lemmas.Option.{get_or_from_slice_get}
+use Rattle.std.proofs.Common.{◌≡◌, ◌≢◌, ℕ, ◌+◌, ◌==◌, Bool, true, false, cond, ◌||◌, List, [], ◌∷◌, length, get_or, map, set}
+use Rattle.std.proofs.Common.{count_by, refl, sym, ap, ◌∙◌, arith, ◌&&◌, subst}
+use Rattle.std.{proofs.lemmas.Grind.common_steps, proofs.lemmas.List.length-map, specs.Option.option_map}
+use Rattle.std.proofs.lemmas.{Bool.eq-eqb, Bool.true≢false, Bool.or_right, Option.slice_get_within, Option.get_or_from_slice_get}
+use Rattle.std.specs.{Prelude.slice_get, Prelude.if◌then◌else◌, declared.option.Option.TheVariants.Some}
 use Rattle.block_pool.proofs.{Grants.length-marked, Tallies.count_here, Tallies.count_more}
+use Rattle.block_pool.specs.Pools.{retired, is_free_at, marked, changed, is_used_at}
 use Rattle.graph_types.specs.declared.batches.NamedOp.{NamedOp}
 use Rattle.block_reclamation.specs.Status.{is_listed, is_free, is_retired, is_reclaimable, recycled}
-use Rattle.block_reclamation.specs.declared.copies.PinCopy.{PinCopy}
-use Rattle.block_reclamation.specs.Copies.{needs}
-use Rattle.block_pool.specs.Pools.{retired, is_free_at, marked, changed, is_used_at}
-use Rattle.block_reclamation.specs.declared.status.BlockStatus.{BlockStatus}
+use Rattle.block_reclamation.specs.{declared.copies.PinCopy.PinCopy, Copies.needs, declared.status.BlockStatus.BlockStatus}
 use Rattle.block_reclamation.specs.declared.status.BlockStatus.TheVariants.{Free, Granted, Used, Retired}
 use Rattle.epoch_core.{specs.Blocks.all_differ, proofs.Lists.set_else, proofs.Lists.all_listed}
 use Rattle.store_steps.specs.Desks.{DeskView, IsAccepted, IsCollected, AcceptedCounts, CollectedCounts, is_retired_by, birth_of, birth_at}
@@ -41,8 +39,7 @@ have_tail s t pool n ns apart have m is =
 
 -- numbers of one status are all set to another
 fewer : (p : BlockStatus → Bool) (s t : BlockStatus) (ns : List ℕ) (pool : List BlockStatus) → p s ≡ true → p t ≡ false → all_differ ns ≡ true
-    → AllHave s pool ns
-    → count_by p (marked ns t pool) + length ns ≡ count_by p pool
+    → AllHave s pool ns → count_by p (marked ns t pool) + length ns ≡ count_by p pool
 fewer p s t [] pool was is apart have = omega arith
 fewer p s t (n ∷ ns) pool was is apart have =
     let one = count_set p pool n s t (have_head s pool n ns have) in
@@ -52,8 +49,7 @@ fewer p s t (n ∷ ns) pool was is apart have =
     omega arith
 
 more : (p : BlockStatus → Bool) (s t : BlockStatus) (ns : List ℕ) (pool : List BlockStatus) → p s ≡ false → p t ≡ true → all_differ ns ≡ true
-    → AllHave s pool ns
-    → count_by p (marked ns t pool) ≡ count_by p pool + length ns
+    → AllHave s pool ns → count_by p (marked ns t pool) ≡ count_by p pool + length ns
 more p s t [] pool was is apart have = omega arith
 more p s t (n ∷ ns) pool was is apart have =
     let one = count_set p pool n s t (have_head s pool n ns have) in
@@ -63,8 +59,7 @@ more p s t (n ∷ ns) pool was is apart have =
     omega arith
 
 as_many : (p : BlockStatus → Bool) (s t : BlockStatus) (ns : List ℕ) (pool : List BlockStatus) → p s ≡ p t → all_differ ns ≡ true
-    → AllHave s pool ns
-    → count_by p (marked ns t pool) ≡ count_by p pool
+    → AllHave s pool ns → count_by p (marked ns t pool) ≡ count_by p pool
 as_many p s t [] pool same apart have = refl
 as_many p s t (n ∷ ns) pool same apart have =
     let one = count_set p pool n s t (have_head s pool n ns have) in
@@ -136,11 +131,7 @@ born_in pool taken dropped legal m is = all_listed (is_used_at pool) dropped m l
 -- no block is both taken and dropped
 not_taken : (pool : List BlockStatus) (taken dropped : List ℕ) → IsLegalBatch pool taken dropped → (m : ℕ) → is_listed m dropped ≡ true
     → is_listed m taken ≡ false
-not_taken pool taken dropped legal m is = elim (is_listed m taken) as (λ t. is_listed m taken ≡ t → t ≡ false) [
-  | true ↦ λ both. absurd (not_both (slice_get pool m) (all_listed (is_free_at pool) taken m legal.free both)
-      (born_in pool taken dropped legal m is))
-  | false ↦ λ _. refl
-] refl
+not_taken pool taken dropped legal m is = grind (arith, common_steps, not_both, all_listed, born_in)
 
 dropped_have : (pool : List BlockStatus) (number : ℕ) (taken dropped : List ℕ) → IsLegalBatch pool taken dropped
     → AllBorn (marked taken (Used number) pool) (birth_at pool) dropped
@@ -149,8 +140,7 @@ dropped_have pool number taken dropped legal m is =
     let here : birth_at pool m ≡ born.0 = ap birth_of (get_or_from_slice_get pool m (Used born.0) Granted born.1) in
     marked_at taken (Used number) pool m
     ∙ ap (λ t. if t then option_map (λ _. Used number) (slice_get pool m) else slice_get pool m)
-    (not_taken pool taken dropped legal m is)
-    ∙ born.1 ∙ ap (λ b. Some (Used b)) (sym here)
+    (not_taken pool taken dropped legal m is) ∙ born.1 ∙ ap (λ b. Some (Used b)) (sym here)
 
 all_of : (bs : List ℕ) → count_by (λ _. true) bs ≡ length bs
 all_of [] = refl
@@ -183,18 +173,14 @@ accepted_counts old new ops taken dropped accepted =
           ∙ (retired_counts (is_retired_by q) number births dropped granted (λ b. refl) legal.dropped_apart born
           ∙ ap (λ k. k + count_by (λ birth. q birth number) (map births dropped))
           (as_many (is_retired_by q) Free (Used number) taken old.pool refl legal.apart free));
-      blocks = ap length same
-          ∙ (length-changed (retired number) dropped granted ∙ length-marked taken (Used number) old.pool);
+      blocks = ap length same ∙ (length-changed (retired number) dropped granted ∙ length-marked taken (Used number) old.pool);
     }
 
 -- A collection
 
 free_one : (copy : PinCopy) (s : BlockStatus) → cond {A = ℕ} (is_free (recycled copy s)) 1 0
     ≡ cond (is_free s) 1 0 + cond (is_reclaimable copy s) 1 0
-free_one copy (Retired b v) =
-    elim (is_reclaimable copy (Retired b v)) as (λ t. cond {A = ℕ} (is_free (if t then Free else Retired b v)) 1 0
-    ≡ cond (is_free (Retired b v)) 1 0 + cond t 1 0) [ true ↦ refl | false ↦ refl ]
-free_one copy _ = refl
+free_one copy s = grind (arith, common_steps)
 
 free_more : (copy : PinCopy) (pool : List BlockStatus) → count_by is_free (map (recycled copy) pool)
     ≡ count_by is_free pool + count_by (is_reclaimable copy) pool
@@ -207,26 +193,9 @@ free_more copy (s ∷ pool) =
     let rest = free_more copy pool in
     omega arith
 
-needed_one : (q : ℕ → ℕ → Bool) (copy : PinCopy) (s : BlockStatus) → is_retired_by q (recycled copy s)
-    ≡ is_retired_by (λ birth retirement. needs copy birth retirement && q birth retirement) s
-needed_one q copy (Retired b v) = elim (needs copy b v) as (λ t.
-    is_retired_by q (if not t then Free else Retired b v) ≡ (t && q b v)) [
-      | true ↦ refl
-      | false ↦ refl
-    ]
-needed_one q copy _ = refl
-
 needed_all : (q : ℕ → ℕ → Bool) (copy : PinCopy) (pool : List BlockStatus) → count_by (is_retired_by q) (map (recycled copy) pool)
     ≡ count_by (is_retired_by (λ birth retirement. needs copy birth retirement && q birth retirement)) pool
-needed_all q copy [] = refl
-needed_all q copy (s ∷ pool) =
-    let a = count_more (is_retired_by q) (recycled copy s) (map (recycled copy) pool) in
-    let b = count_more (is_retired_by (λ birth retirement. needs copy birth retirement && q birth retirement)) s pool in
-    let one : (let n : ℕ = cond (is_retired_by q (recycled copy s)) 1 0 in n)
-    ≡ cond (is_retired_by (λ birth retirement. needs copy birth retirement && q birth retirement) s) 1 0 =
-    ap (λ t. cond t 1 0) (needed_one q copy s) in
-    let rest = needed_all q copy pool in
-    omega arith
+needed_all q copy pool = grind (arith, common_steps)
 
 pub collected_counts : (old new : DeskView) (copy : PinCopy) → IsCollected old copy new → CollectedCounts old copy new
 collected_counts old new copy collected =

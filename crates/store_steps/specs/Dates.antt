@@ -1,9 +1,7 @@
 -- The numbers of versions that a desk's blocks carry.
 use Rattle.std.specs.Prelude.{◌≡◌, ℕ, ◌<◌, ◌≤◌, Bool, false, List, slice_get}
-use Rattle.std.specs.declared.option.Option.{Option}
-use Rattle.std.specs.declared.option.Option.TheVariants.{Some}
-use Rattle.block_reclamation.specs.Status.{is_listed}
-use Rattle.block_reclamation.specs.declared.status.BlockStatus.{BlockStatus}
+use Rattle.std.specs.declared.option.Option.{Option, TheVariants.Some}
+use Rattle.block_reclamation.specs.{Status.is_listed, declared.status.BlockStatus.BlockStatus}
 use Rattle.block_reclamation.specs.declared.status.BlockStatus.TheVariants.{Granted, Used, Retired}
 
 -- beside a last version of this number: no block is left granted; a block was born with one of the versions, and with version 0

@@ -1,22 +1,16 @@
 -- A desk: the blocks that it opened with, the last version, the journal, and what each block number is. A batch and a
 -- collection change it.
-use Rattle.std.specs.Prelude.{◌≡◌, ℕ, ◌+◌, ◌==◌, List, [], ◌∷◌, ◌++◌, length, map, count_by, slice_index_or, All, Contains}
-use Rattle.std.specs.Prelude.{Bool, true, false, ◌&&◌, if◌then◌else◌}
-use Rattle.std.specs.declared.option.Option.TheVariants.{Some}
-use Rattle.graph_types.specs.declared.batches.NamedOp.{NamedOp}
-use Rattle.graph_types.specs.Step.{after_all}
-use Rattle.edge_block.specs.Slots.{BlockView}
-use Rattle.edge_block.specs.Batches.{layout_after, taken_by, dropped_by}
+use Rattle.std.specs.Prelude.{◌≡◌, ℕ, ◌+◌, ◌==◌, List, [], ◌∷◌, ◌++◌, length, map, count_by, slice_index_or, All, Contains, Bool}
+use Rattle.std.specs.{Prelude.true, Prelude.false, Prelude.◌&&◌, Prelude.if◌then◌else◌, declared.option.Option.TheVariants.Some}
+use Rattle.graph_types.specs.{declared.batches.NamedOp.NamedOp, Step.after_all}
+use Rattle.edge_block.specs.{Slots.BlockView, Batches.layout_after, Batches.taken_by, Batches.dropped_by}
 use Rattle.graph_version.specs.Rows.{row_of, blocks_of, numbers_of}
 use Rattle.graph_version.specs.Versions.{VersionView, IsVersion, content, layout_of}
 use Rattle.block_reclamation.specs.Status.{is_listed, is_free, is_retired, is_reclaimable, recycled}
-use Rattle.block_reclamation.specs.declared.copies.PinCopy.{PinCopy}
-use Rattle.block_reclamation.specs.Copies.{needs}
-use Rattle.block_pool.specs.Pools.{AreFree, is_used_at}
-use Rattle.block_reclamation.specs.declared.status.BlockStatus.{BlockStatus}
+use Rattle.block_reclamation.specs.{declared.copies.PinCopy.PinCopy, Copies.needs, declared.status.BlockStatus.BlockStatus}
 use Rattle.block_reclamation.specs.declared.status.BlockStatus.TheVariants.{Granted, Used, Retired}
-use Rattle.batch_shards.specs.Births.{births_after, dropped_births, CarriesBirths}
-use Rattle.batch_shards.specs.Done.{Exchanges}
+use Rattle.block_pool.specs.Pools.{AreFree, is_used_at}
+use Rattle.batch_shards.specs.{Births.births_after, Births.dropped_births, Births.CarriesBirths, Done.Exchanges}
 use Rattle.store_steps.specs.Journal.{Entry, Applied, Collected, Ledger, opened_ledger, replay, is_legal, after_entry, exchanged}
 
 -- `opened` are the numbers of version 0's blocks, which later versions drop one by one

@@ -2,30 +2,21 @@
 -- events of a batch and of a collection, and a board beside sessions.
 use Rattle.std.specs.Prelude.{◌≡◌, pos, ℕ, List, [], ◌∷◌, ◌++◌, map, replicate, true, false, Some, None}
 use Rattle.std.specs.List.{range_with_len}
-use Rattle.graph_types.specs.Graph.{graph_of, content_of}
-use Rattle.graph_types.specs.Step.{empty_graph}
-use Rattle.graph_types.specs.declared.contents.Content.{Content}
-use Rattle.edge_block.specs.Slots.{BlockView, edge_slot}
-use Rattle.edge_block.specs.Rows.{OpenBlock, Shape, row_end}
+use Rattle.graph_types.specs.{Graph.graph_of, Graph.content_of, Step.empty_graph, declared.contents.Content.Content}
+use Rattle.edge_block.specs.{Slots.BlockView, Slots.edge_slot, Rows.OpenBlock, Rows.Shape, Rows.row_end}
 use Rattle.edge_block.specs.Examples.{insert_at, remove_at, row_by, many}
 use Rattle.graph_version.specs.Versions.{VersionView, empty_version}
 use Rattle.batch_shards.specs.Births.{births_end, births_dropped}
-use Rattle.block_reclamation.specs.declared.status.BlockStatus.{BlockStatus}
+use Rattle.block_reclamation.specs.{declared.status.BlockStatus.BlockStatus, Board.BoardState, Board.no_pins, Board.with_pin}
 use Rattle.block_reclamation.specs.declared.status.BlockStatus.TheVariants.{Free, Used, Retired, Granted}
-use Rattle.block_reclamation.specs.declared.copies.PinCopy.{PinCopy}
-use Rattle.block_reclamation.specs.Copies.{no_copy, unsettled}
+use Rattle.block_reclamation.specs.{declared.copies.PinCopy.PinCopy, Copies.no_copy, Copies.unsettled}
 use Rattle.epoch_core.specs.declared.session_states.SessionState.TheVariants.{Idle, Pinned, Holding}
 use Rattle.epoch_core.specs.declared.events.Event.TheVariants.{Take, Fill, Post, Recycle, Pin, Enter}
 use Rattle.epoch_core.specs.Examples.{name_a, name_b, kind_k, put_edge, edge_of}
 use Rattle.epoch_core.specs.Worlds.{World, empty_opening, start_world, session_of, held_in}
-use Rattle.block_reclamation.specs.Board.{BoardState, no_pins, with_pin}
 use Rattle.store_steps.specs.Journal.{Entry, Applied, Collected, Ledger, opened_ledger, replay}
-use Rattle.store_steps.specs.Desks.{DeskView, desk_after, collections}
-use Rattle.store_steps.specs.Shown.{ShowsWorld}
-use Rattle.store_steps.specs.Boards.{ShowsBoard}
-use Rattle.store_steps.specs.Steps.{all_done, posting, recycling}
-use Rattle.store_steps.specs.Opening.{opened_desk, opened_start}
-use Rattle.store_steps.specs.Reached.{world_by}
+use Rattle.store_steps.specs.{Desks.DeskView, Desks.desk_after, Desks.collections, Steps.all_done, Steps.posting, Steps.recycling}
+use Rattle.store_steps.specs.{Shown.ShowsWorld, Boards.ShowsBoard, Opening.opened_desk, Opening.opened_start, Reached.world_by}
 
 -- a copy without pins
 abbrev pub unpinned : ℕ → PinCopy

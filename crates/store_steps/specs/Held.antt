@@ -2,12 +2,10 @@
 use Rattle.std.specs.Prelude.{◌≡◌, ℕ, ◌≤◌, false, List, length, take, slice_get, Some, IsTrue}
 use Rattle.graph_types.specs.Step.{left_by}
 use Rattle.block_reclamation.specs.Status.{is_free, is_reclaimable, is_at, is_listed}
-use Rattle.epoch_core.specs.declared.events.Event.{Event}
-use Rattle.epoch_core.specs.Worlds.{World, MachineState, IsStart, session_of, held_in}
-use Rattle.epoch_core.specs.Versions.{AreEdgesOf, blocks_at, edges_of}
 use Rattle.block_reclamation.specs.declared.copies.PinCopy.{PinCopy}
-use Rattle.store_steps.specs.Desks.{DeskView}
-use Rattle.store_steps.specs.Reached.{Store, world_by, IsReached}
+use Rattle.epoch_core.specs.{declared.events.Event.Event, Versions.AreEdgesOf, Versions.blocks_at, Versions.edges_of}
+use Rattle.epoch_core.specs.Worlds.{World, MachineState, IsStart, session_of, held_in}
+use Rattle.store_steps.specs.{Desks.DeskView, Reached.Store, Reached.world_by, Reached.IsReached}
 
 -- version n as the desk and the machine show it now: its blocks have, each once, the edges that the desk's first n
 -- batches leave; and none of its blocks is free, or freed by a collection by the copy made last
@@ -22,5 +20,4 @@ pub record IsSnapshot (d : DeskView) (copy : PinCopy) (w : World) (n : ℕ) : Ty
 abbrev pub HeldIsSnapshot : Type 0
 HeldIsSnapshot =
     (start : MachineState) (events : List Event) (s : Store) (seat n : ℕ) → IsStart start → IsReached start.world events s
-    → held_in (session_of (world_by start.world events) seat) ≡ Some n
-    → IsSnapshot s.desk s.copy (world_by start.world events) n
+    → held_in (session_of (world_by start.world events) seat) ≡ Some n → IsSnapshot s.desk s.copy (world_by start.world events) n

@@ -1,17 +1,10 @@
 -- The steps of the store's calls inside whole runs of the machine.
-use Rattle.std.specs.Prelude.{◌≡◌, ℕ, List}
-use Rattle.std.specs.declared.option.Option.TheVariants.{Some}
-use Rattle.epoch_core.specs.declared.events.Event.{Event}
-use Rattle.epoch_core.specs.declared.events.Event.TheVariants.{Enter, Ask, Read, Reply}
-use Rattle.epoch_core.specs.Worlds.{World}
-use Rattle.epoch_core.specs.Machine.{step}
-use Rattle.epoch_core.specs.Runs.{run}
+use Rattle.std.specs.{Prelude.◌≡◌, Prelude.ℕ, Prelude.List, declared.option.Option.TheVariants.Some}
+use Rattle.epoch_core.specs.declared.events.Event.{Event, TheVariants.Enter, TheVariants.Ask, TheVariants.Read, TheVariants.Reply}
+use Rattle.epoch_core.specs.{Worlds.World, Machine.step, Runs.run}
 use Rattle.graph_types.specs.declared.requests.Request.{Request}
 use Rattle.block_reclamation.specs.Board.{BoardState}
-use Rattle.store_steps.specs.Desks.{DeskView}
-use Rattle.store_steps.specs.Shown.{ShowsWorld}
-use Rattle.store_steps.specs.Boards.{ShowsBoard}
-use Rattle.store_steps.specs.Steps.{all_done}
+use Rattle.store_steps.specs.{Desks.DeskView, Shown.ShowsWorld, Boards.ShowsBoard, Steps.all_done}
 
 -- events that are all done are a run of the machine
 abbrev pub DoneIsRun : Type 0

@@ -1,17 +1,12 @@
 -- The journal of a store: accepted batches and collections, and what replaying it leaves.
 use Rattle.std.specs.Prelude.{ℕ, ◌+◌, ◌==◌, nat_le, nat_lt, List, [], ◌∷◌, ◌++◌, map, length, count_by, replicate, Bool, ◌&&◌}
-use Rattle.std.specs.Prelude.{if◌then◌else◌}
-use Rattle.std.specs.List.{list_all}
-use Rattle.std.specs.Option.{option_and_then}
-use Rattle.std.specs.declared.option.Option.{Option}
-use Rattle.std.specs.declared.option.Option.TheVariants.{None, Some}
+use Rattle.std.specs.{Prelude.if◌then◌else◌, List.list_all, Option.option_and_then}
+use Rattle.std.specs.declared.option.Option.{Option, TheVariants.None, TheVariants.Some}
 use Rattle.graph_types.specs.declared.batches.NamedOp.{NamedOp}
 use Rattle.epoch_core.specs.Blocks.{all_differ}
-use Rattle.block_reclamation.specs.declared.copies.PinCopy.{PinCopy}
+use Rattle.block_reclamation.specs.{declared.copies.PinCopy.PinCopy, Status.is_reclaimable, Status.recycled}
+use Rattle.block_reclamation.specs.declared.status.BlockStatus.{BlockStatus, TheVariants.Free, TheVariants.Used}
 use Rattle.block_pool.specs.Pools.{is_free_at, retired, marked, changed, is_used_at}
-use Rattle.block_reclamation.specs.declared.status.BlockStatus.{BlockStatus}
-use Rattle.block_reclamation.specs.declared.status.BlockStatus.TheVariants.{Free, Used}
-use Rattle.block_reclamation.specs.Status.{is_reclaimable, recycled}
 
 -- an accepted batch with the numbers of the blocks that it took and dropped, or a collection with its copy of the pins and
 -- how many blocks it recycled

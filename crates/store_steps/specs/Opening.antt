@@ -1,18 +1,14 @@
 -- A store at its opening, over a version that becomes its version 0.
 use Rattle.std.specs.Prelude.{◌≡◌, ℕ, ◌<◌, [], map, replicate, All}
-use Rattle.graph_types.specs.Graph.{IsContent}
-use Rattle.graph_types.specs.declared.contents.Content.{Content}
-use Rattle.graph_version.specs.Rows.{blocks_of, numbers_of}
-use Rattle.graph_version.specs.Versions.{VersionView, IsVersion, empty_version}
+use Rattle.graph_types.specs.{Graph.IsContent, declared.contents.Content.Content}
+use Rattle.graph_version.specs.{Rows.blocks_of, Rows.numbers_of, Versions.VersionView, Versions.IsVersion, Versions.empty_version}
 use Rattle.graph_version.specs.Edges.{edges_in_block}
 use Rattle.block_pool.specs.Pools.{marked}
 use Rattle.block_reclamation.specs.declared.status.BlockStatus.TheVariants.{Free, Used}
+use Rattle.block_reclamation.specs.Board.{no_pins}
 use Rattle.epoch_core.specs.Worlds.{MachineState, IsStart, start_world}
 use Rattle.epoch_core.specs.Opened.{Lists, IsOpening, opened_state}
-use Rattle.block_reclamation.specs.Board.{no_pins}
-use Rattle.store_steps.specs.Desks.{DeskView, IsDesk}
-use Rattle.store_steps.specs.Shown.{ShowsWorld}
-use Rattle.store_steps.specs.Boards.{ShowsBoard}
+use Rattle.store_steps.specs.{Desks.DeskView, Desks.IsDesk, Shown.ShowsWorld, Boards.ShowsBoard}
 
 -- version 0, an empty journal, and all blocks free but those of version 0, which have birth 0
 abbrev pub opened_desk : ℕ → VersionView → DeskView

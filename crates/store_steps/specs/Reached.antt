@@ -1,19 +1,13 @@
 -- A store beside a run of the machine from a start: each call adds the events that it is.
 use Rattle.std.specs.Prelude.{◌≡◌, ℕ, ◌<◌, ◌≤◌, List, [], ◌∷◌, ◌++◌, length, Option, Some, None, option_map, IsTrue}
-use Rattle.epoch_core.specs.declared.events.Event.{Event}
+use Rattle.epoch_core.specs.{declared.events.Event.Event, Worlds.World, Worlds.session_of, Worlds.held_in, Runs.run, Runs.is_done}
 use Rattle.epoch_core.specs.declared.events.Event.TheVariants.{Floor, Pin, Enter, Settle, Ask, Read, Reply, Release}
-use Rattle.epoch_core.specs.Worlds.{World, session_of, held_in}
-use Rattle.epoch_core.specs.Runs.{run, is_done}
 use Rattle.graph_types.specs.declared.requests.Request.{Request}
-use Rattle.block_reclamation.specs.declared.copies.PinCopy.{PinCopy}
+use Rattle.block_reclamation.specs.declared.copies.{PinCopy.PinCopy, Pin.Pin as SeatPin, TheConstants.SEATS}
 use Rattle.block_reclamation.specs.Copies.{no_copy, pin_at, unsettled, settled, copy_of}
 use Rattle.block_reclamation.specs.Board.{BoardState, IsBoard, no_pins, with_pin}
-use Rattle.block_reclamation.specs.declared.copies.Pin.{Pin as SeatPin}
-use Rattle.block_reclamation.specs.declared.copies.TheConstants.{SEATS}
 use Rattle.store_steps.specs.Desks.{DeskView}
-use Rattle.store_steps.specs.Shown.{ShowsWorld}
-use Rattle.store_steps.specs.Boards.{ShowsBoard, raised_board}
-use Rattle.store_steps.specs.Steps.{Takes, TakesAt}
+use Rattle.store_steps.specs.{Shown.ShowsWorld, Boards.ShowsBoard, Boards.raised_board, Steps.Takes, Steps.TakesAt}
 
 -- the world that these events leave of a start
 abbrev pub world_by : World → List Event → World
@@ -71,16 +65,14 @@ pub record StaysReached (start : World) : Type 0 where
       → Leads start events s (Floor ∷ []) (raised_store s)
   pub pinned :
       (s : Store) (seat : ℕ) (events : List Event) → IsBoard s.board → seat < SEATS → seat < length start.sessions
-      → pin_at s.board.pins seat ≡ None
-      → Leads start events s (Pin seat ∷ []) (with_seat s seat (Some (unsettled s.board.floor)))
+      → pin_at s.board.pins seat ≡ None → Leads start events s (Pin seat ∷ []) (with_seat s seat (Some (unsettled s.board.floor)))
   pub settled :
       (s : Store) (seat n : ℕ) (events : List Event) → IsBoard s.board → seat < SEATS
       → held_in (session_of (world_by start events) seat) ≡ Some n
       → Leads start events s (Settle seat ∷ []) (with_seat s seat (option_map (settled n) (pin_at s.board.pins seat)))
   pub unpinned :
       (s : Store) (seat : ℕ) (events : List Event) → IsBoard s.board → seat < SEATS
-      → IsTrue (is_done (world_by start events) (Release seat))
-      → Leads start events s (Release seat ∷ []) (with_seat s seat None)
+      → IsTrue (is_done (world_by start events) (Release seat)) → Leads start events s (Release seat ∷ []) (with_seat s seat None)
   -- a reader's events, which change nothing of the store
   pub enter : (seat : ℕ) → IsReaders start (Enter seat)
   pub ask : (seat : ℕ) (request : Request) → IsReaders start (Ask seat request)

@@ -1,9 +1,7 @@
 -- Worlds of the machine of interleavings that a desk shows. What it doesn't show is open: sessions, floor and pins.
 use Rattle.std.specs.Prelude.{◌≡◌, length, map, All}
-use Rattle.graph_version.specs.Rows.{blocks_of}
-use Rattle.graph_version.specs.Edges.{edges_in_block}
-use Rattle.epoch_core.specs.Worlds.{World, last_blocks}
-use Rattle.epoch_core.specs.Versions.{edges_at, opening_graph}
+use Rattle.graph_version.specs.{Rows.blocks_of, Edges.edges_in_block}
+use Rattle.epoch_core.specs.{Worlds.World, Worlds.last_blocks, Versions.edges_at, Versions.opening_graph}
 use Rattle.store_steps.specs.Desks.{DeskView, last_numbers}
 
 -- the desk shows this world: its opening graph and the blocks of it, its batches, the list of its last version's blocks, the

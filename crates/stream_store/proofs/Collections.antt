@@ -1,42 +1,27 @@
 -- What a desk keeps at its opening, and over a collection.
-use Rattle.std.proofs.Common.{◌≡◌, ℕ, zero, suc, ◌+◌, ◌≤◌, List, [], ◌∷◌, replicate, length, refl, sym, ap, ◌∙◌, arith, count_by}
-use Rattle.std.specs.Prelude.{slice_set}
+use Rattle.std.proofs.Common.{◌≡◌, ℕ, zero, suc, ◌+◌, ◌≤◌, List, [], ◌∷◌, replicate, length, refl, sym, arith, count_by}
+use Rattle.std.{proofs.lemmas.Grind.common_steps, specs.Prelude.slice_set}
 use Rattle.logbook.specs.Pages.{Book}
-use Rattle.graph_version.specs.Rows.{blocks_of, numbers_of}
-use Rattle.graph_version.specs.Versions.{VersionView}
-use Rattle.block_pool.specs.Pools.{marked}
-use Rattle.block_reclamation.specs.declared.status.BlockStatus.{BlockStatus}
-use Rattle.block_reclamation.specs.declared.status.BlockStatus.TheVariants.{Free, Used}
-use Rattle.block_reclamation.specs.Status.{is_retired}
-use Rattle.block_pool.proofs.Tallies.{count_more}
-use Rattle.block_reclamation.specs.declared.copies.PinCopy.{PinCopy}
+use Rattle.graph_version.specs.{Rows.blocks_of, Rows.numbers_of, Versions.VersionView}
+use Rattle.block_pool.{specs.Pools.marked, proofs.Tallies.count_more}
+use Rattle.block_reclamation.specs.declared.status.BlockStatus.{BlockStatus, TheVariants.Free, TheVariants.Used}
+use Rattle.block_reclamation.specs.{Status.is_retired, declared.copies.PinCopy.PinCopy}
 use Rattle.version_shelf.specs.Shelves.{ShelfView, opened_shelf}
-use Rattle.store_steps.specs.Opening.{IsVersionZero, opened_desk}
+use Rattle.store_steps.{specs.Opening.IsVersionZero, specs.Opening.opened_desk, proofs.OpeningShown.opened_is_desk}
 use Rattle.store_steps.proofs.CollectedDesk.{desk_collected, is_collected, collected_is_desk}
-use Rattle.store_steps.proofs.OpeningShown.{opened_is_desk}
 use Rattle.stream_store.specs.Kept.{DeskState, IsDeskState}
 
 -- what is kept holds of equal values too
 pub kept_same : (d e : DeskState) (s t : ShelfView) (entries room others more : ℕ) → IsDeskState d s entries room
-    → e ≡ d → t ≡ s → others ≡ entries → room ≤ more
-    → IsDeskState e t others more
-kept_same d e s t entries room others more kept same shelf len grows = record {
-  desk = rw same kept.desk;
-  book_is = rw (same, shelf) kept.book_is;
-  opening_is = rw (same, shelf) kept.opening_is;
-  posted_is = rw (same, shelf) kept.posted_is;
-  workers_some = rw same kept.workers_some;
-  workers_few = rw same kept.workers_few;
-  room_is = let count = ap (λ (x : DeskState). count_by is_retired x.desk.pool) same in let room = kept.room_is in omega arith;
-}
+    → e ≡ d → t ≡ s → others ≡ entries → room ≤ more → IsDeskState e t others more
+kept_same d e s t entries room others more kept same shelf len grows = grind (arith, common_steps)
 
 pub same_room : (n : ℕ) → n ≤ n
 same_room n = omega arith
 
 -- no block is retired at an opening
 none_retired : (n : ℕ) → count_by is_retired (replicate n Free) ≡ 0
-none_retired zero = refl
-none_retired (suc n) = let more = none_retired n in cc
+none_retired n = grind (arith, common_steps)
 
 set_unretired : (xs : List BlockStatus) (n : ℕ) → count_by is_retired xs ≡ 0 → count_by is_retired (slice_set xs n (Used 0)) ≡ 0
 set_unretired [] n none = none
@@ -74,13 +59,5 @@ pub collection_kept : (d e : DeskState) (copy : PinCopy) (s : ShelfView) (entrie
     → IsDeskState d s entries capacity
     → copy.last ≤ length d.desk.last.batches → e ≡ state_collected d copy → others + count_by is_retired e.desk.pool ≤ room
     → IsDeskState e s others room
-collection_kept d e copy s entries capacity others room kept low is fits = record {
-  desk = collected_is_desk d.desk e.desk copy kept.desk low
-      (is_collected d.desk e.desk copy (ap (λ (x : DeskState). x.desk) is));
-  book_is = kept.book_is ∙ sym (ap (λ (x : DeskState). x.book) is);
-  opening_is = kept.opening_is ∙ sym (ap (λ (x : DeskState). x.desk.last.opening) is);
-  posted_is = kept.posted_is ∙ sym (ap (λ (x : DeskState). x.desk.last.batches) is);
-  workers_some = let same = ap (λ (x : DeskState). x.workers) is in let some = kept.workers_some in omega arith;
-  workers_few = let same = ap (λ (x : DeskState). x.workers) is in let few = kept.workers_few in omega arith;
-  room_is = fits;
-}
+collection_kept d e copy s entries capacity others room kept low is fits =
+    grind (arith, common_steps, collected_is_desk, is_collected)

@@ -1,34 +1,31 @@
 -- A batch handed over: what the desk's call does with what was made of it.
-use Rattle.std.proofs.Common.{◌≡◌, ℕ, zero, suc, ◌+◌, ◌<◌, ◌≤◌, ◌==◌, true, false, List, [], ◌∷◌, ◌++◌, length, get_or, map}
-use Rattle.std.proofs.Common.{refl, sym, ap, subst, ◌∙◌, arith, count_by, vec_len}
-use Rattle.std.specs.{Prelude.All, List.sum_by, Arc.arc_value, declared.sync.Arc.Arc, declared.alloc.Global.Global}
-use Rattle.std.proofs.lemmas.{List.map-append, List.length-map, Bool.eq-eqb, Bool.or_right}
-use Rattle.graph_types.specs.{Limits.batch_limit, declared.batches.NamedOp.NamedOp}
+use Rattle.std.proofs.Common.{◌≡◌, ℕ, ◌+◌, ◌≤◌, true, false, List, [], ◌∷◌, ◌++◌, length, map, refl, sym, ap, subst, ◌∙◌, arith}
+use Rattle.std.{proofs.Common.count_by, proofs.Common.vec_len, proofs.lemmas.Grind.common_steps, specs.declared.sync.Arc.Arc}
+use Rattle.std.{proofs.lemmas.List.map-append, proofs.lemmas.List.length-map, specs.declared.alloc.Global.Global}
+use Rattle.std.specs.{Prelude.All, List.sum_by, Arc.arc_value}
+use Rattle.graph_types.specs.declared.batches.NamedOp.{NamedOp}
 use Rattle.edge_block.specs.declared.blocks.Block.{Block}
-use Rattle.graph_version.specs.Rows as rows
 use Rattle.batch_shards.specs.RowBlocks.{block_of, blocks_of, numbers_of}
-use Rattle.graph_version.specs.declared.versions.Version.{Version}
-use Rattle.graph_version.specs.Versions.{VersionView, content}
+use Rattle.graph_version.specs.{declared.versions.Version.Version, Versions.VersionView, Versions.content}
 use Rattle.block_reclamation.specs.Status.{is_listed, is_free, is_retired, is_in_use}
-use Rattle.block_pool.specs.Pools.{retired, marked, changed, AreFree}
 use Rattle.block_reclamation.specs.declared.status.BlockStatus.{BlockStatus}
 use Rattle.block_reclamation.specs.declared.status.BlockStatus.TheVariants.{Free, Granted, Used}
-use Rattle.version_shelf.specs.Shelves.{ShelfView, IsNext}
-use Rattle.store_steps.specs.Journal as journal
-use Rattle.store_steps.specs.{Desks.DeskView, Desks.IsDesk, Desks.FollowsLayout, Steps.Accepts}
+use Rattle.block_pool.specs.Pools.{retired, marked, changed, AreFree}
+use Rattle.version_shelf.specs.Shelves.{ShelfView}
+use Rattle.store_steps.{specs.Desks.DeskView, specs.Desks.IsDesk, specs.Desks.FollowsLayout, proofs.BatchLaws.accepted_steps}
+use Rattle.store_steps.specs.Steps.{Accepts}
 use Rattle.store_steps.proofs.Applications.{Application, next_desk, born_pool, retired_pool, moves_left}
-use Rattle.store_steps.proofs.{Accepting.made_accepted, Accepting.made_desk, BatchLaws.accepted_steps, RetiredCounts.retired_room}
-use Rattle.store_steps.proofs.GrantedBlocks.{taken_granted, taken_movable, dropped_movable, unused_movable}
-use Rattle.store_steps.proofs.GrantedBlocks.{granted_movable, given_back, born_movable, born_given_back, granted_unlisted}
-use Rattle.batch_apply.specs.{Planned.MeetsNeitherLimit, declared.plans.Plan.Plan}
-use Rattle.batch_apply.proofs.Asked.{needs_within}
-use Rattle.stream_store.specs.declared.entries.JournalEntry.{JournalEntry}
-use Rattle.stream_store.specs.declared.entries.JournalEntry.TheVariants as entries
-use Rattle.stream_store.specs.{declared.applying.Prepared.Prepared, declared.receipts.ApplyError.ApplyError, Applying.IsPrepared}
-use Rattle.stream_store.specs.declared.receipts.ApplyError.TheVariants.{BatchLimit, NamesFull, KindsFull, PoolEmpty, OutOfMemory}
-use Rattle.stream_store.specs.{Kept.DeskState, Kept.IsDeskState, Kept.entry_of, Moves.AreUsedOnce, Moves.AreBornOnce}
+use Rattle.store_steps.proofs.{Accepting.made_accepted, Accepting.made_desk, RetiredCounts.retired_room}
+use Rattle.store_steps.proofs.GrantedBlocks.{taken_granted, taken_movable, dropped_movable, unused_movable, granted_movable}
+use Rattle.store_steps.proofs.GrantedBlocks.{given_back, born_movable, born_given_back}
+use Rattle.batch_apply.{specs.declared.plans.Plan.Plan, proofs.Asked.needs_within}
+use Rattle.stream_store.specs.declared.{entries.JournalEntry.JournalEntry, receipts.ApplyError.ApplyError}
+use Rattle.stream_store.specs.{declared.applying.Prepared.Prepared, Kept.DeskState, Kept.IsDeskState, Kept.entry_of}
+use Rattle.stream_store.specs.Applying.{IsPrepared}
+use Rattle.stream_store.{specs.Moves.AreUsedOnce, specs.Moves.AreBornOnce, proofs.UsedBlocks.used_blocks}
 use Rattle.stream_store.specs.Refusals.{Refuses, RefusesGrant, IsAdmitted, IsWithin, asked, block_count, workers_for}
-use Rattle.stream_store.proofs.UsedBlocks.{used_blocks}
+use Rattle.graph_version.specs.Rows as rows
+use Rattle.stream_store.specs.declared.entries.JournalEntry.TheVariants as entries
 
 pub record Handing : Type 0 where
   pub old : DeskView
@@ -85,10 +82,7 @@ grant_within d v workers ops plan desk last admitted =
 -- as many blocks were granted as numbers
 pub granted_many : (blocks : List (Arc Block Global)) (numbers : List ℕ) (n : ℕ) → numbers_of blocks ≡ numbers
     → length numbers ≡ n → n ≤ length blocks
-granted_many blocks numbers n same many =
-    let each : length (numbers_of blocks) ≡ length blocks = length-map blocks (λ b. (block_of b).number) in
-    let all = ap length same in
-    omega arith
+granted_many blocks numbers n same many = grind (arith, common_steps)
 
 -- The grant is given back
 
@@ -121,17 +115,9 @@ born_same h number new end is after =
 
 -- The granted blocks are none of the last version's
 
-number_listed : (ns : List ℕ) (k : ℕ) (e : ℕ) → k < length ns → is_listed (get_or ns k e) ns ≡ true
-number_listed [] k e h = absurd (omega arith)
-number_listed (n ∷ ns) zero e h = let same = eq-eqb n n refl in rw same refl
-number_listed (n ∷ ns) (suc k) e h = or_right (n == get_or ns k e) (is_listed (get_or ns k e) ns) (number_listed ns k e (omega arith))
-
 pub unlisted : (d : DeskView) (numbers handed : List ℕ) (v : VersionView) → IsDesk d → AreFree d.pool numbers → handed ≡ numbers
     → v ≡ d.last → All (λ n. is_listed n (rows.numbers_of (rows.blocks_of v.rows)) ≡ false) handed
-unlisted d numbers handed v desk free same at k e h =
-    ap (λ (w : VersionView). is_listed (get_or handed k e) (rows.numbers_of (rows.blocks_of w.rows))) at
-    ∙ granted_unlisted d numbers (get_or handed k e) desk free (ap (is_listed (get_or handed k e)) (sym same)
-    ∙ number_listed handed k e h)
+unlisted d numbers handed v desk free same at k e h = grind (arith, common_steps)
 
 -- The blocks' moves
 
@@ -171,13 +157,10 @@ unused_once h number born is made =
     (record { pass = m.pass; apart = m.apart })
 
 pub end_pool : (h : Handing) (number : ℕ) (born end : List BlockStatus) → number ≡ length h.old.last.batches + 1
-    → born ≡ marked h.prepared.taken (Used number) h.pool
-    → end ≡ marked (numbers_of h.prepared.unused.items) Free
-    (changed (retired number) (numbers_of h.prepared.dropped.items) born)
-    → end ≡ (next_desk (application h)).pool
+    → born ≡ marked h.prepared.taken (Used number) h.pool → end ≡ marked (numbers_of h.prepared.unused.items) Free
+    (changed (retired number) (numbers_of h.prepared.dropped.items) born) → end ≡ (next_desk (application h)).pool
 end_pool h number born end is made moved =
-    moved ∙ ap (marked (numbers_of h.prepared.unused.items) Free) (retired_is h number born is made)
-    ∙ moves_left (application h)
+    moved ∙ ap (marked (numbers_of h.prepared.unused.items) Free) (retired_is h number born is made) ∙ moves_left (application h)
 
 -- The desk afterwards
 
@@ -192,13 +175,7 @@ pub end_desk : (h : Handing) (opened : List ℕ) (last : VersionView) (entries o
     → entries ≡ old_entries ++ entry_in h ∷ [] → pool ≡ (next_desk (application h)).pool
     → desk_of opened last entries pool ≡ next_desk (application h)
 end_desk h opened last entries old_entries pool same_opened before same_last same_entries same_pool =
-    let dropped : List ℕ = rows.numbers_of (blocks_of h.prepared.dropped.items) in
-    let entry : entry_of (entry_in h) ≡ journal.Applied h.ops h.prepared.taken dropped =
-    λ i. journal.Applied (h.is_prepared.batch_is i) h.prepared.taken ((h.is_prepared.dropped_are ∙ dropped_is h) i) in
-    let more : map entry_of entries ≡ h.old.journal ++ journal.Applied h.ops h.prepared.taken dropped ∷ [] =
-    ap (map entry_of) same_entries ∙ map-append entry_of old_entries (entry_in h ∷ [])
-    ∙ ap (λ es. es ++ entry_of (entry_in h) ∷ []) before ∙ ap (λ e. h.old.journal ++ e ∷ []) entry in
-    λ i. record { opened = sym same_opened i; last = same_last i; journal = more i; pool = same_pool i }
+    grind (arith, common_steps, dropped_is, map-append)
 
 pub end_accepts : (h : Handing) (new : DeskView) → new ≡ next_desk (application h) → Accepts h.old h.ops new
 end_accepts h new is =
@@ -228,11 +205,9 @@ pub end_fits : (h : Handing) (end : List BlockStatus) (entries capacity before d
 end_fits h end entries capacity before dropped is retired many fits =
     let room = end_room h end is in let ok = h.prepared.dropped.ok in omega (arith, ok.0)
 
-pub end_kept : (h : Handing) (new : DeskState) (shelf : ShelfView) (entries room : ℕ)
-    → new.desk ≡ next_desk (application h)
+pub end_kept : (h : Handing) (new : DeskState) (shelf : ShelfView) (entries room : ℕ) → new.desk ≡ next_desk (application h)
     → shelf.book ≡ new.book → shelf.opening ≡ h.old.last.opening → shelf.posted ≡ (version_of h).batches → 1 ≤ new.workers
-    → new.workers ≤ 8
-    → entries + count_by is_retired new.desk.pool ≤ room → IsDeskState new shelf entries room
+    → new.workers ≤ 8 → entries + count_by is_retired new.desk.pool ≤ room → IsDeskState new shelf entries room
 end_kept h new shelf entries room is book opening posted some few fits = record {
   desk = subst IsDesk (sym is) (made_desk (application h));
   book_is = book;
@@ -243,44 +218,21 @@ end_kept h new shelf entries room is book opening posted some few fits = record 
   room_is = fits;
 }
 
-pub next_is : (h : Handing) (shelf : ShelfView) → shelf.opening ≡ h.old.last.opening → shelf.posted ≡ h.old.last.batches
-    → IsNext shelf (version_of h)
-next_is h shelf opening posted =
-    (h.is_prepared.opening ∙ sym opening, (h.ops, h.is_prepared.batches ∙ ap (λ bs. bs ++ h.ops ∷ []) (sym posted)))
-
 -- Refusals
-
-grant_refused : (v : VersionView) (free : ℕ) (workers : ℕ) (ops : List NamedOp) (plan : Plan) (e : ApplyError)
-    → IsAdmitted v workers ops plan
-    → RefusesGrant (asked ops (block_count v)) free e → Refuses v free ops e
-grant_refused v free workers ops plan BatchLimit admitted refuses = absurd refuses
-grant_refused v free workers ops plan NamesFull admitted refuses = absurd refuses
-grant_refused v free workers ops plan KindsFull admitted refuses = absurd refuses
-grant_refused v free workers ops plan (PoolEmpty needed left) admitted refuses =
-    (admitted.few, admitted.limits, refuses.0, refuses.1, refuses.2)
-grant_refused v free workers ops plan OutOfMemory admitted refuses = refuses
 
 module _ (d : DeskView) (v : VersionView) (workers : ℕ) (ops : List NamedOp) (plan : Plan) (desk : IsDesk d) (last : v ≡ d.last)
     (admitted : IsAdmitted v workers ops plan) where
   pub desk_refuses : (e : ApplyError) → RefusesGrant (asked ops (count_by is_in_use d.pool)) (count_by is_free d.pool) e
       → Refuses d.last (count_by is_free d.pool) ops e
-  desk_refuses e refuses =
-      let free : ℕ = count_by is_free d.pool in
-      subst (λ (w : VersionView). Refuses w free ops e) last (grant_refused v free workers ops plan e admitted
-      (subst (λ n. RefusesGrant (asked ops n) free e) (used_blocks d desk ∙ ap block_count (sym last)) refuses))
+  desk_refuses e refuses = grind (arith, common_steps, used_blocks)
 
   pub desk_admits : asked ops (count_by is_in_use d.pool) ≤ count_by is_free d.pool
       → IsWithin d.last (count_by is_free d.pool) ops
-  desk_admits enough = record {
-    few = subst (λ (w : VersionView). length w.batches < batch_limit) last admitted.few;
-    limits = subst (λ (w : VersionView). MeetsNeitherLimit ops (content w)) last admitted.limits;
-    blocks = subst (λ n. asked ops n ≤ count_by is_free d.pool) (used_blocks d desk) enough;
-  }
+  desk_admits enough = grind (arith, common_steps, used_blocks)
 
 -- a batch handed over, by what is known of the version that was lent
 abbrev pub handing : (old : DeskView) (ops : List NamedOp) (numbers handed : List ℕ) (prepared : Prepared) (pool : List BlockStatus)
-    (v : VersionView)
-    → IsDesk old → AreFree old.pool numbers → handed ≡ numbers → v ≡ old.last → IsPrepared v ops handed prepared
+    (v : VersionView) → IsDesk old → AreFree old.pool numbers → handed ≡ numbers → v ≡ old.last → IsPrepared v ops handed prepared
     → pool ≡ marked numbers Granted old.pool → Handing
 handing old ops numbers handed prepared pool v before free same last is_prepared granted = record {
   old = old;

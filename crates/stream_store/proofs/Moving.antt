@@ -1,17 +1,13 @@
 -- The last of some blocks is moved, and then the rest.
-use Rattle.std.proofs.Common.{◌≡◌, ℕ, ◌≤◌, ◌==◌, Bool, true, cond, List, [], ◌∷◌, ◌++◌, get_or, set, sym, ap, subst, ◌∙◌, add_comm}
-use Rattle.std.specs.{Prelude.slice_get, Prelude.if◌then◌else◌, Option.option_map}
-use Rattle.std.proofs.lemmas.List.{map-append}
-use Rattle.std.specs.declared.{sync.Arc.Arc, alloc.Global.Global}
+use Rattle.std.proofs.Common.{◌≡◌, ℕ, ◌≤◌, Bool, true, List, [], ◌∷◌, ◌++◌, get_or, set, sym, ap, subst, ◌∙◌, arith}
+use Rattle.std.{proofs.lemmas.Grind.common_steps, proofs.lemmas.List.map-append, specs.declared.sync.Arc.Arc}
+use Rattle.std.specs.{Prelude.slice_get, Prelude.if◌then◌else◌, Option.option_map, declared.alloc.Global.Global}
 use Rattle.edge_block.specs.declared.blocks.Block.{Block}
 use Rattle.batch_shards.specs.RowBlocks.{block_of, numbers_of}
 use Rattle.block_reclamation.specs.Status.{is_listed, is_in_use, is_used, is_at}
+use Rattle.block_reclamation.specs.declared.status.BlockStatus.{BlockStatus, TheVariants.Granted}
 use Rattle.block_pool.specs.Pools.{marked, changed, retired, is_in_use_at, is_used_at}
-use Rattle.block_reclamation.specs.declared.status.BlockStatus.{BlockStatus}
-use Rattle.block_reclamation.specs.declared.status.BlockStatus.TheVariants.{Granted}
-use Rattle.block_pool.proofs.Tallies.{count_more, count_last}
-use Rattle.epoch_core.specs.Blocks.{all_differ}
-use Rattle.epoch_core.proofs.Lists.{all_listed}
+use Rattle.epoch_core.{specs.Blocks.all_differ, proofs.Lists.all_listed}
 use Rattle.store_steps.proofs.{NumberLists.all_by, ChangedLists.marked_at, ChangedLists.changed_at, ChangedLists.same_list}
 use Rattle.store_steps.proofs.Counting.{times, is_some_times, in_times, once_at_most, apart_if}
 use Rattle.store_steps.proofs.BlockMoves.{AreMovable, moving}
@@ -19,8 +15,7 @@ use Rattle.stream_store.specs.Moves.{AreOnce, AreUsedOnce, AreBornOnce}
 
 -- a list with its last number first has each number as often
 turned_times : (m n : ℕ) (ns : List ℕ) → times m (ns ++ n ∷ []) ≡ times m (n ∷ ns)
-turned_times m n ns =
-    count_last (λ x. x == m) ns n ∙ add_comm (times m ns) (cond (n == m) 1 0) ∙ sym (count_more (λ x. x == m) n ns)
+turned_times m n ns = grind (arith, common_steps)
 
 turned_in : (m n : ℕ) (ns : List ℕ) → is_listed m (ns ++ n ∷ []) ≡ is_listed m (n ∷ ns)
 turned_in m n ns = in_times m (ns ++ n ∷ []) ∙ ap is_some_times (turned_times m n ns) ∙ sym (in_times m (n ∷ ns))
@@ -54,8 +49,7 @@ pub record IsMoving (numbers : List ℕ) (s : BlockStatus) (pool end : List Bloc
 
 pub last_used : (old ns : List ℕ) (n : ℕ) (s : BlockStatus) (pool end : List BlockStatus) → old ≡ ns ++ n ∷ [] → IsMoving old s pool end
     → is_in_use_at pool n ≡ true
-last_used old ns n s pool end is m =
-    (moving is_in_use n ns s pool (turned is_in_use n ns pool (subst (λ xs. AreUsedOnce xs pool) is m.once))).0
+last_used old ns n s pool end is m = grind (arith, common_steps)
 
 pub rest_moving : (old ns : List ℕ) (n : ℕ) (s : BlockStatus) (pool next end : List BlockStatus) → old ≡ ns ++ n ∷ [] → next ≡ set pool n s
     → IsMoving old s pool end → IsMoving ns s next end
@@ -66,11 +60,6 @@ rest_moving old ns n s pool next end is moved m =
       ends = ap (marked ns s) moved ∙ turned_marks n ns s pool ∙ ap (λ xs. marked xs s pool) (sym is) ∙ m.ends;
     }
 
--- the first of some numbers is moved, and then the rest
-pub first_used : (n : ℕ) (ns : List ℕ) (s : BlockStatus) (pool end : List BlockStatus) → IsMoving (n ∷ ns) s pool end
-    → is_in_use_at pool n ≡ true
-first_used n ns s pool end m = (moving is_in_use n ns s pool (record { pass = m.once.pass; apart = m.once.apart })).0
-
 -- what stays to be retired, and what the pool will be
 pub record IsRetiring (numbers : List ℕ) (number : ℕ) (pool end : List BlockStatus) : Type 0 where
   pub once : AreBornOnce numbers pool
@@ -78,8 +67,7 @@ pub record IsRetiring (numbers : List ℕ) (number : ℕ) (pool end : List Block
 
 pub last_born : (old ns : List ℕ) (n number : ℕ) (pool end : List BlockStatus) → old ≡ ns ++ n ∷ []
     → IsRetiring old number pool end → is_used_at pool n ≡ true
-last_born old ns n number pool end is m =
-    (moving is_used n ns Granted pool (turned is_used n ns pool (subst (λ xs. AreBornOnce xs pool) is m.once))).0
+last_born old ns n number pool end is m = grind (arith, common_steps)
 
 pub rest_retiring : (old ns : List ℕ) (n number : ℕ) (pool next end : List BlockStatus) → old ≡ ns ++ n ∷ []
     → next ≡ changed (retired number) (n ∷ []) pool → IsRetiring old number pool end → IsRetiring ns number next end

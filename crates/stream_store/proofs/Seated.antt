@@ -1,13 +1,12 @@
 -- Seats: a pin set twice, and the seats of an opening.
 use Rattle.std.proofs.Common.{◌≡◌, ℕ, zero, suc, ◌+◌, ◌<◌, List, [], ◌∷◌, ◌++◌, length, map, take, drop, refl, sym, ap, subst}
-use Rattle.std.proofs.Common.{◌∙◌, arith}
-use Rattle.std.specs.{Prelude.All, Prelude.Option, Prelude.slice_set, Prelude.slice_index_or, List.range_with_len}
+use Rattle.std.{proofs.Common.◌∙◌, proofs.Common.arith, proofs.lemmas.Grind.common_steps, specs.List.range_with_len}
 use Rattle.std.proofs.lemmas.List.{map-append, length-append, Elements.All-head, Elements.All-tail, Elements.All-cons}
+use Rattle.std.specs.Prelude.{All, Option, slice_set, slice_index_or}
 use Rattle.logbook.specs.Pages.{Book}
 use Rattle.graph_version.specs.Versions.{VersionView}
 use Rattle.version_shelf.specs.Shelves.{ToldView}
-use Rattle.block_reclamation.specs.Board.{BoardState, with_pin}
-use Rattle.block_reclamation.specs.declared.copies.Pin.{Pin}
+use Rattle.block_reclamation.specs.{Board.BoardState, Board.with_pin, declared.copies.Pin.Pin}
 use Rattle.stream_store.specs.Seats.{SeatView, HasSeen}
 
 set_again : {X : Type 0} (xs : List X) (i : ℕ) (x y : X) → slice_set (slice_set xs i x) i y ≡ slice_set xs i y
@@ -61,21 +60,10 @@ numbers_more seats more s items next same =
 -- the first reader taken off a list
 pub first_off : (xs ys : List ToldView) (x : ToldView) → 0 < length xs → x ≡ slice_index_or xs 0 x → ys ≡ take 0 xs
     ++ drop (0 + 1) xs → xs ≡ x ∷ ys
-first_off [] ys x some first rest = absurd (omega arith)
-first_off (z ∷ zs) ys x some first rest = ap (λ (w : ToldView). w ∷ zs) (sym first)
-    ∙ ap (λ (ws : List ToldView). x ∷ ws) (sym rest)
-
-regroup : (xs ys : List ToldView) (x : ToldView) → (xs ++ x ∷ []) ++ ys ≡ xs ++ x ∷ ys
-regroup [] ys x = refl
-regroup (z ∷ zs) ys x = ap (λ (ws : List ToldView). z ∷ ws) (regroup zs ys x)
+first_off xs ys x some first rest = grind (arith, common_steps)
 
 -- the seat of the first reader is added to the seats
 pub seen_more : (seats more : List SeatView) (s : SeatView) (x : ToldView) (xs ys readers : List ToldView) → more ≡ seats ++ s
     ∷ [] → s.seen ≡ x → xs ≡ x ∷ ys
     → map (λ (t : SeatView). t.seen) seats ++ xs ≡ readers → map (λ (t : SeatView). t.seen) more ++ ys ≡ readers
-seen_more seats more s x xs ys readers items is cut same =
-    ap (λ (ms : List SeatView). map (λ (t : SeatView). t.seen) ms ++ ys) items
-    ∙ ap (λ (ws : List ToldView). ws ++ ys) (map-append (λ (t : SeatView). t.seen) seats (s ∷ []))
-    ∙ regroup (map (λ (t : SeatView). t.seen) seats) ys s.seen
-    ∙ ap (λ (w : ToldView). map (λ (t : SeatView). t.seen) seats ++ w ∷ ys) is
-    ∙ ap (λ (ws : List ToldView). map (λ (t : SeatView). t.seen) seats ++ ws) (sym cut) ∙ same
+seen_more seats more s x xs ys readers items is cut same = grind (arith, common_steps)

@@ -8,10 +8,8 @@ use Rattle.graph_version.specs.Rows.{blocks_of}
 use Rattle.block_reclamation.specs.Status.{is_listed, is_used, is_in_use, is_at}
 use Rattle.block_reclamation.specs.declared.status.BlockStatus.{BlockStatus}
 use Rattle.block_reclamation.specs.declared.status.BlockStatus.TheVariants.{Free, Granted, Used, Retired}
-use Rattle.block_pool.specs.Pools.{is_used_at}
-use Rattle.block_pool.proofs.Tallies.{count_more}
-use Rattle.epoch_core.specs.Blocks.{all_differ}
-use Rattle.epoch_core.proofs.Lists.{set_else}
+use Rattle.block_pool.{specs.Pools.is_used_at, proofs.Tallies.count_more}
+use Rattle.epoch_core.{specs.Blocks.all_differ, proofs.Lists.set_else}
 use Rattle.store_steps.specs.{Dates.IsDated, Desks.DeskView, Desks.IsDesk, Desks.last_numbers}
 use Rattle.store_steps.proofs.{NumberLists.differ_from, NumberLists.differ_head, NumberLists.differ_tail, Dated.desk_dated}
 use Rattle.stream_store.specs.Refusals.{block_count}

@@ -2,19 +2,13 @@
 use Rattle.std.specs.Prelude.{◌≡◌, ℕ, ◌+◌, List, [], ◌∷◌, ◌++◌, length, count_by, Bool}
 use Rattle.std.specs.Arc.{arc_value}
 use Rattle.graph_types.specs.Step.{outcomes}
-use Rattle.graph_types.specs.declared.batches.Batch.{Batch}
-use Rattle.graph_types.specs.declared.batches.NamedOp.{NamedOp}
-use Rattle.graph_types.specs.declared.batches.Outcome.{Outcome}
-use Rattle.graph_version.specs.Rows as rows
-use Rattle.batch_shards.specs.RowBlocks.{blocks_of, numbers_of}
-use Rattle.batch_shards.specs.Births.{CarriesBirths}
-use Rattle.batch_shards.specs.Done.{Exchanges}
-use Rattle.graph_version.specs.declared.versions.Version.{Version}
-use Rattle.graph_version.specs.Versions.{VersionView, IsVersion, content}
+use Rattle.graph_types.specs.declared.batches.{Batch.Batch, NamedOp.NamedOp, Outcome.Outcome}
+use Rattle.batch_shards.specs.{RowBlocks.blocks_of, RowBlocks.numbers_of, Births.CarriesBirths, Done.Exchanges}
+use Rattle.graph_version.specs.{declared.versions.Version.Version, Versions.VersionView, Versions.IsVersion, Versions.content}
 use Rattle.version_shelf.specs.Shelves.{ToldView}
 use Rattle.store_steps.specs.Desks.{FollowsLayout}
-use Rattle.stream_store.specs.Kept.{DeskState}
-use Rattle.stream_store.specs.declared.applying.Prepared.{Prepared}
+use Rattle.stream_store.specs.{Kept.DeskState, declared.applying.Prepared.Prepared}
+use Rattle.graph_version.specs.Rows as rows
 
 -- the next version was made of this version and batch, from blocks of these numbers
 pub record IsPrepared (v : VersionView) (ops : List NamedOp) (numbers : List ℕ) (p : Prepared) : Type 0 where

@@ -4,11 +4,9 @@ use Rattle.std.specs.Arc.{arc_value}
 use Rattle.logbook.specs.Pages.{Book}
 use Rattle.graph_types.specs.declared.batches.Batch.{Batch}
 use Rattle.graph_version.specs.Versions.{VersionView}
-use Rattle.block_reclamation.specs.declared.status.BlockStatus.{BlockStatus}
-use Rattle.block_reclamation.specs.Status.{is_retired}
+use Rattle.block_reclamation.specs.{declared.status.BlockStatus.BlockStatus, Status.is_retired}
 use Rattle.version_shelf.specs.Shelves.{ShelfView}
-use Rattle.store_steps.specs.Journal.{Entry, Applied, Collected}
-use Rattle.store_steps.specs.Desks.{DeskView, IsDesk}
+use Rattle.store_steps.specs.{Journal.Entry, Journal.Applied, Journal.Collected, Desks.DeskView, Desks.IsDesk}
 use Rattle.stream_store.specs.declared.entries.JournalEntry.{JournalEntry}
 use Rattle.stream_store.specs.declared.entries.JournalEntry.TheVariants as entries
 

@@ -1,9 +1,7 @@
 -- What sessions that hold equal contents answer.
 use Rattle.std.specs.Prelude.{◌≡◌, Result}
 use Rattle.graph_types.specs.Answer.{IsAnswer}
-use Rattle.graph_types.specs.declared.requests.Request.{Request}
-use Rattle.graph_types.specs.declared.requests.Reply.{Reply}
-use Rattle.graph_types.specs.declared.requests.AskError.{AskError}
+use Rattle.graph_types.specs.declared.requests.{Request.Request, Reply.Reply, AskError.AskError}
 use Rattle.stream_store.specs.Seats.{SessionView, held_graph}
 
 -- two sessions, of whatever stores and after whatever batches: where they hold versions of equal content, equal requests

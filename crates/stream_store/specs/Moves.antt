@@ -1,9 +1,7 @@
 -- Blocks that are moved between the pool's sets.
-use Rattle.std.specs.Prelude.{◌≡◌, ℕ, List, Bool, true, slice_get}
-use Rattle.std.specs.List.{list_all}
+use Rattle.std.specs.{Prelude.◌≡◌, Prelude.ℕ, Prelude.List, Prelude.Bool, Prelude.true, Prelude.slice_get, List.list_all}
 use Rattle.epoch_core.specs.Blocks.{all_differ}
-use Rattle.block_reclamation.specs.declared.status.BlockStatus.{BlockStatus}
-use Rattle.block_reclamation.specs.Status.{is_in_use, is_used, is_at}
+use Rattle.block_reclamation.specs.{declared.status.BlockStatus.BlockStatus, Status.is_in_use, Status.is_used, Status.is_at}
 
 -- each of the numbers has a status that passes, and none stands twice
 pub record AreOnce (test : BlockStatus → Bool) (numbers : List ℕ) (pool : List BlockStatus) : Type 0 where

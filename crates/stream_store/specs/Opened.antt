@@ -3,8 +3,7 @@ use Rattle.std.specs.Prelude.{◌≡◌, List, All}
 use Rattle.logbook.specs.Pages.{Book}
 use Rattle.graph_types.specs.Graph.{Graph}
 use Rattle.block_reclamation.specs.Board.{BoardState}
-use Rattle.stream_store.specs.Kept.{DeskState}
-use Rattle.stream_store.specs.Seats.{SeatView, HasSeen}
+use Rattle.stream_store.specs.{Kept.DeskState, Seats.SeatView, Seats.HasSeen}
 
 -- a desk, a board and seats of one opening
 pub record OpenedView : Type 0 where

@@ -1,11 +1,8 @@
 -- What a store opens with, and why none opens.
-use Rattle.std.specs.Prelude.{◌≡◌, ℕ, ◌<◌}
-use Rattle.std.specs.Arc.{arc_value}
-use Rattle.graph_version.specs.Rows.{blocks_of, numbers_of}
-use Rattle.graph_version.specs.declared.versions.Version.{Version}
+use Rattle.std.specs.{Prelude.◌≡◌, Prelude.ℕ, Prelude.◌<◌, Arc.arc_value}
+use Rattle.graph_version.specs.{Rows.blocks_of, Rows.numbers_of, declared.versions.Version.Version}
 use Rattle.store_steps.specs.Opening.{IsVersionZero, opened_desk}
-use Rattle.stream_store.specs.declared.zero.Zero.{Zero}
-use Rattle.stream_store.specs.declared.opening.OpenError.{OpenError}
+use Rattle.stream_store.specs.declared.{zero.Zero.Zero, opening.OpenError.OpenError}
 use Rattle.stream_store.specs.declared.opening.OpenError.TheVariants.{PoolEmpty, NoReader, OutOfMemory}
 
 -- a store of so many blocks may open with this version, whose blocks are those of the pool that aren't free, each born with it

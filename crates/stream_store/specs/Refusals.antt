@@ -1,19 +1,13 @@
 -- When the desk refuses a batch.
 use Rattle.std.specs.Prelude.{◌≡◌, ℕ, ◌+◌, ◌<◌, ◌≤◌, nat_lt, if◌then◌else◌, List, length}
-use Rattle.graph_types.specs.Limits.{batch_limit}
 use Rattle.std.specs.List.{list_any}
-use Rattle.graph_types.specs.Graph.{Graph}
-use Rattle.graph_types.specs.Step.{is_expire}
-use Rattle.graph_types.specs.declared.batches.NamedOp.{NamedOp}
-use Rattle.graph_version.specs.Rows.{blocks_of, row_of}
-use Rattle.graph_version.specs.Versions.{VersionView, content}
-use Rattle.batch_apply.specs.OldRows.{AreOldRows, expiry_time}
-use Rattle.batch_apply.specs.Planned.{IsPlan, IsPlanRefusal, MeetsNeitherLimit}
-use Rattle.batch_apply.specs.declared.old.OldRow.{OldRow}
-use Rattle.batch_apply.specs.declared.plans.Plan.{Plan}
-use Rattle.batch_apply.specs.declared.plans.PlanError.TheVariants as plan
+use Rattle.graph_types.specs.{Limits.batch_limit, Graph.Graph, Step.is_expire, declared.batches.NamedOp.NamedOp}
+use Rattle.graph_version.specs.{Rows.blocks_of, Rows.row_of, Versions.VersionView, Versions.content}
+use Rattle.batch_apply.specs.{OldRows.AreOldRows, OldRows.expiry_time, declared.old.OldRow.OldRow}
+use Rattle.batch_apply.specs.{Planned.IsPlan, Planned.IsPlanRefusal, Planned.MeetsNeitherLimit, declared.plans.Plan.Plan}
 use Rattle.stream_store.specs.declared.receipts.ApplyError.{ApplyError}
 use Rattle.stream_store.specs.declared.receipts.ApplyError.TheVariants.{BatchLimit, NamesFull, KindsFull, PoolEmpty, OutOfMemory}
+use Rattle.batch_apply.specs.declared.plans.PlanError.TheVariants as plan
 
 -- how many blocks a batch asks for behind a version with so many blocks: one for each operation, and where an operation expires
 -- edges, as many more as the version has. They must be free, though fewer may be granted, and fewer taken

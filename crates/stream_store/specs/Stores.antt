@@ -1,21 +1,14 @@
 -- A store behind locks: what its calls answer, where what the locks held is not known.
 use Rattle.std.specs.Prelude.{◌≡◌, ℕ, ◌<◌, List, [], ◌∷◌, ◌++◌, length}
 use Rattle.logbook.specs.Pages.{Book}
-use Rattle.graph_types.specs.Graph.{Graph}
-use Rattle.graph_types.specs.Limits.{batch_limit}
-use Rattle.graph_types.specs.Step.{outcomes, left_by}
-use Rattle.graph_types.specs.declared.batches.NamedOp.{NamedOp}
-use Rattle.graph_types.specs.declared.batches.Outcome.{Outcome}
+use Rattle.graph_types.specs.{Graph.Graph, Limits.batch_limit}
+use Rattle.graph_types.specs.{Step.outcomes, Step.left_by, declared.batches.NamedOp.NamedOp, declared.batches.Outcome.Outcome}
 use Rattle.graph_version.specs.Versions.{VersionView, IsVersion}
 use Rattle.batch_apply.specs.Planned.{MeetsNeitherLimit}
 use Rattle.version_shelf.specs.Shelves.{ToldView}
-use Rattle.block_reclamation.specs.declared.copies.PinCopy.{PinCopy}
-use Rattle.block_reclamation.specs.Board.{BoardState}
-use Rattle.block_reclamation.specs.Copies.{copy_of}
+use Rattle.block_reclamation.specs.{declared.copies.PinCopy.PinCopy, Board.BoardState, Copies.copy_of}
 use Rattle.store_steps.specs.Desks.{DeskView}
-use Rattle.stream_store.specs.Refusals.{Refuses}
-use Rattle.stream_store.specs.Seats.{SeatView}
-use Rattle.stream_store.specs.declared.receipts.ApplyError.{ApplyError}
+use Rattle.stream_store.specs.{Refusals.Refuses, Seats.SeatView, declared.receipts.ApplyError.ApplyError}
 
 -- a version of the shelf of this book, which began with this graph
 pub record IsOfOpening (book : Book) (opening : Graph) (x : ToldView) : Type 0 where

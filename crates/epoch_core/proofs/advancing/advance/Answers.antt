@@ -1,64 +1,38 @@
-use Rattle.std.proofs.Common.{List, refl, sym, ap, subst, ◌∙◌}
-use Rattle.std.specs.Prelude.{IfOk, OnErr, IsTrue, ◌≡◌}
-use Rattle.std.proofs.lemmas.Result.{on_err_weaker}
-use Rattle.epoch_core.specs.Blocks.{Stepped, changed_at, taken}
-use Rattle.epoch_core.specs.Blocks.{reclaimed}
-use Rattle.epoch_core.specs.declared.{events.Event.Event, session_states.SessionState.SessionState}
-use Rattle.epoch_core.specs.declared.events.Event.TheVariants.{Take, Fill, Post, Recycle, Pin, Settle, Ask}
-use Rattle.epoch_core.specs.declared.events.Event.TheVariants.{Release}
-use Rattle.epoch_core.specs.{Worlds.MachineState, Runs.Steps, Cores.state_of}
+use Rattle.std.proofs.{Common.◌≡◌, Common.true, Common.List, Common.refl, Common.sym, Common.ap, Common.subst, Common.◌∙◌}
+use Rattle.std.{proofs.lemmas.Result.on_err_weaker, specs.declared.result.Result.Result, specs.Prelude.IfOk, specs.Prelude.OnErr}
+use Rattle.std.specs.Prelude.{IsTrue}
+use Rattle.epoch_core.specs.{Blocks.Stepped, Blocks.changed_at, Blocks.taken, Blocks.reclaimed, Worlds.MachineState, Runs.Steps}
+use Rattle.epoch_core.specs.{Cores.state_of, declared.session_states.SessionState.SessionState, declared.step.Step.Step}
+use Rattle.epoch_core.specs.declared.events.Event.{Event, TheVariants.Fill, TheVariants.Post, TheVariants.Ask}
 use Rattle.epoch_core.specs.Machine.{takes_memory, to_ask, to_pin, to_release, to_settle, with_sessions}
 use Rattle.epoch_core.proofs.Stepping.{changed_by, moved_by, ok_also, err_always}
 use Rattle.epoch_core.proofs.advancing.advance.Goals as goal
 
 pub returns-in-Take-clause-steps : goal.returns-in-Take-clause-steps
 returns-in-Take-clause-steps c =
-    let old : MachineState = state_of c.args.parts.now in
-    changed_by old (Take c.in-Take.block) c.args.event.now c.in-Take.block taken c.take_block.result c.take_block.new.status.items
-    c.in-Take.is refl refl c.take_block.ensures
-
-pub returns-in-Take-clause-contents : goal.returns-in-Take-clause-contents
-returns-in-Take-clause-contents c = c.requires.contents
+    changed_by (state_of c.args.parts.now) _ _ c.in-Take.block taken _ _ c.in-Take.is refl refl c.take_block.ensures
 
 pub returns-in-Recycle-clause-steps : goal.returns-in-Recycle-clause-steps
 returns-in-Recycle-clause-steps c =
-    let old : MachineState = state_of c.args.parts.now in
-    changed_by old (Recycle c.in-Recycle.block) c.args.event.now c.in-Recycle.block (reclaimed old.world.copy) c.recycle_block.result c.recycle_block.new.status.items
+    changed_by (state_of c.args.parts.now) _ _ c.in-Recycle.block (reclaimed c.args.parts.now.copy) _ _
     c.in-Recycle.is refl refl c.recycle_block.ensures
-
-pub returns-in-Recycle-clause-contents : goal.returns-in-Recycle-clause-contents
-returns-in-Recycle-clause-contents c = c.requires.contents
 
 pub returns-in-Pin-clause-steps : goal.returns-in-Pin-clause-steps
 returns-in-Pin-clause-steps c =
-    let old : MachineState = state_of c.args.parts.now in
-    moved_by old (Pin c.in-Pin.session) c.args.event.now c.in-Pin.session (to_pin old.world.floor) c.pin.result c.pin.new.sessions.items
-    c.in-Pin.is refl refl c.pin.ensures
-
-pub returns-in-Pin-clause-contents : goal.returns-in-Pin-clause-contents
-returns-in-Pin-clause-contents c = c.requires.contents
+    moved_by (state_of c.args.parts.now) _ _ c.in-Pin.session (to_pin c.args.parts.now.floor) _ _ c.in-Pin.is refl refl
+    c.pin.ensures
 
 pub returns-in-Settle-clause-steps : goal.returns-in-Settle-clause-steps
 returns-in-Settle-clause-steps c =
-    let old : MachineState = state_of c.args.parts.now in
-    moved_by old (Settle c.in-Settle.session) c.args.event.now c.in-Settle.session to_settle c.settle.result c.settle.new.sessions.items
-    c.in-Settle.is refl refl c.settle.ensures
-
-pub returns-in-Settle-clause-contents : goal.returns-in-Settle-clause-contents
-returns-in-Settle-clause-contents c = c.requires.contents
+    moved_by (state_of c.args.parts.now) _ _ c.in-Settle.session to_settle _ _ c.in-Settle.is refl refl c.settle.ensures
 
 pub returns-in-Release-clause-steps : goal.returns-in-Release-clause-steps
 returns-in-Release-clause-steps c =
-    let old : MachineState = state_of c.args.parts.now in
-    moved_by old (Release c.in-Release.session) c.args.event.now c.in-Release.session to_release c.release.result c.release.new.sessions.items
-    c.in-Release.is refl refl c.release.ensures
-
-pub returns-in-Release-clause-contents : goal.returns-in-Release-clause-contents
-returns-in-Release-clause-contents c = c.requires.contents
+    moved_by (state_of c.args.parts.now) _ _ c.in-Release.session to_release _ _ c.in-Release.is refl refl c.release.ensures
 
 pub returns-in-Floor-clause-steps : goal.returns-in-Floor-clause-steps
 returns-in-Floor-clause-steps c =
-    subst (λ (e : Event). Steps (state_of c.args.parts.now) e c.raise_floor.result (state_of c.raise_floor.new.parts)) (sym c.in-Floor.is)
+    subst (λ e. Steps (state_of c.args.parts.now) e c.raise_floor.result (state_of c.raise_floor.new.parts)) (sym c.in-Floor.is)
     c.raise_floor.ensures.steps
 
 pub returns-in-Floor-clause-contents : goal.returns-in-Floor-clause-contents
@@ -66,71 +40,44 @@ returns-in-Floor-clause-contents c = c.raise_floor.ensures.contents
 
 pub returns-in-Enter-clause-steps : goal.returns-in-Enter-clause-steps
 returns-in-Enter-clause-steps c =
-    subst (λ (e : Event). Steps (state_of c.args.parts.now) e c.enter_last.result (state_of c.enter_last.new.parts)) (sym c.in-Enter.is)
+    subst (λ e. Steps (state_of c.args.parts.now) e c.enter_last.result (state_of c.enter_last.new.parts)) (sym c.in-Enter.is)
     c.enter_last.ensures.steps
 
 pub returns-in-Enter-clause-contents : goal.returns-in-Enter-clause-contents
 returns-in-Enter-clause-contents c = c.enter_last.ensures.contents
 
-pub returns-in-Fill-clause-steps : goal.returns-in-Fill-clause-steps
-returns-in-Fill-clause-steps c =
-    subst (λ (e : Event). IfOk c.fill.result (λ outcome. Steps (state_of c.args.parts.now) e outcome (state_of c.fill.new.parts)))
-    (ap (λ edges. Fill c.in-Fill.block edges) c.as_slice.ensures ∙ sym c.in-Fill.is) c.fill.ensures.steps
+-- a call's step and its want of memory are those of the event that it is
+by_event : {E : Type 0} (old new : MachineState) (e event : Event) (r : Result Step E) → event ≡ e → takes_memory e ≡ true
+    → IfOk r (λ outcome. Steps old e outcome new)
+    → IfOk r (λ outcome. Steps old event outcome new) × OnErr r (IsTrue (takes_memory event))
+by_event old new e event r is memory steps = (
+  subst (λ x. IfOk r (λ outcome. Steps old x outcome new)) (sym is) steps,
+  subst (λ x. OnErr r (IsTrue (takes_memory x))) (sym is) (err_always r _ memory),
+)
 
-pub returns-in-Fill-clause-unchanged : goal.returns-in-Fill-clause-unchanged
-returns-in-Fill-clause-unchanged c = c.fill.ensures.unchanged
+pub returns-in-Fill : goal.returns-in-Fill
+returns-in-Fill c =
+    let both = by_event (state_of c.args.parts.now) (state_of c.fill.new.parts) _ _ c.fill.result
+    (c.in-Fill.is ∙ ap (λ edges. Fill c.in-Fill.block edges) (sym c.as_slice.ensures)) refl c.fill.ensures.steps in
+    record { steps = both.0; unchanged = c.fill.ensures.unchanged; memory = both.1; contents = c.fill.ensures.contents }
 
-pub returns-in-Fill-clause-memory : goal.returns-in-Fill-clause-memory
-returns-in-Fill-clause-memory c =
-    subst (λ (e : Event). OnErr c.fill.result (IsTrue (takes_memory e))) (sym c.in-Fill.is) (err_always c.fill.result _ refl)
+pub returns-in-Post : goal.returns-in-Post
+returns-in-Post c =
+    let both = by_event (state_of c.args.parts.now) (state_of c.post.new.parts) _ _ c.post.result
+    (c.in-Post.is ∙ ap (λ blocks. Post c.in-Post.batch blocks) (sym c.as_slice-in-Post.ensures)) refl c.post.ensures.steps in
+    record { steps = both.0; unchanged = c.post.ensures.unchanged; memory = both.1; contents = c.post.ensures.contents }
 
-pub returns-in-Fill-clause-contents : goal.returns-in-Fill-clause-contents
-returns-in-Fill-clause-contents c = c.fill.ensures.contents
+pub returns-in-Read : goal.returns-in-Read
+returns-in-Read c =
+    let both = by_event (state_of c.args.parts.now) (state_of c.read_next.new.parts) _ _ c.read_next.result
+    c.in-Read.is refl c.read_next.ensures.steps in
+    record { steps = both.0; unchanged = c.read_next.ensures.unchanged; memory = both.1; contents = c.read_next.ensures.contents }
 
-pub returns-in-Post-clause-steps : goal.returns-in-Post-clause-steps
-returns-in-Post-clause-steps c =
-    subst (λ (e : Event). IfOk c.post.result (λ outcome. Steps (state_of c.args.parts.now) e outcome (state_of c.post.new.parts)))
-    (ap (λ blocks. Post c.in-Post.batch blocks) c.as_slice-in-Post.ensures ∙ sym c.in-Post.is) c.post.ensures.steps
-
-pub returns-in-Post-clause-unchanged : goal.returns-in-Post-clause-unchanged
-returns-in-Post-clause-unchanged c = c.post.ensures.unchanged
-
-pub returns-in-Post-clause-memory : goal.returns-in-Post-clause-memory
-returns-in-Post-clause-memory c =
-    subst (λ (e : Event). OnErr c.post.result (IsTrue (takes_memory e))) (sym c.in-Post.is) (err_always c.post.result _ refl)
-
-pub returns-in-Post-clause-contents : goal.returns-in-Post-clause-contents
-returns-in-Post-clause-contents c = c.post.ensures.contents
-
-pub returns-in-Read-clause-steps : goal.returns-in-Read-clause-steps
-returns-in-Read-clause-steps c =
-    subst (λ (e : Event). IfOk c.read_next.result (λ outcome. Steps (state_of c.args.parts.now) e outcome (state_of c.read_next.new.parts)))
-    (sym c.in-Read.is) c.read_next.ensures.steps
-
-pub returns-in-Read-clause-unchanged : goal.returns-in-Read-clause-unchanged
-returns-in-Read-clause-unchanged c = c.read_next.ensures.unchanged
-
-pub returns-in-Read-clause-memory : goal.returns-in-Read-clause-memory
-returns-in-Read-clause-memory c =
-    subst (λ (e : Event). OnErr c.read_next.result (IsTrue (takes_memory e))) (sym c.in-Read.is) (err_always c.read_next.result _ refl)
-
-pub returns-in-Read-clause-contents : goal.returns-in-Read-clause-contents
-returns-in-Read-clause-contents c = c.read_next.ensures.contents
-
-pub returns-in-Reply-clause-steps : goal.returns-in-Reply-clause-steps
-returns-in-Reply-clause-steps c =
-    subst (λ (e : Event). IfOk c.reply_to.result (λ outcome. Steps (state_of c.args.parts.now) e outcome (state_of c.reply_to.new.parts)))
-    (sym c.in-Reply.is) c.reply_to.ensures.steps
-
-pub returns-in-Reply-clause-unchanged : goal.returns-in-Reply-clause-unchanged
-returns-in-Reply-clause-unchanged c = c.reply_to.ensures.unchanged
-
-pub returns-in-Reply-clause-memory : goal.returns-in-Reply-clause-memory
-returns-in-Reply-clause-memory c =
-    subst (λ (e : Event). OnErr c.reply_to.result (IsTrue (takes_memory e))) (sym c.in-Reply.is) (err_always c.reply_to.result _ refl)
-
-pub returns-in-Reply-clause-contents : goal.returns-in-Reply-clause-contents
-returns-in-Reply-clause-contents c = c.reply_to.ensures.contents
+pub returns-in-Reply : goal.returns-in-Reply
+returns-in-Reply c =
+    let both = by_event (state_of c.args.parts.now) (state_of c.reply_to.new.parts) _ _ c.reply_to.result
+    c.in-Reply.is refl c.reply_to.ensures.steps in
+    record { steps = both.0; unchanged = c.reply_to.ensures.unchanged; memory = both.1; contents = c.reply_to.ensures.contents }
 
 pub returns-in-Ask-clause-steps : goal.returns-in-Ask-clause-steps
 returns-in-Ask-clause-steps c =

@@ -1,8 +1,6 @@
 use Rattle.std.proofs.Common.{◌≡◌, length, refl, subst, arith}
-use Rattle.epoch_core.specs.Blocks.{Stepped, changed_at}
-use Rattle.epoch_core.specs.declared.events.Event.TheVariants.{Enter}
-use Rattle.epoch_core.specs.{Worlds.MachineState, Cores.state_of, Machine.to_enter}
-use Rattle.epoch_core.proofs.Stepping.{moved_by}
+use Rattle.epoch_core.specs.{Blocks.Stepped, Blocks.changed_at, declared.events.Event.TheVariants.Enter, Worlds.MachineState}
+use Rattle.epoch_core.{specs.Cores.state_of, specs.Machine.to_enter, proofs.Stepping.moved_by}
 use Rattle.epoch_core.proofs.advancing.enter_last.Goals as goal
 
 pub returns-clause-steps : goal.returns-clause-steps

@@ -1,8 +1,6 @@
 use Rattle.std.proofs.Common.{refl, subst}
-use Rattle.epoch_core.specs.Blocks.{Stepped, filled}
-use Rattle.epoch_core.specs.declared.events.Event.TheVariants.{Fill}
-use Rattle.epoch_core.specs.{Worlds.MachineState, Cores.state_of, Machine.with_heap}
-use Rattle.epoch_core.proofs.Stepping.{steps_by}
+use Rattle.epoch_core.specs.{Blocks.Stepped, Blocks.filled, declared.events.Event.TheVariants.Fill, Worlds.MachineState}
+use Rattle.epoch_core.{specs.Cores.state_of, specs.Machine.with_heap, proofs.Stepping.steps_by}
 use Rattle.epoch_core.proofs.advancing.fill.Goals as goal
 
 pub returns-clause-steps : goal.returns-clause-steps

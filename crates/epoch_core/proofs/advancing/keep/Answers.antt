@@ -1,5 +1,4 @@
-use Rattle.epoch_core.specs.Cores.{state_of}
-use Rattle.epoch_core.proofs.Cores.{core_kept, steps_size}
+use Rattle.epoch_core.{specs.Cores.state_of, proofs.Cores.core_kept, proofs.Cores.steps_size}
 use Rattle.epoch_core.proofs.advancing.keep.Goals as goal
 
 pub returns-clause-kept : goal.returns-clause-kept

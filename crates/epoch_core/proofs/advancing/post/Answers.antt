@@ -2,14 +2,12 @@ use Rattle.std.proofs.Common.{◌≡◌, ℕ, List, ◌∷◌, [], ◌++◌, ref
 use Rattle.std.specs.{Prelude.if◌then◌else◌, Option.option_map}
 use Rattle.std.specs.declared.option.Option.{Option, TheVariants.None, TheVariants.Some}
 use Rattle.graph_types.specs.{Graph.IsContent, declared.ids.Edge.Edge, declared.batches.NamedOp.NamedOp}
-use Rattle.epoch_core.specs.{declared.states.Version.Version, declared.states.Opening.Opening, Versions.IsContentGraph}
-use Rattle.epoch_core.specs.Blocks.{Stepped}
+use Rattle.epoch_core.specs.{declared.states.Version.Version, declared.states.Opening.Opening, Worlds.HasContents, Worlds.World}
+use Rattle.epoch_core.{specs.Versions.IsContentGraph, proofs.Read.last_is_content, proofs.Cores.contents_posted}
+use Rattle.epoch_core.specs.{Blocks.Stepped, Posting.IsPlanOf, Posting.graph_after, Posting.last_content, Posting.version_by}
+use Rattle.epoch_core.specs.declared.{step.Step.TheVariants.Done, step.Step.TheVariants.Skipped, events.Event.TheVariants.Post}
+use Rattle.epoch_core.specs.{Cores.state_of, Machine.step, Posts.posted}
 use Rattle.block_reclamation.specs.declared.status.BlockStatus.{BlockStatus}
-use Rattle.epoch_core.specs.declared.step.Step.TheVariants.{Done, Skipped}
-use Rattle.epoch_core.specs.{Worlds.HasContents, Worlds.World, Cores.state_of, Machine.step, Posts.posted}
-use Rattle.epoch_core.specs.declared.events.Event.TheVariants.{Post}
-use Rattle.epoch_core.specs.Posting.{IsPlanOf, graph_after, last_content, version_by}
-use Rattle.epoch_core.proofs.{Read.last_is_content, Cores.contents_posted}
 use Rattle.epoch_core.proofs.advancing.post.Goals as goal
 
 pub plan_post-requires-clause-content : goal.plan_post-requires-clause-content

@@ -1,8 +1,6 @@
 use Rattle.std.proofs.Common.{refl, subst}
-use Rattle.epoch_core.specs.Blocks.{Stepped, changed_at}
-use Rattle.epoch_core.specs.declared.events.Event.TheVariants.{Read}
-use Rattle.epoch_core.specs.{Worlds.MachineState, Cores.state_of, Machine.to_read}
-use Rattle.epoch_core.proofs.Stepping.{moved_by}
+use Rattle.epoch_core.specs.{Blocks.Stepped, Blocks.changed_at, declared.events.Event.TheVariants.Read, Worlds.MachineState}
+use Rattle.epoch_core.{specs.Cores.state_of, specs.Machine.to_read, proofs.Stepping.moved_by}
 use Rattle.epoch_core.proofs.advancing.read_next.Goals as goal
 
 pub returns-clause-steps : goal.returns-clause-steps

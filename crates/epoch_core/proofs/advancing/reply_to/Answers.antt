@@ -1,10 +1,8 @@
 use Rattle.std.proofs.Common.{◌≡◌, sym, subst}
 use Rattle.std.specs.{Prelude.MatchOption, Prelude.slice_get, Prelude.slice_index_or, Option.option_and_then}
-use Rattle.epoch_core.specs.Blocks.{Stepped, changed_at}
-use Rattle.epoch_core.specs.{declared.session_states.SessionState.TheVariants.Idle, Machine.ReadsContent, Worlds.MachineState}
-use Rattle.epoch_core.specs.{Cores.state_of}
-use Rattle.epoch_core.specs.Machine.{IsAnswered, question_in, to_reply, with_sessions}
-use Rattle.epoch_core.proofs.{Read.reads_content, Stepping.stepped_in}
+use Rattle.epoch_core.specs.{Blocks.Stepped, Blocks.changed_at, declared.session_states.SessionState.TheVariants.Idle}
+use Rattle.epoch_core.specs.Machine.{ReadsContent, IsAnswered, question_in, to_reply, with_sessions}
+use Rattle.epoch_core.{specs.Worlds.MachineState, specs.Cores.state_of, proofs.Read.reads_content, proofs.Stepping.stepped_in}
 use Rattle.epoch_core.proofs.advancing.reply_to.Goals as goal
 
 pub reply-requires-clause-content : goal.reply-requires-clause-content

@@ -1,7 +1,5 @@
-use Rattle.std.proofs.Common.{ap, sym, ◌∙◌}
-use Rattle.std.specs.Option.{option_map}
-use Rattle.graph_types.specs.Graph.{key_of, stamp_of}
-use Rattle.graph_types.proofs.EdgeLookup.{get-map_of}
+use Rattle.std.{proofs.Common.ap, proofs.Common.sym, proofs.Common.◌∙◌, specs.Option.option_map}
+use Rattle.graph_types.{specs.Graph.key_of, specs.Graph.stamp_of, proofs.EdgeLookup.get-map_of}
 use Rattle.epoch_core.specs.Posting as posting
 use Rattle.epoch_core.proofs.contents.bears.Goals as goal
 

@@ -1,6 +1,5 @@
 use Rattle.std.proofs.Common.{◌≡◌, ◌≤◌, length, refl, sym, subst, arith}
-use Rattle.std.specs.{Prelude.MatchOption, Option.option_and_then}
-use Rattle.std.proofs.lemmas.Option.{slice_get_past}
+use Rattle.std.{specs.Prelude.MatchOption, specs.Option.option_and_then, proofs.lemmas.Option.slice_get_past}
 use Rattle.epoch_core.specs.Machine.{IsAnswered, question_in, to_reply}
 use Rattle.epoch_core.proofs.OneElement.{stepped_past}
 use Rattle.epoch_core.proofs.replying.reply.Goals as goal

@@ -3,8 +3,7 @@ use Rattle.std.specs.declared.option.Option.TheVariants.{None}
 use Rattle.graph_types.specs.declared.requests.Request.{Request}
 use Rattle.epoch_core.specs.declared.session_states.{Hold.Hold, SessionState.SessionState}
 use Rattle.epoch_core.specs.declared.session_states.SessionState.TheVariants.{Idle, Pinned, Holding, Asking}
-use Rattle.epoch_core.specs.Machine.{to_ask}
-use Rattle.epoch_core.proofs.OneElement.{stepped_past, stays_at}
+use Rattle.epoch_core.{specs.Machine.to_ask, proofs.OneElement.stepped_past, proofs.OneElement.stays_at}
 use Rattle.epoch_core.proofs.sessions.ask.Goals as goal
 
 ask_stays : (request : Request) (p : SessionState) → ((hold : Hold) → p ≡ Holding hold → ⊥) → to_ask request p ≡ None

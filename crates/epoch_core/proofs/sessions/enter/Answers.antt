@@ -1,6 +1,5 @@
 use Rattle.std.proofs.Common.{◌≤◌, length, arith}
-use Rattle.epoch_core.specs.Machine.{to_enter}
-use Rattle.epoch_core.proofs.OneElement.{stepped_past}
+use Rattle.epoch_core.{specs.Machine.to_enter, proofs.OneElement.stepped_past}
 use Rattle.epoch_core.proofs.sessions.enter.Goals as goal
 
 pub returns-then-session-len : goal.returns-then-session-len

@@ -1,8 +1,7 @@
 use Rattle.std.proofs.Common.{◌≡◌, ◌<◌, ◌≤◌, ℕ, length, refl, arith}
 use Rattle.std.specs.declared.option.Option.TheVariants.{None}
-use Rattle.epoch_core.specs.declared.session_states.SessionState.{SessionState, TheVariants.Idle, TheVariants.Pinned}
-use Rattle.epoch_core.specs.declared.session_states.SessionState.{TheVariants.Holding, TheVariants.Asking}
-use Rattle.epoch_core.specs.Machine.{to_pin}
+use Rattle.epoch_core.specs.{declared.session_states.SessionState.SessionState, Machine.to_pin}
+use Rattle.epoch_core.specs.declared.session_states.SessionState.TheVariants.{Idle, Pinned, Holding, Asking}
 use Rattle.epoch_core.proofs.OneElement.{stepped_past, stays_at}
 use Rattle.epoch_core.proofs.sessions.pin.Goals as goal
 

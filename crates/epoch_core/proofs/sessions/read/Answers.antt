@@ -1,6 +1,5 @@
 use Rattle.std.proofs.Common.{◌<◌, ◌≤◌, length, arith}
-use Rattle.epoch_core.specs.Machine.{to_read}
-use Rattle.epoch_core.proofs.OneElement.{stepped_at, stepped_past}
+use Rattle.epoch_core.{specs.Machine.to_read, proofs.OneElement.stepped_at, proofs.OneElement.stepped_past}
 use Rattle.epoch_core.proofs.sessions.read.Goals as goal
 
 pub returns-clause-read : goal.returns-clause-read

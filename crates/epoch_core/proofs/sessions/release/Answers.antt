@@ -2,8 +2,7 @@ use Rattle.std.proofs.Common.{◌≡◌, ◌<◌, ◌≤◌, ℕ, length, refl, 
 use Rattle.std.specs.declared.option.Option.TheVariants.{None}
 use Rattle.epoch_core.specs.declared.session_states.{Hold.Hold, SessionState.SessionState}
 use Rattle.epoch_core.specs.declared.session_states.SessionState.TheVariants.{Idle, Pinned, Holding, Asking}
-use Rattle.epoch_core.specs.Machine.{to_release}
-use Rattle.epoch_core.proofs.OneElement.{stepped_past, stays_at}
+use Rattle.epoch_core.{specs.Machine.to_release, proofs.OneElement.stepped_past, proofs.OneElement.stays_at}
 use Rattle.epoch_core.proofs.sessions.release.Goals as goal
 
 release_stays : (p : SessionState) → ((pin : ℕ) → p ≡ Pinned pin → ⊥) → ((hold : Hold) → p ≡ Holding hold → ⊥)

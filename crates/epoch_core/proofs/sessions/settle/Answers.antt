@@ -1,6 +1,5 @@
 use Rattle.std.proofs.Common.{◌<◌, ◌≤◌, length, arith}
-use Rattle.epoch_core.specs.Machine.{to_settle}
-use Rattle.epoch_core.proofs.OneElement.{stepped_at, stepped_past}
+use Rattle.epoch_core.{specs.Machine.to_settle, proofs.OneElement.stepped_at, proofs.OneElement.stepped_past}
 use Rattle.epoch_core.proofs.sessions.settle.Goals as goal
 
 pub returns : goal.returns

@@ -1,8 +1,5 @@
 use Rattle.store_steps.proofs.Reached.{stays_reached, blank_reached}
 use Rattle.store_steps.proofs.laws.law_stays_reached.Goals as goal
 
-pub returns-clause-reached : goal.returns-clause-reached
-returns-clause-reached c = stays_reached
-
-pub returns-clause-blank : goal.returns-clause-blank
-returns-clause-blank c = blank_reached
+pub returns : goal.returns
+returns c = record { reached = stays_reached; blank = blank_reached }

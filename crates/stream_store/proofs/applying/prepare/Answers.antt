@@ -1,8 +1,7 @@
 use Rattle.std.proofs.Common.{◌≡◌, ◌+◌, length, List, sym, subst, ◌∙◌}
 use Rattle.std.specs.Arc.{arc_value}
 use Rattle.graph_types.specs.declared.batches.{Batch.Batch, NamedOp.NamedOp}
-use Rattle.graph_version.specs.Rows.{row_of}
-use Rattle.graph_version.specs.Versions.{content}
+use Rattle.graph_version.specs.{Rows.row_of, Versions.content}
 use Rattle.batch_apply.specs.Planned.{IsPlan}
 use Rattle.stream_store.specs.Refusals.{workers_for}
 use Rattle.stream_store.proofs.applying.prepare.Goals as goal

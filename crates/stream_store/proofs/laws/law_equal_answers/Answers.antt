@@ -1,6 +1,5 @@
 use Rattle.std.proofs.Common.{subst}
-use Rattle.graph_types.specs.Answer.{IsAnswer}
-use Rattle.graph_types.proofs.OneAnswer.{one_answer}
+use Rattle.graph_types.{specs.Answer.IsAnswer, proofs.OneAnswer.one_answer}
 use Rattle.stream_store.specs.Seats.{held_graph}
 use Rattle.stream_store.proofs.laws.law_equal_answers.Goals as goal
 

@@ -1,8 +1,7 @@
 use Rattle.std.proofs.Common.{◌≡◌, map, length, sym, ap, subst, ◌∙◌, arith, All}
 use Rattle.std.proofs.lemmas.List.{length-map}
 use Rattle.graph_version.specs.Versions.{VersionView}
-use Rattle.stream_store.specs.Seats.{SeatView, HasSeen}
-use Rattle.stream_store.proofs.Seated.{new_seats}
+use Rattle.stream_store.{specs.Seats.SeatView, specs.Seats.HasSeen, proofs.Seated.new_seats}
 use Rattle.stream_store.proofs.opening.open_over.Goals as goal
 
 pub returns-clause-seats : goal.returns-clause-seats

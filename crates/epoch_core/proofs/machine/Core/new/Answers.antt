@@ -1,6 +1,5 @@
 use Rattle.std.proofs.Common.{sym, subst}
-use Rattle.epoch_core.specs.{Sound.IsCore, Worlds.IsStart}
-use Rattle.epoch_core.proofs.{Steps.start_is_start, Cores.core_start}
+use Rattle.epoch_core.{specs.Sound.IsCore, specs.Worlds.IsStart, proofs.Steps.start_is_start, proofs.Cores.core_start}
 use Rattle.epoch_core.proofs.machine.Core.new.Goals as goal
 
 pub invariant_of-result : goal.invariant_of-result

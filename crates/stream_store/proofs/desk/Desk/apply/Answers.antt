@@ -4,8 +4,7 @@ use Rattle.graph_version.specs.{declared.versions.Version.Version, Versions.Vers
 use Rattle.logbook.specs.Pages.{Book}
 use Rattle.graph_types.specs.Step.{outcomes}
 use Rattle.block_pool.specs.Pools.{marked}
-use Rattle.block_reclamation.specs.declared.status.BlockStatus.TheVariants.{Used}
-use Rattle.block_reclamation.specs.Status.{is_free}
+use Rattle.block_reclamation.specs.{declared.status.BlockStatus.TheVariants.Used, Status.is_free}
 use Rattle.batch_apply.proofs.Names.{err_then}
 use Rattle.version_shelf.specs.Shelves.{ToldView}
 use Rattle.store_steps.specs.Steps.{Accepts}
@@ -14,6 +13,7 @@ use Rattle.stream_store.proofs.{Collections.kept_same, Collections.same_room, Ha
 use Rattle.stream_store.proofs.Handing.{Handing, handing, desk_of, back_used, back_same, taken_once, dropped_once, unused_once}
 use Rattle.stream_store.proofs.Handing.{born_used, born_same, end_pool, grant_within, desk_refuses, desk_admits, end_desk, end_kept}
 use Rattle.stream_store.proofs.Handing.{granted_many, unlisted}
+use Rattle.stream_store.proofs.desk.Desk.apply.{Given.Over, Goals.In-Ok, Goals.After-born_blocks}
 use Rattle.stream_store.proofs.desk.Desk.apply.Goals as goal
 
 pub returns-in_err-plan-clause-refused : goal.returns-in_err-plan-clause-refused
@@ -70,17 +70,28 @@ give_back_numbers-requires g c =
     back_used c.self.inside.pool c.grant_blocks.new.pool c.in_ok-numbers.field-0.numbers.items c.in_ok-numbers.ensures.numbers.0
     c.in_ok-numbers.ensures.used
 
-pub give_back_numbers-requires-in_default-publish : goal.give_back_numbers-requires-in_default-publish
-give_back_numbers-requires-in_default-publish g c =
-    let last : c.deref-3.result.now ≡ arc_value {X = Version} c.self.inside.last = c.deref-3.ensures in
-    let h : Handing =
+-- the batch handed over
+abbrev handed : (g : Over) → In-Ok g → Handing
+handed g c =
     handing (desk_of c.self.inside.opened (arc_value {X = Version} c.self.inside.last) c.self.inside.journal.items c.self.inside.pool) c.args.batch
     c.in_ok-numbers.field-0.numbers.items _ c.in-Ok.prepared c.grant_blocks.new.pool c.deref-3.result.now c.self.invariant.desk
-    c.in_ok-numbers.ensures.numbers.0 c.in_ok-numbers.ensures.blocks last c.in-Ok.ensures c.in_ok-numbers.ensures.used in
-    let born : c.born_blocks.new.pool ≡ marked c.in-Ok.prepared.taken (Used c.next_number-number.result) c.grant_blocks.new.pool =
-    c.born_blocks.ensures ∙ ap (λ ns. marked ns (Used c.next_number-number.result) c.grant_blocks.new.pool)
-    c.as_slice.ensures in
-    born_used h c.next_number-number.result c.born_blocks.new.pool born
+    c.in_ok-numbers.ensures.numbers.0 c.in_ok-numbers.ensures.blocks c.deref-3.ensures c.in-Ok.ensures
+    c.in_ok-numbers.ensures.used
+
+born : (g : Over) (c : After-born_blocks g)
+    → c.born_blocks.new.pool ≡ marked c.in-Ok.prepared.taken (Used c.next_number-number.result) c.grant_blocks.new.pool
+born g c =
+    c.born_blocks.ensures ∙ ap (λ ns. marked ns (Used c.next_number-number.result) c.grant_blocks.new.pool) c.as_slice.ensures
+
+numbered : (g : Over) (c : After-born_blocks g)
+    → c.next_number-number.result ≡ length (arc_value {X = Version} c.self.inside.last).batches + 1
+numbered g c = c.next_number-number.ensures ∙ ap (λ (v : VersionView). length v.batches + 1) c.deref-2.ensures
+
+pub give_back_numbers-requires-in_default-publish : goal.give_back_numbers-requires-in_default-publish
+give_back_numbers-requires-in_default-publish g c =
+    let b = (goal.at.give_back_numbers-requires-in_default-publish g c).After-born_blocks in
+    let h = handed g (goal.at.give_back_numbers-requires-in_default-publish g c).In-Ok in
+    born_used h c.next_number-number.result c.born_blocks.new.pool (born g b)
 
 pub invariant_of-self-in_default : goal.invariant_of-self-in_default
 invariant_of-self-in_default g c =
@@ -102,16 +113,10 @@ returns-in_default-clause-unchanged g c =
 
 pub invariant_of-self-in_default-publish : goal.invariant_of-self-in_default-publish
 invariant_of-self-in_default-publish g c =
-    let last : c.deref-3.result.now ≡ arc_value {X = Version} c.self.inside.last = c.deref-3.ensures in
-    let h : Handing =
-    handing (desk_of c.self.inside.opened (arc_value {X = Version} c.self.inside.last) c.self.inside.journal.items c.self.inside.pool) c.args.batch
-    c.in_ok-numbers.field-0.numbers.items _ c.in-Ok.prepared c.grant_blocks.new.pool c.deref-3.result.now c.self.invariant.desk
-    c.in_ok-numbers.ensures.numbers.0 c.in_ok-numbers.ensures.blocks last c.in-Ok.ensures c.in_ok-numbers.ensures.used in
-    let born : c.born_blocks.new.pool ≡ marked c.in-Ok.prepared.taken (Used c.next_number-number.result) c.grant_blocks.new.pool =
-    c.born_blocks.ensures ∙ ap (λ ns. marked ns (Used c.next_number-number.result) c.grant_blocks.new.pool)
-    c.as_slice.ensures in
+    let b = (goal.at.invariant_of-self-in_default-publish g c).After-born_blocks in
+    let h : Handing = handed g (goal.at.invariant_of-self-in_default-publish g c).In-Ok in
     let same : c.give_back_numbers-in_default-publish.new.pool ≡ c.self.inside.pool =
-    born_same h c.next_number-number.result c.born_blocks.new.pool _ born c.give_back_numbers-in_default-publish.ensures in
+    born_same h c.next_number-number.result c.born_blocks.new.pool _ (born g b) c.give_back_numbers-in_default-publish.ensures in
     let u = c.in_default-publish.ensures.unchanged in
     kept_same (state_of c.self.inside.shelf.book c.self.inside.workers c.self.inside.opened (arc_value {X = Version} c.self.inside.last) c.self.inside.journal.items
     c.self.inside.pool) _ c.self.inside.shelf _ _ _ _ _ c.self.invariant
@@ -119,73 +124,36 @@ invariant_of-self-in_default-publish g c =
 
 pub returns-in_default-publish-clause-unchanged : goal.returns-in_default-publish-clause-unchanged
 returns-in_default-publish-clause-unchanged g c =
-    let last : c.deref-3.result.now ≡ arc_value {X = Version} c.self.inside.last = c.deref-3.ensures in
-    let h : Handing =
-    handing (desk_of c.self.inside.opened (arc_value {X = Version} c.self.inside.last) c.self.inside.journal.items c.self.inside.pool) c.args.batch
-    c.in_ok-numbers.field-0.numbers.items _ c.in-Ok.prepared c.grant_blocks.new.pool c.deref-3.result.now c.self.invariant.desk
-    c.in_ok-numbers.ensures.numbers.0 c.in_ok-numbers.ensures.blocks last c.in-Ok.ensures c.in_ok-numbers.ensures.used in
-    let born : c.born_blocks.new.pool ≡ marked c.in-Ok.prepared.taken (Used c.next_number-number.result) c.grant_blocks.new.pool =
-    c.born_blocks.ensures ∙ ap (λ ns. marked ns (Used c.next_number-number.result) c.grant_blocks.new.pool)
-    c.as_slice.ensures in
+    let b = (goal.at.returns-in_default-publish-clause-unchanged g c).After-born_blocks in
+    let h : Handing = handed g (goal.at.returns-in_default-publish-clause-unchanged g c).In-Ok in
     let same : c.give_back_numbers-in_default-publish.new.pool ≡ c.self.inside.pool =
-    born_same h c.next_number-number.result c.born_blocks.new.pool _ born c.give_back_numbers-in_default-publish.ensures in
+    born_same h c.next_number-number.result c.born_blocks.new.pool _ (born g b) c.give_back_numbers-in_default-publish.ensures in
     let u = c.in_default-publish.ensures.unchanged in
     (λ i. state_of (u.3 i).book c.self.inside.workers c.self.inside.opened (arc_value {X = Version} (u.2 i)) (u.0 i) (same i)) ∙ c.self.view_is
 
 pub born_blocks-requires : goal.born_blocks-requires
 born_blocks-requires g c =
-    let last : c.deref-3.result.now ≡ arc_value {X = Version} c.self.inside.last = c.deref-3.ensures in
-    let h : Handing =
-    handing (desk_of c.self.inside.opened (arc_value {X = Version} c.self.inside.last) c.self.inside.journal.items c.self.inside.pool) c.args.batch
-    c.in_ok-numbers.field-0.numbers.items _ c.in-Ok.prepared c.grant_blocks.new.pool c.deref-3.result.now c.self.invariant.desk
-    c.in_ok-numbers.ensures.numbers.0 c.in_ok-numbers.ensures.blocks last c.in-Ok.ensures c.in_ok-numbers.ensures.used in
+    let h : Handing = handed g (goal.at.born_blocks-requires g c).In-Ok in
     subst (λ ns. AreUsedOnce ns c.grant_blocks.new.pool) (sym c.as_slice.ensures) (taken_once h)
 
 pub move_blocks-requires-clause-dropped : goal.move_blocks-requires-clause-dropped
 move_blocks-requires-clause-dropped g c =
-    let last : c.deref-3.result.now ≡ arc_value {X = Version} c.self.inside.last = c.deref-3.ensures in
-    let h : Handing =
-    handing (desk_of c.self.inside.opened (arc_value {X = Version} c.self.inside.last) c.self.inside.journal.items c.self.inside.pool) c.args.batch
-    c.in_ok-numbers.field-0.numbers.items _ c.in-Ok.prepared c.grant_blocks.new.pool c.deref-3.result.now c.self.invariant.desk
-    c.in_ok-numbers.ensures.numbers.0 c.in_ok-numbers.ensures.blocks last c.in-Ok.ensures c.in_ok-numbers.ensures.used in
-    let lent : c.deref-2.result.now ≡ arc_value {X = Version} c.self.inside.last = c.deref-2.ensures in
-    let number : c.next_number-number.result ≡ length (arc_value {X = Version} c.self.inside.last).batches + 1 =
-    c.next_number-number.ensures ∙ ap (λ (v : VersionView). length v.batches + 1) lent in
-    let born : c.born_blocks.new.pool ≡ marked c.in-Ok.prepared.taken (Used c.next_number-number.result) c.grant_blocks.new.pool =
-    c.born_blocks.ensures ∙ ap (λ ns. marked ns (Used c.next_number-number.result) c.grant_blocks.new.pool)
-    c.as_slice.ensures in
-    dropped_once h c.next_number-number.result c.born_blocks.new.pool number born
+    let b = (goal.at.move_blocks-requires-clause-dropped g c).After-born_blocks in
+    let h : Handing = handed g (goal.at.move_blocks-requires-clause-dropped g c).In-Ok in
+    dropped_once h c.next_number-number.result c.born_blocks.new.pool (numbered g b) (born g b)
 
 pub move_blocks-requires-clause-unused : goal.move_blocks-requires-clause-unused
 move_blocks-requires-clause-unused g c =
-    let last : c.deref-3.result.now ≡ arc_value {X = Version} c.self.inside.last = c.deref-3.ensures in
-    let h : Handing =
-    handing (desk_of c.self.inside.opened (arc_value {X = Version} c.self.inside.last) c.self.inside.journal.items c.self.inside.pool) c.args.batch
-    c.in_ok-numbers.field-0.numbers.items _ c.in-Ok.prepared c.grant_blocks.new.pool c.deref-3.result.now c.self.invariant.desk
-    c.in_ok-numbers.ensures.numbers.0 c.in_ok-numbers.ensures.blocks last c.in-Ok.ensures c.in_ok-numbers.ensures.used in
-    let lent : c.deref-2.result.now ≡ arc_value {X = Version} c.self.inside.last = c.deref-2.ensures in
-    let number : c.next_number-number.result ≡ length (arc_value {X = Version} c.self.inside.last).batches + 1 =
-    c.next_number-number.ensures ∙ ap (λ (v : VersionView). length v.batches + 1) lent in
-    let born : c.born_blocks.new.pool ≡ marked c.in-Ok.prepared.taken (Used c.next_number-number.result) c.grant_blocks.new.pool =
-    c.born_blocks.ensures ∙ ap (λ ns. marked ns (Used c.next_number-number.result) c.grant_blocks.new.pool)
-    c.as_slice.ensures in
-    unused_once h c.next_number-number.result c.born_blocks.new.pool number born
+    let b = (goal.at.move_blocks-requires-clause-unused g c).After-born_blocks in
+    let h : Handing = handed g (goal.at.move_blocks-requires-clause-unused g c).In-Ok in
+    unused_once h c.next_number-number.result c.born_blocks.new.pool (numbered g b) (born g b)
 
 pub invariant_of-self-2 : goal.invariant_of-self-2
 invariant_of-self-2 g c =
-    let last : c.deref-3.result.now ≡ arc_value {X = Version} c.self.inside.last = c.deref-3.ensures in
-    let h : Handing =
-    handing (desk_of c.self.inside.opened (arc_value {X = Version} c.self.inside.last) c.self.inside.journal.items c.self.inside.pool) c.args.batch
-    c.in_ok-numbers.field-0.numbers.items _ c.in-Ok.prepared c.grant_blocks.new.pool c.deref-3.result.now c.self.invariant.desk
-    c.in_ok-numbers.ensures.numbers.0 c.in_ok-numbers.ensures.blocks last c.in-Ok.ensures c.in_ok-numbers.ensures.used in
-    let lent : c.deref-2.result.now ≡ arc_value {X = Version} c.self.inside.last = c.deref-2.ensures in
-    let number : c.next_number-number.result ≡ length (arc_value {X = Version} c.self.inside.last).batches + 1 =
-    c.next_number-number.ensures ∙ ap (λ (v : VersionView). length v.batches + 1) lent in
+    let b = (goal.at.invariant_of-self-2 g c).After-born_blocks in
+    let h : Handing = handed g (goal.at.invariant_of-self-2 g c).In-Ok in
     let p = c.in-Ok-publish.ensures in
-    let born : c.born_blocks.new.pool ≡ marked c.in-Ok.prepared.taken (Used c.next_number-number.result) c.grant_blocks.new.pool =
-    c.born_blocks.ensures ∙ ap (λ ns. marked ns (Used c.next_number-number.result) c.grant_blocks.new.pool)
-    c.as_slice.ensures in
-    let pool = end_pool h c.next_number-number.result c.born_blocks.new.pool c.move_blocks.new.pool number born
+    let pool = end_pool h c.next_number-number.result c.born_blocks.new.pool c.move_blocks.new.pool (numbered g b) (born g b)
     c.move_blocks.ensures in
     let end = end_desk h c.self.inside.opened (arc_value {X = Version} c.publish.new.last) c.publish.new.journal.items c.self.inside.journal.items
     c.move_blocks.new.pool refl refl p.last p.entered pool in
@@ -203,19 +171,10 @@ returns-clause-within g c =
 
 pub returns-clause-accepted : goal.returns-clause-accepted
 returns-clause-accepted g c =
-    let last : c.deref-3.result.now ≡ arc_value {X = Version} c.self.inside.last = c.deref-3.ensures in
-    let h : Handing =
-    handing (desk_of c.self.inside.opened (arc_value {X = Version} c.self.inside.last) c.self.inside.journal.items c.self.inside.pool) c.args.batch
-    c.in_ok-numbers.field-0.numbers.items _ c.in-Ok.prepared c.grant_blocks.new.pool c.deref-3.result.now c.self.invariant.desk
-    c.in_ok-numbers.ensures.numbers.0 c.in_ok-numbers.ensures.blocks last c.in-Ok.ensures c.in_ok-numbers.ensures.used in
-    let lent : c.deref-2.result.now ≡ arc_value {X = Version} c.self.inside.last = c.deref-2.ensures in
-    let number : c.next_number-number.result ≡ length (arc_value {X = Version} c.self.inside.last).batches + 1 =
-    c.next_number-number.ensures ∙ ap (λ (v : VersionView). length v.batches + 1) lent in
+    let b = (goal.at.returns-clause-accepted g c).After-born_blocks in
+    let h : Handing = handed g (goal.at.returns-clause-accepted g c).In-Ok in
     let p = c.in-Ok-publish.ensures in
-    let born : c.born_blocks.new.pool ≡ marked c.in-Ok.prepared.taken (Used c.next_number-number.result) c.grant_blocks.new.pool =
-    c.born_blocks.ensures ∙ ap (λ ns. marked ns (Used c.next_number-number.result) c.grant_blocks.new.pool)
-    c.as_slice.ensures in
-    let pool = end_pool h c.next_number-number.result c.born_blocks.new.pool c.move_blocks.new.pool number born
+    let pool = end_pool h c.next_number-number.result c.born_blocks.new.pool c.move_blocks.new.pool (numbered g b) (born g b)
     c.move_blocks.ensures in
     let end = end_desk h c.self.inside.opened (arc_value {X = Version} c.publish.new.last) c.publish.new.journal.items c.self.inside.journal.items
     c.move_blocks.new.pool refl refl p.last p.entered pool in

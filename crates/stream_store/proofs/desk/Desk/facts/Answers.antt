@@ -1,8 +1,6 @@
 use Rattle.std.proofs.Common.{subst}
-use Rattle.store_steps.specs.Desks.{IsDesk}
-use Rattle.store_steps.proofs.Dated.{desk_dated}
-use Rattle.stream_store.specs.Kept.{DeskState}
-use Rattle.stream_store.proofs.UsedBlocks.{used_blocks}
+use Rattle.store_steps.{specs.Desks.IsDesk, proofs.Dated.desk_dated}
+use Rattle.stream_store.{specs.Kept.DeskState, proofs.UsedBlocks.used_blocks}
 use Rattle.stream_store.proofs.desk.Desk.facts.Goals as goal
 
 pub returns-clause-replays : goal.returns-clause-replays

@@ -3,8 +3,7 @@ use Rattle.std.specs.Arc.{arc_value}
 use Rattle.graph_version.specs.{declared.versions.Version.Version, Versions.VersionView}
 use Rattle.version_shelf.specs.Shelves.{opened_shelf}
 use Rattle.store_steps.specs.Opening.{opened_desk}
-use Rattle.stream_store.specs.Kept.{entry_of}
-use Rattle.stream_store.proofs.Collections.{kept_same, opened_kept}
+use Rattle.stream_store.{specs.Kept.entry_of, proofs.Collections.kept_same, proofs.Collections.opened_kept}
 use Rattle.stream_store.proofs.desk.Desk.opened.Goals as goal
 
 pub invariant_of-result : goal.invariant_of-result

@@ -1,5 +1,4 @@
-use Rattle.std.proofs.Common.{sym, ap, ◌∙◌}
-use Rattle.std.specs.{Prelude.option_map, Arc.arc_value}
+use Rattle.std.{proofs.Common.sym, proofs.Common.ap, proofs.Common.◌∙◌, specs.Prelude.option_map, specs.Arc.arc_value}
 use Rattle.graph_version.specs.declared.versions.Version.{Version}
 use Rattle.stream_store.specs.Seats.{held_version, lent_or_seen}
 use Rattle.stream_store.proofs.seats.Session.version.Goals as goal

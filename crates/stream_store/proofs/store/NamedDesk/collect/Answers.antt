@@ -1,7 +1,5 @@
-use Rattle.std.proofs.Common.{ap, subst, ◌∙◌}
-use Rattle.std.specs.Prelude.{count_by}
-use Rattle.block_reclamation.specs.declared.copies.PinCopy.{PinCopy}
-use Rattle.block_reclamation.specs.Status.{is_reclaimable}
+use Rattle.std.{proofs.Common.ap, proofs.Common.subst, proofs.Common.◌∙◌, specs.Prelude.count_by}
+use Rattle.block_reclamation.specs.{declared.copies.PinCopy.PinCopy, Status.is_reclaimable}
 use Rattle.store_steps.specs.{Desks.IsCollected, Steps.TakesAt, Steps.recycling}
 use Rattle.stream_store.specs.Kept.{DeskState}
 use Rattle.stream_store.proofs.store.NamedDesk.collect.Goals as goal
