@@ -13,7 +13,7 @@ ghost use Rattle.batch_apply.specs.Planned.{IsPlan, MeetsNeitherLimit, IsPlanRef
 ghost use Rattle.batch_apply.specs.Shards.{IsShardOf, latest};
 ghost use Rattle.batch_apply.specs.OldRows.{AreOldRows, expiry_time};
 
-use crate::naming::resolve_batch;
+use crate::naming::resolve_within;
 use crate::old::OldRow;
 use crate::plans::{Plan, PlanError};
 use crate::resolve::ResolvedOp;
@@ -46,10 +46,8 @@ pub fn plan_with(
 {
     let mut names = version.names().share()?;
     let mut kinds = version.kinds().share()?;
-    let ops = resolve_batch(alloc, &mut names, &mut kinds, batch.ops())?;
+    let ops = resolve_within(alloc, &mut names, &mut kinds, batch.ops())?;
     let Shards { shards, needs } = shards_for(alloc, workers, ops.as_slice(), old)?;
-    // (a book is within its limit)
-    let _within = (names.len(), kinds.len());
     Ok(Plan {
         names,
         kinds,

@@ -3,7 +3,7 @@
 ghost use Rattle.std.specs.Prelude.{◌≡◌, ◌≤◌, map, IfOk, IfErr, OnOk, All};
 ghost use Rattle.graph_types.specs.Valid.{IsValid};
 ghost use Rattle.edge_block.specs.Batches.{resolved, IsPlaced};
-ghost use Rattle.batch_apply.specs.Plan.{names_all, kinds_all, shown, with_names, IsInRange, IsUnplanned};
+ghost use Rattle.batch_apply.specs.Plan.{names_all, kinds_all, shown, with_names, Fits, IsInRange, IsUnplanned};
 
 use crate::plans::PlanError;
 use crate::resolve::{ResolvedOp, ends_of, with_kinds};
@@ -15,7 +15,6 @@ use vertex_names::{AddError, NameBook};
 /// that the batch leaves.
 ///
 /// `NamesFull` comes before `KindsFull`. After an error the books have some of the batch's names.
-#[tactic(auto, using(crate::proofs::Resolving::resolved_is, crate::proofs::Resolving::as_many_ends, crate::proofs::Resolving::placed_in))]
 pub fn resolve_batch(
     alloc: Global,
     names: &mut NameBook,
@@ -31,12 +30,35 @@ pub fn resolve_batch(
     ensures kinds { OnOk result (kinds.new ≡ with_names kinds.old (kinds_all ops.now kinds.old.names)) }
     ensures refused { IfErr result (λ error. IsUnplanned error ops.now names.old kinds.old) }
 {
+    // (a book is within its limit)
+    let _within = (names.len(), kinds.len());
+    resolve_within(alloc, names, kinds, ops)
+}
+
+/// As `resolve_batch`, where the books are within their limits; after it they are too.
+#[tactic(auto, using(crate::proofs::Resolving::resolved_is, crate::proofs::Resolving::as_many_ends, crate::proofs::Resolving::placed_in))]
+pub fn resolve_within(
+    alloc: Global,
+    names: &mut NameBook,
+    kinds: &mut NameBook,
+    ops: &[NamedOp],
+) -> Result<Vec<ResolvedOp>, PlanError>
+    requires limit { kinds.old.limit ≤ 64 }
+    requires within { Fits names.old × Fits kinds.old }
+    requires valid { All IsValid ops.now }
+    ensures ops { IfOk result (λ v. map shown v.items ≡ resolved ops.now names.old.names kinds.old.names) }
+    ensures changes { IfOk result (λ v. All IsInRange v.items) }
+    ensures placed { IfOk result (λ v. All IsPlaced (map shown v.items)) }
+    ensures names { OnOk result (names.new ≡ with_names names.old (names_all ops.now names.old.names)) }
+    ensures kinds { OnOk result (kinds.new ≡ with_names kinds.old (kinds_all ops.now kinds.old.names)) }
+    ensures within { OnOk result (Fits names.new × Fits kinds.new) }
+    ensures refused { IfErr result (λ error. IsUnplanned error ops.now names.old kinds.old) }
+{
     let ends = match ends_of(alloc, names, ops) {
         Ok(ends) => ends,
         Err(AddError::NamesFull) => return Err(PlanError::NamesFull),
         Err(AddError::OutOfMemory) => return Err(PlanError::OutOfMemory),
     };
-    let _within = names.len();
     match with_kinds(alloc, kinds, ops, ends.as_slice()) {
         Ok(resolved) => Ok(resolved),
         Err(AddError::NamesFull) => Err(PlanError::KindsFull),

@@ -7,11 +7,18 @@ use Rattle.edge_block.specs.Batches.{Resolved, resolved}
 use Rattle.graph_version.specs.Rows.{row_of}
 use Rattle.graph_version.specs.{Kept.vertex_book, Kept.kind_book, Versions.VersionView, Versions.content}
 use Rattle.batch_shards.specs.{Done.layout_by, declared.shard.Shard.Shard}
-use Rattle.batch_apply.specs.{Plan.shown, Plan.names_all, Plan.kinds_all, Plan.with_names, Shards.IsShardOf, Shards.latest}
+use Rattle.batch_apply.specs.{Plan.shown, Plan.names_all, Plan.kinds_all, Plan.with_names, Plan.Fits, Shards.IsShardOf, Shards.latest}
 use Rattle.batch_apply.specs.{OldRows.AreOldRows, OldRows.expiry_time, declared.resolve.ResolvedOp.ResolvedOp}
 use Rattle.batch_apply.proofs.{Resolving.as_many_shown, Leaving.names_book, Leaving.kinds_book}
 use Rattle.batch_apply.proofs.Needs.{same_time, exact_needs, few_old_rows}
 use Rattle.batch_apply.proofs.dividing.plan_with.Goals as goal
+
+-- the version's books are within their limits
+pub resolve_within-requires-clause-within : goal.resolve_within-requires-clause-within
+resolve_within-requires-clause-within c = (
+  subst Fits (sym (c.in_ok-names.ensures ∙ c.names.ensures.names)) c.names.ensures.version.small.names,
+  subst Fits (sym (c.in_ok-kinds.ensures ∙ c.kinds.ensures)) c.names.ensures.version.small.kinds,
+)
 
 pub shards_for-requires-clause-few : goal.shards_for-requires-clause-few
 shards_for-requires-clause-few c =
@@ -56,9 +63,9 @@ returns-clause-plan c =
     let many = as_many_shown found c.ops.result.now c.in_ok-names.names.names c.in_ok-kinds.kinds.names ops_are in
     let few : length rs ≤ 4096 = omega (arith, many, ap length same, c.ops.ensures.batch.few, length-map found shown) in
     record {
-      names = names_book ops g c.in_ok-names.names c.resolve_batch.new.names old_names (c.in_ok-ops.ensures.names
+      names = names_book ops g c.in_ok-names.names c.resolve_within.new.names old_names (c.in_ok-ops.ensures.names
           ∙ ap (λ (os : List NamedOp). with_names c.in_ok-names.names (names_all os c.in_ok-names.names.names)) same);
-      kinds = kinds_book ops g c.in_ok-kinds.kinds c.resolve_batch.new.kinds old_kinds (c.in_ok-ops.ensures.kinds
+      kinds = kinds_book ops g c.in_ok-kinds.kinds c.resolve_within.new.kinds old_kinds (c.in_ok-ops.ensures.kinds
           ∙ ap (λ (os : List NamedOp). with_names c.in_ok-kinds.kinds (kinds_all os c.in_ok-kinds.kinds.names)) same);
       shards = subst (λ (os : List Resolved). AllZip (IsShardOf c.args.workers os (layout_by rows))
           (range_with_len 0 c.args.workers) shards) resolved_are zip;
