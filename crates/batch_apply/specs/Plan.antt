@@ -89,6 +89,10 @@ IsInRange (Expire time) = Unit {0}
 abbrev pub with_names : Book → List (List ℕ) → Book
 with_names book names = record book { names = names }
 
+-- a book is within its limit
+abbrev pub Fits : Book → Type 0
+Fits book = length book.names ≤ book.limit
+
 -- the refusal of names that would be more than the limit; want of memory may come at any time
 abbrev pub IsRefusal : AddError → Book → List (List ℕ) → Type 0
 IsRefusal NamesFull book names = book.limit < length names

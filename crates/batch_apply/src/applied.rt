@@ -77,8 +77,6 @@ pub fn apply<R: Threads + Sync, G: Gate + Sync>(
         blocks,
         operations: batch.len(),
     };
-    // (a book is within its limit, and so the batch meets neither)
-    let _within = (names.len(), kinds.len());
     let all = work(rt, alloc, gate, version, load)?;
     let edges = edges_after(version.edge_count(), &all.outcomes);
     let draft = VersionDraft::over_named(version, names, kinds)?;

@@ -48,8 +48,6 @@ pub fn plan_with(
     let mut kinds = version.kinds().share()?;
     let ops = resolve_batch(alloc, &mut names, &mut kinds, batch.ops())?;
     let Shards { shards, needs } = shards_for(alloc, workers, ops.as_slice(), old)?;
-    // (a book is within its limit)
-    let _within = (names.len(), kinds.len());
     Ok(Plan {
         names,
         kinds,

@@ -23,7 +23,6 @@ pub use laws::{
     law_all_written, law_batch_totals, law_needs, law_needs_example, law_shard_results,
     law_sum_all, law_worker_rows,
 };
-pub use naming::resolve_batch;
 pub use old::{OldRow, old_rows};
 pub use planning::plan;
 pub use plans::{Plan, PlanError};

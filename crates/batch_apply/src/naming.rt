@@ -3,7 +3,7 @@
 ghost use Rattle.std.specs.Prelude.{◌≡◌, ◌≤◌, map, IfOk, IfErr, OnOk, All};
 ghost use Rattle.graph_types.specs.Valid.{IsValid};
 ghost use Rattle.edge_block.specs.Batches.{resolved, IsPlaced};
-ghost use Rattle.batch_apply.specs.Plan.{names_all, kinds_all, shown, with_names, IsInRange, IsUnplanned};
+ghost use Rattle.batch_apply.specs.Plan.{names_all, kinds_all, shown, with_names, Fits, IsInRange, IsUnplanned};
 
 use crate::plans::PlanError;
 use crate::resolve::{ResolvedOp, ends_of, with_kinds};
@@ -12,7 +12,7 @@ use std::alloc::Global;
 use vertex_names::{AddError, NameBook};
 
 /// A batch's operations with the numbers of their names, each by the names at its place; the books then have the names
-/// that the batch leaves.
+/// that the batch leaves, and are within their limits as they were before.
 ///
 /// `NamesFull` comes before `KindsFull`. After an error the books have some of the batch's names.
 #[tactic(auto, using(crate::proofs::Resolving::resolved_is, crate::proofs::Resolving::as_many_ends, crate::proofs::Resolving::placed_in))]
@@ -23,12 +23,14 @@ pub fn resolve_batch(
     ops: &[NamedOp],
 ) -> Result<Vec<ResolvedOp>, PlanError>
     requires limit { kinds.old.limit ≤ 64 }
+    requires within { Fits names.old × Fits kinds.old }
     requires valid { All IsValid ops.now }
     ensures ops { IfOk result (λ v. map shown v.items ≡ resolved ops.now names.old.names kinds.old.names) }
     ensures changes { IfOk result (λ v. All IsInRange v.items) }
     ensures placed { IfOk result (λ v. All IsPlaced (map shown v.items)) }
     ensures names { OnOk result (names.new ≡ with_names names.old (names_all ops.now names.old.names)) }
     ensures kinds { OnOk result (kinds.new ≡ with_names kinds.old (kinds_all ops.now kinds.old.names)) }
+    ensures within { OnOk result (Fits names.new × Fits kinds.new) }
     ensures refused { IfErr result (λ error. IsUnplanned error ops.now names.old kinds.old) }
 {
     let ends = match ends_of(alloc, names, ops) {
@@ -36,7 +38,6 @@ pub fn resolve_batch(
         Err(AddError::NamesFull) => return Err(PlanError::NamesFull),
         Err(AddError::OutOfMemory) => return Err(PlanError::OutOfMemory),
     };
-    let _within = names.len();
     match with_kinds(alloc, kinds, ops, ends.as_slice()) {
         Ok(resolved) => Ok(resolved),
         Err(AddError::NamesFull) => Err(PlanError::KindsFull),

@@ -8,7 +8,7 @@ ghost use Rattle.std.specs.Option.{option_map};
 ghost use Rattle.edge_block.specs.Operations.{parts_of, names_after, kinds_after};
 ghost use Rattle.batch_apply.specs.Plan as plan;
 ghost use Rattle.batch_apply.specs.Plan.{known, ends_in, ends_all, names_all, kinds_all, key_from, key_of, shown, with_names};
-ghost use Rattle.batch_apply.specs.Plan.{ends_listed, kind_by, IsInRange, IsRefusal};
+ghost use Rattle.batch_apply.specs.Plan.{ends_listed, kind_by, Fits, IsInRange, IsRefusal};
 
 use graph_types::{EdgeChange, KindId, NamedOp};
 use std::alloc::Global;
@@ -64,6 +64,7 @@ fn add_ends(names: &mut NameBook, source: &str, target: &str) -> Result<Ends, Ad
     ensures ends { let after = with_name (with_name names.old.names source.now) target.now in
         IfOk result (λ e. e ≡ record { source = known after source.now; target = known after target.now }) }
     ensures names { OnOk result (names.new ≡ with_names names.old (with_name (with_name names.old.names source.now) target.now)) }
+    ensures within { OnOk result (Fits names.new) }
     ensures refused { IfErr result (λ error. IsRefusal error names.old
         (with_name (with_name names.old.names source.now) target.now)) }
 {
@@ -77,9 +78,11 @@ fn add_ends(names: &mut NameBook, source: &str, target: &str) -> Result<Ends, Ad
 
 /// The numbers of an operation's ends; its names are added first, where it makes any.
 fn op_ends(names: &mut NameBook, op: &NamedOp) -> Result<Ends, AddError>
-    requires { IsTrue (has_names op.now) }
+    requires within { Fits names.old }
+    requires names { IsTrue (has_names op.now) }
     ensures ends { IfOk result (λ e. e ≡ ends_in (names_after op.now names.old.names) op.now) }
     ensures names { OnOk result (names.new ≡ with_names names.old (names_after op.now names.old.names)) }
+    ensures within { OnOk result (Fits names.new) }
     ensures refused { IfErr result (λ error. IsRefusal error names.old (names_after op.now names.old.names)) }
 {
     match op {
@@ -102,9 +105,11 @@ fn op_ends(names: &mut NameBook, op: &NamedOp) -> Result<Ends, AddError>
 
 /// As `ends_of`, of any number of operations.
 fn list_ends(alloc: Global, names: &mut NameBook, ops: &[NamedOp]) -> Result<Vec<Ends>, AddError>
-    requires { All IsValid ops.now }
+    requires within { Fits names.old }
+    requires valid { All IsValid ops.now }
     ensures ends { IfOk result (λ e. e.items ≡ ends_all ops.now names.old.names) }
     ensures names { OnOk result (names.new ≡ with_names names.old (names_all ops.now names.old.names)) }
+    ensures within { OnOk result (Fits names.new) }
     ensures refused { IfErr result (λ error. IsRefusal error names.old (names_all ops.now names.old.names)) }
 {
     let mut found = Vec::with_capacity(alloc, ops.len())?;
@@ -118,9 +123,11 @@ fn list_ends(alloc: Global, names: &mut NameBook, ops: &[NamedOp]) -> Result<Vec
 ///
 /// After an error the book has some of the names.
 pub fn ends_of(alloc: Global, names: &mut NameBook, ops: &[NamedOp]) -> Result<EndsList, AddError>
-    requires { All IsValid ops.now }
+    requires within { Fits names.old }
+    requires valid { All IsValid ops.now }
     ensures ends { IfOk result (λ e. ends_listed e ≡ ends_all ops.now names.old.names) }
     ensures names { OnOk result (names.new ≡ with_names names.old (names_all ops.now names.old.names)) }
+    ensures within { OnOk result (Fits names.new) }
     ensures refused { IfErr result (λ error. IsRefusal error names.old (names_all ops.now names.old.names)) }
 {
     if let [op] = ops {
@@ -135,6 +142,7 @@ fn add_kind(kinds: &mut NameBook, kind: &str) -> Result<Option<KindId>, AddError
     requires kind { IsTrue (is_name kind.now) }
     ensures kind { IfOk result (λ k. option_map (λ k. k.0) k ≡ known (with_name kinds.old.names kind.now) kind.now) }
     ensures kinds { OnOk result (kinds.new ≡ with_names kinds.old (with_name kinds.old.names kind.now)) }
+    ensures within { OnOk result (Fits kinds.new) }
     ensures refused { IfErr result (λ error. IsRefusal error kinds.old (with_name kinds.old.names kind.now)) }
 {
     let number = kinds.add(kind)?;
@@ -153,9 +161,11 @@ fn find_kind(kinds: &NameBook, kind: &str) -> Option<KindId>
 /// The number of an operation's kind, which is added first, where the operation makes kinds.
 fn op_kind(kinds: &mut NameBook, op: &NamedOp) -> Result<Option<KindId>, AddError>
     requires limit { kinds.old.limit ≤ 64 }
+    requires within { Fits kinds.old }
     requires names { IsTrue (has_names op.now) }
     ensures kind { IfOk result (λ k. option_map (λ k. k.0) k ≡ kind_by (kinds_after op.now kinds.old.names) (parts_of op.now)) }
     ensures kinds { OnOk result (kinds.new ≡ with_names kinds.old (kinds_after op.now kinds.old.names)) }
+    ensures within { OnOk result (Fits kinds.new) }
     ensures refused { IfErr result (λ error. IsRefusal error kinds.old (kinds_after op.now kinds.old.names)) }
 {
     match op {
@@ -223,11 +233,13 @@ pub fn with_kinds(
     ends: &[Ends],
 ) -> Result<Vec<ResolvedOp>, AddError>
     requires limit { kinds.old.limit ≤ 64 }
+    requires within { Fits kinds.old }
     requires valid { All IsValid ops.now }
     requires ends { length ends.now ≡ length ops.now }
     ensures ops { IfOk result (λ v. map shown v.items ≡ plan.with_kinds ends.now ops.now kinds.old.names) }
     ensures changes { IfOk result (λ v. All IsInRange v.items) }
     ensures kinds { OnOk result (kinds.new ≡ with_names kinds.old (kinds_all ops.now kinds.old.names)) }
+    ensures within { OnOk result (Fits kinds.new) }
     ensures refused { IfErr result (λ error. IsRefusal error kinds.old (kinds_all ops.now kinds.old.names)) }
 {
     let mut found = Vec::with_capacity(alloc, ops.len())?;

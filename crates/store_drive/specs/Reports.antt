@@ -2,6 +2,8 @@
 use Rattle.std.specs.Prelude.{◌≡◌, ℕ, ◌*◌, ◌≤◌, List, codes}
 use Rattle.stream_store.specs.declared.receipts.ApplyError.{ApplyError}
 use Rattle.stream_store.specs.declared.receipts.ApplyError.TheVariants as errors
+use Rattle.graph_model.specs.declared.apply.PlainError.{PlainError}
+use Rattle.graph_model.specs.declared.apply.PlainError.TheVariants as plain
 use Rattle.store_drive.specs.declared.reports.DriveCounts.{DriveCounts}
 use Rattle.store_drive.specs.declared.reports.DriveReport.{DriveReport}
 use Rattle.store_drive.specs.declared.reports.DriveWord.{DriveWord}
@@ -23,6 +25,12 @@ word_of errors.NamesFull = NamesFull
 word_of errors.KindsFull = KindsFull
 word_of (errors.PoolEmpty needed free) = PoolEmpty
 word_of errors.OutOfMemory = Memory
+
+-- the word of a batch that the plain application refused
+abbrev pub plain_word : PlainError → DriveWord
+plain_word plain.NamesFull = NamesFull
+plain_word plain.KindsFull = KindsFull
+plain_word plain.OutOfMemory = Memory
 
 -- one to four threads read
 pub record IsReaderCount (readers : ℕ) : Type 0 where

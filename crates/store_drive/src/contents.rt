@@ -3,6 +3,7 @@
 ghost use Rattle.std.specs.Prelude.{◌≡◌, IfOk, OnOk};
 ghost use Rattle.graph_types.specs.Graph.{graph_of, IsContent};
 ghost use Rattle.graph_types.specs.Step.{empty_graph, left_by};
+ghost use Rattle.store_drive.specs.Reports.{plain_word};
 
 use crate::reports::DriveWord;
 use graph_model::{PlainError, plain_apply};
@@ -11,6 +12,8 @@ use graph_version::Version;
 use std::alloc::Global;
 
 impl From<PlainError> for DriveWord {
+    ghost from_gives = { λ error e. e ≡ plain_word error };
+
     fn from(error: PlainError) -> DriveWord {
         match error {
             PlainError::NamesFull => DriveWord::NamesFull,

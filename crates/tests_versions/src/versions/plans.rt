@@ -1,18 +1,15 @@
 // Plans of batches over the version without batches, as text.
 
-ghost use Rattle.std.specs.Prelude.{◌<◌, ◌≤◌};
+ghost use Rattle.std.specs.Prelude.{◌<◌};
 
-use super::ops::batch_of;
 use super::steps::planned;
 use crate::texts::{check_so, check_text, push_item, tell_refused};
-use batch_apply::{Plan, PlanError, law_sources_within, resolve_batch};
+use batch_apply::{Plan, PlanError, law_sources_within};
 use batch_shards::{Act, Shard, Step};
-use graph_types::Batch;
 use graph_version::Version;
 use std::alloc::{AllocError, Global};
 use std::io::Print;
 use std::process::Abort;
-use vertex_names::NameBook;
 
 /// A source's place in the shard, `-` where a name is unknown, `*` for all.
 fn write_row(text: &mut String, act: &Act) -> Result<(), AllocError> {
@@ -120,37 +117,6 @@ fn plans_by_source(rt: HostRuntime) {
     );
     check_plan(&rt, rt.alloc(), KINDS, 2, "2 64 64; 0: 0@0 1@0 ..");
     law_sources_within();
-}
-
-/// How many operations of the batch are resolved, on empty books of these limits.
-fn resolved_of(alloc: Global, batch: &Batch, names: u32, kinds: u32) -> Result<usize, PlanError>
-    requires { kinds ≤ 64 }
-{
-    let mut names = NameBook::new(alloc, names);
-    let mut kinds = NameBook::new(alloc, kinds);
-    match resolve_batch(alloc, &mut names, &mut kinds, batch.ops()) {
-        Ok(ops) => Ok(ops.len()),
-        Err(error) => Err(error),
-    }
-}
-
-/// The same of the batch of five operations.
-fn resolved(alloc: Global, names: u32, kinds: u32) -> Result<usize, PlanError>
-    requires { kinds ≤ 64 }
-{
-    match batch_of(alloc, BATCH) {
-        Some(batch) => resolved_of(alloc, &batch, names, kinds),
-        None => Err(PlanError::OutOfMemory),
-    }
-}
-
-/// Three names and one kind against books that are too small for them: the names come first.
-#[test]
-fn meets_the_limit_of_names_before_that_of_kinds(rt: HostRuntime) {
-    let alloc = rt.alloc();
-    assert_eq!(rt; resolved(alloc, 2, 0), Err(PlanError::NamesFull));
-    assert_eq!(rt; resolved(alloc, 3, 0), Err(PlanError::KindsFull));
-    assert_eq!(rt; resolved(alloc, 3, 1), Ok(5));
 }
 
 /// The plan has its text, or memory was refused.

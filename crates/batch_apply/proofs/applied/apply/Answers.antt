@@ -1,4 +1,4 @@
-use Rattle.std.proofs.Common.{◌≡◌, ℕ, ◌+◌, ◌%◌, ◌^◌, ◌≤◌, List, length, replicate, refl, sym, ap, ◌∙◌, subst}
+use Rattle.std.proofs.Common.{◌≡◌, ℕ, ◌+◌, ◌%◌, ◌^◌, ◌≤◌, List, length, replicate, refl, sym, ap, ◌∙◌, subst, rules}
 use Rattle.std.{specs.Prelude.count_by, specs.List.sum_by, specs.FinMap.len, proofs.lemmas.List.length-map}
 use Rattle.graph_types.specs.{Graph.Graph, Limits.operation_limit, Step.after_all, Step.outcomes}
 use Rattle.graph_types.specs.declared.batches.{NamedOp.NamedOp, Outcome.TheVariants.Absent}
@@ -52,7 +52,7 @@ made g c =
     let told = a.outcomes_are ∙ ap (λ n. written_from a.dones (replicate n Absent)) (c.len.ensures.count ∙ ap length c.deref.ensures) in
     let limits : MeetsNeitherLimit ops (content v) =
     neither_limit ops (content v) c.args.plan.names c.args.plan.kinds p.names p.kinds
-    c.len-2.ensures.book.few c.len-3.ensures.book.few in
+    (search rules) (search rules) in
     let done = next_made v ops c.requires.plan.0 c.args.plan.shards.items c.args.plan.needs.items a.jobs a.dones
     (numbers_of c.args.blocks.items) a.rest c.requires.plan.1 c.edge_count.ensures.version p.shards p.needs a.dealt a.done a.shared_out
     c.requires.distinct c.requires.unlisted limits c.requires.few short d2.version.rows among in (

@@ -7,11 +7,18 @@ use Rattle.edge_block.specs.Batches.{Resolved, resolved}
 use Rattle.graph_version.specs.Rows.{row_of}
 use Rattle.graph_version.specs.{Kept.vertex_book, Kept.kind_book, Versions.VersionView, Versions.content}
 use Rattle.batch_shards.specs.{Done.layout_by, declared.shard.Shard.Shard}
-use Rattle.batch_apply.specs.{Plan.shown, Plan.names_all, Plan.kinds_all, Plan.with_names, Shards.IsShardOf, Shards.latest}
+use Rattle.batch_apply.specs.{Plan.shown, Plan.names_all, Plan.kinds_all, Plan.with_names, Plan.Fits, Shards.IsShardOf, Shards.latest}
 use Rattle.batch_apply.specs.{OldRows.AreOldRows, OldRows.expiry_time, declared.resolve.ResolvedOp.ResolvedOp}
 use Rattle.batch_apply.proofs.{Resolving.as_many_shown, Leaving.names_book, Leaving.kinds_book}
 use Rattle.batch_apply.proofs.Needs.{same_time, exact_needs, few_old_rows}
 use Rattle.batch_apply.proofs.dividing.plan_with.Goals as goal
+
+-- the version's books are within their limits
+pub resolve_batch-requires-clause-within : goal.resolve_batch-requires-clause-within
+resolve_batch-requires-clause-within c = (
+  subst Fits (sym (c.in_ok-names.ensures ∙ c.names.ensures.names)) c.names.ensures.version.small.names,
+  subst Fits (sym (c.in_ok-kinds.ensures ∙ c.kinds.ensures)) c.names.ensures.version.small.kinds,
+)
 
 pub shards_for-requires-clause-few : goal.shards_for-requires-clause-few
 shards_for-requires-clause-few c =

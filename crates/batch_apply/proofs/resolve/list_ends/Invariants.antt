@@ -1,5 +1,5 @@
 use Rattle.std.proofs.Common.{◌≡◌, ◌++◌, drop}
-use Rattle.batch_apply.specs.Plan.{ends_all, names_all}
+use Rattle.batch_apply.specs.Plan.{ends_all, names_all, Fits}
 use Rattle.batch_apply.proofs.resolve.list_ends.Given as goal
 
 -- what is left of the operations leaves what all leave
@@ -8,3 +8,4 @@ invariant-loop-op l =
     (names_all (drop l.op-index l.ops) l.names.names ≡ names_all l.ops l.initial.names.names)
     × (l.found.items ++ ends_all (drop l.op-index l.ops) l.names.names ≡ ends_all l.ops l.initial.names.names)
     × (l.names.limit ≡ l.initial.names.limit)
+    × Fits l.names

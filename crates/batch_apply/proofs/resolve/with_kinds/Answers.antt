@@ -58,4 +58,5 @@ loop-k-preserved c =
       changes = rw c.in_ok-push.ensures.items (All-push IsInRange c.loop-k.found.items r
           c.loop-k.invariant.changes c.resolved_op.ensures.valid);
       limit = ap (λ (b : Book). b.limit) book ∙ c.loop-k.invariant.limit;
+      within = c.in_ok-kind.ensures.within;
     }

@@ -1,5 +1,5 @@
 use Rattle.std.proofs.Common.{◌≡◌, ◌++◌, drop, map, All}
-use Rattle.batch_apply.specs.Plan.{kinds_all, shown, with_kinds, IsInRange}
+use Rattle.batch_apply.specs.Plan.{kinds_all, shown, with_kinds, Fits, IsInRange}
 use Rattle.batch_apply.proofs.resolve.with_kinds.Given as goal
 
 -- what is left of the operations leaves what all leave
@@ -10,4 +10,5 @@ invariant-loop-k l = record {
       l.initial.kinds.names;
   changes : All IsInRange l.found.items;
   limit : l.kinds.limit ≡ l.initial.kinds.limit;
+  within : Fits l.kinds;
 }
