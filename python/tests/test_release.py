@@ -16,6 +16,8 @@ from support import IS_REPOSITORY, NO_REPOSITORY, TOP, Case, find_program, optio
 
 import misteluk
 
+TAG = f"v{misteluk.__version__}"
+
 
 def run(*words, **how):
     how = {"stdout": subprocess.PIPE, "stderr": subprocess.STDOUT, "text": True, "timeout": 60, **how}
@@ -152,6 +154,7 @@ class Releases(Case):
         self.assertEqual(done.returncode, 0, done.stdout)
         archive, wheel = map(pathlib.Path, done.stdout.splitlines())
         self.assertIn("-UNPROVED-linux-x86_64.tar.gz", archive.name)
+        self.assertEqual(self.git("tag", "-l", "v*"), "")
         first = {it: hashlib.sha256(it.read_bytes()).hexdigest() for it in (archive, wheel)}
         for it in first:
             self.assertEqual(run("sha256sum", "-c", f"{it.name}.sha256", cwd=it.parent).returncode, 0)
@@ -241,10 +244,15 @@ class Releases(Case):
             (self.top / "out/gate_passed").write_text(note)
             self.refused("the gate did not pass over this commit: ./check runs it")
 
-    def test_the_proved_program(self):
+    def pass_gate(self):
+        """Has the copy look as after a gate that passed over its commit."""
         self.prove()
         (self.top / "out").mkdir()
         (self.top / "out/gate_passed").write_text(self.git("rev-parse", "HEAD") + "\nkit-1 logic 2\n")
+
+    def test_the_proved_program(self):
+        self.addCleanup(self.git, "tag", "-d", TAG)
+        self.pass_gate()
         archive, wheel = self.release().stdout.splitlines()
         self.assertNotIn("UNPROVED", archive)
         self.assertEqual(pathlib.Path(wheel).name, f"misteluk-{misteluk.__version__}-py3-none-linux_x86_64.whl")
@@ -252,6 +260,23 @@ class Releases(Case):
             (page,) = (tar.extractfile(it).read().decode() for it in tar if it.name.endswith("x86_64/PROVED.md"))
         self.assertNotIn("UNPROVED", page)
         self.assertIn("was proved to meet its contract by `kit-1 logic 2`,\nand the gate of this commit (`./check`) passed", page)
+
+    def test_a_release_has_its_tag(self):
+        self.addCleanup(self.git, "tag", "-d", TAG)
+        self.pass_gate()
+        for _ in range(2):
+            self.assertEqual(self.release().returncode, 0)
+            self.assertEqual(self.git("rev-parse", TAG), self.git("rev-parse", "HEAD"))
+
+    def test_no_other_commit_gets_the_tag(self):
+        self.git("tag", TAG)
+        self.addCleanup(self.git, "tag", "-d", TAG)
+        tagged = self.git("rev-parse", TAG)
+        (self.top / "README.md").write_text("Another page.\n")
+        self.git("commit", "-qam", "another page")
+        self.pass_gate()
+        self.refused(f"{TAG} is the tag of commit {tagged[:10]}: a new release begins with a new heading of CHANGELOG.md")
+        self.assertEqual(self.git("rev-parse", TAG), tagged)
 
     def test_a_clone_that_is_not_clean_is_refused(self):
         (self.top / "new").write_text("")
