@@ -12,8 +12,7 @@
   word of this house (HOUSE) that a page uses stands in that table, or that page or the README explains it, where it shows
   it *so*.
 - docs/LIBRARY.md shows each program that stands on `misteluk`: its row of crates.txt, and each of its files as it is.
-- No definition, and no lemma with its name and type, stands twice in `specs/` and `proofs/`, but for those that
-  tools/statements.py lists.
+- No definition, and no lemma with its name and type, stands twice in `specs/` and `proofs/`.
 - A wrong body names a file of its crate, and has pairs of an old line, which stands in that file once, and a new one.
 - A commit's subject has at most 72 characters.
 

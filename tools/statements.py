@@ -8,22 +8,6 @@ APART = ("--", "use ", "pub use ", "mod ", "pub mod ", "infix", "unfolding ")
 BOUND = re.compile(r"[({]([^(){}:]+) :")
 WORD = re.compile(r"[^\s(){},;.]+")
 
-# Those that stand in more than one place still, and in how many: most belong into a crate that nearly all others stand on, which
-# are proved again where one moves there. The list may only shrink.
-LEFT = {
-    "count_more": 2,
-    "empty_content": 2,
-    "kept_row": 2,
-    "left_more": 3,
-    "one_where": 2,
-    "range_more": 2,
-    "refused_so": 2,
-    "slot_entry": 2,
-    "vertex_listed": 2,
-    "vertex_refused": 2,
-    "with_shown": 2,
-}
-
 
 def indent_of(line):
     return len(line) - len(line.lstrip())
@@ -123,13 +107,9 @@ def doubled(top):
 
 
 def told_twice(top):
-    """Yields each statement that stands more often than the list of those left allows, and each entry of it that is too high."""
+    """Yields each statement that stands more than once."""
     twice = collections.defaultdict(list)
     for name, places in doubled(top):
         twice[name] += places
     for name, places in twice.items():
-        if len(places) > LEFT.get(name, 1):
-            yield f"{name} stands in {' and in '.join(places)}"
-    for name, allowed in LEFT.items():
-        if len(twice[name]) < allowed:
-            yield f"tools/statements.py lets {name} stand in {allowed} places, and it stands in {len(twice[name]) or 1}: lower it"
+        yield f"{name} stands in {' and in '.join(places)}"

@@ -5,7 +5,7 @@ use Rattle.std.{proofs.Common.AllPairs, proofs.Common.ltb, specs.List.range_with
 use Rattle.std.proofs.lemmas.{Bool.ltb-true, Bool.ltb-false, List.length-map}
 use Rattle.std.proofs.lemmas.{List.FromFn.length-range_with_len, List.Concat.length-flat_map, Slice.Zip.AllZip-long}
 use Rattle.graph_types.specs.{Graph.Graph, Limits.name_limit, Limits.kind_limit, Limits.batch_limit, Limits.operation_limit}
-use Rattle.graph_types.specs.Step.{after_all, outcomes, left_by}
+use Rattle.graph_types.specs.Step.{after_all, outcomes}
 use Rattle.graph_types.specs.declared.batches.{NamedOp.NamedOp, Outcome.TheVariants.Absent}
 use Rattle.edge_block.specs.Slots.{BlockView}
 use Rattle.vertex_names.specs.Book.{Book}
@@ -32,14 +32,11 @@ use Rattle.batch_apply.proofs.Left.{fresh_all, sources_left, blocks_left, exchan
 use Rattle.batch_apply.specs.Jobs.{IsDealt, AreDone}
 use Rattle.batch_apply.proofs.Dealt.{shards_in, needs_of, dealt_planned, done_in, fresh_in}
 use Rattle.batch_apply.proofs.BirthCounts.{map_same, untouched_births, untouched_dropped, count_births, count_pieces, count_lists}
+use Rattle.graph_types.proofs.More.{left_more}
 
 all_shards : (shards : List Shard) → all_sources (map sources_in shards) ≡ flat_map sources_in shards
 all_shards [] = refl
 all_shards (s ∷ shards) = ap (λ l. sources_in s ++ l) (all_shards shards)
-
-left_more : (bs : List (List NamedOp)) (b : List NamedOp) (g : Graph) → left_by (bs ++ b ∷ []) g ≡ after_all b (left_by bs g)
-left_more [] b g = refl
-left_more (x ∷ bs) b g = left_more bs b (after_all x g)
 
 no_more : (limit n : ℕ) → (limit < n → ⊥) → n ≤ limit
 no_more limit n never =

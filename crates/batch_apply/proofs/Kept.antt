@@ -6,9 +6,10 @@ use Rattle.std.proofs.lemmas.{Bool.eqb-true, Bool.ne_eqb, List.Sums.sum_by-cons,
 use Rattle.edge_block.specs.Slots.{BlockView}
 use Rattle.edge_block.specs.Batches.{sum_below}
 use Rattle.graph_version.specs.Rows.{row_of, blocks_of}
-use Rattle.batch_shards.{specs.Done.Exchanges, proofs.Places.count_by-append, proofs.Closed.count_more}
+use Rattle.batch_shards.{specs.Done.Exchanges, proofs.Places.count_by-append}
 use Rattle.batch_apply.{specs.Applied.row_among, proofs.Totals.sum_all}
 use Rattle.batch_apply.proofs.Placed.{times, sources_of, among_none, among_all}
+use Rattle.edge_block.proofs.Counts.{count_more}
 
 -- Sums below a number
 

@@ -4,9 +4,10 @@ use Rattle.std.{proofs.Common.refl, proofs.Common.ap, proofs.Common.arith, specs
 use Rattle.std.proofs.lemmas.{Bool.eqb-true, Bool.true≢false, List.Elements.All-head, List.Elements.All-tail}
 use Rattle.edge_block.specs.Slots.{BlockView}
 use Rattle.graph_version.specs.Rows as rows
-use Rattle.batch_shards.{specs.Done.Exchanges, proofs.Closed.count_more}
+use Rattle.batch_shards.specs.Done.{Exchanges}
 use Rattle.graph_version.specs.Versions.{is_in}
 use Rattle.batch_apply.proofs.{Placed.times, Kept.count_map}
+use Rattle.edge_block.proofs.Counts.{count_more}
 
 -- Numbers
 

@@ -12,8 +12,8 @@ use Rattle.edge_block.specs.Rows.{Shape, OpenBlock, untouched, touch, expire_row
 use Rattle.edge_block.specs.Batches.{Resolved, AtKey, InAll, IsPlaced, key_is_of, shard_of, is_in_shard, shard_ops, sum_below}
 use Rattle.edge_block.specs.Batches.{rows_step, rows_all, row_step, key_outcome, outcomes_all}
 use Rattle.batch_apply.specs.Shards.{latest, is_old_row}
-use Rattle.batch_shards.proofs.Closed.{count_more}
 use Rattle.batch_apply.proofs.{Placed.times, Totals.sum_all}
+use Rattle.edge_block.proofs.Counts.{count_more}
 
 -- the operation leaves a source's row as it is, and takes no edge of it
 abbrev pub Spares : ℕ → List OpenBlock → Resolved → Type 0

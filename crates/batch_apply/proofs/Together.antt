@@ -14,7 +14,7 @@ use Rattle.batch_shards.specs.{Births.births_end, Shards.IsAct, Shards.IsPlace, 
 use Rattle.batch_shards.specs.declared.shard.{Act.Act, Act.TheVariants.Edge, Act.TheVariants.Expire, Shard.Shard, Step.Step}
 use Rattle.batch_shards.specs.Done.{IsShardDone, sources_in, steps_in, rows_by, layout_by, sum_of}
 use Rattle.batch_shards.specs.declared.shard.{ShardDone.ShardDone, Place.Place}
-use Rattle.batch_shards.{specs.Closing.row_values, proofs.Closed.count_more, proofs.Places.count_by-append}
+use Rattle.batch_shards.{specs.Closing.row_values, proofs.Places.count_by-append}
 use Rattle.graph_version.specs.Versions.{is_in}
 use Rattle.batch_apply.specs.{Shards.acts, Shards.unsourced, Shards.latest, Shards.is_old_row, Shards.IsShardOf, Plan.ends_all}
 use Rattle.batch_apply.specs.{Plans.results, Plans.told, Sums.ArePlanned}
@@ -23,6 +23,7 @@ use Rattle.batch_apply.proofs.Totals.{sum_all, worker_rows, none_taken, none_dro
 use Rattle.batch_apply.proofs.{Kept.some_times, Placed.times, Merge.same_ops, Merge.shard_places, Merge.kept_all}
 use Rattle.batch_apply.proofs.{Resolving.placed_in, Resolving.resolved_is, Sources.sources_within}
 use Rattle.edge_block.specs.Slots.{BlockView}
+use Rattle.edge_block.proofs.Counts.{count_more}
 
 no_times : (m : ℕ) (xs : List ℕ) → All (λ x. x ≡ m → ⊥) xs → times m xs ≡ 0
 no_times m [] none = refl

@@ -9,7 +9,8 @@ use Rattle.edge_block.specs.Rows.{Shape, OpenBlock, untouched, taken_in, dropped
 use Rattle.edge_block.specs.Batches.{Resolved, AtKey, InAll, resolved, shard_ops, sum_below, rows_all, rows_step, outcome_in}
 use Rattle.edge_block.{specs.Batches.outcomes_all, proofs.ShardLaws.shard_rows}
 use Rattle.batch_apply.specs.Shards.{acts, unsourced, IsShardOf}
-use Rattle.batch_shards.{specs.Done.steps_in, specs.declared.shard.Shard.Shard, proofs.Closed.count_more}
+use Rattle.batch_shards.specs.{Done.steps_in, declared.shard.Shard.Shard}
+use Rattle.edge_block.proofs.Counts.{count_more}
 
 -- rows and outcomes don't depend on the sources' numbers beside the keys
 unsourced_rows : (r : Resolved) (rows : ℕ → List OpenBlock) → rows_step (unsourced r) rows ≡ rows_step r rows

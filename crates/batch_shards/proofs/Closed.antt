@@ -1,6 +1,6 @@
 -- What closed rows are: their layout, how many blocks they took and dropped, and whose blocks they have.
 use Rattle.std.proofs.Common.{◌≡◌, ℕ, ◌+◌, Bool, true, false, cond, not, ◌&&◌, ◌||◌, ◌⊎◌, inl, inr, List, [], ◌∷◌, ◌++◌, length}
-use Rattle.std.proofs.Common.{map, filter, flat_map, count_by, refl, sym, ap, ap₂, ◌∙◌, All, length-append, arith}
+use Rattle.std.proofs.Common.{map, filter, flat_map, refl, sym, ap, ap₂, ◌∙◌, All, length-append, arith}
 use Rattle.std.proofs.lemmas.List.{Sums.sum_by-cons, Elements.All-head, Elements.All-tail, Elements.All-cons, Elements.All-nil}
 use Rattle.std.proofs.lemmas.List.Elements.{All-append}
 use Rattle.std.specs.{Option.is_some, Option.option_to_list, declared.alloc.Global.Global}
@@ -12,6 +12,7 @@ use Rattle.batch_shards.specs.Closing.{written_here, dropped_here, after_of, wri
 use Rattle.batch_shards.specs.{Shards.AreOpen, Shards.AreOwn, Shards.sources_of, Shards.had_all, Done.sum_of, Done.AreBlockRows}
 use Rattle.graph_version.specs.Versions.{IsBlockOf}
 use Rattle.batch_shards.specs.declared.{row_blocks.RowBlock.RowBlock, shard.OpenRow.OpenRow}
+use Rattle.edge_block.proofs.Counts.{count_more}
 
 -- the layout at the batch's end
 pub after_end : (row : List RowBlock) → map shape_of (after_of row) ≡ row_end (opens row)
@@ -23,10 +24,6 @@ after_end (h ∷ row) =
       | true ↦ after_end row
       | false ↦ ap (λ ss. shape_of (block_of h.block) ∷ ss) (after_end row)
     ]
-
--- a count and a sum, with one more in front
-pub count_more : {A : Type 0} (p : A → Bool) (x : A) (xs : List A) → count_by p (x ∷ xs) ≡ cond (p x) 1 0 + count_by p xs
-count_more p x xs = sum_by-cons (λ x. cond (p x) 1 0) x xs
 
 pub length-written : (row : List RowBlock) → length (written_of row) ≡ taken_in (opens row)
 length-written [] = refl

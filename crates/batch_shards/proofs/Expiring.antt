@@ -2,7 +2,7 @@
 use Rattle.std.proofs.Common.{◌≡◌, ℕ, zero, suc, ◌+◌, ◌%◌, ◌^◌, ◌<◌, ◌≤◌, Bool, true, false, cond, not, ◌&&◌, ◌||◌, List}
 use Rattle.std.proofs.Common.{[], ◌∷◌, ◌++◌, map, length, get_or, set, take, drop, count_by, refl, sym, ap, ◌∙◌, arith, subst}
 use Rattle.std.proofs.lemmas.{Bool.false≢true, Bool.lt-ltb, Bool.ltb-true, List.Sums.sum_by-cons, List.Sums.sum_by-append}
-use Rattle.std.{proofs.lemmas.List.Sums.sum_by-set, specs.List.list_any, specs.List.sum_by, specs.Prelude.◌+ℤ◌}
+use Rattle.std.{proofs.lemmas.List.Sums.sum_by-set, specs.List.list_any, specs.List.sum_by}
 use Rattle.std.specs.declared.option.Option.{Option, TheVariants.None, TheVariants.Some}
 use Rattle.graph_types.specs.{Graph.Stamp, Graph.Key, Limits.is_weight, Step.is_before, Step.outcome_at, Step.stamp_after}
 use Rattle.graph_types.specs.declared.changes.EdgeChange.{EdgeChange, TheVariants.Insert, TheVariants.Incr, TheVariants.Remove}
@@ -44,11 +44,6 @@ map_first_all f zero [] le = refl
 map_first_all f zero (x ∷ xs) le = absurd (omega arith)
 map_first_all f (suc k) [] le = refl
 map_first_all f (suc k) (x ∷ xs) le = ap (λ ys. f x ∷ ys) (map_first_all f k xs (omega arith))
-
-pub map_first_long : {A : Type 0} (f : A → A) (k : ℕ) (xs : List A) → length (map_first f k xs) ≡ length xs
-map_first_long f zero xs = refl
-map_first_long f (suc k) [] = refl
-map_first_long f (suc k) (x ∷ xs) = ap suc (map_first_long f k xs)
 
 -- a sum over one element more
 sum_next : {A : Type 0} (f : A → ℕ) (k : ℕ) (xs : List A) (d : A) → k < length xs

@@ -3,7 +3,7 @@ use Rattle.std.proofs.Common.{◌≡◌, ℕ, ◌+◌, ◌<◌, ◌==◌, Bool, 
 use Rattle.std.proofs.{Common.arith, Common.subst, Math.ListN.length-set, lemmas.Bool.eqb-true, lemmas.Bool.eqb-false}
 use Rattle.std.proofs.lemmas.{Bool.false≢true, Bool.eq-eqb, Bool.ne_eqb, List.get_or-set_same, List.get_or-set_other}
 use Rattle.std.{proofs.lemmas.List.get_or_default, specs.declared.option.Option.TheVariants.Some}
-use Rattle.batch_shards.specs.Groups.{is_at, is_expiry, IsNext, AreGroups, AreExpiries}
+use Rattle.batch_shards.specs.Groups.{is_at, is_expiry, IsNext, AreGroups}
 use Rattle.batch_shards.specs.declared.shard.{Step.Step, Place.Place, Act.Act, Act.TheVariants.Edge}
 use Rattle.batch_shards.proofs.ShardSteps.{first_step, further}
 use Rattle.graph_types.specs.declared.changes.EdgeChange.{EdgeChange}
@@ -92,23 +92,5 @@ groups_more steps i first next p change lt is row_in next_in x = record {
             let ne = eqb-false k i t in
             subst (λ n. IsNext (is_at row) steps (k + 1) n) (sym (get_or-set_other next i k (get_or first p.row 0) 0 ne))
             (x.nexts row k s (further k i ge ne) inside at)
-      ] refl;
-}
-
-pub expiry_more : (steps : List Step) (i n : ℕ) (v : List ℕ) → i < length steps → AreExpiries (i + 1) steps v
-    → n ≡ cond (is_expiry (get_or steps i first_step).act) i (get_or v (i + 1) 0) → AreExpiries i steps (set v i n)
-expiry_more steps i n v lt x is = record {
-  long = length-set v i n ∙ x.long;
-  are = λ k ge le.
-      elim (k == i) as (λ b. (k == i) ≡ b → IsNext is_expiry steps k (get_or (set v i n) k 0)) [
-        | true ↦ λ t.
-            let same : k ≡ i = eqb-true k i t in
-            subst (λ j. IsNext is_expiry steps j (get_or (set v i n) j 0)) (sym same)
-            (subst (IsNext is_expiry steps i) (sym (get_or-set_same v i n 0 (omega (arith, x.long))))
-            (one_further steps i (get_or v (i + 1) 0) n lt (x.are (i + 1) (omega arith) (omega arith)) is))
-        | false ↦ λ t.
-            let other = eqb-false k i t in
-            subst (IsNext is_expiry steps k) (sym (get_or-set_other v i k n 0 other))
-            (x.are k (further k i ge other) le)
       ] refl;
 }

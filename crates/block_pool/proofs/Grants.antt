@@ -9,7 +9,8 @@ use Rattle.block_reclamation.specs.declared.status.BlockStatus.{BlockStatus}
 use Rattle.block_reclamation.specs.Status.{is_free}
 use Rattle.block_pool.specs.Kept.{IsNumbers, statuses, status_of, tally, Lists, popped}
 use Rattle.block_pool.specs.declared.numbers.Numbers.{Numbers}
-use Rattle.block_pool.proofs.Tallies.{count_more, count_last, count_here, count_at, listed_at, listed_count, same_number, passes_at}
+use Rattle.block_pool.proofs.Tallies.{count_last, count_here, count_at, listed_at, listed_count, same_number, passes_at}
+use Rattle.edge_block.proofs.Counts.{count_more}
 
 -- the free numbers are as many as the list has, and each that the list has is one of the pool's
 pub free_listed : (n : Numbers) → IsNumbers n → n.free_len ≡ count_by is_free (statuses n)

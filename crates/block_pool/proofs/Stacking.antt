@@ -14,8 +14,9 @@ use Rattle.block_pool.specs.declared.numbers.TheConstants.{LOOSE, LATE}
 use Rattle.block_reclamation.specs.declared.status.BlockStatus.{BlockStatus}
 use Rattle.block_reclamation.specs.declared.status.BlockStatus.TheVariants.{Free, Granted}
 use Rattle.block_pool.specs.Kept.{status_of, tally, AreNeeded, HasPins, IsSorted, Fits, top_of, put_on, taken_off, moved}
-use Rattle.block_pool.proofs.Tallies.{count_more, count_true, count_lt, same_number, tally_at, tally_has_one, tally_true}
+use Rattle.block_pool.proofs.Tallies.{count_true, count_lt, same_number, tally_at, tally_has_one, tally_true}
 use Rattle.block_pool.proofs.{Tallies.tally_here, Tallies.past_retired, Tallies.none_retired, Grants.tally_once}
+use Rattle.edge_block.proofs.Counts.{count_more}
 
 -- a list with its first number
 pub top_first : (ns : List ℕ) → 0 < length ns → ns ≡ top_of ns ∷ below_top ns

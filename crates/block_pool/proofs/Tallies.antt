@@ -8,9 +8,7 @@ use Rattle.block_reclamation.specs.declared.status.BlockStatus.{BlockStatus}
 use Rattle.block_reclamation.specs.declared.status.BlockStatus.TheVariants.{Free, Granted, Used, Retired}
 use Rattle.block_reclamation.specs.Status.{is_free, is_in_use, is_used, is_retired, is_reclaimable, recycled, is_at}
 use Rattle.block_pool.specs.Kept.{status_of, tally, Lists}
-
-pub count_more : {A : Type 0} (p : A → Bool) (x : A) (xs : List A) → count_by p (x ∷ xs) ≡ cond (p x) 1 0 + count_by p xs
-count_more p x xs = sum_by-cons (λ x. cond (p x) 1 0) x xs
+use Rattle.edge_block.proofs.Counts.{count_more}
 
 pub count_last : {A : Type 0} (p : A → Bool) (xs : List A) (x : A) → count_by p (xs ++ x ∷ []) ≡ count_by p xs + cond (p x) 1 0
 count_last p xs x = sum_by-append (λ x. cond (p x) 1 0) xs (x ∷ [])

@@ -4,6 +4,7 @@ pub mod Places
 pub mod KeptColumns
 pub mod Selections
 pub mod Targets
+pub mod Counts
 pub mod Views
 pub mod Runs
 pub mod Room

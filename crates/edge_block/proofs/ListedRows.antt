@@ -43,7 +43,7 @@ in_slots kind slots k = cond (k.kind == kind) (stamp_at slots k.target) None
 abbrev pub in_row : List Shape → Key → Option Stamp
 in_row row k = row_at row (k.kind, k.target)
 
-abbrev slot_entry : ℕ → ℕ → Slot → Key × Stamp
+abbrev pub slot_entry : ℕ → ℕ → Slot → Key × Stamp
 slot_entry source kind e = (record { kind = kind; source = source; target = e.target }, e.stamp)
 
 abbrev slot_edges : ℕ → ℕ → List (Option Slot) → List Edge

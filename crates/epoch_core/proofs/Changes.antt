@@ -3,9 +3,10 @@ use Rattle.std.proofs.Common.{◌≡◌, ℕ, zero, suc, ◌<◌, ◌≤◌, Lis
 use Rattle.std.{proofs.lemmas.Grind.common_steps, specs.Prelude.slice_get, specs.declared.option.Option.TheVariants.Some}
 use Rattle.std.specs.Option.{unwrap_or}
 use Rattle.std.proofs.lemmas.List.{take-append-le, take_all, map-append, length_push}
-use Rattle.graph_types.specs.{Graph.Graph, Step.left_by, Step.after_all, declared.batches.NamedOp.NamedOp}
+use Rattle.graph_types.specs.{Step.after_all}
 use Rattle.epoch_core.specs.declared.states.{Version.Version, Opening.Opening}
 use Rattle.epoch_core.specs.Versions.{batches_at, graph_at, left, version_at, version_zero}
+use Rattle.graph_types.proofs.More.{left_more}
 
 pub length_next : (vs : List Version) (v : Version) → length (vs ++ v ∷ []) ≡ suc (length vs)
 length_next vs v = length_push vs v ∙ add-one (length vs)
@@ -31,10 +32,6 @@ graph_before o vs v n h = ap (λ us. left o (map (λ u. u.batch) us)) (take-appe
 pub version_next : (o : Opening) (vs : List Version) (v : Version) → version_at o (vs ++ v ∷ []) (length (vs ++ v ∷ [])) ≡ v
 version_next o vs v = ap (version_at o (vs ++ v ∷ [])) (length_next vs v)
     ∙ ap (λ found. unwrap_or found (version_zero o)) (get_last vs v)
-
-pub left_more : (bs : List (List NamedOp)) (b : List NamedOp) (g : Graph) → left_by (bs ++ b ∷ []) g ≡ after_all b (left_by bs g)
-left_more [] b g = refl
-left_more (c ∷ cs) b g = left_more cs b (after_all c g)
 
 pub batches_all : (vs : List Version) → batches_at vs (length vs) ≡ map (λ v. v.batch) vs
 batches_all vs = ap (map (λ v. v.batch)) (take_all (length vs) vs (omega arith))

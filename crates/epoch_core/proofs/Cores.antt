@@ -1,9 +1,9 @@
 -- Steps of the whole state.
 use Rattle.std.proofs.Common.{◌≡◌, ℕ, zero, suc, ◌+◌, ◌≤◌, min, inl, inr, List, [], ◌∷◌, ◌++◌, length, refl, sym, ap, subst, ◌∙◌}
 use Rattle.std.proofs.{Common.arith, lemmas.Bool.cases_eq, lemmas.List.length-replicate}
-use Rattle.std.specs.{Prelude.if◌then◌else◌, Prelude.is_some, Option.unwrap_or}
+use Rattle.std.specs.{Prelude.is_some, Option.unwrap_or}
 use Rattle.std.specs.declared.option.Option.{Option, TheVariants.None, TheVariants.Some}
-use Rattle.graph_types.specs.{Graph.IsContent, declared.batches.NamedOp.NamedOp, declared.contents.Content.Content}
+use Rattle.graph_types.specs.{declared.batches.NamedOp.NamedOp, declared.contents.Content.Content}
 use Rattle.epoch_core.specs.declared.{states.Version.Version, states.Opening.Opening, step.Step.Step}
 use Rattle.epoch_core.specs.{declared.session_states.SessionState.TheVariants.Idle, Versions.IsContentGraph, Versions.graph_at}
 use Rattle.epoch_core.specs.{declared.events.Event.Event, Posting.graph_after, Posting.version_by, Machine.Replies, Machine.step}
@@ -13,6 +13,7 @@ use Rattle.epoch_core.specs.Runs.{AllReplies, Runs, Steps, count_of, done_in, is
 use Rattle.epoch_core.proofs.Changes.{graph_before, graph_next, length_next}
 use Rattle.epoch_core.proofs.Steps.{sound_next, sound_start, start_is_start}
 use Rattle.epoch_core.proofs.Answering.{Adds, asked, adds}
+use Rattle.graph_types.proofs.Empty.{empty_content as empty_is_content}
 
 -- a step leads to what next_world, and says whether the event is done
 stepped_to : (o : Option World) (outcome : Step) (old new : World) → Stepped o outcome old new → new ≡ unwrap_or o old
@@ -97,16 +98,6 @@ capped_more old new before after more bound e f g = omega arith
 -- the content without names, kinds and edges
 abbrev empty_content : Content
 empty_content = record { names = []; kinds = []; edges = [] }
-
-empty_is_content : IsContent empty_content
-empty_is_content = record {
-  names_distinct = λ i j d h g. absurd (omega arith);
-  kinds_distinct = λ i j d h g. absurd (omega arith);
-  names_few = omega arith;
-  kinds_few = omega arith;
-  keys_distinct = λ i j d h g. absurd (omega arith);
-  edges_within = λ k d h. absurd (omega arith);
-}
 
 no_contents : (n : ℕ) → n ≤ 0 → IsContentGraph (graph_at empty_opening [] n)
 no_contents zero h = (empty_content, empty_is_content, refl)

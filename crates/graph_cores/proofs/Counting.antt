@@ -1,5 +1,5 @@
 -- One edge more in a table of degrees.
-use Rattle.std.proofs.Common.{◌≡◌, ℕ, ◌+◌, ◌<◌, Bool, true, false, cond, ◌&&◌, eqb, List, [], ◌∷◌, ◌++◌, length, map, ℤ, pos}
+use Rattle.std.proofs.Common.{◌≡◌, ℕ, ◌+◌, ◌<◌, Bool, true, false, cond, List, [], ◌∷◌, ◌++◌, length, map, ℤ, pos}
 use Rattle.std.proofs.Common.{◌+ℤ◌, refl, sym, ap, subst, ◌∙◌, arith}
 use Rattle.std.specs.Prelude.{filter, fold, All}
 use Rattle.std.proofs.lemmas.{Int.ints, List.map-append, List.Sums.sum_by_push, List.Sums.fold-append}
@@ -11,14 +11,7 @@ use Rattle.graph_types.proofs.DegreeBounds.{degree_within}
 use Rattle.edge_block.specs.Slots.{IsStamp}
 use Rattle.graph_cores.specs.Tallies.{passes, HasRoomFor, Counts}
 use Rattle.graph_cores.proofs.Parts.{first_edges, All-right}
-
--- what an edge makes of the degrees of v, where b says whether the filter lets it through
-abbrev with_shown : Bool → Edge → ℕ → Degree → Degree
-with_shown b e v d = record {
-  outgoing = d.outgoing + cond (b && eqb e.source.0 v) 1 0;
-  incoming = d.incoming + cond (b && eqb e.target.0 v) 1 0;
-  out_weight = d.out_weight +ℤ cond (b && eqb e.source.0 v) e.weight (pos 0);
-}
+use Rattle.graph_types.proofs.ListedDegrees.{with_shown}
 
 -- the sum of the weights of listed edges
 abbrev weight_sum : List Edge → ℤ

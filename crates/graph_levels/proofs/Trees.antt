@@ -1,9 +1,9 @@
 -- Changes of trees that keep what they say.
-use Rattle.std.proofs.Common.{◌≡◌, ℕ, ◌+◌, ◌<◌, ◌≤◌, arith, sym, ap, ◌∙◌, subst, inl, inr, List, length, get_or, set, ◌++◌, ◌∷◌}
+use Rattle.std.proofs.Common.{◌≡◌, ℕ, ◌+◌, ◌<◌, ◌≤◌, arith, sym, ap, ◌∙◌, subst, inl, inr, List, length, get_or, set}
 use Rattle.std.proofs.{Common.[], lemmas.Bool.cases_eq, lemmas.Bool.cases_lt}
-use Rattle.std.proofs.lemmas.List.{get_or-set_same, get_or-set_other, get_or_default, get_or_past, map-id}
+use Rattle.std.proofs.lemmas.List.{get_or-set_same, get_or-set_other, get_or_default, get_or_past}
 use Rattle.std.specs.List.{range_with_len}
-use Rattle.std.proofs.lemmas.List.FromFn.{length-range_with_len, get_or-range_with_len, map-range_with_len_more}
+use Rattle.std.proofs.lemmas.List.FromFn.{length-range_with_len, get_or-range_with_len}
 use Rattle.graph_types.specs.{Graph.Graph, Analyses.Connects, declared.ids.Filter.Filter}
 use Rattle.graph_levels.specs.Forest.{parent, IsForest, IsSound, Respects}
 use Rattle.graph_levels.proofs.Walks.{itself, then}
@@ -157,8 +157,3 @@ fresh_forest n ps e = λ v. let f = fresh n v in let same = ap (λ xs. parent xs
 
 pub fresh_sound : (f : Filter) (g : Graph) (n : ℕ) (ps : List ℕ) → ps ≡ range_with_len 0 n → IsSound f g ps
 fresh_sound f g n ps e = λ v. subst (λ x. Connects f g x v) (sym (ap (λ xs. parent xs v) e ∙ fresh n v)) (itself f g v)
-
--- one number more
-pub range_more : (n : ℕ) → range_with_len 0 (n + 1) ≡ range_with_len 0 n ++ n ∷ []
-range_more n = sym (map-id (range_with_len 0 (n + 1))) ∙ map-range_with_len_more (λ x. x) 0 n n (omega arith)
-    ∙ ap (λ xs. xs ++ n ∷ []) (map-id (range_with_len 0 n))

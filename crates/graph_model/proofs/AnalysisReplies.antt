@@ -2,7 +2,7 @@
 use Rattle.std.proofs.Common.{◌≡◌, ℕ, ◌+◌, ◌<◌, Bool, true, false, List, [], ◌∷◌, ◌++◌, length, get_or, take, Option, Some, None}
 use Rattle.std.proofs.Common.{not, subst, refl, sym, ap, ◌∙◌, arith}
 use Rattle.std.specs.Prelude.{All, zip, Ok, position, bytes_eq, nat_lt}
-use Rattle.std.specs.{List.filter_map, List.cons_option, Option.option_to_list}
+use Rattle.std.specs.{List.filter_map, Option.option_to_list}
 use Rattle.std.proofs.lemmas.List.{Elements.filter_map-append, get_or-map, length-map, get_or_default}
 use Rattle.std.proofs.lemmas.Option.{slice_get-get_or}
 use Rattle.graph_types.specs.{Graph.Graph, Graph.graph_of, Analyses.AreLevels, Analyses.AreLabels, Analyses.AreCoreNumbers}
@@ -13,6 +13,7 @@ use Rattle.graph_types.specs.declared.requests.Request.TheVariants.{Levels as As
 use Rattle.graph_types.specs.declared.requests.Reply.TheVariants.{Levels, Labels, Cores}
 use Rattle.graph_types.proofs.NameNumbers.{place_some, place_number}
 use Rattle.graph_model.proofs.ZippedRows.{next_row}
+use Rattle.graph_types.proofs.More.{kept_row}
 
 -- a label is a vertex, as it is at most the vertex that has it
 pub labels_below : (f : Filter) (g : Graph) (labels : List ℕ) → AreLabels f g labels
@@ -56,9 +57,6 @@ vertex_refused true true vertex none absent = ap (first_refusal true true) absen
 pub vertex_listed : (window kind vertex : Bool) → first_refusal window kind true ≡ None → vertex ≡ true
     → first_refusal window kind vertex ≡ None
 vertex_listed window kind vertex none listed = ap (first_refusal window kind) listed ∙ none
-
-kept_row : (row : List ℕ × Option ℕ) → filter_map level_row (row ∷ []) ≡ option_to_list (level_row row)
-kept_row row = elim (level_row row) as (λ o. cons_option o [] ≡ option_to_list o) [ None ↦ refl | Some x ↦ refl ]
 
 -- one row more, where there is a level
 pub level_rows_more : (names : List (List ℕ)) (levels : List (Option ℕ)) (rows new : List (List ℕ × ℕ)) (k n : ℕ) (x : List ℕ)

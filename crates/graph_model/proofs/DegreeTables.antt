@@ -1,5 +1,5 @@
 -- A table of degrees, one edge after another, and what it is at the end.
-use Rattle.std.proofs.Common.{◌≡◌, ℕ, ◌+◌, ◌<◌, ◌≤◌, Bool, true, false, cond, ◌&&◌, eqb, List, [], ◌∷◌, ◌++◌, length, get_or}
+use Rattle.std.proofs.Common.{◌≡◌, ℕ, ◌+◌, ◌<◌, ◌≤◌, Bool, true, false, cond, List, [], ◌∷◌, ◌++◌, length, get_or}
 use Rattle.std.proofs.Common.{take, replicate, map, pos, ◌+ℤ◌, refl, sym, ap, subst, ◌∙◌, arith}
 use Rattle.std.specs.Prelude.{filter, fold, All}
 use Rattle.std.proofs.lemmas.{Int.ints, List.FromFn.fill_by_all}
@@ -9,15 +9,7 @@ use Rattle.graph_types.specs.Graph.{graph_of, key_of, entry_of, IsContent, IsEdg
 use Rattle.graph_types.specs.{View.in_view, View.leaves, View.enters, Answer.degree_at, Answer.degree_table}
 use Rattle.graph_types.specs.Degrees.{listed_degree, with_edge, IsTally, CountsEdge, IsWithinLimits}
 use Rattle.graph_types.specs.declared.{contents.Content.Content, ids.Edge.Edge, ids.Degree.Degree, ids.Filter.Filter}
-use Rattle.graph_types.proofs.{Keys.HasKeysOnce, DegreeBounds.degree_within, ListedDegrees.listed_at}
-
--- what an edge makes of the degrees of v, where b says whether the filter lets it through
-abbrev with_shown : Bool → Edge → ℕ → Degree → Degree
-with_shown b e v d = record {
-  outgoing = d.outgoing + cond (b && eqb e.source.0 v) 1 0;
-  incoming = d.incoming + cond (b && eqb e.target.0 v) 1 0;
-  out_weight = d.out_weight +ℤ cond (b && eqb e.source.0 v) e.weight (pos 0);
-}
+use Rattle.graph_types.proofs.{Keys.HasKeysOnce, DegreeBounds.degree_within, ListedDegrees.{listed_at, with_shown}}
 
 weights_push : (p : Edge → Bool) (es : List Edge) (e : Edge)
     → fold ◌+ℤ◌ (pos 0) (map (λ x. x.weight) (filter p (es ++ e ∷ [])))

@@ -1,23 +1,14 @@
 -- Rounds that lower numbers, one step after another.
-use Rattle.std.proofs.Common.{◌≡◌, ℕ, suc, ◌+◌, ◌-◌, ◌<◌, ◌≤◌, arith, refl, sym, ap, ◌∙◌, subst, ◌⊎◌, inl, inr, List, [], ◌∷◌}
-use Rattle.std.proofs.Common.{◌++◌, length, get_or, set, take, map, cond, true, false, Bool, ◌&&◌}
-use Rattle.std.specs.{Prelude.All, Prelude.sum, Prelude.count_by, Prelude.◌==◌, Prelude.nat_le, List.range_with_len}
+use Rattle.std.proofs.Common.{◌≡◌, ℕ, suc, ◌+◌, ◌-◌, ◌<◌, ◌≤◌, arith, refl, sym, ap, ◌∙◌, subst, ◌⊎◌, inl, inr, List, []}
+use Rattle.std.proofs.Common.{length, get_or, set, take, cond, true, false, Bool, ◌&&◌}
+use Rattle.std.specs.{Prelude.All, Prelude.sum, Prelude.count_by, Prelude.nat_le}
 use Rattle.std.proofs.lemmas.Bool.{cases_eq, eqb-true, Decides.nat_tests, Decides.Decides-eqb}
 use Rattle.std.proofs.lemmas.List.{get_or-set_same, get_or-set_other, length-set, take_more, take_all, length-take}
-use Rattle.std.proofs.lemmas.List.{Sums.sum_by_push, Sums.count_by-le-length, FromFn.map-range_with_len_more}
+use Rattle.std.proofs.lemmas.List.{Sums.sum_by_push, Sums.count_by-le-length}
 use Rattle.std.proofs.lemmas.List.Elements.{All-set, All-nil, All-more, Contains-get_or}
 use Rattle.graph_types.specs.Arcs.{AreWithin, at, IsLowered, IsClosed}
 use Rattle.graph_types.proofs.Settling.{lowered_more, sum_falls}
 use Rattle.graph_model.specs.Links.{supports}
-
-map_same : (xs : List ℕ) → map (λ x. x) xs ≡ xs
-map_same [] = refl
-map_same (x ∷ xs) = ap (λ ys. x ∷ ys) (map_same xs)
-
--- a range of one more
-pub range_more : (n : ℕ) → range_with_len 0 (n + 1) ≡ range_with_len 0 n ++ n ∷ []
-range_more n = sym (map_same (range_with_len 0 (n + 1))) ∙ map-range_with_len_more (λ x. x) 0 n n (omega arith)
-    ∙ ap (λ xs. xs ++ n ∷ []) (map_same (range_with_len 0 n))
 
 -- a round along arcs, so far
 pub record IsArcRound (arcs : List (ℕ × ℕ)) (step : ℕ) (old numbers : List ℕ) (lowered : Bool) (i : ℕ) : Type 0 where

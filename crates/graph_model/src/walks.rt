@@ -76,7 +76,7 @@ pub fn plain_labels(
 }
 
 /// The numbers below this one.
-#[tactic(auto, using(crate::proofs::Rounds::range_more))]
+#[tactic(auto, using(graph_types::proofs::More::range_more))]
 fn vertices(alloc: Global, count: u32) -> Result<Vec<u32>, AllocError>
     ensures { IfOk result (λ vertices. vertices.items ≡ range_with_len 0 count) }
 {

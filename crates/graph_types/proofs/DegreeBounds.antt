@@ -67,7 +67,7 @@ crowd_of_edges p other es few kinds others =
     λ k. omega (arith, crowd (λ e. p e && eqb e.kind.0 k) other 1 65536 es (few k) others) in
     omega (arith, crowd p (λ e. e.kind.0) 65536 64 es of_kind kinds)
 
-one_where : (a b : Bool) → (a ≡ true → b ≡ true) → cond a 1 0 ≤ cond b 1 0
+pub one_where : (a b : Bool) → (a ≡ true → b ≡ true) → cond a 1 0 ≤ cond b 1 0
 one_where true b then = let e = then refl in subst (λ c. 1 ≤ cond c 1 0) (sym e) (omega arith)
 one_where false b then = omega arith
 

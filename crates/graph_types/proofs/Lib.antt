@@ -1,9 +1,11 @@
 pub mod Copies
+pub mod Empty
 pub mod NameLists
 pub mod NameNumbers
 pub mod NamesKept
 pub mod EdgeLookup
 pub mod Keys
+pub mod More
 pub mod Folds
 pub mod Expiry
 pub mod DegreeBounds

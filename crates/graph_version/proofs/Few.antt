@@ -1,6 +1,6 @@
 -- A version has at most 2 ^ 38 edges: as many as there are kinds, sources and targets.
-use Rattle.std.proofs.Common.{◌≡◌, ℕ, ◌^◌, ◌<◌, ◌≤◌, Bool, true, false, cond, ◌&&◌, eqb, List, [], ◌∷◌, refl, length, get_or}
-use Rattle.std.proofs.Common.{subst, sym, ap, ◌∙◌, arith, All}
+use Rattle.std.proofs.Common.{◌≡◌, ℕ, ◌^◌, ◌<◌, ◌≤◌, true, cond, ◌&&◌, eqb, List, [], ◌∷◌, refl, length, get_or}
+use Rattle.std.proofs.Common.{sym, ap, ◌∙◌, arith, All}
 use Rattle.std.specs.{Prelude.count_by, Option.is_some, FinMap.get, FinMap.len}
 use Rattle.graph_types.specs.{Graph.Key, Graph.key_of, declared.ids.Edge.Edge}
 use Rattle.std.proofs.lemmas.{Bool.and_parts, Bool.eqb-true, List.Sums.sum_by-cons, List.Sums.sum_by-le-sum_by}
@@ -10,6 +10,7 @@ use Rattle.version_pages.specs.Rows.{blocks_of}
 use Rattle.graph_version.specs.{Versions.VersionView, Versions.content, Versions.IsVersion, Edges.edges_in_blocks}
 use Rattle.graph_version.specs.Kept.{edge_total}
 use Rattle.graph_version.proofs.Shown.{rows_each_once}
+use Rattle.graph_types.proofs.DegreeBounds.{one_where}
 
 -- the rows of a version list as many edges as its content has
 pub count_is_total : (v : VersionView) → IsVersion v → length (edges_in_blocks (blocks_of v.rows)) ≡ edge_total v
@@ -20,10 +21,6 @@ count_is_total v is =
 ones : (es : List Edge) → count_by (λ (e : Edge). true) es ≡ length es
 ones [] = refl
 ones (e ∷ es) = omega (arith, sum_by-cons (λ (x : Edge). 1) e es, ones es)
-
-one_where : (a b : Bool) → (a ≡ true → b ≡ true) → cond a 1 0 ≤ cond b 1 0
-one_where true b f = let e = f refl in subst (λ c. 1 ≤ cond c 1 0) (sym e) (omega arith)
-one_where false b f = omega arith
 
 has_parts : (k s t : ℕ) (e : Edge) → ((eqb e.kind.0 k && eqb e.source.0 s) && eqb e.target.0 t) ≡ true
     → is_key_of (record { kind = k; source = s; target = t }) e ≡ true

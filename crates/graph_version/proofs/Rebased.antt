@@ -109,16 +109,6 @@ pub record AreSoFar (rows : List (List BlockView)) (blocks : List BlockView) (k 
   pub rest : rows_like (drop k rows) left ≡ drop k (rows_like rows blocks)
   pub many : length left ≡ length (blocks_of (drop k rows))
 
--- the blocks left are enough for the next row
-pub enough : (rows : List (List BlockView)) (blocks : List BlockView) (k : ℕ) (copy : List (List BlockView))
-    (left : List BlockView) → AreSoFar rows blocks k copy left → k < length rows → length (row_of rows k) ≤ length left
-enough rows blocks k copy left so_far lt =
-    let at = drop_at rows k [] lt in
-    let many : length left ≡ length (row_of rows k ++ blocks_of (drop (k + 1) rows)) =
-    so_far.many ∙ ap (λ rs. length (blocks_of rs)) at in
-    let both = length-append (row_of rows k) (blocks_of (drop (k + 1) rows)) in
-    omega arith
-
 -- one row more
 pub row_more : (rows : List (List BlockView)) (blocks : List BlockView) (k : ℕ) (copy next : List (List BlockView))
     (left row rest : List BlockView) → AreSoFar rows blocks k copy left → k < length rows

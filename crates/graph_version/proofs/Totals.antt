@@ -48,15 +48,3 @@ count_more (b ∷ blocks) (suc i) d lt =
     let one = count-append (block_value b ∷ []) (block_values (take (i + 1) blocks)) in
     let other = count-append (block_value b ∷ []) (block_values (take i blocks)) in
     ap (λ n. count_in (block_values (take n (b ∷ blocks)))) (sym further) ∙ omega (arith, rest, one, other)
-
--- one row more
-pub rows_more : (rows : List (List BlockView)) (i : ℕ) → i < length rows
-    → count_in (blocks_of (take (i + 1) rows)) ≡ count_in (blocks_of (take i rows)) + count_in (row_of rows i)
-rows_more [] i lt = absurd (omega arith)
-rows_more (row ∷ rows) zero lt = omega (arith, count-append row [])
-rows_more (row ∷ rows) (suc i) lt =
-    let further : suc (i + 1) ≡ suc i + 1 = omega arith in
-    let rest = rows_more rows i (omega arith) in
-    let one = count-append row (blocks_of (take (i + 1) rows)) in
-    let other = count-append row (blocks_of (take i rows)) in
-    ap (λ n. count_in (blocks_of (take n (row ∷ rows)))) (sym further) ∙ omega (arith, rest, one, other)

@@ -8,7 +8,6 @@ use Rattle.edge_block.specs.Batches.{layout_after, taken_by}
 use Rattle.block_reclamation.specs.declared.status.BlockStatus.{BlockStatus}
 use Rattle.block_reclamation.specs.declared.status.BlockStatus.TheVariants.{Free, Granted, Used, Retired}
 use Rattle.block_reclamation.specs.Status.{is_free, is_reclaimable, is_retired, is_in_use}
-use Rattle.block_pool.proofs.Tallies.{count_more}
 use Rattle.block_reclamation.specs.declared.copies.PinCopy.{PinCopy}
 use Rattle.block_reclamation.specs.Copies as copies
 use Rattle.block_reclamation.specs.Copies.{needs}
@@ -28,6 +27,7 @@ use Rattle.script_server.specs.{Servers.ShowsDesk, States.dates, States.dropped,
 use Rattle.script_server.specs.States.{Dates, IsCommandResult, ServerState, after_collect, after_commit, attempt, batch_word}
 use Rattle.script_server.specs.States.{beginning, copy_of}
 use Rattle.script_server.specs.States.{last_version, left_by_pending, recycled, set_up, taken, used}
+use Rattle.edge_block.proofs.Counts.{count_more}
 
 -- Counts
 

@@ -7,7 +7,7 @@ use Rattle.block_pool.specs.Pools.{marked}
 use Rattle.block_reclamation.specs.declared.status.BlockStatus.{BlockStatus}
 use Rattle.block_reclamation.specs.declared.status.BlockStatus.TheVariants.{Free, Used}
 use Rattle.block_reclamation.specs.Status.{is_retired, is_in_use}
-use Rattle.block_pool.proofs.{Grants.length-marked, Tallies.count_more}
+use Rattle.block_pool.proofs.Grants.{length-marked}
 use Rattle.edge_block.specs.Slots.{BlockView}
 use Rattle.feed_csv.specs.declared.command.Command.TheVariants.{Rebase}
 use Rattle.graph_types.specs.Step.{left_by}
@@ -19,6 +19,7 @@ use Rattle.stream_store.specs.Refusals.{block_count}
 use Rattle.script_server.proofs.{DeskLaws.length-replicate, DeskLaws.none_counted, DeskLaws.parts, HeldBlocks.blocks_counted}
 use Rattle.script_server.specs.{Servers.ShowsDesk, Slots.held_of}
 use Rattle.script_server.specs.States.{IsCommandResult, ServerState, after_rebase, version, version_in, blocks_of as held_blocks}
+use Rattle.edge_block.proofs.Counts.{count_more}
 
 -- The pool
 

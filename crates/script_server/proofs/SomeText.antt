@@ -26,6 +26,7 @@ use Rattle.script_server.specs.States.{answer_result, batch_word, beginning, clo
 use Rattle.script_server.specs.States.{lines_unless, op_refusal, open_refusal, printed, rebase_result, rebased, recycled}
 use Rattle.script_server.specs.States.{used, version, version_in}
 use Rattle.script_server.proofs.ContentsKept.{HasContent, content_after_all}
+use Rattle.graph_types.proofs.More.{left_more}
 
 -- each version that the batches of a state leave is that of a content, and what is pending is valid
 record IsSound (s : ServerState) : Type 0 where
@@ -45,10 +46,6 @@ last_content : (s : ServerState) → IsSound s → HasContent (last_version s)
 last_content s sound =
     subst (λ (bs : List (List NamedOp)). HasContent (left_by bs s.opening)) (take_all (length s.batches) s.batches (omega arith))
     (sound.versions (length s.batches))
-
-left_more : (bs : List (List NamedOp)) (b : List NamedOp) (g : Graph) → left_by (bs ++ b ∷ []) g ≡ after_all b (left_by bs g)
-left_more [] b g = refl
-left_more (x ∷ bs) b g = left_more bs b (after_all x g)
 
 -- an operation that is taken is valid
 taken_parts : (names weight time full : Bool) (lines : List ℕ)

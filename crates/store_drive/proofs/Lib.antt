@@ -1,5 +1,4 @@
 mod Agreeing
-mod Empty
 mod Places
 mod Pushed
 mod Right

@@ -24,7 +24,7 @@ impl From<PlainError> for DriveWord {
 }
 
 /// The content without names and edges.
-#[tactic(auto, using(crate::proofs::Empty::empty_content))]
+#[tactic(auto, using(graph_types::proofs::Empty::empty_content))]
 fn empty(alloc: Global) -> Content
     ensures content { IsContent result }
     ensures graph { graph_of result ≡ empty_graph }

@@ -10,11 +10,11 @@ use Rattle.graph_version.specs.{Rows.row_of, Rows.numbers_of, Versions.VersionVi
 use Rattle.block_reclamation.specs.Status.{is_listed, is_retired, is_reclaimable, is_used, is_at, recycled}
 use Rattle.block_reclamation.specs.declared.copies.PinCopy.{PinCopy}
 use Rattle.block_reclamation.specs.declared.status.BlockStatus.{BlockStatus, TheVariants.Free}
-use Rattle.block_pool.proofs.Tallies.{count_more}
 use Rattle.store_steps.specs.Journal.{Collected, Ledger, opened_ledger, is_legal, replay}
 use Rattle.store_steps.specs.Desks.{DeskView, IsDesk, IsCollected, birth_at, births_in, collections}
 use Rattle.store_steps.proofs.{NumberLists.apart_test, Births.birth_in, Births.birth_from, Births.row_listed}
 use Rattle.store_steps.proofs.Accepting.{replay_more}
+use Rattle.edge_block.proofs.Counts.{count_more}
 
 -- one status is freed, or retired still, or was never retired
 past_one : (copy : PinCopy) (x : BlockStatus) → cond (is_reclaimable copy x) 1 0 + cond (is_retired (recycled copy x)) 1 0

@@ -9,8 +9,8 @@ use Rattle.epoch_core.specs.{Blocks.all_differ, Posting.same_stamp}
 use Rattle.edge_block.specs.Slots.{BlockView, Slot}
 use Rattle.graph_version.specs.Rows.{numbers_of}
 use Rattle.block_reclamation.specs.Status.{is_listed}
-use Rattle.block_pool.proofs.Tallies.{count_more}
 use Rattle.store_steps.proofs.NumberLists.{differ_head, differ_tail}
+use Rattle.edge_block.proofs.Counts.{count_more}
 
 -- how often a number stands in a list
 abbrev pub times : ℕ → List ℕ → ℕ

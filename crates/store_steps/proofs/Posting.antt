@@ -15,7 +15,7 @@ use Rattle.block_reclamation.specs.declared.status.BlockStatus.{BlockStatus, The
 use Rattle.epoch_core.{specs.declared.states.Version.Version, proofs.Lists.all_listed, proofs.Lists.length_enumerated}
 use Rattle.epoch_core.specs.{Blocks.all_differ, Blocks.after_post, Posts.posted, Worlds.World, Worlds.last_blocks}
 use Rattle.epoch_core.specs.{declared.events.Event.TheVariants.Post, Versions.AreEdgesOf, Versions.edges_at, Versions.edges_of}
-use Rattle.epoch_core.proofs.{Edges.Decides-edges, Changes.version_next, Changes.batches_all, Changes.left_more, Posted.status_at}
+use Rattle.epoch_core.proofs.{Edges.Decides-edges, Changes.version_next, Changes.batches_all, Posted.status_at}
 use Rattle.epoch_core.specs.Posting.{is_listable, version_by, can_post, graph_after, are_edges_of}
 use Rattle.store_steps.specs.{Journal.Applied, Journal.Ledger, Journal.is_legal, Shown.ShowsWorld}
 use Rattle.store_steps.specs.Desks.{DeskView, IsDesk, IsAccepted, last_numbers, ledger_of}
@@ -25,6 +25,7 @@ use Rattle.store_steps.proofs.{NumberLists.picked_apart, NumberLists.picked_all,
 use Rattle.store_steps.proofs.{ChangedLists.marked_at, ChangedLists.same_list, Applications.exchanged_at}
 use Rattle.store_steps.proofs.OneStatus.{status_by, same_after, born_mark}
 use Rattle.store_steps.proofs.Filling.{filled_world, fills_done, step_then, AllAre, length-heap_with, heap_else, heap_here}
+use Rattle.graph_types.proofs.More.{left_more}
 
 -- what a legal batch asks of the pool
 pub record IsLegalBatch (pool : List BlockStatus) (taken dropped : List ℕ) : Type 0 where

@@ -1,11 +1,12 @@
 -- How many blocks are retired, and how many free, once some are moved.
 use Rattle.std.proofs.Common.{◌≡◌, ℕ, zero, suc, ◌+◌, ◌≤◌, Bool, cond, List, [], ◌∷◌, length, get_or, set, count_by, sym, ap}
 use Rattle.std.proofs.{Common.arith, lemmas.Grind.common_steps, lemmas.List.length-map}
-use Rattle.block_pool.{specs.Pools.retired, specs.Pools.marked, specs.Pools.changed, proofs.Tallies.count_more}
+use Rattle.block_pool.specs.Pools.{retired, marked, changed}
 use Rattle.block_reclamation.specs.{declared.status.BlockStatus.BlockStatus, Status.is_retired}
 use Rattle.block_reclamation.specs.declared.status.BlockStatus.TheVariants.{Free, Granted, Used}
 use Rattle.store_steps.proofs.Applications.{Application, next_desk, granted_pool, born_pool, dropped_numbers, number_in_desk}
 use Rattle.store_steps.proofs.Applications.{retired_pool, moves_left}
+use Rattle.edge_block.proofs.Counts.{count_more}
 
 set_count : (xs : List BlockStatus) (i : ℕ) (s : BlockStatus) → count_by is_retired (set xs i s) ≤ count_by is_retired xs + cond
     (is_retired s) 1 0

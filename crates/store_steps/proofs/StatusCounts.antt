@@ -4,7 +4,7 @@ use Rattle.std.proofs.Common.{count_by, refl, sym, ap, ◌∙◌, arith, ◌&&�
 use Rattle.std.{proofs.lemmas.Grind.common_steps, proofs.lemmas.List.length-map, specs.Option.option_map}
 use Rattle.std.proofs.lemmas.{Bool.eq-eqb, Bool.true≢false, Bool.or_right, Option.slice_get_within, Option.get_or_from_slice_get}
 use Rattle.std.specs.{Prelude.slice_get, Prelude.if◌then◌else◌, declared.option.Option.TheVariants.Some}
-use Rattle.block_pool.proofs.{Grants.length-marked, Tallies.count_here, Tallies.count_more}
+use Rattle.block_pool.proofs.{Grants.length-marked, Tallies.count_here}
 use Rattle.block_pool.specs.Pools.{retired, is_free_at, marked, changed, is_used_at}
 use Rattle.graph_types.specs.declared.batches.NamedOp.{NamedOp}
 use Rattle.block_reclamation.specs.Status.{is_listed, is_free, is_retired, is_reclaimable, recycled}
@@ -16,6 +16,7 @@ use Rattle.store_steps.specs.Desks.{ledger_of}
 use Rattle.store_steps.proofs.{NumberLists.differ_head, NumberLists.differ_tail, CollectedDesk.past_and_left}
 use Rattle.store_steps.proofs.{ChangedLists.marked_at, ChangedLists.length-changed, Posting.IsLegalBatch, Posting.legal_batch}
 use Rattle.store_steps.proofs.OneNumber.{free_is, born_is, not_both}
+use Rattle.edge_block.proofs.Counts.{count_more}
 
 -- one status is set
 count_set : (p : BlockStatus → Bool) (pool : List BlockStatus) (n : ℕ) (s t : BlockStatus) → slice_get pool n ≡ Some s

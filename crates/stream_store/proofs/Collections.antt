@@ -3,13 +3,14 @@ use Rattle.std.proofs.Common.{◌≡◌, ℕ, zero, suc, ◌+◌, ◌≤◌, Lis
 use Rattle.std.{proofs.lemmas.Grind.common_steps, specs.Prelude.slice_set}
 use Rattle.logbook.specs.Pages.{Book}
 use Rattle.graph_version.specs.{Rows.blocks_of, Rows.numbers_of, Versions.VersionView}
-use Rattle.block_pool.{specs.Pools.marked, proofs.Tallies.count_more}
+use Rattle.block_pool.specs.Pools.{marked}
 use Rattle.block_reclamation.specs.declared.status.BlockStatus.{BlockStatus, TheVariants.Free, TheVariants.Used}
 use Rattle.block_reclamation.specs.{Status.is_retired, declared.copies.PinCopy.PinCopy}
 use Rattle.version_shelf.specs.Shelves.{ShelfView, opened_shelf}
 use Rattle.store_steps.{specs.Opening.IsVersionZero, specs.Opening.opened_desk, proofs.OpeningShown.opened_is_desk}
 use Rattle.store_steps.proofs.CollectedDesk.{desk_collected, is_collected, collected_is_desk}
 use Rattle.stream_store.specs.Kept.{DeskState, IsDeskState}
+use Rattle.edge_block.proofs.Counts.{count_more}
 
 -- what is kept holds of equal values too
 pub kept_same : (d e : DeskState) (s t : ShelfView) (entries room others more : ℕ) → IsDeskState d s entries room

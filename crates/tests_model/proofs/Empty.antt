@@ -1,18 +1,9 @@
 -- The opening without names, kinds, edges and blocks.
-use Rattle.std.proofs.Common.{◌≡◌, List, [], refl, arith}
+use Rattle.std.proofs.Common.{◌≡◌, List, [], refl}
 use Rattle.graph_types.specs.{Graph.IsContent, Graph.graph_of, declared.ids.Edge.Edge}
 use Rattle.epoch_core.specs.{Versions.graph_at, Posting.last_content}
 use Rattle.epoch_core.specs.Worlds.{empty_opening}
-
-pub no_content : IsContent (record { names = []; kinds = []; edges = [] })
-no_content = record {
-  names_distinct = λ i j d lt h. omega (arith, h);
-  kinds_distinct = λ i j d lt h. omega (arith, h);
-  names_few = omega arith;
-  kinds_few = omega arith;
-  keys_distinct = λ i j d lt h. omega (arith, h);
-  edges_within = λ j d h. omega (arith, h);
-}
+use Rattle.graph_types.proofs.Empty.{empty_content as no_content}
 
 pub empty_content : (heap : List (List Edge)) → IsContent (last_content empty_opening heap [])
 empty_content heap = no_content

@@ -1,4 +1,3 @@
-mod Empty
 mod TakenBack
 pub mod NoRows
 mod Numbers

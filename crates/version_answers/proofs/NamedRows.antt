@@ -1,11 +1,12 @@
 -- Rows of names and values, put together one vertex after another.
 use Rattle.std.proofs.Common.{◌≡◌, ℕ, ◌+◌, ◌<◌, min, List, [], ◌∷◌, ◌++◌, length, get_or, take, Option, Some, None, refl, sym, ap}
 use Rattle.std.proofs.Common.{◌∙◌, arith}
-use Rattle.std.specs.{Prelude.zip, List.filter_map, List.cons_option, List.slice_get, Option.option_to_list, Option.unwrap_or}
+use Rattle.std.specs.{Prelude.zip, List.filter_map, List.slice_get, Option.option_to_list, Option.unwrap_or}
 use Rattle.std.proofs.lemmas.List.{take_more, take_all, get_or-map, length-map, get_or_default, Elements.filter_map-append}
 use Rattle.std.proofs.lemmas.{Option.unwrap_or-slice_get, Slice.Zip.length-zip, Slice.Zip.get_or-zip}
 use Rattle.graph_types.specs.{Answer.names_of, Answer.level_row, declared.ids.VertexId.VertexId}
 use Rattle.graph_levels.specs.Vertices.{numbers_of}
+use Rattle.graph_types.proofs.More.{kept_row}
 
 -- a vertex's name, and the empty one past the last vertex
 pub name_there : (names : List (List ℕ)) (number : ℕ) (name : List ℕ) → Some name ≡ slice_get names number
@@ -46,9 +47,6 @@ label_at names labels k d y within name =
     get_or-map (λ (v : VertexId). v.0) labels k d 0 within in
     let there : k < length (numbers_of labels) = omega (arith, length-map labels (λ (v : VertexId). v.0)) in
     name ∙ ap (λ v. get_or names v []) (sym numbers) ∙ sym (get_or-map (λ v. get_or names v []) (numbers_of labels) k 0 y there)
-
-kept_row : (row : List ℕ × Option ℕ) → filter_map level_row (row ∷ []) ≡ option_to_list (level_row row)
-kept_row row = elim (level_row row) as (λ o. cons_option o [] ≡ option_to_list o) [ None ↦ refl | Some x ↦ refl ]
 
 -- one row more, where there is a level
 pub level_rows_more : (names : List (List ℕ)) (levels : List (Option ℕ)) (rows new : List (List ℕ × ℕ)) (k : ℕ)

@@ -16,7 +16,7 @@ use std::process::Abort;
 use std::test::Fail;
 
 /// A content without names, kinds and edges.
-#[tactic(auto, using(crate::proofs::Empty::no_content))]
+#[tactic(auto, using(graph_types::proofs::Empty::empty_content))]
 pub(super) fn empty(alloc: Global) -> Content
     ensures content { IsContent result }
     ensures empty { result ≡ empty_opening.content }
