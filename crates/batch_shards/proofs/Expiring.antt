@@ -2,7 +2,7 @@
 use Rattle.std.proofs.Common.{◌≡◌, ℕ, zero, suc, ◌+◌, ◌%◌, ◌^◌, ◌<◌, ◌≤◌, Bool, true, false, cond, not, ◌&&◌, ◌||◌, List}
 use Rattle.std.proofs.Common.{[], ◌∷◌, ◌++◌, map, length, get_or, set, take, drop, count_by, refl, sym, ap, ◌∙◌, arith, subst}
 use Rattle.std.proofs.lemmas.{Bool.false≢true, Bool.lt-ltb, Bool.ltb-true, List.Sums.sum_by-cons, List.Sums.sum_by-append}
-use Rattle.std.{proofs.lemmas.List.Sums.sum_by-set, specs.List.list_any, specs.List.sum_by}
+use Rattle.std.{proofs.lemmas.List.Sums.sum_by-set, specs.List.list_any, specs.List.sum_by, specs.Prelude.◌+ℤ◌}
 use Rattle.std.specs.declared.option.Option.{Option, TheVariants.None, TheVariants.Some}
 use Rattle.graph_types.specs.{Graph.Stamp, Graph.Key, Limits.is_weight, Step.is_before, Step.outcome_at, Step.stamp_after}
 use Rattle.graph_types.specs.declared.changes.EdgeChange.{EdgeChange, TheVariants.Insert, TheVariants.Incr, TheVariants.Remove}

@@ -1,7 +1,7 @@
 -- Steps of the whole state.
 use Rattle.std.proofs.Common.{◌≡◌, ℕ, zero, suc, ◌+◌, ◌≤◌, min, inl, inr, List, [], ◌∷◌, ◌++◌, length, refl, sym, ap, subst, ◌∙◌}
 use Rattle.std.proofs.{Common.arith, lemmas.Bool.cases_eq, lemmas.List.length-replicate}
-use Rattle.std.specs.{Prelude.is_some, Option.unwrap_or}
+use Rattle.std.specs.{Prelude.if◌then◌else◌, Prelude.is_some, Option.unwrap_or}
 use Rattle.std.specs.declared.option.Option.{Option, TheVariants.None, TheVariants.Some}
 use Rattle.graph_types.specs.{declared.batches.NamedOp.NamedOp, declared.contents.Content.Content}
 use Rattle.epoch_core.specs.declared.{states.Version.Version, states.Opening.Opening, step.Step.Step}

@@ -1,7 +1,7 @@
 -- Rounds that lower numbers, one step after another.
 use Rattle.std.proofs.Common.{◌≡◌, ℕ, suc, ◌+◌, ◌-◌, ◌<◌, ◌≤◌, arith, refl, sym, ap, ◌∙◌, subst, ◌⊎◌, inl, inr, List, []}
 use Rattle.std.proofs.Common.{length, get_or, set, take, cond, true, false, Bool, ◌&&◌}
-use Rattle.std.specs.{Prelude.All, Prelude.sum, Prelude.count_by, Prelude.nat_le}
+use Rattle.std.specs.Prelude.{All, sum, count_by, ◌==◌, nat_le}
 use Rattle.std.proofs.lemmas.Bool.{cases_eq, eqb-true, Decides.nat_tests, Decides.Decides-eqb}
 use Rattle.std.proofs.lemmas.List.{get_or-set_same, get_or-set_other, length-set, take_more, take_all, length-take}
 use Rattle.std.proofs.lemmas.List.{Sums.sum_by_push, Sums.count_by-le-length}
