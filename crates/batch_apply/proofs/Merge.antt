@@ -5,7 +5,7 @@ use Rattle.graph_types.specs.{Graph.Graph, declared.batches.NamedOp.NamedOp, dec
 use Rattle.edge_block.specs.Rows.{Shape, untouched, row_end}
 use Rattle.edge_block.specs.Batches.{Resolved, resolved, is_in_shard, shard_ops, picked, outcomes_all, opened}
 use Rattle.edge_block.proofs.ShardLaws.{shard_outcomes}
-use Rattle.batch_apply.specs.Plans.{placed_ops, shard_at, ops_of}
+use Rattle.batch_apply.specs.Plans.{placed_ops, ops_of}
 use Rattle.batch_shards.specs.Groups.{told}
 
 -- a shard of placed operations is the shard of the operations
@@ -51,7 +51,7 @@ map_picked f p (x ∷ xs) (y ∷ ys) =
 
 module _ (workers w : ℕ) (ops : List NamedOp) (g : Graph) (layout : ℕ → List Shape) where
   abbrev shard : List (ℕ × Resolved)
-  shard = shard_at workers (placed_ops ops g) w
+  shard = filter (λ p. is_in_shard workers w p.1) (placed_ops ops g)
 
   pub same_ops : ops_of shard ≡ shard_ops workers w (resolved ops g.names g.kinds)
   same_ops = shard_is (is_in_shard workers w) (resolved ops g.names g.kinds) 0

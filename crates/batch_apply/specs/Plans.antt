@@ -1,5 +1,5 @@
 -- A plan: a batch's operations with the numbers of their names, by shard.
-use Rattle.std.specs.Prelude.{ℕ, ◌+◌, List, [], ◌∷◌, map, filter, get_or, set, Bool}
+use Rattle.std.specs.Prelude.{ℕ, ◌+◌, List, [], ◌∷◌, map, get_or, set, Bool}
 use Rattle.std.specs.List.{enumerate_from}
 use Rattle.graph_types.specs.Graph.{Graph}
 use Rattle.graph_types.specs.declared.batches.NamedOp.{NamedOp}
@@ -12,9 +12,6 @@ pub use Rattle.batch_shards.specs.Groups.{told}
 -- the batch's operations, each with its place
 abbrev pub placed_ops : List NamedOp → Graph → List (ℕ × Resolved)
 placed_ops ops g = enumerate_from 0 (resolved ops g.names g.kinds)
-
-abbrev pub shard_at : ℕ → List (ℕ × Resolved) → ℕ → List (ℕ × Resolved)
-shard_at workers ops w = filter (λ p. is_in_shard workers w p.1) ops
 
 -- the operations of a shard without their places
 abbrev pub ops_of : List (ℕ × Resolved) → List Resolved

@@ -33,10 +33,6 @@ abbrev pub popped : List ℕ → ℕ → ℕ → List ℕ
 popped room len zero = []
 popped room len (suc k) = slice_index room (len - 1) ∷ popped room (len - 1) k
 
--- the stacks have each retired number, once, and no other
-abbrev pub AreStacked : List BlockStatus → List (List ℕ) → Type 0
-AreStacked pool lists = (q : ℕ → Bool) → sum_by (count_by q) lists ≡ tally is_retired q 0 pool
-
 -- the copy needs each block of these numbers that is retired
 abbrev pub AreNeeded : PinCopy → List BlockStatus → List ℕ → Type 0
 AreNeeded copy pool numbers = (n : ℕ) → is_listed n numbers ≡ true → is_reclaimable copy (status_of pool n) ≡ false
@@ -45,11 +41,11 @@ AreNeeded copy pool numbers = (n : ℕ) → is_listed n numbers ≡ true → is_
 abbrev pub HasPins : PinCopy → List (Option ℕ) → Type 0
 HasPins copy pins = (seat : ℕ) → seat < SEATS → slice_index_or copy.settled seat None ≡ slice_index_or pins seat None
 
--- The stacks of the retired numbers: one for each seat, which any copy needs that has the seat's settled pin; one that any
+-- The stacks of the retired numbers, which have each once, and no other: one for each seat, which any copy needs that has the seat's settled pin; one that any
 -- copy needs that reaches no further than below `least`; and one of which nothing is known.
 pub record IsSorted (pool : List BlockStatus) (pins : List (Option ℕ)) (least : ℕ) (lists : List (List ℕ)) : Type 0 where
   pub many : length lists ≡ LATE + 1
-  pub listed : AreStacked pool lists
+  pub listed : (q : ℕ → Bool) → sum_by (count_by q) lists ≡ tally is_retired q 0 pool
   pub held : (copy : PinCopy) (seat : ℕ) → seat < SEATS → slice_index_or copy.settled seat None ≡ slice_index_or pins seat None
       → AreNeeded copy pool (stack_of lists seat)
   pub late : (copy : PinCopy) → reach_of copy < least → AreNeeded copy pool (stack_of lists LATE)

@@ -21,10 +21,6 @@ remove_at target = change_at Remove target
 abbrev pub row_by : List Resolved → List Shape → List OpenBlock
 row_by ops row = rows_all ops (opened (λ _. row)) 0
 
--- how many edges each block of a row has
-abbrev pub edge_counts : List Shape → List ℕ
-edge_counts row = map (λ b. length (edges_in b.slots)) row
-
 -- which targets each block of a row has, slots rising
 abbrev pub targets_of : List Shape → List (List ℕ)
 targets_of row = map (λ b. map (λ e. e.target) (edges_in b.slots)) row
@@ -35,7 +31,7 @@ insert_late target = change_at (Insert (pos 1) 9) target
 
 -- a row's counts at a batch's end: the edges of each block, the blocks taken, and those dropped
 pub record Leaves (row : List OpenBlock) (edges : List ℕ) (taken dropped : ℕ) : Type 0 where
-  pub edges_are : edge_counts (row_end row) ≡ edges
+  pub edges_are : map (λ b. length (edges_in b.slots)) (row_end row) ≡ edges
   pub taken_are : taken_in row ≡ taken
   pub dropped_are : dropped_in row ≡ dropped
 

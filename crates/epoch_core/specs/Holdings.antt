@@ -51,9 +51,6 @@ holdings_of (Released ∷ rest) = holdings_of rest
 abbrev pub holdings : ℕ → World → List Event → List Holding
 holdings s w events = holdings_of (observations s w events)
 
--- the questions of a holding: its requests, over the graph of the held version
-abbrev pub questions_in : Holding → List Question
-questions_in h = map (λ request. record { request = request; graph = h.graph }) h.answered
-
+-- the questions of holdings: the requests of each, over the graph of the held version
 abbrev pub questions : List Holding → List Question
-questions held = flat_map questions_in held
+questions held = flat_map (λ h. map (λ request. record { request = request; graph = h.graph }) h.answered) held

@@ -9,12 +9,10 @@ abbrev pub decimal_value : List ℕ → ℕ
 decimal_value [] = 0
 decimal_value (digit ∷ digits) = (digit - 48) * 10 ^ length digits + decimal_value digits
 
--- 1 to 19 digits, and nothing else
-abbrev pub is_number : List ℕ → Bool
-is_number text = nat_le 1 (length text) && nat_le (length text) 19 && list_all is_ascii_digit text
-
+-- a number is 1 to 19 digits, and nothing else
 abbrev pub number_of : List ℕ → Option ℕ
-number_of text = if is_number text then Some (decimal_value text) else None
+number_of text =
+    if nat_le 1 (length text) && nat_le (length text) 19 && list_all is_ascii_digit text then Some (decimal_value text) else None
 
 -- a number, where there is one and it is at most so much
 abbrev pub at_most : ℕ → Option ℕ → Option ℕ

@@ -140,13 +140,10 @@ degree_line entry =
     entry.0 ++ (codes " " ++ (decimal entry.1.outgoing
     ++ (codes " " ++ (decimal entry.1.incoming ++ (codes " " ++ (signed_decimal entry.1.out_weight ++ codes "\n"))))))
 
--- deg <slot> edges=<n>
-abbrev pub degree_head : ℕ → ℕ → List ℕ
-degree_head slot edges = codes "deg " ++ (decimal slot ++ (codes " edges=" ++ (decimal edges ++ codes "\n")))
-
--- the head, and then a line for each vertex
+-- deg <slot> edges=<n>, and then a line for each vertex
 abbrev pub degree_lines : ℕ → ℕ → List (List ℕ × Degree) → List ℕ
-degree_lines slot edges entries = degree_head slot edges ++ flat_map degree_line entries
+degree_lines slot edges entries =
+    (codes "deg " ++ (decimal slot ++ (codes " edges=" ++ (decimal edges ++ codes "\n")))) ++ flat_map degree_line entries
 
 -- edge <slot> <weight> <first> <recent>, or edge <slot> none
 abbrev pub edge_line : ℕ → Option (ℤ × ℕ × ℕ) → List ℕ

@@ -34,16 +34,13 @@ IsIntendedText setup rows text =
     ⊎ ((count : ℕ) × (IsTextToFault setup rows (Feed feed.Read) count text
     ⊎ (IsTextToFault setup rows (Feed feed.Memory) count text ⊎ IsTextToRebase setup rows count text))))
 
--- records, error lines and pending operations
-abbrev pub summary_of : Progress → Summary
-summary_of p = record { records = p.records; errors = p.errors; pending = length p.state.pending }
-
 -- what a run that did so many records has written when it returns: the whole text; or the text up to a fault; or, where a write
 -- failed, a first part of such a text; or, where a store was not opened, nothing, or the text up to that rebase. Memory is
 -- never told of the limit of records
 abbrev pub IsText : Setup → List Row → ℕ → Result Summary ServeFault → List ℕ → Type 0
 IsText setup rows count (Ok summary) text =
-    (there : Progress) × IsFullText setup rows text there × (there.records ≡ count) × (summary ≡ summary_of there)
+    (there : Progress) × IsFullText setup rows text there × (there.records ≡ count)
+    × (summary ≡ record { records = there.records; errors = there.errors; pending = length there.state.pending })
 IsText setup rows count (Err Read) text = IsTextToFault setup rows (Feed feed.Read) count text
 IsText setup rows count (Err Memory) text = IsTextToFault setup rows (Feed feed.Memory) count text × (count < record_limit)
 IsText setup rows count (Err Start) text = ((text ≡ []) × (count ≡ 0)) ⊎ IsTextToRebase setup rows count text

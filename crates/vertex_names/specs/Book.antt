@@ -23,11 +23,7 @@ pub record IsBook (book : Book) : Type 0 where
   pub distinct : AllPairs (λ a b. a ≢ b) book.names
   pub named : All (λ name. IsTrue (is_name name)) book.names
 
--- a name meets the limit where the book would have more names than that
-abbrev pub MeetsLimit : Book → List ℕ → Type 0
-MeetsLimit book name = book.limit < length (with_name book.names name)
-
--- when a name is refused; want of memory may come at any time
+-- when a name is refused: where the book would have more names than its limit; want of memory may come at any time
 abbrev pub Refuses : AddError → Book → List ℕ → Type 0
-Refuses NamesFull book name = MeetsLimit book name
+Refuses NamesFull book name = book.limit < length (with_name book.names name)
 Refuses OutOfMemory book name = Unit {0}

@@ -4,7 +4,7 @@ ghost use Rattle.std.specs.Option.{SomeIff};
 ghost use Rattle.graph_types.specs.Step.{with_name, number_of};
 ghost use Rattle.graph_types.specs.Answer.{is_listed};
 ghost use Rattle.graph_types.specs.Valid.{is_name};
-ghost use Rattle.vertex_names.specs.Book.{empty_book, with_entry, IsBook, MeetsLimit, Refuses};
+ghost use Rattle.vertex_names.specs.Book.{empty_book, with_entry, IsBook, Refuses};
 ghost use Rattle.vertex_names.specs.Index.{text_hash};
 
 use crate::cache::{Cache, keep, make_room, short_hash};
