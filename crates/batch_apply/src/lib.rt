@@ -26,6 +26,5 @@ pub use laws::{
 pub use old::{OldRow, old_rows};
 pub use planning::plan;
 pub use plans::{Plan, PlanError};
-pub use resolve::{EdgeKey, ResolvedOp};
 pub use source_laws::law_sources_within;
 pub use workers::{Gate, Job, PassAll, do_all};

@@ -180,7 +180,7 @@ impl Version {
 
     /// The next vertex, from one on, with a block in its row that has an edge that was last touched before a time.
     ///
-    /// It takes time by the rows that have one, and not by all: the least times of groups of rows are kept. For example, where
+    /// It takes time by the rows that have one, and not by all: bounds of the recent times of rows are kept. For example, where
     /// edges leave the vertices 2 and 7 alone, with the recent times 10 and 20, from 3 on there is none before 20, and one
     /// before 21, which is 7. A row of more than 64 blocks is looked through each time.
     pub fn next_old(&self, from: VertexId, time: u64) -> Option<VertexId>

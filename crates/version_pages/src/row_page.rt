@@ -1,6 +1,7 @@
 //! Pages of rows, in parts.
 
-ghost use Rattle.std.specs.Prelude.{◌≡◌, ◌<◌, ◌*◌, [], IfOk, OnOk, length, min, replicate, slice_index_or, slice_set};
+ghost use Rattle.std.specs.Prelude.{◌≡◌, ◌<◌, ◌*◌, ◌&&◌, [], IfOk, OnOk, length, min, nat_le, nat_lt, replicate};
+ghost use Rattle.std.specs.Prelude.{slice_index_or, slice_set};
 ghost use Rattle.version_pages.specs.Sharing.{block_values};
 ghost use Rattle.version_pages.specs.Parts.{in_parts, AreParts};
 ghost use Rattle.version_pages.specs.Ages.{AreSince, AreYoung};
@@ -119,7 +120,9 @@ impl Part {
 }
 
 /// Whether a bound of rows may rise with that of one of them, which was `before` and is `since` now.
-fn is_raised(kept: u64, before: u64, since: u64) -> bool {
+fn is_raised(kept: u64, before: u64, since: u64) -> bool
+    ensures { result ≡ (nat_le before kept && nat_lt before since) }
+{
     before <= kept && before < since
 }
 

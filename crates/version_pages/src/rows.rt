@@ -72,8 +72,8 @@ impl Rows {
 
     /// The next source, from one on, whose row has a block with an edge that was last touched before a time.
     ///
-    /// Where none of 64 or of 8 sources has one, their rows are passed over at once, since their least time is kept. That of a
-    /// row of more than 64 blocks isn't kept, and the row is looked through.
+    /// 64 or 8 sources are passed over at once where a kept bound, which is at most the least recent time of their edges, isn't
+    /// before that time. A row of more than 64 blocks keeps none, and is looked through.
     pub fn next_old(&self, from: VertexId, time: u64) -> Option<VertexId>
         ensures { IsNextOld time self.now from.0 result }
     {
