@@ -1,6 +1,6 @@
-// Writes a script of records for bench/compare and others: a load, then requests. Arguments: the load (`rmat`, `sparse`, `hub`,
-// `mixed`, `ordinary`, `chosen`, `empty` or `none`), then pairs of a request and how often it stands. Operations come in batches
-// of 4,096, with a collection behind each.
+// Writes a script of records for bench/compare and others: a load, then requests. Arguments: the load (`rmat`, `wide`, `sparse`,
+// `hub`, `mixed`, `ordinary`, `chosen`, `empty` or `none`), then pairs of a request and how often it stands. Operations come in
+// batches of 4,096, with a collection behind each.
 use std::hash::{DefaultHasher, Hasher};
 use std::io::{self, BufWriter, StdoutLock, Write};
 
@@ -57,6 +57,16 @@ impl Script {
         for time in 0..14 << 16 {
             let (source, target) = draws.rmat_edge(16);
             self.operation(format_args!("i,link,v{source},v{target},{},{time}", time % 100))?;
+        }
+        Ok(())
+    }
+
+    /// 24 batches of insertions, each from 2,000 sources, between 20,000 vertices.
+    fn wide(&mut self) -> io::Result<()> {
+        let mut draws = Draws(1);
+        for time in 0..24 * OPERATIONS_A_BATCH {
+            let source = (time / OPERATIONS_A_BATCH * 2_000 + time * 7 % 2_000) % 20_000;
+            self.operation(format_args!("i,link,v{source},v{},1,{time}", draws.below(20_000)))?;
         }
         Ok(())
     }
@@ -143,6 +153,7 @@ fn main() -> io::Result<()> {
     let mut script = Script { out: BufWriter::new(io::stdout().lock()), operations: 0 };
     match words[0].as_str() {
         "rmat" => script.rmat()?,
+        "wide" => script.wide()?,
         "sparse" => script.sparse()?,
         "hub" => script.hub()?,
         "mixed" => script.mixed()?,
