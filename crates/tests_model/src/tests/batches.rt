@@ -47,6 +47,20 @@ const BAD_OPERATIONS: [(&str, PushError); 7] = [
     ("x,9223372036854775808", PushError::BadTime),
 ];
 
+// Of what was made all the same, with the limits of its types.
+const MADE: [(&str, PushError); 4] = [
+    (
+        "i,knows,,bob,-9223372036854775808,18446744073709551615",
+        PushError::BadName,
+    ),
+    (
+        "a,knows,ann,bob,9223372036854775807,18446744073709551615",
+        PushError::BadWeight,
+    ),
+    ("r,*,ann,bob", PushError::BadName),
+    ("x,18446744073709551615", PushError::BadTime),
+];
+
 // Of a batch that is full.
 const TOO_MANY: [(&str, PushError); 2] = [
     ("r,knows,ann,bob", PushError::BatchFull),
@@ -72,6 +86,7 @@ fn check_refusals(
 fn a_batch_refuses_bad_operations_in_order(rt: HostRuntime) {
     let mut batch = Batch::new(rt.alloc());
     check_refusals(&rt, rt.alloc(), &mut batch, &BAD_OPERATIONS, 0);
+    check_refusals(&rt, rt.alloc(), &mut batch, &MADE, 0);
 }
 
 fn full(alloc: Global) -> Result<Batch, LineError> {

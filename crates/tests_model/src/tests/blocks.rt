@@ -43,18 +43,22 @@ take 2 => Skipped
 take 4 => Skipped
 take 5 => Skipped: [Granted, Granted, Used { birth: 1 }, Free, Retired { birth: 2, retirement: 4 }]";
 
+fn pinned_at_3() -> PinCopy {
+    let mut copy = PinCopy {
+        last: 4,
+        ..PinCopy::none()
+    };
+    copy.settled[5] = Some(3);
+    copy
+}
+
 fn step(status: &mut Vec<BlockStatus>, line: &str) -> Result<Step, LineError> {
     let (verb, block) = line.split_once(' ').ok_or(LineError::Wrong)?;
     let block = block.parse()?;
     if verb == "take" {
         return Ok(take_block(status, block));
     }
-    let mut copy = PinCopy {
-        last: 4,
-        ..PinCopy::none()
-    };
-    copy.settled[5] = Some(3);
-    Ok(recycle_block(status, &copy, block))
+    Ok(recycle_block(status, &pinned_at_3(), block))
 }
 
 fn push_step(
@@ -72,18 +76,36 @@ fn stepped(alloc: Global, status: &mut Vec<BlockStatus>, line: &str) -> Result<S
     Ok(text)
 }
 
-fn check_steps(rt: &impl Abort, alloc: Global, status: &mut Vec<BlockStatus>) -> Result<(), Fail> {
+fn check_step(
+    rt: &impl Abort,
+    alloc: Global,
+    status: &mut Vec<BlockStatus>,
+    line: &str,
+) -> Result<(), LineError> {
+    let (text, wanted) = line.split_once(" => ").ok_or(LineError::Wrong)?;
+    check_told(rt, line, stepped(alloc, status, text)?.as_str(), wanted);
+    Ok(())
+}
+
+fn check_steps(
+    rt: &impl Abort,
+    alloc: Global,
+    status: &mut Vec<BlockStatus>,
+) -> Result<(), LineError> {
     for line in STEPS.lines() {
-        let (text, wanted) = line.split_once(" => ").ok_or("no arrow")?;
-        check_told(rt, line, stepped(alloc, status, text)?.as_str(), wanted);
+        check_step(rt, alloc, status, line)?;
     }
     Ok(())
 }
 
 #[test]
 fn takes_a_free_block_and_recycles_what_no_pin_needs(rt: HostRuntime) -> Result<(), Fail> {
-    let mut status = Vec::from_slice(rt.alloc(), &STATUSES)?;
-    check_steps(&rt, rt.alloc(), &mut status)
+    check_steps(
+        &rt,
+        rt.alloc(),
+        &mut Vec::from_slice(rt.alloc(), &STATUSES)?,
+    )?;
+    Ok(())
 }
 
 /// A granted block and a free one.
@@ -120,9 +142,8 @@ const BACK: Edge = Edge {
 
 // What is in the two blocks, and in a third one that there isn't.
 fn check_edges(rt: &impl Abort, heap: &[List<Edge>], first: Edge) {
-    same(rt, edges_at(heap, 0), [first].as_slice());
-    assert!(rt; edges_at(heap, 1).is_empty());
-    assert!(rt; edges_at(heap, 2).is_empty());
+    let others = (edges_at(heap, 1).len(), edges_at(heap, 2).len());
+    same(rt, (edges_at(heap, 0), others), (&[first], (0, 0)));
 }
 
 // A Fill of a block with the way back: what it comes to, and what is then in the first block. A refused one leaves the edge.

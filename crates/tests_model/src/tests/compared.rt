@@ -11,47 +11,49 @@ use std::process::Abort;
 use std::test::Fail;
 
 /// Names in the order of their bytes.
-const ORDERED: [&str; 5] = ["!", "Ann", "ann", "anna", "bob"];
+const ORDERED: [&str; 6] = ["", "!", "Ann", "ann", "anna", "bob"];
 
-fn order_of(alloc: Global, one: &str, other: &str) -> Result<Ordering, AllocError> {
-    let one = Name::from_str(alloc, one)?;
-    Ok(one.cmp(&Name::from_str(alloc, other)?))
+/// How two are ordered, whether they are equal, and whether the first is before the other.
+type Compared = (Ordering, bool, bool);
+
+fn compared(one: &Name, other: &Name) -> Compared {
+    (one.cmp(other), one == other, one < other)
 }
 
-fn are_equal(alloc: Global, one: &str, other: &str) -> Result<bool, AllocError> {
-    let one = Name::from_str(alloc, one)?;
-    Ok(one == Name::from_str(alloc, other)?)
+fn compared_with(alloc: Global, one: &Name, other: &str) -> Result<Compared, AllocError> {
+    Ok(compared(one, &Name::from_str(alloc, other)?))
 }
 
-fn is_before(alloc: Global, one: &str, other: &str) -> Result<bool, AllocError> {
-    let one = Name::from_str(alloc, one)?;
-    Ok(one < Name::from_str(alloc, other)?)
+/// So are the names at two places.
+fn compared_at(alloc: Global, one: usize, other: usize) -> Result<Compared, AllocError> {
+    let (Some(first), Some(second)) = (ORDERED.get(one), ORDERED.get(other)) else {
+        return Err(AllocError);
+    };
+    compared_with(alloc, &Name::from_str(alloc, first)?, second)
 }
 
-/// Of two places of the ordered names the order is that of their texts.
+/// Of two places of the ordered names the order is that of the places.
 fn check_places(
     rt: &impl Abort,
     alloc: Global,
     one: usize,
     other: usize,
 ) -> Result<(), AllocError> {
-    let (Some(first), Some(second)) = (ORDERED.get(one), ORDERED.get(other)) else {
-        return Ok(());
-    };
-    same(rt, order_of(alloc, first, second)?, one.cmp(&other));
-    same(rt, are_equal(alloc, first, second)?, one == other);
-    same(rt, is_before(alloc, first, second)?, one < other);
+    same(
+        rt,
+        compared_at(alloc, one, other)?,
+        (one.cmp(&other), one == other, one < other),
+    );
     Ok(())
 }
 
 #[test]
 fn names_are_ordered_by_their_bytes(rt: HostRuntime) -> Result<(), Fail> {
-    for one in 0..5 {
-        for other in 0..5 {
+    for one in 0..6 {
+        for other in 0..6 {
             check_places(&rt, rt.alloc(), one, other)?;
         }
     }
-    same(&rt, order_of(rt.alloc(), "", "!")?, Ordering::Less);
     Ok(())
 }
 
@@ -64,8 +66,8 @@ fn hash_of<T: Hash>(item: &T) -> u64 {
 // A map with names for keys is looked up by texts.
 #[test]
 fn a_name_hashes_as_its_text(rt: HostRuntime) -> Result<(), Fail> {
-    let name = Name::from_str(rt.alloc(), "ann")?;
-    same(&rt, hash_of(&name), hash_of(&"ann"));
+    let told = hash_of(&Name::from_str(rt.alloc(), "ann")?);
+    same(&rt, told, hash_of(&"ann"));
     Ok(())
 }
 
@@ -73,12 +75,19 @@ fn lent<T: AsStr>(text: &T) -> &str {
     text.as_str()
 }
 
+fn displayed(alloc: Global, name: &Name) -> Result<String, AllocError> {
+    format!(in alloc; "{name}|{name:>5}|{name:<4}|")
+}
+
+fn check_displayed(rt: &impl Abort, alloc: Global, name: &Name) -> Result<(), AllocError> {
+    same(rt, lent(name), "ann");
+    same(rt, displayed(alloc, name)?.as_str(), "ann|  ann|ann |");
+    Ok(())
+}
+
 #[test]
 fn a_name_is_displayed_and_lent_as_its_text(rt: HostRuntime) -> Result<(), Fail> {
-    let name = Name::from_str(rt.alloc(), "ann")?;
-    let text = format!(in rt.alloc(); "{name}|{name:>5}|{name:<4}|")?;
-    same(&rt, text.as_str(), "ann|  ann|ann |");
-    same(&rt, lent(&name), "ann");
+    check_displayed(&rt, rt.alloc(), &Name::from_str(rt.alloc(), "ann")?)?;
     Ok(())
 }
 
@@ -104,57 +113,64 @@ fn digits_of(list: List<u32>) -> u32 {
     number
 }
 
-fn check_list(rt: &impl Abort, list: &List<u32>, number: u32, greatest: Option<u32>) {
-    same(rt, digits(list), number);
-    same(rt, list.iter().copied().max(), greatest);
+/// The list has this size, its items lead to this number, and one is the greatest.
+fn check_list(rt: &impl Abort, list: &List<u32>, size: (usize, bool), items: (u32, Option<u32>)) {
+    let told = (digits(list), list.iter().copied().max());
+    same(rt, ((list.len(), list.is_empty()), told), (size, items));
 }
 
 fn check_items(
     rt: &impl Abort,
     alloc: Global,
     items: &[u32],
-    (number, greatest): (u32, Option<u32>),
+    number: u32,
+    greatest: Option<u32>,
 ) -> Result<(), AllocError> {
-    check_list(rt, &list(alloc, items)?, number, greatest);
+    let size = (items.len(), items.is_empty());
+    check_list(rt, &list(alloc, items)?, size, (number, greatest));
     same(rt, digits_of(list(alloc, items)?), number);
     Ok(())
 }
 
 #[test]
-fn a_list_lends_its_items_in_order(rt: HostRuntime) -> Result<(), Fail> {
-    check_items(&rt, rt.alloc(), &[3, 9, 4], (394, Some(9)))?;
-    check_items(&rt, rt.alloc(), &[], (0, None))?;
+fn a_list_lends_its_items_in_order_and_tells_its_size(rt: HostRuntime) -> Result<(), Fail> {
+    check_items(&rt, rt.alloc(), &[3, 9, 4], 394, Some(9))?;
+    check_items(&rt, rt.alloc(), &[7], 7, Some(7))?;
+    check_items(&rt, rt.alloc(), &[], 0, None)?;
     Ok(())
 }
 
-fn size_of(alloc: Global, items: &[u32]) -> Result<(usize, bool), AllocError> {
-    let list = list(alloc, items)?;
-    Ok((list.len(), list.is_empty()))
+/// At each place another list.
+fn list_at(alloc: Global, place: usize) -> Result<List<u32>, AllocError> {
+    match place {
+        0 => list(alloc, &[3, 9]),
+        1 => list(alloc, &[9, 3]),
+        2 => list(alloc, &[3, 9, 9]),
+        _ => list(alloc, &[]),
+    }
 }
 
-#[test]
-fn a_list_tells_its_size(rt: HostRuntime) -> Result<(), Fail> {
-    same(&rt, size_of(rt.alloc(), &[3, 9, 4])?, (3, false));
-    same(&rt, size_of(rt.alloc(), &[7])?, (1, false));
-    same(&rt, size_of(rt.alloc(), &[])?, (0, true));
+fn check_beside(
+    rt: &impl Abort,
+    alloc: Global,
+    list: &List<u32>,
+    (one, other): (usize, usize),
+) -> Result<(), AllocError> {
+    same(rt, *list == list_at(alloc, other)?, one == other);
     Ok(())
 }
 
-fn are_equal_lists(alloc: Global, one: &[u32], other: &[u32]) -> Result<bool, AllocError> {
-    let one = list(alloc, one)?;
-    Ok(one == list(alloc, other)?)
+fn check_lists(rt: &impl Abort, alloc: Global, one: usize, other: usize) -> Result<(), AllocError> {
+    check_beside(rt, alloc, &list_at(alloc, one)?, (one, other))
 }
 
 #[test]
 fn lists_are_equal_item_by_item(rt: HostRuntime) -> Result<(), Fail> {
-    same(&rt, are_equal_lists(rt.alloc(), &[3, 9], &[3, 9])?, true);
-    same(&rt, are_equal_lists(rt.alloc(), &[3, 9], &[9, 3])?, false);
-    same(
-        &rt,
-        are_equal_lists(rt.alloc(), &[3, 9], &[3, 9, 9])?,
-        false,
-    );
-    same(&rt, are_equal_lists(rt.alloc(), &[], &[])?, true);
+    for one in 0..4 {
+        for other in 0..4 {
+            check_lists(&rt, rt.alloc(), one, other)?;
+        }
+    }
     Ok(())
 }
 
@@ -175,15 +191,23 @@ fn request_at(alloc: Global, place: usize) -> Result<Request, LineError> {
     }
 }
 
+fn check_request(
+    rt: &impl Abort,
+    alloc: Global,
+    request: &Request,
+    (one, other): (usize, usize),
+) -> Result<(), LineError> {
+    same(rt, *request == request_at(alloc, other)?, one == other);
+    Ok(())
+}
+
 fn check_requests(
     rt: &impl Abort,
     alloc: Global,
     one: usize,
     other: usize,
 ) -> Result<(), LineError> {
-    let first = request_at(alloc, one)?;
-    same(rt, first == request_at(alloc, other)?, one == other);
-    Ok(())
+    check_request(rt, alloc, &request_at(alloc, one)?, (one, other))
 }
 
 #[test]
@@ -197,9 +221,8 @@ fn requests_are_equal_part_by_part(rt: HostRuntime) -> Result<(), Fail> {
 }
 
 fn levels(alloc: Global, name: &str, level: u32) -> Result<Reply, AllocError> {
-    let mut rows = Vec::new(alloc);
-    rows.push((Name::from_str(alloc, name)?, level))?;
-    Ok(Reply::Levels(List::of(rows)))
+    let row = (Name::from_str(alloc, name)?, level);
+    Ok(Reply::Levels(List::of(Vec::from_array(alloc, [row])?)))
 }
 
 // Whether a reply's copy is that reply, and no other one.
@@ -208,18 +231,34 @@ fn is_copied(reply: &Reply, other: &Reply) -> Result<bool, AllocError> {
     Ok(copy == *reply && copy != *other)
 }
 
-fn check_copied(rt: &impl Abort, alloc: Global, name: &str, level: u32) -> Result<(), AllocError> {
-    let other = levels(alloc, name, level)?;
-    same(rt, is_copied(&levels(alloc, "ann", 1)?, &other)?, true);
+fn check_copied(rt: &impl Abort, reply: &Reply, other: &Reply) -> Result<(), AllocError> {
+    same(rt, is_copied(reply, other)?, true);
     Ok(())
+}
+
+/// A reply beside the levels of one vertex.
+fn check_beside_levels(
+    rt: &impl Abort,
+    alloc: Global,
+    reply: &Reply,
+    (name, level): (&str, u32),
+) -> Result<(), AllocError> {
+    check_copied(rt, reply, &levels(alloc, name, level)?)
+}
+
+fn check_levels(rt: &impl Abort, alloc: Global, other: (&str, u32)) -> Result<(), AllocError> {
+    check_beside_levels(rt, alloc, &levels(alloc, "ann", 1)?, other)
+}
+
+fn check_edges(rt: &impl Abort, some: &Reply, none: &Reply) -> Result<(), AllocError> {
+    check_copied(rt, some, none)?;
+    check_copied(rt, none, some)
 }
 
 #[test]
 fn replies_are_copied_and_compared(rt: HostRuntime) -> Result<(), Fail> {
-    check_copied(&rt, rt.alloc(), "ann", 2)?;
-    check_copied(&rt, rt.alloc(), "bob", 1)?;
-    let (some, none) = (Reply::OneEdge(Some((5, 1, 2))), Reply::OneEdge(None));
-    same(&rt, is_copied(&some, &none)?, true);
-    same(&rt, is_copied(&none, &some)?, true);
+    check_levels(&rt, rt.alloc(), ("ann", 2))?;
+    check_levels(&rt, rt.alloc(), ("bob", 1))?;
+    check_edges(&rt, &Reply::OneEdge(Some((5, 1, 2))), &Reply::OneEdge(None))?;
     Ok(())
 }

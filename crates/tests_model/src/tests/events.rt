@@ -51,11 +51,23 @@ pub(super) fn event(alloc: Global, line: &str) -> Result<Event, LineError> {
     }
 }
 
+fn push_event(alloc: Global, events: &mut Vec<Event>, line: &str) -> Result<(), LineError> {
+    push(events, event(alloc, line)?)?;
+    Ok(())
+}
+
+fn push_events(alloc: Global, events: &mut Vec<Event>, lines: &str) -> Result<(), LineError> {
+    for line in lines.lines() {
+        push_event(alloc, events, line)?;
+    }
+    Ok(())
+}
+
 /// The events of these lines.
 pub(super) fn events(alloc: Global, lines: &str) -> Result<Vec<Event>, LineError> {
     let mut events = Vec::new(alloc);
-    for line in lines.lines() {
-        push(&mut events, event(alloc, line)?)?;
+    match push_events(alloc, &mut events, lines) {
+        Ok(()) => Ok(events),
+        Err(error) => Err(error),
     }
-    Ok(events)
 }

@@ -171,7 +171,7 @@ fn is_refused(
     alloc: Global,
     content: &mut Content,
     line: &str,
-) -> Result<bool, Fail>
+) -> Result<bool, LineError>
     requires { IsContent content.old }
     ensures { IsContent content.new }
 {
@@ -182,7 +182,7 @@ fn is_refused(
             same(rt, (line, sizes(content)), (line, before));
             Ok(true)
         }
-        Err(error) => Err(error)?,
+        Err(error) => Err(error),
     }
 }
 
@@ -191,7 +191,7 @@ fn is_table_refused(
     alloc: Global,
     content: &mut Content,
     table: &str,
-) -> Result<bool, Fail>
+) -> Result<bool, LineError>
     requires { IsContent content.old }
 {
     for line in table.lines() {
@@ -203,7 +203,7 @@ fn is_table_refused(
 }
 
 /// Does what the lines of a story say, over an empty content, and tells whether a growth was refused.
-fn is_story_refused(rt: &impl Abort, alloc: Global, story: &str) -> Result<bool, Fail> {
+fn is_story_refused(rt: &impl Abort, alloc: Global, story: &str) -> Result<bool, LineError> {
     let mut content = empty(alloc);
     is_table_refused(rt, alloc, &mut content, story)
 }

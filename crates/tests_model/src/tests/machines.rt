@@ -9,9 +9,9 @@ use super::events::event;
 use super::parts::LineError;
 use super::texts::{push_item, push_reply, push_shown};
 use epoch_core::{Core, PinCopy, Step};
+use graph_types::{AskError, Reply};
 use std::alloc::{AllocError, Global};
 use std::process::Abort;
-use std::test::Fail;
 
 /// Does the event of a line.
 pub(super) fn step(alloc: Global, core: &mut Core, line: &str) -> Result<Step, LineError>
@@ -59,7 +59,20 @@ fn push_copy(text: &mut String, copy: &PinCopy) -> Result<(), AllocError> {
     push_pins(text, &copy.unsettled)
 }
 
-// What is seen of a session, or of its replies the one behind so many earlier ones.
+// Of replies the one behind so many earlier ones.
+fn push_said(
+    text: &mut String,
+    replies: &[Result<Reply, AskError>],
+    earlier: usize,
+) -> Result<(), LineError> {
+    if earlier < replies.len() {
+        push_reply(text, &replies[earlier])
+    } else {
+        Err(LineError::Wrong)
+    }
+}
+
+// What is seen of a session, or such a reply.
 fn push_look(text: &mut String, core: &Core, sessions: usize, place: &str) -> Result<(), LineError>
     requires { length core.now.world.sessions ≡ sessions }
 {
@@ -71,9 +84,7 @@ fn push_look(text: &mut String, core: &Core, sessions: usize, place: &str) -> Re
     if earlier.is_empty() {
         return Ok(push_seen(text, core, session)?);
     }
-    let earlier: usize = earlier.parse()?;
-    let reply = core.replies(session).get(earlier).ok_or(LineError::Wrong)?;
-    push_reply(text, reply)
+    push_said(text, core.replies(session), earlier.parse()?)
 }
 
 // What an event came to, and what is then seen of session 0.
@@ -122,12 +133,12 @@ fn check_line(
     core: &mut Core,
     sessions: usize,
     line: &str,
-) -> Result<(), Fail>
+) -> Result<(), LineError>
     requires some { 0 < sessions }
     requires all { length core.old.world.sessions ≡ sessions }
     ensures { length core.new.world.sessions ≡ sessions }
 {
-    let (text, wanted) = line.split_once(" => ").ok_or("no arrow")?;
+    let (text, wanted) = line.split_once(" => ").ok_or(LineError::Wrong)?;
     let mut told = String::new(alloc);
     push_told(alloc, &mut told, core, sessions, text)?;
     check_told(rt, line, told.as_str(), wanted);
@@ -141,7 +152,7 @@ pub(super) fn check_table(
     core: &mut Core,
     sessions: usize,
     table: &str,
-) -> Result<(), Fail>
+) -> Result<(), LineError>
     requires some { 0 < sessions }
     requires all { length core.old.world.sessions ≡ sessions }
     ensures { length core.new.world.sessions ≡ sessions }
@@ -159,7 +170,7 @@ fn check(
     core: &mut Core,
     sessions: usize,
     tables: &[&str],
-) -> Result<(), Fail>
+) -> Result<(), LineError>
     requires some { 0 < sessions }
     requires all { length core.old.world.sessions ≡ sessions }
 {
@@ -176,7 +187,7 @@ pub(super) fn check_new(
     sessions: usize,
     blocks: usize,
     tables: &[&str],
-) -> Result<(), Fail>
+) -> Result<(), LineError>
     requires some_sessions { 1 ≤ sessions }
     requires few_sessions { sessions ≤ 16 }
     requires some_blocks { 1 ≤ blocks }
@@ -184,4 +195,15 @@ pub(super) fn check_new(
 {
     let mut core = Core::new(alloc, sessions, blocks)?;
     check(rt, alloc, &mut core, sessions, tables)
+}
+
+/// Does what a story says in which a text stands for another one, on a machine of one session and two blocks.
+pub(super) fn check_replaced(
+    rt: &impl Abort,
+    alloc: Global,
+    story: &str,
+    (text, meant): (&str, &str),
+) -> Result<(), LineError> {
+    let story = story.replace(alloc, text, meant)?;
+    check_new(rt, alloc, 1, 2, &[story.as_str()])
 }

@@ -1,8 +1,9 @@
 // Tests of names, operations and requests that are made of texts.
 
 use super::checks::{refused, same};
+use super::parts::{LineError, op};
 use super::texts::push_shown;
-use graph_types::{Batch, Name, NamedFilter, NamedOp, PushError, Request};
+use graph_types::{NamedFilter, NamedOp, Request};
 use std::alloc::{AllocError, Global};
 use std::fmt::Debug;
 use std::process::Abort;
@@ -34,59 +35,24 @@ const INCR: &str = "Incr { kind: Name { text: \"knows\" }, source: Name { text: 
 const REMOVE: &str = "Remove { kind: Name { text: \"knows\" }, source: Name { text: \"ann\" }, \
     target: Name { text: \"bob\" } }";
 
-#[test]
-fn operations_are_made_of_texts(rt: HostRuntime) -> Result<(), Fail> {
-    let alloc = rt.alloc();
-    check_shown(
-        &rt,
-        alloc,
-        NamedOp::insert(alloc, "knows", "ann", "bob", -5, 10)?,
-        INSERT,
-    )?;
-    check_shown(
-        &rt,
-        alloc,
-        NamedOp::incr(alloc, "knows", "ann", "bob", -5, 10)?,
-        INCR,
-    )?;
-    check_shown(
-        &rt,
-        alloc,
-        NamedOp::remove(alloc, "knows", "ann", "bob")?,
-        REMOVE,
-    )?;
-    check_shown(&rt, alloc, NamedOp::expire(10), "Expire { time: 10 }")?;
+// Operations as text, and how each is shown.
+const OPERATIONS: [(&str, &str); 4] = [
+    ("i,knows,ann,bob,-5,10", INSERT),
+    ("a,knows,ann,bob,-5,10", INCR),
+    ("r,knows,ann,bob", REMOVE),
+    ("x,10", "Expire { time: 10 }"),
+];
+
+fn check_made(rt: &impl Abort, alloc: Global, text: &str, shown: &str) -> Result<(), LineError> {
+    check_shown(rt, alloc, op(alloc, text)?, shown)?;
     Ok(())
 }
 
-// A batch's refusal of what was made, which it doesn't take.
-fn check_refusal(rt: &impl Abort, alloc: Global, op: NamedOp, refusal: PushError) {
-    same(rt, Batch::new(alloc).push(op), Err(refusal));
-}
-
-// What a batch refuses is made all the same.
 #[test]
-fn a_batch_judges_what_was_made(rt: HostRuntime) -> Result<(), Fail> {
-    let alloc = rt.alloc();
-    check_refusal(
-        &rt,
-        alloc,
-        NamedOp::insert(alloc, "knows", "", "bob", i64::MIN, u64::MAX)?,
-        PushError::BadName,
-    );
-    check_refusal(
-        &rt,
-        alloc,
-        NamedOp::incr(alloc, "knows", "ann", "bob", i64::MAX, u64::MAX)?,
-        PushError::BadWeight,
-    );
-    check_refusal(
-        &rt,
-        alloc,
-        NamedOp::remove(alloc, "*", "ann", "bob")?,
-        PushError::BadName,
-    );
-    check_refusal(&rt, alloc, NamedOp::expire(u64::MAX), PushError::BadTime);
+fn operations_are_made_of_texts(rt: HostRuntime) -> Result<(), Fail> {
+    for (text, shown) in OPERATIONS {
+        check_made(&rt, rt.alloc(), text, shown)?;
+    }
     Ok(())
 }
 
@@ -104,39 +70,24 @@ const DEGREES: &str = "Degrees { filter: NamedFilter { kind: Some(Name { text: \
 const ONE_EDGE: &str = "OneEdge { kind: Name { text: \"knows\" }, source: Name { text: \"ann\" }, \
     target: Name { text: \"bob\" } }";
 
+// How the request that is made at each place is shown.
+const SHOWN: [&str; 5] = [LEVELS, LABELS, CORES, DEGREES, ONE_EDGE];
+
+fn made_at(alloc: Global, place: usize) -> Result<Request, AllocError> {
+    match place {
+        0 => Request::levels(alloc, "ann", NamedFilter::all()),
+        1 => Ok(Request::labels(NamedFilter::all().within(3, 7))),
+        2 => Ok(Request::cores(NamedFilter::of_kind(alloc, "knows")?)),
+        3 => Ok(Request::degrees(NamedFilter::of_kind(alloc, "")?.within(u64::MAX, 0))),
+        _ => Request::one_edge(alloc, "knows", "ann", "bob"),
+    }
+}
+
 #[test]
 fn requests_are_made_of_texts(rt: HostRuntime) -> Result<(), Fail> {
-    let alloc = rt.alloc();
-    check_shown(
-        &rt,
-        alloc,
-        Request::levels(alloc, "ann", NamedFilter::all())?,
-        LEVELS,
-    )?;
-    check_shown(
-        &rt,
-        alloc,
-        Request::labels(NamedFilter::all().within(3, 7)),
-        LABELS,
-    )?;
-    check_shown(
-        &rt,
-        alloc,
-        Request::cores(NamedFilter::of_kind(alloc, "knows")?),
-        CORES,
-    )?;
-    check_shown(
-        &rt,
-        alloc,
-        Request::degrees(NamedFilter::of_kind(alloc, "")?.within(u64::MAX, 0)),
-        DEGREES,
-    )?;
-    check_shown(
-        &rt,
-        alloc,
-        Request::one_edge(alloc, "knows", "ann", "bob")?,
-        ONE_EDGE,
-    )?;
+    for (place, shown) in SHOWN.iter().enumerate() {
+        check_shown(&rt, rt.alloc(), made_at(rt.alloc(), place)?, shown)?;
+    }
     Ok(())
 }
 

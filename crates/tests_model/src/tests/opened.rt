@@ -7,6 +7,7 @@ use super::checks::{only_refused, refused, same};
 use super::graphs::content_of;
 use super::growths::shown;
 use super::machines::check_table;
+use super::parts::LineError;
 use epoch_core::{Core, OutOfMemory};
 use graph_types::{Content, List};
 use std::alloc::Global;
@@ -23,7 +24,12 @@ fn opened(alloc: Global, content: &Content) -> Result<Core, OutOfMemory>
     Core::opened(alloc, 1, 2, content, &[(1, List::of(edges))])
 }
 
-fn check_opened(rt: &impl Abort, alloc: Global, content: &Content, table: &str) -> Result<(), Fail>
+fn check_opened(
+    rt: &impl Abort,
+    alloc: Global,
+    content: &Content,
+    table: &str,
+) -> Result<(), LineError>
     requires { IsContent content.now }
 {
     let mut core = opened(alloc, content)?;
@@ -60,10 +66,15 @@ read 0 => Done
 reply 0 => Done: 1 1 1 3
 said 0 2 => edge 6 10 30";
 
+fn check_opened_with(rt: &impl Abort, alloc: Global, ops: &str) -> Result<(), LineError> {
+    let content = content_of(alloc, ops)?;
+    check_opened(rt, alloc, &content, IN_ONE_BLOCK)
+}
+
 #[test]
 fn opens_with_an_edge_in_a_block(rt: HostRuntime) -> Result<(), Fail> {
-    let content = content_of(rt.alloc(), ONE_EDGE)?;
-    check_opened(&rt, rt.alloc(), &content, IN_ONE_BLOCK)
+    check_opened_with(&rt, rt.alloc(), ONE_EDGE)?;
+    Ok(())
 }
 
 // The machine at its start, where there was memory for it.

@@ -56,13 +56,25 @@ pub(super) fn push<T: Drop>(list: &mut Vec<T>, item: T) -> Result<(), AllocError
     Ok(())
 }
 
+fn push_number(numbers: &mut Vec<usize>, word: &str) -> Result<(), LineError> {
+    push(numbers, word.parse()?)?;
+    Ok(())
+}
+
+fn push_numbers(numbers: &mut Vec<usize>, text: &str) -> Result<(), LineError> {
+    for word in text.split_whitespace() {
+        push_number(numbers, word)?;
+    }
+    Ok(())
+}
+
 /// Numbers with a blank between them.
 pub(super) fn numbers(alloc: Global, text: &str) -> Result<List<usize>, LineError> {
     let mut numbers = Vec::new(alloc);
-    for word in text.split_whitespace() {
-        push(&mut numbers, word.parse()?)?;
+    match push_numbers(&mut numbers, text) {
+        Ok(()) => Ok(List::of(numbers)),
+        Err(error) => Err(error),
     }
-    Ok(List::of(numbers))
 }
 
 // An edge of this kind, source and target.
@@ -102,58 +114,68 @@ fn edge(alloc: Global, text: &str) -> Result<Edge, LineError> {
     edge_of(fields.as_slice())
 }
 
+fn push_edge(alloc: Global, edges: &mut Vec<Edge>, word: &str) -> Result<(), LineError> {
+    push(edges, edge(alloc, word)?)?;
+    Ok(())
+}
+
+fn push_edges(alloc: Global, edges: &mut Vec<Edge>, text: &str) -> Result<(), LineError> {
+    for word in text.split_whitespace() {
+        push_edge(alloc, edges, word)?;
+    }
+    Ok(())
+}
+
 /// Edges with a blank between them.
 pub(super) fn edges(alloc: Global, text: &str) -> Result<List<Edge>, LineError> {
     let mut edges = Vec::new(alloc);
-    for word in text.split_whitespace() {
-        push(&mut edges, edge(alloc, word)?)?;
+    match push_edges(alloc, &mut edges, text) {
+        Ok(()) => Ok(List::of(edges)),
+        Err(error) => Err(error),
     }
-    Ok(List::of(edges))
 }
 
-// `kind,source,target`
-fn three_names(text: &str) -> Result<(&str, &str, &str), LineError> {
-    let (kind, ends) = text.split_once(',').ok_or(LineError::Wrong)?;
-    let (source, target) = ends.split_once(',').ok_or(LineError::Wrong)?;
-    Ok((kind, source, target))
+// What stands before the first comma, and what behind it.
+fn parted(text: &str) -> Result<(&str, &str), LineError> {
+    text.split_once(',').ok_or(LineError::Wrong)
 }
 
-// Of an operation on an edge the names, the weight or amount, and the time; a removal has none of these two.
-fn with_numbers<'a>(letter: &str, text: &'a str) -> Result<(&'a str, i64, u64), LineError> {
-    if letter == "r" {
-        return Ok((text, 0, 0));
-    }
-    let (text, time) = text.rsplit_once(',').ok_or(LineError::Wrong)?;
-    let (text, weight) = text.rsplit_once(',').ok_or(LineError::Wrong)?;
-    Ok((text, weight.parse()?, time.parse()?))
-}
-
-// The operation of a letter on an edge.
-fn op_on(
+// `target,weight,time` of an insertion or `target,amount,time` of an increment, whose kind and source these are.
+fn weighed(
     alloc: Global,
-    letter: &str,
-    ends: (&str, &str, &str),
-    number: i64,
-    time: u64,
+    is_insert: bool,
+    ends: (&str, &str),
+    rest: &str,
 ) -> Result<NamedOp, LineError> {
-    let (kind, source, target) = ends;
-    match letter {
-        "i" => Ok(NamedOp::insert(alloc, kind, source, target, number, time)?),
-        "a" => Ok(NamedOp::incr(alloc, kind, source, target, number, time)?),
-        "r" => Ok(NamedOp::remove(alloc, kind, source, target)?),
-        _ => Err(LineError::Wrong),
-    }
+    let (target, numbers) = parted(rest)?;
+    let (number, time) = parted(numbers)?;
+    let (number, time) = (number.parse()?, time.parse()?);
+    let made = if is_insert {
+        NamedOp::insert(alloc, ends.0, ends.1, target, number, time)
+    } else {
+        NamedOp::incr(alloc, ends.0, ends.1, target, number, time)
+    };
+    Ok(made?)
 }
 
-// `i,kind,source,target,weight,time`, `a,kind,source,target,amount,time`, `r,kind,source,target` or `x,time`, whether a batch
-// takes it or not.
-fn op(alloc: Global, text: &str) -> Result<NamedOp, LineError> {
-    let (letter, rest) = text.split_once(',').ok_or(LineError::Wrong)?;
+// The operation of a letter on an edge: what stands behind the letter.
+fn op_on(alloc: Global, letter: &str, text: &str) -> Result<NamedOp, LineError> {
+    let (kind, rest) = parted(text)?;
+    let (source, rest) = parted(rest)?;
+    if letter == "r" {
+        return Ok(NamedOp::remove(alloc, kind, source, rest)?);
+    }
+    weighed(alloc, letter == "i", (kind, source), rest)
+}
+
+/// `i,kind,source,target,weight,time`, `a,kind,source,target,amount,time`, `r,kind,source,target` or `x,time`, whether a batch
+/// takes it or not.
+pub(super) fn op(alloc: Global, text: &str) -> Result<NamedOp, LineError> {
+    let (letter, rest) = parted(text)?;
     if letter == "x" {
         return Ok(NamedOp::expire(rest.parse()?));
     }
-    let (ends, number, time) = with_numbers(letter, rest)?;
-    op_on(alloc, letter, three_names(ends)?, number, time)
+    op_on(alloc, letter, rest)
 }
 
 /// The operation of a text at the end of the batch.
@@ -189,13 +211,20 @@ pub(super) fn push_record(alloc: Global, batch: &mut Batch, record: &str) -> Res
     }
 }
 
+fn push_ops(alloc: Global, batch: &mut Batch, text: &str) -> Result<(), LineError> {
+    for word in text.split_whitespace() {
+        push_op(alloc, batch, word)?;
+    }
+    Ok(())
+}
+
 /// Operations with blanks between them.
 pub(super) fn batch(alloc: Global, text: &str) -> Result<Batch, LineError> {
     let mut batch = Batch::new(alloc);
-    for word in text.split_whitespace() {
-        push_op(alloc, &mut batch, word)?;
+    match push_ops(alloc, &mut batch, text) {
+        Ok(()) => Ok(batch),
+        Err(error) => Err(error),
     }
-    Ok(batch)
 }
 
 /// A request as a script has it; the slot is for nothing.

@@ -30,21 +30,43 @@ const PLANS: &str =
 0,0,1,5,10,10; i,k,a,b,5,10 | 1 => none
 0,0,1,5,10,10; i,k,a,b,5,10 | => none";
 
-// The other opening.
-fn opening(alloc: Global) -> Result<Opening, LineError> {
-    Ok(Opening {
-        blocks: numbers(alloc, "7")?,
-        content: content_of(alloc, "i,m,x,y,1,1")?,
-    })
+fn opening_of(
+    blocks: List<usize>,
+    content: Result<Content, LineError>,
+) -> Result<Opening, LineError> {
+    match content {
+        Ok(content) => Ok(Opening { blocks, content }),
+        Err(error) => Err(error),
+    }
 }
 
-fn push_content(text: &mut String, content: &Content) -> Result<(), AllocError> {
-    push_names(text, content.names.as_slice(), ",")?;
-    push_names(text, content.kinds.as_slice(), ",")?;
-    for edge in content.edges.as_slice() {
+// The other opening.
+fn opening(alloc: Global) -> Result<Opening, LineError> {
+    opening_of(numbers(alloc, "7")?, content_of(alloc, "i,m,x,y,1,1"))
+}
+
+fn push_weights(text: &mut String, edges: &[Edge]) -> Result<(), AllocError> {
+    for edge in edges {
         push_item(text, " ", edge.weight)?;
     }
     Ok(())
+}
+
+fn push_content(text: &mut String, content: &Content) -> Result<(), LineError> {
+    push_names(text, content.names.as_slice(), ",")?;
+    push_names(text, content.kinds.as_slice(), ",")?;
+    Ok(push_weights(text, content.edges.as_slice())?)
+}
+
+// The content of the version of this number, with two edges.
+fn content_at(
+    alloc: Global,
+    opening: &Opening,
+    versions: &[Version],
+    number: u64,
+) -> Result<Content, LineError> {
+    let edges = edges(alloc, "0,0,1,5,10,10 0,1,0,-7,12,12")?.into_vec();
+    Ok(content_with(alloc, opening, versions, number, edges)?)
 }
 
 // The version of this number.
@@ -56,9 +78,7 @@ fn push_version(
     number: u64,
 ) -> Result<(), LineError> {
     push_shown(text, "; ", blocks_at(opening, versions, number))?;
-    let edges = edges(alloc, "0,0,1,5,10,10 0,1,0,-7,12,12")?.into_vec();
-    let content = content_with(alloc, opening, versions, number, edges)?;
-    Ok(push_content(text, &content)?)
+    push_content(text, &content_at(alloc, opening, versions, number)?)
 }
 
 fn push_versions(
@@ -119,6 +139,19 @@ fn push_plan_on(
     push_plan(alloc, text, plan)
 }
 
+// The plan of a Post of this batch and these blocks.
+fn push_plan_for(
+    alloc: Global,
+    text: &mut String,
+    heap: &[List<Edge>],
+    batch: &Batch,
+    blocks: &str,
+) -> Result<(), LineError> {
+    let blocks = numbers(alloc, blocks)?;
+    let opening = without_edges(alloc);
+    push_plan_on(alloc, text, &opening, heap, (batch, blocks.as_slice()))
+}
+
 // The plan of a Post with this text.
 fn push_plan_of(
     alloc: Global,
@@ -127,10 +160,7 @@ fn push_plan_of(
     post: &str,
 ) -> Result<(), LineError> {
     let (ops, blocks) = post.split_once('|').ok_or(LineError::Wrong)?;
-    let batch = batch(alloc, ops)?;
-    let blocks = numbers(alloc, blocks)?;
-    let opening = without_edges(alloc);
-    push_plan_on(alloc, text, &opening, heap, (&batch, blocks.as_slice()))
+    push_plan_for(alloc, text, heap, &batch(alloc, ops)?, blocks)
 }
 
 fn push_row(alloc: Global, text: &mut String, row: &str) -> Result<(), LineError> {
@@ -147,7 +177,7 @@ fn planned(alloc: Global, row: &str) -> Result<String, LineError> {
 
 // A refused plan changes nothing, so that the plan that is made then is whole.
 fn check_plan(rt: &(impl Abort + Print), alloc: Global, line: &str) -> Result<(), Fail> {
-    let (row, wanted) = line.split_once(" => ").ok_or("no arrow")?;
+    let (row, wanted) = line.split_once(" => ").unwrap_or((line, ""));
     match planned(alloc, row) {
         Ok(text) => {
             check_told(rt, line, text.as_str(), wanted);

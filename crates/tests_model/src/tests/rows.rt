@@ -1,6 +1,7 @@
 // Every event in every state of a session and of a block, by the rules of the events.
 
-use super::machines::check_new;
+use super::machines::{check_new, check_replaced};
+use super::parts::LineError;
 use super::runs::TWO_VERSIONS;
 use std::alloc::Global;
 use std::process::Abort;
@@ -202,7 +203,12 @@ recycle 0 => Skipped",
     ),
 ];
 
-fn check_row(rt: &impl Abort, alloc: Global, first: &'static str, row: Row) -> Result<(), Fail> {
+fn check_row(
+    rt: &impl Abort,
+    alloc: Global,
+    first: &'static str,
+    row: Row,
+) -> Result<(), LineError> {
     let (before, lines, after) = row;
     let after = after.trim();
     for line in lines.lines() {
@@ -216,7 +222,7 @@ fn check_rows(
     alloc: Global,
     first: &'static str,
     rows: &[Row],
-) -> Result<(), Fail> {
+) -> Result<(), LineError> {
     for row in rows {
         check_row(rt, alloc, first, *row)?;
     }
@@ -225,18 +231,19 @@ fn check_rows(
 
 #[test]
 fn each_event_in_each_state_of_a_session(rt: HostRuntime) -> Result<(), Fail> {
-    check_rows(&rt, rt.alloc(), VERSION, &SESSION_ROWS)
+    check_rows(&rt, rt.alloc(), VERSION, &SESSION_ROWS)?;
+    Ok(())
 }
 
 #[test]
 fn each_event_in_each_state_of_a_block(rt: HostRuntime) -> Result<(), Fail> {
-    check_rows(&rt, rt.alloc(), "", &BLOCK_ROWS)
+    check_rows(&rt, rt.alloc(), "", &BLOCK_ROWS)?;
+    Ok(())
 }
 
 // In its 18 events a block is retired, kept for a pin and recycled, and a session goes through all its states.
 #[test]
 fn skips_what_is_out_of_range_in_a_story(rt: HostRuntime) -> Result<(), Fail> {
-    let alloc = rt.alloc();
-    let story = TWO_VERSIONS.replace(alloc, "\n", OUT_OF_RANGE)?;
-    check_new(&rt, alloc, 1, 2, &[story.as_str()])
+    check_replaced(&rt, rt.alloc(), TWO_VERSIONS, ("\n", OUT_OF_RANGE))?;
+    Ok(())
 }

@@ -2,7 +2,8 @@
 
 use super::checks::same;
 use super::graph_stories::KINDS;
-use super::machines::{check_new, step};
+use super::machines::{check_new, check_replaced, step};
+use super::parts::LineError;
 use epoch_core::{Core, Step};
 use std::alloc::{AllocError, Global};
 use std::process::Abort;
@@ -177,7 +178,8 @@ fn machines_come_to_what_their_stories_say(rt: HostRuntime) -> Result<(), Fail> 
     check_new(&rt, alloc, 2, 3, &[BETWEEN_PINS, NONE_RETIRED])?;
     // a_session_is_answered_alike_in_two_worlds
     check_new(&rt, alloc, 1, 1, &[SMALL, ALIKE])?;
-    check_new(&rt, alloc, 3, 5, &[LARGE, ALIKE, "said 1 0 => edge 7 1 1"])
+    check_new(&rt, alloc, 3, 5, &[LARGE, ALIKE, "said 1 0 => edge 7 1 1"])?;
+    Ok(())
 }
 
 // Session 0 holds the version of three edges, which are in two blocks: a to b and a loop at c of kind k, and b to c of
@@ -224,8 +226,8 @@ fn asking(alloc: Global, request: &str, reply: &str) -> Result<String, AllocErro
     asked.replace(alloc, "REPLY", reply)
 }
 
-fn check_request(rt: &impl Abort, alloc: Global, row: &str) -> Result<(), Fail> {
-    let (request, reply) = row.split_once(" => ").ok_or("no arrow")?;
+fn check_request(rt: &impl Abort, alloc: Global, row: &str) -> Result<(), LineError> {
+    let (request, reply) = row.split_once(" => ").ok_or(LineError::Wrong)?;
     let asked = asking(alloc, request, reply)?;
     check_new(rt, alloc, 1, 2, &[THREE_EDGES, asked.as_str()])
 }
@@ -259,11 +261,11 @@ post KINDS i,kind63,a,b,1,1 | 0 => Done";
 
 #[test]
 fn posts_at_most_64_kinds(rt: HostRuntime) -> Result<(), Fail> {
-    let story = KIND_STORY.replace(rt.alloc(), "KINDS", KINDS)?;
-    check_new(&rt, rt.alloc(), 1, 2, &[story.as_str()])
+    check_replaced(&rt, rt.alloc(), KIND_STORY, ("KINDS", KINDS))?;
+    Ok(())
 }
 
-fn check_batches(rt: &impl Abort, alloc: Global, core: &mut Core) -> Result<(), Fail> {
+fn check_batches(rt: &impl Abort, alloc: Global, core: &mut Core) -> Result<(), LineError> {
     for _ in 0..65_536u32 {
         same(rt, step(alloc, core, "post |")?, Step::Done);
     }
@@ -273,6 +275,6 @@ fn check_batches(rt: &impl Abort, alloc: Global, core: &mut Core) -> Result<(), 
 
 #[test]
 fn posts_at_most_65536_batches(rt: HostRuntime) -> Result<(), Fail> {
-    let mut core = Core::new(rt.alloc(), 1, 1)?;
-    check_batches(&rt, rt.alloc(), &mut core)
+    check_batches(&rt, rt.alloc(), &mut Core::new(rt.alloc(), 1, 1)?)?;
+    Ok(())
 }

@@ -43,12 +43,17 @@ fn push_edge(text: &mut String, edge: Option<(i64, u64, u64)>) -> Result<(), All
     }
 }
 
+// A vertex, and what is told of it.
+fn push_row<D: Display + Drop>(text: &mut String, name: &Name, item: D) -> Result<(), AllocError> {
+    push_item(text, " ", name.as_str())?;
+    push_item(text, " ", item)
+}
+
 // A word, and each vertex with its number.
 fn push_numbers(text: &mut String, word: &str, rows: &[(Name, u32)]) -> Result<(), AllocError> {
     text.push_str(word)?;
     for (name, number) in rows {
-        push_item(text, " ", name.as_str())?;
-        push_item(text, " ", *number)?;
+        push_row(text, name, *number)?;
     }
     Ok(())
 }
@@ -57,20 +62,22 @@ fn push_numbers(text: &mut String, word: &str, rows: &[(Name, u32)]) -> Result<(
 fn push_labels(text: &mut String, rows: &[(Name, Name)]) -> Result<(), AllocError> {
     text.push_str("comp")?;
     for (name, label) in rows {
-        push_item(text, " ", name.as_str())?;
-        push_item(text, " ", label.as_str())?;
+        push_row(text, name, label.as_str())?;
     }
     Ok(())
 }
 
-// Each vertex with its degrees out and in, and its weight out.
+// A vertex with its degrees out and in, and its weight out.
+fn push_degree(text: &mut String, name: &Name, degree: &Degree) -> Result<(), AllocError> {
+    push_row(text, name, degree.outgoing)?;
+    push_item(text, " ", degree.incoming)?;
+    push_item(text, " ", degree.out_weight)
+}
+
 fn push_degrees(text: &mut String, rows: &[(Name, Degree)]) -> Result<(), AllocError> {
     text.push_str("deg")?;
     for (name, degree) in rows {
-        push_item(text, " ", name.as_str())?;
-        push_item(text, " ", degree.outgoing)?;
-        push_item(text, " ", degree.incoming)?;
-        push_item(text, " ", degree.out_weight)?;
+        push_degree(text, name, degree)?;
     }
     Ok(())
 }

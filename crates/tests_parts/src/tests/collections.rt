@@ -64,14 +64,16 @@ fn number(rt: &impl Abort, word: &str) -> u64 {
 }
 
 fn count(rt: &impl Abort, word: &str) -> u32 {
-    word.parse().expect(rt, "a count")
+    let count = number(rt, word);
+    assert!(rt; count <= 16);
+    count as u32
 }
 
 /// A seat's place among the pins.
 fn seat(rt: &impl Abort, word: &str) -> usize
     ensures { result < SEATS }
 {
-    let seat = word.parse::<usize>().expect(rt, "a seat");
+    let seat = number(rt, word) as usize;
     assert!(rt; seat < SEATS);
     seat
 }

@@ -34,7 +34,7 @@ fn assert_numbered(rt: &impl Abort, book: &NameBook, name: &str, number: u32) {
 fn assert_absent(rt: &impl Abort, book: &NameBook, name: &str, len: u32) {
     same(rt, book.number(name), None);
     same(rt, book.name(len), None);
-    same(rt, book.len(), len as usize);
+    same(rt, (book.len(), book.is_empty()), (len as usize, len == 0));
 }
 
 // Adds a new name. Where a growth is refused, the book is as before, and the next try answers.
@@ -49,20 +49,22 @@ fn add_new(rt: &(impl Abort + Print), book: &mut NameBook, name: &str, number: u
     assert_numbered(rt, book, name, number);
 }
 
+// It has two names, of which `b` came second, and `c` isn't one.
+fn check_two(rt: &impl Abort, book: &NameBook) {
+    assert_absent(rt, book, "c", 2);
+    assert_numbered(rt, book, "b", 1);
+}
+
 #[test]
 fn numbers_names_by_first_appearance(rt: HostRuntime) {
     let mut book = NameBook::new(rt.alloc(), 2);
-    assert!(rt; book.is_empty());
+    assert_absent(&rt, &book, "a", 0);
     added(&rt, &mut book, "a", Ok(0));
     added(&rt, &mut book, "b", Ok(1));
     added(&rt, &mut book, "a", Ok(0));
     added(&rt, &mut book, "c", Err(AddError::NamesFull));
-    assert!(rt; !book.is_empty());
-    assert_absent(&rt, &book, "c", 2);
-    assert_numbered(&rt, &book, "b", 1);
-    let shared = book.share().expect(&rt, "memory for a book");
-    assert_absent(&rt, &shared, "c", 2);
-    assert_numbered(&rt, &shared, "b", 1);
+    check_two(&rt, &book);
+    check_two(&rt, &book.share().expect(&rt, "memory for a book"));
 }
 
 fn plain(alloc: Global, number: u32) -> Result<String, AllocError> {
@@ -104,24 +106,14 @@ fn takes_as_many_names_as_a_graph_may_have(rt: HostRuntime) -> Result<(), Fail> 
     check_many(&rt, rt.alloc(), &mut NameBook::new(rt.alloc(), 65_536))
 }
 
-// The book has the name by this number, or it is the first that it doesn't have.
-fn check_name(rt: &impl Abort, book: &NameBook, name: &str, number: u32, len: u32) {
-    if number < len {
-        assert_numbered(rt, book, name, number);
-    } else {
-        assert_absent(rt, book, name, len);
-    }
-}
-
-// Of the names v0, v1 .. the book has this one, or it is the first that it doesn't have.
+// Of the names v0, v1 .. the book has the one of this number.
 fn check_plain(
     rt: &impl Abort,
     alloc: Global,
     book: &NameBook,
     number: u32,
-    len: u32,
 ) -> Result<(), AllocError> {
-    check_name(rt, book, plain(alloc, number)?.as_str(), number, len);
+    assert_numbered(rt, book, plain(alloc, number)?.as_str(), number);
     Ok(())
 }
 
@@ -132,9 +124,10 @@ fn check_names(
     book: &NameBook,
     len: u32,
 ) -> Result<(), AllocError> {
-    for number in 0..len.saturating_add(1) {
-        check_plain(rt, alloc, book, number, len)?;
+    for number in 0..len {
+        check_plain(rt, alloc, book, number)?;
     }
+    assert_absent(rt, book, plain(alloc, len)?.as_str(), len);
     Ok(())
 }
 

@@ -146,13 +146,16 @@ fn touched(
     rows.share()?.replace_row(VertexId(source), blocks)
 }
 
+fn number_of(source: Option<VertexId>) -> Option<u32> {
+    match source {
+        Some(source) => Some(source.0),
+        None => None,
+    }
+}
+
 // From a source on this is the next with an edge from before a time.
 fn assert_next(rt: &impl Abort, rows: &Rows, from: u32, time: u64, wanted: Option<u32>) {
-    let next = match rows.next_old(VertexId(from), time) {
-        None => None,
-        Some(source) => Some(source.0),
-    };
-    same(rt, next, wanted);
+    same(rt, number_of(rows.next_old(VertexId(from), time)), wanted);
 }
 
 // Where a source alone has edges, of one time.
