@@ -32,18 +32,8 @@ answers_append (p ∷ ps) qs (x ∷ xs) ys a b = (a.0, answers_append ps qs xs y
 
 -- the question of session s that an event answers, and those of all events
 abbrev pub asked : ℕ → World → Event → List Question
-asked s w (Take b) = []
-asked s w (Fill b edges) = []
-asked s w (Post batch blocks) = []
-asked s w Floor = []
-asked s w (Recycle b) = []
-asked s w (Pin t) = []
-asked s w (Enter t) = []
-asked s w (Settle t) = []
-asked s w (Ask t request) = []
-asked s w (Read t) = []
 asked s w (Reply t) = if t == s then option_to_list (question_of w s) else []
-asked s w (Release t) = []
+asked s w _ = []
 
 abbrev pub all_asked : ℕ → World → List Event → List Question
 all_asked s w [] = []

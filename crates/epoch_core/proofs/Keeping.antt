@@ -94,9 +94,12 @@ frees_recycled copy (Retired birth retirement) after is =
           }
     ] refl is
 
-named_with_status : (w : World) (status : List BlockStatus) → ((n : ℕ) → n ≤ last_number w → IsNamed w n) → (n : ℕ)
-    → n ≤ last_number w → IsNamed (with_status w status) n
-named_with_status w status named n h = record { names = (named n h).names; kinds = (named n h).kinds }
+-- names are of versions alone
+pub named_still : (w : World) (heap : List (List Edge)) (status : List BlockStatus) (floor : ℕ) (copy : PinCopy)
+    (sessions : List SessionState) → IsSound w → (n : ℕ) → n ≤ last_number w
+    → IsNamed (record w { heap = heap; status = status; floor = floor; copy = copy; sessions = sessions }) n
+named_still w heap status floor copy sessions sound n h =
+    record { names = (sound.named n h).names; kinds = (sound.named n h).kinds }
 
 pub sound_status : (w : World) (b : ℕ) (before after : BlockStatus) → IsSound w → slice_get w.status b ≡ Some before
     → FreesNone w.copy before after → IsSound (with_status w (set w.status b after))
@@ -132,7 +135,7 @@ sound_status w b before after sound found frees =
       ];
       listed_once = sound.listed_once;
       shown = sound.shown;
-      named = named_with_status w (set w.status b after) sound.named;
+      named = named_still w w.heap (set w.status b after) w.floor w.copy w.sessions sound;
       sessions = λ s. carry w (with_status w (set w.status b after)) (session_of w s) carries (sound.sessions s);
       sizes = sound.sizes ∙ sym (length-set w.status b after);
     }
@@ -146,10 +149,6 @@ pub record Fills (status : List BlockStatus) (heap : List (List Edge)) (b : ℕ)
 pub fills : (status : List BlockStatus) (heap : List (List Edge)) (b : ℕ) (edges : List Edge) (after : List (List Edge))
     → filled status heap b edges ≡ Some after → Fills status heap b edges after
 fills status heap b edges after is = grind (arith, common_steps)
-
-named_with_heap : (w : World) (heap : List (List Edge)) → ((n : ℕ) → n ≤ last_number w → IsNamed w n) → (n : ℕ)
-    → n ≤ last_number w → IsNamed (with_heap w heap) n
-named_with_heap w heap named n h = record { names = (named n h).names; kinds = (named n h).kinds }
 
 pub sound_fill : (w : World) (b : ℕ) (edges : List Edge) → IsSound w → slice_get w.status b ≡ Some Granted
     → IsSound (with_heap w (set w.heap b edges))
@@ -177,7 +176,7 @@ sound_fill w b edges sound granted =
           ≡ false = ap (λ k. is_at is_used (slice_get w.status k)) e ∙ ap (is_at is_used) granted in let used =
           sound.used c in cc in get_or-set_other w.heap b c edges [] apart)))
           sound.shown;
-      named = named_with_heap w (set w.heap b edges) sound.named;
+      named = named_still w (set w.heap b edges) w.status w.floor w.copy w.sessions sound;
       sessions = λ s. carry w (with_heap w (set w.heap b edges)) (session_of w s) carries (sound.sessions s);
       sizes = length-set w.heap b edges ∙ sound.sizes;
     }

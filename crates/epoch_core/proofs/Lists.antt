@@ -1,6 +1,7 @@
 -- Lists, options and tests.
 use Rattle.std.proofs.Common.{◌≡◌, ◌≢◌, ℕ, zero, suc, ◌+◌, Bool, true, false, not, ◌&&◌, ◌||◌, ◌⊎◌, List, [], ◌∷◌, ◌++◌, length}
-use Rattle.std.proofs.Common.{set, take, map, refl, ap, subst, ◌∙◌, arith, eqb}
+use Rattle.std.proofs.Common.{set, take, map, refl, sym, ap, subst, ◌∙◌, arith, add-one, eqb}
+use Rattle.std.proofs.lemmas.List.{append-nil, append_assoc}
 use Rattle.std.{proofs.lemmas.Grind.common_steps, specs.Prelude.slice_get, proofs.lemmas.Bool.eq-eqb}
 use Rattle.std.specs.{List.list_all, List.enumerate_from, List.flat_map, declared.option.Option.TheVariants.Some}
 use Rattle.std.specs.{Option.option_map, Option.option_and_then, declared.option.Option.Option}
@@ -39,10 +40,17 @@ set_else (z ∷ zs) zero (suc k) y ne = refl
 set_else (z ∷ zs) (suc i) zero y ne = refl
 set_else (z ∷ zs) (suc i) (suc k) y ne = set_else zs i k y (λ e. ne (ap suc e))
 
-pub take_one_more : {A : Type 0} (xs : List A) (i : ℕ) (x : A) → slice_get xs i ≡ Some x → take (suc i) xs ≡ take i xs ++ x ∷ []
-take_one_more [] i x is = cc
-take_one_more (y ∷ ys) zero x is = cc
-take_one_more (y ∷ ys) (suc i) x is = ap (λ zs. y ∷ zs) (take_one_more ys i x is)
+pieces_more : {A B : Type 0} (f : A → List B) (xs : List A) (i : ℕ) (x : A) → slice_get xs i ≡ Some x
+    → flat_map f (take i xs) ++ f x ≡ flat_map f (take (suc i) xs)
+pieces_more f [] i x is = cc
+pieces_more f (y ∷ ys) zero x is = let same : y ≡ x = cc in ap f (sym same) ∙ sym (append-nil (f y))
+pieces_more f (y ∷ ys) (suc i) x is =
+    append_assoc (f y) (flat_map f (take i ys)) (f x) ∙ ap (λ zs. f y ++ zs) (pieces_more f ys i x is)
+
+-- the pieces of the first elements, and that of the next one
+pub one_piece_more : {A B : Type 0} (f : A → List B) (xs : List A) (i : ℕ) (x : A) → slice_get xs i ≡ Some x
+    → flat_map f (take i xs) ++ f x ≡ flat_map f (take (i + 1) xs)
+one_piece_more f xs i x is = pieces_more f xs i x is ∙ ap (λ n. flat_map f (take n xs)) (sym (add-one i))
 
 -- each element with its session
 pub get_enumerated : {A B : Type 0} (f : ℕ → A → B) (n : ℕ) (xs : List A) (k : ℕ)

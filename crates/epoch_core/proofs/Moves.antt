@@ -1,19 +1,19 @@
 -- Each event keeps what is sound: the floor rises, and sessions move.
 use Rattle.std.proofs.Common.{◌≡◌, ◌≢◌, ℕ, ◌+◌, ◌<◌, ◌≤◌, Bool, true, false, not, inl, inr, List, [], ◌∷◌, ◌++◌, length, map}
-use Rattle.std.proofs.Common.{replicate, get_or, set, take, refl, sym, ap, subst, ◌∙◌, arith, add-one, ◌-◌, IfSome}
-use Rattle.std.proofs.lemmas.{Grind.common_steps, Grind.flat_map-append, Option.slice_get_within, Option.get_or_from_slice_get}
+use Rattle.std.proofs.Common.{replicate, get_or, set, refl, sym, ap, subst, ◌∙◌, arith, ◌-◌, IfSome}
+use Rattle.std.proofs.lemmas.{Grind.common_steps, Option.slice_get_within, Option.get_or_from_slice_get}
 use Rattle.std.{specs.Prelude.slice_get, specs.Option.option_map, proofs.lemmas.Bool.cases_eq}
-use Rattle.std.proofs.{Math.ListN.get_or-map, lemmas.List.get_or-set_same, lemmas.List.get_or-set_other, lemmas.List.append-nil}
+use Rattle.std.proofs.{Math.ListN.get_or-map, lemmas.List.get_or-set_same, lemmas.List.get_or-set_other}
 use Rattle.std.specs.declared.option.Option.{Option, TheVariants.None, TheVariants.Some}
-use Rattle.graph_types.specs.declared.{ids.Edge.Edge, requests.Request.Request}
+use Rattle.graph_types.specs.declared.{requests.Request.Request}
 use Rattle.epoch_core.specs.declared.session_states.{Hold.Hold, SessionState.SessionState}
 use Rattle.epoch_core.specs.declared.session_states.SessionState.TheVariants.{Idle, Pinned, Holding, Asking}
 use Rattle.epoch_core.specs.Worlds.{World, last_number, pin_in, session_of, settled_in, present_copy, seat_pin, seat_pins}
-use Rattle.epoch_core.{specs.Worlds.unsettled_in, proofs.Keeping.Carries, proofs.Keeping.carry}
+use Rattle.epoch_core.{specs.Worlds.unsettled_in, proofs.Keeping.Carries, proofs.Keeping.carry, proofs.Keeping.named_still}
 use Rattle.epoch_core.specs.Machine.{to_release, to_reply, to_settle, with_sessions, move, read_on, settled_at, to_ask, to_enter}
-use Rattle.epoch_core.specs.{Machine.to_pin, Machine.to_read, Versions.blocks_at, Versions.edges_at, Versions.edges_of}
-use Rattle.epoch_core.specs.Sound.{IsCovered, IsHeld, IsNamed, IsSessionSound, IsSound}
-use Rattle.epoch_core.proofs.Lists.{option_map_some, ChangedAt, changed_at-some, take_one_more}
+use Rattle.epoch_core.specs.{Machine.to_pin, Machine.to_read, Versions.blocks_at, Versions.edges_at}
+use Rattle.epoch_core.specs.Sound.{IsCovered, IsHeld, IsSessionSound, IsSound}
+use Rattle.epoch_core.proofs.Lists.{option_map_some, ChangedAt, changed_at-some, one_piece_more}
 use Rattle.block_reclamation.specs.declared.copies.{Pin.Pin, TheConstants.SEATS}
 use Rattle.block_reclamation.specs.Copies.{floor_of, needs, number_if, pin_at, settled_number, unsettled_number}
 use Rattle.block_reclamation.proofs.{Least.settled_needed, Least.unsettled_needed, Copied.floor_is_least}
@@ -45,9 +45,6 @@ floor_each w s pin is =
 -- the world after a Floor
 abbrev pub floored : World → World
 floored w = record w { floor = present_floor w; copy = present_copy w }
-
-named_floored : (w : World) → ((n : ℕ) → n ≤ last_number w → IsNamed w n) → (n : ℕ) → n ≤ last_number w → IsNamed (floored w) n
-named_floored w named n h = record { names = (named n h).names; kinds = (named n h).kinds }
 
 -- a session's pin is among those of the copy
 copied : (w : World) (number : Option Pin → Option ℕ) (s n : ℕ) → number None ≡ None → number (seat_pin (session_of w s)) ≡ Some n
@@ -102,7 +99,7 @@ sound_floor w sound = record {
   dated = sound.dated;
   listed_once = sound.listed_once;
   shown = sound.shown;
-  named = named_floored w sound.named;
+  named = named_still w w.heap w.status (present_floor w) (present_copy w) w.sessions sound;
   sessions = λ s. session_floored w s (session_of w s) refl (floor_each w s) (sound.sessions s);
   sizes = sound.sizes;
 }
@@ -110,10 +107,6 @@ sound_floor w sound = record {
 -- sessions
 carries_sessions : (w : World) (sessions : List SessionState) → Carries w (with_sessions w sessions)
 carries_sessions w sessions = grind (arith, common_steps)
-
-named_with_sessions : (w : World) (sessions : List SessionState) → ((n : ℕ) → n ≤ last_number w → IsNamed w n) → (n : ℕ)
-    → n ≤ last_number w → IsNamed (with_sessions w sessions) n
-named_with_sessions w sessions named n h = record { names = (named n h).names; kinds = (named n h).kinds }
 
 -- what a move that is done says
 pub record Moved (w : World) (s : ℕ) (change : SessionState → Option SessionState) (after : World) : Type 0 where
@@ -161,7 +154,7 @@ sound_sessions w s session next sound found known = record {
   dated = sound.dated;
   listed_once = sound.listed_once;
   shown = sound.shown;
-  named = named_with_sessions w (set w.sessions s next) sound.named;
+  named = named_still w w.heap w.status w.floor w.copy (set w.sessions s next) sound;
   sessions = λ t. carry w (with_sessions w (set w.sessions s next)) (session_of (with_sessions w (set w.sessions s next)) t)
       (carries_sessions w (set w.sessions s next))
       (elim (cases_eq t s) [
@@ -194,13 +187,6 @@ keeps_settle w h next p is = grind (arith, common_steps, settles)
 pub keeps_ask : (w : World) (request : Request) → KeepsSession w (to_ask request)
 keeps_ask w request h next p is = grind (arith, common_steps)
 
-read_more : (heap : List (List Edge)) (blocks : List ℕ) (n b : ℕ) → slice_get blocks n ≡ Some b
-    → edges_of heap (take n blocks) ++ edges_at heap b ≡ edges_of heap (take (n + 1) blocks)
-read_more heap blocks n b found =
-    let one : edges_of heap (b ∷ []) ≡ edges_at heap b = append-nil (edges_at heap b) in
-    ap (λ es. edges_of heap (take n blocks) ++ es) (sym one) ∙ sym (flat_map-append (edges_at heap) (take n blocks) (b ∷ []))
-    ∙ ap (edges_of heap) (sym (take_one_more blocks n b found)) ∙ ap (λ m. edges_of heap (take m blocks)) (sym (add-one n))
-
 pub keeps_read : (w : World) → KeepsSession w (to_read w.opening w.heap w.versions)
 keeps_read w Idle next p is = cc
 keeps_read w (Pinned pin) next p is = cc
@@ -211,7 +197,7 @@ keeps_read w (Asking hold inquiry) next p is =
     subst (IsSessionSound w) (sym b.2) (
       p.0,
       ap (λ es. es ++ edges_at w.heap b.0) p.1
-          ∙ read_more w.heap (blocks_at w.opening w.versions hold.version) inquiry.next b.0 b.1,
+          ∙ one_piece_more (edges_at w.heap) (blocks_at w.opening w.versions hold.version) inquiry.next b.0 b.1,
     )
 
 pub keeps_reply : (w : World) → KeepsSession w (to_reply w.opening w.versions)

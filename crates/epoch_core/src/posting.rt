@@ -1,9 +1,12 @@
 //! What a Post asks and sets.
 
-ghost use Rattle.std.specs.Prelude.{◌≡◌, ◌≢◌, IfOk, MatchResult, length};
+ghost use Rattle.std.specs.Prelude.{◌≡◌, ◌≢◌, ◌&&◌, nat_lt, IfOk, IsTrue, IsFalse, MatchOption, MatchResult, length};
 ghost use Rattle.std.specs.Option.{option_map};
 ghost use Rattle.std.specs.declared.option.Option.TheVariants.{None};
 ghost use Rattle.graph_types.specs.Graph.{graph_of, IsContent};
+ghost use Rattle.graph_types.specs.Limits.{batch_limit};
+ghost use Rattle.epoch_core.specs.Blocks as definitions;
+ghost use Rattle.epoch_core.specs.Versions as specs;
 ghost use Rattle.epoch_core.specs.Versions.{graph_at};
 ghost use Rattle.epoch_core.specs.Posting as posting;
 
@@ -60,6 +63,52 @@ fn after_batch(
     }
 }
 
+/// Whether one more version may list these blocks: there are fewer than 65,536 batches, each block is granted or of the last
+/// version, and none stands twice. It takes no memory.
+fn may_list(
+    opening: &Opening,
+    status: &[BlockStatus],
+    versions: &[Version],
+    blocks: &[usize],
+) -> bool
+    ensures { result ≡ (nat_lt (length versions.now) batch_limit && posting.all_listable status.now
+        (specs.blocks_at opening.now versions.now (length versions.now)) blocks.now && definitions.all_differ blocks.now) }
+{
+    versions.len() < BATCH_LIMIT
+        && all_listable(
+            status,
+            blocks_at(opening, versions, versions.len() as u64),
+            blocks,
+        )
+        && all_differ(blocks)
+}
+
+/// The version of this batch and content on these blocks, or `None` where the blocks' edges aren't each once the content's.
+fn version_on(
+    alloc: Global,
+    heap: &[List<Edge>],
+    content: Content,
+    batch: &Batch,
+    blocks: &[usize],
+) -> Result<Option<Version>, AllocError>
+    requires { IsContent content }
+    ensures { IfOk result (λ made. MatchOption made
+        (IsFalse (posting.are_edges_of (graph_of content) (specs.edges_of heap.now blocks.now)))
+        (λ version. IsTrue (posting.are_edges_of (graph_of content) (specs.edges_of heap.now blocks.now))
+        × (version ≡ record { batch = batch.now; blocks = blocks.now; names = content.names; kinds = content.kinds }))) }
+{
+    let edges = edges_of(alloc, heap, blocks)?;
+    if !are_edges_of(&content, edges.as_slice()) {
+        return Ok(None);
+    }
+    Ok(Some(Version {
+        batch: batch.clone()?,
+        blocks: List::of(Vec::from_slice(alloc, blocks)?),
+        names: content.names,
+        kinds: content.kinds,
+    }))
+}
+
 /// What posting the batch on these blocks would set, each block's status and the new version; `None` where it
 /// is skipped: there are 65,536 batches, a block is neither granted nor of the last version or stands twice, the
 /// batch meets a limit, or the blocks' edges aren't each once what the batch leaves. The edges of the last version are
@@ -79,26 +128,15 @@ pub fn plan_post(
     ensures { IfOk result (λ plan. posting.IsPlanOf opening.now heap.now status.now versions.now batch.now blocks.now
         (option_map (λ p. (p.0.items, p.1)) plan)) }
 {
-    let last_blocks = blocks_at(opening, versions, versions.len() as u64);
-    if versions.len() >= BATCH_LIMIT
-        || !all_listable(status, last_blocks, blocks)
-        || !all_differ(blocks)
-    {
+    if !may_list(opening, status, versions, blocks) {
         return Ok(None);
     }
     let last = last_content(alloc, opening, heap, versions)?;
     let Some(content) = after_batch(alloc, last, batch)? else {
         return Ok(None);
     };
-    let edges = edges_of(alloc, heap, blocks)?;
-    if !are_edges_of(&content, edges.as_slice()) {
+    let Some(version) = version_on(alloc, heap, content, batch, blocks)? else {
         return Ok(None);
-    }
-    let version = Version {
-        batch: batch.clone()?,
-        blocks: List::of(Vec::from_slice(alloc, blocks)?),
-        names: content.names,
-        kinds: content.kinds,
     };
     let number = versions.len() as u64 + 1;
     let status = status_after(alloc, number, blocks, status)?;

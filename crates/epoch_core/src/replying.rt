@@ -3,6 +3,8 @@
 ghost use Rattle.std.specs.Prelude.{◌≡◌, ◌<◌, ◌++◌, ◌∷◌, [], IfOk, OnOk, OnErr, MatchOption, MatchResult, Err, ◌≢◌, length};
 ghost use Rattle.std.specs.Prelude.{slice_get, slice_set, slice_index_or};
 ghost use Rattle.std.specs.Option.{option_and_then};
+ghost use Rattle.graph_types.specs.Graph.{graph_of, IsContent};
+ghost use Rattle.graph_types.specs.Answer.{IsAnswer};
 ghost use Rattle.epoch_core.specs.Machine as machine;
 ghost use Rattle.epoch_core.specs.Blocks.{Stepped, changed_at};
 ghost use Rattle.epoch_core.specs.declared.session_states.SessionState.TheVariants.{Idle};
@@ -12,7 +14,7 @@ use crate::states::{Opening, Version};
 use crate::step::Step;
 use crate::versions::{blocks_at, content_with};
 use graph_model::plain_reply;
-use graph_types::{AskError, List, Reply};
+use graph_types::{AskError, Content, List, Reply, Request};
 use std::alloc::{AllocError, Global};
 use std::mem;
 
@@ -35,6 +37,14 @@ fn answer_of(reply: Result<Reply, AskError>) -> Result<Answer, AllocError>
     }
 }
 
+/// The answer to a request over a content.
+fn answer_over(alloc: Global, content: Content, request: &Request) -> Result<Answer, AllocError>
+    requires { IsContent content }
+    ensures { IfOk result (λ answer. IsAnswer request.now (graph_of content) answer) }
+{
+    answer_of(plain_reply(alloc, &content, request))
+}
+
 /// The answer to what the session in this state has asked and read; `None` where it has not asked, or has not
 /// read all blocks of its version.
 fn answer_at(
@@ -54,8 +64,7 @@ fn answer_at(
     }
     let read = Vec::from_slice(alloc, inquiry.read.as_slice())?;
     let content = content_with(alloc, opening, versions, hold.version, read)?;
-    let answer = answer_of(plain_reply(alloc, &content, &inquiry.request))?;
-    Ok(Some(answer))
+    Ok(Some(answer_over(alloc, content, &inquiry.request)?))
 }
 
 /// The replies to a session, none for a number that is out of range. It takes no memory.
@@ -73,18 +82,10 @@ fn push_to(alloc: Global, list: &mut List<Answer>, answer: Answer) -> Result<(),
     ensures added { OnOk result (list.new ≡ list.old ++ answer ∷ []) }
     ensures unchanged { OnErr result (list.new ≡ list.old) }
 {
-    let before = mem::replace(list, no_items(alloc));
-    let mut answers = before.into_vec();
-    match answers.push(answer) {
-        Ok(()) => {
-            *list = List::of(answers);
-            Ok(())
-        }
-        Err(_) => {
-            *list = List::of(answers);
-            Err(AllocError)
-        }
-    }
+    let mut answers = mem::replace(list, no_items(alloc)).into_vec();
+    let is_pushed = answers.push(answer).is_ok();
+    *list = List::of(answers);
+    if is_pushed { Ok(()) } else { Err(AllocError) }
 }
 
 /// Adds an answer to the replies of a session.
@@ -101,6 +102,28 @@ fn push_answer(
 {
     push_to(alloc, &mut replies[session], answer)?;
     Ok(())
+}
+
+/// A session in this state that has read all blocks of its version is given its answer, and any other none.
+fn give_answer(
+    alloc: Global,
+    opening: &Opening,
+    versions: &[Version],
+    state: &SessionState,
+    replies: &mut Vec<List<Answer>>,
+    session: usize,
+) -> Result<(), AllocError>
+    requires place { session < length replies.old.items }
+    requires content { machine.ReadsContent opening.now versions.now state.now }
+    ensures answered { OnOk result (MatchOption (machine.question_in opening.now versions.now state.now)
+        (replies.new.items ≡ replies.old.items)
+        (λ q. machine.IsAnswered session q replies.old.items replies.new.items)) }
+    ensures unchanged { OnErr result (replies.new.items ≡ replies.old.items) }
+{
+    match answer_at(alloc, opening, versions, state)? {
+        Some(answer) => push_answer(alloc, replies, session, answer),
+        None => Ok(()),
+    }
 }
 
 /// A session that has read all blocks of its version has no request from now on. It takes no memory.
@@ -151,8 +174,13 @@ pub(crate) fn reply(
     if session >= sessions.len() {
         return Ok(Step::Skipped);
     }
-    if let Some(answer) = answer_at(alloc, opening, versions, &sessions[session])? {
-        push_answer(alloc, replies, session, answer)?;
-    }
+    give_answer(
+        alloc,
+        opening,
+        versions,
+        &sessions[session],
+        replies,
+        session,
+    )?;
     Ok(conclude(opening, versions, sessions, session))
 }

@@ -47,7 +47,6 @@ impl Drop for Inquiry {
 }
 
 /// Where a session stands.
-#[derive(Drop)]
 pub(crate) enum SessionState {
     /// It has no pin.
     Idle,
@@ -57,6 +56,18 @@ pub(crate) enum SessionState {
     Holding(Hold),
     /// It holds a version and has asked a request of it.
     Asking(Hold, Inquiry),
+}
+
+// Written by hand: a move lets the state before it go by this function, and doesn't tell states apart for that.
+impl Drop for SessionState {
+    fn drop(self) {
+        match self {
+            SessionState::Idle => {}
+            SessionState::Pinned(_pin) => {}
+            SessionState::Holding(_hold) => {}
+            SessionState::Asking(_hold, _inquiry) => {}
+        }
+    }
 }
 
 /// The fields of the machine.

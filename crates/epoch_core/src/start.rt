@@ -21,16 +21,21 @@ pub(crate) fn parts_at_start(
 ) -> Result<Parts, AllocError>
     ensures { IfOk result (λ parts. state_of parts ≡ worlds.start sessions blocks) }
 {
+    let heap = empty_lists(alloc, blocks)?;
+    let status = free_blocks(alloc, blocks)?;
+    let replies = empty_lists(alloc, sessions)?;
+    let sessions = idle_sessions(alloc, sessions)?;
+    // What takes no memory comes last: then there is less to let go of where memory is wanting.
     Ok(Parts {
         alloc,
         opening: empty_opening(alloc),
-        heap: empty_lists(alloc, blocks)?,
-        status: free_blocks(alloc, blocks)?,
+        heap,
+        status,
         versions: Vec::new(alloc),
         floor: 0,
         copy: PinCopy::none(),
-        sessions: idle_sessions(alloc, sessions)?,
-        replies: empty_lists(alloc, sessions)?,
+        sessions,
+        replies,
     })
 }
 

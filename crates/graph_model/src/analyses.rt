@@ -59,7 +59,7 @@ pub(crate) fn reply_cores(
 {
     let filter = resolve(content, filter)?;
     let numbers = plain_cores(alloc, content, filter)?;
-    let rows = name_numbers(alloc, content.names.as_slice(), &numbers)?;
+    let rows = name_rows(alloc, content.names.as_slice(), &numbers)?;
     Ok(Reply::Cores(List::of(rows)))
 }
 
@@ -108,17 +108,17 @@ fn name_labels(
     Ok(rows)
 }
 
-/// Each name with its number.
-fn name_numbers(
+/// Each name with its value.
+pub(crate) fn name_rows<T: Copy>(
     alloc: Global,
     names: &[Name],
-    numbers: &[u32],
-) -> Result<Vec<(Name, u32)>, AllocError>
-    ensures { IfOk result (λ rows. rows.items ≡ zip names.now numbers.now) }
+    values: &[T],
+) -> Result<Vec<(Name, T)>, AllocError>
+    ensures { IfOk result (λ rows. rows.items ≡ zip names.now values.now) }
 {
     let mut rows = Vec::with_capacity(alloc, names.len())?;
-    for (name, number) in names.iter().zip(numbers) {
-        rows.push((name.clone()?, *number))?;
+    for (name, value) in names.iter().zip(values) {
+        rows.push((name.clone()?, *value))?;
     }
     Ok(rows)
 }

@@ -1,6 +1,6 @@
 //! The answer to a request, by passes over the plain lists.
 
-ghost use Rattle.std.specs.Prelude.{◌≡◌, ◌⊎◌, ◌≤◌, ◌<◌, length, zip, All, IfOk, OnOk, IfErr, MatchResult, None, Some, true};
+ghost use Rattle.std.specs.Prelude.{◌≡◌, ◌⊎◌, ◌≤◌, ◌<◌, length, All, IfOk, OnOk, IfErr, MatchResult, None, Some, true};
 ghost use Rattle.std.specs.Prelude.{false};
 ghost use Rattle.graph_types.specs.Answer.{IsAnswer, is_listed, filter_refusal, resolved, degree_table, shown};
 ghost use Rattle.graph_types.specs.Degrees.{CountsEdge, IsWithinLimits, with_edge};
@@ -13,7 +13,7 @@ ghost use Rattle.graph_model.specs.Replies.{takes_memory};
 ghost use Rattle.std.specs.FinMap.{get};
 ghost use Rattle.std.specs.Option.{option_map};
 
-use crate::analyses::{reply_cores, reply_labels, reply_levels};
+use crate::analyses::{name_rows, reply_cores, reply_labels, reply_levels};
 use crate::arcs::shows;
 use crate::edges::{EdgeKey, marks_at};
 use crate::names::place_in;
@@ -53,7 +53,7 @@ fn reply_degrees(alloc: Global, content: &Content, filter: &NamedFilter) -> Resu
 {
     let filter = resolve(content, filter)?;
     let table = tally(alloc, content, filter)?;
-    let rows = name_degrees(alloc, content.names.as_slice(), table.as_slice())?;
+    let rows = name_rows(alloc, content.names.as_slice(), table.as_slice())?;
     Ok(Reply::Degrees(List::of(rows)))
 }
 
@@ -181,19 +181,4 @@ fn count_at(degree: &mut Degree, edge: &Edge, vertex: VertexId)
     if edge.target == vertex {
         degree.incoming += 1;
     }
-}
-
-/// Each name with its degrees.
-fn name_degrees(
-    alloc: Global,
-    names: &[Name],
-    degrees: &[Degree],
-) -> Result<Vec<(Name, Degree)>, AllocError>
-    ensures { IfOk result (λ rows. rows.items ≡ zip names.now degrees.now) }
-{
-    let mut rows = Vec::with_capacity(alloc, names.len())?;
-    for (name, degree) in names.iter().zip(degrees) {
-        rows.push((name.clone()?, *degree))?;
-    }
-    Ok(rows)
 }

@@ -71,6 +71,14 @@ pub one_where : (a b : Bool) → (a ≡ true → b ≡ true) → cond a 1 0 ≤ 
 one_where true b then = let e = then refl in subst (λ c. 1 ≤ cond c 1 0) (sym e) (omega arith)
 one_where false b then = omega arith
 
+-- at most one edge passes where each that does has the same key
+passes_once : (passes : Edge → Bool) (key : Key) (es : List Edge) → HasKeysOnce es
+    → ((e : Edge) → passes e ≡ true → is_key_of key e ≡ true) → count_by passes es ≤ 1
+passes_once passes key es once same =
+    let fewer = sum_by-le-sum_by (λ e. cond (passes e) 1 0) (λ e. cond (is_key_of key e) 1 0) es
+    (λ e. one_where _ _ (same e)) in
+    omega (arith, fewer, count_key key es once)
+
 leaves_key : (f : Filter) (v k t : ℕ) (e : Edge) → ((leaves f v (entry_of e) && eqb e.kind.0 k) && eqb e.target.0 t) ≡ true
     → is_key_of (record { kind = k; source = v; target = t }) e ≡ true
 leaves_key f v k t e passes =
@@ -87,10 +95,8 @@ leaves_key f v k t e passes =
 leaves_once : (f : Filter) (v : ℕ) (es : List Edge) → HasKeysOnce es → (k t : ℕ)
     → count_by (λ e. (leaves f v (entry_of e) && eqb e.kind.0 k) && eqb e.target.0 t) es ≤ 1
 leaves_once f v es once k t =
-    let key : Key = record { kind = k; source = v; target = t } in
-    let fewer = sum_by-le-sum_by (λ (e : Edge). cond ((leaves f v (entry_of e) && eqb e.kind.0 k) && eqb e.target.0 t) 1 0)
-    (λ e. cond (is_key_of key e) 1 0) es (λ e. one_where _ _ (leaves_key f v k t e)) in
-    omega (arith, fewer, count_key key es once)
+    passes_once (λ e. (leaves f v (entry_of e) && eqb e.kind.0 k) && eqb e.target.0 t) (record { kind = k; source = v; target = t }) es
+    once (leaves_key f v k t)
 
 enters_key : (f : Filter) (v k s : ℕ) (e : Edge) → ((enters f v (entry_of e) && eqb e.kind.0 k) && eqb e.source.0 s) ≡ true
     → is_key_of (record { kind = k; source = s; target = v }) e ≡ true
@@ -108,10 +114,8 @@ enters_key f v k s e passes =
 enters_once : (f : Filter) (v : ℕ) (es : List Edge) → HasKeysOnce es → (k s : ℕ)
     → count_by (λ e. (enters f v (entry_of e) && eqb e.kind.0 k) && eqb e.source.0 s) es ≤ 1
 enters_once f v es once k s =
-    let key : Key = record { kind = k; source = s; target = v } in
-    let fewer = sum_by-le-sum_by (λ (e : Edge). cond ((enters f v (entry_of e) && eqb e.kind.0 k) && eqb e.source.0 s) 1 0)
-    (λ e. cond (is_key_of key e) 1 0) es (λ e. one_where _ _ (enters_key f v k s e)) in
-    omega (arith, fewer, count_key key es once)
+    passes_once (λ e. (enters f v (entry_of e) && eqb e.kind.0 k) && eqb e.source.0 s) (record { kind = k; source = s; target = v }) es
+    once (enters_key f v k s)
 
 -- the size of a whole number, as two bounds and back
 pub abs_bounds : (z : ℤ) (n : ℕ) → nat_abs z ≤ n → (neg_ℤ (pos n) ≤ℤ z) × (z ≤ℤ pos n)

@@ -1,32 +1,27 @@
 -- One graph, listed in two orders: two edges between two vertices, and the degrees that both lists show.
-use Rattle.std.proofs.Common.{◌≡◌, ◌≢◌, zero, suc, List, [], ◌∷◌, get_or, pos, ap, arith}
+use Rattle.std.proofs.Common.{◌≡◌, ◌≢◌, ℕ, zero, suc, List, [], ◌∷◌, get_or, pos, ap, arith}
 use Rattle.std.specs.{Prelude.All, Prelude.AllPairs, declared.option.Option.TheVariants.None}
 use Rattle.graph_types.specs.Graph.{Key, graph_of, content_of, key_of, IsContent, IsEdgeWithin}
 use Rattle.graph_types.specs.Answer.{degree_table}
 use Rattle.graph_types.specs.declared.{contents.Content.Content, ids.Edge.Edge, ids.Degree.Degree, ids.Filter.Filter}
 use Rattle.graph_types.proofs.ListedDegrees.{degree_table_is}
 
-abbrev there : Edge
-there =
+abbrev edge : ℕ → ℕ → ℕ → ℕ → Edge
+edge source target weight time =
     record {
       kind = record { 0 = 0 };
-      source = record { 0 = 0 };
-      target = record { 0 = 1 };
-      weight = pos 5;
-      first = 10;
-      recent = 10;
+      source = record { 0 = source };
+      target = record { 0 = target };
+      weight = pos weight;
+      first = time;
+      recent = time;
     }
 
+abbrev there : Edge
+there = edge 0 1 5 10
+
 abbrev back : Edge
-back =
-    record {
-      kind = record { 0 = 0 };
-      source = record { 0 = 1 };
-      target = record { 0 = 0 };
-      weight = pos 2;
-      first = 11;
-      recent = 11;
-    }
+back = edge 1 0 2 11
 
 -- the vertices a and b, and the kind k
 abbrev listed : List Edge → Content
@@ -55,26 +50,10 @@ both P x y p q (suc zero) d high = q
 both P x y p q (suc (suc k)) d high = absurd (omega arith)
 
 there_within : IsEdgeWithin 2 1 there
-there_within =
-    record {
-      kind = omega arith;
-      source = omega arith;
-      target = omega arith;
-      weight = omega arith;
-      first = omega arith;
-      recent = omega arith;
-    }
+there_within = grind arith
 
 back_within : IsEdgeWithin 2 1 back
-back_within =
-    record {
-      kind = omega arith;
-      source = omega arith;
-      target = omega arith;
-      weight = omega arith;
-      first = omega arith;
-      recent = omega arith;
-    }
+back_within = grind arith
 
 content_of_two : (x y : Edge) → key_of x ≢ key_of y → IsEdgeWithin 2 1 x → IsEdgeWithin 2 1 y → IsContent (listed (x ∷ y ∷ []))
 content_of_two x y apart p q = record {

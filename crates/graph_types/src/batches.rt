@@ -1,6 +1,6 @@
 //! Operations on edges, and batches of them.
 
-ghost use Rattle.std.specs.Prelude.{◌≡◌, ◌<◌, ◌≤◌, [], ◌∷◌, ◌++◌, length, OnOk, OnErr, IfErr, ◌⊎◌, ◌↔◌, ◌&&◌, IsTrue};
+ghost use Rattle.std.specs.Prelude.{◌≡◌, ◌<◌, ◌≤◌, [], ◌∷◌, ◌++◌, length, IfOk, OnOk, OnErr, IfErr, ◌⊎◌, ◌↔◌, ◌&&◌, IsTrue};
 ghost use Rattle.graph_types.specs.declared.batches.PushError.TheVariants.{OutOfMemory};
 ghost use Rattle.graph_types.specs.Limits.{operation_limit};
 ghost use Rattle.graph_types.specs.Valid.{push_refusal, IsBatch, IsValid};
@@ -61,38 +61,58 @@ impl Clone for NamedOp {
                 target,
                 weight,
                 time,
-            } => Ok(NamedOp::Insert {
-                kind: kind.clone()?,
-                source: source.clone()?,
-                target: target.clone()?,
-                weight: *weight,
-                time: *time,
-            }),
+            } => {
+                let (kind, source, target) = copies_of(kind, source, target)?;
+                Ok(NamedOp::Insert {
+                    kind,
+                    source,
+                    target,
+                    weight: *weight,
+                    time: *time,
+                })
+            }
             NamedOp::Incr {
                 kind,
                 source,
                 target,
                 amount,
                 time,
-            } => Ok(NamedOp::Incr {
-                kind: kind.clone()?,
-                source: source.clone()?,
-                target: target.clone()?,
-                amount: *amount,
-                time: *time,
-            }),
+            } => {
+                let (kind, source, target) = copies_of(kind, source, target)?;
+                Ok(NamedOp::Incr {
+                    kind,
+                    source,
+                    target,
+                    amount: *amount,
+                    time: *time,
+                })
+            }
             NamedOp::Remove {
                 kind,
                 source,
                 target,
-            } => Ok(NamedOp::Remove {
-                kind: kind.clone()?,
-                source: source.clone()?,
-                target: target.clone()?,
-            }),
+            } => {
+                let (kind, source, target) = copies_of(kind, source, target)?;
+                Ok(NamedOp::Remove {
+                    kind,
+                    source,
+                    target,
+                })
+            }
             NamedOp::Expire { time } => Ok(NamedOp::Expire { time: *time }),
         }
     }
+}
+
+/// Copies of the names of an edge's kind and of its two ends.
+pub(crate) fn copies_of(
+    kind: &Name,
+    source: &Name,
+    target: &Name,
+) -> Result<(Name, Name, Name), AllocError>
+    ensures { IfOk result (λ copies. copies ≡ (kind.now, source.now, target.now)) }
+{
+    Ok((kind.clone()?, source.clone()?, target.clone()?))
 }
 
 /// What an operation did.

@@ -3,6 +3,7 @@
 ghost use Rattle.std.specs.Prelude.{◌≡◌};
 ghost use Rattle.graph_types.specs.declared.requests.AskError.TheVariants.{OutOfMemory};
 
+use crate::batches::copies_of;
 use crate::{Degree, List, Name};
 use std::alloc::AllocError;
 use thiserror::Error;
@@ -91,11 +92,14 @@ impl Clone for Request {
                 kind,
                 source,
                 target,
-            } => Ok(Request::OneEdge {
-                kind: kind.clone()?,
-                source: source.clone()?,
-                target: target.clone()?,
-            }),
+            } => {
+                let (kind, source, target) = copies_of(kind, source, target)?;
+                Ok(Request::OneEdge {
+                    kind,
+                    source,
+                    target,
+                })
+            }
         }
     }
 }

@@ -1,4 +1,4 @@
-use Rattle.std.proofs.Common.{◌≡◌, ◌<◌, ◌≤◌, List, length, refl, arith}
+use Rattle.std.proofs.Common.{◌≡◌, List, refl, arith}
 use Rattle.std.specs.declared.option.Option.TheVariants.{None}
 use Rattle.epoch_core.{specs.declared.states.Opening.Opening, proofs.OneElement.stepped_past, proofs.OneElement.stays_at}
 use Rattle.epoch_core.specs.{declared.states.Version.Version, Machine.to_reply}
@@ -15,11 +15,10 @@ reply_stays o versions (Asking hold inquiry) not_asking = absurd (not_asking hol
 
 pub returns-then-session-len : goal.returns-then-session-len
 returns-then-session-len c =
-    let past : length c.args.sessions.now.items ≤ c.args.session = omega arith in
-    stepped_past (to_reply c.args.opening.now c.args.versions.now) c.args.sessions.now.items c.args.session past
+    stepped_past (to_reply c.args.opening.now c.args.versions.now) c.args.sessions.now.items c.args.session (omega arith)
 
 pub returns-in_default : goal.returns-in_default
 returns-in_default c =
-    let lt : c.args.session < length c.args.sessions.now.items = omega arith in
-    stays_at (to_reply c.args.opening.now c.args.versions.now) c.args.sessions.now.items c.args.session c.index.result.now lt c.index.ensures
+    stays_at (to_reply c.args.opening.now c.args.versions.now) c.args.sessions.now.items c.args.session
+    c.index.result.now (omega arith) c.index.ensures
     (reply_stays c.args.opening.now c.args.versions.now c.index.result.now c.in_default.not-Asking)

@@ -1,4 +1,4 @@
-use Rattle.std.proofs.Common.{◌≡◌, ◌≤◌, length, refl, sym, subst, arith}
+use Rattle.std.proofs.Common.{◌≡◌, refl, sym, subst, arith}
 use Rattle.std.{specs.Prelude.MatchOption, specs.Option.option_and_then, proofs.lemmas.Option.slice_get_past}
 use Rattle.epoch_core.specs.Machine.{IsAnswered, question_in, to_reply}
 use Rattle.epoch_core.proofs.OneElement.{stepped_past}
@@ -6,13 +6,11 @@ use Rattle.epoch_core.proofs.replying.reply.Goals as goal
 
 pub returns-then-session-len-clause-moved : goal.returns-then-session-len-clause-moved
 returns-then-session-len-clause-moved c =
-    let past : length c.args.sessions.now.items ≤ c.args.session = omega arith in
-    stepped_past (to_reply c.args.opening.now c.args.versions.now) c.args.sessions.now.items c.args.session past
+    stepped_past (to_reply c.args.opening.now c.args.versions.now) c.args.sessions.now.items c.args.session (omega arith)
 
 pub returns-then-session-len-clause-answered : goal.returns-then-session-len-clause-answered
 returns-then-session-len-clause-answered c =
-    let past : length c.args.sessions.now.items ≤ c.args.session = omega arith in
     subst (λ o. MatchOption (option_and_then (question_in c.args.opening.now c.args.versions.now) o)
     (c.args.replies.now.items ≡ c.args.replies.now.items)
     (λ q. IsAnswered c.args.session q c.args.replies.now.items c.args.replies.now.items))
-    (sym (slice_get_past c.args.sessions.now.items c.args.session past)) refl
+    (sym (slice_get_past c.args.sessions.now.items c.args.session (omega arith))) refl

@@ -1,4 +1,4 @@
-use Rattle.std.proofs.Common.{◌≡◌, ◌<◌, ◌≤◌, length, refl, arith}
+use Rattle.std.proofs.Common.{◌≡◌, refl, arith}
 use Rattle.std.specs.declared.option.Option.TheVariants.{None}
 use Rattle.graph_types.specs.declared.requests.Request.{Request}
 use Rattle.epoch_core.specs.declared.session_states.{Hold.Hold, SessionState.SessionState}
@@ -14,11 +14,9 @@ ask_stays request (Asking hold inquiry) not_holding = refl
 
 pub returns-then-session-len-clause-asked : goal.returns-then-session-len-clause-asked
 returns-then-session-len-clause-asked c =
-    let past : length c.args.sessions.now.items ≤ c.args.session = omega arith in
-    stepped_past (to_ask c.args.request.now) c.args.sessions.now.items c.args.session past
+    stepped_past (to_ask c.args.request.now) c.args.sessions.now.items c.args.session (omega arith)
 
 pub returns-in_default-clause-asked : goal.returns-in_default-clause-asked
 returns-in_default-clause-asked c =
-    let lt : c.args.session < length c.args.sessions.now.items = omega arith in
-    stays_at (to_ask c.args.request.now) c.args.sessions.now.items c.args.session c.index.result.now lt c.index.ensures
+    stays_at (to_ask c.args.request.now) c.args.sessions.now.items c.args.session c.index.result.now (omega arith) c.index.ensures
     (ask_stays c.args.request.now c.index.result.now c.in_default.not-Holding)

@@ -1,4 +1,4 @@
-use Rattle.std.proofs.Common.{◌≡◌, ◌<◌, ◌≤◌, ℕ, length, refl, arith}
+use Rattle.std.proofs.Common.{◌≡◌, ℕ, refl, arith}
 use Rattle.std.specs.declared.option.Option.TheVariants.{None}
 use Rattle.epoch_core.specs.{declared.session_states.SessionState.SessionState, Machine.to_pin}
 use Rattle.epoch_core.specs.declared.session_states.SessionState.TheVariants.{Idle, Pinned, Holding, Asking}
@@ -13,11 +13,9 @@ pin_stays floor (Asking hold inquiry) away = refl
 
 pub returns-then-session-len : goal.returns-then-session-len
 returns-then-session-len c =
-    let past : length c.args.sessions.now.items ≤ c.args.session = omega arith in
-    stepped_past (to_pin c.args.floor) c.args.sessions.now.items c.args.session past
+    stepped_past (to_pin c.args.floor) c.args.sessions.now.items c.args.session (omega arith)
 
 pub returns-in_default : goal.returns-in_default
 returns-in_default c =
-    let lt : c.args.session < length c.args.sessions.now.items = omega arith in
-    stays_at (to_pin c.args.floor) c.args.sessions.now.items c.args.session c.index.result.now lt c.index.ensures
+    stays_at (to_pin c.args.floor) c.args.sessions.now.items c.args.session c.index.result.now (omega arith) c.index.ensures
     (pin_stays c.args.floor c.index.result.now c.in_default.not-Idle)

@@ -1,14 +1,12 @@
-use Rattle.std.proofs.Common.{◌<◌, ◌≤◌, length, arith}
+use Rattle.std.proofs.Common.{arith}
 use Rattle.epoch_core.{specs.Machine.to_settle, proofs.OneElement.stepped_at, proofs.OneElement.stepped_past}
 use Rattle.epoch_core.proofs.sessions.settle.Goals as goal
 
 pub returns : goal.returns
 returns c =
-    let lt : c.args.session < length c.args.sessions.now.items = omega arith in
     stepped_at to_settle c.args.sessions.now.items c.args.session c.index_mut.result.now c.settle_state.result
-    c.settle_state.new.state lt c.index_mut.ensures.value c.settle_state.ensures
+    c.settle_state.new.state (omega arith) c.index_mut.ensures.value c.settle_state.ensures
 
 pub returns-then-session-len : goal.returns-then-session-len
 returns-then-session-len c =
-    let past : length c.args.sessions.now.items ≤ c.args.session = omega arith in
-    stepped_past to_settle c.args.sessions.now.items c.args.session past
+    stepped_past to_settle c.args.sessions.now.items c.args.session (omega arith)

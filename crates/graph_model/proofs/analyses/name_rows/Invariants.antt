@@ -1,0 +1,6 @@
+use Rattle.std.proofs.Common.{◌≡◌, take, length}
+use Rattle.std.specs.Prelude.{zip}
+use Rattle.graph_model.proofs.analyses.name_rows.Given as goal
+
+abbrev pub invariant-loop-name : goal.invariant-loop-name
+invariant-loop-name g l = l.rows.items ≡ take (length l.yielded) (zip l.names l.values)
