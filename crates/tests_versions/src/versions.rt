@@ -1,6 +1,5 @@
-// Most tests are texts: lines of batches, each with its outcomes and what it leaves, and of requests with their answers.
+// Most tests are texts: lines of batches, each with its outcomes and what it leaves.
 
-mod answers;
 mod batches;
 mod gates;
 mod lines;
@@ -8,8 +7,6 @@ mod ops;
 mod plans;
 mod rebased;
 mod refusals;
-mod replies;
-mod requests;
 mod sames;
 mod steps;
 mod tables;

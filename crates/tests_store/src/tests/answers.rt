@@ -1,6 +1,6 @@
 // What sessions answer.
 
-use super::texts::{push_item, push_numbers, split_word};
+use super::texts::{push_item, split_word};
 use graph_types::{AskError, Degree, Name, NamedFilter, Reply, Request};
 use std::alloc::{AllocError, Global};
 use stream_store::Session;
@@ -50,26 +50,22 @@ fn push_edge(text: &mut String, edge: &Edge) -> Result<(), AllocError> {
     match edge {
         Some((weight, first, recent)) => {
             push_item(text, *weight, " ")?;
-            push_numbers(text, &[*first, *recent])
+            push_item(text, *first, " ")?;
+            push_item(text, *recent, "")
         }
         None => text.push_str("none"),
     }
 }
 
-fn push_reply(text: &mut String, reply: &Reply) -> Result<(), AllocError> {
-    match reply {
-        Reply::Levels(rows) => push_counts(text, rows.as_slice()),
-        Reply::Labels(rows) => push_names(text, rows.as_slice()),
-        Reply::Cores(rows) => push_counts(text, rows.as_slice()),
-        Reply::Degrees(rows) => push_degrees(text, rows.as_slice()),
-        Reply::OneEdge(edge) => push_edge(text, edge),
-    }
-}
-
-fn push_replied(text: &mut String, told: Result<Reply, AskError>) -> Result<(), AllocError> {
+/// A reply's rows, or the refusal.
+fn push_reply(text: &mut String, told: &Result<Reply, AskError>) -> Result<(), AllocError> {
     match told {
-        Ok(reply) => push_reply(text, &reply),
-        Err(error) => push_item(text, error, ""),
+        Ok(Reply::Levels(rows)) => push_counts(text, rows.as_slice()),
+        Ok(Reply::Labels(rows)) => push_names(text, rows.as_slice()),
+        Ok(Reply::Cores(rows)) => push_counts(text, rows.as_slice()),
+        Ok(Reply::Degrees(rows)) => push_degrees(text, rows.as_slice()),
+        Ok(Reply::OneEdge(edge)) => push_edge(text, edge),
+        Err(error) => push_item(text, *error, ""),
     }
 }
 
@@ -81,15 +77,8 @@ pub(super) fn push_answer(
     words: &str,
 ) -> Result<(), AllocError> {
     match request_of(alloc, words) {
-        Ok(request) => push_replied(text, session.ask(&request)),
+        Ok(request) => push_reply(text, &session.ask(&request)),
         Err(error) => Err(error),
-    }
-}
-
-fn edge_of(reply: &Reply) -> Option<Edge> {
-    match reply {
-        Reply::OneEdge(edge) => Some(*edge),
-        _ => None,
     }
 }
 
@@ -97,8 +86,8 @@ fn edge_of(reply: &Reply) -> Option<Edge> {
 pub(super) fn edge_told(alloc: Global, session: &Session) -> Option<Edge> {
     let request = Request::one_edge(alloc, "k", "a", "b").ok()?;
     match session.ask(&request) {
-        Ok(reply) => edge_of(&reply),
-        Err(_) => None,
+        Ok(Reply::OneEdge(edge)) => Some(edge),
+        _ => None,
     }
 }
 

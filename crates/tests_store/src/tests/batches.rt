@@ -1,7 +1,7 @@
 // Batches of operations, all of them of kind `k`: an operation as a plain value, and batches of them by name.
 
 use super::texts::{push_numbers, split_at, split_word};
-use graph_types::{Batch, Name, NamedOp};
+use graph_types::{Batch, NamedOp};
 use std::alloc::{AllocError, Global};
 
 /// An operation: `i` inserts, `a` adds to the weight, `r` removes, `x` expires; its source and target, its weight or amount, its
@@ -12,7 +12,6 @@ pub(super) type Op<'a> = (&'a str, &'a str, &'a str, i64, u64);
 const BATCHES: &str = "\
 first: i a b 5 10
 chain: i a b 5 10, i b c 2 11
-friends: i ann bob 1 1, i bob cat 1 1
 more: a a b 1 20
 cut: r a b 0 0
 on: r a b 0 0, i b c 1 1
@@ -73,15 +72,6 @@ fn operation(alloc: Global, op: Op) -> Result<NamedOp, AllocError> {
     }
 }
 
-fn is_named(name: &Name, text: &str) -> bool {
-    name.as_str() == text
-}
-
-/// Whether these are kind `k`, and the operation's source and target.
-fn joins(kind: &Name, source: &Name, target: &Name, op: Op) -> bool {
-    is_named(kind, "k") && is_named(source, op.1) && is_named(target, op.2)
-}
-
 /// Whether it is this insertion or addition.
 pub(super) fn is_op(found: &NamedOp, op: Op) -> bool {
     match found {
@@ -91,15 +81,18 @@ pub(super) fn is_op(found: &NamedOp, op: Op) -> bool {
             target,
             weight,
             time,
-        } => op.0 == "i" && op.3 == *weight && op.4 == *time && joins(kind, source, target, op),
-        NamedOp::Incr {
+        }
+        | NamedOp::Incr {
             kind,
             source,
             target,
-            amount,
+            amount: weight,
             time,
-        } => op.0 == "a" && op.3 == *amount && op.4 == *time && joins(kind, source, target, op),
-        NamedOp::Remove { .. } | NamedOp::Expire { .. } => false,
+        } => {
+            let names = (kind.as_str(), source.as_str(), target.as_str());
+            names == ("k", op.1, op.2) && (*weight, *time) == (op.3, op.4)
+        }
+        _ => false,
     }
 }
 

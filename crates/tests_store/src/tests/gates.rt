@@ -1,4 +1,4 @@
-// A gate that tells how many workers came, and that they work at once.
+// A gate that tells how many came, and that they work at once.
 
 use super::texts::{push_item, push_numbers};
 use super::waits::has_reached;
@@ -8,9 +8,10 @@ use std::sync::atomic::Ordering::SeqCst;
 use std::sync::atomic::{AtomicBool, AtomicU64};
 use stream_store::{ApplyError, Receipt};
 
-/// Holds each worker until all have come, or until its turns are over.
+/// Holds each worker until all have come, and so many others, or until its turns are over.
 #[derive(Drop)]
 pub(super) struct Meeting {
+    others: u64,
     arrived: AtomicU64,
     in_vain: AtomicBool,
 }
@@ -18,18 +19,34 @@ pub(super) struct Meeting {
 impl Gate for Meeting {
     fn arrive(&self, _worker: usize, of: usize) {
         self.arrived.fetch_add(1, SeqCst);
-        if !has_reached(&self.arrived, of as u64) {
+        if !has_reached(&self.arrived, self.others.saturating_add(of as u64)) {
             self.in_vain.store(true, SeqCst);
         }
     }
 }
 
 impl Meeting {
-    pub(super) fn new() -> Meeting {
+    pub(super) fn with(others: u64) -> Meeting {
         Meeting {
+            others,
             arrived: AtomicU64::new(0),
             in_vain: AtomicBool::new(false),
         }
+    }
+
+    /// Waits until one has come; whether one did.
+    pub(super) fn has_begun(&self) -> bool {
+        has_reached(&self.arrived, 1)
+    }
+
+    /// One that is no worker comes.
+    pub(super) fn join(&self) {
+        self.arrived.fetch_add(1, SeqCst);
+    }
+
+    /// Whether a worker's turns ran out.
+    pub(super) fn is_in_vain(&self) -> bool {
+        self.in_vain.load(SeqCst)
     }
 
     /// The number of the receipt of a batch, and how many workers met over it; or the refusal.
@@ -38,7 +55,7 @@ impl Meeting {
         text: &mut String,
         told: Result<Receipt, ApplyError>,
     ) -> Result<(), AllocError> {
-        if self.in_vain.load(SeqCst) {
+        if self.is_in_vain() {
             return text.push_str("a worker waited in vain");
         }
         match told {

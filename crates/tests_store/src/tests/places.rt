@@ -1,13 +1,18 @@
 // Where seats are, how they move on, and what is seen from them.
 
+ghost use Rattle.stream_store.specs.Opened.{IsOpeningOf};
+
 use super::answers::push_answer;
 use super::texts::{push_item, split_word};
 use super::told::{push_opening, push_stat, push_version};
 use block_reclamation::Board;
 use graph_version::Version;
 use std::alloc::{AllocError, Global};
+use std::marker::Brand;
 use std::sync::Wait;
-use stream_store::{Config, Desk, Naming, PinnedSeat, Seat, Session, Store, open_parts_from};
+use stream_store::{
+    Config, Desk, Naming, Opened, PinnedSeat, Seat, Session, Stat, Store, open_parts_from,
+};
 
 /// Where a seat is.
 #[derive(Drop)]
@@ -105,18 +110,30 @@ fn push_opened<R: Wait>(
     }
 }
 
-fn push_asked<R: Wait>(
+/// The counts of a store.
+fn stat_of<J: Naming, R: Wait>(rt: &R, opened: Opened) -> Stat
+    requires { IsOpeningOf J.book J.opening opened }
+{
+    let (store, _seats) = opened.named::<J>();
+    let stat = store.stat(rt);
+    let _last = store.close(rt);
+    stat
+}
+
+/// The same of a store that one call opens.
+fn push_stored<R: Wait>(
     rt: &R,
     text: &mut String,
     alloc: Global,
-    session: &Session,
-    words: (&str, &str),
+    version: &Version,
+    blocks: &str,
 ) -> Result<(), AllocError> {
-    match words.0 {
-        "ask" => push_answer(text, alloc, session, words.1),
-        "opening" => push_opening(text, session.version()),
-        "open" => push_opened(rt, text, alloc, session.version(), words.1),
-        _ => push_version(text, session.version()),
+    let Ok(config) = Config::new(1, blocks.parse().unwrap_or(0), 1) else {
+        return text.push_str("past the limits");
+    };
+    match Store::open_from(rt, alloc, config, version) {
+        Ok(opened) => push_stat(text, stat_of::<Brand, R>(rt, opened)),
+        Err(error) => push_item(text, error, ""),
     }
 }
 
@@ -135,8 +152,14 @@ pub(super) fn push_seen<R: Wait>(
     words: (&str, &str),
 ) -> Result<(), AllocError> {
     let (index, asked) = index_of(words.1);
-    match places.get(index) {
-        Some(Place::Held(session)) => push_asked(rt, text, alloc, session, (words.0, asked)),
-        _ => text.push_str("no session"),
+    let Some(Place::Held(session)) = places.get(index) else {
+        return text.push_str("no session");
+    };
+    match words.0 {
+        "ask" => push_answer(text, alloc, session, asked),
+        "opening" => push_opening(text, session.version()),
+        "open" => push_opened(rt, text, alloc, session.version(), asked),
+        "store" => push_stored(rt, text, alloc, session.version(), asked),
+        _ => push_version(text, session.version()),
     }
 }

@@ -3,7 +3,7 @@
 ghost use Rattle.std.specs.Prelude.{◌≡◌};
 ghost use Rattle.stream_store.specs.Opened.{IsOpeningOf};
 
-use super::checks::{check_so, tell_refused};
+use super::checks::{check_so, check_told, tell_refused};
 use super::places::Place;
 use super::stages::{End, Front, Stage};
 use super::texts::{split_at, split_word};
@@ -71,11 +71,6 @@ fn told_of<S: Stage, R: Threads + Wait + Sync>(
     }
 }
 
-/// What a line or a play of this text tells is the wanted text.
-fn check_told(rt: &impl Abort, told: &str, wanted: &str, text: &str) {
-    assert_eq!(rt; told, wanted, "{text}");
-}
-
 /// Whether there was memory for what is told. Where there was, it is what is wanted.
 fn is_wanted<R: Abort>(rt: &R, told: &str, wanted: &str, name: &str) -> bool {
     let is_told = told != "out of memory";
@@ -118,39 +113,22 @@ fn kept<S: Stage, R: Threads + Wait + Sync + Abort + Print>(
 /// A line is done; or it is refused, leaves all as it was before, and then is done.
 fn check_kept<S: Stage, R: Threads + Wait + Sync + Abort + Print>(
     rt: &R,
+    before: &str,
     alloc: Global,
     stage: &mut S,
     places: &mut Vec<Place>,
     line: &str,
-    before: &str,
 ) {
     if is_played(rt, alloc, stage, places, line, line) {
         return;
     }
     tell_refused(rt);
     check_told(rt, kept(rt, alloc, stage, places).as_str(), before, line);
-    assert!(rt; is_played(rt, alloc, stage, places, line, line));
+    let is_played = is_played(rt, alloc, stage, places, line, line);
+    check_so(rt, is_played, line);
 }
 
-/// Plays a line, which may be refused where the play accepts that.
-fn check_line<S: Stage, R: Threads + Wait + Sync + Abort + Print>(
-    rt: &R,
-    alloc: Global,
-    stage: &mut S,
-    places: &mut Vec<Place>,
-    line: &str,
-    play: &Play,
-) {
-    if play.may_refuse {
-        let before = kept(rt, alloc, stage, places);
-        check_kept(rt, alloc, stage, places, line, before.as_str());
-    } else {
-        let is_played = is_played(rt, alloc, stage, places, line, play.name);
-        check_so(rt, is_played, line);
-    }
-}
-
-/// Plays lines; one that begins with `#` says why.
+/// Plays lines, each of which may be refused where the play accepts that; one that begins with `#` says why.
 fn check_lines<S: Stage, R: Threads + Wait + Sync + Abort + Print>(
     rt: &R,
     alloc: Global,
@@ -160,16 +138,17 @@ fn check_lines<S: Stage, R: Threads + Wait + Sync + Abort + Print>(
     play: &Play,
 ) {
     for line in lines.lines() {
-        if !line.starts_with('#') {
-            check_line(rt, alloc, stage, places, line, play);
+        if line.starts_with('#') {
+            continue;
+        }
+        if play.may_refuse {
+            let before = kept(rt, alloc, stage, places);
+            check_kept(rt, before.as_str(), alloc, stage, places, line);
+        } else {
+            let is_played = is_played(rt, alloc, stage, places, line, play.name);
+            check_so(rt, is_played, line);
         }
     }
-}
-
-/// Ends a store, at its last number.
-fn check_closed<J: Naming, R: Wait + Abort>(rt: &R, store: Store<J>, play: &Play) {
-    let number = store.close(rt).number();
-    check_so(rt, number == play.last, play.name);
 }
 
 /// Plays over a store, to its end.
@@ -181,7 +160,8 @@ fn check_store<J: Naming, R: Threads + Wait + Sync + Abort + Print>(
     play: &Play,
 ) {
     check_lines(rt, alloc, &mut store, places, play.shared, play);
-    check_closed(rt, store, play);
+    let number = store.close(rt).number();
+    check_so(rt, number == play.last, play.name);
     check_lines(rt, alloc, &mut End, places, play.ended, play);
 }
 
@@ -200,19 +180,6 @@ fn check_shared<J: Naming, R: Threads + Wait + Sync + Abort + Print>(
     check_store(rt, alloc, Store::<J>::over(desk, board), places, play)
 }
 
-/// Plays at a desk, and then over the store of it.
-fn check_over<R: Threads + Wait + Sync + Abort + Print>(
-    rt: &R,
-    alloc: Global,
-    mut front: Front,
-    places: &mut Vec<Place>,
-    play: &Play,
-) {
-    check_lines(rt, alloc, &mut front, places, play.at_desk, play);
-    let Front { desk, board } = front;
-    check_shared::<Brand, R>(rt, alloc, desk, board, places, play);
-}
-
 fn places_of(alloc: Global, seats: Vec<Seat>) -> Result<Vec<Place>, AllocError> {
     let mut places = Vec::new(alloc);
     for seat in seats {
@@ -223,26 +190,28 @@ fn places_of(alloc: Global, seats: Vec<Seat>) -> Result<Vec<Place>, AllocError> 
 
 /// Memory is refused for the places of a play's seats.
 fn check_refused<R: Abort + Print>(rt: &R, play: &Play) {
-    assert!(rt; play.may_refuse);
+    check_so(rt, play.may_refuse, play.name);
     tell_refused(rt);
 }
 
-/// Plays over the parts of an opening.
+/// Plays at the desk of an opening, and then over the store of it.
 fn check_parts<R: Threads + Wait + Sync + Abort + Print>(
     rt: &R,
     alloc: Global,
-    front: Front,
+    mut front: Front,
     seats: Vec<Seat>,
     play: &Play,
 ) {
-    match places_of(alloc, seats) {
-        Ok(mut places) => check_over(rt, alloc, front, &mut places, play),
-        Err(AllocError) => check_refused(rt, play),
-    }
+    let Ok(mut places) = places_of(alloc, seats) else {
+        return check_refused(rt, play);
+    };
+    check_lines(rt, alloc, &mut front, &mut places, play.at_desk, play);
+    let Front { desk, board } = front;
+    check_shared::<Brand, R>(rt, alloc, desk, board, &mut places, play);
 }
 
 /// Plays over the store of an opening, which takes this name.
-fn check_named<J: Naming, R: Threads + Wait + Sync + Abort + Print>(
+pub(super) fn check_named<J: Naming, R: Threads + Wait + Sync + Abort + Print>(
     rt: &R,
     alloc: Global,
     opened: Opened,
@@ -257,16 +226,6 @@ fn check_named<J: Naming, R: Threads + Wait + Sync + Abort + Print>(
     }
 }
 
-/// Plays over the store of an opening.
-pub(super) fn check_opened<R: Threads + Wait + Sync + Abort + Print>(
-    rt: &R,
-    alloc: Global,
-    opened: Opened,
-    play: &Play,
-) {
-    check_named::<Brand, R>(rt, alloc, opened, play)
-}
-
 /// Plays over a new store, where it opens: by its parts where the play has lines at the desk, and else as a user opens it.
 fn check_new<R: Threads + Wait + Sync + Abort + Print>(
     rt: &R,
@@ -275,7 +234,7 @@ fn check_new<R: Threads + Wait + Sync + Abort + Print>(
     play: &Play,
 ) -> Result<(), OpenError> {
     if play.at_desk.is_empty() {
-        check_opened(rt, alloc, Store::open(rt, alloc, config)?, play);
+        check_named::<Brand, R>(rt, alloc, Store::open(rt, alloc, config)?, play);
     } else {
         let (desk, board, seats) = open_parts(rt, alloc, config)?;
         check_parts(rt, alloc, Front { desk, board }, seats, play);

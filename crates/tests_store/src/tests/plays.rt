@@ -1,21 +1,18 @@
 // Plays: stories over the store that threads share, and its four seats, in lines.
 
-ghost use Rattle.std.specs.Prelude.{◌≡◌};
-ghost use Rattle.stream_store.specs.Opened.{IsOpeningOf};
-
 use super::batches::batch_named;
 use super::checks::check_so;
-use super::players::{check_opened, check_plays, play_of};
-use super::stages::apply_to;
+use super::players::{check_named, check_plays, play_of};
+use super::stages::apply_at;
 use batch_apply::PassAll;
 use graph_version::Version;
 use std::alloc::Global;
 use std::io::Print;
 use std::marker::Brand;
 use std::process::Abort;
-use std::sync::{Arc, Wait};
+use std::sync::Wait;
 use std::thread::Threads;
-use stream_store::{Config, Naming, Opened, Store};
+use stream_store::{Config, Desk, Store, open_parts};
 
 const PLAYS: &str = "2 16 applies one batch twice
 share
@@ -232,6 +229,19 @@ ask 3 cores => a 2,b 2,c 2,d 0,
 ask 3 degrees => a 1 1 1,b 1 1 2,c 1 1 3,d 0 0 0,
 close => 2
 
+1 32 opens by one call and from a version
+share
+# Four seats. Each of 17 sources has a block of its own: a store of 16 blocks is too small for them, and of 17 all are used. The
+# sources are the vertices, since they all lead to one of them.
+seat 3 => pinned
+seat 4 => no such seat
+apply 17 sources => 1 iiiiiiiiiiiiiiiii
+seat 0 => pinned
+seat 0 => holds 1
+store 0 16 => the version has 17 blocks and 16 are free
+store 0 17 => 0 17 17 0 0 17
+close => 1
+
 2 2048 workers meet behind a store
 share
 meet 2048 => 1 2
@@ -272,42 +282,30 @@ ask 1 edge => 6 10 20
 stat => 2 2 0 15 1 0
 close => 2";
 
-/// The last version of a store behind the batch that makes the edge of a to b; nothing where it is refused.
-fn version_of<J: Naming, R: Threads + Wait + Sync>(
-    rt: &R,
-    alloc: Global,
-    opened: Opened,
-) -> Option<Arc<Version>>
-    requires { IsOpeningOf J.book J.opening opened }
-{
-    let (store, _seats) = opened.named::<J>();
-    let _receipt = apply_to(rt, &store, &PassAll, batch_named(alloc, "first")).ok()?;
-    Some(store.close(rt))
-}
-
-/// A version that has the edge alone.
-fn with_the_edge<R: Threads + Wait + Sync>(rt: &R, alloc: Global) -> Option<Arc<Version>> {
-    let config = Config::new(1, 16, 1).ok()?;
-    let opened = Store::open(rt, alloc, config).ok()?;
-    version_of::<Brand, R>(rt, alloc, opened)
-}
-
-/// Plays over a store that opens with what that version holds.
+/// Plays over a store that opens with what a version holds.
 fn check_rebased<R: Threads + Wait + Sync + Abort + Print>(
     rt: &R,
     alloc: Global,
     version: &Version,
 ) {
     let config = Config::new(2, 16, 4).expect(rt, "within the limits");
-    let play = play_of(REBASED, false);
     match Store::open_from(rt, alloc, config, version) {
-        Ok(opened) => check_opened(rt, alloc, opened, &play),
+        Ok(opened) => check_named::<Brand, R>(rt, alloc, opened, &play_of(REBASED, false)),
         Err(_) => check_so(rt, false, "an opening"),
     }
 }
 
+/// The same, where it is a desk's last version behind the batch that makes the edge of a to b.
+fn check_gone_on<R: Threads + Wait + Sync + Abort + Print>(rt: &R, alloc: Global, mut desk: Desk) {
+    let _told = apply_at(rt, &mut desk, &PassAll, batch_named(alloc, "first"));
+    check_rebased(rt, alloc, desk.last());
+}
+
 #[test]
 fn goes_on_from_what_a_version_holds(rt: HostRuntime) {
-    let version = with_the_edge(&rt, rt.alloc()).expect(&rt, "a version");
-    check_rebased(&rt, rt.alloc(), &version);
+    let config = Config::new(1, 16, 1).expect(&rt, "within the limits");
+    match open_parts(&rt, rt.alloc(), config) {
+        Ok((desk, _board, _seats)) => check_gone_on(&rt, rt.alloc(), desk),
+        Err(_) => check_so(&rt, false, "an opening"),
+    }
 }

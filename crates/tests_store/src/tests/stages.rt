@@ -74,7 +74,7 @@ impl Front {
         text: &mut String,
         batch: Result<Batch, AllocError>,
     ) -> Result<(), AllocError> {
-        let meeting = Meeting::new();
+        let meeting = Meeting::with(0);
         let told = apply_at(rt, &mut self.desk, &meeting, batch);
         meeting.push_met(text, told)
     }
@@ -141,7 +141,7 @@ impl<J: Naming> Stage for Store<J> {
                 apply_to(rt, self, &PassAll, batch_named(alloc, words.1)),
             ),
             "meet" => {
-                let meeting = Meeting::new();
+                let meeting = Meeting::with(0);
                 let told = apply_to(rt, self, &meeting, batch_named(alloc, words.1));
                 meeting.push_met(text, told)
             }

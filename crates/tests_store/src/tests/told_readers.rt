@@ -2,23 +2,23 @@
 // had seen or been told, while blocks are retired and collected.
 
 ghost use Rattle.std.specs.Prelude.{◌≡◌, ◌<◌, All};
-ghost use Rattle.stream_store.specs.Opened.{IsOpeningOf};
 ghost use Rattle.stream_store.specs.Stores.{IsOfOpening, IsSeatOf};
 
-use super::answers::edge_told;
+use super::answers::{Edge, edge_told};
 use super::batches::{Op, batch_of, is_op};
+use super::checks::check_so;
 use super::handed::{Handed, feed, learns_of};
+use super::stories::{Story, is_told as is_story_told};
 use super::waits::{has_reached, is_set};
-use graph_types::Batch;
+use graph_types::{Batch, NamedOp};
 use graph_version::Version;
 use std::alloc::{AllocError, Global};
-use std::marker::Brand;
 use std::process::Abort;
 use std::sync::atomic::Ordering::SeqCst;
 use std::sync::atomic::{AtomicBool, AtomicU32, AtomicU64};
 use std::sync::{OnceLock, Wait};
 use std::thread::{Threads, join, map_vec};
-use stream_store::{Collected, Config, Naming, Opened, Seat, Session, Store};
+use stream_store::{Collected, Naming, Seat, Session, Store};
 
 /// How many seats read, each in a thread of its own.
 const READERS: u32 = 4;
@@ -142,11 +142,13 @@ fn feed_all<J: Naming, R: Threads + Wait + Sync>(
     beside
 }
 
-/// Whether the batch is the one of this number.
+/// Whether the batch is the one of this number: its first operation is an addition, and its second an insertion.
 fn is_batch(batch: &Batch, number: u32) -> bool {
     let [first, second] = ops_at(number);
     match batch.ops() {
-        [one, other] => is_op(one, first) && is_op(other, second),
+        [one @ NamedOp::Incr { .. }, other @ NamedOp::Insert { .. }] => {
+            is_op(one, first) && is_op(other, second)
+        }
         _ => false,
     }
 }
@@ -161,13 +163,10 @@ fn are_first(version: &Version) -> bool {
     version.number() <= u64::from(BATCHES)
 }
 
-/// Whether the session's version has the first batches, and what they leave: each of them added one to the weight.
-fn is_as_fed(alloc: Global, session: &Session) -> bool {
-    let number = session.version().number();
-    match edge_told(alloc, session) {
-        Some(Some((weight, 1, recent))) => {
-            weight.unsigned_abs() == number && recent == number && are_first(session.version())
-        }
+/// Whether the edge is as that many batches leave it: each of them added one to the weight.
+fn is_edge_at(edge: Option<Edge>, number: u64) -> bool {
+    match edge {
+        Some(Some((weight, 1, recent))) => weight.unsigned_abs() == number && recent == number,
         _ => false,
     }
 }
@@ -187,7 +186,10 @@ impl Reading {
     fn look(&mut self, alloc: Global, session: &Session, told: u64) {
         let number = session.version().number();
         self.looked = self.looked.saturating_add(1);
-        self.is_right &= self.last <= number && told <= number && is_as_fed(alloc, session);
+        self.is_right &= self.last <= number && told <= number;
+        // It has the first batches, and what they leave.
+        self.is_right &= are_first(session.version());
+        self.is_right &= is_edge_at(edge_told(alloc, session), number);
         self.last = number;
     }
 }
@@ -320,38 +322,37 @@ fn fed_and_read<J: Naming + Send + Sync, R: Threads + Wait + Sync>(
     }
 }
 
-fn found_over<J: Naming + Send + Sync, R: Threads + Wait + Sync>(
-    rt: &R,
-    alloc: Global,
-    opened: Opened,
-) -> Option<Found>
-    requires { IsOpeningOf J.book J.opening opened }
-{
-    let (store, seats) = opened.named::<J>();
-    let found = match Shared::<J>::new(alloc) {
-        Ok(shared) => Some(fed_and_read(rt, alloc, &store, &shared, seats)),
-        Err(_) => None,
-    };
-    let _last = store.close(rt);
-    found
-}
-
-fn over_a_new_store<R: Threads + Wait + Sync>(rt: &R, alloc: Global) -> Option<Found> {
-    let config = Config::new(4, 256, READERS as usize).ok()?;
-    let opened = Store::open(rt, alloc, config).ok()?;
-    found_over::<Brand, R>(rt, alloc, opened)
-}
-
 /// While each reader held one of versions 29 to 32, eight batches were applied. The blocks that batches 33 to 39 made for `a`
 /// and 33 to 36 for the others were retired by then and came behind all that is held: these eleven are recycled, at least. Of
 /// each of the five sources a version held has a block that was retired.
-fn check_found<R: Abort>(rt: &R, found: &Found) {
-    assert!(rt; matches!(found.whole, Some((4, 4))) && !found.is_late);
-    assert!(rt; found.beside.recycled >= 11 && found.beside.retired >= 5);
+fn check_found(rt: &impl Abort, found: Found) {
+    check_so(rt, matches!(found.whole, Some((4, 4))), "four readings");
+    check_so(rt, !found.is_late, "no reader waited in vain");
+    check_so(rt, found.beside.recycled >= 11, "what was recycled");
+    check_so(rt, found.beside.retired >= 5, "what was held");
+}
+
+/// What four seats in threads find beside one feeder.
+pub(super) fn check_told_readers<J: Naming + Send + Sync, R: Threads + Wait + Sync + Abort>(
+    rt: &R,
+    alloc: Global,
+    store: &Store<J>,
+    seats: Vec<Seat>,
+)
+    requires { All (IsSeatOf J.book J.opening) seats.items }
+{
+    match Shared::<J>::new(alloc) {
+        Ok(shared) => check_found(rt, fed_and_read(rt, alloc, store, &shared, seats)),
+        Err(_) => check_so(rt, false, "room for receipts"),
+    }
 }
 
 #[test]
 fn four_told_readers(rt: HostRuntime) {
-    let found = over_a_new_store(&rt, rt.alloc()).expect(&rt, "four readings");
-    check_found(&rt, &found);
+    let size = (4, 256, READERS as usize);
+    check_so(
+        &rt,
+        is_story_told(&rt, rt.alloc(), size, Story::ToldReaders),
+        "an opening",
+    );
 }

@@ -3,23 +3,13 @@ ghost use Rattle.graph_version.specs.Sharing.{block_values};
 ghost use Rattle.graph_version.specs.Drafts.{ReplacesRow, IsWhole, drafted_over, with_batch};
 ghost use Rattle.graph_version.specs.Versions.{empty_version};
 
-use crate::texts::tell_refused;
+use crate::texts::{check_so, tell_refused};
 use edge_block::Block;
 use graph_types::{Batch, KindId, VertexId};
 use graph_version::{Version, VersionDraft};
 use std::alloc::{AllocError, Global};
 use std::process::Abort;
 use std::sync::Arc;
-
-// The version has so many batches, and no name, edge or block.
-fn assert_bare(rt: &impl Abort, version: &Version, number: u64) {
-    assert_eq!(rt; version.number(), number);
-    assert_eq!(rt; version.batches().count() as u64, number);
-    assert_eq!(rt; version.last_batch().is_some(), number > 0);
-    assert_eq!(rt; version.names().len(), 0);
-    assert_eq!(rt; version.kinds().len(), 0);
-    assert_edgeless(rt, version);
-}
 
 // The numbers of the first block and of the second.
 fn first_blocks(version: &Version) -> (Option<u32>, Option<u32>) {
@@ -33,13 +23,37 @@ fn first_edges(version: &Version, source: u32) -> (bool, bool) {
     (row.next().is_some(), row.next().is_some())
 }
 
-// The version has no edge or block.
-fn assert_edgeless(rt: &impl Abort, version: &Version) {
-    assert_eq!(rt; version.edge_count(), 0);
-    assert!(rt; version.edge(KindId(0), VertexId(0), VertexId(1)).is_none());
-    assert_eq!(rt; first_edges(version, 0), (false, false));
-    assert!(rt; version.row_blocks(VertexId(0)).is_empty());
-    assert_eq!(rt; first_blocks(version), (None, None));
+// The version's number, and how many batches, names, kinds and edges it has, and blocks of the first row.
+fn counts(version: &Version) -> [u64; 6] {
+    [
+        version.number(),
+        version.batches().count() as u64,
+        version.names().len() as u64,
+        version.kinds().len() as u64,
+        version.edge_count(),
+        version.row_blocks(VertexId(0)).len() as u64,
+    ]
+}
+
+// The version lends no edge and no block.
+fn lends_none(version: &Version) -> bool {
+    let has_edge = version.edge(KindId(0), VertexId(0), VertexId(1)).is_some();
+    !has_edge && first_edges(version, 0) == (false, false) && first_blocks(version) == (None, None)
+}
+
+// The version has so many batches, and no name, edge or block.
+fn check_bare(rt: &impl Abort, version: &Version, number: u64) {
+    check_so(
+        rt,
+        counts(version) == [number, number, 0, 0, 0, 0],
+        "counts",
+    );
+    check_so(
+        rt,
+        version.last_batch().is_some() == (number > 0),
+        "the last batch",
+    );
+    check_so(rt, lends_none(version), "nothing is lent");
 }
 
 // A granted block for source 0 and kind 0 with an edge of weight 5 to target 1.
@@ -107,29 +121,29 @@ fn put_and_taken_back(alloc: Global, before: &Version) -> Result<Version, AllocE
 }
 
 // The version was made, and the one before it is as it was.
-fn assert_made(rt: &impl Abort, before: &Version, after: &Version) {
-    assert_bare(rt, before, 0);
-    assert_bare(rt, after, 1);
+fn check_made(rt: &impl Abort, before: &Version, after: &Version) {
+    check_bare(rt, before, 0);
+    check_bare(rt, after, 1);
 }
 
 // The version is made where no growth is refused any more.
-fn assert_made_again(rt: &impl Abort, alloc: Global, before: &Version)
+fn check_made_again(rt: &impl Abort, alloc: Global, before: &Version)
     requires { before.now ≡ empty_version }
 {
     let after = put_and_taken_back(alloc, before).expect(rt, "one growth alone is refused");
-    assert_made(rt, before, &after);
+    check_made(rt, before, &after);
 }
 
 #[test]
 fn refused_drafts_leave_the_version(rt: HostRuntime) {
     let before = Version::empty(rt.alloc());
-    assert_bare(&rt, &before, 0);
+    check_bare(&rt, &before, 0);
     match put_and_taken_back(rt.alloc(), &before) {
-        Ok(after) => assert_made(&rt, &before, &after),
+        Ok(after) => check_made(&rt, &before, &after),
         Err(_) => {
             tell_refused(&rt);
-            assert_bare(&rt, &before, 0);
-            assert_made_again(&rt, rt.alloc(), &before);
+            check_bare(&rt, &before, 0);
+            check_made_again(&rt, rt.alloc(), &before);
         }
     }
 }

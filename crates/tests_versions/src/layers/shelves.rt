@@ -43,39 +43,6 @@ fn one_batch(alloc: Global) -> Result<Arc<Version>, AllocError>
     Ok(Arc::new(alloc, made_of_one(alloc)?)?)
 }
 
-// Posts the version of one batch; the first reader learns of it. Each reader enters before and after.
-fn numbers_entered<R: Wait>(
-    rt: &R,
-    alloc: Global,
-    writer: &mut ShelfWriter,
-    first: &mut ShelfReader,
-    second: &mut ShelfReader,
-) -> Result<[u64; 4], AllocError>
-    requires writer { writer.old ≡ opened_shelf writer.old.book empty_version }
-    requires first { first.old ≡ record { book = writer.old.book; version = empty_version } }
-    requires second { second.old ≡ record { book = writer.old.book; version = empty_version } }
-{
-    let before = [first.enter().number(), second.enter().number()];
-    let told = writer.post(rt, one_batch(alloc)?)?;
-    first.learn(&told)?;
-    let after = [first.enter().number(), second.enter().number()];
-    Ok([before[0], before[1], after[0], after[1]])
-}
-
-// The numbers entered over a new shelf, or nothing where a growth was refused.
-fn over_a_new_shelf<R: Wait>(rt: &R, alloc: Global) -> Option<[u64; 4]> {
-    let (mut writer, mut readers) = new_shelf(rt, alloc)?;
-    match readers.as_mut_slice() {
-        [first, second] => numbers_entered(rt, alloc, &mut writer, first, second).ok(),
-        _ => None,
-    }
-}
-
-#[test]
-fn shows_a_posted_version_to_each_reader(rt: HostRuntime) {
-    assert_eq!(rt; over_a_new_shelf(&rt, rt.alloc()), Some([0, 0, 1, 1]));
-}
-
 // The writer confirms what each reader has seen.
 fn confirm_both(writer: &mut ShelfWriter, first: &ShelfReader, second: &ShelfReader)
     requires first { first.now.book ≡ writer.old.book }
@@ -110,39 +77,43 @@ fn is_confirmed<R: Wait>(
     is_learnt
 }
 
-// The numbers of the versions that both readers have seen once the writer confirmed them.
-fn numbers_confirmed<R: Wait>(
+// Posts the version of one batch, of which the first reader learns, while the second looks. Each reader enters before, and the first
+// after; nothing where a growth was refused.
+fn numbers_entered<R: Wait>(
     rt: &R,
     alloc: Global,
     writer: &mut ShelfWriter,
     first: &mut ShelfReader,
     second: &mut ShelfReader,
-) -> Option<[u64; 2]>
+) -> Option<[u64; 4]>
     requires writer { writer.old ≡ opened_shelf writer.old.book empty_version }
     requires first { first.old ≡ record { book = writer.old.book; version = empty_version } }
     requires second { second.old ≡ record { book = writer.old.book; version = empty_version } }
 {
+    let before = [first.enter().number(), second.enter().number()];
     let Ok(version) = one_batch(alloc) else {
         return None;
     };
-    if is_confirmed(rt, writer, first, second, version) {
-        Some([first.newest().number(), second.newest().number()])
-    } else {
-        None
+    if !is_confirmed(rt, writer, first, second, version) {
+        return None;
     }
+    let after = [first.enter().number(), second.newest().number()];
+    Some([before[0], before[1], after[0], after[1]])
 }
 
-fn confirmed_over_a_new_shelf<R: Wait>(rt: &R, alloc: Global) -> Option<[u64; 2]> {
+// The numbers entered over a new shelf, or nothing where a growth was refused.
+fn over_a_new_shelf<R: Wait>(rt: &R, alloc: Global) -> Option<[u64; 4]> {
     let (mut writer, mut readers) = new_shelf(rt, alloc)?;
     match readers.as_mut_slice() {
-        [first, second] => numbers_confirmed(rt, alloc, &mut writer, first, second),
+        [first, second] => numbers_entered(rt, alloc, &mut writer, first, second),
         _ => None,
     }
 }
 
+// The writer confirms what readers have seen, too.
 #[test]
-fn a_writer_confirms_what_readers_have_seen(rt: HostRuntime) {
-    assert_eq!(rt; confirmed_over_a_new_shelf(&rt, rt.alloc()), Some([1, 1]));
+fn shows_a_posted_version_to_each_reader(rt: HostRuntime) {
+    assert_eq!(rt; over_a_new_shelf(&rt, rt.alloc()), Some([0, 0, 1, 1]));
 }
 
 // Whether the version of one batch was posted.

@@ -10,13 +10,11 @@ use std::alloc::{AllocError, Global};
 use std::io::Print;
 use std::process::Abort;
 
-fn arc(word: &str) -> Option<(u32, u32)> {
-    let (source, target) = word.split_once('>')?;
-    Some((source.parse().ok()?, target.parse().ok()?))
-}
-
+/// Puts the arc of a word.
 fn push_arc(arcs: &mut Vec<(u32, u32)>, word: &str) -> Option<()> {
-    arcs.push(arc(word)?).ok()
+    let (source, target) = word.split_once('>')?;
+    let source: u32 = source.parse().ok()?;
+    arcs.push((source, target.parse().ok()?)).ok()
 }
 
 /// The view of a text: how many vertices, a colon, and the arcs, with blanks between them. Nothing where memory is refused.
@@ -99,19 +97,11 @@ fn has_table(alloc: Global, edges: &ListedArcs, what: &str, wanted: &str) -> Opt
     Some(text.as_str() == wanted)
 }
 
-/// Whether the view of a text has a table, nothing where memory is refused; and whether it is as it was then. Nothing where there
-/// was no memory for the view.
-fn told_of(alloc: Global, view: &str, what: &str, wanted: &str) -> Option<(Option<bool>, bool)> {
-    let edges = view_of(alloc, view)?;
-    let told = has_table(alloc, &edges, what, wanted);
-    let before = view_of(alloc, view)?;
-    Some((told, edges.arcs.as_slice() == before.arcs.as_slice()))
-}
-
-fn told_of_line(alloc: Global, line: &str) -> Option<(Option<bool>, bool)> {
+/// Whether the view of a line has its table; nothing where memory is refused.
+fn told_of_line(alloc: Global, line: &str) -> Option<bool> {
     let (what, rest) = line.split_once(" of ")?;
     let (view, wanted) = rest.split_once(" =>")?;
-    told_of(alloc, view, what, wanted.trim_start())
+    has_table(alloc, &view_of(alloc, view)?, what, wanted.trim_start())
 }
 
 /// A triangle with a tail, from its corner and from the tail's end; levels go by direction, and labels against it too; loops, and
@@ -160,8 +150,7 @@ cores of 34: 0>1 0>2 0>3 0>4 0>5 0>6 0>7 0>8 0>10 0>11 0>12 0>13 0>17 0>19 0>21 
     => 4,4,4,4,3,3,3,4,4,2,3,1,2,4,2,2,2,2,2,3,2,2,2,3,3,3,2,3,3,3,4,3,4,4,";
 
 fn check_line(rt: &impl Abort, alloc: Global, line: &str) {
-    let told = told_of_line(alloc, line);
-    check_so(rt, matches!(told, Some((Some(true), true))), line);
+    check_so(rt, told_of_line(alloc, line) == Some(true), line);
 }
 
 #[test]
@@ -172,12 +161,11 @@ fn small_views_have_their_tables(rt: HostRuntime) {
     check_line(&rt, rt.alloc(), CLUB);
 }
 
-/// The table is right and the view as it was, or memory was refused.
-fn check_told(rt: &(impl Abort + Print), told: Option<(Option<bool>, bool)>, line: &str) {
-    let (is_so, is_left) = told.unwrap_or((None, true));
-    check_so(rt, is_left && is_so.unwrap_or(true), line);
-    if is_so.is_none() {
-        tell_refused(rt);
+/// The table is right, or memory was refused.
+fn check_told(rt: &(impl Abort + Print), told: Option<bool>, line: &str) {
+    match told {
+        Some(is_so) => check_so(rt, is_so, line),
+        None => tell_refused(rt),
     }
 }
 
@@ -188,37 +176,8 @@ cores of 4: 0>1 1>2 2>0 2>3 => 2,2,2,1,
 targets 2 of 4: 0>1 1>2 2>0 2>3 => 4:0,3,";
 
 #[test]
-fn refused_tables_leave_the_view(rt: HostRuntime) {
+fn refused_tables_are_right_or_none(rt: HostRuntime) {
     for line in REFUSED.lines() {
         check_told(&rt, told_of_line(rt.alloc(), line), line);
     }
-}
-
-/// A path of so many vertices, from the last down to the first.
-fn path(alloc: Global, count: u16) -> Result<ListedArcs, AllocError> {
-    let mut arcs = Vec::new(alloc);
-    for vertex in 1..count {
-        arcs.push((vertex as u32, vertex as u32 - 1))?;
-    }
-    Ok(ListedArcs { count, arcs })
-}
-
-/// The greatest level from the last vertex of a path, and the greatest label; nothing where memory is refused.
-fn path_ends(alloc: Global, count: u16) -> Option<(Option<u32>, Option<u32>)> {
-    let edges = path(alloc, count).ok()?;
-    let last = (count as u32).checked_sub(1)?;
-    if last >= edges.count as u32 {
-        return None;
-    }
-    let far = {
-        let table = levels_over(alloc, &edges, VertexId(last)).ok()?;
-        table.first().copied()?
-    };
-    let least = labels_over(alloc, &edges).ok()?;
-    Some((far, least.last().copied()))
-}
-
-#[test]
-fn a_long_path_is_one_part(rt: HostRuntime) {
-    assert_eq!(rt; path_ends(rt.alloc(), 3000), Some((Some(2999), Some(0))));
 }

@@ -1,15 +1,14 @@
-// Texts of lines, each done in turn from the version without batches. `OPERATIONS => TOLD` is a batch, with what is told of it;
-// `? REQUEST => ANSWER` is a request; `rebase` begins anew with what the version holds.
+// Texts of lines, each done in turn from the version without batches, and so again behind an empty line. `OPERATIONS => TOLD` is
+// a batch, with what is told of it; `rebase` begins anew with what the version holds.
 
 ghost use Rattle.std.specs.Prelude.{◌<◌};
 ghost use Rattle.graph_types.specs.Graph.{IsContent};
 
-use super::answers::{check_answer, check_answers};
 use super::rebased::begun_anew;
 use super::sames::{check_same, write_row};
-use super::steps::{empty, next};
+use super::steps::{applied, check_plain, empty};
 use crate::texts::{check_text, push_item, write_outcome};
-use batch_apply::Applied;
+use batch_apply::{Applied, PassAll};
 use graph_types::{Content, Outcome, VertexId};
 use graph_version::Version;
 use std::alloc::{AllocError, Global};
@@ -47,18 +46,16 @@ fn check_told(rt: &impl Abort, alloc: Global, next: &Applied, wanted: &str, line
 }
 
 // The version before a batch is as it was, with this content, and the next one begins with what it began with.
-fn check_before(rt: &impl Abort, alloc: Global, version: &Version, before: &Content, next: &Version)
-    requires { IsContent before.now }
-{
+fn check_before(rt: &impl Abort, version: &Version, before: &Content, next: &Version) {
     check_same(rt, version, before);
-    check_answers(rt, alloc, version, before);
     assert_eq!(rt; Some(next.number()), version.number().checked_add(1));
     if version.number() == 0 {
         check_same(rt, version, next.opening());
     }
 }
 
-// The version after the batch of a line, from a version with the content before.
+// The version after the batch of a line, from a version with the content before. It has what the plain application leaves of the
+// content, and the same outcomes.
 fn check_batch<R: Threads + Sync + Abort>(
     rt: &R,
     alloc: Global,
@@ -69,18 +66,19 @@ fn check_batch<R: Threads + Sync + Abort>(
     line: &str,
 ) -> Version
     requires workers { 0 < workers }
-    requires before { IsContent before.now }
     requires content { IsContent content.old }
     ensures { IsContent content.new }
 {
     let (ops, wanted) = line.split_once(" => ").expect(rt, "a batch");
-    let next = next(rt, alloc, workers, version, content, ops);
+    let next = applied(rt, alloc, &PassAll, workers, version, ops).expect(rt, "the next version");
+    check_plain(rt, alloc, content, ops, next.outcomes.as_slice());
+    check_same(rt, &next.version, content);
     check_told(rt, alloc, &next, wanted, line);
-    check_before(rt, alloc, version, before, &next.version);
+    check_before(rt, version, before, &next.version);
     next.version
 }
 
-/// The version after a line that is no request.
+/// The version after a line.
 pub(super) fn stepped<R: Threads + Sync + Abort>(
     rt: &R,
     alloc: Global,
@@ -100,38 +98,23 @@ pub(super) fn stepped<R: Threads + Sync + Abort>(
     check_batch(rt, alloc, workers, version, &before, content, line)
 }
 
-fn check_lines<R: Threads + Sync + Abort>(rt: &R, alloc: Global, workers: usize, lines: &str)
+/// The lines of a text.
+pub(super) fn check_lines<R: Threads + Sync + Abort>(
+    rt: &R,
+    alloc: Global,
+    workers: usize,
+    text: &str,
+)
     requires { 0 < workers }
 {
     let mut version = Version::empty(alloc);
     let mut content = empty(alloc);
-    for line in lines.lines() {
-        match line.strip_prefix("? ") {
-            Some(asked) => check_answer(rt, alloc, &version, &content, asked),
-            None => version = stepped(rt, alloc, workers, &version, &mut content, line),
+    for line in text.lines() {
+        if line.is_empty() {
+            version = Version::empty(alloc);
+            content = empty(alloc);
+        } else {
+            version = stepped(rt, alloc, workers, &version, &mut content, line);
         }
     }
-    check_answers(rt, alloc, &version, &content);
-}
-
-/// The texts between empty lines, each from the version without batches.
-pub(super) fn check_texts<R: Threads + Sync + Abort>(
-    rt: &R,
-    alloc: Global,
-    workers: usize,
-    texts: &str,
-)
-    requires { 0 < workers }
-{
-    for lines in texts.split("\n\n") {
-        check_lines(rt, alloc, workers, lines);
-    }
-}
-
-/// The same by each number of workers.
-pub(super) fn check<R: Threads + Sync + Abort>(rt: &R, alloc: Global, texts: &str) {
-    check_texts(rt, alloc, 1, texts);
-    check_texts(rt, alloc, 2, texts);
-    check_texts(rt, alloc, 4, texts);
-    check_texts(rt, alloc, 8, texts);
 }

@@ -1,29 +1,16 @@
-// Batches and requests from text.
+// Batches from text.
 
 use crate::texts::push_item;
 use feed_csv::{Command, Feed};
-use graph_types::{Batch, Request};
+use graph_types::Batch;
 use std::alloc::{AllocError, Global};
 
-// A feed's next command; nothing where memory is refused.
-fn next_of(feed: &mut Feed<&[u8]>) -> Option<Command> {
-    match feed.next() {
+// The command of a record of a script; nothing where memory is refused.
+fn command_of(alloc: Global, record: &str) -> Option<Command> {
+    let told = Feed::over(alloc, record.as_bytes()).next();
+    match told {
         Ok(command) => command,
         Err(_) => None,
-    }
-}
-
-// The command of a record of a script.
-fn command_of(alloc: Global, record: &str) -> Option<Command> {
-    let mut feed = Feed::over(alloc, record.as_bytes());
-    next_of(&mut feed)
-}
-
-/// The request of a record of a script, to any slot.
-pub(super) fn request_of(alloc: Global, record: &str) -> Option<Request> {
-    match command_of(alloc, record)? {
-        Command::Query(_, request) => Some(request),
-        _ => None,
     }
 }
 

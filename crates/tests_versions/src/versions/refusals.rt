@@ -1,17 +1,17 @@
-// Want of memory: a version stays as it is where the next one isn't made, nor a copy of it, and where it has no answer.
+// Want of memory: a version stays as it is where the next one isn't made, nor a copy of it; it answers of one edge all the same.
 
-use super::answers::asked;
 use super::rebased::rebased;
 use super::sames::has_edge;
 use super::steps::{applied, first};
 use crate::texts::{check_so, tell_refused};
 use batch_apply::{Applied, PassAll};
-use graph_types::{Edge, KindId, Outcome, VertexId};
+use graph_types::{AskError, Edge, KindId, Outcome, Reply, Request, VertexId};
 use graph_version::Version;
 use std::alloc::Global;
 use std::io::Print;
 use std::process::Abort;
 use std::thread::Threads;
+use version_answers::answer;
 
 // The edge from the first vertex to the second, with this weight and recent time.
 fn edge(weight: i64, recent: u64) -> Edge {
@@ -34,11 +34,18 @@ fn check_told(
     kinds: usize,
     edge: &Edge,
 ) {
-    assert_eq!(rt; version.number(), number);
-    assert_eq!(rt; version.names().len(), names);
-    assert_eq!(rt; version.kinds().len(), kinds);
-    assert_eq!(rt; version.edge_count(), 2);
-    assert!(rt; has_edge(version, edge));
+    let found = (
+        version.number(),
+        version.names().len(),
+        version.kinds().len(),
+    );
+    check_so(
+        rt,
+        found == (number, names, kinds),
+        "number, names and kinds",
+    );
+    check_so(rt, version.edge_count() == 2, "two edges");
+    check_so(rt, has_edge(version, edge), "the edge");
 }
 
 const FIRST: &str = "i,k,a,b,5,10 i,k,b,c,2,11";
@@ -50,11 +57,11 @@ fn check_first(rt: &impl Abort, version: &Version) {
 
 fn check_second(rt: &impl Abort, next: &Applied) {
     check_told(rt, &next.version, 2, 4, 2, &edge(7, 12));
-    assert!(rt;
-        matches!(
-            next.outcomes.as_slice(),
-            [Outcome::Updated, Outcome::Removed, Outcome::Inserted]
-        )
+    let wanted = [Outcome::Updated, Outcome::Removed, Outcome::Inserted];
+    check_so(
+        rt,
+        next.outcomes.as_slice() == wanted.as_slice(),
+        "the outcomes",
     );
 }
 
@@ -77,46 +84,23 @@ fn check_rebased(rt: &(impl Abort + Print), alloc: Global, version: &Version) {
     check_first(rt, version);
 }
 
-const ANSWERS: &str = "bfs,0,a,k,0,99 => a 0,b 1,c 2,
-comp,0,k,0,99 => a a,b a,c a,
-core,0,k,0,99 => a 1,b 1,c 1,
-deg,0,k,0,99 => a 1 0 5,b 1 1 2,c 0 1 0,
-edge,0,k,a,b => 5 10 10";
-
-fn is_told(told: &str, wanted: &str) -> Option<bool> {
-    if told == "OutOfMemory" {
-        return None;
-    }
-    Some(told == wanted)
+fn check_reply(rt: &impl Abort, told: &Result<Reply, AskError>) {
+    let is_so = matches!(told, Ok(Reply::OneEdge(Some((5, 10, 10)))));
+    check_so(rt, is_so, "the edge");
 }
 
-// Whether the version has the answer of a line; nothing where memory is refused.
-fn has_answer(alloc: Global, version: &Version, line: &str) -> Option<bool> {
-    let (text, wanted) = line.split_once(" => ")?;
-    match asked(alloc, version, text) {
-        Some(told) => is_told(told.as_str(), wanted),
-        None => None,
+// The version answers of the edge, whatever memory is refused for its answer.
+fn check_answer(rt: &(impl Abort + Print), alloc: Global, version: &Version) {
+    match Request::one_edge(alloc, "k", "a", "b") {
+        Ok(request) => check_reply(rt, &answer(alloc, version, &request)),
+        Err(_) => tell_refused(rt),
     }
-}
-
-// The version has the answer of a line; where memory was refused, it has once no more is refused.
-fn check_answer(rt: &(impl Abort + Print), alloc: Global, version: &Version, line: &str) {
-    let mut is_so = has_answer(alloc, version, line);
-    if is_so.is_none() {
-        tell_refused(rt);
-        check_first(rt, version);
-        is_so = has_answer(alloc, version, line);
-    }
-    check_so(rt, matches!(is_so, Some(true)), line);
-    check_first(rt, version);
 }
 
 fn check_calls<R: Threads + Sync + Abort + Print>(rt: &R, alloc: Global, version: &Version) {
     check_next(rt, alloc, version);
     check_rebased(rt, alloc, version);
-    for line in ANSWERS.lines() {
-        check_answer(rt, alloc, version, line);
-    }
+    check_answer(rt, alloc, version);
 }
 
 #[test]

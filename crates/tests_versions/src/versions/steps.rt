@@ -8,9 +8,8 @@ ghost use Rattle.graph_version.specs.Versions.{content, is_in};
 ghost use Rattle.graph_types.specs.Graph.{IsContent};
 
 use super::ops::batch_of;
-use super::sames::check_same;
 use crate::blocks::fresh_blocks;
-use batch_apply::{Applied, Gate, PassAll, Plan, PlanError, apply, plan};
+use batch_apply::{Applied, Gate, Plan, PlanError, apply, plan};
 use edge_block::Block;
 use graph_model::plain_apply;
 use graph_types::{Batch, Content, List, Outcome};
@@ -125,29 +124,17 @@ fn plain(alloc: Global, content: &mut Content, ops: &str) -> Option<Vec<Outcome>
     }
 }
 
-fn check_plain(rt: &impl Abort, alloc: Global, content: &mut Content, ops: &str, told: &[Outcome])
+/// Operations leave this content by the plain application, too, and have these outcomes.
+pub(super) fn check_plain(
+    rt: &impl Abort,
+    alloc: Global,
+    content: &mut Content,
+    ops: &str,
+    told: &[Outcome],
+)
     requires { IsContent content.old }
     ensures { IsContent content.new }
 {
     let outcomes = plain(alloc, content, ops).expect(rt, "the plain application");
     assert_eq!(rt; outcomes.as_slice(), told);
-}
-
-/// The version after operations, which has what the plain application leaves of the content, and the same outcomes.
-pub(super) fn next<R: Threads + Sync + Abort>(
-    rt: &R,
-    alloc: Global,
-    workers: usize,
-    version: &Version,
-    content: &mut Content,
-    ops: &str,
-) -> Applied
-    requires workers { 0 < workers }
-    requires content { IsContent content.old }
-    ensures { IsContent content.new }
-{
-    let next = applied(rt, alloc, &PassAll, workers, version, ops).expect(rt, "the next version");
-    check_plain(rt, alloc, content, ops, next.outcomes.as_slice());
-    check_same(rt, &next.version, content);
-    next
 }

@@ -1,4 +1,4 @@
-use Rattle.tests_store.proofs.tests.players.check_opened.Given as goal
+use Rattle.tests_store.proofs.tests.stories.is_told.Given as goal
 
 -- the store is of the opening that was just made
 abbrev pub ghosts-check_named : goal.ghosts-check_named

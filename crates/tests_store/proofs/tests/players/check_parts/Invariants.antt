@@ -1,4 +1,4 @@
-use Rattle.tests_store.proofs.tests.players.check_over.Given as goal
+use Rattle.tests_store.proofs.tests.players.check_parts.Given as goal
 
 -- the store is of the opening of the desk
 abbrev pub ghosts-check_shared : goal.ghosts-check_shared

@@ -1,5 +1,0 @@
-use Rattle.tests_store.proofs.tests.handed.over_a_new_store.Given as goal
-
--- the store is of the opening that was just made
-abbrev pub ghosts-over_an_opening : goal.ghosts-over_an_opening
-ghosts-over_an_opening g a = record { book = a.opened.desk.book; opening = a.opened.desk.desk.last.opening }

@@ -1,0 +1,81 @@
+// Stories over a store that one call opens and another puts under a name. One function tells them all, so that the opening, the
+// name and the end are proved once.
+
+ghost use Rattle.std.specs.Prelude.{All};
+ghost use Rattle.stream_store.specs.Opened.{IsOpeningOf};
+ghost use Rattle.stream_store.specs.Stores.{IsSeatOf};
+
+use super::learnt::{check_learnt, check_learnt_later};
+use super::threads::check_beside;
+use super::told_readers::check_told_readers;
+use std::alloc::Global;
+use std::io::Print;
+use std::marker::Brand;
+use std::process::Abort;
+use std::sync::Wait;
+use std::thread::Threads;
+use stream_store::{Config, Naming, Opened, Seat, Store};
+
+#[derive(Clone, Copy)]
+pub(super) enum Story {
+    /// A seat learns of a batch, and lets what that left go behind the next one.
+    Learnt,
+    /// A seat learns of a batch, where a growth may be refused.
+    LearntLater,
+    /// A reader looks on beside a batch that is held.
+    Beside,
+    /// Four readers are handed the receipts of a feeder.
+    ToldReaders,
+}
+
+/// Tells a story of one seat, or of all.
+fn check_seats<J: Naming + Send + Sync, R: Threads + Wait + Sync + Abort + Print>(
+    rt: &R,
+    alloc: Global,
+    store: &Store<J>,
+    mut seats: Vec<Seat>,
+    story: Story,
+)
+    requires { All (IsSeatOf J.book J.opening) seats.items }
+{
+    if matches!(story, Story::ToldReaders) {
+        return check_told_readers(rt, alloc, store, seats);
+    }
+    let seat = seats.pop().expect(rt, "a seat");
+    match story {
+        Story::Learnt => check_learnt(rt, alloc, store, seat),
+        Story::LearntLater => check_learnt_later(rt, alloc, store, seat),
+        _ => check_beside(rt, alloc, store, seat),
+    }
+}
+
+/// Tells a story over the store of an opening, which takes this name, to its end.
+fn check_named<J: Naming + Send + Sync, R: Threads + Wait + Sync + Abort + Print>(
+    rt: &R,
+    alloc: Global,
+    opened: Opened,
+    story: Story,
+)
+    requires { IsOpeningOf J.book J.opening opened }
+{
+    let (store, seats) = opened.named::<J>();
+    check_seats(rt, alloc, &store, seats, story);
+    let _last = store.close(rt);
+}
+
+/// Tells a story over a new store of so many workers, blocks and seats; whether it opened.
+pub(super) fn is_told<R: Threads + Wait + Sync + Abort + Print>(
+    rt: &R,
+    alloc: Global,
+    size: (usize, u32, usize),
+    story: Story,
+) -> bool {
+    let config = Config::new(size.0, size.1, size.2).expect(rt, "within the limits");
+    match Store::open(rt, alloc, config) {
+        Ok(opened) => {
+            check_named::<Brand, R>(rt, alloc, opened, story);
+            true
+        }
+        Err(_) => false,
+    }
+}
