@@ -1,5 +1,5 @@
 -- What names keep as more appear.
-use Rattle.std.proofs.Common.{drop, ◌≡◌, ℕ, ◌+◌, ◌≤◌, Bool, true, false, cond, not, ◌||◌, List, [], ◌∷◌, ◌++◌}
+use Rattle.std.proofs.Common.{drop, ◌≡◌, ℕ, ◌+◌, ◌<◌, ◌≤◌, Bool, true, false, cond, not, ◌||◌, List, [], ◌∷◌, ◌++◌}
 use Rattle.std.proofs.Common.{length, IsTrue, Option, Some, None, Result, Ok, Err, subst, refl, sym, ap, ◌∙◌, arith, true≢false}
 use Rattle.std.proofs.{Common.if◌then◌else◌, lemmas.Slice.Eq.bytes_eq-Decides}
 use Rattle.std.specs.{Result.IsErrAnd, Result.IfErr, Str.bytes_eq}
@@ -9,7 +9,9 @@ use Rattle.edge_block.specs.Operations.{names_after, kinds_after}
 use Rattle.graph_types.specs.declared.batches.NamedOp.TheVariants.{Insert, Incr, Remove, Expire}
 use Rattle.vertex_names.specs.Book.{Book}
 use Rattle.vertex_names.specs.declared.book.AddError.{AddError, TheVariants.NamesFull, TheVariants.OutOfMemory}
-use Rattle.batch_apply.specs.{declared.resolve.Ends.Ends, Plan.known, Plan.names_all, Plan.kinds_all, Plan.IsRefusal}
+use Rattle.batch_apply.specs.{declared.resolve.Ends.Ends, declared.plans.PlanError.PlanError, Plan.known, Plan.names_all}
+use Rattle.batch_apply.specs.{Plan.kinds_all, Plan.IsRefusal, Plan.IsUnplanned}
+use Rattle.batch_apply.specs.declared.plans.PlanError.TheVariants as full
 
 -- a listed name is listed among more, with its number
 listed_next : (name x : List ℕ) (names more : List (List ℕ)) (found : Bool)
@@ -103,16 +105,38 @@ no_fewer_kinds_all [] kinds = omega arith
 no_fewer_kinds_all (op ∷ ops) kinds = let a = no_fewer_kinds op kinds in
     let b = no_fewer_kinds_all ops (kinds_after op kinds) in omega arith
 
--- a refusal of one operation's kind is one of them all
-pub refused_kinds : (error : AddError) (old book : Book) (ops : List NamedOp) (k : ℕ) (op : NamedOp) → drop k ops ≡ op
-    ∷ drop (k + 1) ops → kinds_all (drop k ops) book.names ≡ kinds_all ops old.names → book.limit ≡ old.limit
-    → IsRefusal error book (kinds_after op book.names) → IsRefusal error old (kinds_all ops old.names)
-refused_kinds NamesFull old book ops k op step same limit refused =
-    let later = no_fewer_kinds_all (drop (k + 1) ops) (kinds_after op book.names) in
-    let all : length (kinds_all (drop (k + 1) ops) (kinds_after op book.names)) ≡ length (kinds_all ops old.names) =
-    ap (λ l. length (kinds_all l book.names)) (sym step) ∙ ap length same in
-    omega (arith, later, all, limit, refused)
-refused_kinds OutOfMemory old book ops k op step same limit refused = tt
+-- a refusal of one operation's kind is one of it and those behind it
+pub kinds_refused : (op : NamedOp) (behind : List NamedOp) (kinds : Book) → kinds.limit < length (kinds_after op kinds.names)
+    → kinds.limit < length (kinds_all (op ∷ behind) kinds.names)
+kinds_refused op behind kinds refused =
+    let later = no_fewer_kinds_all behind (kinds_after op kinds.names) in omega (arith, later, refused)
+
+-- and so is one of its names
+pub names_refused : (error : AddError) (op : NamedOp) (behind : List NamedOp) (names : Book)
+    → IsRefusal error names (names_after op names.names) → IsRefusal error names (names_all (op ∷ behind) names.names)
+names_refused NamesFull op behind names refused =
+    let later = no_fewer_all behind (names_after op names.names) in omega (arith, later, refused)
+names_refused OutOfMemory op behind names refused = tt
+
+-- what refuses an operation and those behind it refuses them all
+pub refused_from : (error : PlanError) (ops : List NamedOp) (k : ℕ) (op : NamedOp) (names old_names kinds old_kinds : Book)
+    → drop k ops ≡ op ∷ drop (k + 1) ops → names_all (drop k ops) names.names ≡ names_all ops old_names.names
+    → kinds_all (drop k ops) kinds.names ≡ kinds_all ops old_kinds.names → names.limit ≡ old_names.limit
+    → kinds.limit ≡ old_kinds.limit → IsUnplanned error (op ∷ drop (k + 1) ops) names kinds
+    → IsUnplanned error ops old_names old_kinds
+refused_from full.NamesFull ops k op names old_names kinds old_kinds step same_names same_kinds limit few refused =
+    let all : length (names_all (op ∷ drop (k + 1) ops) names.names) ≡ length (names_all ops old_names.names) =
+    ap (λ l. length (names_all l names.names)) (sym step) ∙ ap length same_names in
+    omega (arith, all, limit, refused)
+refused_from full.KindsFull ops k op names old_names kinds old_kinds step same_names same_kinds limit few refused =
+    let all : length (names_all (op ∷ drop (k + 1) ops) names.names) ≡ length (names_all ops old_names.names) =
+    ap (λ l. length (names_all l names.names)) (sym step) ∙ ap length same_names in
+    let all_kinds : length (kinds_all (op ∷ drop (k + 1) ops) kinds.names) ≡ length (kinds_all ops old_kinds.names) =
+    ap (λ l. length (kinds_all l kinds.names)) (sym step) ∙ ap length same_kinds in
+    let few_names = refused.1 in
+    let many_kinds = refused.0 in
+    (omega (arith, all_kinds, few, many_kinds), omega (arith, all, limit, few_names))
+refused_from full.OutOfMemory ops k op names old_names kinds old_kinds step same_names same_kinds limit few refused = tt
 
 -- an error that was passed on
 pub err_then : {T E : Type 0} (r : Result T E) (P : E → Type 0) (e : E) → IsErrAnd r (λ x. x ≡ e) → P e → IfErr r P

@@ -16,12 +16,12 @@ use Rattle.batch_shards.specs.Done.{IsShardDone, sources_in, steps_in, rows_by, 
 use Rattle.batch_shards.specs.declared.shard.{ShardDone.ShardDone, Place.Place}
 use Rattle.batch_shards.{specs.Closing.row_values, proofs.Places.count_by-append}
 use Rattle.graph_version.specs.Versions.{is_in}
-use Rattle.batch_apply.specs.{Shards.acts, Shards.unsourced, Shards.latest, Shards.is_old_row, Shards.IsShardOf, Plan.ends_all}
+use Rattle.batch_apply.specs.{Shards.acts, Shards.unsourced, Shards.latest, Shards.is_old_row, Shards.IsShardOf}
 use Rattle.batch_apply.specs.{Plans.results, Plans.told, Sums.ArePlanned}
 use Rattle.batch_apply.proofs.Spared.{Spares, KeepsOff, rows_spared, over_all, all_spare, off_all}
 use Rattle.batch_apply.proofs.Totals.{sum_all, worker_rows, none_taken, none_dropped, same_outcomes}
 use Rattle.batch_apply.proofs.{Kept.some_times, Placed.times, Merge.same_ops, Merge.shard_places, Merge.kept_all}
-use Rattle.batch_apply.proofs.{Resolving.placed_in, Resolving.resolved_is, Sources.sources_within}
+use Rattle.batch_apply.proofs.{Resolving.placed_in, Sources.sources_within}
 use Rattle.edge_block.specs.Slots.{BlockView}
 use Rattle.edge_block.proofs.Counts.{count_more}
 
@@ -189,7 +189,7 @@ module _ (workers : ℕ) (ops : List NamedOp) (g : Graph) (layout : ℕ → List
         let few = s.1.1 m in
         let nowhere : times m (sources_in s.0) ≡ 0 = omega arith in
         all_spare m rs (layout m) (no_old (m % workers) m s.0 s.1.0 refl nowhere)
-        (off_all workers m rs (placed_in rs (ends_all ops g.names) ops g.kinds (sym (resolved_is ops g.names g.kinds)))
+        (off_all workers m rs (placed_in rs ops g.names g.kinds refl)
         (unlisted (m % workers) m s.0 s.1.0 nowhere))
 
     -- it has the row that it had, with the births that it had

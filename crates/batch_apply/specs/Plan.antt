@@ -15,8 +15,6 @@ use Rattle.edge_block.specs.Batches.{Resolved, AtKey, InAll, is_known}
 use Rattle.batch_apply.specs.declared.plans.PlanError.{PlanError}
 use Rattle.batch_apply.specs.declared.plans.PlanError.TheVariants as plan
 use Rattle.batch_apply.specs.declared.resolve.Ends.{Ends}
-use Rattle.batch_apply.specs.declared.resolve.EndsList.{EndsList}
-use Rattle.batch_apply.specs.declared.resolve.EndsList.TheVariants.{One, Many}
 use Rattle.batch_apply.specs.declared.resolve.EdgeKey.{EdgeKey}
 use Rattle.batch_apply.specs.declared.resolve.ResolvedOp.{ResolvedOp}
 use Rattle.batch_apply.specs.declared.resolve.ResolvedOp.TheVariants.{Edge, Expire}
@@ -47,16 +45,6 @@ abbrev pub kinds_all : List NamedOp → List (List ℕ) → List (List ℕ)
 kinds_all [] kinds = kinds
 kinds_all (op ∷ ops) kinds = kinds_all ops (kinds_after op kinds)
 
--- the ends of operations, each by the names at its place
-abbrev pub ends_all : List NamedOp → List (List ℕ) → List Ends
-ends_all [] names = []
-ends_all (op ∷ ops) names = ends_in (names_after op names) op ∷ ends_all ops (names_after op names)
-
--- the ends in a list
-abbrev pub ends_listed : EndsList → List Ends
-ends_listed (One ends) = ends ∷ []
-ends_listed (Many ends) = ends.items
-
 -- the key of three numbers, if all of them are known
 abbrev pub key_from : Option ℕ → Option ℕ → Option ℕ → Option Key
 key_from (Some kind) (Some source) (Some target) = Some (record { kind = kind; source = source; target = target })
@@ -67,11 +55,6 @@ abbrev pub with_kind : List (List ℕ) → Ends → Parts → Resolved
 with_kind kinds ends (OfEdge change kind source target) =
     AtKey ends.source (key_from (known kinds kind) ends.source ends.target) change
 with_kind kinds ends (OfAll time) = InAll time
-
-abbrev pub with_kinds : List Ends → List NamedOp → List (List ℕ) → List Resolved
-with_kinds (e ∷ ends) (op ∷ ops) kinds =
-    with_kind (kinds_after op kinds) e (parts_of op) ∷ with_kinds ends ops (kinds_after op kinds)
-with_kinds _ _ kinds = []
 
 -- the key and the operation that the program's values show
 abbrev pub key_of : EdgeKey → Key

@@ -1,8 +1,8 @@
 //! A batch on its way to the next version: its plan, and the work on it by workers.
 //!
-//! [`plan`] resolves names to numbers, in two passes, the vertex names first, so that too many kinds are met only where every
-//! vertex name fits, as in the batch rule; and it gives each worker the operations of its sources. [`apply`] has all workers do
-//! theirs at once, and puts together what they leave.
+//! [`plan`] resolves names to numbers, operation by operation; where a kind doesn't fit, it adds the vertex names of the others
+//! still, so that too many kinds are told only where every vertex name fits, as in the batch rule. It gives each worker the
+//! operations of its sources. [`apply`] has all workers do theirs at once, and puts together what they leave.
 #![tactic(auto)]
 
 mod applied;

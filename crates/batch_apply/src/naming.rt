@@ -6,15 +6,16 @@ ghost use Rattle.edge_block.specs.Batches.{resolved, IsPlaced};
 ghost use Rattle.batch_apply.specs.Plan.{names_all, kinds_all, shown, with_names, Fits, IsInRange, IsUnplanned};
 
 use crate::plans::PlanError;
-use crate::resolve::{ResolvedOp, ends_of, with_kinds};
+use crate::resolve::{ResolvedOp, resolve_op};
 use graph_types::NamedOp;
 use std::alloc::Global;
-use vertex_names::{AddError, NameBook};
+use vertex_names::NameBook;
 
 /// A batch's operations with the numbers of their names, each by the names at its place; the books then have the names
 /// that the batch leaves, and are within their limits as they were before.
 ///
 /// `NamesFull` comes before `KindsFull`. After an error the books have some of the batch's names.
+#[tactic(auto, using(crate::proofs::Resolving::placed_in))]
 pub fn resolve_batch(
     alloc: Global,
     names: &mut NameBook,
@@ -32,14 +33,12 @@ pub fn resolve_batch(
     ensures within { OnOk result (Fits names.new × Fits kinds.new) }
     ensures refused { IfErr result (λ error. IsUnplanned error ops.now names.old kinds.old) }
 {
-    let ends = match ends_of(alloc, names, ops) {
-        Ok(ends) => ends,
-        Err(AddError::NamesFull) => return Err(PlanError::NamesFull),
-        Err(AddError::OutOfMemory) => return Err(PlanError::OutOfMemory),
-    };
-    match with_kinds(alloc, kinds, ops, ends.as_slice()) {
-        Ok(resolved) => Ok(resolved),
-        Err(AddError::NamesFull) => Err(PlanError::KindsFull),
-        Err(AddError::OutOfMemory) => Err(PlanError::OutOfMemory),
+    let mut found = Vec::with_capacity(alloc, ops.len())?;
+    for k in 0..ops.len() {
+        let op = resolve_op(names, kinds, &ops[k], &ops[k + 1..])?;
+        let Ok(()) = found.push(op) else {
+            return Err(PlanError::OutOfMemory);
+        };
     }
+    Ok(found)
 }

@@ -1,18 +1,19 @@
 //! The numbers of a batch's names, each operation by the names at its place.
 
-ghost use Rattle.std.specs.Prelude.{◌≡◌, ◌≤◌, ◌<◌, ℕ, List, [], length, map, IfOk, IfErr, OnOk, IsTrue, All};
+ghost use Rattle.std.specs.Prelude.{◌≡◌, ◌≤◌, ◌<◌, ◌∷◌, ℕ, List, [], length, IfOk, IfErr, OnOk, IsTrue, All};
 ghost use Rattle.graph_types.specs.Step.{with_name};
-ghost use Rattle.edge_block.specs.Batches.{AtKey};
+ghost use Rattle.edge_block.specs.Batches.{AtKey, resolve};
+ghost use Rattle.vertex_names.specs.Book.{Book};
+ghost use Rattle.graph_types.specs.declared.batches.NamedOp.{NamedOp};
 ghost use Rattle.graph_types.specs.Valid.{is_name, is_kind_name, has_names, IsValid};
 ghost use Rattle.std.specs.Option.{option_map};
 ghost use Rattle.edge_block.specs.Operations.{parts_of, names_after, kinds_after};
 ghost use Rattle.batch_apply.specs.Plan as plan;
-ghost use Rattle.batch_apply.specs.Plan.{known, ends_in, ends_all, names_all, kinds_all, key_from, key_of, shown, with_names};
-ghost use Rattle.batch_apply.specs.Plan.{ends_listed, kind_by, Fits, IsInRange, IsRefusal};
+ghost use Rattle.batch_apply.specs.Plan.{known, ends_in, names_all, key_from, key_of, shown, with_names, kind_by};
+ghost use Rattle.batch_apply.specs.Plan.{Fits, IsInRange, IsRefusal, IsUnplanned};
 
+use crate::plans::PlanError;
 use graph_types::{EdgeChange, KindId, NamedOp};
-use std::alloc::Global;
-use std::slice;
 use vertex_names::{AddError, NameBook};
 
 /// The numbers of an operation's source and target: none where a name has not appeared.
@@ -20,24 +21,6 @@ use vertex_names::{AddError, NameBook};
 pub struct Ends {
     pub source: Option<u32>,
     pub target: Option<u32>,
-}
-
-/// The ends of a batch's operations, in order. A batch of one operation needs no memory for them.
-#[derive(Drop)]
-pub enum EndsList {
-    One(Ends),
-    Many(Vec<Ends>),
-}
-
-impl EndsList {
-    pub fn as_slice(&self) -> &[Ends]
-        ensures { result.now ≡ ends_listed self.now }
-    {
-        match self {
-            EndsList::One(ends) => slice::from_ref(ends),
-            EndsList::Many(ends) => ends.as_slice(),
-        }
-    }
 }
 
 /// Which edge: the numbers of its kind, its source and its target.
@@ -101,39 +84,6 @@ fn op_ends(names: &mut NameBook, op: &NamedOp) -> Result<Ends, AddError>
             target: None,
         }),
     }
-}
-
-/// As `ends_of`, of any number of operations.
-fn list_ends(alloc: Global, names: &mut NameBook, ops: &[NamedOp]) -> Result<Vec<Ends>, AddError>
-    requires within { Fits names.old }
-    requires valid { All IsValid ops.now }
-    ensures ends { IfOk result (λ e. e.items ≡ ends_all ops.now names.old.names) }
-    ensures names { OnOk result (names.new ≡ with_names names.old (names_all ops.now names.old.names)) }
-    ensures within { OnOk result (Fits names.new) }
-    ensures refused { IfErr result (λ error. IsRefusal error names.old (names_all ops.now names.old.names)) }
-{
-    let mut found = Vec::with_capacity(alloc, ops.len())?;
-    for op in ops {
-        found.push(op_ends(names, op)?)?;
-    }
-    Ok(found)
-}
-
-/// The numbers of the ends of operations in order, each by the names that it leaves.
-///
-/// After an error the book has some of the names.
-pub fn ends_of(alloc: Global, names: &mut NameBook, ops: &[NamedOp]) -> Result<EndsList, AddError>
-    requires within { Fits names.old }
-    requires valid { All IsValid ops.now }
-    ensures ends { IfOk result (λ e. ends_listed e ≡ ends_all ops.now names.old.names) }
-    ensures names { OnOk result (names.new ≡ with_names names.old (names_all ops.now names.old.names)) }
-    ensures within { OnOk result (Fits names.new) }
-    ensures refused { IfErr result (λ error. IsRefusal error names.old (names_all ops.now names.old.names)) }
-{
-    if let [op] = ops {
-        return Ok(EndsList::One(op_ends(names, op)?));
-    }
-    Ok(EndsList::Many(list_ends(alloc, names, ops)?))
 }
 
 /// The number of a kind, which is added.
@@ -223,30 +173,76 @@ fn resolved_op(op: &NamedOp, ends: Ends, kind: Option<KindId>) -> ResolvedOp
     }
 }
 
-/// Operations with these ends, in order, each with its kind by the kinds that it leaves.
-///
-/// After an error the book has some of the kinds.
-pub fn with_kinds(
-    alloc: Global,
-    kinds: &mut NameBook,
-    ops: &[NamedOp],
-    ends: &[Ends],
-) -> Result<Vec<ResolvedOp>, AddError>
-    requires limit { kinds.old.limit ≤ 64 }
-    requires within { Fits kinds.old }
-    requires valid { All IsValid ops.now }
-    requires ends { length ends.now ≡ length ops.now }
-    ensures ops { IfOk result (λ v. map shown v.items ≡ plan.with_kinds ends.now ops.now kinds.old.names) }
-    ensures changes { IfOk result (λ v. All IsInRange v.items) }
-    ensures kinds { OnOk result (kinds.new ≡ with_names kinds.old (kinds_all ops.now kinds.old.names)) }
-    ensures within { OnOk result (Fits kinds.new) }
-    ensures refused { IfErr result (λ error. IsRefusal error kinds.old (kinds_all ops.now kinds.old.names)) }
+/// Why a batch isn't planned whose names are refused.
+fn names_refusal(error: AddError) -> PlanError
+    ensures { (ops : List NamedOp) (names kinds : Book) → IsRefusal error names (names_all ops names.names)
+        → IsUnplanned result ops names kinds }
 {
-    let mut found = Vec::with_capacity(alloc, ops.len())?;
-    for k in 0..ops.len() {
-        let op = &ops[k];
-        let kind = op_kind(kinds, op)?;
-        found.push(resolved_op(op, ends[k], kind))?;
+    match error {
+        AddError::NamesFull => PlanError::NamesFull,
+        AddError::OutOfMemory => PlanError::OutOfMemory,
     }
-    Ok(found)
+}
+
+/// Adds the names of operations in order.
+///
+/// After an error the book has some of them.
+fn add_names(names: &mut NameBook, ops: &[NamedOp]) -> Result<(), AddError>
+    requires within { Fits names.old }
+    requires valid { All IsValid ops.now }
+    ensures within { OnOk result (length (names_all ops.now names.old.names) ≤ names.old.limit) }
+    ensures refused { IfErr result (λ error. IsRefusal error names.old (names_all ops.now names.old.names)) }
+{
+    for op in ops {
+        op_ends(names, op)?;
+    }
+    Ok(())
+}
+
+/// Why a batch isn't planned that is refused for an operation's kind, and has these operations behind that one: for its
+/// names, where they don't fit.
+fn kinds_refusal(error: AddError, names: &mut NameBook, behind: &[NamedOp]) -> PlanError
+    requires within { Fits names.old }
+    requires valid { All IsValid behind.now }
+    ensures { (op : NamedOp) (before kinds : Book) → names.old ≡ with_names before (names_after op before.names)
+        → IsRefusal error kinds (kinds_after op kinds.names) → IsUnplanned result (op ∷ behind.now) before kinds }
+{
+    match error {
+        AddError::OutOfMemory => PlanError::OutOfMemory,
+        AddError::NamesFull => match add_names(names, behind) {
+            Ok(()) => PlanError::KindsFull,
+            Err(error) => names_refusal(error),
+        },
+    }
+}
+
+/// An operation with the numbers of its names, which are added first, where it makes any. These operations are behind it.
+///
+/// After an error the books have some of the names.
+pub fn resolve_op(
+    names: &mut NameBook,
+    kinds: &mut NameBook,
+    op: &NamedOp,
+    behind: &[NamedOp],
+) -> Result<ResolvedOp, PlanError>
+    requires limit { kinds.old.limit ≤ 64 }
+    requires within { Fits names.old × Fits kinds.old }
+    requires op { IsValid op.now }
+    requires behind { All IsValid behind.now }
+    ensures op { IfOk result (λ r. shown r
+        ≡ resolve (names_after op.now names.old.names) (kinds_after op.now kinds.old.names) op.now) }
+    ensures change { IfOk result IsInRange }
+    ensures names { OnOk result (names.new ≡ with_names names.old (names_after op.now names.old.names)) }
+    ensures kinds { OnOk result (kinds.new ≡ with_names kinds.old (kinds_after op.now kinds.old.names)) }
+    ensures within { OnOk result (Fits names.new × Fits kinds.new) }
+    ensures refused { IfErr result (λ error. IsUnplanned error (op.now ∷ behind.now) names.old kinds.old) }
+{
+    let ends = match op_ends(names, op) {
+        Ok(ends) => ends,
+        Err(error) => return Err(names_refusal(error)),
+    };
+    match op_kind(kinds, op) {
+        Ok(kind) => Ok(resolved_op(op, ends, kind)),
+        Err(error) => Err(kinds_refusal(error, names, behind)),
+    }
 }

@@ -220,7 +220,7 @@ pub fn shard_for(
     let mut sources = Vec::new(alloc);
     let mut places = table_for(alloc, old.len().saturating_add(ops.len()));
     let mut blocks = list_old(workers, worker, old, &mut sources, &mut places)?;
-    let mut steps = Vec::new(alloc);
+    let mut steps = Vec::with_capacity(alloc, ops.len() / workers)?;
     for k in 0..ops.len() {
         let op = ops[k];
         if is_in_shard(workers, worker, op) {

@@ -1,27 +1,38 @@
-use Rattle.std.proofs.Common.{length, map, subst, ap, ◌∙◌, List}
-use Rattle.batch_apply.specs.{Plan.Fits, Plan.shown, Plan.with_kinds, declared.resolve.Ends.Ends}
-use Rattle.batch_apply.proofs.Resolving.{resolved_is, as_many_ends, placed_in}
+use Rattle.std.proofs.Common.{◌≡◌, ◌∙◌, ◌∷◌, ◌++◌, ◌+◌, ℕ, List, map, drop, drop-cons, rules, sym, ap}
+use Rattle.std.proofs.lemmas.List.{Elements.All-push}
+use Rattle.graph_types.specs.declared.batches.NamedOp.{NamedOp}
+use Rattle.edge_block.specs.{Operations.names_after, Operations.kinds_after, Batches.resolved}
+use Rattle.vertex_names.specs.Book.{Book}
+use Rattle.batch_apply.specs.Plan.{names_all, kinds_all, shown, IsInRange}
+use Rattle.batch_apply.proofs.Resolving.{one_more, placed_in, all_resolved}
 use Rattle.batch_apply.proofs.naming.resolve_batch.Goals as goal
 
-pub with_kinds-requires-clause-ends : goal.with_kinds-requires-clause-ends
-with_kinds-requires-clause-ends c =
-    ap length (c.as_slice.ensures ∙ c.in-Ok.ensures.ends) ∙ as_many_ends c.args.ops.now c.args.names.now.names
+pub loop-k-preserved : goal.loop-k-preserved
+loop-k-preserved c =
+    let k : ℕ = c.loop-k.k in
+    let ops : List NamedOp = c.args.ops.now in
+    let op : NamedOp = c.index-ops-k.result in
+    let rest : List NamedOp = drop (k + 1) ops in
+    let names : List (List ℕ) = c.loop-k.names.names in
+    let kinds : List (List ℕ) = c.loop-k.kinds.names in
+    let step : drop k ops ≡ op ∷ drop (k + 1) ops = search (rules, drop-cons) in
+    let more_names : c.resolve_op.new.names.names ≡ names_after op names = ap (λ (b : Book). b.names) c.in_ok-op.ensures.names in
+    let more_kinds : c.resolve_op.new.kinds.names ≡ kinds_after op kinds = ap (λ (b : Book). b.names) c.in_ok-op.ensures.kinds in
+    record {
+      names = ap (names_all rest) more_names ∙ ap (λ l. names_all l names) (sym step) ∙ c.loop-k.invariant.names;
+      kinds = ap (kinds_all rest) more_kinds ∙ ap (λ l. kinds_all l kinds) (sym step) ∙ c.loop-k.invariant.kinds;
+      found = (λ i. map shown (c.in-Ok.ensures.items i) ++ resolved rest (more_names i) (more_kinds i))
+          ∙ one_more (drop k ops) rest op c.loop-k.found.items c.in_ok-op.op names kinds
+          (resolved ops c.args.names.now.names c.args.kinds.now.names) step c.in_ok-op.ensures.op c.loop-k.invariant.found;
+      changes = rw c.in-Ok.ensures.items (All-push IsInRange c.loop-k.found.items c.in_ok-op.op
+          c.loop-k.invariant.changes c.in_ok-op.ensures.change);
+      limit = ap (λ (b : Book). b.limit) c.in_ok-op.ensures.names ∙ c.loop-k.invariant.limit;
+      few = ap (λ (b : Book). b.limit) c.in_ok-op.ensures.kinds ∙ c.loop-k.invariant.few;
+      within = c.in_ok-op.ensures.within;
+    }
 
-pub returns-in-Ok-with_kinds-clause-ops : goal.returns-in-Ok-with_kinds-clause-ops
-returns-in-Ok-with_kinds-clause-ops c =
-    c.in-Ok-with_kinds.ensures.ops
-    ∙ ap (λ (es : List Ends). with_kinds es c.args.ops.now c.args.kinds.now.names) (c.as_slice.ensures ∙ c.in-Ok.ensures.ends)
-    ∙ resolved_is c.args.ops.now c.args.names.now.names c.args.kinds.now.names
-
-pub returns-in-Ok-with_kinds-clause-placed : goal.returns-in-Ok-with_kinds-clause-placed
-returns-in-Ok-with_kinds-clause-placed c =
-    placed_in (map shown c.in-Ok-with_kinds.resolved.items) c.as_slice.result.now c.args.ops.now c.args.kinds.now.names
-    c.in-Ok-with_kinds.ensures.ops
-
-pub returns-in-Err-NamesFull-with_kinds-clause-refused : goal.returns-in-Err-NamesFull-with_kinds-clause-refused
-returns-in-Err-NamesFull-with_kinds-clause-refused c =
-    let full = (rw c.in-Err-NamesFull-with_kinds.field-0-is at c.in-Err-NamesFull-with_kinds.ensures.refused) in
-    (full, subst Fits c.in-Ok.ensures.names c.in-Ok.ensures.within)
-
-pub returns-in-Err-NamesFull-clause-refused : goal.returns-in-Err-NamesFull-clause-refused
-returns-in-Err-NamesFull-clause-refused c = rw c.in-Err-NamesFull.field-0-is at c.in-Err-NamesFull.ensures.refused
+pub returns-clause-placed : goal.returns-clause-placed
+returns-clause-placed c =
+    placed_in (map shown c.loop-k.found.items) c.args.ops.now c.args.names.now.names c.args.kinds.now.names
+    (all_resolved c.args.ops.now c.loop-k.k c.loop-k.found.items c.loop-k.names.names c.loop-k.kinds.names
+    (resolved c.args.ops.now c.args.names.now.names c.args.kinds.now.names) c.loop-k-test.false c.loop-k.invariant.found)

@@ -39,10 +39,10 @@ loop-k-init c =
     let listed : source_numbers c.list_old.new.sources.items ≡ old_sources (own_rows c.args.workers c.args.worker old) =
     c.in_ok-blocks.ensures.own in
     record {
-      steps = rw (listed, c.new-steps.ensures.items) (start c.args.workers c.args.worker old are.distinct);
+      steps = rw (listed, c.in_ok-steps.ensures.items) (start c.args.workers c.args.worker old are.distinct);
       same = c.in_ok-blocks.ensures.same;
       old_blocks = rw listed (own_blocks (latest (map shown c.args.ops.now)) rows old are c.args.workers c.args.worker);
-      blocks = rw c.new-steps.ensures.items (c.in_ok-blocks.ensures.blocks ∙ ap (λ n. min n (2 ^ 64 - 1)) none);
+      blocks = rw c.in_ok-steps.ensures.items (c.in_ok-blocks.ensures.blocks ∙ ap (λ n. min n (2 ^ 64 - 1)) none);
       few = let few = own_few c.args.workers c.args.worker old in omega (
         arith,
         few,

@@ -1,0 +1,17 @@
+use Rattle.std.proofs.Common.{◌≡◌, ◌++◌, drop, map, All}
+use Rattle.edge_block.specs.Batches.{resolved}
+use Rattle.batch_apply.specs.Plan.{names_all, kinds_all, shown, Fits, IsInRange}
+use Rattle.batch_apply.proofs.naming.resolve_batch.Given as goal
+
+-- what is left of the operations leaves what all leave
+abbrev pub invariant-loop-k : goal.invariant-loop-k
+invariant-loop-k l = record {
+  names : names_all (drop l.k l.ops) l.names.names ≡ names_all l.ops l.initial.names.names;
+  kinds : kinds_all (drop l.k l.ops) l.kinds.names ≡ kinds_all l.ops l.initial.kinds.names;
+  found : map shown l.found.items ++ resolved (drop l.k l.ops) l.names.names l.kinds.names ≡ resolved l.ops
+      l.initial.names.names l.initial.kinds.names;
+  changes : All IsInRange l.found.items;
+  limit : l.names.limit ≡ l.initial.names.limit;
+  few : l.kinds.limit ≡ l.initial.kinds.limit;
+  within : Fits l.names × Fits l.kinds;
+}

@@ -1,0 +1,14 @@
+use Rattle.std.proofs.Common.{◌≤◌, length, subst}
+use Rattle.edge_block.specs.Operations.{kinds_after}
+use Rattle.vertex_names.specs.Book.{Book}
+use Rattle.vertex_names.specs.declared.book.AddError.{AddError}
+use Rattle.batch_apply.specs.Plan.{names_all, IsRefusal}
+use Rattle.batch_apply.proofs.Names.{kinds_refused}
+use Rattle.batch_apply.proofs.resolve.kinds_refusal.Goals as goal
+
+pub returns-in-Ok : goal.returns-in-Ok
+returns-in-Ok c op before kinds are refused = (
+  kinds_refused op c.args.behind.now kinds
+      (subst (λ (e : AddError). IsRefusal e kinds (kinds_after op kinds.names)) c.in-NamesFull.is refused),
+  subst (λ (b : Book). length (names_all c.args.behind.now b.names) ≤ b.limit) are c.in-Ok.ensures.within,
+)
