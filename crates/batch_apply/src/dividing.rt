@@ -30,7 +30,6 @@ use std::alloc::{AllocError, Global};
 /// `NamesFull` where the batch would leave more than 65,536 vertex names, else `KindsFull` where it would leave more
 /// than 64 kinds, and `OutOfMemory` where a growth was refused. The plan shares the version's names, and copies no text
 /// but those of the last 256 where the batch has new ones.
-#[tactic(auto, using(crate::proofs::Leaving::names_book, crate::proofs::Leaving::kinds_book, crate::proofs::Leaving::neither_limit, crate::proofs::Leaving::plan_refused))]
 pub fn plan_with(
     alloc: Global,
     version: &Version,

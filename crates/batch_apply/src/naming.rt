@@ -15,7 +15,6 @@ use vertex_names::{AddError, NameBook};
 /// that the batch leaves, and are within their limits as they were before.
 ///
 /// `NamesFull` comes before `KindsFull`. After an error the books have some of the batch's names.
-#[tactic(auto, using(crate::proofs::Resolving::resolved_is, crate::proofs::Resolving::as_many_ends, crate::proofs::Resolving::placed_in))]
 pub fn resolve_batch(
     alloc: Global,
     names: &mut NameBook,

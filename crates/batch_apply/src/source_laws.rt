@@ -11,7 +11,6 @@ ghost use Rattle.batch_shards.specs.declared.shard.Shard.{Shard};
 ghost use Rattle.batch_apply.specs.Shards.{IsShardOf};
 
 /// The sources of a batch's shards are vertices of the graph that the batch leaves.
-#[tactic(auto, using(crate::proofs::Sources::sources_within))]
 pub fn law_sources_within()
     ensures { (workers worker : ℕ) (ops : List NamedOp) (g : Graph) (layout : ℕ → List Shape) (shard : Shard)
         → IsWithin g → IsLayoutOf layout g.edges → IsShardOf workers (resolved ops g.names g.kinds) layout worker shard

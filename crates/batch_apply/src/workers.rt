@@ -67,12 +67,15 @@ pub fn do_all<R: Threads + Sync, G: Gate + Sync>(
 fn last_of_several(jobs: &[Job]) -> Option<usize>
     ensures { IfSome result (λ place. place < length jobs.now) }
 {
-    let last = jobs.iter().rposition(|job| job.is_busy())?;
-    if jobs[..last].iter().any(|job| job.is_busy()) {
-        Some(last)
-    } else {
-        None
+    let mut last = None;
+    let mut are_several = false;
+    for place in 0..jobs.len() {
+        if jobs[place].is_busy() {
+            are_several = last.is_some();
+            last = Some(place);
+        }
     }
+    if are_several { last } else { None }
 }
 
 /// As `do_all`, once the gate has been told of the workers without rows. The last worker with rows gets a

@@ -1,15 +1,19 @@
-use Rattle.std.proofs.Common.{◌≡◌, ◌≤◌, length, map, arith, ap, sym, subst, ◌∙◌, ℕ, List}
+use Rattle.std.proofs.Common.{◌≡◌, ◌≤◌, length, map, arith, ap, sym, subst, ◌∙◌, ℕ, List, All}
 use Rattle.std.specs.List.{range_with_len, AllZip}
 use Rattle.std.proofs.lemmas.List.{length-map}
-use Rattle.graph_types.specs.{Graph.Graph, declared.batches.NamedOp.NamedOp}
+use Rattle.graph_types.specs.{Graph.Graph, Valid.IsValid, declared.batches.NamedOp.NamedOp}
+use Rattle.vertex_names.specs.Book.{Book}
 use Rattle.edge_block.specs.Slots.{BlockView}
-use Rattle.edge_block.specs.Batches.{Resolved, resolved}
+use Rattle.edge_block.specs.Batches.{Resolved, resolved, IsPlaced}
 use Rattle.graph_version.specs.Rows.{row_of}
 use Rattle.graph_version.specs.{Kept.vertex_book, Kept.kind_book, Versions.VersionView, Versions.content}
 use Rattle.batch_shards.specs.{Done.layout_by, declared.shard.Shard.Shard}
 use Rattle.batch_apply.specs.{Plan.shown, Plan.names_all, Plan.kinds_all, Plan.with_names, Plan.Fits, Shards.IsShardOf, Shards.latest}
-use Rattle.batch_apply.specs.{OldRows.AreOldRows, OldRows.expiry_time, declared.resolve.ResolvedOp.ResolvedOp}
-use Rattle.batch_apply.proofs.{Resolving.as_many_shown, Leaving.names_book, Leaving.kinds_book}
+use Rattle.batch_apply.specs.{Plan.IsInRange}
+use Rattle.batch_apply.specs.{OldRows.AreOldRows, OldRows.expiry_time, Planned.IsPlanRefusal}
+use Rattle.batch_apply.specs.{declared.resolve.ResolvedOp.ResolvedOp}
+use Rattle.batch_apply.proofs.{Resolving.as_many_shown, Leaving.names_book, Leaving.kinds_book, Leaving.neither_limit}
+use Rattle.batch_apply.proofs.{Leaving.plan_refused, Names.err_then}
 use Rattle.batch_apply.proofs.Needs.{same_time, exact_needs, few_old_rows}
 use Rattle.batch_apply.proofs.dividing.plan_with.Goals as goal
 
@@ -26,6 +30,22 @@ shards_for-requires-clause-few c =
     c.in_ok-ops.ensures.ops in
     let few : length c.in_ok-ops.ops.items ≤ 4096 = omega (arith, many, ap length c.ops.ensures.ops, c.ops.ensures.batch.few) in
     subst (λ (found : List ResolvedOp). length found ≤ 4096) (sym c.as_slice.ensures.value) few
+
+pub resolve_batch-requires-clause-limit : goal.resolve_batch-requires-clause-limit
+resolve_batch-requires-clause-limit c =
+    subst (λ (b : Book). b.limit ≤ 64) (sym (c.in_ok-kinds.ensures ∙ c.kinds.ensures)) (omega arith)
+
+pub resolve_batch-requires-clause-valid : goal.resolve_batch-requires-clause-valid
+resolve_batch-requires-clause-valid c =
+    subst (λ (ops : List NamedOp). All IsValid ops) (sym c.ops.ensures.ops) c.ops.ensures.batch.valid
+
+pub shards_for-requires-clause-placed : goal.shards_for-requires-clause-placed
+shards_for-requires-clause-placed c =
+    subst (λ (found : List ResolvedOp). All IsPlaced (map shown found)) (sym c.as_slice.ensures.value) c.in_ok-ops.ensures.placed
+
+pub shards_for-requires-clause-valid : goal.shards_for-requires-clause-valid
+shards_for-requires-clause-valid c =
+    subst (λ (found : List ResolvedOp). All IsInRange found) (sym c.as_slice.ensures.value) c.in_ok-ops.ensures.changes
 
 pub shards_for-requires-clause-few_old : goal.shards_for-requires-clause-few_old
 shards_for-requires-clause-few_old c = few_old_rows c.args.version.now c.names.ensures.version
@@ -71,3 +91,26 @@ returns-clause-plan c =
           (range_with_len 0 c.args.workers) shards) resolved_are zip;
       needs = c.in_ok-shards.ensures.needs rows are ∙ exact_needs v c.names.ensures.version c.args.workers rs shards few zip;
     }
+
+pub returns-clause-limits : goal.returns-clause-limits
+returns-clause-limits c =
+    let g : Graph = content c.args.version.now in
+    let ops : List NamedOp = c.args.batch.now in
+    let same : c.ops.result.now ≡ ops = c.ops.ensures.ops in
+    neither_limit ops g c.resolve_batch.new.names c.resolve_batch.new.kinds
+    (names_book ops g c.in_ok-names.names c.resolve_batch.new.names (c.in_ok-names.ensures ∙ c.names.ensures.names)
+    (c.in_ok-ops.ensures.names ∙ ap (λ (os : List NamedOp). with_names c.in_ok-names.names (names_all os
+    c.in_ok-names.names.names)) same))
+    (kinds_book ops g c.in_ok-kinds.kinds c.resolve_batch.new.kinds (c.in_ok-kinds.ensures ∙ c.kinds.ensures)
+    (c.in_ok-ops.ensures.kinds ∙ ap (λ (os : List NamedOp). with_names c.in_ok-kinds.kinds (kinds_all os
+    c.in_ok-kinds.kinds.names)) same))
+    c.in_ok-ops.ensures.within.0 c.in_ok-ops.ensures.within.1
+
+pub returns-in_err-ops-clause-refused : goal.returns-in_err-ops-clause-refused
+returns-in_err-ops-clause-refused c =
+    let g : Graph = content c.args.version.now in
+    err_then c.from_residual-in_err-ops.result (λ error. IsPlanRefusal error c.args.batch.now g) c.in_err-ops.field-0.0
+    c.from_residual-in_err-ops.ensures.1
+    (subst (λ (os : List NamedOp). IsPlanRefusal c.in_err-ops.field-0.0 os g) c.ops.ensures.ops
+    (plan_refused c.in_err-ops.field-0.0 c.ops.result.now g c.in_ok-names.names c.in_ok-kinds.kinds
+    (c.in_ok-names.ensures ∙ c.names.ensures.names) (c.in_ok-kinds.ensures ∙ c.kinds.ensures) c.in_err-ops.ensures.refused))

@@ -1,5 +1,5 @@
-use Rattle.std.proofs.Common.{◌≡◌, ◌-◌, ◌^◌, ℕ, List, [], ◌∷◌, ◌++◌, map, min, ap₂, sym, ◌∙◌}
-use Rattle.std.proofs.lemmas.List.{map-append}
+use Rattle.std.proofs.Common.{◌≡◌, ◌-◌, ◌^◌, ℕ, List, [], ◌∷◌, ◌++◌, map, min, ap₂, sym, subst, ◌∙◌, arith}
+use Rattle.std.{proofs.lemmas.List.map-append, specs.List.range_with_len, specs.List.AllZip}
 use Rattle.batch_shards.specs.{Done.layout_by, Done.sources_in, Spending.needed, declared.shard.Shard.Shard}
 use Rattle.batch_apply.specs.{Plan.shown, Shards.IsShardOf}
 use Rattle.batch_apply.proofs.Leaving.{one_more_shard}
@@ -21,3 +21,30 @@ loop-worker-preserved c rows are =
           shard so_far.0 one),
       rw (counted, pushed) (ap₂ (λ (a : List ℕ) (b : ℕ). a ++ b ∷ []) so_far.1 tells ∙ sym (map-append need shards (shard ∷ []))),
     )
+
+pub shard_for-requires-clause-workers : goal.shard_for-requires-clause-workers
+shard_for-requires-clause-workers c = c.requires.workers
+
+pub shard_for-requires-clause-few : goal.shard_for-requires-clause-few
+shard_for-requires-clause-few c = c.requires.few
+
+pub shard_for-requires-clause-placed : goal.shard_for-requires-clause-placed
+shard_for-requires-clause-placed c = c.requires.placed
+
+pub shard_for-requires-clause-valid : goal.shard_for-requires-clause-valid
+shard_for-requires-clause-valid c = c.requires.valid
+
+pub shard_for-requires-clause-few_old : goal.shard_for-requires-clause-few_old
+shard_for-requires-clause-few_old c = c.requires.few_old
+
+pub shard_for-requires-clause-old : goal.shard_for-requires-clause-old
+shard_for-requires-clause-old c = c.requires.old
+
+pub returns-clause-shards : goal.returns-clause-shards
+returns-clause-shards c rows are =
+    let end : c.loop-worker.worker ≡ c.args.workers = omega arith in
+    subst (λ (n : ℕ). AllZip (IsShardOf c.args.workers (map shown c.args.ops.now) (layout_by rows)) (range_with_len 0 n)
+    c.loop-worker.shards.items) end (c.loop-worker.invariant rows are).0
+
+pub returns-clause-needs : goal.returns-clause-needs
+returns-clause-needs c rows are = (c.loop-worker.invariant rows are).1

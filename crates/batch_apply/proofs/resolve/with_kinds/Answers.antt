@@ -1,7 +1,9 @@
-use Rattle.std.proofs.Common.{◌≡◌, ◌∷◌, ◌++◌, ◌+◌, ℕ, List, [], map, append_assoc, drop, drop-cons, get_or, rules, sym, ap, ap₂}
-use Rattle.std.proofs.{Common.◌∙◌, lemmas.List.map-append, lemmas.List.Elements.All-push}
+use Rattle.std.proofs.Common.{◌≡◌, ◌∷◌, ◌++◌, ◌+◌, ℕ, List, [], map, append_assoc, arith, drop, drop-cons, get_or, refl, rules}
+use Rattle.std.proofs.Common.{subst, sym, ap, ap₂}
+use Rattle.std.proofs.Common.{◌∙◌}
+use Rattle.std.proofs.lemmas.List.{append-nil, drop_all, map-append, Elements.All-nil, Elements.All-push}
 use Rattle.std.specs.declared.option.Option.TheVariants.{None}
-use Rattle.graph_types.specs.declared.batches.NamedOp.{NamedOp}
+use Rattle.graph_types.specs.{Valid.IsValid, declared.batches.NamedOp.NamedOp}
 use Rattle.edge_block.specs.{Operations.parts_of, Operations.kinds_after, Batches.Resolved}
 use Rattle.vertex_names.specs.Book.{Book}
 use Rattle.batch_apply.specs.declared.resolve.{Ends.Ends, ResolvedOp.ResolvedOp}
@@ -60,3 +62,41 @@ loop-k-preserved c =
       limit = ap (λ (b : Book). b.limit) book ∙ c.loop-k.invariant.limit;
       within = c.in_ok-kind.ensures.within;
     }
+
+pub resolved_op-requires : goal.resolved_op-requires
+resolved_op-requires c = subst IsValid (sym c.index-ops-k.is) (c.requires.valid c.loop-k.k c.index-ops-k.result (omega arith))
+
+pub op_kind-requires-clause-names : goal.op_kind-requires-clause-names
+op_kind-requires-clause-names c =
+    let valid : IsValid c.index-ops-k.result =
+    subst IsValid (sym c.index-ops-k.is) (c.requires.valid c.loop-k.k c.index-ops-k.result (omega arith)) in valid.names
+
+pub loop-k-init : goal.loop-k-init
+loop-k-init c = record {
+  kinds = refl;
+  found = ap (λ (rs : List ResolvedOp). map shown rs ++ with_kinds c.args.ends.now c.args.ops.now c.args.kinds.now.names)
+      c.in_ok-found.ensures.items;
+  changes = rw c.in_ok-found.ensures.items (All-nil IsInRange);
+  limit = refl;
+  within = c.requires.within;
+}
+
+pub returns-clause-ops : goal.returns-clause-ops
+returns-clause-ops c =
+    let kinds : List (List ℕ) = c.loop-k.kinds.names in
+    let found : List Resolved = map shown c.loop-k.found.items in
+    let no_ops : drop c.loop-k.k c.args.ops.now ≡ [] = drop_all c.loop-k.k c.args.ops.now (omega arith) in
+    let no_ends : drop c.loop-k.k c.args.ends.now ≡ [] = drop_all c.loop-k.k c.args.ends.now (omega (arith, c.requires.ends)) in
+    sym (append-nil found)
+    ∙ ap₂ (λ (es : List Ends) (os : List NamedOp). found ++ with_kinds es os kinds) (sym no_ends) (sym no_ops)
+    ∙ c.loop-k.invariant.found
+
+pub returns-clause-kinds : goal.returns-clause-kinds
+returns-clause-kinds c =
+    let no_ops : drop c.loop-k.k c.args.ops.now ≡ [] = drop_all c.loop-k.k c.args.ops.now (omega arith) in
+    let names : c.loop-k.kinds.names ≡ kinds_all c.args.ops.now c.args.kinds.now.names =
+    ap (λ (os : List NamedOp). kinds_all os c.loop-k.kinds.names) (sym no_ops) ∙ c.loop-k.invariant.kinds in
+    λ i. record { limit = c.loop-k.invariant.limit i; names = names i }
+
+pub returns-clause-changes : goal.returns-clause-changes
+returns-clause-changes c = c.loop-k.invariant.changes

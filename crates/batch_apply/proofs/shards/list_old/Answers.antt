@@ -1,8 +1,9 @@
-use Rattle.std.proofs.Common.{◌≡◌, ◌+◌, ◌-◌, ◌^◌, ◌<◌, ◌%◌, ◌==◌, ◌++◌, true, false, cond, ℕ, List, [], ◌∷◌, length, get_or, min}
+use Rattle.std.proofs.Common.{◌≡◌, ◌+◌, ◌-◌, ◌^◌, ◌<◌, ◌%◌, ◌==◌, ◌++◌, true, false, cond, ℕ, List, [], ◌∷◌, length, get_or}
+use Rattle.std.proofs.Common.{take, min}
 use Rattle.std.proofs.Common.{ap, refl, sym, ◌∙◌, arith, nat_eq}
 use Rattle.std.specs.List.{list_any}
-use Rattle.std.proofs.lemmas.Bool.{eq-eqb, ne_eqb}
-use Rattle.batch_apply.specs.{OldRows.old_sources, OldRows.blocks_in, declared.old.OldRow.OldRow}
+use Rattle.std.proofs.lemmas.{Bool.eq-eqb, Bool.ne_eqb, List.take_all}
+use Rattle.batch_apply.specs.{OldRows.old_sources, OldRows.own_rows, OldRows.blocks_in, declared.old.OldRow.OldRow}
 use Rattle.batch_apply.specs.Shards.{source_numbers}
 use Rattle.batch_apply.proofs.Listing.{not_before, one_other, one_source, one_row}
 use Rattle.batch_apply.proofs.shards.list_old.Goals.{then-row-workers+in_ok-place_of, else-row-workers}
@@ -47,3 +48,25 @@ loop-row-preserved c =
                 ∙ ap (λ (l : List OldRow). min (blocks_in l) (2 ^ 64 - 1)) (sym same_own));
           }
     ]
+
+pub place_of-requires : goal.place_of-requires
+place_of-requires c = record { same = c.loop-row.invariant.same }
+
+pub loop-row-init : goal.loop-row-init
+loop-row-init c = record { same = c.requires.same; own = c.requires.none; blocks = refl }
+
+pub returns-clause-own : goal.returns-clause-own
+returns-clause-own c =
+    let whole : take c.loop-row.row-index c.args.old.now ≡ c.args.old.now = take_all c.loop-row.row-index c.args.old.now (omega
+    arith) in
+    c.loop-row.invariant.own ∙ ap (λ (rows : List OldRow). old_sources (own_rows c.args.workers c.args.worker rows)) whole
+
+pub returns-clause-blocks : goal.returns-clause-blocks
+returns-clause-blocks c =
+    let whole : take c.loop-row.row-index c.args.old.now ≡ c.args.old.now = take_all c.loop-row.row-index c.args.old.now (omega
+    arith) in
+    c.loop-row.invariant.blocks
+    ∙ ap (λ (rows : List OldRow). min (blocks_in (own_rows c.args.workers c.args.worker rows)) (2 ^ 64 - 1)) whole
+
+pub returns-clause-same : goal.returns-clause-same
+returns-clause-same c = c.loop-row.invariant.same
