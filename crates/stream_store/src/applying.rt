@@ -1,12 +1,15 @@
 //! A batch on its way to the desk: its plan and its blocks, what is made of it before anything changes, and its
 //! publication.
 
-ghost use Rattle.std.specs.Prelude.{◌≡◌, ◌≢◌, ◌+◌, ◌<◌, ◌≤◌, ◌^◌, ◌++◌, ◌∷◌, [], ℕ, length, IfOk, IfErr, OnOk, OnErr, AllPairs};
-ghost use Rattle.std.specs.Prelude.{All, false, count_by, vec_capacity, vec_len};
+ghost use Rattle.std.specs.Prelude.{◌≡◌, ◌≢◌, ◌+◌, ◌<◌, ◌≤◌, ◌^◌, ◌++◌, ◌∷◌, [], ℕ, List, length, IfOk, IfErr, OnOk, OnErr};
+ghost use Rattle.std.specs.Prelude.{AllPairs, All, false, count_by, vec_capacity, vec_len};
 ghost use Rattle.std.specs.List.{sum_by};
 ghost use Rattle.std.specs.Arc.{arc_value};
 ghost use Rattle.graph_types.specs.Limits.{batch_limit};
 ghost use Rattle.graph_version.specs.Rows as rows;
+ghost use Rattle.graph_version.specs.Batches.{batch_value};
+ghost use Rattle.graph_version.specs.Versions.{VersionView};
+ghost use Rattle.batch_apply.specs.Applied.{IsApplied};
 ghost use Rattle.batch_shards.specs.RowBlocks.{numbers_of};
 ghost use Rattle.graph_version.specs.declared.versions.Version.{Version};
 ghost use Rattle.block_reclamation.specs.Status.{is_listed, is_free, is_in_use};
@@ -155,6 +158,15 @@ pub(crate) fn prepare<R: Threads + Sync, G: Gate + Sync>(
     let batch = Arc::new(alloc, batch)?;
     let shared = Arc::try_clone(&batch)?;
     let applied = batch_apply::apply(rt, alloc, gate, last, plan, shared, blocks)?;
+    made_of(alloc, applied, batch)
+}
+
+/// What is made of a batch that was applied. It stands apart from `prepare`: the fewer values a function owns at an exit, the
+/// cheaper its proof.
+fn made_of(alloc: Global, applied: Applied, batch: Arc<Batch>) -> Result<Prepared, AllocError>
+    ensures { IfOk result (λ p. (v : VersionView) (numbers : List ℕ) → IsApplied v (batch_value batch) numbers applied
+        → IsPrepared v (batch_value batch) numbers p) }
+{
     let Applied {
         version,
         outcomes,
@@ -192,6 +204,24 @@ fn accept(
     *last = version;
 }
 
+/// Posts a version, which its owner keeps too; or changes nothing.
+fn post<R: Wait>(
+    rt: &R,
+    shelf: &mut ShelfWriter,
+    version: &Arc<Version>,
+) -> Result<Told, AllocError>
+    requires { IsNext shelf.old (arc_value {X = Version} version.now) }
+    ensures posted { OnOk result (shelf.new.posted ≡ (arc_value {X = Version} version.now).batches) }
+    ensures told { IfOk result (λ told. told
+        ≡ record { book = shelf.old.book; version = arc_value {X = Version} version.now }) }
+    ensures same { (shelf.new.book ≡ shelf.old.book) × (shelf.new.opening ≡ shelf.old.opening) }
+    ensures unchanged { OnErr result (shelf.new ≡ shelf.old) }
+{
+    let shown = Arc::try_clone(version)?;
+    let told = shelf.post(rt, shown)?;
+    Ok(told)
+}
+
 /// Posts the version and enters it in the journal, with room for so many entries more; or changes nothing.
 pub(crate) fn publish<R: Wait>(
     rt: &R,
@@ -215,8 +245,7 @@ pub(crate) fn publish<R: Wait>(
     ensures capacity { vec_capacity journal.old ≤ vec_capacity journal.new }
 {
     journal.reserve(room + 1)?;
-    let shown = Arc::try_clone(&version)?;
-    let told = shelf.post(rt, shown)?;
+    let told = post(rt, shelf, &version)?;
     accept(last, journal, version, entry);
     Ok(told)
 }

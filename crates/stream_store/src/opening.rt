@@ -1,12 +1,13 @@
 //! The opening of a store.
 
-ghost use Rattle.std.specs.Prelude.{◌≡◌, ℕ, ◌<◌, ◌≤◌, length, map, IfOk, IfErr, Err, All};
+ghost use Rattle.std.specs.Prelude.{◌≡◌, ℕ, ◌<◌, ◌≤◌, [], length, map, IfOk, IfErr, Err, All};
 ghost use Rattle.std.specs.List.{range_with_len};
 ghost use Rattle.std.specs.Arc.{arc_value};
 ghost use Rattle.block_reclamation.specs.Board.{no_pins};
 ghost use Rattle.graph_version.specs.declared.versions.Version.{Version};
 ghost use Rattle.graph_version.specs.Versions.{empty_version};
 ghost use Rattle.graph_version.specs.Rebased.{IsRebased};
+ghost use Rattle.version_shelf.specs.Shelves.{opened_shelf};
 ghost use Rattle.store_steps.specs.Opening.{IsVersionZero, opened_desk};
 ghost use Rattle.stream_store.specs.Openings.{OpensWith, RefusesOpening};
 ghost use Rattle.stream_store.specs.Refusals.{block_count};
@@ -21,7 +22,7 @@ use graph_version::Version;
 use std::alloc::{AllocError, Global};
 use std::sync::{Arc, Wait};
 use thiserror::Error;
-use version_shelf::{ShelfError, ShelfReader, shelf};
+use version_shelf::{ShelfError, ShelfReader, ShelfWriter, shelf};
 
 /// Why no store was opened.
 #[derive(Clone, Copy, Debug, PartialEq, Eq, Error)]
@@ -110,18 +111,38 @@ fn open_over<R: Wait>(
     ensures numbers { IfOk result (λ r. map (λ (s : SeatView). s.number) r.2.items ≡ range_with_len 0 (length r.2.items)) }
     ensures refused { IfErr result (λ e. (needed : ℕ) → RefusesOpening needed config.blocks e) }
 {
-    let shown = Arc::try_clone(&zero.version)?;
-    let (writer, readers) = match shelf(rt, alloc, shown, config.seats()) {
-        Ok(parts) => parts,
-        Err(ShelfError::NoReader) => return Err(OpenError::NoReader),
-        Err(ShelfError::OutOfMemory) => return Err(OpenError::OutOfMemory),
-    };
-    let seats = seats_of(alloc, readers)?;
+    let (writer, seats) = shelf_and_seats(rt, alloc, &zero.version, config.seats())?;
     Ok((
         Desk::opened(alloc, config, zero, writer),
         Board::new(),
         seats,
     ))
+}
+
+/// A shelf that shows a version without batches, and so many seats that have seen it. It stands apart from `open_over`, which
+/// has a pool to let go at each of its exits: that makes a proof dear.
+fn shelf_and_seats<R: Wait>(
+    rt: &R,
+    alloc: Global,
+    version: &Arc<Version>,
+    count: usize,
+) -> Result<(ShelfWriter, Vec<Seat>), OpenError>
+    requires opening { (arc_value {X = Version} version.now).batches ≡ [] }
+    requires count { (0 < count) × (count ≤ 16) }
+    ensures shelf { IfOk result (λ r. r.0 ≡ opened_shelf r.0.book (arc_value {X = Version} version.now)) }
+    ensures seats { IfOk result (λ r. (length r.1.items ≡ count)
+        × All (HasSeen r.0.book (arc_value {X = Version} version.now)) r.1.items) }
+    ensures numbers { IfOk result (λ r. map (λ (s : SeatView). s.number) r.1.items ≡ range_with_len 0 (length r.1.items)) }
+    ensures refused { IfErr result (λ e. (needed blocks : ℕ) → RefusesOpening needed blocks e) }
+{
+    let shown = Arc::try_clone(version)?;
+    let (writer, readers) = match shelf(rt, alloc, shown, count) {
+        Ok(parts) => parts,
+        Err(ShelfError::NoReader) => return Err(OpenError::NoReader),
+        Err(ShelfError::OutOfMemory) => return Err(OpenError::OutOfMemory),
+    };
+    let seats = seats_of(alloc, readers)?;
+    Ok((writer, seats))
 }
 
 /// A seat for each reader, numbered from 0.

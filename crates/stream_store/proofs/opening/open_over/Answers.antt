@@ -1,16 +1,19 @@
-use Rattle.std.proofs.Common.{◌≡◌, map, length, sym, ap, subst, ◌∙◌, arith, All}
-use Rattle.std.proofs.lemmas.List.{length-map}
-use Rattle.graph_version.specs.Versions.{VersionView}
-use Rattle.stream_store.{specs.Seats.SeatView, specs.Seats.HasSeen, proofs.Seated.new_seats}
+use Rattle.std.proofs.Common.{ℕ, ap, sym, subst, ◌∙◌, All}
+use Rattle.std.specs.Arc.{arc_value}
+use Rattle.logbook.specs.Pages.{Book}
+use Rattle.graph_version.specs.declared.versions.Version.{Version}
+use Rattle.batch_apply.proofs.Names.{err_then}
+use Rattle.stream_store.specs.{Kept.DeskState, Seats.HasSeen, Openings.RefusesOpening}
 use Rattle.stream_store.proofs.opening.open_over.Goals as goal
 
 pub returns-clause-seats : goal.returns-clause-seats
-returns-clause-seats g c =
-    let same : map (λ (s : SeatView). s.seen) c.in_ok-seats.seats.items ≡ c.in-Ok.parts.1.items =
-    c.in_ok-seats.ensures.seen in
-    let count : length c.in-Ok.parts.1.items ≡ c.args.config.seats = omega (arith, c.in-Ok.ensures.count) in (
-      sym (length-map c.in_ok-seats.seats.items (λ (s : SeatView). s.seen)) ∙ ap length same ∙ count,
-      subst (λ (v : VersionView). All (HasSeen c.opened.result.book v) c.in_ok-seats.seats.items) c.in_ok-shown.ensures
-          (new_seats _ _ _ c.in_ok-seats.seats.items c.in-Ok.parts.1.items same c.in-Ok.ensures.readers
-          (ap (λ d. d.book) c.opened.ensures)),
-    )
+returns-clause-seats g c = (
+  c.in_ok-writer.ensures.seats.0 ∙ c.seats.ensures.number,
+  subst (λ (b : Book). All (HasSeen b (arc_value {X = Version} c.args.zero.version)) c.in_ok-writer.seats.items)
+      (sym (ap (λ (d : DeskState). d.book) c.opened.ensures)) c.in_ok-writer.ensures.seats.1,
+)
+
+pub returns-in_err-writer-clause-refused : goal.returns-in_err-writer-clause-refused
+returns-in_err-writer-clause-refused g c =
+    err_then c.from_residual.result (λ e. (needed : ℕ) → RefusesOpening needed c.args.config.blocks e) c.in_err-writer.field-0.0
+    c.from_residual.ensures.1 (λ needed. c.in_err-writer.ensures.refused needed c.args.config.blocks)

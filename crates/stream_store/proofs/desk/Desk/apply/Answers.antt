@@ -1,11 +1,13 @@
-use Rattle.std.proofs.Common.{◌≡◌, ◌≢◌, ◌+◌, AllPairs, length, length-append, count_by, refl, sym, ap, ap₂, subst, ◌∙◌}
+use Rattle.std.proofs.Common.{◌≡◌, ◌≢◌, ◌+◌, ◌++◌, ◌∷◌, [], List, AllPairs, length, length-append, count_by, refl, sym, ap, ap₂}
+use Rattle.std.proofs.Common.{subst, ◌∙◌}
 use Rattle.std.specs.Arc.{arc_value}
 use Rattle.graph_version.specs.{declared.versions.Version.Version, Versions.VersionView, Versions.content}
 use Rattle.logbook.specs.Pages.{Book}
-use Rattle.graph_types.specs.Step.{outcomes}
+use Rattle.graph_types.specs.{Step.outcomes, declared.batches.NamedOp.NamedOp}
 use Rattle.block_pool.specs.Pools.{marked}
 use Rattle.block_reclamation.specs.{declared.status.BlockStatus.TheVariants.Used, Status.is_free}
 use Rattle.batch_apply.proofs.Names.{err_then}
+use Rattle.epoch_core.proofs.Stepping.{err_always}
 use Rattle.version_shelf.specs.Shelves.{ToldView}
 use Rattle.store_steps.specs.Steps.{Accepts}
 use Rattle.stream_store.specs.{Kept.DeskState, Kept.state_of, Moves.AreUsedOnce, Refusals.Refuses, Refusals.IsWithin, Refusals.IsAdmitted}
@@ -98,7 +100,8 @@ invariant_of-self-in_default g c =
     let same : c.give_back_numbers.new.pool ≡ c.self.inside.pool =
     back_same c.self.inside.pool c.grant_blocks.new.pool _ c.in_ok-numbers.field-0.numbers.items c.in_ok-numbers.ensures.numbers.0
     c.in_ok-numbers.ensures.used c.give_back_numbers.ensures in
-    kept_same (state_of c.self.inside.shelf.book c.self.inside.workers c.self.inside.opened (arc_value {X = Version} c.self.inside.last) c.self.inside.journal.items
+    kept_same (state_of c.self.inside.shelf.book c.self.inside.workers c.self.inside.opened (arc_value {X = Version}
+    c.self.inside.last) c.self.inside.journal.items
     c.self.inside.pool) _ c.self.inside.shelf _ _ _ _ _ c.self.invariant
     (ap (state_of c.self.inside.shelf.book c.self.inside.workers c.self.inside.opened (arc_value {X = Version} c.self.inside.last) c.self.inside.journal.items) same) refl
     refl (same_room _)
@@ -118,7 +121,8 @@ invariant_of-self-in_default-publish g c =
     let same : c.give_back_numbers-in_default-publish.new.pool ≡ c.self.inside.pool =
     born_same h c.next_number-number.result c.born_blocks.new.pool _ (born g b) c.give_back_numbers-in_default-publish.ensures in
     let u = c.in_default-publish.ensures.unchanged in
-    kept_same (state_of c.self.inside.shelf.book c.self.inside.workers c.self.inside.opened (arc_value {X = Version} c.self.inside.last) c.self.inside.journal.items
+    kept_same (state_of c.self.inside.shelf.book c.self.inside.workers c.self.inside.opened (arc_value {X = Version}
+    c.self.inside.last) c.self.inside.journal.items
     c.self.inside.pool) _ c.self.inside.shelf _ _ _ _ _ c.self.invariant
     (λ i. state_of (u.3 i).book c.self.inside.workers c.self.inside.opened (arc_value {X = Version} (u.2 i)) (u.0 i) (same i)) u.3 u.1 c.in_default-publish.ensures.capacity
 
@@ -236,3 +240,52 @@ returns-in_default-publish-clause-workers g c = ap (λ (s : DeskState). s.worker
 
 pub returns-clause-workers : goal.returns-clause-workers
 returns-clause-workers g c = ap (λ (s : DeskState). s.workers) c.self.view_is
+
+pub plan_next-requires : goal.plan_next-requires
+plan_next-requires g c = record { workers = c.self.invariant.workers_some }
+
+pub invariant_of-self : goal.invariant_of-self
+invariant_of-self g c =
+    kept_same (state_of c.self.inside.shelf.book c.self.inside.workers c.self.inside.opened (arc_value {X = Version}
+    c.self.inside.last) c.self.inside.journal.items
+    c.self.inside.pool) _ c.self.inside.shelf _ _ _ _ _ c.self.invariant
+    (ap (state_of c.self.inside.shelf.book c.self.inside.workers c.self.inside.opened (arc_value {X = Version}
+    c.self.inside.last) c.self.inside.journal.items)
+    c.in_err-numbers.ensures.unchanged) refl refl (same_room _)
+
+pub returns-in_err-numbers-clause-book : goal.returns-in_err-numbers-clause-book
+returns-in_err-numbers-clause-book g c = ap (λ (s : DeskState). s.book) c.self.view_is
+
+pub returns-in_default-clause-book : goal.returns-in_default-clause-book
+returns-in_default-clause-book g c = ap (λ (s : DeskState). s.book) c.self.view_is
+
+pub returns-in_default-publish-clause-book : goal.returns-in_default-publish-clause-book
+returns-in_default-publish-clause-book g c = c.in_default-publish.ensures.same.0 ∙ ap (λ (s : DeskState). s.book) c.self.view_is
+
+pub returns-clause-book : goal.returns-clause-book
+returns-clause-book g c = c.in-Ok-publish.ensures.same.0 ∙ ap (λ (s : DeskState). s.book) c.self.view_is
+
+pub returns-in_default-clause-refused : goal.returns-in_default-clause-refused
+returns-in_default-clause-refused g c = tt
+
+pub returns-in_default-publish-clause-refused : goal.returns-in_default-publish-clause-refused
+returns-in_default-publish-clause-refused g c = tt
+
+pub returns-in_err-numbers-clause-unchanged : goal.returns-in_err-numbers-clause-unchanged
+returns-in_err-numbers-clause-unchanged g c =
+    err_always c.from_residual-in_err-numbers.result _
+    (ap (state_of c.self.inside.shelf.book c.self.inside.workers c.self.inside.opened (arc_value {X = Version}
+    c.self.inside.last) c.self.inside.journal.items)
+    c.in_err-numbers.ensures.unchanged ∙ c.self.view_is)
+
+pub publish-requires-clause-next : goal.publish-requires-clause-next
+publish-requires-clause-next g c =
+    let last : c.deref-3.result.now ≡ arc_value {X = Version} c.self.inside.last = c.deref-3.ensures in
+    let made = c.in-Ok.ensures in (
+      made.opening ∙ ap (λ (v : VersionView). v.opening) last ∙ sym c.self.invariant.opening_is,
+      (
+        c.args.batch,
+        made.batches ∙ ap (λ (v : VersionView). v.batches ++ c.args.batch ∷ []) last
+            ∙ ap (λ (bs : List (List NamedOp)). bs ++ c.args.batch ∷ []) (sym c.self.invariant.posted_is),
+      ),
+    )
