@@ -1,15 +1,17 @@
 -- Steps of a search by frontiers.
 use Rattle.std.proofs.Common.{◌≡◌, ℕ, ◌+◌, ◌<◌, ◌≤◌, zero, suc, arith, refl, sym, ap, ◌∙◌, subst, ◌⊎◌, inl, inr, List, [], ◌∷◌}
-use Rattle.std.proofs.Common.{◌++◌, length, set, Option, Some, None, cond, true, false, Bool}
+use Rattle.std.proofs.Common.{◌++◌, length, set, drop, get_or, not, Option, Some, None, cond, true, false, Bool}
 use Rattle.std.specs.{Prelude.All, Prelude.replicate, List.Contains}
 use Rattle.std.proofs.lemmas.{Bool.cases_eq, Bool.cases_lt, Option.get_or_from_slice_get}
-use Rattle.std.proofs.lemmas.List.{get_or-set_same, get_or-set_other, get_or_past, length-set, length-append, length-replicate}
-use Rattle.std.proofs.lemmas.List.{get_or-replicate, Sums.sum_by-set, Sums.count_by-le-length, Elements.All-tail}
+use Rattle.std.proofs.lemmas.List.{get_or-set_same, get_or-set_other, get_or_past, length-append, length-replicate}
+use Rattle.std.proofs.lemmas.List.{get_or-replicate, Elements.All-tail}
 use Rattle.graph_types.specs.{Graph.Graph, Analyses.LeadsTo, Analyses.Walk, Analyses.IsLevel, Analyses.IsTable}
 use Rattle.graph_types.specs.declared.ids.Filter.{Filter}
-use Rattle.graph_levels.specs.Visit.{visited, has_none}
-use Rattle.graph_levels.specs.Search.{level_of, HasLevel, IsReached, IsSearch, unreached}
-use Rattle.std.proofs.lemmas.List.Elements.{All-weaker, All-push, All-nil, All-cons, Contains-push, Contains-append_left}
+use Rattle.graph_levels.specs.Search.{has_none, level_of, HasLevel, IsReached, IsSearch}
+use Rattle.graph_levels.specs.Reached.{met, stands_in, table_of, vertices_of}
+use Rattle.graph_levels.proofs.Tables.{asked, front_long, length-table, levelled, table_push, vertices_push}
+use Rattle.graph_types.specs.declared.ids.VertexId.{VertexId}
+use Rattle.std.proofs.lemmas.List.Elements.{All-weaker, All-push, All-nil, All-cons, Contains-push, Contains-append_left, All-contains}
 
 none_of : (o : Option ℕ) → has_none o ≡ true → o ≡ None
 none_of None h = refl
@@ -33,36 +35,6 @@ Contains-nil y c = let lt = c.1 in omega arith
 -- where there is no level
 abbrev no_level : Option ℕ
 no_level = None
-
-counted : (levels : List (Option ℕ)) (next : List ℕ) (d v : ℕ) → v < length levels → level_of levels v ≡ None
-    → unreached (set levels v (Some d)) + length (next ++ v ∷ []) ≡ unreached levels + length next
-counted levels next d v lt none =
-    let e : unreached (set levels v (Some d)) + 1 ≡ unreached levels + 0 =
-    subst (λ o. unreached (set levels v (Some d)) + cond (has_none o) 1 0 ≡ unreached levels + 0) none
-    (sum_by-set (λ o. cond (has_none o) 1 0) levels v (Some d) None lt) in
-    let n = length-append next (v ∷ []) in
-    omega arith
-
--- each visit that gives a level adds one vertex
-pub visited_count : (ts : List ℕ) (levels : List (Option ℕ)) (next : List ℕ) (d : ℕ) → All (λ v. v < length levels) ts
-    → unreached (visited d ts levels next).0 + length (visited d ts levels next).1 ≡ unreached levels + length next
-visited_count [] levels next d in' = refl
-visited_count (v ∷ ts) levels next d in' =
-    let lt : v < length levels = in' 0 0 (omega arith) in
-    let new = set levels v (Some d) in
-    let long = length-set levels v (Some d) in
-    let one = visited_count ts new (next ++ v ∷ []) d (λ k e l. let a = in' (suc k) e (omega arith) in omega arith) in
-    let none = visited_count ts levels next d (All-tail (λ w. w < length levels) v ts in') in
-    let choose : (b : Bool) → has_none (level_of levels v) ≡ b →
-    unreached (cond b (visited d ts new (next ++ v ∷ [])) (visited d ts levels next)).0
-    + length (cond b (visited d ts new (next ++ v ∷ [])) (visited d ts levels next)).1 ≡ unreached levels + length next =
-    λ b. elim b as (λ b. has_none (level_of levels v) ≡ b →
-    unreached (cond b (visited d ts new (next ++ v ∷ [])) (visited d ts levels next)).0
-    + length (cond b (visited d ts new (next ++ v ∷ [])) (visited d ts levels next)).1 ≡ unreached levels + length next) [
-      | true ↦ λ e. one ∙ counted levels next d v lt (none_of (level_of levels v) e)
-      | false ↦ λ e. none
-    ] in
-    choose (has_none (level_of levels v)) refl
 
 module _ (f : Filter) (g : Graph) (s : ℕ) where
   -- a vertex with no level gets one
@@ -109,57 +81,62 @@ module _ (f : Filter) (g : Graph) (s : ℕ) where
         ];
       }
 
-  -- what visiting targets of u leaves
-  pub record Visited (levels : List (Option ℕ)) (rest next : List ℕ) (d : ℕ) (ts : List ℕ)
-      (r : List (Option ℕ) × List ℕ) : Type 0 where
-    pub search : IsSearch f g s r.0 rest r.1 d
-    pub reached : All (IsReached r.0 (d + 1)) ts
-    pub keep : (w k : ℕ) → HasLevel levels k w → HasLevel r.0 k w
+  -- what visiting targets of u leaves, where n vertices are there and the next frontier stands behind the first m rows
+  pub record Visited (n : ℕ) (rows : List (VertexId × ℕ)) (rest : List ℕ) (m d : ℕ) (ts : List ℕ)
+      (new : List (VertexId × ℕ)) : Type 0 where
+    pub search : IsSearch f g s (table_of n new) rest (vertices_of (drop m new)) d
+    pub reached : All (IsReached (table_of n new) (d + 1)) ts
+    pub keep : (w k : ℕ) → HasLevel (table_of n rows) k w → HasLevel (table_of n new) k w
 
-  pub visit_all : (ts : List ℕ) (levels : List (Option ℕ)) (rest next : List ℕ) (d u : ℕ) → IsSearch f g s levels rest next d
-      → HasLevel levels d u
-      → All (LeadsTo f g u) ts → All (λ v. v < length levels) ts → Visited levels rest next d ts (visited (d + 1) ts levels next)
-  visit_all [] levels rest next d u i at edges in' = record {
+  pub visit_all : (n : ℕ) (ts : List ℕ) (rows : List (VertexId × ℕ)) (rest : List ℕ) (m d u : ℕ)
+      → IsSearch f g s (table_of n rows) rest (vertices_of (drop m rows)) d → HasLevel (table_of n rows) d u → m ≤ length rows
+      → All (LeadsTo f g u) ts → All (λ v. v < n) ts → Visited n rows rest m d ts (met (d + 1) ts rows)
+  visit_all n [] rows rest m d u i at long edges in' = record {
     search = i;
-    reached = All-nil (IsReached levels (d + 1));
+    reached = All-nil (IsReached (table_of n rows) (d + 1));
     keep = λ w k h. h;
   }
-  visit_all (v ∷ ts) levels rest next d u i at edges in' =
-      let lt : v < length levels = in' 0 0 (omega arith) in
+  visit_all n (v ∷ ts) rows rest m d u i at long edges in' =
+      let lt : v < n = in' 0 0 (omega arith) in
       let edge : LeadsTo f g u v = edges 0 0 (omega arith) in
       let others = All-tail (LeadsTo f g u) v ts edges in
-      let new = set levels v (Some (d + 1)) in
-      let long = length-set levels v (Some (d + 1)) in
-      let when_none : level_of levels v ≡ None → Visited levels rest next d (v ∷ ts) (visited (d + 1) ts new (next ++ v ∷ [])) =
+      let rest_in = All-tail (λ w. w < n) v ts in' in
+      let levels = table_of n rows in
+      let new : List (VertexId × ℕ) = rows ++ (record { 0 = v }, d + 1) ∷ [] in
+      let below : v < length levels = omega (arith, length-table n rows, lt) in
+      let when_none : level_of levels v ≡ None → Visited n rows rest m d (v ∷ ts) (met (d + 1) ts new) =
       λ none.
-      let keep = kept levels v (d + 1) none in
-      let here : HasLevel new (d + 1) v = get_or-set_same levels v (Some (d + 1)) None lt in
-      let r = visit_all ts new rest (next ++ v ∷ []) d u (mark levels rest next d u v i at edge lt none) (keep u d at) others
-      (λ k e l. let a = in' (suc k) e (omega arith) in omega arith) in
+      let keep : (w k : ℕ) → HasLevel levels k w → HasLevel (table_of n new) k w =
+      λ w k h. subst (λ t. HasLevel t k w) (sym (table_push n rows v (d + 1))) (kept levels v (d + 1) none w k h) in
+      let here : HasLevel (table_of n new) (d + 1) v =
+      subst (λ t. HasLevel t (d + 1) v) (sym (table_push n rows v (d + 1)))
+      (get_or-set_same levels v (Some (d + 1)) None below) in
+      let next : IsSearch f g s (table_of n new) rest (vertices_of (drop m new)) d =
+      subst (λ t. IsSearch f g s t rest (vertices_of (drop m new)) d) (sym (table_push n rows v (d + 1)))
+      (subst (λ vs. IsSearch f g s (set levels v (Some (d + 1))) rest vs d) (sym (vertices_push m rows v (d + 1) long))
+      (mark levels rest (vertices_of (drop m rows)) d u v i at edge below none)) in
+      let r = visit_all n ts new rest m d u next (keep u d at) (omega (arith, long, length-append rows ((record { 0 = v }, d + 1) ∷ [])))
+      others rest_in in
       record {
         search = r.search;
-        reached = All-cons (IsReached (visited (d + 1) ts new (next ++ v ∷ [])).0 (d + 1)) v ts
+        reached = All-cons (IsReached (table_of n (met (d + 1) ts new)) (d + 1)) v ts
             (d + 1, r.keep v (d + 1) here, omega arith) r.reached;
         keep = λ w k h. r.keep w k (keep w k h);
       } in
-      let when_some : (j : ℕ) → HasLevel levels j v → Visited levels rest next d (v ∷ ts) (visited (d + 1) ts levels next) =
+      let when_some : (j : ℕ) → HasLevel levels j v → Visited n rows rest m d (v ∷ ts) (met (d + 1) ts rows) =
       λ j h.
-      let r = visit_all ts levels rest next d u i at others (All-tail (λ w. w < length levels) v ts in') in
+      let r = visit_all n ts rows rest m d u i at long others rest_in in
       record {
         search = r.search;
-        reached = All-cons (IsReached (visited (d + 1) ts levels next).0 (d + 1)) v ts (j, r.keep v j h, i.low v j h) r.reached;
+        reached = All-cons (IsReached (table_of n (met (d + 1) ts rows)) (d + 1)) v ts (j, r.keep v j h, i.low v j h) r.reached;
         keep = r.keep;
       } in
-      let choose : (b : Bool) → has_none (level_of levels v) ≡ b
-      → Visited levels rest next d (v ∷ ts) (cond b (visited (d + 1) ts new (next ++ v ∷ []))
-      (visited (d + 1) ts levels next)) =
-      λ b. elim b as (λ b. has_none (level_of levels v) ≡ b
-      → Visited levels rest next d (v ∷ ts) (cond b (visited (d + 1) ts new (next ++ v ∷ []))
-      (visited (d + 1) ts levels next))) [
-        | true ↦ λ e. when_none (none_of (level_of levels v) e)
-        | false ↦ λ e. let some = some_of (level_of levels v) e in when_some some.0 some.1
+      let choose : (b : Bool) → stands_in v rows ≡ b → Visited n rows rest m d (v ∷ ts) (met (d + 1) ts (cond b rows new)) =
+      λ b. elim b as (λ b. stands_in v rows ≡ b → Visited n rows rest m d (v ∷ ts) (met (d + 1) ts (cond b rows new))) [
+        | true ↦ λ e. let some = some_of (level_of levels v) (levelled n rows v lt ∙ ap not e) in when_some some.0 some.1
+        | false ↦ λ e. when_none (none_of (level_of levels v) (levelled n rows v lt ∙ ap not e))
       ] in
-      choose (has_none (level_of levels v)) refl
+      choose (stands_in v rows) refl
 
   -- a vertex whose targets are all reached is done
   pub done : (levels : List (Option ℕ)) (u : ℕ) (rest next : List ℕ) (d : ℕ) → IsSearch f g s levels (u ∷ rest) next d
@@ -184,6 +161,22 @@ module _ (f : Filter) (g : Graph) (s : ℕ) where
       | inr (inr c) ↦ inr (inr c)
     ];
   }
+
+  -- a row of the frontier is asked
+  pub step : (n d k : ℕ) (ts : List ℕ) (old rows : List (VertexId × ℕ)) (row : VertexId × ℕ)
+      → rows ≡ old ++ drop (length old) rows → k < length old → row ≡ get_or rows k row
+      → All (LeadsTo f g row.0.0) ts → All (λ v. v < n) ts → ((b : ℕ) → LeadsTo f g row.0.0 b → Contains ts b)
+      → IsSearch f g s (table_of n rows) (vertices_of (drop k old)) (vertices_of (drop (length old) rows)) d
+      → IsSearch f g s (table_of n (met (d + 1) ts rows)) (vertices_of (drop (k + 1) old))
+      (vertices_of (drop (length old) (met (d + 1) ts rows))) d
+  step n d k ts old rows row front lt is edges in' each i =
+      let u = row.0.0 in
+      let rest = vertices_of (drop (k + 1) old) in
+      let at : IsSearch f g s (table_of n rows) (u ∷ rest) (vertices_of (drop (length old) rows)) d =
+      subst (λ vs. IsSearch f g s (table_of n rows) vs (vertices_of (drop (length old) rows)) d) (asked old rows k row front lt is) i in
+      let r = visit_all n ts rows (u ∷ rest) (length old) d u at (at.now 0 0 (omega arith)) (front_long old rows front) edges in' in
+      done (table_of n (met (d + 1) ts rows)) u rest (vertices_of (drop (length old) (met (d + 1) ts rows))) d r.search
+      (λ b edge. All-contains (IsReached (table_of n (met (d + 1) ts rows)) (d + 1)) ts b r.reached (each b edge))
 
   -- the next frontier becomes the frontier
   pub deeper : (levels : List (Option ℕ)) (next : List ℕ) (d : ℕ) → IsSearch f g s levels [] next d
@@ -279,12 +272,3 @@ module _ (f : Filter) (g : Graph) (s : ℕ) where
   pub begin : (n : ℕ) (levels : List (Option ℕ)) → levels ≡ replicate n None → s < n
       → IsSearch f g s (set levels s (Some 0)) (s ∷ []) [] 0
   begin n levels e lt = subst (λ xs. IsSearch f g s (set xs s (Some 0)) (s ∷ []) [] 0) (sym e) (begin' n lt)
-
-pub begin_count : (s n : ℕ) (levels : List (Option ℕ)) → levels ≡ replicate n None → s < n
-    → unreached (set levels s (Some 0)) + 1 ≤ n
-begin_count s n levels e lt =
-    let long : length levels ≡ n = ap length e ∙ length-replicate n None in
-    let none : level_of levels s ≡ None = ap (λ xs. level_of xs s) e ∙ get_or-replicate n s None None lt in
-    let c = counted levels [] 0 s (omega arith) none in
-    let most = count_by-le-length has_none levels in
-    omega arith

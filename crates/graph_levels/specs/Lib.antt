@@ -1,4 +1,6 @@
 pub mod Forest
+pub mod Levels
+pub mod Marks
+pub mod Reached
 pub mod Search
-pub mod Visit
 pub mod Vertices

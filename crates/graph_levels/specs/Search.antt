@@ -1,10 +1,13 @@
 -- A search by frontiers, as it goes on.
-use Rattle.std.specs.Prelude.{◌≡◌, ℕ, ◌+◌, ◌≤◌, List, slice_index_or, Option, Some, None, All, count_by, ◌⊎◌}
+use Rattle.std.specs.Prelude.{◌≡◌, ℕ, ◌+◌, ◌≤◌, List, slice_index_or, Option, Some, None, All, ◌⊎◌, Bool, true, false}
 use Rattle.std.specs.List.{Contains}
 use Rattle.graph_types.specs.Graph.{Graph}
 use Rattle.graph_types.specs.Analyses.{LeadsTo, Walk}
 use Rattle.graph_types.specs.declared.ids.Filter.{Filter}
-use Rattle.graph_levels.specs.Visit.{has_none}
+
+abbrev pub has_none : Option ℕ → Bool
+has_none None = true
+has_none (Some n) = false
 
 abbrev pub level_of : List (Option ℕ) → ℕ → Option ℕ
 level_of levels v = slice_index_or levels v None
@@ -14,10 +17,6 @@ HasLevel levels d v = level_of levels v ≡ Some d
 
 abbrev pub IsReached : List (Option ℕ) → ℕ → ℕ → Type 0
 IsReached levels k v = (j : ℕ) × (level_of levels v ≡ Some j) × (j ≤ k)
-
--- vertices without a level
-abbrev pub unreached : List (Option ℕ) → ℕ
-unreached levels = count_by has_none levels
 
 -- Between two frontiers: each level is that of a walk and at most depth + 1; those of rest have depth, those of next
 -- depth + 1; an edge out of a vertex that is in neither leads to a level that is at most one more.

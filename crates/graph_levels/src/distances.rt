@@ -1,99 +1,112 @@
 //! Levels, by frontiers.
 
-ghost use Rattle.std.specs.Prelude.{◌≡◌, ◌<◌, ◌≤◌, ◌+◌, ℕ, [], length, replicate, All, IfOk, OnOk};
+ghost use Rattle.std.specs.Prelude.{◌≡◌, ◌<◌, ◌≤◌, ◌+◌, ◌*◌, ◌/◌, ℕ, [], length, drop, replicate, All, IfOk, OnOk};
 ghost use Rattle.graph_types.specs.Analyses.{AreLevels, LeadsTo};
-ghost use Rattle.graph_levels.specs.Visit.{visited};
-ghost use Rattle.graph_levels.specs.Search.{IsSearch, unreached};
+ghost use Rattle.graph_levels.specs.Marks.{AreMarks};
+ghost use Rattle.graph_levels.specs.Reached.{AreRows, met, table_of, vertices_of};
+ghost use Rattle.graph_levels.specs.Search.{IsSearch};
 
+use crate::marks::{WORD, is_marked, mark};
 use graph_types::VertexId;
 use graph_version::ViewEdges;
 use std::alloc::{AllocError, Global};
 
-/// Gives the level to each target that has none, and adds it to the next frontier.
+/// Adds a row with the level for each target that isn't marked, and marks it.
 fn visit(
-    levels: &mut [Option<u32>],
-    next: &mut Vec<u32>,
+    marks: &mut [u64],
+    rows: &mut Vec<(VertexId, u32)>,
     targets: &[u32],
     level: u32,
 ) -> Result<(), AllocError>
-    requires { All (λ v. v < length levels.old) targets.now }
-    ensures { OnOk result ((levels.new, next.new.items) ≡ visited level targets.now levels.old next.old.items) }
+    requires within { All (λ v. v / 64 < length marks.old) targets.now }
+    requires marks { AreMarks marks.old rows.old.items }
+    ensures rows { OnOk result (rows.new.items ≡ met level targets.now rows.old.items) }
+    ensures marks { OnOk result (AreMarks marks.new rows.new.items) }
 {
     for target in targets {
-        let vertex = *target as usize;
-        if levels[vertex].is_none() {
-            levels[vertex] = Some(level);
-            next.push(*target)?;
+        if !is_marked(marks, *target) {
+            mark(marks, *target);
+            rows.push((VertexId(*target), level))?;
         }
     }
     Ok(())
 }
 
-/// The next frontier: the vertices without a level to which an edge leads from this one. Each gets the level after
-/// `depth`, which is this frontier's.
+/// Adds the next frontier: the vertices without a row to which an edge leads from the rows that stand behind the first ones,
+/// which are this frontier. Each gets the level after `depth`, which is this frontier's.
 fn advance<R: ViewEdges>(
-    alloc: Global,
     edges: &R,
-    levels: &mut [Option<u32>],
-    frontier: &[u32],
+    marks: &mut [u64],
+    rows: &mut Vec<(VertexId, u32)>,
+    targets: &mut Vec<u32>,
+    first: usize,
     depth: u32,
-) -> Result<Vec<u32>, AllocError>
-    requires long { length levels.old ≡ length (R.graph edges.now).names }
+) -> Result<(), AllocError>
+    requires words { length (R.graph edges.now).names ≤ 64 * length marks.old }
     requires within { (a b : ℕ) → LeadsTo (R.filter edges.now) (R.graph edges.now) a b
         → (a < length (R.graph edges.now).names) × (b < length (R.graph edges.now).names) }
     requires few { depth < 65536 }
-    ensures search { IfOk result (λ next. (source : ℕ)
-        → IsSearch (R.filter edges.now) (R.graph edges.now) source levels.old frontier.now [] depth
-        → IsSearch (R.filter edges.now) (R.graph edges.now) source levels.new [] next.items depth) }
-    ensures count { IfOk result (λ next. unreached levels.new + length next.items ≡ unreached levels.old) }
+    requires marks { AreMarks marks.old rows.old.items }
+    requires rows { AreRows (length (R.graph edges.now).names) rows.old.items }
+    ensures marks { OnOk result (AreMarks marks.new rows.new.items) }
+    ensures rows { OnOk result (AreRows (length (R.graph edges.now).names) rows.new.items) }
+    ensures more { OnOk result (length rows.old.items ≤ length rows.new.items) }
+    ensures search { OnOk result ((source : ℕ)
+        → IsSearch (R.filter edges.now) (R.graph edges.now) source (table_of (length (R.graph edges.now).names) rows.old.items)
+        (vertices_of (drop first rows.old.items)) [] depth
+        → IsSearch (R.filter edges.now) (R.graph edges.now) source (table_of (length (R.graph edges.now).names) rows.new.items)
+        [] (vertices_of (drop (length rows.old.items) rows.new.items)) depth) }
 {
-    let mut next = Vec::new(alloc);
-    let mut targets = Vec::new(alloc);
-    for vertex in frontier {
-        edges.list_targets(*vertex, &mut targets)?;
-        visit(levels, &mut next, &targets, depth + 1)?;
-    }
-    Ok(next)
-}
-
-/// Gives each vertex its level from the source, where none has one yet.
-fn search<R: ViewEdges>(
-    alloc: Global,
-    edges: &R,
-    levels: &mut [Option<u32>],
-    source: u32,
-) -> Result<(), AllocError>
-    requires source { source < length (R.graph edges.now).names }
-    requires fresh { levels.old ≡ replicate (length (R.graph edges.now).names) None }
-    requires within { (a b : ℕ) → LeadsTo (R.filter edges.now) (R.graph edges.now) a b
-        → (a < length (R.graph edges.now).names) × (b < length (R.graph edges.now).names) }
-    requires few { length (R.graph edges.now).names ≤ 65536 }
-    ensures { OnOk result (AreLevels (R.filter edges.now) (R.graph edges.now) source levels.new) }
-{
-    levels[source as usize] = Some(0);
-    let mut frontier = vec![in alloc; source]?;
-    let mut depth = 0;
-    'frontiers: while !frontier.is_empty() {
-        frontier = advance(alloc, edges, levels, &frontier, depth)?;
-        depth += 1;
+    for place in first..rows.len() {
+        edges.list_targets(rows[place].0.0, targets)?;
+        visit(marks, rows, targets, depth + 1)?;
     }
     Ok(())
 }
 
-/// The level of each vertex from the source, in number order: the least number of edges of a walk in the view, each taken
-/// from its source to its target, and none where no walk leads there. The source is a vertex.
-///
-/// A breadth-first search: each vertex that a walk reaches is asked for its targets once. The table comes before the work;
-/// beside it there are two frontiers and one vertex's targets. The error is want of memory.
-pub fn levels_over<R: ViewEdges>(
+/// The vertices that a walk reaches from the source, each with its level, in the order in which they are found. Each of them
+/// is marked.
+fn reach<R: ViewEdges>(
+    alloc: Global,
+    edges: &R,
+    marks: &mut [u64],
+    source: VertexId,
+) -> Result<Vec<(VertexId, u32)>, AllocError>
+    requires source { source.0 < length (R.graph edges.now).names }
+    requires fresh { marks.old ≡ replicate (length (R.graph edges.now).names / 64 + 1) 0 }
+    requires within { (a b : ℕ) → LeadsTo (R.filter edges.now) (R.graph edges.now) a b
+        → (a < length (R.graph edges.now).names) × (b < length (R.graph edges.now).names) }
+    requires few { length (R.graph edges.now).names ≤ 65536 }
+    ensures levels { IfOk result (λ rows. AreLevels (R.filter edges.now) (R.graph edges.now) source.0
+        (table_of (length (R.graph edges.now).names) rows.items)) }
+    ensures rows { IfOk result (λ rows. AreRows (length (R.graph edges.now).names) rows.items) }
+{
+    mark(marks, source.0);
+    let mut rows = vec![in alloc; (source, 0)]?;
+    let mut targets = Vec::new(alloc);
+    let mut first = 0;
+    let mut depth = 0;
+    'frontiers: while first < rows.len() {
+        let end = rows.len();
+        advance(edges, marks, &mut rows, &mut targets, first, depth)?;
+        first = end;
+        depth += 1;
+    }
+    Ok(rows)
+}
+
+/// The vertices that a walk reaches from the source, each with its level, in the order in which they are found. Beside them it
+/// takes a bit for each vertex, and one vertex's targets.
+pub(crate) fn search<R: ViewEdges>(
     alloc: Global,
     edges: &R,
     source: VertexId,
-) -> Result<Vec<Option<u32>>, AllocError>
+) -> Result<Vec<(VertexId, u32)>, AllocError>
     requires { source.0 < length (R.graph edges.now).names }
-    ensures { IfOk result (λ levels. AreLevels (R.filter edges.now) (R.graph edges.now) source.0 levels.items) }
+    ensures levels { IfOk result (λ rows. AreLevels (R.filter edges.now) (R.graph edges.now) source.0
+        (table_of (length (R.graph edges.now).names) rows.items)) }
+    ensures rows { IfOk result (λ rows. AreRows (length (R.graph edges.now).names) rows.items) }
 {
-    let mut levels = vec![in alloc; None; edges.vertex_count()]?;
-    search(alloc, edges, &mut levels, source.0)?;
-    Ok(levels)
+    let mut marks = vec![in alloc; 0; edges.vertex_count() / WORD + 1]?;
+    reach(alloc, edges, &mut marks, source)
 }

@@ -1,12 +1,14 @@
 //! Levels and labels of a view in time near to linear in its edges: levels by frontiers, one after another, and labels by
-//! joined trees. [`levels`] and [`labels`] are those of a version; [`levels_over`] and [`labels_over`] take the edges from
-//! any source that says which edges it has (`ViewEdges`).
+//! joined trees. [`levels`], [`reached`] and [`labels`] are those of a version; [`levels_over`], [`reached_over`] and
+//! [`labels_over`] take the edges from any source that says which edges it has (`ViewEdges`).
 #![tactic(auto)]
 
 mod distances;
+mod found;
+mod marks;
 mod parts;
 mod versions;
 
-pub use distances::levels_over;
+pub use found::{Levels, levels_over, reached_over};
 pub use parts::labels_over;
-pub use versions::{LevelError, labels, levels};
+pub use versions::{LevelError, labels, levels, reached};

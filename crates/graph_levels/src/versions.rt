@@ -3,10 +3,11 @@
 ghost use Rattle.std.specs.Prelude.{◌≡◌, ◌<◌, ◌≤◌, ◌↔◌, length, IfOk, IfErr, OnOk};
 ghost use Rattle.graph_types.specs.Analyses.{AreLevels, AreLabels};
 ghost use Rattle.graph_version.specs.Versions.{content};
+ghost use Rattle.graph_levels.specs.Levels.{TellLevels};
 ghost use Rattle.graph_levels.specs.Vertices.{numbers_of};
 ghost use Rattle.graph_levels.specs.declared.versions.LevelError.TheVariants.{OutOfMemory};
 
-use crate::distances::levels_over;
+use crate::found::{Levels, levels_over, reached_over};
 use crate::parts::labels_over;
 use graph_types::{Filter, VertexId};
 use graph_version::{Version, VersionEdges, ViewEdges};
@@ -53,6 +54,28 @@ pub fn levels(
         return Err(LevelError::NoVertex);
     }
     Ok(levels_over(alloc, &edges, source)?)
+}
+
+/// The levels of a version from the source, as [`levels`] has them, or those of the vertices alone that are reached, where
+/// these are few. It is refused as [`levels`] is.
+pub fn reached(
+    alloc: Global,
+    version: &Version,
+    source: VertexId,
+    view: &Filter,
+) -> Result<Levels, LevelError>
+    ensures levels { IfOk result (λ levels. TellLevels view.now (content version.now) source.0 levels) }
+    ensures vertex { OnOk result (source.0 < length (content version.now).names) }
+    ensures refused { IfErr result (λ error. (error ≡ LevelError.NoVertex) ↔ (length (content version.now).names ≤ source.0)) }
+{
+    let edges = VersionEdges {
+        version,
+        filter: *view,
+    };
+    if edges.vertex_count() <= source.0 as usize {
+        return Err(LevelError::NoVertex);
+    }
+    Ok(reached_over(alloc, &edges, source)?)
 }
 
 /// The label of each vertex of a version, in number order: the least vertex to which edges of the view join it, each taken

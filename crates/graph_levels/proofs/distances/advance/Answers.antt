@@ -1,53 +1,43 @@
-use Rattle.std.proofs.Common.{◌≡◌, ◌<◌, ◌+◌, ◌∷◌, List, Option, arith, length, ◌∙◌, sym, get_or, ℕ, subst, drop, drop-cons}
-use Rattle.std.proofs.Common.{add-one}
+use Rattle.std.proofs.Common.{◌<◌, ◌+◌, arith, length, sym, get_or, ℕ, subst}
 use Rattle.std.specs.Prelude.{All}
-use Rattle.graph_types.specs.Analyses.{LeadsTo}
-use Rattle.graph_levels.specs.{Search.IsSearch, Search.IsReached, Search.unreached, Visit.visited}
-use Rattle.graph_levels.proofs.Targets.{told, each_target}
-use Rattle.graph_levels.proofs.Frontiers.{Visited, visit_all, visited_count, done}
+use Rattle.graph_types.specs.{Analyses.LeadsTo, declared.ids.VertexId.VertexId}
+use Rattle.std.specs.List.{Contains}
+use Rattle.graph_levels.proofs.{Frontiers.step, Tables.front_more, Tables.met_rows, Targets.told}
 use Rattle.graph_levels.proofs.distances.advance.Goals as goal
 
-pub visit-requires : goal.visit-requires
-visit-requires g c =
+pub visit-requires-clause-within : goal.visit-requires-clause-within
+visit-requires-clause-within g c = λ k d lt.
     let f = g.R.ViewEdges.filter c.args.edges.now in
     let gr = g.R.ViewEdges.graph c.args.edges.now in
-    let u = get_or c.args.frontier.now c.loop-vertex.vertex-index 0 in
-    let long = c.loop-vertex.invariant.long in
-    let all : All (LeadsTo f gr u) c.deref.result.now =
-    told (LeadsTo f gr u) _ _ c.deref.ensures.value c.in_ok-list_targets.ensures in
-    λ k d lt. subst (λ m. get_or c.deref.result.now k d < m) (sym long)
-    (c.requires.within u (get_or c.deref.result.now k d) (all k d lt)).1
+    let u = c.index.result.now.0.0 in
+    let edge : LeadsTo f gr u (get_or c.deref.result.now k d) =
+    told (LeadsTo f gr u) _ _ c.deref.ensures.value c.in_ok-list_targets.ensures k d lt in
+    let below = (c.requires.within u (get_or c.deref.result.now k d) edge).1 in
+    let words = c.loop-place.invariant.words in
+    omega (arith, below, words)
 
-pub loop-vertex-preserved : goal.loop-vertex-preserved
-loop-vertex-preserved g c =
+pub loop-place-preserved : goal.loop-place-preserved
+loop-place-preserved g c =
     let f = g.R.ViewEdges.filter c.args.edges.now in
     let gr = g.R.ViewEdges.graph c.args.edges.now in
-    let fr = c.args.frontier.now in
-    let k = c.loop-vertex.vertex-index in
+    let n = length gr.names in
     let d = c.args.depth in
-    let u = get_or fr k 0 in
-    let rest = drop (k + 1) fr in
-    let lt : k < length fr = omega arith in
-    let i = c.loop-vertex.invariant in
+    let k = c.loop-place.place in
+    let old = c.args.rows.now.items in
+    let rows = c.loop-place.rows.items in
+    let row : VertexId × ℕ = c.index.result.now in
+    let i = c.loop-place.invariant in
     let ts = c.deref.result.now in
-    let levels = c.loop-vertex.levels in
-    let next = c.loop-vertex.next.items in
-    let all : All (LeadsTo f gr u) ts = told (LeadsTo f gr u) _ _ c.deref.ensures.value c.in_ok-list_targets.ensures in
-    let in' : All (λ v. v < length levels) ts =
-    λ k d lt. subst (λ m. get_or ts k d < m) (sym i.long) (c.requires.within u (get_or ts k d) (all k d lt)).1 in
-    let e : (c.visit.new.levels, c.visit.new.next.items) ≡ visited (d + 1) ts levels next = c.in_ok-visit.ensures in
-    let split : drop k fr ≡ u ∷ rest = rw add-one (drop-cons fr k 0 lt) in
-    record {
-      long = c.visit.auto.levels ∙ i.long;
-      search = λ s start.
-          let at : IsSearch f gr s levels (u ∷ rest) next d =
-          subst (λ r. IsSearch f gr s levels r next d) split (i.search s start) in
-          let r : Visited f gr s levels (u ∷ rest) next d ts (c.visit.new.levels, c.visit.new.next.items) =
-          subst (Visited f gr s levels (u ∷ rest) next d ts) (sym e)
-          (visit_all f gr s ts levels (u ∷ rest) next d u at (at.now 0 0 (omega arith)) all in') in
-          done f gr s c.visit.new.levels u rest c.visit.new.next.items d r.search
-          (each_target (LeadsTo f gr u) (IsReached c.visit.new.levels (d + 1)) ts _ c.deref.ensures.value
-          c.in_ok-list_targets.ensures r.reached);
-      count = subst (λ (r : List (Option ℕ) × List ℕ). unreached r.0 + length r.1 ≡ unreached levels + length next) (sym e)
-          (visited_count ts levels next (d + 1) in') ∙ i.count;
-    }
+    let lt : k < length old = omega (arith, c.loop-place-test.true, c.loop-place.auto.place-end, c.len-place-end.ensures) in
+    let edges : All (LeadsTo f gr row.0.0) ts =
+    told (LeadsTo f gr row.0.0) _ _ c.deref.ensures.value c.in_ok-list_targets.ensures in
+    let in' : All (λ v. v < n) ts = λ j e lt. (c.requires.within row.0.0 (get_or ts j e) (edges j e lt)).1 in
+    let each : (b : ℕ) → LeadsTo f gr row.0.0 b → Contains ts b =
+    λ b edge. subst (λ xs. Contains xs b) (sym c.deref.ensures.value) ((c.in_ok-list_targets.ensures b).1 edge) in
+    rw c.in_ok-visit.ensures.rows (record {
+      words = omega (arith, i.words, c.visit.auto.marks);
+      marks = rw (← c.in_ok-visit.ensures.rows) c.in_ok-visit.ensures.marks;
+      rows = met_rows n (d + 1) ts rows in' i.rows;
+      front = front_more (d + 1) ts old rows i.front;
+      search = λ s start. step f gr s n d k ts old rows row i.front lt c.index.ensures edges in' each (i.search s start);
+    })

@@ -1,14 +1,19 @@
-use Rattle.std.proofs.Common.{◌≡◌, ℕ, ◌+◌, [], length, drop}
-use Rattle.graph_levels.specs.Search.{IsSearch, unreached}
+use Rattle.std.proofs.Common.{◌≡◌, ℕ, ◌*◌, ◌≤◌, ◌++◌, [], length, drop}
+use Rattle.graph_levels.specs.{Marks.AreMarks, Reached.AreRows, Reached.table_of, Reached.vertices_of, Search.IsSearch}
 use Rattle.graph_levels.proofs.distances.advance.Given as goal
 
-abbrev pub invariant-loop-vertex : goal.invariant-loop-vertex
-invariant-loop-vertex g l =
+abbrev pub invariant-loop-place : goal.invariant-loop-place
+invariant-loop-place g l =
     let f = g.R.ViewEdges.filter l.edges in
     let gr = g.R.ViewEdges.graph l.edges in
+    let n = length gr.names in
+    let old = l.fn.rows.items in
     record {
-      long : length l.levels ≡ length gr.names;
-      search : (source : ℕ) → IsSearch f gr source l.fn.levels l.frontier [] l.depth
-          → IsSearch f gr source l.levels (drop l.vertex-index l.frontier) l.next.items l.depth;
-      count : unreached l.levels + length l.next.items ≡ unreached l.fn.levels;
+      words : n ≤ 64 * length l.marks;
+      marks : AreMarks l.marks l.rows.items;
+      rows : AreRows n l.rows.items;
+      front : l.rows.items ≡ old ++ drop (length old) l.rows.items;
+      search : (source : ℕ) → IsSearch f gr source (table_of n old) (vertices_of (drop l.first old)) [] l.depth
+          → IsSearch f gr source (table_of n l.rows.items) (vertices_of (drop l.place old))
+          (vertices_of (drop (length old) l.rows.items)) l.depth;
     }

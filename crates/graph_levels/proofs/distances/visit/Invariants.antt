@@ -1,7 +1,10 @@
-use Rattle.std.proofs.Common.{◌≡◌, drop}
-use Rattle.graph_levels.specs.Visit.{visited}
+use Rattle.std.proofs.Common.{◌≡◌, drop, length}
+use Rattle.graph_levels.specs.{Marks.AreMarks, Reached.met}
 use Rattle.graph_levels.proofs.distances.visit.Given as goal
 
 abbrev pub invariant-loop-target : goal.invariant-loop-target
-invariant-loop-target l = visited l.level (drop l.target-index l.targets) l.levels l.next.items
-    ≡ visited l.level l.targets l.fn.levels l.fn.next.items
+invariant-loop-target l = record {
+  rows : met l.level (drop l.target-index l.targets) l.rows.items ≡ met l.level l.targets l.fn.rows.items;
+  marks : AreMarks l.marks l.rows.items;
+  long : length l.marks ≡ length l.fn.marks;
+}

@@ -1,0 +1,78 @@
+-- Marks that are set.
+use Rattle.std.proofs.Common.{◌≡◌, ◌≢◌, ◌↔◌, ℕ, ◌*◌, ◌/◌, ◌%◌, ◌^◌, ◌<◌, List, [], ◌∷◌, ◌++◌, length, set, get_or}
+use Rattle.std.proofs.Common.{arith, inl, inr, refl, sym, ap, ◌∙◌, subst, Bool, true, false, ◌||◌}
+use Rattle.std.specs.Prelude.{IsTrue, replicate}
+use Rattle.std.specs.Int.{w64, bit_at, RustNames.bit_or}
+use Rattle.std.proofs.lemmas.{Bool.cases_eq, Bool.cases_lt, Bool.false≢true, Bool.Decides.eqb_tells}
+use Rattle.std.proofs.lemmas.Nat.Bits.{bit_at_set_same, bit_at_set_other, bit_at-zero}
+use Rattle.std.proofs.lemmas.List.{get_or-set_same, get_or-set_other, get_or-replicate, get_or_past, length-replicate}
+use Rattle.graph_types.specs.declared.ids.VertexId.{VertexId}
+use Rattle.graph_levels.specs.Marks.{AreMarks, IsMarked}
+use Rattle.graph_levels.specs.Reached.{stands_in}
+use Rattle.graph_levels.proofs.Tables.{stands_push}
+
+-- the word with a bit more
+abbrev pub with_bit : ℕ → ℕ → ℕ
+with_bit word place = bit_or word (1 * 2 ^ place % 2 ^ 64)
+
+abbrev pub marked_at : List ℕ → ℕ → List ℕ
+marked_at marks v = set marks (v / 64) (with_bit (get_or marks (v / 64) 0) (v % 64))
+
+pub marked_same : (marks : List ℕ) (v : ℕ) → v / 64 < length marks → IsMarked (marked_at marks v) v
+marked_same marks v lt =
+    ap (λ word. bit_at word (v % 64)) (get_or-set_same marks (v / 64) _ 0 lt)
+    ∙ bit_at_set_same w64 (get_or marks (v / 64) 0) (v % 64) (omega arith)
+
+marks_alike : (marks : List ℕ) (v w : ℕ) → v / 64 < length marks → w ≢ v
+    → bit_at (get_or (marked_at marks v) (w / 64) 0) (w % 64) ≡ bit_at (get_or marks (w / 64) 0) (w % 64)
+marks_alike marks v w lt ne = elim (cases_eq (w / 64) (v / 64)) [
+  | inl same ↦
+      ap (λ k. bit_at (get_or (marked_at marks v) k 0) (w % 64)) same
+      ∙ ap (λ word. bit_at word (w % 64)) (get_or-set_same marks (v / 64) _ 0 lt)
+      ∙ bit_at_set_other w64 (get_or marks (v / 64) 0) (v % 64) (omega arith) (w % 64) (omega (arith, same, ne))
+      ∙ ap (λ k. bit_at (get_or marks k 0) (w % 64)) (sym same)
+  | inr other ↦ ap (λ word. bit_at word (w % 64)) (get_or-set_other marks (v / 64) (w / 64) _ 0 other)
+]
+
+pub marked_other : (marks : List ℕ) (v w : ℕ) → v / 64 < length marks → w ≢ v
+    → (IsMarked (marked_at marks v) w ↔ IsMarked marks w)
+marked_other marks v w lt ne = (
+  (λ set. sym (marks_alike marks v w lt ne) ∙ set),
+  (λ set. marks_alike marks v w lt ne ∙ set),
+)
+
+-- one vertex more, with its mark
+pub marks_more : (marks new : List ℕ) (rows : List (VertexId × ℕ)) (d v : ℕ) → AreMarks marks rows → IsMarked new v
+    → ((w : ℕ) → w ≢ v → (IsMarked new w ↔ IsMarked marks w)) → AreMarks new (rows ++ (record { 0 = v }, d) ∷ [])
+marks_more marks new rows d v are marked others w =
+    subst (λ b. IsMarked new w ↔ IsTrue b) (sym (stands_push w v d rows)) (elim (eqb_tells w v) [
+      | inl same ↦
+          subst (λ b. IsMarked new w ↔ IsTrue (stands_in w rows || b)) (sym same.0)
+          ((λ _. or_true (stands_in w rows)), (λ _. subst (IsMarked new) (sym same.1) marked))
+      | inr differ ↦
+          subst (λ b. IsMarked new w ↔ IsTrue (stands_in w rows || b)) (sym differ.0)
+          (subst (λ b. IsMarked new w ↔ IsTrue b) (sym (or_false (stands_in w rows)))
+          ((λ set. (are w).0 ((others w differ.1).0 set)), (λ stands. (others w differ.1).1 ((are w).1 stands))))
+    ]) where
+      or_true : (b : Bool) → IsTrue (b || true)
+      or_true true = refl
+      or_true false = refl
+
+      or_false : (b : Bool) → (b || false) ≡ b
+      or_false true = refl
+      or_false false = refl
+
+-- with no bit set nothing is marked
+pub none_marked : (count v : ℕ) → IsMarked (replicate count 0) v → ⊥
+none_marked count v marked =
+    let zero_word : get_or (replicate count 0) (v / 64) 0 ≡ 0 = elim (cases_lt (v / 64) count) [
+      | inl lt ↦ get_or-replicate count (v / 64) 0 0 lt
+      | inr past ↦ get_or_past (replicate count 0) (v / 64) 0 (omega (arith, past, length-replicate {A = ℕ} count 0))
+    ] in
+    let none = sym marked ∙ ap (λ word. bit_at word (v % 64)) zero_word in
+    omega (arith, none, bit_at-zero (v % 64))
+
+pub first_marked : (count s : ℕ) (new : List ℕ) → IsMarked new s
+    → ((w : ℕ) → w ≢ s → (IsMarked new w ↔ IsMarked (replicate count 0) w)) → AreMarks new ((record { 0 = s }, 0) ∷ [])
+first_marked count s new marked others =
+    marks_more (replicate count 0) new [] 0 s (λ w. ((λ set. absurd (none_marked count w set)), (λ stands. absurd (false≢true stands)))) marked others

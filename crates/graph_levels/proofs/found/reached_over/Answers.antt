@@ -1,0 +1,18 @@
+use Rattle.std.proofs.Common.{◌∙◌, length, rules}
+use Rattle.std.proofs.lemmas.List.Sorted.{IsNonDecreasingBy-from_sort_by_key}
+use Rattle.graph_levels.specs.Reached.{table_of}
+use Rattle.graph_levels.proofs.Tables.{sorted_rows}
+use Rattle.graph_levels.proofs.found.reached_over.Goals as goal
+
+pub returns : goal.returns
+returns g c =
+    let n = length (g.R.ViewEdges.graph c.args.edges.now).names in
+    let rows = c.in_ok-rows.rows.items in
+    let sorted = c.sort_unstable_by_key.new.self.items in (
+      table_of n rows,
+      c.in_ok-rows.ensures.levels,
+      c.of-2.ensures
+          ∙ sorted_rows n rows sorted c.in_ok-rows.ensures.rows c.sort_unstable_by_key.ensures.permutation
+          (IsNonDecreasingBy-from_sort_by_key (λ row. row.0.0) sorted c.sort_unstable_by_key.ensures.sorted
+          (λ a r q k. search rules)),
+    )
