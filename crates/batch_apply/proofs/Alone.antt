@@ -1,7 +1,6 @@
 -- The work of a batch that has one shard.
-use Rattle.std.proofs.Common.{◌≡◌, ℕ, ◌+◌}
-use Rattle.std.proofs.Common.{List, [], ◌∷◌, ◌++◌, length, length-append, zip, get_or, ap, ◌∙◌, arith, count_by, Bool}
-use Rattle.std.{proofs.lemmas.List.append-nil, specs.List.sum_by, proofs.lemmas.List.Sums.sum_by-cons}
+use Rattle.std.proofs.Common.{◌≡◌, ℕ, ◌+◌, List, [], ◌∷◌, ◌++◌, length, length-append, zip, get_or, ap, ◌∙◌, arith, count_by}
+use Rattle.std.{proofs.{Common.Bool, lemmas.List.{append-nil, Sums.sum_by-cons}}, specs.List.sum_by}
 
 -- the last of one is the only one, with its need
 pub paired : {A B : Type 0} (xs rest : List A) (x : A) (ys : List B) (d : B) → xs ≡ rest ++ x ∷ [] → length xs ≡ 1

@@ -1,38 +1,32 @@
 -- What all shards leave is what the batch leaves of the version.
-use Rattle.std.proofs.Common.{◌≡◌, ◌≢◌, ℕ, ◌+◌, ◌<◌, ◌≤◌, ◌==◌, Bool, true, false, List, [], ◌∷◌, ◌++◌, length}
-use Rattle.std.proofs.Common.{length-append, map, flat_map, zip, count_by, replicate, refl, sym, ap, ◌∙◌, arith, subst, All}
-use Rattle.std.{proofs.Common.AllPairs, proofs.Common.ltb, specs.List.range_with_len, specs.List.AllZip, specs.FinMap.len}
-use Rattle.std.proofs.lemmas.{Bool.ltb-true, Bool.ltb-false, List.length-map}
-use Rattle.std.proofs.lemmas.{List.FromFn.length-range_with_len, List.Concat.length-flat_map, Slice.Zip.AllZip-long}
-use Rattle.graph_types.specs.{Graph.Graph, Limits.name_limit, Limits.kind_limit, Limits.batch_limit, Limits.operation_limit}
-use Rattle.graph_types.specs.Step.{after_all, outcomes}
-use Rattle.graph_types.specs.declared.batches.{NamedOp.NamedOp, Outcome.TheVariants.Absent}
-use Rattle.edge_block.specs.Slots.{BlockView}
+use Rattle.std.proofs.Common.{◌≡◌, ◌≢◌, ℕ, ◌+◌, ◌<◌, ◌≤◌, ◌==◌, Bool, true, false, List, [], ◌∷◌, ◌++◌, length, length-append}
+use Rattle.std.proofs.Common.{map, flat_map, zip, count_by, replicate, refl, sym, ap, ◌∙◌, arith, subst, All, AllPairs, ltb}
+use Rattle.std.proofs.lemmas.{Bool.{ltb-true, ltb-false}, List.{length-map, FromFn.length-range_with_len, Concat.length-flat_map}}
+use Rattle.std.{proofs.lemmas.Slice.Zip.AllZip-long, specs.{List.{range_with_len, AllZip}, FinMap.len}}
+use Rattle.graph_types.specs.{Graph.Graph, Limits.{name_limit, kind_limit, batch_limit, operation_limit}, Step.after_all}
+use Rattle.graph_types.specs.{Step.outcomes, declared.batches.{NamedOp.NamedOp, Outcome.TheVariants.Absent}}
+use Rattle.graph_types.proofs.More.{left_more}
+use Rattle.edge_block.specs.{Slots.BlockView, Rows.{OpenBlock, shape_of, row_at, IsRow}, Batches.{Resolved, resolved}}
+use Rattle.edge_block.{specs.Batches.{outcomes_all, opened, layout_after, IsWithin, IsLayoutOf}, proofs.GraphLaws.batch_layout}
 use Rattle.vertex_names.specs.Book.{Book}
-use Rattle.edge_block.specs.Rows.{OpenBlock, shape_of, row_at, IsRow}
-use Rattle.edge_block.specs.Batches.{Resolved, resolved, outcomes_all, opened, layout_after, IsWithin, IsLayoutOf}
-use Rattle.edge_block.proofs.GraphLaws.{batch_layout}
 use Rattle.graph_version.specs.Rows as rows
-use Rattle.graph_version.specs.Rows.{row_of}
+use Rattle.graph_version.specs.{Rows.row_of, Versions.{VersionView, IsVersion, IsBlockOf, AreRowsOf, content, layout_of, is_in}}
+use Rattle.graph_version.specs.{Kept.{vertex_book, kind_book, edge_total}, Drafts.{DraftView, drafted_over}}
+use Rattle.graph_version.{specs.Drafts.with_batch, specs.Drafts.IsWhole, proofs.Few.few_total}
 use Rattle.batch_shards.specs.{RowBlocks.block_of, RowBlocks.blocks_of, RowBlocks.numbers_of, Groups.told, Done.IsShardDone}
 use Rattle.batch_shards.specs.{Done.Exchanges, Done.sources_in, Done.rows_by, Births.births_end, Births.births_dropped}
 use Rattle.batch_shards.specs.{Births.open_row, Births.births_after, Births.dropped_births, declared.shard.Shard.Shard}
 use Rattle.batch_shards.{specs.declared.shard.ShardDone.ShardDone, proofs.Places.count_by-append}
-use Rattle.graph_version.specs.Versions.{VersionView, IsVersion, IsBlockOf, AreRowsOf, content, layout_of, is_in}
-use Rattle.graph_version.specs.{Kept.vertex_book, Kept.kind_book, Kept.edge_total, Drafts.DraftView, Drafts.drafted_over}
-use Rattle.graph_version.{specs.Drafts.with_batch, specs.Drafts.IsWhole, proofs.Few.few_total}
 use Rattle.batch_apply.{specs.Shards.IsShardOf, specs.Planned.MeetsNeitherLimit, proofs.Resolving.as_many_resolved}
-use Rattle.batch_apply.specs.{Plans.written_all, Sums.ArePlanned, declared.applied.Applied.Applied, declared.workers.Job.Job}
-use Rattle.batch_apply.specs.Applied.{IsApplied, ReplacesRows, row_among, written_from}
+use Rattle.batch_apply.specs.{Plans.written_all, Shards.ArePlanned, declared.{applied.Applied.Applied, workers.Job.Job}}
+use Rattle.batch_apply.specs.{Applied.{IsApplied, ReplacesRows, row_among, written_from}, Gathered.{IsDealt, AreDone}}
 use Rattle.batch_apply.proofs.{Told.told_exact, Written.all_written, Written.all_sources, Placed.times, Placed.among_is}
 use Rattle.batch_apply.proofs.Together.{all_once, all_within, once, quiet_layout, batch_totals, outcomes_over, quiet_row}
 use Rattle.batch_apply.proofs.{Together.births_sum, Together.together_at, Numbers.numbers_once, Kept.pairs, Kept.exchanged_all}
 use Rattle.batch_apply.proofs.Left.{outcomes_left, sum_each, rows_left, taken_left, dropped_left, unused_left}
 use Rattle.batch_apply.proofs.Left.{fresh_all, sources_left, blocks_left, exchanged_left, handed_left, layouts_left, births_left}
-use Rattle.batch_apply.specs.Jobs.{IsDealt, AreDone}
 use Rattle.batch_apply.proofs.Dealt.{shards_in, needs_of, dealt_planned, done_in, fresh_in}
 use Rattle.batch_apply.proofs.BirthCounts.{map_same, untouched_births, untouched_dropped, count_births, count_pieces, count_lists}
-use Rattle.graph_types.proofs.More.{left_more}
 
 all_shards : (shards : List Shard) → all_sources (map sources_in shards) ≡ flat_map sources_in shards
 all_shards [] = refl

@@ -2,24 +2,20 @@
 -- expires edges, as many more as the version has.
 use Rattle.std.proofs.Common.{◌≡◌, ℕ, zero, suc, ◌+◌, ◌<◌, ◌≤◌, ◌==◌, ◌||◌, Bool, true, false, cond, not}
 use Rattle.std.proofs.Common.{List, [], ◌∷◌, length, map, flat_map, count_by, max, refl, sym, ap, ap₂, ◌∙◌, arith, Option, All}
-use Rattle.std.specs.List.{sum_by, range_with_len, AllZip, list_any}
 use Rattle.std.proofs.lemmas.{Bool.eqb-true, Bool.ne_eqb, Bool.true≢false, Bool.le-ltb, List.Elements.All-nil}
 use Rattle.std.proofs.lemmas.List.{Elements.All-cons, Sums.sum_by-cons, Sums.sum_by-append, Sums.count_by-le-length}
-use Rattle.graph_types.specs.{Graph.Graph, Graph.Key, Step.is_before, Step.is_expire}
-use Rattle.graph_types.specs.declared.{batches.NamedOp.NamedOp, changes.EdgeChange.EdgeChange}
-use Rattle.graph_types.specs.declared.batches.NamedOp.TheVariants.{Insert, Incr, Remove, Expire}
-use Rattle.edge_block.specs.Slots.{BlockView, Slot, edges_in, has_before}
-use Rattle.edge_block.specs.Operations.{names_after, kinds_after}
-use Rattle.edge_block.specs.Batches.{Resolved, AtKey, InAll, resolved, shard_of, shard_ops}
+use Rattle.std.specs.List.{sum_by, range_with_len, AllZip, list_any}
+use Rattle.graph_types.specs.{Graph.{Graph, Key}, Step.{is_before, is_expire}, declared.batches.NamedOp.NamedOp}
+use Rattle.graph_types.specs.declared.{batches.NamedOp.TheVariants.{Insert, Incr, Remove, Expire}, changes.EdgeChange.EdgeChange}
+use Rattle.edge_block.specs.{Slots.{BlockView, Slot, edges_in, has_before}, Operations.{names_after, kinds_after}}
+use Rattle.edge_block.{specs.Batches.{Resolved, AtKey, InAll, resolved, shard_of, shard_ops}, proofs.Counts.count_more}
 use Rattle.graph_version.specs.Rows.{row_of, blocks_of}
-use Rattle.batch_shards.specs.{Done.layout_by, Done.sources_in, Done.steps_in, Groups.is_expiry, Spending.old_blocks}
-use Rattle.batch_shards.specs.{Shards.resolved_at, Shards.resolved_in, declared.shard.Act.Act, declared.shard.Shard.Shard}
-use Rattle.batch_shards.specs.declared.shard.Step.{Step}
+use Rattle.batch_shards.specs.{Done.{layout_by, sources_in, steps_in}, Groups.is_expiry, Spending.old_blocks, Shards.resolved_at}
+use Rattle.batch_shards.specs.{Shards.resolved_in, declared.shard.{Act.Act, Shard.Shard, Step.Step}}
 use Rattle.batch_shards.specs.declared.shard.Act.TheVariants as act
 use Rattle.batch_apply.specs.{Planned.IsPlan, Shards.acts, Shards.unsourced, Shards.latest, Shards.IsShardOf}
 use Rattle.batch_apply.{specs.declared.plans.Plan.Plan, proofs.Listing.same_latest, proofs.Resolving.as_many_resolved}
 use Rattle.batch_apply.proofs.{Together.all_once, Placed.times, Kept.sum_lists, Kept.split_rows, Dealt.needs_of}
-use Rattle.edge_block.proofs.Counts.{count_more}
 
 -- Operations on edges, each of which is in one shard
 

@@ -1,14 +1,12 @@
 -- Births over lists of blocks, and how many births of dropped blocks pass a test.
-use Rattle.std.proofs.Common.{◌≡◌, ℕ, zero, suc, ◌+◌, ◌==◌, Bool, true, false, ◌||◌, List, [], ◌∷◌, ◌++◌, All}
-use Rattle.std.proofs.Common.{map, flat_map, count_by, refl, sym, ap, ap₂, ◌∙◌}
-use Rattle.std.specs.List.{sum_by}
-use Rattle.std.proofs.lemmas.List.{map-append, Sums.sum_by-cons, Elements.All-head, Elements.All-tail}
+use Rattle.std.proofs.Common.{◌≡◌, ℕ, zero, suc, ◌+◌, ◌==◌, Bool, true, false, ◌||◌, List, [], ◌∷◌, ◌++◌, All, map, flat_map}
+use Rattle.std.proofs.{Common.{count_by, refl, sym, ap, ap₂, ◌∙◌}, lemmas.List.{map-append, Sums.sum_by-cons, Elements.All-head}}
+use Rattle.std.{proofs.lemmas.List.Elements.All-tail, specs.List.sum_by}
 use Rattle.graph_types.specs.{Graph.Graph, declared.batches.NamedOp.NamedOp}
-use Rattle.edge_block.specs.Slots.{BlockView}
-use Rattle.edge_block.specs.{Rows.Shape, Rows.shape_of, Rows.untouched, Batches.sum_below}
+use Rattle.edge_block.specs.{Slots.BlockView, Rows.{Shape, shape_of, untouched}, Batches.sum_below}
 use Rattle.batch_shards.specs.Births.{births_end, births_dropped, later_births, open_row, dropped_births}
-use Rattle.graph_version.specs.Versions.{is_in}
 use Rattle.batch_shards.proofs.Places.{count_by-append}
+use Rattle.graph_version.specs.Versions.{is_in}
 
 -- Births
 

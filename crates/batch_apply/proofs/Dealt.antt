@@ -1,15 +1,13 @@
 -- Shards that have got the fresh blocks which they may take.
-use Rattle.std.proofs.Common.{◌≡◌, ℕ, zero, suc, ◌+◌, ◌<◌, List, [], ◌∷◌, ◌++◌, length, map, flat_map, zip, take, get_or}
-use Rattle.std.proofs.Common.{refl, sym, ap, ap₂, ◌∙◌, arith, subst, All, Bool}
-use Rattle.std.specs.List.{sum_by, range_with_len, AllZip}
-use Rattle.std.proofs.lemmas.List.{length-map, Sums.sum_by-cons, Elements.All-nil, Elements.All-cons}
+use Rattle.std.proofs.Common.{◌≡◌, ℕ, zero, suc, ◌+◌, ◌<◌, List, [], ◌∷◌, ◌++◌, length, map, flat_map, zip, take, get_or, refl}
+use Rattle.std.proofs.{Common.{sym, ap, ap₂, ◌∙◌, arith, subst, All, Bool}, lemmas.List.{length-map, Sums.sum_by-cons}}
+use Rattle.std.{proofs.lemmas.List.Elements.{All-nil, All-cons}, specs.List.{sum_by, range_with_len, AllZip}}
 use Rattle.graph_types.specs.declared.{ids.VertexId.VertexId}
-use Rattle.edge_block.specs.Slots.{BlockView}
-use Rattle.edge_block.specs.{Rows.Shape, Batches.Resolved}
+use Rattle.edge_block.specs.{Slots.BlockView, Rows.Shape, Batches.Resolved}
 use Rattle.batch_shards.specs.{RowBlocks.numbers_of, Shards.AreSteps, Done.IsShardDone, Done.sources_in, Spending.needed}
 use Rattle.batch_shards.specs.declared.shard.{Shard.Shard, ShardDone.ShardDone, Step.Step}
-use Rattle.batch_apply.specs.Shards.{latest, is_old_row, AreShardSteps, IsShardOf}
-use Rattle.batch_apply.specs.{Jobs.IsDealt, Jobs.IsShard, Jobs.AreDone, declared.workers.Job.Job}
+use Rattle.batch_apply.specs.Shards.{latest, has_old_shape, AreShardSteps, IsShardOf}
+use Rattle.batch_apply.specs.{Gathered.{IsDealt, IsShard, AreDone}, declared.workers.Job.Job}
 
 -- Numbers of blocks that are dealt one after another
 
@@ -51,7 +49,7 @@ module _ (workers : ℕ) (rs : List Resolved) (layout : ℕ → List Shape) wher
   dealt_one : (w : ℕ) (p : Shard × ℕ) (j : Job) → IsDealt p j → IsShardOf workers rs layout w p.0
       → IsShardOf workers rs layout w j.shard
   dealt_one w p j d is =
-      let is_old : ℕ → Bool = λ s. is_old_row (latest rs) (layout s) in
+      let is_old : ℕ → Bool = λ s. has_old_shape (latest rs) (layout s) in
       subst (λ ss. AreShardSteps workers rs w is_old (map (λ (s : VertexId). s.0) ss) j.shard.steps.items) (sym d.sources_are)
       (subst (λ steps. AreShardSteps workers rs w is_old (sources_in p.0) steps) (sym d.steps_are) is)
 

@@ -1,18 +1,16 @@
 -- How many edges operations leave: as many as before, with one more for each that was inserted and one less for each that
 -- was removed or has expired.
 use Rattle.std.proofs.Common.{◌≡◌, ℕ, zero, suc, ◌+◌, ◌-◌, ◌<◌, true, false, cond, List, [], ◌∷◌, refl, sym, ap, ◌∙◌, arith}
-use Rattle.std.specs.{Prelude.◌+ℤ◌, Prelude.count_by, Prelude.if◌then◌else◌, List.sum_by, Option.is_some}
-use Rattle.std.proofs.lemmas.{Bool.true≢false, List.Sums.sum_by-cons}
-use Rattle.std.specs.declared.option.Option.{Option, TheVariants.None, TheVariants.Some}
-use Rattle.std.specs.FinMap.{FinMap, get, insert, remove, len, len-insert, len-remove, empty_of_len, get-empty}
-use Rattle.graph_types.specs.{Limits.is_weight, Graph.Graph, Graph.Key, Graph.Stamp, Graph.key_cmp, Step.change_outcome}
-use Rattle.graph_types.specs.Step.{after, outcome, after_all, outcomes, stamp_after, outcome_at, set_at, changed, changed_key}
-use Rattle.graph_types.specs.declared.{batches.NamedOp.NamedOp, changes.EdgeChange.EdgeChange}
-use Rattle.graph_types.specs.declared.batches.NamedOp.TheVariants.{Insert, Incr, Remove, Expire}
-use Rattle.graph_types.specs.declared.batches.Outcome.{Outcome, TheVariants.Updated, TheVariants.Overflow}
+use Rattle.std.{proofs.lemmas.{Bool.true≢false, List.Sums.sum_by-cons}, specs.Prelude.{◌+ℤ◌, count_by, if◌then◌else◌}}
+use Rattle.std.specs.{List.sum_by, Option.is_some, declared.option.Option.{Option, TheVariants.{None, Some}}, FinMap.FinMap}
+use Rattle.std.specs.FinMap.{get, insert, remove, len, len-insert, len-remove, empty_of_len, get-empty}
+use Rattle.graph_types.specs.{Limits.is_weight, Graph.{Graph, Key, Stamp, key_cmp}, Step.{change_outcome, after, outcome}}
+use Rattle.graph_types.specs.Step.{after_all, outcomes, stamp_after, outcome_at, set_at, changed, changed_key}
+use Rattle.graph_types.specs.declared.batches.{NamedOp.{NamedOp, TheVariants.{Insert, Incr, Remove, Expire}}, Outcome.Outcome}
+use Rattle.graph_types.specs.declared.{batches.Outcome.TheVariants.{Updated, Overflow}, changes.EdgeChange.EdgeChange}
 use Rattle.graph_types.specs.declared.changes.EdgeChange.TheVariants.{Insert as ToInsert, Incr as ToIncr, Remove as ToRemove}
 use Rattle.graph_types.proofs.{Keys.keys_total, Expiry.fewer}
-use Rattle.batch_apply.specs.Counts.{is_inserted, taken_away}
+use Rattle.batch_apply.specs.Applied.{is_inserted, taken_away}
 
 -- how many edges there are with a stamp at a key
 inserted_len : (edges : FinMap key_cmp Stamp) (key : Key) (stamp : Stamp) (before : Option Stamp) → get edges key ≡ before

@@ -1,17 +1,14 @@
 -- A worker's operations as more of the batch are planned.
 use Rattle.std.proofs.Common.{◌≡◌, ◌≢◌, ℕ, zero, suc, ◌+◌, ◌<◌, ◌≤◌, ◌%◌, ◌==◌, ◌||◌, true, false, cond, List, [], ◌∷◌, ◌++◌}
 use Rattle.std.proofs.Common.{length, length-append, get_or, map, filter, refl, sym, ap, ap₂, ◌∙◌, arith, subst, All, AllPairs}
-use Rattle.std.proofs.Common.{nat_eq, Bool}
-use Rattle.std.proofs.lemmas.List.{Folds.list_any-append, append-nil, map-append, get_or_append_left, Sums.sum_by_push}
-use Rattle.std.specs.{Prelude.slice_index, List.enumerate_from, List.list_any, List.sum_by}
-use Rattle.std.specs.declared.option.Option.{Option, TheVariants.None, TheVariants.Some}
-use Rattle.std.proofs.lemmas.{Bool.true≢false, Bool.eqb-true, Bool.eqb-false, List.Quantifiers.all_pairs_push}
-use Rattle.std.proofs.lemmas.List.Elements.{All-head, All-tail, All-push, filter-append}
+use Rattle.std.proofs.{Common.{nat_eq, Bool}, lemmas.List.{append-nil, map-append, get_or_append_left, Folds.list_any-append}}
+use Rattle.std.proofs.lemmas.List.{Sums.sum_by_push, Quantifiers.all_pairs_push, Elements.{All-head, All-tail, All-push}}
+use Rattle.std.{proofs.lemmas.{List.Elements.filter-append, Bool.{true≢false, eqb-true, eqb-false}}, specs.Prelude.slice_index}
+use Rattle.std.specs.{List.{enumerate_from, list_any, sum_by}, declared.option.Option.{Option, TheVariants.{None, Some}}}
 use Rattle.graph_types.specs.Graph.{Key}
 use Rattle.edge_block.specs.Batches.{Resolved, AtKey, InAll, IsPlaced, shard_of, is_in_shard, shard_ops}
-use Rattle.batch_shards.specs.Shards.{AreSteps, IsAct, IsPlace, key_at, resolved_at, resolved_in}
-use Rattle.batch_shards.specs.declared.shard.{Act.Act, Act.TheVariants.Edge, Act.TheVariants.Expire, Place.Place, Step.Step}
-use Rattle.batch_shards.proofs.Closed.{all_left}
+use Rattle.batch_shards.specs.{Shards.{AreSteps, IsAct, IsPlace, key_at, resolved_at, resolved_in}, declared.shard.Act.Act}
+use Rattle.batch_shards.{specs.declared.shard.{Act.TheVariants.{Edge, Expire}, Place.Place, Step.Step}, proofs.Closed.all_left}
 use Rattle.batch_apply.specs.Shards.{acts, unsourced, IsSourceBelow, AreShardSteps, with_source, with_op}
 
 enumerated_last : {A : Type 0} (k : ℕ) (xs : List A) (x : A) (m : ℕ) → m ≡ length xs + k

@@ -1,15 +1,12 @@
 -- The blocks of a version and of the next one, by the sources whose rows were replaced.
 use Rattle.std.proofs.Common.{◌≡◌, ◌≢◌, ℕ, zero, suc, ◌+◌, ◌<◌, ◌≤◌, ◌==◌, Bool, true, false, cond, List, [], ◌∷◌}
 use Rattle.std.proofs.Common.{◌++◌, length, get_or, map, flat_map, count_by, refl, sym, ap, ap₂, ◌∙◌, arith, subst, All, AllPairs}
-use Rattle.std.{specs.List.sum_by, proofs.lemmas.Bool.eq-eqb}
 use Rattle.std.proofs.lemmas.{Bool.eqb-true, Bool.ne_eqb, List.Sums.sum_by-cons, List.Elements.All-head, List.Elements.All-tail}
-use Rattle.edge_block.specs.Slots.{BlockView}
-use Rattle.edge_block.specs.Batches.{sum_below}
+use Rattle.std.{specs.List.sum_by, proofs.lemmas.Bool.eq-eqb}
+use Rattle.edge_block.{specs.{Slots.BlockView, Batches.sum_below}, proofs.Counts.count_more}
 use Rattle.graph_version.specs.Rows.{row_of, blocks_of}
 use Rattle.batch_shards.{specs.Done.Exchanges, proofs.Places.count_by-append}
-use Rattle.batch_apply.{specs.Applied.row_among, proofs.Totals.sum_all}
-use Rattle.batch_apply.proofs.Placed.{times, sources_of, among_none, among_all}
-use Rattle.edge_block.proofs.Counts.{count_more}
+use Rattle.batch_apply.{specs.Applied.row_among, proofs.{Totals.sum_all, Placed.{times, sources_of, among_none, among_all}}}
 
 -- Sums below a number
 

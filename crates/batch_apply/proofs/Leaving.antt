@@ -6,9 +6,8 @@ use Rattle.graph_types.specs.declared.batches.NamedOp.TheVariants.{Insert, Incr,
 use Rattle.edge_block.specs.Operations.{names_after, kinds_after}
 use Rattle.vertex_names.specs.Book.{Book}
 use Rattle.graph_version.specs.Kept.{vertex_book, kind_book}
-use Rattle.batch_apply.specs.Plan.{names_all, kinds_all, with_names, IsUnplanned}
-use Rattle.batch_apply.specs.{Planned.MeetsNeitherLimit, Planned.IsPlanRefusal, declared.plans.PlanError.PlanError}
-use Rattle.batch_apply.specs.declared.plans.PlanError.TheVariants.{NamesFull, KindsFull, OutOfMemory}
+use Rattle.batch_apply.specs.{Plan.{names_all, kinds_all, with_names, IsUnplanned}, Planned.{MeetsNeitherLimit, IsPlanRefusal}}
+use Rattle.batch_apply.specs.declared.plans.PlanError.{PlanError, TheVariants.{NamesFull, KindsFull, OutOfMemory}}
 
 one_names : (op : NamedOp) (g : Graph) → names_after op g.names ≡ (after op g).names
 one_names (Insert kind source target weight time) g = refl

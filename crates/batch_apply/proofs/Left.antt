@@ -1,18 +1,15 @@
 -- What shards leave, one after another.
-use Rattle.std.proofs.Common.{◌≡◌, ℕ, zero, suc, ◌+◌, Bool, true, List, [], ◌∷◌}
-use Rattle.std.proofs.Common.{◌++◌, subst, All, map, flat_map, count_by, refl, sym, ap, ap₂, ◌∙◌, arith}
-use Rattle.std.{specs.List.sum_by, specs.List.range_with_len, specs.List.AllZip, proofs.lemmas.List.map-append}
-use Rattle.std.proofs.lemmas.{List.Sums.sum_by-cons, List.Elements.All-nil, List.Elements.All-append, Grind.flat_map-append}
+use Rattle.std.proofs.Common.{◌≡◌, ℕ, zero, suc, ◌+◌, Bool, true, List, [], ◌∷◌, ◌++◌, subst, All, map, flat_map, count_by, refl}
+use Rattle.std.proofs.{Common.{sym, ap, ap₂, ◌∙◌, arith}, lemmas.List.{map-append, Sums.sum_by-cons, Elements.All-nil}}
+use Rattle.std.{proofs.lemmas.{List.Elements.All-append, Grind.flat_map-append}, specs.List.{sum_by, range_with_len, AllZip}}
 use Rattle.graph_types.specs.{Graph.Graph, declared.batches.NamedOp.NamedOp, declared.batches.Outcome.Outcome}
-use Rattle.edge_block.specs.Slots.{BlockView}
-use Rattle.edge_block.specs.Rows.{Shape, shape_of}
-use Rattle.edge_block.specs.Batches.{Resolved, resolved, opened, layout_after, rows_all}
+use Rattle.edge_block.specs.{Slots.BlockView, Rows.{Shape, shape_of}, Batches.{Resolved, resolved, opened, layout_after}}
+use Rattle.edge_block.specs.Batches.{rows_all}
 use Rattle.batch_shards.specs.{RowBlocks.blocks_of, RowBlocks.numbers_of, Closing.row_values, Births.births_end, Done.IsShardDone}
 use Rattle.batch_shards.specs.{Done.Exchanges, Done.sources_in, declared.shard.Shard.Shard, declared.shard.ShardDone.ShardDone}
 use Rattle.batch_shards.proofs.Places.{count_by-append}
 use Rattle.graph_version.specs.Versions.{IsBlockOf, is_in}
-use Rattle.batch_apply.specs.Shards.{IsShardOf}
-use Rattle.batch_apply.specs.{Plans.written, Plans.written_all, Applied.written_from}
+use Rattle.batch_apply.specs.{Shards.IsShardOf, Plans.{written, written_all}, Applied.written_from}
 use Rattle.batch_apply.proofs.{Together.shard_outcomes_at, Together.shard_layout_at, Together.shard_births_at, Placed.sources_of}
 use Rattle.batch_apply.proofs.{BirthCounts.in_left, BirthCounts.in_right}
 

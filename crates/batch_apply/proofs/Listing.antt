@@ -1,19 +1,16 @@
 -- The old rows of a worker are listed before its first operation.
-use Rattle.std.proofs.Common.{◌≡◌, ◌≢◌, ℕ, zero, suc, ◌+◌, ◌<◌, ◌≤◌, ◌%◌, ◌==◌, ◌||◌, Bool, true, false, cond, List, [], ◌∷◌, ◌++◌}
-use Rattle.std.proofs.Common.{length, map, take, get_or, refl, sym, ap, ◌∙◌, arith, subst, All, AllPairs, nat_eq, max}
+use Rattle.std.proofs.Common.{◌≡◌, ◌≢◌, ℕ, zero, suc, ◌+◌, ◌<◌, ◌≤◌, ◌%◌, ◌==◌, ◌||◌, Bool, true, false, cond, List, [], ◌∷◌}
+use Rattle.std.proofs.Common.{◌++◌, length, map, take, get_or, refl, sym, ap, ◌∙◌, arith, subst, All, AllPairs, nat_eq, max}
+use Rattle.std.proofs.lemmas.{Bool.{true≢false, eq-eqb, eqb-true, ne_eqb}, List.{append-nil, map-append, length-map}}
+use Rattle.std.proofs.lemmas.List.{length-take-le, get_or-take, get_or-map, Folds.{list_any_none, list_any_at}, Sums.sum_by-cons}
+use Rattle.std.proofs.lemmas.List.{Sums.{sum_by_push, length-filter, count_by-le-length}, Elements.{All-nil, All-head, All-tail}}
+use Rattle.std.proofs.lemmas.List.Elements.{All-map, All-filter, All-weaker, filter_more, filter_passes}
 use Rattle.std.specs.List.{list_any, sum_by}
-use Rattle.std.proofs.lemmas.Bool.{true≢false, eq-eqb, eqb-true, ne_eqb}
-use Rattle.std.proofs.lemmas.List.Folds.{list_any_none, list_any_at}
-use Rattle.std.proofs.lemmas.List.{append-nil, map-append, length-map, length-take-le, get_or-take, get_or-map}
-use Rattle.std.proofs.lemmas.List.Sums.{sum_by-cons, sum_by_push, length-filter, count_by-le-length}
-use Rattle.std.proofs.lemmas.List.Elements.{All-nil, All-head, All-tail, All-map, All-filter, All-weaker, filter_more, filter_passes}
-use Rattle.edge_block.specs.Slots.{BlockView, has_before}
-use Rattle.edge_block.specs.Rows.{shape_of}
-use Rattle.edge_block.specs.Batches.{Resolved, AtKey, InAll, is_in_shard, shard_ops}
-use Rattle.batch_shards.specs.Shards.{IsAct, resolved_at, resolved_in}
-use Rattle.batch_shards.specs.Spending.{time_of, old_blocks, latest as latest_step}
-use Rattle.batch_shards.specs.declared.shard.{Act.Act, Act.TheVariants.Edge, Act.TheVariants.Expire, Step.Step}
-use Rattle.batch_apply.specs.{Shards.acts, Shards.is_old_row, Shards.latest, Shards.AreShardSteps, declared.old.OldRow.OldRow}
+use Rattle.edge_block.specs.{Slots.{BlockView, has_before}, Rows.shape_of, Batches.{Resolved, AtKey, InAll, is_in_shard}}
+use Rattle.edge_block.specs.Batches.{shard_ops}
+use Rattle.batch_shards.specs.{Shards.{IsAct, resolved_at, resolved_in}, Spending.{time_of, old_blocks, latest as latest_step}}
+use Rattle.batch_shards.specs.declared.shard.{Act.{Act, TheVariants.{Edge, Expire}}, Step.Step}
+use Rattle.batch_apply.specs.{Shards.acts, Shards.has_old_shape, Shards.latest, Shards.AreShardSteps, declared.old.OldRow.OldRow}
 use Rattle.batch_apply.specs.OldRows.{AreOldRows, old_sources, own_rows, blocks_in}
 
 -- whether a source's row is one of these, and its old blocks, none where it isn't
@@ -202,22 +199,22 @@ counted : (time : ℕ) (row : List BlockView) (b : BlockView)
     → old_blocks time (b ∷ row) ≡ cond (has_before time b.slots) 1 0 + old_blocks time row
 counted time row b = sum_by-cons (λ (x : BlockView). cond (has_before time x.slots) 1 0) b row
 
-pub some_old : (time : ℕ) (row : List BlockView) → is_old_row time (map shape_of row) ≡ true → 0 < old_blocks time row
+pub some_old : (time : ℕ) (row : List BlockView) → has_old_shape time (map shape_of row) ≡ true → 0 < old_blocks time row
 some_old time [] old = absurd (true≢false (sym old))
 some_old time (b ∷ row) old =
     let one = counted time row b in
     elim (has_before time b.slots) as (λ t. old_blocks time (b ∷ row) ≡ cond t 1 0 + old_blocks time row
-    → (t || is_old_row time (map shape_of row)) ≡ true → 0 < old_blocks time (b ∷ row)) [
+    → (t || has_old_shape time (map shape_of row)) ≡ true → 0 < old_blocks time (b ∷ row)) [
       | true ↦ λ count _. omega arith
       | false ↦ λ count rest. let more = some_old time row rest in omega arith
     ] one old
 
-pub none_old_blocks : (time : ℕ) (row : List BlockView) → is_old_row time (map shape_of row) ≡ false → old_blocks time row ≡ 0
+pub none_old_blocks : (time : ℕ) (row : List BlockView) → has_old_shape time (map shape_of row) ≡ false → old_blocks time row ≡ 0
 none_old_blocks time [] none = refl
 none_old_blocks time (b ∷ row) none =
     let one = counted time row b in
     elim (has_before time b.slots) as (λ t. old_blocks time (b ∷ row) ≡ cond t 1 0 + old_blocks time row
-    → (t || is_old_row time (map shape_of row)) ≡ false → old_blocks time (b ∷ row) ≡ 0) [
+    → (t || has_old_shape time (map shape_of row)) ≡ false → old_blocks time (b ∷ row) ≡ 0) [
       | true ↦ λ count some. absurd (true≢false some)
       | false ↦ λ count rest. let more = none_old_blocks time row rest in omega arith
     ] one none
@@ -247,10 +244,10 @@ module _ (time : ℕ) (rows : ℕ → List BlockView) where
       ] refl listed
 
   module _ (old : List OldRow) (are : AreOldRows time rows old) where
-    pub listed_agrees : (s : ℕ) → is_listed old s ≡ is_old_row time (map shape_of (rows s))
+    pub listed_agrees : (s : ℕ) → is_listed old s ≡ has_old_shape time (map shape_of (rows s))
     listed_agrees s =
-        elim (is_old_row time (map shape_of (rows s))) as
-        (λ b. is_old_row time (map shape_of (rows s)) ≡ b → is_listed old s ≡ b) [
+        elim (has_old_shape time (map shape_of (rows s))) as
+        (λ b. has_old_shape time (map shape_of (rows s)) ≡ b → is_listed old s ≡ b) [
           | true ↦ λ t. are.all_listed s (some_old time (rows s) t)
           | false ↦ λ f. let none = none_old_blocks time (rows s) f in
               elim (is_listed old s) as (λ b. is_listed old s ≡ b → b ≡ false) [

@@ -1,17 +1,13 @@
 -- What loops have done, with one more.
-use Rattle.std.proofs.Common.{◌≡◌, ℕ, ◌+◌, ◌≤◌, ◌==◌, Bool, cond, List, [], ◌∷◌, ◌++◌, length, get_or}
-use Rattle.std.proofs.Common.{count_by, set, take, drop, refl, sym, ap, ◌∙◌}
+use Rattle.std.proofs.Common.{◌≡◌, ℕ, ◌+◌, ◌≤◌, ◌==◌, Bool, cond, List, [], ◌∷◌, ◌++◌, length, get_or, count_by, set, take, drop}
+use Rattle.std.proofs.{Common.{refl, sym, ap, ◌∙◌}, lemmas.List.{map-append, set_past, take-append-drop}}
 use Rattle.std.specs.declared.{sync.Arc.Arc, alloc.Global.Global, vec.Vec.Vec}
-use Rattle.std.proofs.lemmas.List.{map-append, set_past, take-append-drop}
 use Rattle.graph_types.specs.declared.{ids.VertexId.VertexId, batches.Outcome.Outcome, batches.Outcome.TheVariants.Absent}
-use Rattle.edge_block.specs.declared.blocks.Block.{Block}
-use Rattle.graph_version.specs.Rows.{row_of}
+use Rattle.edge_block.specs.{declared.blocks.Block.Block, Batches.together}
+use Rattle.graph_version.specs.{Rows.row_of, Drafts.{DraftView, ReplacesRow}}
 use Rattle.batch_shards.specs.{RowBlocks.block_of, RowBlocks.blocks_of, RowBlocks.numbers_of, Closing.row_values, Groups.told}
 use Rattle.batch_shards.{specs.declared.shard.ShardDone.ShardDone, proofs.Places.count_by-append}
-use Rattle.graph_version.specs.Drafts.{DraftView, ReplacesRow}
-use Rattle.edge_block.specs.Batches.{together}
-use Rattle.batch_apply.specs.{Plans.written, Applied.ReplacesRows, Applied.written_from, Applied.row_among}
-use Rattle.batch_apply.proofs.{Placed.among_more}
+use Rattle.batch_apply.{specs.{Plans.written, Applied.{ReplacesRows, written_from, row_among}}, proofs.Placed.among_more}
 
 pub written_more : (ps : List (ℕ × Outcome)) (p : ℕ × Outcome) (xs : List Outcome)
     → written (ps ++ p ∷ []) xs ≡ set (written ps xs) p.0 (told (together (get_or (written ps xs) p.0 Absent) p.1))

@@ -2,9 +2,8 @@
 use Rattle.std.proofs.Common.{◌≡◌, ℕ, ◌+◌, ◌%◌, ◌==◌, List, [], ◌∷◌, map, filter, zip, Bool, true, false, cond, refl, ap, ◌∙◌}
 use Rattle.std.{proofs.Common.All, specs.List.enumerate_from}
 use Rattle.graph_types.specs.{Graph.Graph, declared.batches.NamedOp.NamedOp, declared.batches.Outcome.Outcome}
-use Rattle.edge_block.specs.Rows.{Shape, untouched, row_end}
-use Rattle.edge_block.specs.Batches.{Resolved, resolved, is_in_shard, shard_ops, picked, outcomes_all, opened}
-use Rattle.edge_block.proofs.ShardLaws.{shard_outcomes}
+use Rattle.edge_block.specs.{Rows.{Shape, untouched, row_end}, Batches.{Resolved, resolved, is_in_shard, shard_ops, picked}}
+use Rattle.edge_block.{specs.Batches.{outcomes_all, opened}, proofs.ShardLaws.shard_outcomes}
 use Rattle.batch_apply.specs.Plans.{placed_ops, ops_of}
 use Rattle.batch_shards.specs.Groups.{told}
 

@@ -1,14 +1,12 @@
 -- What names keep as more appear.
-use Rattle.std.proofs.Common.{drop, ◌≡◌, ℕ, ◌+◌, ◌<◌, ◌≤◌, Bool, true, false, cond, not, ◌||◌, List, [], ◌∷◌, ◌++◌}
-use Rattle.std.proofs.Common.{length, IsTrue, Option, Some, None, Result, Ok, Err, subst, refl, sym, ap, ◌∙◌, arith, true≢false}
-use Rattle.std.proofs.{Common.if◌then◌else◌, lemmas.Slice.Eq.bytes_eq-Decides}
-use Rattle.std.specs.{Result.IsErrAnd, Result.IfErr, Str.bytes_eq}
+use Rattle.std.proofs.Common.{drop, ◌≡◌, ℕ, ◌+◌, ◌<◌, ◌≤◌, Bool, true, false, cond, not, ◌||◌, List, [], ◌∷◌, ◌++◌, length}
+use Rattle.std.proofs.Common.{IsTrue, Option, Some, None, Result, Ok, Err, subst, refl, sym, ap, ◌∙◌, arith, true≢false}
+use Rattle.std.{proofs.{Common.if◌then◌else◌, lemmas.Slice.Eq.bytes_eq-Decides}, specs.{Result.{IsErrAnd, IfErr}, Str.bytes_eq}}
 use Rattle.graph_types.specs.{Step.with_name, Step.number_of, Answer.is_listed, declared.batches.NamedOp.NamedOp}
+use Rattle.graph_types.specs.declared.batches.NamedOp.TheVariants.{Insert, Incr, Remove, Expire}
 use Rattle.graph_types.proofs.NameLists.{length-with_name}
 use Rattle.edge_block.specs.Operations.{names_after, kinds_after}
-use Rattle.graph_types.specs.declared.batches.NamedOp.TheVariants.{Insert, Incr, Remove, Expire}
-use Rattle.vertex_names.specs.Book.{Book}
-use Rattle.vertex_names.specs.declared.book.AddError.{AddError, TheVariants.NamesFull, TheVariants.OutOfMemory}
+use Rattle.vertex_names.specs.{Book.Book, declared.book.AddError.{AddError, TheVariants.{NamesFull, OutOfMemory}}}
 use Rattle.batch_apply.specs.{declared.resolve.Ends.Ends, declared.plans.PlanError.PlanError, Plan.known, Plan.names_all}
 use Rattle.batch_apply.specs.{Plan.kinds_all, Plan.IsRefusal, Plan.IsUnplanned}
 use Rattle.batch_apply.specs.declared.plans.PlanError.TheVariants as full

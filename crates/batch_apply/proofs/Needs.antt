@@ -1,22 +1,17 @@
 -- The fresh blocks that a plan's shards may take are no more than a number of 64 bits tells.
 use Rattle.std.proofs.Common.{◌≡◌, ◌≢◌, ℕ, zero, suc, ◌+◌, ◌-◌, ◌^◌, ◌<◌, ◌≤◌, ◌==◌, Bool, true, false, cond, List, [], ◌∷◌, map}
 use Rattle.std.proofs.Common.{◌||◌, eqb, get_or, length, length-append, min, max, refl, sym, ap, ap₂, ◌∙◌, arith, subst, All, AllPairs}
-use Rattle.std.specs.Prelude.{filter, not}
-use Rattle.std.specs.List.{IsDistinct, sum_by, list_any, enumerate_from, range_with_len, AllZip}
 use Rattle.std.proofs.lemmas.{Bool.true≢false, Bool.eqb-true, Bool.eqb-false, Bool.ne_eqb, List.length-map}
 use Rattle.std.proofs.lemmas.List.Sums.{sum_by-cons, sum_by-le, sum_by-le-sum_by, count_by-le-length, length-filter}
 use Rattle.std.proofs.lemmas.List.Elements.{All-head, All-tail, All-map, All-weaker}
 use Rattle.std.proofs.lemmas.Map.{Keys.IsDistinct-from_apart, Steps.length-le_from_distinct_below}
+use Rattle.std.specs.{Prelude.{filter, not}, List.{IsDistinct, sum_by, list_any, enumerate_from, range_with_len, AllZip}}
 use Rattle.graph_types.specs.declared.batches.NamedOp.{NamedOp}
-use Rattle.edge_block.specs.Slots.{BlockView, has_before}
-use Rattle.edge_block.specs.Operations.{Parts, OfEdge, OfAll, parts_of, names_after, kinds_after}
+use Rattle.edge_block.specs.{Slots.{BlockView, has_before}, Operations.{Parts, OfEdge, OfAll, parts_of, names_after, kinds_after}}
 use Rattle.edge_block.specs.Batches.{Resolved, is_in_shard, resolve_parts, resolved}
-use Rattle.graph_version.specs.Rows.{row_of, blocks_of}
-use Rattle.graph_version.specs.Versions.{VersionView, IsVersion}
-use Rattle.graph_version.proofs.BlockCounts.{few_blocks}
-use Rattle.batch_shards.specs.{Done.layout_by, Done.sources_in, Groups.is_expiry}
-use Rattle.batch_shards.specs.Spending.{old_blocks, needed, latest as latest_step}
-use Rattle.batch_shards.specs.declared.shard.{Shard.Shard, Step.Step}
+use Rattle.graph_version.{specs.{Rows.{row_of, blocks_of}, Versions.{VersionView, IsVersion}}, proofs.BlockCounts.few_blocks}
+use Rattle.batch_shards.specs.{Done.{layout_by, sources_in}, Groups.is_expiry, Spending.{old_blocks, needed}}
+use Rattle.batch_shards.specs.{Spending.latest as latest_step, declared.shard.{Shard.Shard, Step.Step}}
 use Rattle.batch_apply.specs.{Shards.AreShardSteps, Shards.IsShardOf, Shards.latest, declared.old.OldRow.OldRow}
 use Rattle.batch_apply.specs.OldRows.{AreOldRows, old_sources, time_in, expiry_time}
 use Rattle.batch_apply.proofs.{OldRows.old_is_within, Listing.pairs_head, Listing.pairs_tail}

@@ -1,13 +1,12 @@
 -- No number stands twice among the next version's blocks.
 use Rattle.std.proofs.Common.{◌≡◌, ℕ, zero, suc, ◌+◌, ◌≤◌, ◌==◌, Bool, true, false, cond, ◌||◌, List, [], ◌∷◌, subst, All, map}
-use Rattle.std.{proofs.Common.refl, proofs.Common.ap, proofs.Common.arith, specs.List.list_any}
 use Rattle.std.proofs.lemmas.{Bool.eqb-true, Bool.true≢false, List.Elements.All-head, List.Elements.All-tail}
-use Rattle.edge_block.specs.Slots.{BlockView}
+use Rattle.std.{proofs.Common.refl, proofs.Common.ap, proofs.Common.arith, specs.List.list_any}
+use Rattle.edge_block.{specs.Slots.BlockView, proofs.Counts.count_more}
 use Rattle.graph_version.specs.Rows as rows
 use Rattle.batch_shards.specs.Done.{Exchanges}
 use Rattle.graph_version.specs.Versions.{is_in}
 use Rattle.batch_apply.proofs.{Placed.times, Kept.count_map}
-use Rattle.edge_block.proofs.Counts.{count_more}
 
 -- Numbers
 

@@ -1,18 +1,17 @@
 -- The rows from which a batch's expiries may take edges.
 use Rattle.std.proofs.Common.{◌≡◌, ◌≢◌, ℕ, ◌+◌, ◌<◌, ◌≤◌, ◌==◌, ◌||◌, Bool, true, false, cond, List, [], ◌∷◌, ◌++◌, map}
 use Rattle.std.proofs.Common.{length, get_or, refl, sym, ap, ap₂, ◌∙◌, arith, subst, All, AllPairs, Option, Some, None, ltb, nat_eq}
-use Rattle.std.specs.{List.list_any, Option.option_or, Option.is_some, FinMap.get}
 use Rattle.std.proofs.lemmas.Bool.{true≢false, eqb-false, true_from_ne_false, le-ltb, ltb-true, ltb-false}
 use Rattle.std.proofs.lemmas.List.{length-map, map-append, get_or-map, Folds.list_any-append, Quantifiers.all_pairs_push}
 use Rattle.std.proofs.lemmas.List.Elements.{All-nil, All-push, All-weaker}
+use Rattle.std.specs.{List.list_any, Option.option_or, Option.is_some, FinMap.get}
 use Rattle.graph_types.specs.Graph.{Graph, Key, Stamp}
 use Rattle.edge_block.specs.Slots.{BlockView, Slot, has_before, stamp_at}
 use Rattle.edge_block.specs.{Rows.Shape, Rows.shape_of, Rows.block_at, Rows.row_at, Batches.IsWithin, Batches.IsLayoutOf}
-use Rattle.graph_version.specs.Rows.{row_of}
+use Rattle.graph_version.specs.{Rows.row_of, Versions.{VersionView, content, layout_of, IsVersion}}
 use Rattle.graph_version.specs.Ages as ages
-use Rattle.graph_version.specs.Versions.{VersionView, content, layout_of, IsVersion}
 use Rattle.batch_shards.specs.Spending.{old_blocks}
-use Rattle.batch_apply.specs.{Shards.is_old_row, OldRows.AreOldRows, OldRows.old_sources, declared.old.OldRow.OldRow}
+use Rattle.batch_apply.specs.{Shards.has_old_shape, OldRows.AreOldRows, OldRows.old_sources, declared.old.OldRow.OldRow}
 use Rattle.batch_apply.proofs.Listing.{none_old_blocks, some_old}
 
 -- nothing is from before the time 0
@@ -21,7 +20,7 @@ none_before_zero [] = refl
 none_before_zero (None ∷ slots) = none_before_zero slots
 none_before_zero (Some e ∷ slots) = ap₂ (λ a b. a || b) (le-ltb e.stamp.recent 0 (omega arith)) (none_before_zero slots)
 
-pub none_old : (row : List Shape) → is_old_row 0 row ≡ false
+pub none_old : (row : List Shape) → has_old_shape 0 row ≡ false
 none_old [] = refl
 none_old (b ∷ row) = ap₂ (λ a c. a || c) (none_before_zero b.slots) (none_old row)
 
@@ -39,7 +38,7 @@ option_none : {A : Type 0} (a b : Option A) → option_or a b ≡ None → (a �
 option_none None b e = (refl, e)
 option_none (Some x) b e = absurd (true≢false (ap is_some e))
 
-no_block : (time : ℕ) (row : List Shape) → ((kind target : ℕ) → row_at row (kind, target) ≡ None) → is_old_row time row ≡ false
+no_block : (time : ℕ) (row : List Shape) → ((kind target : ℕ) → row_at row (kind, target) ≡ None) → has_old_shape time row ≡ false
 no_block time [] none = refl
 no_block time (b ∷ row) none =
     let both = λ (kind target : ℕ). option_none (block_at b (kind, target)) (row_at row (kind, target)) (none kind target) in
@@ -50,7 +49,7 @@ no_block time (b ∷ row) none =
 
 -- a source that no edge has has a row without edges
 pub old_within : (g : Graph) (layout : ℕ → List Shape) (time s : ℕ) → IsWithin g → IsLayoutOf layout g.edges
-    → is_old_row time (layout s) ≡ true → s < length g.names
+    → has_old_shape time (layout s) ≡ true → s < length g.names
 old_within g layout time s within shows old =
     elim (ltb s (length g.names)) as (λ b. ltb s (length g.names) ≡ b → s < length g.names) [
       | true ↦ λ t. ltb-true s (length g.names) t
@@ -64,7 +63,7 @@ old_within g layout time s within shows old =
     ] refl
 
 -- a row of blocks is old where its shapes are, and then some of its blocks are
-of_shapes : (time : ℕ) (row : List BlockView) → is_old_row time (map shape_of row) ≡ ages.is_old_row time row
+of_shapes : (time : ℕ) (row : List BlockView) → has_old_shape time (map shape_of row) ≡ ages.is_old_row time row
 of_shapes time [] = refl
 of_shapes time (b ∷ row) = ap (λ t. has_before time b.slots || t) (of_shapes time row)
 
@@ -154,7 +153,7 @@ none_at_zero rows = record {
 pub old_is_within : (v : VersionView) → IsVersion v → (time s : ℕ) → 0 < old_blocks time (row_of v.rows s)
     → s < length (content v).names
 old_is_within v is time s old = old_within (content v) (layout_of v.rows) time s is.within is.rows.layout
-    (elim (is_old_row time (layout_of v.rows s)) as (λ b. is_old_row time (layout_of v.rows s) ≡ b → b ≡ true) [
+    (elim (has_old_shape time (layout_of v.rows s)) as (λ b. has_old_shape time (layout_of v.rows s) ≡ b → b ≡ true) [
       | true ↦ λ _. refl
       | false ↦ λ f. let none = none_old_blocks time (row_of v.rows s) f in absurd (omega arith)
     ] refl)

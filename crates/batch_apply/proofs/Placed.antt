@@ -2,9 +2,8 @@
 use Rattle.std.proofs.Common.{◌≡◌, ℕ, ◌≤◌, ◌==◌, true, false, cond, List, [], ◌∷◌, ◌++◌, map, flat_map, count_by, refl, sym, ap}
 use Rattle.std.proofs.{Common.ap₂, Common.◌∙◌, Common.arith, Common.subst, Common.All, lemmas.Bool.eq-eqb}
 use Rattle.std.proofs.lemmas.{Bool.eqb-true, Bool.eqb-false, Bool.ne_eqb, List.Elements.All-head, List.Elements.All-tail}
-use Rattle.edge_block.specs.Slots.{BlockView}
+use Rattle.edge_block.{specs.Slots.BlockView, proofs.Counts.count_more}
 use Rattle.batch_apply.specs.Applied.{row_among}
-use Rattle.edge_block.proofs.Counts.{count_more}
 
 abbrev pub times : ℕ → List ℕ → ℕ
 times m xs = count_by (λ x. x == m) xs

@@ -1,8 +1,8 @@
 -- Where a source stands among few that are looked through.
 use Rattle.std.proofs.Common.{◌≡◌, ◌++◌, ℕ, Bool, List, [], ◌∷◌, length, get_or, refl, sym, ap, ◌∙◌, arith, nat_eq, Some, None}
-use Rattle.std.specs.{Prelude.nat_lt, Prelude.position, Prelude.slice_get, List.list_any, List.position_or_len, Option.option_map}
 use Rattle.std.proofs.lemmas.{Bool.eqb-true, List.map-append, List.Quantifiers.position-Some}
 use Rattle.std.proofs.lemmas.Option.{slice_get-get_or, slice_get-map}
+use Rattle.std.specs.{Prelude.nat_lt, Prelude.position, Prelude.slice_get, List.list_any, List.position_or_len, Option.option_map}
 use Rattle.graph_types.specs.declared.ids.VertexId.{VertexId}
 use Rattle.batch_shards.proofs.Places.{list_any-map}
 use Rattle.batch_apply.specs.Shards.{source_numbers, with_number}

@@ -1,12 +1,11 @@
 -- The operations of a batch with the numbers of their names.
 use Rattle.std.proofs.Common.{◌≡◌, ℕ, List, [], ◌∷◌, ◌++◌, length, map, Bool, true, false, cond, ◌&&◌, refl, sym, ap, subst, All}
 use Rattle.std.proofs.Common.{Option, Some, None, arith, append_assoc, ◌∙◌, ◌≤◌, drop}
+use Rattle.std.proofs.lemmas.List.{Elements.All-nil, Elements.All-cons, length-map, map-append, append-nil, drop_all}
 use Rattle.graph_types.specs.{Graph.Key, Step.number_of, Step.key_in, declared.batches.NamedOp.NamedOp}
 use Rattle.edge_block.specs.Operations.{Parts, OfEdge, OfAll, parts_of, names_after, kinds_after}
 use Rattle.edge_block.specs.Batches.{Resolved, AtKey, IsPlaced, is_known, resolve, resolve_parts, resolved}
-use Rattle.std.proofs.lemmas.List.{Elements.All-nil, Elements.All-cons, length-map, map-append, append-nil, drop_all}
-use Rattle.batch_apply.specs.declared.resolve.ResolvedOp.{ResolvedOp}
-use Rattle.batch_apply.specs.Plan.{known, shown, ends_by, key_from, with_kind}
+use Rattle.batch_apply.specs.{declared.resolve.ResolvedOp.ResolvedOp, Plan.{known, shown, ends_by, key_from, with_kind}}
 
 key_cases : (a b c : Bool) (k s t : ℕ)
     → key_from (cond a (Some k) None) (cond b (Some s) None) (cond c (Some t) None) ≡ cond (a && (b && c))

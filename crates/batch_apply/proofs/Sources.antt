@@ -3,9 +3,8 @@ use Rattle.std.proofs.Common.{◌≡◌, ◌<◌, ℕ, List, [], ◌∷◌, leng
 use Rattle.std.proofs.{Common.Some, Common.None, Common.arith, lemmas.List.Elements.All-nil, lemmas.List.Elements.All-cons}
 use Rattle.graph_types.specs.{Graph.Graph, Graph.Key, Step.after_all, Step.key_in, declared.batches.NamedOp.NamedOp}
 use Rattle.graph_types.proofs.NameLists.{number_of-lt}
-use Rattle.edge_block.specs.Rows.{Shape}
-use Rattle.edge_block.specs.Batches.{is_known, resolve_parts, resolved, IsWithin, IsLayoutOf}
-use Rattle.edge_block.specs.Operations.{Parts, OfEdge, OfAll, parts_of, names_after, kinds_after}
+use Rattle.edge_block.specs.{Rows.Shape, Batches.{is_known, resolve_parts, resolved, IsWithin, IsLayoutOf}, Operations.Parts}
+use Rattle.edge_block.specs.Operations.{OfEdge, OfAll, parts_of, names_after, kinds_after}
 use Rattle.batch_shards.specs.{Done.sources_in, declared.shard.Shard.Shard}
 use Rattle.batch_apply.specs.{Plan.names_all, Shards.IsSourceBelow, Shards.IsShardOf, Shards.latest}
 use Rattle.batch_apply.proofs.{OldRows.old_within, Names.no_fewer_all, Leaving.names_left}

@@ -1,19 +1,16 @@
 -- Rows that a batch leaves as they are: no operation is on one of their edges, and no expiry takes one.
-use Rattle.std.proofs.Common.{◌≡◌, ℕ, zero, suc, ◌+◌, ◌%◌, ◌<◌, ◌≤◌, ◌==◌, ◌||◌, List, [], ◌∷◌, map, get_or}
-use Rattle.std.proofs.Common.{count_by, Bool, true, false, cond, refl, sym, ap, ap₂, ◌∙◌, arith, subst, Option, Some, None, All, max}
+use Rattle.std.proofs.Common.{◌≡◌, ℕ, zero, suc, ◌+◌, ◌%◌, ◌<◌, ◌≤◌, ◌==◌, ◌||◌, List, [], ◌∷◌, map, get_or, count_by, Bool, true}
+use Rattle.std.proofs.Common.{false, cond, refl, sym, ap, ap₂, ◌∙◌, arith, subst, Option, Some, None, All, max}
+use Rattle.std.proofs.{Math.Nat.{le-max_left, le-max_right}, lemmas.Bool.{eq-eqb, eqb-true, false_from_ne_true, true≢false}}
+use Rattle.std.proofs.lemmas.{Bool.{le-ltb, ltb-false, or_parts}, List.{map-id, Sums.sum_by-cons}}
+use Rattle.std.proofs.lemmas.List.{FromFn.sum_by-map-range_with_len_more, Elements.{All-head, All-tail, All-cons, All-nil}}
 use Rattle.std.specs.List.{sum_by, range_with_len, list_any}
-use Rattle.std.proofs.Math.Nat.{le-max_left, le-max_right}
-use Rattle.std.proofs.lemmas.Bool.{eq-eqb, eqb-true, false_from_ne_true, true≢false, le-ltb, ltb-false, or_parts}
-use Rattle.std.proofs.lemmas.List.{map-id, Sums.sum_by-cons, FromFn.sum_by-map-range_with_len_more}
-use Rattle.std.proofs.lemmas.List.Elements.{All-head, All-tail, All-cons, All-nil}
 use Rattle.graph_types.specs.{Step.is_before, declared.batches.Outcome.Outcome, declared.batches.Outcome.TheVariants.Expired}
-use Rattle.edge_block.specs.Slots.{Slot, edges_in, has_before, old_in, slots_since}
-use Rattle.edge_block.specs.Rows.{Shape, OpenBlock, untouched, touch, expire_row, old_in_row}
-use Rattle.edge_block.specs.Batches.{Resolved, AtKey, InAll, IsPlaced, key_is_of, shard_of, is_in_shard, shard_ops, sum_below}
-use Rattle.edge_block.specs.Batches.{rows_step, rows_all, row_step, key_outcome, outcomes_all}
-use Rattle.batch_apply.specs.Shards.{latest, is_old_row}
-use Rattle.batch_apply.proofs.{Placed.times, Totals.sum_all}
+use Rattle.edge_block.specs.{Slots.{Slot, edges_in, has_before, old_in, slots_since}, Rows.{Shape, OpenBlock, untouched, touch}}
+use Rattle.edge_block.specs.{Rows.{expire_row, old_in_row}, Batches.{Resolved, AtKey, InAll, IsPlaced, key_is_of, shard_of}}
+use Rattle.edge_block.specs.Batches.{is_in_shard, shard_ops, sum_below, rows_step, rows_all, row_step, key_outcome, outcomes_all}
 use Rattle.edge_block.proofs.Counts.{count_more}
+use Rattle.batch_apply.{specs.Shards.{latest, has_old_shape}, proofs.{Placed.times, Totals.sum_all}}
 
 -- the operation leaves a source's row as it is, and takes no edge of it
 abbrev pub Spares : ℕ → List OpenBlock → Resolved → Type 0
@@ -99,11 +96,11 @@ none_since most time le (e ∷ es) none =
       count_more (λ e. is_before time e.stamp) e es ∙ ap₂ (λ (b : Bool) (k : ℕ). cond b 1 0 + k) here rest.1,
     )
 
-row_since : (most time : ℕ) → time ≤ most → (row : List Shape) → is_old_row most row ≡ false
+row_since : (most time : ℕ) → time ≤ most → (row : List Shape) → has_old_shape most row ≡ false
     → (expire_row time (map untouched row) ≡ map untouched row) × (old_in_row time (map untouched row) ≡ 0)
 row_since most time le [] none = (refl, refl)
 row_since most time le (b ∷ row) none =
-    let parts = or_parts (has_before most b.slots) (is_old_row most row) none in
+    let parts = or_parts (has_before most b.slots) (has_old_shape most row) none in
     let here = none_since most time le (edges_in b.slots) parts.0 in
     let rest = row_since most time le row parts.1 in (
       ap₂ (λ (h : OpenBlock) hs. h ∷ hs)
@@ -117,12 +114,12 @@ abbrev pub KeepsOff : ℕ → Resolved → Type 0
 KeepsOff m (AtKey of key change) = key_is_of m key ≡ false
 KeepsOff m (InAll time) = Unit {0}
 
-spares : (m : ℕ) (most : ℕ) (row : List Shape) → is_old_row most row ≡ false → (r : Resolved) → KeepsOff m r → IsUpTo most r
+spares : (m : ℕ) (most : ℕ) (row : List Shape) → has_old_shape most row ≡ false → (r : Resolved) → KeepsOff m r → IsUpTo most r
     → Spares m (map untouched row) r
 spares m most row none (AtKey of key change) off le = off
 spares m most row none (InAll time) off le = row_since most time le row none
 
-pub all_spare : (m : ℕ) (rs : List Resolved) (row : List Shape) → is_old_row (latest rs) row ≡ false → All (KeepsOff m) rs
+pub all_spare : (m : ℕ) (rs : List Resolved) (row : List Shape) → has_old_shape (latest rs) row ≡ false → All (KeepsOff m) rs
     → All (Spares m (map untouched row)) rs
 all_spare m rs row none off k d lt = spares m (latest rs) row none (get_or rs k d) (off k d lt) (up_to rs k d lt)
 

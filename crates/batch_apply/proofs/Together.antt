@@ -1,28 +1,23 @@
 -- The blocks that all workers take and drop are those of the batch.
 use Rattle.std.proofs.Common.{◌≡◌, ◌≢◌, ℕ, zero, suc, ◌+◌, ◌%◌, ◌<◌, ◌≤◌, ◌==◌, List, [], ◌∷◌, ◌++◌, length, map, flat_map}
-use Rattle.std.proofs.Common.{get_or, true, false, cond, refl, sym, ap, ap₂, ◌∙◌, arith, subst, Option, Some}
-use Rattle.std.proofs.Common.{None, All, AllPairs, mod-lt, zip, ◌||◌}
+use Rattle.std.proofs.Common.{get_or, true, false, cond, refl, sym, ap, ap₂, ◌∙◌, arith, subst, Option, Some, None, All, AllPairs}
+use Rattle.std.proofs.{Common.{mod-lt, zip, ◌||◌}, lemmas.Bool.{eq-eqb, eqb-true, eqb-false, false_from_ne_true, true≢false}}
+use Rattle.std.proofs.lemmas.List.{length-map, get_or-map, Sums.{sum_by-cons, sum_by-append}, Elements.{All-head, All-tail}}
+use Rattle.std.proofs.lemmas.List.Elements.{All-cons, All-nil, All-append, All-map}
 use Rattle.std.specs.{List.sum_by, List.range_with_len, List.AllZip, List.list_any, Prelude.nat_eq}
-use Rattle.std.proofs.lemmas.Bool.{eq-eqb, eqb-true, eqb-false, false_from_ne_true, true≢false}
-use Rattle.std.proofs.lemmas.List.{length-map, get_or-map, Sums.sum_by-cons, Sums.sum_by-append}
-use Rattle.std.proofs.lemmas.List.Elements.{All-head, All-tail, All-cons, All-nil, All-append, All-map}
 use Rattle.graph_types.specs.{Graph.Graph, Step.after_all, declared.batches.NamedOp.NamedOp, declared.batches.Outcome.Outcome}
-use Rattle.edge_block.specs.Rows.{Shape, OpenBlock, untouched, taken_in, dropped_in, shape_of, row_end}
-use Rattle.edge_block.specs.Batches.{Resolved, AtKey, InAll, resolved, is_in_shard, shard_ops, rows_all, opened, key_is_of}
-use Rattle.edge_block.specs.Batches.{taken_by, dropped_by, outcomes_all, layout_after, sum_below, IsWithin, IsLayoutOf}
-use Rattle.batch_shards.specs.{Births.births_end, Shards.IsAct, Shards.IsPlace, Shards.key_at, Shards.resolved_at}
-use Rattle.batch_shards.specs.declared.shard.{Act.Act, Act.TheVariants.Edge, Act.TheVariants.Expire, Shard.Shard, Step.Step}
-use Rattle.batch_shards.specs.Done.{IsShardDone, sources_in, steps_in, rows_by, layout_by, sum_of}
-use Rattle.batch_shards.specs.declared.shard.{ShardDone.ShardDone, Place.Place}
+use Rattle.edge_block.specs.{Rows.{Shape, OpenBlock, untouched, taken_in, dropped_in, shape_of, row_end}, Batches.Resolved}
+use Rattle.edge_block.specs.Batches.{AtKey, InAll, resolved, is_in_shard, shard_ops, rows_all, opened, key_is_of, taken_by}
+use Rattle.edge_block.specs.{Batches.{dropped_by, outcomes_all, layout_after, sum_below, IsWithin, IsLayoutOf}, Slots.BlockView}
+use Rattle.batch_shards.specs.{Births.births_end, Shards.{IsAct, IsPlace, key_at, resolved_at}, declared.shard.Act.Act}
+use Rattle.batch_shards.specs.declared.shard.{Act.TheVariants.{Edge, Expire}, Shard.Shard, Step.Step, ShardDone.ShardDone}
+use Rattle.batch_shards.specs.{declared.shard.Place.Place, Done.{IsShardDone, sources_in, steps_in, rows_by, layout_by, sum_of}}
 use Rattle.batch_shards.{specs.Closing.row_values, proofs.Places.count_by-append}
 use Rattle.graph_version.specs.Versions.{is_in}
-use Rattle.batch_apply.specs.{Shards.acts, Shards.unsourced, Shards.latest, Shards.is_old_row, Shards.IsShardOf}
-use Rattle.batch_apply.specs.{Plans.results, Plans.told, Sums.ArePlanned}
-use Rattle.batch_apply.proofs.Spared.{Spares, KeepsOff, rows_spared, over_all, all_spare, off_all}
-use Rattle.batch_apply.proofs.Totals.{sum_all, worker_rows, none_taken, none_dropped, same_outcomes}
-use Rattle.batch_apply.proofs.{Kept.some_times, Placed.times, Merge.same_ops, Merge.shard_places, Merge.kept_all}
-use Rattle.batch_apply.proofs.{Resolving.placed_in, Sources.sources_within}
-use Rattle.edge_block.specs.Slots.{BlockView}
+use Rattle.batch_apply.specs.{Shards.{acts, unsourced, latest, has_old_shape, IsShardOf, ArePlanned}, Plans.{results, told}}
+use Rattle.batch_apply.proofs.{Spared.{Spares, KeepsOff, rows_spared, over_all, all_spare, off_all}, Totals.sum_all}
+use Rattle.batch_apply.proofs.{Totals.{worker_rows, none_taken, none_dropped, same_outcomes}, Kept.some_times, Placed.times}
+use Rattle.batch_apply.proofs.{Merge.{same_ops, shard_places, kept_all}, Resolving.placed_in, Sources.sources_within}
 use Rattle.edge_block.proofs.Counts.{count_more}
 
 no_times : (m : ℕ) (xs : List ℕ) → All (λ x. x ≡ m → ⊥) xs → times m xs ≡ 0
@@ -173,8 +168,8 @@ module _ (workers : ℕ) (ops : List NamedOp) (g : Graph) (layout : ℕ → List
 
   -- nor has its row an edge that one of the expiries takes
   no_old : (w m : ℕ) (shard : Shard) → IsShardOf workers (resolved ops g.names g.kinds) layout w shard → m % workers ≡ w
-      → times m (sources_in shard) ≡ 0 → is_old_row (latest rs) (layout m) ≡ false
-  no_old w m shard is own none = false_from_ne_true (is_old_row (latest rs) (layout m)) (λ old.
+      → times m (sources_in shard) ≡ 0 → has_old_shape (latest rs) (layout m) ≡ false
+  no_old w m shard is own none = false_from_ne_true (has_old_shape (latest rs) (layout m)) (λ old.
       let some = listed_times m (sources_in shard) (is.old_rows m own old) in omega (arith, some, none))
 
   module _ (positive : 0 < workers) (shards : List Shard) (planned : ArePlanned workers ops g layout shards) where

@@ -1,16 +1,14 @@
 -- A batch's outcomes are told as they are: no expiry takes 2 ^ 64 edges.
 use Rattle.std.proofs.Common.{◌≡◌, ℕ, ◌+◌, ◌^◌, ◌<◌, ◌≤◌, Bool, true, false, cond, List, [], ◌∷◌, length, map, refl, ap, ap₂}
 use Rattle.std.proofs.{Common.arith, Math.Nat.mod-eq_of_lt}
-use Rattle.std.specs.{Prelude.◌+ℤ◌, Prelude.if◌then◌else◌, FinMap.get, FinMap.len}
-use Rattle.std.specs.declared.option.Option.{Option, TheVariants.None, TheVariants.Some}
+use Rattle.std.specs.{Prelude.{◌+ℤ◌, if◌then◌else◌}, FinMap.{get, len}, declared.option.Option.{Option, TheVariants.{None, Some}}}
 use Rattle.graph_types.{proofs.Expiry.fewer, specs.Graph.Graph, specs.Graph.Stamp, specs.Limits.is_weight, specs.Step.after}
-use Rattle.graph_types.specs.{Step.outcome, Step.outcomes, Step.outcome_at, Step.changed_key, declared.batches.NamedOp.NamedOp}
-use Rattle.graph_types.specs.declared.batches.NamedOp.TheVariants.{Insert, Incr, Remove, Expire}
-use Rattle.graph_types.specs.declared.batches.Outcome.{Outcome, TheVariants.Updated, TheVariants.Overflow, TheVariants.Expired}
-use Rattle.graph_types.specs.declared.changes.EdgeChange.{EdgeChange}
+use Rattle.graph_types.specs.{Step.{outcome, outcomes, outcome_at, changed_key}, declared.batches.NamedOp.NamedOp}
+use Rattle.graph_types.specs.declared.batches.{NamedOp.TheVariants.{Insert, Incr, Remove, Expire}, Outcome.Outcome}
+use Rattle.graph_types.specs.declared.{batches.Outcome.TheVariants.{Updated, Overflow, Expired}, changes.EdgeChange.EdgeChange}
 use Rattle.graph_types.specs.declared.changes.EdgeChange.TheVariants.{Insert as ToInsert, Incr as ToIncr, Remove as ToRemove}
 use Rattle.batch_shards.specs.Groups.{told}
-use Rattle.batch_apply.{specs.Counts.is_inserted, proofs.EdgeCounts.op_len}
+use Rattle.batch_apply.{specs.Applied.is_inserted, proofs.EdgeCounts.op_len}
 
 change_told : (change : EdgeChange) (before : Option Stamp) → told (outcome_at change before) ≡ outcome_at change before
 change_told (ToInsert weight time) None = refl

@@ -1,16 +1,14 @@
 -- Sums over the sources of shards are sums over all sources.
-use Rattle.std.proofs.Common.{◌≡◌, ℕ, zero, suc, ◌+◌, ◌%◌, ◌<◌, ◌≤◌, ◌==◌, List, [], ◌∷◌, map, filter, All}
-use Rattle.std.proofs.Common.{count_by, Bool, true, false, cond, not, ◌&&◌, refl, sym, ap, ap₂, ◌∙◌, arith}
+use Rattle.std.proofs.Common.{◌≡◌, ℕ, zero, suc, ◌+◌, ◌%◌, ◌<◌, ◌≤◌, ◌==◌, List, [], ◌∷◌, map, filter, All, count_by, Bool, true}
+use Rattle.std.proofs.{Common.{false, cond, not, ◌&&◌, refl, sym, ap, ap₂, ◌∙◌, arith}, lemmas.Bool.{eqb-true, eqb-false}}
+use Rattle.std.proofs.lemmas.{Bool.false_from_ne_true, List.{Sums.sum_by-cons, Elements.{All-head, All-tail, All-cons, All-nil}}}
 use Rattle.std.specs.List.{sum_by}
-use Rattle.std.proofs.lemmas.Bool.{eqb-true, eqb-false, false_from_ne_true}
-use Rattle.std.proofs.lemmas.List.{Sums.sum_by-cons, Elements.All-head, Elements.All-tail, Elements.All-cons, Elements.All-nil}
 use Rattle.graph_types.specs.{Graph.Graph, declared.batches.NamedOp.NamedOp}
-use Rattle.edge_block.specs.Rows.{Shape, OpenBlock, untouched, taken_in, dropped_in, has_none}
-use Rattle.edge_block.specs.Batches.{Resolved, AtKey, InAll, resolved, shard_ops, sum_below, rows_all, rows_step, outcome_in}
-use Rattle.edge_block.{specs.Batches.outcomes_all, proofs.ShardLaws.shard_rows}
+use Rattle.edge_block.specs.{Rows.{Shape, OpenBlock, untouched, taken_in, dropped_in, has_none}, Batches.{Resolved, AtKey, InAll}}
+use Rattle.edge_block.specs.Batches.{resolved, shard_ops, sum_below, rows_all, rows_step, outcome_in, outcomes_all}
+use Rattle.edge_block.proofs.{ShardLaws.shard_rows, Counts.count_more}
 use Rattle.batch_apply.specs.Shards.{acts, unsourced, IsShardOf}
 use Rattle.batch_shards.specs.{Done.steps_in, declared.shard.Shard.Shard}
-use Rattle.edge_block.proofs.Counts.{count_more}
 
 -- rows and outcomes don't depend on the sources' numbers beside the keys
 unsourced_rows : (r : Resolved) (rows : ℕ → List OpenBlock) → rows_step (unsourced r) rows ≡ rows_step r rows

@@ -1,19 +1,12 @@
 -- What applying a batch to a version leaves.
-use Rattle.std.specs.Prelude.{◌≡◌, ℕ, ◌+◌, ◌==◌, List, [], ◌∷◌, ◌++◌, length, count_by, Bool, if◌then◌else◌}
-use Rattle.graph_types.specs.Step.{after_all, outcomes}
-use Rattle.graph_types.specs.declared.batches.NamedOp.{NamedOp}
-use Rattle.edge_block.specs.Slots.{BlockView}
-use Rattle.edge_block.specs.Batches.{layout_after, taken_by, dropped_by}
-use Rattle.batch_shards.specs.Births.{CarriesBirths}
-use Rattle.graph_version.specs.Rows.{row_of, blocks_of}
+use Rattle.std.specs.Prelude.{◌≡◌, ℕ, ◌+◌, ◌==◌, List, [], ◌∷◌, ◌++◌, length, count_by, Bool, if◌then◌else◌, true, false}
+use Rattle.graph_types.specs.{Step.{after_all, outcomes}, declared.batches.{NamedOp.NamedOp, Outcome.Outcome}}
+use Rattle.graph_types.specs.declared.batches.Outcome.TheVariants.{Inserted, Removed, Expired}
+use Rattle.edge_block.specs.{Slots.BlockView, Batches.{layout_after, taken_by, dropped_by}}
+use Rattle.batch_shards.specs.{Births.CarriesBirths, Done.Exchanges, declared.shard.ShardDone.ShardDone}
+use Rattle.graph_version.specs.{Rows.{row_of, blocks_of}, Versions.{VersionView, IsVersion, content, layout_of}, Drafts.DraftView}
 use Rattle.batch_shards.specs.RowBlocks as shared
-use Rattle.batch_shards.specs.Done.{Exchanges}
-use Rattle.graph_version.specs.Versions.{VersionView, IsVersion, content, layout_of}
-use Rattle.graph_version.specs.Drafts.{DraftView}
-use Rattle.graph_types.specs.declared.batches.Outcome.{Outcome}
-use Rattle.batch_shards.specs.declared.shard.ShardDone.{ShardDone}
-use Rattle.batch_apply.specs.Plans.{written}
-use Rattle.batch_apply.specs.declared.applied.Applied.{Applied}
+use Rattle.batch_apply.specs.{Plans.written, declared.applied.Applied.Applied}
 
 -- the next version of a version, after this batch, made with fresh blocks of these numbers
 pub record IsApplied (v : VersionView) (ops : List NamedOp) (numbers : List ℕ) (a : Applied) : Type 0 where
@@ -49,3 +42,14 @@ pub record ReplacesRows (rows : List (ℕ × List BlockView)) (before after : Dr
 abbrev pub written_from : List ShardDone → List Outcome → List Outcome
 written_from [] outcomes = outcomes
 written_from (d ∷ dones) outcomes = written_from dones (written d.outcomes.items outcomes)
+
+-- one edge more
+abbrev pub is_inserted : Outcome → Bool
+is_inserted Inserted = true
+is_inserted _ = false
+
+-- how many edges less
+abbrev pub taken_away : Outcome → ℕ
+taken_away Removed = 1
+taken_away (Expired count) = count
+taken_away _ = 0

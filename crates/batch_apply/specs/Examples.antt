@@ -1,10 +1,8 @@
 -- What a batch needs of two rows, worked out.
-use Rattle.std.specs.Prelude.{ℕ, List, [], ◌∷◌, pos}
-use Rattle.std.specs.declared.option.Option.TheVariants.{None, Some}
+use Rattle.std.specs.{Prelude.{ℕ, List, [], ◌∷◌, pos}, declared.option.Option.TheVariants.{None, Some}}
 use Rattle.graph_types.specs.declared.changes.EdgeChange.TheVariants.{Remove}
 use Rattle.edge_block.specs.Slots.{BlockView, edge_slot}
-use Rattle.batch_shards.specs.declared.shard.Act.TheVariants.{Edge, Expire}
-use Rattle.batch_shards.specs.declared.shard.Step.{Step}
+use Rattle.batch_shards.specs.declared.shard.{Act.TheVariants.{Edge, Expire}, Step.Step}
 
 -- a block with one edge, last touched at a time
 abbrev block_from : ℕ → BlockView

@@ -1,23 +1,13 @@
 -- The numbers of a batch's names, each operation by the names at its place.
-use Rattle.std.specs.Prelude.{ℕ, ◌<◌, ◌≤◌, List, [], ◌∷◌, length, if◌then◌else◌}
-use Rattle.std.specs.Option.{option_map}
-use Rattle.std.specs.declared.option.Option.{Option}
-use Rattle.std.specs.declared.option.Option.TheVariants.{None, Some}
-use Rattle.graph_types.specs.Graph.{Key}
-use Rattle.graph_types.specs.Step.{number_of}
-use Rattle.graph_types.specs.declared.batches.NamedOp.{NamedOp}
-use Rattle.graph_types.specs.Changes.{IsChange}
-use Rattle.vertex_names.specs.Book.{Book}
-use Rattle.vertex_names.specs.declared.book.AddError.{AddError}
-use Rattle.vertex_names.specs.declared.book.AddError.TheVariants.{NamesFull, OutOfMemory}
+use Rattle.std.specs.{Prelude.{ℕ, ◌<◌, ◌≤◌, List, [], ◌∷◌, length, if◌then◌else◌}, Option.option_map}
+use Rattle.std.specs.declared.option.Option.{Option, TheVariants.{None, Some}}
+use Rattle.graph_types.specs.{Graph.Key, Step.number_of, declared.batches.NamedOp.NamedOp, Changes.IsChange}
+use Rattle.vertex_names.specs.{Book.Book, declared.book.AddError.{AddError, TheVariants.{NamesFull, OutOfMemory}}}
 use Rattle.edge_block.specs.Operations.{Parts, OfEdge, OfAll, parts_of, names_after, kinds_after}
 use Rattle.edge_block.specs.Batches.{Resolved, AtKey, InAll, is_known}
-use Rattle.batch_apply.specs.declared.plans.PlanError.{PlanError}
-use Rattle.batch_apply.specs.declared.plans.PlanError.TheVariants as plan
-use Rattle.batch_apply.specs.declared.resolve.Ends.{Ends}
-use Rattle.batch_apply.specs.declared.resolve.EdgeKey.{EdgeKey}
-use Rattle.batch_apply.specs.declared.resolve.ResolvedOp.{ResolvedOp}
+use Rattle.batch_apply.specs.declared.{plans.PlanError.PlanError, resolve.{Ends.Ends, EdgeKey.EdgeKey, ResolvedOp.ResolvedOp}}
 use Rattle.batch_apply.specs.declared.resolve.ResolvedOp.TheVariants.{Edge, Expire}
+use Rattle.batch_apply.specs.declared.plans.PlanError.TheVariants as plan
 
 -- a name's number, if it has appeared
 abbrev pub known : List (List ℕ) → List ℕ → Option ℕ

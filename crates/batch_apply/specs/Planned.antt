@@ -1,19 +1,11 @@
 -- The plan of a batch: what it leaves of the names, and its operations by worker.
-use Rattle.std.specs.Prelude.{◌≡◌, ℕ, List, map}
-use Rattle.std.specs.List.{range_with_len, AllZip}
-use Rattle.graph_types.specs.Graph.{Graph}
-use Rattle.graph_types.specs.GraphLimits.{MeetsNameLimit, MeetsKindLimit}
-use Rattle.graph_types.specs.Step.{after_all}
-use Rattle.graph_types.specs.declared.batches.NamedOp.{NamedOp}
-use Rattle.edge_block.specs.Slots.{BlockView}
-use Rattle.edge_block.specs.Batches.{resolved}
-use Rattle.batch_shards.specs.Done.{layout_by, sources_in}
-use Rattle.batch_shards.specs.Spending.{needed}
+use Rattle.std.specs.{Prelude.{◌≡◌, ℕ, List, map}, List.{range_with_len, AllZip}}
+use Rattle.graph_types.specs.{Graph.Graph, Step.{MeetsNameLimit, MeetsKindLimit, after_all}, declared.batches.NamedOp.NamedOp}
+use Rattle.edge_block.specs.{Slots.BlockView, Batches.resolved}
+use Rattle.batch_shards.specs.{Done.{layout_by, sources_in}, Spending.needed}
 use Rattle.graph_version.specs.Kept.{vertex_book, kind_book}
-use Rattle.batch_apply.specs.Shards.{IsShardOf}
-use Rattle.batch_apply.specs.declared.plans.Plan.{Plan}
-use Rattle.batch_apply.specs.declared.plans.PlanError.{PlanError}
-use Rattle.batch_apply.specs.declared.plans.PlanError.TheVariants.{NamesFull, KindsFull, OutOfMemory}
+use Rattle.batch_apply.specs.{Shards.IsShardOf, declared.plans.{Plan.Plan, PlanError.{PlanError, TheVariants.NamesFull}}}
+use Rattle.batch_apply.specs.declared.plans.PlanError.TheVariants.{KindsFull, OutOfMemory}
 
 -- the books have the names that the batch leaves of the graph, the shards over its rows are those of workers 0, 1, .. in order,
 -- and each may take as many fresh blocks as it has operations on edges, and blocks with an edge that an expiry may take

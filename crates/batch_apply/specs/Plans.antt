@@ -1,12 +1,7 @@
 -- A plan: a batch's operations with the numbers of their names, by shard.
-use Rattle.std.specs.Prelude.{ℕ, ◌+◌, List, [], ◌∷◌, map, get_or, set, Bool}
-use Rattle.std.specs.List.{enumerate_from}
-use Rattle.graph_types.specs.Graph.{Graph}
-use Rattle.graph_types.specs.declared.batches.NamedOp.{NamedOp}
-use Rattle.graph_types.specs.declared.batches.Outcome.{Outcome}
-use Rattle.graph_types.specs.declared.batches.Outcome.TheVariants.{Absent}
-use Rattle.edge_block.specs.Rows.{OpenBlock}
-use Rattle.edge_block.specs.Batches.{Resolved, resolved, is_in_shard, outcomes_all, picked, together}
+use Rattle.std.specs.{Prelude.{ℕ, ◌+◌, List, [], ◌∷◌, map, get_or, set, Bool}, List.enumerate_from}
+use Rattle.graph_types.specs.{Graph.Graph, declared.batches.{NamedOp.NamedOp, Outcome.{Outcome, TheVariants.Absent}}}
+use Rattle.edge_block.specs.{Rows.OpenBlock, Batches.{Resolved, resolved, is_in_shard, outcomes_all, picked, together}}
 pub use Rattle.batch_shards.specs.Groups.{told}
 
 -- the batch's operations, each with its place

@@ -1,18 +1,10 @@
 -- The operations of a batch by worker.
-use Rattle.std.specs.Prelude.{◌≡◌, ◌≢◌, ℕ, ◌<◌, ◌%◌, List, [], ◌∷◌, ◌++◌, map, filter, length, if◌then◌else◌}
-use Rattle.std.specs.Prelude.{nat_eq, All, AllPairs, Bool, true}
-use Rattle.std.specs.List.{enumerate_from, list_any}
-use Rattle.std.specs.declared.option.Option.{Option}
-use Rattle.std.specs.declared.option.Option.TheVariants.{None, Some}
-use Rattle.graph_types.specs.Graph.{Key}
-use Rattle.graph_types.specs.declared.ids.VertexId.{VertexId}
-use Rattle.edge_block.specs.Slots.{has_before}
-use Rattle.edge_block.specs.Rows.{Shape}
-use Rattle.edge_block.specs.Batches.{Resolved, AtKey, InAll, is_in_shard, shard_ops}
-use Rattle.batch_shards.specs.Shards.{AreSteps, resolved_in}
-use Rattle.batch_shards.specs.Done.{sources_in}
-use Rattle.batch_shards.specs.Spending.{latest_by}
-use Rattle.batch_shards.specs.declared.shard.Shard.{Shard}
+use Rattle.std.specs.Prelude.{◌≡◌, ◌≢◌, ℕ, ◌<◌, ◌%◌, List, [], ◌∷◌, ◌++◌, map, filter, length, if◌then◌else◌, nat_eq, All}
+use Rattle.std.specs.{Prelude.{AllPairs, Bool, true}, List.{enumerate_from, list_any, range_with_len, AllZip}}
+use Rattle.std.specs.declared.option.Option.{Option, TheVariants.{None, Some}}
+use Rattle.graph_types.specs.{Graph.{Key, Graph}, declared.{ids.VertexId.VertexId, batches.NamedOp.NamedOp}}
+use Rattle.edge_block.specs.{Slots.has_before, Rows.Shape, Batches.{Resolved, AtKey, InAll, is_in_shard, shard_ops, resolved}}
+use Rattle.batch_shards.specs.{Shards.{AreSteps, resolved_in}, Done.sources_in, Spending.latest_by, declared.shard.Shard.Shard}
 use Rattle.batch_shards.specs.declared.shard.Step.{Step}
 
 -- an operation without its source's number, on which neither rows nor outcomes depend
@@ -56,8 +48,8 @@ abbrev pub latest : List Resolved → ℕ
 latest rs = latest_by time_of rs
 
 -- whether a row has an edge that was last touched before a time
-abbrev pub is_old_row : ℕ → List Shape → Bool
-is_old_row time row = list_any (λ b. has_before time b.slots) row
+abbrev pub has_old_shape : ℕ → List Shape → Bool
+has_old_shape time row = list_any (λ b. has_before time b.slots) row
 
 -- A worker's operations among those of a batch, in order, each with its place in the batch and that of its source. Among the
 -- sources are all of the worker's whose rows are old.
@@ -74,4 +66,9 @@ pub record AreShardSteps (workers : ℕ) (rs : List Resolved) (w : ℕ) (is_old 
 -- the shard of a worker over a version of this layout: it opens each row of its own from which an expiry may take an edge
 abbrev pub IsShardOf : ℕ → List Resolved → (ℕ → List Shape) → ℕ → Shard → Type 0
 IsShardOf workers rs layout w shard =
-    AreShardSteps workers rs w (λ s. is_old_row (latest rs) (layout s)) (sources_in shard) shard.steps.items
+    AreShardSteps workers rs w (λ s. has_old_shape (latest rs) (layout s)) (sources_in shard) shard.steps.items
+
+-- one shard for each worker, in order, each with the batch's operations on the worker's sources, over a version's layout
+abbrev pub ArePlanned : ℕ → List NamedOp → Graph → (ℕ → List Shape) → List Shard → Type 0
+ArePlanned workers ops g layout shards =
+    AllZip (IsShardOf workers (resolved ops g.names g.kinds) layout) (range_with_len 0 workers) shards

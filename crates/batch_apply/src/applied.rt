@@ -14,8 +14,8 @@ ghost use Rattle.graph_version.specs.Versions.{content, is_in};
 ghost use Rattle.batch_apply.specs.Planned.{IsPlan};
 ghost use Rattle.batch_apply.specs.Plans.{written};
 ghost use Rattle.batch_shards.specs.Groups.{told};
-ghost use Rattle.batch_apply.specs.Jobs.{IsDealt, IsShard};
-ghost use Rattle.batch_apply.specs.Counts.{is_inserted, taken_away};
+ghost use Rattle.batch_apply.specs.Gathered.{IsDealt, IsShard};
+ghost use Rattle.batch_apply.specs.Applied.{is_inserted, taken_away};
 ghost use Rattle.batch_apply.specs.Applied.{IsApplied, ReplacesRows, written_from};
 ghost use Rattle.batch_apply.specs.Gathered.{IsGathered};
 

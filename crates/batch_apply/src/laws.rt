@@ -16,7 +16,7 @@ ghost use Rattle.graph_version.specs.Rows.{row_of, blocks_of};
 ghost use Rattle.batch_apply.specs.Shards.{IsShardOf};
 ghost use Rattle.batch_apply.specs.Planned.{IsPlan};
 ghost use Rattle.batch_apply.specs.declared.plans.Plan.{Plan};
-ghost use Rattle.batch_apply.specs.Sums.{ArePlanned};
+ghost use Rattle.batch_apply.specs.Shards.{ArePlanned};
 ghost use Rattle.batch_shards.specs.Done.{IsShardDone, layout_by, sources_in, steps_in};
 ghost use Rattle.batch_shards.specs.declared.shard.Shard.{Shard};
 ghost use Rattle.batch_apply.specs.Plans.{written_all, results};

@@ -4,7 +4,7 @@ ghost use Rattle.std.specs.Prelude.{◌≡◌, ◌+◌, ◌++◌, ◌<◌, ◌�
 ghost use Rattle.std.specs.Thread.{IsSync};
 ghost use Rattle.graph_version.specs.Rows.{row_of};
 ghost use Rattle.batch_shards.specs.Done.{IsShardDone};
-ghost use Rattle.batch_apply.specs.Jobs.{IsShard, AreDone};
+ghost use Rattle.batch_apply.specs.Gathered.{IsShard, AreDone};
 
 use batch_shards::{Shard, ShardDone, work_on};
 use graph_version::Version;

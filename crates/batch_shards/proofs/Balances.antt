@@ -1,14 +1,11 @@
 -- What stays, is dropped, is written and is handed back adds up, block by block and row by row.
-use Rattle.std.proofs.Common.{◌≡◌, ℕ, ◌+◌, Bool}
-use Rattle.std.proofs.Common.{true, false, cond, not, ◌&&◌, List, [], ◌∷◌, ◌++◌, map, flat_map, count_by, refl, ap, ◌∙◌, arith}
-use Rattle.std.{specs.Option.option_to_list, proofs.lemmas.List.map-append}
-use Rattle.edge_block.specs.Slots.{BlockView}
-use Rattle.edge_block.specs.Rows.{shape_of, has_none}
-use Rattle.batch_shards.specs.RowBlocks.{block_of, had_here, had_in, own_here, own_in}
-use Rattle.batch_shards.specs.Closing.{after_here, stays_here, written_here, dropped_here, unused_here, after_of, stays_of}
-use Rattle.batch_shards.specs.Closing.{written_of, dropped_of, unused_of, stays_all, written_all, dropped_all, unused_all}
-use Rattle.batch_shards.specs.{Shards.had_all, Shards.own_all, declared.row_blocks.RowBlock.RowBlock}
-use Rattle.batch_shards.{specs.declared.shard.OpenRow.OpenRow, proofs.Places.count_by-append}
+use Rattle.std.proofs.Common.{◌≡◌, ℕ, ◌+◌, Bool, true, false, cond, not, ◌&&◌, List, [], ◌∷◌, ◌++◌, map, flat_map, count_by, refl}
+use Rattle.std.{proofs.{Common.{ap, ◌∙◌, arith}, lemmas.List.map-append}, specs.Option.option_to_list}
+use Rattle.edge_block.specs.{Slots.BlockView, Rows.{shape_of, has_none}}
+use Rattle.batch_shards.specs.{RowBlocks.{block_of, had_here, had_in, own_here, own_in}, Closing.{after_here, stays_here}}
+use Rattle.batch_shards.specs.Closing.{written_here, dropped_here, unused_here, after_of, stays_of, written_of, dropped_of}
+use Rattle.batch_shards.specs.{Closing.{unused_of, stays_all, written_all, dropped_all, unused_all}, Shards.{had_all, own_all}}
+use Rattle.batch_shards.{specs.declared.{row_blocks.RowBlock.RowBlock, shard.OpenRow.OpenRow}, proofs.Places.count_by-append}
 
 -- what balances in each element balances in the whole list
 pub balance : {X A : Type 0} (p : A → Bool) (a b c d : X → List A)

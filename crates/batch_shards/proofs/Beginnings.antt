@@ -4,16 +4,14 @@ use Rattle.std.proofs.{Common.subst, Common.All, lemmas.Bool.false≢true, lemma
 use Rattle.std.proofs.lemmas.List.{get_or-map, get_or_default, length-map, Elements.All-nil}
 use Rattle.std.specs.declared.{alloc.Global.Global, option.Option.TheVariants.None, option.Option.TheVariants.Some, sync.Arc.Arc}
 use Rattle.graph_types.specs.declared.batches.Outcome.{Outcome}
-use Rattle.edge_block.specs.Batches.{opened, rows_all, outcome_in}
-use Rattle.edge_block.specs.{declared.blocks.Block.Block, Slots.BlockView}
-use Rattle.edge_block.specs.Rows.{OpenBlock, shape_of, untouched}
-use Rattle.batch_shards.specs.RowBlocks.{block_of, blocks_of, kept_of, opens, had_in, numbers_of, IsOf}
-use Rattle.batch_shards.specs.{Closing.row_values, Shards.resolved_at, Shards.resolved_in, Spending.needed, Spending.needed_past}
-use Rattle.batch_shards.specs.{Groups.is_past, Groups.is_expiry, Groups.told, Groups.none_told, Done.layout_by}
-use Rattle.batch_shards.specs.declared.shard.{Act.Act, Act.TheVariants.Edge, Act.TheVariants.Expire, Step.Step, OpenRow.OpenRow}
-use Rattle.batch_shards.specs.{Progress.AreOutcomes, Progress.AreRowsDone, declared.shard.ShardDone.ShardDone}
+use Rattle.edge_block.specs.{Batches.{opened, rows_all, outcome_in}, declared.blocks.Block.Block, Slots.BlockView, Rows.OpenBlock}
+use Rattle.edge_block.specs.Rows.{shape_of, untouched}
+use Rattle.batch_shards.specs.{RowBlocks.{block_of, blocks_of, kept_of, opens, had_in, numbers_of, IsOf}, Closing.row_values}
+use Rattle.batch_shards.specs.{Shards.{resolved_at, resolved_in}, Spending.{needed, needed_past}, Groups.{is_past, is_expiry}}
+use Rattle.batch_shards.specs.{Groups.{told, none_told}, Done.layout_by, declared.shard.Act.{Act, TheVariants.{Edge, Expire}}}
+use Rattle.batch_shards.specs.{declared.shard.{Step.Step, OpenRow.OpenRow, ShardDone.ShardDone}, Progress.AreOutcomes}
+use Rattle.batch_shards.{specs.Progress.AreRowsDone, proofs.{ShardSteps.first_step, SourceSteps.outcome_of, Expiring.count_wider}}
 use Rattle.graph_version.specs.Versions.{IsBlockOf}
-use Rattle.batch_shards.proofs.{ShardSteps.first_step, SourceSteps.outcome_of, Expiring.count_wider}
 
 -- the row that is opened
 pub kept_all : (bs : List (Arc Block Global)) → map kept_of bs ≡ map untouched (map shape_of (blocks_of bs))

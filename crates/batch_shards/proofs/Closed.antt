@@ -1,18 +1,16 @@
 -- What closed rows are: their layout, how many blocks they took and dropped, and whose blocks they have.
 use Rattle.std.proofs.Common.{◌≡◌, ℕ, ◌+◌, Bool, true, false, cond, not, ◌&&◌, ◌||◌, ◌⊎◌, inl, inr, List, [], ◌∷◌, ◌++◌, length}
 use Rattle.std.proofs.Common.{map, filter, flat_map, refl, sym, ap, ap₂, ◌∙◌, All, length-append, arith}
-use Rattle.std.proofs.lemmas.List.{Sums.sum_by-cons, Elements.All-head, Elements.All-tail, Elements.All-cons, Elements.All-nil}
-use Rattle.std.proofs.lemmas.List.Elements.{All-append}
+use Rattle.std.proofs.lemmas.List.{Sums.sum_by-cons, Elements.{All-head, All-tail, All-cons, All-nil, All-append}}
 use Rattle.std.specs.{Option.is_some, Option.option_to_list, declared.alloc.Global.Global}
 use Rattle.std.specs.declared.{option.Option.Option, option.Option.TheVariants.None, option.Option.TheVariants.Some, sync.Arc.Arc}
-use Rattle.edge_block.specs.{declared.blocks.Block.Block, Slots.BlockView}
-use Rattle.edge_block.specs.Rows.{OpenBlock, shape_of, shapes, has_none, is_kept, row_end, taken_in, dropped_in}
+use Rattle.edge_block.specs.{declared.blocks.Block.Block, Slots.BlockView, Rows.{OpenBlock, shape_of, shapes, has_none, is_kept}}
+use Rattle.edge_block.{specs.Rows.{row_end, taken_in, dropped_in}, proofs.Counts.count_more}
 use Rattle.batch_shards.specs.RowBlocks.{block_of, open_of, opens, had_here, had_in, IsOf}
 use Rattle.batch_shards.specs.Closing.{written_here, dropped_here, after_of, written_of, dropped_of, closed_rows}
 use Rattle.batch_shards.specs.{Shards.AreOpen, Shards.AreOwn, Shards.sources_of, Shards.had_all, Done.sum_of, Done.AreBlockRows}
-use Rattle.graph_version.specs.Versions.{IsBlockOf}
 use Rattle.batch_shards.specs.declared.{row_blocks.RowBlock.RowBlock, shard.OpenRow.OpenRow}
-use Rattle.edge_block.proofs.Counts.{count_more}
+use Rattle.graph_version.specs.Versions.{IsBlockOf}
 
 -- the layout at the batch's end
 pub after_end : (row : List RowBlock) → map shape_of (after_of row) ≡ row_end (opens row)

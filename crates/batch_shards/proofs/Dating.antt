@@ -1,18 +1,15 @@
 -- The births of a closed row's blocks.
 use Rattle.std.proofs.Common.{◌≡◌, ℕ, Bool, true, false, cond, not, ◌&&◌, ◌||◌, ◌==◌, List, [], ◌∷◌, ◌++◌, map, flat_map, All}
-use Rattle.std.proofs.Common.{refl, sym, ap, ap₂, ◌∙◌, subst}
+use Rattle.std.proofs.{Common.{refl, sym, ap, ap₂, ◌∙◌, subst}, lemmas.{Bool.{eq-eqb, or_right}, List.map-append}}
+use Rattle.std.proofs.lemmas.List.Elements.{All-head, All-tail, All-cons, All-nil}
 use Rattle.std.specs.{Prelude.if◌then◌else◌, Option.is_some, Option.option_to_list, declared.alloc.Global.Global}
 use Rattle.std.specs.declared.{option.Option.Option, option.Option.TheVariants.None, option.Option.TheVariants.Some, sync.Arc.Arc}
-use Rattle.std.proofs.lemmas.Bool.{eq-eqb, or_right}
-use Rattle.std.proofs.lemmas.List.{map-append, Elements.All-head, Elements.All-tail, Elements.All-cons, Elements.All-nil}
-use Rattle.edge_block.specs.{declared.blocks.Block.Block, Slots.BlockView}
+use Rattle.edge_block.specs.{declared.blocks.Block.Block, Slots.BlockView, Rows.{OpenBlock, shape_of, has_none}}
 use Rattle.graph_version.specs.Versions.{is_in}
-use Rattle.edge_block.specs.Rows.{OpenBlock, shape_of, has_none}
-use Rattle.batch_shards.specs.RowBlocks.{block_of, opens, had_here, had_in}
-use Rattle.batch_shards.specs.Closing.{written_here, after_of, written_of, dropped_of, closed_rows, written_all, dropped_all}
-use Rattle.batch_shards.specs.{Shards.AreOpen, Shards.sources_of, Births.first_birth, Births.left_over, Births.births_end}
-use Rattle.batch_shards.specs.{Births.births_dropped, declared.row_blocks.RowBlock.RowBlock, declared.shard.OpenRow.OpenRow}
-use Rattle.batch_shards.proofs.Closed.{all_left, all_right}
+use Rattle.batch_shards.specs.{RowBlocks.{block_of, opens, had_here, had_in}, Closing.{written_here, after_of, written_of}}
+use Rattle.batch_shards.specs.{Closing.{dropped_of, closed_rows, written_all, dropped_all}, Shards.{AreOpen, sources_of}}
+use Rattle.batch_shards.specs.{Births.{first_birth, left_over, births_end, births_dropped}, declared.row_blocks.RowBlock.RowBlock}
+use Rattle.batch_shards.{specs.declared.shard.OpenRow.OpenRow, proofs.Closed.{all_left, all_right}}
 
 -- a block of the row, by whether it is kept, touched, and was had
 abbrev births_step : Bool → Bool → Bool → ℕ → List OpenBlock → List ℕ → List ℕ

@@ -1,20 +1,17 @@
 -- An expiry, block by block, and how many fresh blocks operations need.
-use Rattle.std.proofs.Common.{◌≡◌, ℕ, zero, suc, ◌+◌, ◌%◌, ◌^◌, ◌<◌, ◌≤◌, Bool, true, false, cond, not, ◌&&◌, ◌||◌, List}
-use Rattle.std.proofs.Common.{[], ◌∷◌, ◌++◌, map, length, get_or, set, take, drop, count_by, refl, sym, ap, ◌∙◌, arith, subst}
-use Rattle.std.proofs.lemmas.{Bool.false≢true, Bool.lt-ltb, Bool.ltb-true, List.Sums.sum_by-cons, List.Sums.sum_by-append}
-use Rattle.std.{proofs.lemmas.List.Sums.sum_by-set, specs.List.list_any, specs.List.sum_by, specs.Prelude.◌+ℤ◌}
-use Rattle.std.specs.declared.option.Option.{Option, TheVariants.None, TheVariants.Some}
+use Rattle.std.proofs.Common.{◌≡◌, ℕ, zero, suc, ◌+◌, ◌%◌, ◌^◌, ◌<◌, ◌≤◌, Bool, true, false, cond, not, ◌&&◌, ◌||◌, List, [], ◌∷◌}
+use Rattle.std.proofs.Common.{◌++◌, map, length, get_or, set, take, drop, count_by, refl, sym, ap, ◌∙◌, arith, subst}
+use Rattle.std.proofs.lemmas.{Bool.{false≢true, lt-ltb, ltb-true}, List.Sums.{sum_by-cons, sum_by-append, sum_by-set}}
+use Rattle.std.specs.{List.{list_any, sum_by}, Prelude.◌+ℤ◌, declared.option.Option.{Option, TheVariants.{None, Some}}}
 use Rattle.graph_types.specs.{Graph.Stamp, Graph.Key, Limits.is_weight, Step.is_before, Step.outcome_at, Step.stamp_after}
 use Rattle.graph_types.specs.declared.changes.EdgeChange.{EdgeChange, TheVariants.Insert, TheVariants.Incr, TheVariants.Remove}
 use Rattle.graph_types.specs.declared.{batches.Outcome.Outcome, ids.VertexId.VertexId}
 use Rattle.graph_types.specs.declared.batches.Outcome.TheVariants.{Inserted, Updated, Removed, Absent, Overflow, Expired}
-use Rattle.edge_block.specs.Slots.{Slot, slots_since, has_before, old_in, edges_in, holds, at_first, BlockView}
-use Rattle.edge_block.specs.Rows.{OpenBlock, has_old, touch, expire_block, put_edge, set_edge}
-use Rattle.edge_block.specs.Rows.{edge_at, untouched, shape_of, has_edge, has_room, new_block, touches}
-use Rattle.edge_block.specs.Batches.{key_step, key_outcome, together}
-use Rattle.batch_shards.specs.Groups.{told}
-use Rattle.batch_shards.specs.Spending.{is_unspent, unspent, old_blocks, time_of, latest, spends, takes}
-use Rattle.batch_shards.specs.declared.shard.{Act.Act, Act.TheVariants.Edge, Act.TheVariants.Expire, Step.Step}
+use Rattle.edge_block.specs.{Slots.{Slot, slots_since, has_before, old_in, edges_in, holds, at_first, BlockView}, Rows.OpenBlock}
+use Rattle.edge_block.specs.Rows.{has_old, touch, expire_block, put_edge, set_edge, edge_at, untouched, shape_of, has_edge}
+use Rattle.edge_block.specs.{Rows.{has_room, new_block, touches}, Batches.{key_step, key_outcome, together}}
+use Rattle.batch_shards.specs.{Groups.told, Spending.{is_unspent, unspent, old_blocks, time_of, latest, spends, takes}}
+use Rattle.batch_shards.specs.declared.shard.{Act.{Act, TheVariants.{Edge, Expire}}, Step.Step}
 
 -- f of so many first elements
 abbrev pub map_first : {A : Type 0} → (A → A) → ℕ → List A → List A

@@ -1,10 +1,8 @@
 -- An expiry of a row of the program's blocks.
 use Rattle.std.proofs.Common.{◌≡◌, ℕ, ◌+◌, ◌%◌, ◌^◌, ◌<◌, ◌≤◌, true, false, cond, List, length, get_or, set, take, sym, ap, ◌∙◌}
-use Rattle.std.proofs.{Common.arith, Common.All, lemmas.List.Elements.All-set, lemmas.List.map-set, lemmas.List.get_or-map}
-use Rattle.std.{proofs.lemmas.List.length-map, specs.List.list_any, specs.List.sum_by}
-use Rattle.std.specs.declared.option.Option.{Option, TheVariants.None, TheVariants.Some}
-use Rattle.edge_block.specs.Slots.{slots_since, has_before, old_in, holds}
-use Rattle.edge_block.specs.Rows.{OpenBlock, touch, expire_block, expire_row}
+use Rattle.std.proofs.{Common.{arith, All}, lemmas.List.{map-set, get_or-map, length-map, Elements.All-set}}
+use Rattle.std.specs.{List.{list_any, sum_by}, declared.option.Option.{Option, TheVariants.{None, Some}}}
+use Rattle.edge_block.specs.{Slots.{slots_since, has_before, old_in, holds}, Rows.{OpenBlock, touch, expire_block, expire_row}}
 use Rattle.batch_shards.specs.RowBlocks.{block_of, open_of, opens, IsOf}
 use Rattle.batch_shards.specs.{Notes.IsNoted, Spending.is_unspent, Spending.unspent, declared.notes.Notes.Notes}
 use Rattle.batch_shards.{specs.declared.row_blocks.RowBlock.RowBlock, proofs.Expiring.map_first, proofs.Expiring.map_first_more}

@@ -1,17 +1,14 @@
 -- The notes of a block's targets, edge by edge as it lends them.
-use Rattle.std.proofs.Common.{◌≡◌, ℕ, ◌<◌, ◌==◌, Bool, true, false, List, [], inl, inr, arith, ◌||◌, not}
-use Rattle.std.proofs.Common.{◌∷◌, ◌++◌, length, get_or, set, map, refl, sym, ap, ◌∙◌}
-use Rattle.std.specs.{Prelude.filter, Prelude.All, Prelude.nat_lt, Prelude.nat_le, Prelude.◌^◌, Prelude.◌-◌, List.list_any}
-use Rattle.std.specs.declared.{option.Option.Option, option.Option.TheVariants.None, option.Option.TheVariants.Some, vec.Vec.Vec}
-use Rattle.std.specs.declared.alloc.Global.{Global}
-use Rattle.std.proofs.lemmas.Bool.{false≢true, eqb-true, eqb-false, eq-eqb, or_cases, or_left, or_right, le-leb, and_from}
-use Rattle.std.proofs.lemmas.List.{Elements.All-head, Elements.All-tail, get_or-map, get_or-set_same, get_or-set_other, map-set}
+use Rattle.std.proofs.Common.{◌≡◌, ℕ, ◌<◌, ◌==◌, Bool, true, false, List, [], inl, inr, arith, ◌||◌, not, ◌∷◌, ◌++◌, length}
+use Rattle.std.proofs.{Common.{get_or, set, map, refl, sym, ap, ◌∙◌}, lemmas.Bool.{false≢true, eqb-true, eqb-false, eq-eqb}}
+use Rattle.std.proofs.lemmas.{Bool.{or_cases, or_left, or_right, le-leb, and_from}, List.{get_or-map, get_or-set_same}}
+use Rattle.std.proofs.lemmas.List.{get_or-set_other, map-set, Elements.{All-head, All-tail}, Folds.list_any-append}
+use Rattle.std.{proofs.Math.ListN.length-set, specs.{Prelude.{filter, All, nat_lt, nat_le, ◌^◌, ◌-◌}, List.list_any}}
+use Rattle.std.specs.declared.{option.Option.{Option, TheVariants.{None, Some}}, vec.Vec.Vec, alloc.Global.Global}
 use Rattle.graph_types.specs.{View.in_view, declared.ids.Filter.Filter}
 use Rattle.edge_block.specs.Slots.{Slot, BlockView, holds, edges_in, entry_in, IsSlot}
 use Rattle.edge_block.{specs.Lending.LentEdge, specs.Lending.lent_of, proofs.SlotLaws.target_of_edge}
-use Rattle.std.proofs.{lemmas.List.Folds.list_any-append, Math.ListN.length-set}
-use Rattle.batch_shards.specs.Notes.{may_stand, list_of, places_in, stands, HasMore}
-use Rattle.batch_shards.specs.declared.notes.Notes.{Notes}
+use Rattle.batch_shards.specs.{Notes.{may_stand, list_of, places_in, stands, HasMore}, declared.notes.Notes.Notes}
 
 -- whether one of these lent edges is one to the target
 abbrev pub lends : ℕ → List LentEdge → Bool

@@ -1,18 +1,15 @@
 -- Notes of a row: what an operation leaves of its targets, and the first of the noted places.
 use Rattle.std.proofs.Common.{◌≡◌, ◌⊎◌, ℕ, zero, suc, ◌+◌, ◌<◌, ◌≤◌, ◌==◌, Bool, true, false, cond, List, [], ◌∷◌, ◌++◌, length}
-use Rattle.std.proofs.Common.{get_or, set, refl, sym, ap, ◌∙◌, inl, inr, arith, ◌||◌}
-use Rattle.std.specs.{Prelude.replicate, List.list_any, List.position, List.position_or_len, Option.IfSome, Option.MatchOption}
-use Rattle.std.specs.declared.option.Option.{Option, TheVariants.None, TheVariants.Some}
-use Rattle.std.proofs.lemmas.Bool.{true≢false, false≢true, false_from_ne_true, lt-ltb, le-ltb, eqb-true, eqb-false, or_cases}
-use Rattle.std.proofs.{lemmas.Bool.or_left, lemmas.Bool.or_right, Math.ListN.length-set}
+use Rattle.std.proofs.{Common.{get_or, set, refl, sym, ap, ◌∙◌, inl, inr, arith, ◌||◌}, lemmas.Bool.{true≢false, false≢true}}
+use Rattle.std.proofs.lemmas.Bool.{false_from_ne_true, lt-ltb, le-ltb, eqb-true, eqb-false, or_cases, or_left, or_right}
 use Rattle.std.proofs.lemmas.List.{get_or-set_same, get_or-set_other, get_or_default, get_or_append_left, Sums.position_or_len_is}
+use Rattle.std.{proofs.Math.ListN.length-set, specs.{Prelude.replicate, List.{list_any, position, position_or_len}}}
+use Rattle.std.specs.{Option.{IfSome, MatchOption}, declared.option.Option.{Option, TheVariants.{None, Some}}}
 use Rattle.graph_types.specs.{Graph.Stamp, Step.stamp_after, Step.outcome_at, declared.changes.EdgeChange.EdgeChange}
-use Rattle.edge_block.specs.Slots.{Slot, holds, is_free, put_slot, take_slot, at_first, stamp_at}
-use Rattle.edge_block.proofs.SlotLaws.{target_of_edge}
-use Rattle.edge_block.specs.Rows.{OpenBlock, touch, touches, new_block}
-use Rattle.batch_shards.specs.RowBlocks.{block_of, open_of, set_slot, IsTouched, IsChanged}
-use Rattle.batch_shards.specs.Notes.{has_target, may_stand, stands, IsNoted, Gains}
-use Rattle.batch_shards.specs.declared.{notes.Notes.Notes, row_blocks.RowBlock.RowBlock}
+use Rattle.edge_block.specs.{Slots.{Slot, holds, is_free, put_slot, take_slot, at_first, stamp_at}, Rows.{OpenBlock, touch}}
+use Rattle.edge_block.{specs.Rows.{touches, new_block}, proofs.SlotLaws.target_of_edge}
+use Rattle.batch_shards.specs.{RowBlocks.{block_of, open_of, set_slot, IsTouched, IsChanged}, Notes.{has_target, may_stand}}
+use Rattle.batch_shards.specs.{Notes.{stands, IsNoted, Gains}, declared.{notes.Notes.Notes, row_blocks.RowBlock.RowBlock}}
 
 pub position_is : {A : Type 0} (p : A → Bool) (xs : List A) (i : ℕ) (d : A) → i < length xs → p (get_or xs i d) ≡ true
     → ((k : ℕ) → k < i → p (get_or xs k d) ≡ false) → position p xs ≡ Some i

@@ -1,9 +1,8 @@
 -- Where a row may have room, and what a change leaves of it.
 use Rattle.std.proofs.Common.{◌≡◌, ℕ, ◌<◌, ◌==◌, true, false, List, [], ◌∷◌, ◌++◌, length, get_or, set, refl, sym, ap, ◌∙◌, arith}
+use Rattle.std.proofs.lemmas.{Bool.{true≢false, false_from_ne_true, eqb-true, eqb-false}, List.get_or-set_same}
+use Rattle.std.proofs.{lemmas.List.{get_or-set_other, get_or_append_left, Quantifiers.position-Some}, Math.ListN.length-set}
 use Rattle.std.specs.{List.position, declared.option.Option.TheVariants.None, declared.option.Option.TheVariants.Some}
-use Rattle.std.proofs.lemmas.Bool.{true≢false, false_from_ne_true, eqb-true, eqb-false}
-use Rattle.std.proofs.lemmas.List.{get_or-set_same, get_or-set_other, get_or_append_left, Quantifiers.position-Some}
-use Rattle.std.proofs.Math.ListN.{length-set}
 use Rattle.batch_shards.{specs.Room.IsFull, specs.declared.row_blocks.RowBlock.RowBlock, proofs.RowSteps.at_room}
 
 -- the row behind a change of one block, at which the test on its room fails where it matters

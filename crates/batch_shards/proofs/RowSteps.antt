@@ -1,21 +1,17 @@
 -- One operation on a row of the program's blocks.
 use Rattle.std.proofs.Common.{◌≡◌, ℕ, ◌<◌, ◌==◌, Bool, true, false, cond, List, [], ◌∷◌, ◌++◌, length, get_or, set, count_by}
-use Rattle.std.proofs.Common.{refl, sym, ap, ◌∙◌, arith, subst, All}
-use Rattle.std.proofs.lemmas.List.{map-append, Elements.All-head, Elements.All-tail, Quantifiers.position-Some}
-use Rattle.std.specs.{List.list_any, List.position, Option.is_some, Option.option_or}
-use Rattle.std.specs.declared.option.Option.{Option, TheVariants.None, TheVariants.Some}
-use Rattle.std.proofs.lemmas.Bool.{false≢true, and_parts}
+use Rattle.std.proofs.{Common.{refl, sym, ap, ◌∙◌, arith, subst, All}, lemmas.List.{map-append, Elements.{All-head, All-tail}}}
+use Rattle.std.proofs.lemmas.{List.Quantifiers.position-Some, Bool.{false≢true, and_parts}}
+use Rattle.std.specs.{List.{list_any, position}, Option.{is_some, option_or}, declared.option.Option.{Option, TheVariants.None}}
+use Rattle.std.specs.declared.{option.Option.TheVariants.Some, sync.Arc.Arc, alloc.Global.Global, vec.Vec.Vec}
 use Rattle.graph_types.specs.{Graph.Stamp, Graph.IsWeight, Graph.IsTime, Step.stamp_after, Step.outcome_at}
 use Rattle.graph_types.specs.declared.changes.EdgeChange.{EdgeChange, TheVariants.Insert, TheVariants.Incr, TheVariants.Remove}
 use Rattle.edge_block.proofs.{Entries.list_any-holds, Firsts.first_some-by_any}
 use Rattle.edge_block.specs.Slots.{Slot, holds, stamp_at, is_free, put_slot, has_room_for, IsSlot, first_some, at_first}
-use Rattle.edge_block.specs.Rows.{OpenBlock, has_edge, has_room, open_at, edge_at, touch, touches, put_edge, set_edge}
-use Rattle.edge_block.specs.Rows.{new_block, change_row}
-use Rattle.batch_shards.specs.RowBlocks.{block_of, open_of, opens, had_here, own_here, set_slot, IsChanged}
-use Rattle.batch_shards.specs.OpenRows.{KeepsHere, KeepsIn}
-use Rattle.std.specs.declared.{sync.Arc.Arc, alloc.Global.Global, vec.Vec.Vec}
-use Rattle.edge_block.specs.declared.blocks.Block.{Block}
-use Rattle.batch_shards.specs.declared.row_blocks.RowBlock.{RowBlock}
+use Rattle.edge_block.specs.Rows.{OpenBlock, has_edge, has_room, open_at, edge_at, touch, touches, put_edge, set_edge, new_block}
+use Rattle.edge_block.specs.{Rows.change_row, declared.blocks.Block.Block}
+use Rattle.batch_shards.specs.{RowBlocks.{block_of, open_of, opens, had_here, own_here, set_slot, IsChanged}, OpenRows.KeepsHere}
+use Rattle.batch_shards.specs.{OpenRows.KeepsIn, declared.row_blocks.RowBlock.RowBlock}
 use Rattle.batch_shards.proofs.Places.{list_any-map, none_passes, one_passes, first_changed, first_has, count_by-set, flat_map-set}
 
 -- an edge in a slot has a weight and times in range

@@ -1,11 +1,9 @@
 -- The operations of a shard, one after another.
-use Rattle.std.proofs.Common.{◌≡◌, ◌≢◌, ℕ, suc, ◌+◌, ◌<◌, ◌≤◌, Bool}
-use Rattle.std.proofs.Common.{true, false, List, [], ◌∷◌, ◌++◌, length, get_or, refl, sym, ap, ◌∙◌, arith, AllPairs, take, ltb}
-use Rattle.std.proofs.lemmas.{Bool.ltb-true, Bool.ltb-false, List.map-append, List.take_more}
-use Rattle.std.specs.{Prelude.pos, declared.option.Option.TheVariants.None}
+use Rattle.std.proofs.Common.{◌≡◌, ◌≢◌, ℕ, suc, ◌+◌, ◌<◌, ◌≤◌, Bool, true, false, List, [], ◌∷◌, ◌++◌, length, get_or, refl, sym}
+use Rattle.std.proofs.{Common.{ap, ◌∙◌, arith, AllPairs, take, ltb}, lemmas.{Bool.{ltb-true, ltb-false}, List.map-append}}
+use Rattle.std.{proofs.lemmas.List.take_more, specs.{Prelude.pos, declared.option.Option.TheVariants.None}}
 use Rattle.edge_block.specs.{Rows.OpenBlock, Batches.Resolved, Batches.rows_step, Batches.rows_all, Batches.outcomes_all}
-use Rattle.batch_shards.specs.Shards.{resolved_at, resolved_in}
-use Rattle.batch_shards.specs.declared.shard.{Step.Step, Act.TheVariants.Edge}
+use Rattle.batch_shards.specs.{Shards.{resolved_at, resolved_in}, declared.shard.{Step.Step, Act.TheVariants.Edge}}
 use Rattle.graph_types.specs.declared.changes.EdgeChange.TheVariants.{Insert}
 
 -- what is not before a place, and not there, is behind it

@@ -1,22 +1,18 @@
 -- One more source's row is done.
 use Rattle.std.proofs.Common.{◌≡◌, ℕ, ◌+◌, ◌<◌, true, false, List}
 use Rattle.std.proofs.Common.{[], ◌∷◌, ◌++◌, length, get_or, map, flat_map, count_by, take, refl, sym, subst, ap, ap₂, ◌∙◌, arith, All}
-use Rattle.std.{specs.declared.sync.Arc.Arc, specs.declared.alloc.Global.Global, specs.List.sum_by, proofs.lemmas.Bool.false≢true}
 use Rattle.std.proofs.lemmas.List.{map-append, take_more, get_or_default, Sums.sum_by-append, Elements.All-push}
-use Rattle.graph_types.specs.declared.batches.Outcome.{Outcome, TheVariants.Expired}
-use Rattle.edge_block.specs.{declared.blocks.Block.Block, Slots.BlockView}
-use Rattle.edge_block.specs.Batches.{outcome_in, together, rows_all, opened}
+use Rattle.std.{specs.declared.sync.Arc.Arc, specs.declared.alloc.Global.Global, specs.List.sum_by, proofs.lemmas.Bool.false≢true}
+use Rattle.graph_types.specs.declared.{batches.Outcome.{Outcome, TheVariants.Expired}, ids.VertexId.VertexId}
+use Rattle.edge_block.specs.{declared.blocks.Block.Block, Slots.BlockView, Batches.{outcome_in, together, rows_all, opened}}
 use Rattle.edge_block.specs.Rows.{OpenBlock, old_in_row}
-use Rattle.batch_shards.specs.RowBlocks.{blocks_of, numbers_of, opens, had_in, own_in, HaveSame, IsOf}
-use Rattle.batch_shards.specs.Closing.{row_values, after_of, written_of, dropped_of, unused_of, written_all}
-use Rattle.batch_shards.specs.{Shards.key_at, Shards.resolved_at, Shards.resolved_in, Shards.own_all, Done.layout_by}
-use Rattle.batch_shards.specs.Groups.{is_past, does_act, told, outcome_over, IsTold, IsSourceRow, IsOneMore}
-use Rattle.batch_shards.specs.{OpenRows.IsRowOf, OpenRows.KeepsOthers, Progress.AreOutcomes, Progress.AreRowsDone}
-use Rattle.graph_types.specs.declared.ids.VertexId.{VertexId}
-use Rattle.batch_shards.specs.declared.shard.{OpenRow.OpenRow, ShardDone.ShardDone, Step.Step}
-use Rattle.batch_shards.proofs.{Places.count_by-append, Places.one_piece, ShardSteps.first_step, SourceSteps.outcome_of, SourceSteps.past_here}
-use Rattle.batch_shards.proofs.Expiring.{edge_stands, told_more}
-use Rattle.batch_shards.specs.declared.shard.Act.{Act, TheVariants.Edge, TheVariants.Expire}
+use Rattle.batch_shards.specs.{RowBlocks.{blocks_of, numbers_of, opens, had_in, own_in, HaveSame, IsOf}, Closing.row_values}
+use Rattle.batch_shards.specs.{Closing.{after_of, written_of, dropped_of, unused_of, written_all}, Shards.{key_at, resolved_at}}
+use Rattle.batch_shards.specs.{Shards.{resolved_in, own_all}, Done.layout_by, Groups.{is_past, does_act, told, outcome_over}}
+use Rattle.batch_shards.specs.{Groups.{IsTold, IsSourceRow, IsOneMore}, OpenRows.{IsRowOf, KeepsOthers}, Progress.AreOutcomes}
+use Rattle.batch_shards.specs.{Progress.AreRowsDone, declared.shard.{OpenRow.OpenRow, ShardDone.ShardDone, Step.Step, Act.Act}}
+use Rattle.batch_shards.{specs.declared.shard.Act.TheVariants.{Edge, Expire}, proofs.Places.{count_by-append, one_piece}}
+use Rattle.batch_shards.proofs.{ShardSteps.first_step, SourceSteps.{outcome_of, past_here}, Expiring.{edge_stands, told_more}}
 
 module _ (rows : ℕ → List BlockView) (sources : List ℕ) (steps : List Step) where
   -- the outcome of an operation with one more row

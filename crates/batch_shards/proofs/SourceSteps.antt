@@ -1,20 +1,18 @@
 -- The operations on one source's row, among those of a shard.
-use Rattle.std.proofs.Common.{◌≡◌, ℕ, zero, suc, ◌+◌, ◌-◌, ◌<◌, ◌≤◌, ◌==◌, not, Bool, true, false, cond}
-use Rattle.std.proofs.Common.{List, [], ◌∷◌, length, get_or, set, ◌||◌, min, take, count_by, refl, sym, ap, ◌∙◌, arith, subst}
-use Rattle.std.proofs.lemmas.Bool.{false≢true, or_right, eq-eqb, eqb-true, eqb-false, ne_eqb, ltb-true, ltb-false, lt-ltb, le-ltb}
-use Rattle.std.proofs.lemmas.List.{get_or-set_same, get_or-set_other, Sums.count_by_more_yes, Sums.count_by_more_no}
-use Rattle.std.{proofs.lemmas.List.Sums.sum_by-cons, specs.List.sum_by, specs.Prelude.slice_index, specs.Prelude.nat_lt}
-use Rattle.std.specs.declared.option.Option.TheVariants.{None, Some}
+use Rattle.std.proofs.Common.{◌≡◌, ℕ, zero, suc, ◌+◌, ◌-◌, ◌<◌, ◌≤◌, ◌==◌, not, Bool, true, false, cond, List, [], ◌∷◌, length}
+use Rattle.std.proofs.{Common.{get_or, set, ◌||◌, min, take, count_by, refl, sym, ap, ◌∙◌, arith, subst}, lemmas.Bool.false≢true}
+use Rattle.std.proofs.lemmas.Bool.{or_right, eq-eqb, eqb-true, eqb-false, ne_eqb, ltb-true, ltb-false, lt-ltb, le-ltb}
+use Rattle.std.proofs.lemmas.List.{get_or-set_same, get_or-set_other, Sums.{count_by_more_yes, count_by_more_no, sum_by-cons}}
+use Rattle.std.specs.{List.sum_by, Prelude.{slice_index, nat_lt}, declared.option.Option.TheVariants.{None, Some}}
 use Rattle.graph_types.specs.{Step.outcome_at, declared.batches.Outcome.Outcome, declared.batches.Outcome.TheVariants.Expired}
 use Rattle.graph_types.specs.declared.changes.EdgeChange.{EdgeChange}
 use Rattle.edge_block.specs.Rows.{OpenBlock, change_row, edge_at, old_in_row}
 use Rattle.edge_block.specs.Batches.{key_step, rows_step, rows_all, outcome_in, together}
-use Rattle.batch_shards.specs.{Shards.IsAct, Shards.resolved_at, Shards.resolved_in, Spending.takes}
-use Rattle.batch_shards.specs.Groups.{is_at, is_past, does_act, may_change, key_of, IsNext, LeadsTo, IsSourceRow, IsOneMore}
-use Rattle.batch_shards.specs.Groups.{IsTold, told, outcome_over, act_step, act_outcome}
-use Rattle.batch_shards.specs.declared.shard.{Act.Act, Act.TheVariants.Edge, Act.TheVariants.Expire, Place.Place, Step.Step}
-use Rattle.batch_shards.proofs.ShardSteps.{further, apart, first_step, all_rows_more}
-use Rattle.batch_shards.proofs.{Expiring.told_none, Young.young_before, Young.young_stays}
+use Rattle.batch_shards.specs.{Shards.{IsAct, resolved_at, resolved_in}, Spending.takes, Groups.{is_at, is_past, does_act}}
+use Rattle.batch_shards.specs.Groups.{may_change, key_of, IsNext, LeadsTo, IsSourceRow, IsOneMore, IsTold, told, outcome_over}
+use Rattle.batch_shards.specs.{Groups.{act_step, act_outcome}, declared.shard.Act.{Act, TheVariants.{Edge, Expire}}}
+use Rattle.batch_shards.{specs.declared.shard.{Place.Place, Step.Step}, proofs.ShardSteps.{further, apart, first_step}}
+use Rattle.batch_shards.proofs.{ShardSteps.all_rows_more, Expiring.told_none, Young.{young_before, young_stays}}
 
 -- the outcome of an operation is that of the rows which those before it leave
 pub outcome_of : (counted sources : List ℕ) (steps : List Step) (k : ℕ) (rows : ℕ → List OpenBlock) → k < length steps

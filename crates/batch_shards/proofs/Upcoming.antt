@@ -3,9 +3,8 @@ use Rattle.std.proofs.Common.{◌≡◌, ℕ, ◌+◌, ◌<◌, ◌==◌, Bool, 
 use Rattle.std.proofs.{Common.arith, Common.subst, Math.ListN.length-set, lemmas.Bool.eqb-true, lemmas.Bool.eqb-false}
 use Rattle.std.proofs.lemmas.{Bool.false≢true, Bool.eq-eqb, Bool.ne_eqb, List.get_or-set_same, List.get_or-set_other}
 use Rattle.std.{proofs.lemmas.List.get_or_default, specs.declared.option.Option.TheVariants.Some}
-use Rattle.batch_shards.specs.Groups.{is_at, is_expiry, IsNext, AreGroups}
-use Rattle.batch_shards.specs.declared.shard.{Step.Step, Place.Place, Act.Act, Act.TheVariants.Edge}
-use Rattle.batch_shards.proofs.ShardSteps.{first_step, further}
+use Rattle.batch_shards.specs.{Groups.{is_at, is_expiry, IsNext, AreGroups}, declared.shard.{Step.Step, Place.Place, Act.Act}}
+use Rattle.batch_shards.{specs.declared.shard.Act.TheVariants.Edge, proofs.ShardSteps.{first_step, further}}
 use Rattle.graph_types.specs.declared.changes.EdgeChange.{EdgeChange}
 
 -- the next operation of a kind is here, or it is the next behind

@@ -1,16 +1,14 @@
 -- Rows without an edge from before a time, and the times that expiries have reached.
 use Rattle.std.proofs.Common.{◌≡◌, ℕ, zero, suc, ◌+◌, ◌<◌, ◌≤◌, Bool, true, false, cond, ◌||◌, List, [], ◌∷◌, ◌++◌, map, length}
-use Rattle.std.proofs.Common.{get_or, take, count_by, refl, sym, ap, ap₂, ◌∙◌, arith, All, max}
-use Rattle.std.proofs.lemmas.Bool.{le-ltb, ltb-true, ltb-false, false≢true}
-use Rattle.std.proofs.lemmas.List.{take_more, get_or_append_left, get_or_push, Elements.All-head, Elements.All-tail}
-use Rattle.std.proofs.lemmas.List.Sums.{sum_by-cons, sum_by-le-sum_by, sum_by_more}
+use Rattle.std.proofs.{Common.{get_or, take, count_by, refl, sym, ap, ap₂, ◌∙◌, arith, All, max}, lemmas.Bool.{le-ltb, ltb-true}}
+use Rattle.std.proofs.lemmas.{Bool.{ltb-false, false≢true}, List.{take_more, get_or_append_left, get_or_push, Elements.All-head}}
+use Rattle.std.proofs.lemmas.List.{Elements.All-tail, Sums.{sum_by-cons, sum_by-le-sum_by, sum_by_more}}
 use Rattle.std.specs.{Prelude.nat_lt, List.list_any, declared.option.Option.Option}
 use Rattle.graph_types.specs.Step.{is_before}
 use Rattle.edge_block.specs.Slots.{Slot, edges_in, old_in, slots_since}
 use Rattle.edge_block.specs.Rows.{OpenBlock, has_old, touch, expire_row, old_in_row}
-use Rattle.batch_shards.specs.Groups.{is_expiry, is_later, IsNext, LeadsTo}
-use Rattle.batch_shards.specs.Spending.{latest, time_of, AreReached}
-use Rattle.batch_shards.specs.declared.shard.{Act.Act, Act.TheVariants.Edge, Act.TheVariants.Expire, Step.Step}
+use Rattle.batch_shards.specs.{Groups.{is_expiry, is_later, IsNext, LeadsTo}, Spending.{latest, time_of, AreReached}}
+use Rattle.batch_shards.specs.declared.shard.{Act.{Act, TheVariants.{Edge, Expire}}, Step.Step}
 use Rattle.batch_shards.proofs.{ShardSteps.first_step, Expiring.older, Expiring.count_wider}
 
 -- what is old at a time is old at each later one

@@ -1,15 +1,9 @@
 -- The births of a row's blocks, and those of the blocks that a batch drops of it. The births of a row are listed in the order of
 -- its blocks; the blocks that it had before the batch stay in their order, and new ones are appended.
-use Rattle.std.specs.Prelude.{◌≡◌, ℕ, zero, suc, ◌&&◌, Bool, true, List, [], ◌∷◌, ◌++◌, length, map, count_by, All}
-use Rattle.std.specs.Prelude.{if◌then◌else◌}
-use Rattle.graph_types.specs.Graph.{Graph}
-use Rattle.graph_types.specs.Step.{after_all}
-use Rattle.graph_types.specs.declared.batches.NamedOp.{NamedOp}
-use Rattle.edge_block.specs.Slots.{BlockView}
-use Rattle.edge_block.specs.Rows.{OpenBlock, Shape, is_kept}
-use Rattle.edge_block.specs.Batches.{opened, resolved, rows_all}
-use Rattle.graph_version.specs.Rows.{row_of}
-use Rattle.graph_version.specs.Versions.{VersionView, content, layout_of, is_in}
+use Rattle.std.specs.Prelude.{◌≡◌, ℕ, zero, suc, ◌&&◌, Bool, true, List, [], ◌∷◌, ◌++◌, length, map, count_by, All, if◌then◌else◌}
+use Rattle.graph_types.specs.{Graph.Graph, Step.after_all, declared.batches.NamedOp.NamedOp}
+use Rattle.edge_block.specs.{Slots.BlockView, Rows.{OpenBlock, Shape, is_kept}, Batches.{opened, resolved, rows_all}}
+use Rattle.graph_version.specs.{Rows.row_of, Versions.{VersionView, content, layout_of, is_in}}
 
 abbrev pub first_birth : List ℕ → ℕ
 first_birth [] = 0

@@ -1,16 +1,9 @@
 -- What a row leaves at the batch's end.
-use Rattle.std.specs.Prelude.{ℕ, List, [], ◌∷◌, map, flat_map, ◌&&◌, not, if◌then◌else◌}
-use Rattle.std.specs.Option.{option_to_list}
-use Rattle.std.specs.declared.sync.Arc.{Arc}
-use Rattle.std.specs.declared.alloc.Global.{Global}
-use Rattle.std.specs.declared.vec.Vec.{Vec}
+use Rattle.std.specs.{Prelude.{ℕ, List, [], ◌∷◌, map, flat_map, ◌&&◌, not, if◌then◌else◌}, Option.option_to_list}
+use Rattle.std.specs.declared.{sync.Arc.Arc, alloc.Global.Global, vec.Vec.Vec}
 use Rattle.graph_types.specs.declared.ids.VertexId.{VertexId}
-use Rattle.edge_block.specs.declared.blocks.Block.{Block}
-use Rattle.edge_block.specs.Slots.{BlockView}
-use Rattle.edge_block.specs.Rows.{has_none, shape_of}
-use Rattle.batch_shards.specs.declared.row_blocks.RowBlock.{RowBlock}
-use Rattle.batch_shards.specs.declared.shard.OpenRow.{OpenRow}
-use Rattle.batch_shards.specs.RowBlocks.{block_of, blocks_of}
+use Rattle.edge_block.specs.{declared.blocks.Block.Block, Slots.BlockView, Rows.{has_none, shape_of}}
+use Rattle.batch_shards.specs.{declared.{row_blocks.RowBlock.RowBlock, shard.OpenRow.OpenRow}, RowBlocks.{block_of, blocks_of}}
 
 -- the row's block of the next version
 abbrev pub after_here : RowBlock → List BlockView

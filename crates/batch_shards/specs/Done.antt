@@ -1,16 +1,10 @@
 -- What a shard must leave of a version's rows.
 use Rattle.std.specs.Prelude.{◌≡◌, ℕ, ◌+◌, List, map, flat_map, zip, length, count_by, All, Bool, true}
-use Rattle.edge_block.specs.Slots.{BlockView}
+use Rattle.edge_block.specs.{Slots.BlockView, Rows.{OpenBlock, Shape, shape_of, row_end, taken_in, dropped_in}, Batches.Resolved}
+use Rattle.edge_block.specs.Batches.{rows_all, outcomes_all, opened}
 use Rattle.graph_version.specs.Versions.{IsBlockOf, is_in}
-use Rattle.batch_shards.specs.Births.{births_end, births_dropped}
-use Rattle.edge_block.specs.Rows.{OpenBlock, Shape, shape_of, row_end, taken_in, dropped_in}
-use Rattle.edge_block.specs.Batches.{Resolved, rows_all, outcomes_all, opened}
-use Rattle.batch_shards.specs.RowBlocks.{blocks_of, numbers_of}
-use Rattle.batch_shards.specs.Closing.{row_values}
-use Rattle.batch_shards.specs.Shards.{resolved_in}
-use Rattle.batch_shards.specs.Groups.{told}
-use Rattle.batch_shards.specs.declared.shard.Shard.{Shard}
-use Rattle.batch_shards.specs.declared.shard.ShardDone.{ShardDone}
+use Rattle.batch_shards.specs.{Births.{births_end, births_dropped}, RowBlocks.{blocks_of, numbers_of}, Closing.row_values}
+use Rattle.batch_shards.specs.{Shards.resolved_in, Groups.told, declared.shard.{Shard.Shard, ShardDone.ShardDone}}
 
 -- the layout of rows
 abbrev pub layout_by : (ℕ → List BlockView) → ℕ → List Shape

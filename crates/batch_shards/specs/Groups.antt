@@ -1,18 +1,11 @@
 -- The operations on each row of a shard, one after another.
 use Rattle.std.specs.Prelude.{◌≡◌, ◌≢◌, ℕ, ◌+◌, ◌%◌, ◌^◌, ◌<◌, ◌≤◌, ◌==◌, nat_lt, List, [], ◌∷◌, length, get_or, slice_index}
-use Rattle.std.specs.Prelude.{AllPairs, Bool, true, false, not, ◌||◌}
-use Rattle.std.specs.declared.option.Option.{Option}
-use Rattle.std.specs.declared.option.Option.TheVariants.{None, Some}
-use Rattle.graph_types.specs.Graph.{Key}
-use Rattle.graph_types.specs.declared.batches.Outcome.{Outcome}
-use Rattle.graph_types.specs.declared.batches.Outcome.TheVariants.{Inserted, Updated, Removed, Absent, Overflow, Expired}
-use Rattle.edge_block.specs.Rows.{OpenBlock, expire_row, old_in_row}
-use Rattle.edge_block.specs.Batches.{outcomes_all, together, key_step, key_outcome}
-use Rattle.batch_shards.specs.Shards.{AreSteps, resolved_in}
-use Rattle.batch_shards.specs.declared.shard.Place.{Place}
-use Rattle.batch_shards.specs.declared.shard.Act.{Act}
-use Rattle.batch_shards.specs.declared.shard.Act.TheVariants.{Edge, Expire}
-use Rattle.batch_shards.specs.declared.shard.Step.{Step}
+use Rattle.std.specs.{Prelude.{AllPairs, Bool, true, false, not, ◌||◌}, declared.option.Option.{Option, TheVariants.{None, Some}}}
+use Rattle.graph_types.specs.{Graph.Key, declared.batches.Outcome.{Outcome, TheVariants.{Inserted, Updated, Removed, Absent}}}
+use Rattle.graph_types.specs.declared.batches.Outcome.TheVariants.{Overflow, Expired}
+use Rattle.edge_block.specs.{Rows.{OpenBlock, expire_row, old_in_row}, Batches.{outcomes_all, together, key_step, key_outcome}}
+use Rattle.batch_shards.specs.{Shards.{AreSteps, resolved_in}, declared.shard.{Place.Place, Act.{Act, TheVariants.Edge}}}
+use Rattle.batch_shards.specs.declared.shard.{Act.TheVariants.Expire, Step.Step}
 
 -- whether an operation is on an edge of a row
 abbrev pub is_at : ℕ → Act → Bool

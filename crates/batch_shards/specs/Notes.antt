@@ -1,14 +1,9 @@
 -- Where a batch's targets may stand in a long row.
-use Rattle.std.specs.Prelude.{◌≡◌, ℕ, ◌<◌, ◌==◌, nat_lt, List, [], ◌∷◌, ◌++◌, map, length, get_or, set, Bool, true, not, ◌||◌, bit_and, ◌⊎◌}
-use Rattle.std.specs.List.{list_any}
-use Rattle.std.specs.declared.option.Option.{Option}
-use Rattle.std.specs.declared.option.Option.TheVariants.{None, Some}
-use Rattle.std.specs.declared.vec.Vec.{Vec}
-use Rattle.std.specs.declared.alloc.Global.{Global}
+use Rattle.std.specs.Prelude.{◌≡◌, ℕ, ◌<◌, ◌==◌, nat_lt, List, [], ◌∷◌, ◌++◌, map, length, get_or, set, Bool, true, not, ◌||◌}
+use Rattle.std.specs.{Prelude.{bit_and, ◌⊎◌}, List.list_any, declared.option.Option.{Option, TheVariants.{None, Some}}}
+use Rattle.std.specs.declared.{vec.Vec.Vec, alloc.Global.Global}
 use Rattle.edge_block.specs.Slots.{holds}
-use Rattle.batch_shards.specs.declared.notes.Notes.{Notes}
-use Rattle.batch_shards.specs.declared.row_blocks.RowBlock.{RowBlock}
-use Rattle.batch_shards.specs.RowBlocks.{block_of}
+use Rattle.batch_shards.specs.{declared.{notes.Notes.Notes, row_blocks.RowBlock.RowBlock}, RowBlocks.block_of}
 
 -- whether a block of the row has an edge to the target, of whatever kind
 abbrev pub has_target : ℕ → RowBlock → Bool

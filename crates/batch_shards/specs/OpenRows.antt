@@ -1,22 +1,11 @@
 -- What operations keep of an open row, and what they leave of its outcomes.
 use Rattle.std.specs.Prelude.{◌≡◌, ℕ, ◌+◌, ◌<◌, ◌≤◌, List, All, map, length, get_or, vec_len, true, false}
-use Rattle.std.specs.declared.sync.Arc.{Arc}
-use Rattle.std.specs.declared.alloc.Global.{Global}
-use Rattle.std.specs.declared.vec.Vec.{Vec}
-use Rattle.graph_types.specs.declared.ids.VertexId.{VertexId}
-use Rattle.graph_types.specs.declared.batches.Outcome.{Outcome}
-use Rattle.edge_block.specs.declared.blocks.Block.{Block}
-use Rattle.edge_block.specs.Slots.{BlockView}
-use Rattle.edge_block.specs.Rows.{OpenBlock}
-use Rattle.edge_block.specs.Batches.{rows_all}
-use Rattle.batch_shards.specs.RowBlocks.{opens, had_here, had_in, own_here, own_in, numbers_of, HaveSame, IsOf}
-use Rattle.batch_shards.specs.Room.{AreHints}
-use Rattle.batch_shards.specs.Shards.{resolved_in}
-use Rattle.batch_shards.specs.Groups.{does_act, IsTold, IsOneMore}
-use Rattle.batch_shards.specs.Spending.{unspent}
-use Rattle.batch_shards.specs.declared.row_blocks.RowBlock.{RowBlock}
-use Rattle.batch_shards.specs.declared.shard.OpenRow.{OpenRow}
-use Rattle.batch_shards.specs.declared.shard.Step.{Step}
+use Rattle.std.specs.declared.{sync.Arc.Arc, alloc.Global.Global, vec.Vec.Vec}
+use Rattle.graph_types.specs.declared.{ids.VertexId.VertexId, batches.Outcome.Outcome}
+use Rattle.edge_block.specs.{declared.blocks.Block.Block, Slots.BlockView, Rows.OpenBlock, Batches.rows_all}
+use Rattle.batch_shards.specs.{RowBlocks.{opens, had_here, had_in, own_here, own_in, numbers_of, HaveSame, IsOf}, Room.AreHints}
+use Rattle.batch_shards.specs.{Shards.resolved_in, Groups.{does_act, IsTold, IsOneMore}, Spending.unspent}
+use Rattle.batch_shards.specs.declared.{row_blocks.RowBlock.RowBlock, shard.{OpenRow.OpenRow, Step.Step}}
 
 -- the invariant of a source's open row: each of its blocks has this source, and what is known of the row is so
 pub record IsRowOf (source : VertexId) (row : OpenRow) : Type 0 where

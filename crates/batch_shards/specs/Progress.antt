@@ -1,19 +1,12 @@
 -- What a shard has left once the rows of its first sources are done.
-use Rattle.std.specs.Prelude.{All, ◌≡◌, ℕ, ◌<◌, List, [], map, flat_map, take, length, get_or, false}
-use Rattle.std.specs.declared.sync.Arc.{Arc}
+use Rattle.std.specs.{Prelude.{All, ◌≡◌, ℕ, ◌<◌, List, [], map, flat_map, take, length, get_or, false}, declared.sync.Arc.Arc}
 use Rattle.std.specs.declared.alloc.Global.{Global}
 use Rattle.graph_types.specs.declared.batches.Outcome.{Outcome}
-use Rattle.edge_block.specs.declared.blocks.Block.{Block}
-use Rattle.edge_block.specs.Slots.{BlockView}
-use Rattle.edge_block.specs.Batches.{rows_all, opened}
-use Rattle.batch_shards.specs.RowBlocks.{blocks_of, numbers_of, had_in, HaveSame}
-use Rattle.batch_shards.specs.Closing.{row_values, closed_rows, written_all, dropped_all, unused_all}
-use Rattle.batch_shards.specs.Shards.{AreOpen, AreOwn, resolved_in, sources_of, had_all, own_all}
-use Rattle.batch_shards.specs.Groups.{is_past, told, outcome_over}
-use Rattle.batch_shards.specs.Done.{layout_by}
-use Rattle.batch_shards.specs.declared.shard.OpenRow.{OpenRow}
-use Rattle.batch_shards.specs.declared.shard.ShardDone.{ShardDone}
-use Rattle.batch_shards.specs.declared.shard.Step.{Step}
+use Rattle.edge_block.specs.{declared.blocks.Block.Block, Slots.BlockView, Batches.{rows_all, opened}}
+use Rattle.batch_shards.specs.{RowBlocks.{blocks_of, numbers_of, had_in, HaveSame}, Closing.{row_values, closed_rows}}
+use Rattle.batch_shards.specs.{Closing.{written_all, dropped_all, unused_all}, Shards.{AreOpen, AreOwn, resolved_in, sources_of}}
+use Rattle.batch_shards.specs.{Shards.{had_all, own_all}, Groups.{is_past, told, outcome_over}, Done.layout_by}
+use Rattle.batch_shards.specs.declared.shard.{OpenRow.OpenRow, ShardDone.ShardDone, Step.Step}
 
 -- the outcomes of operations on so many first rows are those of the operation rule, each with its place in the batch; an
 -- expiry's counts the edges of these rows

@@ -1,11 +1,8 @@
 -- Where a row may have room, and all that is known of a row before a search.
 use Rattle.std.specs.Prelude.{◌≡◌, ℕ, ◌<◌, List, length, get_or, false}
 use Rattle.edge_block.specs.Rows.{has_room, old_in_row}
-use Rattle.batch_shards.specs.declared.room.Room.{Room}
-use Rattle.batch_shards.specs.declared.rows.Hints.{Hints}
-use Rattle.batch_shards.specs.declared.row_blocks.RowBlock.{RowBlock}
-use Rattle.batch_shards.specs.RowBlocks.{open_of, opens}
-use Rattle.batch_shards.specs.Notes.{IsNoted}
+use Rattle.batch_shards.specs.{declared.{room.Room.Room, rows.Hints.Hints, row_blocks.RowBlock.RowBlock}, RowBlocks.open_of}
+use Rattle.batch_shards.specs.{RowBlocks.opens, Notes.IsNoted}
 
 -- no block of the kind before the place has room
 pub record IsFull (kind place : ℕ) (row : List RowBlock) : Type 0 where

@@ -1,17 +1,10 @@
 -- A row's blocks while a batch goes on, as the program has them.
 use Rattle.std.specs.Prelude.{◌≡◌, ℕ, ◌+◌, List, [], ◌∷◌, map, flat_map, count_by, Bool, not, ◌||◌, if◌then◌else◌}
-use Rattle.std.specs.Option.{is_some, option_to_list}
-use Rattle.std.specs.declared.option.Option.{Option}
-use Rattle.std.specs.declared.option.Option.TheVariants.{None, Some}
-use Rattle.std.specs.Arc.{arc_value}
-use Rattle.std.specs.declared.sync.Arc.{Arc}
-use Rattle.std.specs.declared.alloc.Global.{Global}
-use Rattle.graph_types.specs.Graph.{Stamp}
-use Rattle.graph_types.specs.declared.changes.EdgeChange.{EdgeChange}
-use Rattle.graph_types.specs.Step.{stamp_after, outcome_at}
-use Rattle.edge_block.specs.declared.blocks.Block.{Block}
-use Rattle.edge_block.specs.Slots.{BlockView, Slot, put_slot, take_slot, stamp_at}
-use Rattle.edge_block.specs.Rows.{OpenBlock, untouched, shape_of, touch, touches}
+use Rattle.std.specs.{Option.{is_some, option_to_list}, declared.{option.Option.{Option, TheVariants.{None, Some}}, sync.Arc.Arc}}
+use Rattle.std.specs.{declared.alloc.Global.Global, Arc.arc_value}
+use Rattle.graph_types.specs.{Graph.Stamp, declared.changes.EdgeChange.EdgeChange, Step.{stamp_after, outcome_at}}
+use Rattle.edge_block.specs.{declared.blocks.Block.Block, Slots.{BlockView, Slot, put_slot, take_slot, stamp_at}, Rows.OpenBlock}
+use Rattle.edge_block.specs.Rows.{untouched, shape_of, touch, touches}
 use Rattle.batch_shards.specs.declared.row_blocks.RowBlock.{RowBlock}
 
 abbrev pub block_of : Arc Block Global → BlockView

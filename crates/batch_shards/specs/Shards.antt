@@ -1,18 +1,10 @@
 -- The open rows of a shard's sources, and its operations.
-use Rattle.std.specs.Prelude.{◌≡◌, ℕ, ◌<◌, List, map, flat_map, All, slice_index}
-use Rattle.std.specs.declared.option.Option.{Option}
+use Rattle.std.specs.{Prelude.{◌≡◌, ℕ, ◌<◌, List, map, flat_map, All, slice_index}, declared.option.Option.Option}
 use Rattle.std.specs.declared.option.Option.TheVariants.{None, Some}
-use Rattle.graph_types.specs.Graph.{Key}
-use Rattle.graph_types.specs.Changes.{IsChange}
-use Rattle.edge_block.specs.Slots.{BlockView}
-use Rattle.edge_block.specs.Rows.{OpenBlock}
-use Rattle.edge_block.specs.Batches.{Resolved, AtKey, InAll}
-use Rattle.batch_shards.specs.RowBlocks.{opens, had_in, own_in, IsOf}
-use Rattle.batch_shards.specs.declared.shard.OpenRow.{OpenRow}
-use Rattle.batch_shards.specs.declared.shard.Place.{Place}
-use Rattle.batch_shards.specs.declared.shard.Act.{Act}
-use Rattle.batch_shards.specs.declared.shard.Act.TheVariants.{Edge, Expire}
-use Rattle.batch_shards.specs.declared.shard.Step.{Step}
+use Rattle.graph_types.specs.{Graph.Key, Changes.IsChange}
+use Rattle.edge_block.specs.{Slots.BlockView, Rows.OpenBlock, Batches.{Resolved, AtKey, InAll}}
+use Rattle.batch_shards.specs.{RowBlocks.{opens, had_in, own_in, IsOf}, declared.shard.{OpenRow.OpenRow, Place.Place, Act.Act}}
+use Rattle.batch_shards.specs.declared.shard.{Act.TheVariants.{Edge, Expire}, Step.Step}
 
 -- the open rows are those of their sources
 abbrev pub AreOpen : (ℕ → List OpenBlock) → List OpenRow → Type 0

@@ -1,14 +1,9 @@
 -- How many fresh blocks operations may need.
 use Rattle.std.specs.Prelude.{◌≡◌, ℕ, ◌+◌, ◌<◌, max, List, [], ◌∷◌, count_by, length, get_or, take, drop, Bool, not, ◌&&◌}
-use Rattle.std.specs.declared.option.{Option.Option, Option.TheVariants.None, Option.TheVariants.Some}
-use Rattle.std.specs.List.{sum_by}
-use Rattle.edge_block.specs.Slots.{BlockView, has_before}
-use Rattle.edge_block.specs.Rows.{OpenBlock, has_old}
-use Rattle.batch_shards.specs.Groups.{is_past, is_expiry, AreExpiries, AreGroups}
-use Rattle.batch_shards.specs.declared.groups.Groups.{Groups}
-use Rattle.batch_shards.specs.declared.shard.Act.{Act}
-use Rattle.batch_shards.specs.declared.shard.Act.TheVariants.{Edge, Expire}
-use Rattle.batch_shards.specs.declared.shard.Step.{Step}
+use Rattle.std.specs.{declared.option.Option.{Option, TheVariants.{None, Some}}, List.sum_by}
+use Rattle.edge_block.specs.{Slots.{BlockView, has_before}, Rows.{OpenBlock, has_old}}
+use Rattle.batch_shards.specs.{Groups.{is_past, is_expiry, AreExpiries, AreGroups}, declared.groups.Groups.Groups}
+use Rattle.batch_shards.specs.declared.shard.{Act.{Act, TheVariants.{Edge, Expire}}, Step.Step}
 
 -- the greatest time that f tells of an element, 0 where there is none
 abbrev pub latest_by : {A : Type 0} → (A → ℕ) → List A → ℕ

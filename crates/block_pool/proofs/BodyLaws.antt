@@ -1,11 +1,10 @@
 -- The bodies that a pool keeps.
 use Rattle.std.proofs.Common.{◌≡◌, ℕ, ◌+◌, ◌<◌, ◌==◌, ◌++◌, Some, List, [], ◌∷◌, get_or, set, true, false, refl, sym, ap, ◌∙◌}
-use Rattle.std.proofs.Common.{subst, Option, None, IfSome, arith}
-use Rattle.std.proofs.{Math.ListN.length-set, Math.Seq.get_or-append_seam, lemmas.Bool.eqb-true, lemmas.Bool.eqb-false}
-use Rattle.std.proofs.lemmas.List.{get_or-set_same, get_or-set_other, get_or_append_left, length-append}
-use Rattle.std.specs.{Arc.arc_value, declared.sync.Arc.Arc, declared.alloc.Global.Global}
+use Rattle.std.proofs.{Common.{subst, Option, None, IfSome, arith}, Math.{ListN.length-set, Seq.get_or-append_seam}}
+use Rattle.std.proofs.lemmas.{Bool.{eqb-true, eqb-false}, List.{get_or-set_same, get_or-set_other, get_or_append_left}}
+use Rattle.std.{proofs.lemmas.List.length-append, specs.{Arc.arc_value, declared.{sync.Arc.Arc, alloc.Global.Global}}}
 use Rattle.edge_block.specs.declared.blocks.Block.{Block}
-use Rattle.block_pool.specs.Bodies.{AreBodies}
+use Rattle.block_pool.specs.Pools.{AreBodies}
 
 pub bodies_set : (count : ℕ) (bodies : List (Option (Arc Block Global))) (k : ℕ) (body : Option (Arc Block Global)) → k < count
     → IfSome body (λ b. (arc_value {X = Block} b).number ≡ k) → AreBodies count bodies → AreBodies count (set bodies k body)

@@ -1,14 +1,11 @@
 -- The numbers that a grant takes.
 use Rattle.std.proofs.Common.{◌≡◌, ℕ, zero, suc, ◌+◌, ◌-◌, ◌<◌, ◌≤◌, ◌==◌, List, [], ◌∷◌, ◌++◌, length, get_or, set, count_by}
-use Rattle.std.proofs.Common.{take, Bool, true, false, cond, ◌&&◌, refl, sym, ap, ◌∙◌, arith, length-take}
-use Rattle.std.proofs.lemmas.Bool.{eqb-true, eqb-false, and_parts}
-use Rattle.std.proofs.lemmas.List.{get_or-take, get_or-set_same, get_or-set_other, get_or_read, take_more_set}
-use Rattle.std.proofs.Math.{ListN.length-set, Seq.take-set-lt}
-use Rattle.block_pool.specs.Pools.{marked, AreFree}
-use Rattle.block_reclamation.specs.declared.status.BlockStatus.{BlockStatus}
-use Rattle.block_reclamation.specs.Status.{is_free}
-use Rattle.block_pool.specs.Kept.{IsNumbers, statuses, status_of, tally, Lists, popped}
+use Rattle.std.proofs.{Common.{take, Bool, true, false, cond, ◌&&◌, refl, sym, ap, ◌∙◌, arith, length-take}, lemmas.Bool.eqb-true}
+use Rattle.std.proofs.lemmas.{Bool.{eqb-false, and_parts}, List.{get_or-take, get_or-set_same, get_or-set_other, get_or_read}}
+use Rattle.std.proofs.{lemmas.List.take_more_set, Math.{ListN.length-set, Seq.take-set-lt}}
+use Rattle.block_pool.specs.{Pools.{marked, AreFree}, Kept.{IsNumbers, statuses, status_of, tally, Lists, popped}}
 use Rattle.block_pool.specs.declared.numbers.Numbers.{Numbers}
+use Rattle.block_reclamation.specs.{declared.status.BlockStatus.BlockStatus, Status.is_free}
 use Rattle.block_pool.proofs.Tallies.{count_last, count_here, count_at, listed_at, listed_count, same_number, passes_at}
 use Rattle.edge_block.proofs.Counts.{count_more}
 

@@ -1,11 +1,10 @@
 -- Links that are changed.
-use Rattle.std.proofs.Common.{◌≡◌, ◌≢◌, ℕ, zero, suc, ◌+◌, ◌-◌, ◌<◌, ◌==◌, inl, inr, List, [], ◌∷◌, length, get_or, set}
-use Rattle.std.proofs.Common.{false, refl, sym, ap, ap₂, subst, ◌∙◌, arith, map, replicate}
-use Rattle.std.proofs.lemmas.Bool.{cases_eq, eq-eqb, true≢false, or_parts}
-use Rattle.std.proofs.lemmas.List.{get_or-set_same, get_or-set_other, get_or-map, map-set, length-map, length-replicate}
-use Rattle.std.proofs.Math.ListN.{length-set}
+use Rattle.std.proofs.Common.{◌≡◌, ◌≢◌, ℕ, zero, suc, ◌+◌, ◌-◌, ◌<◌, ◌==◌, inl, inr, List, [], ◌∷◌, length, get_or, set, false}
+use Rattle.std.proofs.{Common.{refl, sym, ap, ap₂, subst, ◌∙◌, arith, map, replicate}, lemmas.Bool.{cases_eq, eq-eqb, true≢false}}
+use Rattle.std.proofs.lemmas.{Bool.or_parts, List.{get_or-set_same, get_or-set_other, get_or-map, map-set, length-map}}
+use Rattle.std.proofs.{lemmas.List.length-replicate, Math.ListN.length-set}
 use Rattle.block_pool.specs.{declared.stacks.Stack.Stack, Chains.chain, Chains.chain_of, Chains.AreBelow, Chains.AreWithin}
-use Rattle.block_pool.specs.Stacks.{Stacks, stack_of, below_top, AreAbsent}
+use Rattle.block_pool.specs.Chains.{Stacks, stack_of, below_top, AreAbsent}
 use Rattle.block_reclamation.specs.Status.{is_listed}
 
 -- the link of a number that a chain hasn't

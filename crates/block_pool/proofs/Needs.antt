@@ -1,11 +1,9 @@
 -- What a copy needs, by one seat's pin and by what it reaches.
 use Rattle.std.proofs.Common.{◌≡◌, ℕ, ◌<◌, Bool, true, false, ◌||◌, not, List, get_or, Option, Some, None, refl, ap, ltb}
 use Rattle.std.{proofs.lemmas.Bool.false≢true, specs.List.list_any}
-use Rattle.block_reclamation.specs.declared.copies.PinCopy.{PinCopy}
-use Rattle.block_reclamation.specs.Copies.{reach_of, is_between, is_before, needs}
+use Rattle.block_reclamation.specs.{declared.{copies.PinCopy.PinCopy, status.BlockStatus.TheVariants.Retired}, Copies.reach_of}
+use Rattle.block_reclamation.specs.{Copies.{is_between, is_before, needs}, Status.is_reclaimable}
 use Rattle.block_reclamation.proofs.Least.{any_at, reach_needed}
-use Rattle.block_reclamation.specs.declared.status.BlockStatus.TheVariants.{Retired}
-use Rattle.block_reclamation.specs.Status.{is_reclaimable}
 
 or_middle : (a b c : Bool) → b ≡ true → (a || (b || c)) ≡ true
 or_middle true b c is = refl

@@ -1,19 +1,15 @@
 -- Stacks of the retired numbers.
 use Rattle.std.proofs.Common.{◌≡◌, ◌≢◌, inl, inr, ℕ, zero, suc, ◌+◌, ◌-◌, ◌<◌, ◌≤◌, ◌==◌, List, [], ◌∷◌, length, get_or, set}
 use Rattle.std.proofs.Common.{count_by, replicate, Bool, true, false, cond, ◌||◌, refl, sym, ap, subst, ◌∙◌, arith, Option, None}
-use Rattle.std.specs.Prelude.{sum_by}
 use Rattle.std.proofs.lemmas.Bool.{true≢false, false≢true, eqb-true, cases_eq, cases_lt, false_from_ne_true, or_cases, or_right}
 use Rattle.std.proofs.lemmas.List.{get_or-set_same, get_or-set_other, get_or_past, length-replicate, Folds.sum_by-replicate}
-use Rattle.std.proofs.lemmas.List.Sums.{sum_by-cons, sum_by-set, get_or-le-sum_by, count_by-le-length}
-use Rattle.std.proofs.Math.ListN.{length-set}
-use Rattle.block_reclamation.specs.declared.copies.PinCopy.{PinCopy}
-use Rattle.block_reclamation.specs.declared.copies.TheConstants.{SEATS}
-use Rattle.block_pool.specs.Stacks.{stack_of, below_top, AreAbsent}
-use Rattle.block_reclamation.specs.Status.{is_listed, is_retired, is_reclaimable}
-use Rattle.block_pool.specs.declared.numbers.TheConstants.{LOOSE, LATE}
-use Rattle.block_reclamation.specs.declared.status.BlockStatus.{BlockStatus}
-use Rattle.block_reclamation.specs.declared.status.BlockStatus.TheVariants.{Free, Granted}
-use Rattle.block_pool.specs.Kept.{status_of, tally, AreNeeded, HasPins, IsSorted, Fits, top_of, put_on, taken_off, moved}
+use Rattle.std.proofs.{lemmas.List.Sums.{sum_by-cons, sum_by-set, get_or-le-sum_by, count_by-le-length}, Math.ListN.length-set}
+use Rattle.std.specs.Prelude.{sum_by}
+use Rattle.block_reclamation.specs.declared.{copies.{PinCopy.PinCopy, TheConstants.SEATS}, status.BlockStatus.BlockStatus}
+use Rattle.block_reclamation.specs.{declared.status.BlockStatus.TheVariants.{Free, Granted}, Status.{is_listed, is_retired}}
+use Rattle.block_reclamation.specs.Status.{is_reclaimable}
+use Rattle.block_pool.specs.{Chains.{stack_of, below_top, AreAbsent}, declared.numbers.TheConstants.{LOOSE, LATE}, Kept.status_of}
+use Rattle.block_pool.specs.Kept.{tally, AreNeeded, HasPins, IsSorted, Fits, top_of, put_on, taken_off, moved}
 use Rattle.block_pool.proofs.Tallies.{count_true, count_lt, same_number, tally_at, tally_has_one, tally_true}
 use Rattle.block_pool.proofs.{Tallies.tally_here, Tallies.past_retired, Tallies.none_retired, Grants.tally_once}
 use Rattle.edge_block.proofs.Counts.{count_more}

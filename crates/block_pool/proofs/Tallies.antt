@@ -3,10 +3,9 @@ use Rattle.std.proofs.Common.{◌≡◌, ℕ, zero, suc, ◌+◌, ◌-◌, ◌<�
 use Rattle.std.proofs.Common.{subst, replicate, count_by, take, Bool, true, false, cond, ◌&&◌, refl, sym, ap, ap₂, ◌∙◌, arith}
 use Rattle.std.proofs.lemmas.Bool.{true≢false, false≢true, eqb-true, eqb-false, and_parts, true_from_ne_false}
 use Rattle.std.{specs.Prelude.slice_get, proofs.lemmas.List.Sums.sum_by-cons, proofs.lemmas.List.Sums.sum_by-append}
-use Rattle.block_reclamation.specs.declared.copies.PinCopy.{PinCopy}
-use Rattle.block_reclamation.specs.declared.status.BlockStatus.{BlockStatus}
-use Rattle.block_reclamation.specs.declared.status.BlockStatus.TheVariants.{Free, Granted, Used, Retired}
-use Rattle.block_reclamation.specs.Status.{is_free, is_in_use, is_used, is_retired, is_reclaimable, recycled, is_at}
+use Rattle.block_reclamation.specs.declared.{copies.PinCopy.PinCopy, status.BlockStatus.{BlockStatus, TheVariants.Free}}
+use Rattle.block_reclamation.specs.{declared.status.BlockStatus.TheVariants.{Granted, Used, Retired}, Status.{is_free, is_in_use}}
+use Rattle.block_reclamation.specs.Status.{is_used, is_retired, is_reclaimable, recycled, is_at}
 use Rattle.block_pool.specs.Kept.{status_of, tally, Lists}
 use Rattle.edge_block.proofs.Counts.{count_more}
 

@@ -2,15 +2,10 @@
 -- ones in stacks.
 use Rattle.std.specs.Prelude.{◌≡◌, ◌<◌, ◌≤◌, ℕ, zero, suc, ◌+◌, ◌-◌, ◌&&◌, Bool, if◌then◌else◌, List, [], ◌∷◌, length, take}
 use Rattle.std.specs.Prelude.{count_by, sum_by, slice_index, slice_index_or, slice_set, true, false, Option, None}
-use Rattle.block_pool.specs.declared.numbers.Numbers.{Numbers}
-use Rattle.block_reclamation.specs.declared.copies.PinCopy.{PinCopy}
-use Rattle.block_reclamation.specs.declared.copies.TheConstants.{SEATS}
-use Rattle.block_reclamation.specs.Copies.{reach_of}
-use Rattle.block_pool.specs.Stacks.{stack_of, below_top}
-use Rattle.block_reclamation.specs.Status.{is_listed, is_free, is_retired, is_reclaimable}
-use Rattle.block_pool.specs.declared.numbers.TheConstants.{LATE}
-use Rattle.block_reclamation.specs.declared.status.BlockStatus.{BlockStatus}
-use Rattle.block_reclamation.specs.declared.status.BlockStatus.TheVariants.{Granted}
+use Rattle.block_pool.specs.{declared.numbers.{Numbers.Numbers, TheConstants.LATE}, Chains.{stack_of, below_top}}
+use Rattle.block_reclamation.specs.declared.{copies.{PinCopy.PinCopy, TheConstants.SEATS}, status.BlockStatus.BlockStatus}
+use Rattle.block_reclamation.specs.{declared.status.BlockStatus.TheVariants.Granted, Copies.reach_of, Status.{is_listed, is_free}}
+use Rattle.block_reclamation.specs.Status.{is_retired, is_reclaimable}
 
 abbrev pub statuses : Numbers → List BlockStatus
 statuses n = n.statuses.items

@@ -1,8 +1,9 @@
 -- A pool: what each of its block numbers is by now. Free, in use and retired part the numbers, since each number has one status.
-use Rattle.std.specs.Prelude.{◌≡◌, ◌≢◌, ℕ, List, [], ◌∷◌, slice_get, slice_index_or, slice_set, All, AllPairs, Bool, true}
-use Rattle.block_reclamation.specs.declared.status.BlockStatus.{BlockStatus}
-use Rattle.block_reclamation.specs.declared.status.BlockStatus.TheVariants.{Free, Granted, Used, Retired}
+use Rattle.std.specs.Prelude.{◌≡◌, ◌≢◌, ℕ, List, [], ◌∷◌, slice_get, slice_index_or, slice_set, All, AllPairs, Bool, true, ◌<◌}
+use Rattle.std.specs.{Prelude.{length, Option, None, IfSome}, Arc.arc_value, declared.{sync.Arc.Arc, alloc.Global.Global}}
+use Rattle.block_reclamation.specs.declared.status.BlockStatus.{BlockStatus, TheVariants.{Free, Granted, Used, Retired}}
 use Rattle.block_reclamation.specs.Status.{is_at, is_free, is_in_use, is_used}
+use Rattle.edge_block.specs.declared.blocks.Block.{Block}
 
 abbrev pub is_free_at : List BlockStatus → ℕ → Bool
 is_free_at pool number = is_at is_free (slice_get pool number)
@@ -35,3 +36,8 @@ changed change (number ∷ numbers) pool = changed change numbers (slice_set poo
 pub record AreFree (pool : List BlockStatus) (numbers : List ℕ) : Type 0 where
   pub free : All (λ n. is_free_at pool n ≡ true) numbers
   pub distinct : AllPairs ◌≢◌ numbers
+
+-- there is a place for each number, and a body that is kept has its place's number
+pub record AreBodies (count : ℕ) (bodies : List (Option (Arc Block Global))) : Type 0 where
+  pub same_length : length bodies ≡ count
+  pub numbers : (n : ℕ) → n < count → IfSome (slice_index_or bodies n None) (λ b. (arc_value {X = Block} b).number ≡ n)

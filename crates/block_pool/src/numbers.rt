@@ -3,7 +3,7 @@
 ghost use Rattle.std.specs.Prelude.{◌≡◌, ◌≢◌, ◌<◌, ◌≤◌, ℕ, length, map, replicate, count_by, slice_index, slice_set, ◌+◌, ◌-◌, IfOk};
 ghost use Rattle.std.specs.Prelude.{true, IfSome, slice_index_or, None, []};
 ghost use Rattle.block_reclamation.specs.Copies as copies;
-ghost use Rattle.block_pool.specs.Stacks.{stack_of};
+ghost use Rattle.block_pool.specs.Chains.{stack_of};
 ghost use Rattle.block_reclamation.specs.declared.status.BlockStatus.TheVariants.{Free, Granted, Used, Retired};
 ghost use Rattle.block_reclamation.specs.Status.{is_free, is_in_use, is_retired, is_reclaimable, recycled};
 ghost use Rattle.block_pool.specs.Pools.{marked, retired, is_in_use_at, is_used_at};

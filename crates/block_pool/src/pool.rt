@@ -8,7 +8,7 @@ ghost use Rattle.block_pool.specs.Pools.{retired, is_in_use_at, marked, changed,
 ghost use Rattle.block_reclamation.specs.declared.status.BlockStatus.TheVariants.{Free, Granted, Used};
 ghost use Rattle.block_reclamation.specs.Status.{is_free, is_in_use, is_retired, is_reclaimable, recycled};
 ghost use Rattle.block_pool.specs.Kept.{statuses, popped, IsNumbers};
-ghost use Rattle.block_pool.specs.Bodies.{AreBodies};
+ghost use Rattle.block_pool.specs.Pools.{AreBodies};
 
 use crate::numbers::Numbers;
 use block_reclamation::PinCopy;
@@ -42,7 +42,7 @@ impl Model for Pool {
     ghost use Rattle.std.specs.Prelude.{List, length};
     ghost use Rattle.block_reclamation.specs.declared.status.BlockStatus.{BlockStatus};
     ghost use Rattle.block_pool.specs.Kept.{statuses, IsNumbers};
-    ghost use Rattle.block_pool.specs.Bodies.{AreBodies};
+    ghost use Rattle.block_pool.specs.Pools.{AreBodies};
 
     ghost Value = { List BlockStatus };
 

@@ -1,7 +1,7 @@
 //! Stacks of numbers, linked through one array.
 
 ghost use Rattle.std.specs.Prelude.{◌≡◌, ◌<◌, ◌∷◌, [], length, replicate, slice_set, IfOk};
-ghost use Rattle.block_pool.specs.Stacks.{stack_of, below_top, AreAbsent};
+ghost use Rattle.block_pool.specs.Chains.{stack_of, below_top, AreAbsent};
 
 use std::alloc::{AllocError, Global};
 use std::marker::Model;
@@ -33,7 +33,7 @@ impl Drop for LinkedStacks {
 
 impl Model for LinkedStacks {
     ghost use Rattle.std.specs.Prelude.{length, map};
-    ghost use Rattle.block_pool.specs.Stacks.{Stacks};
+    ghost use Rattle.block_pool.specs.Chains.{Stacks};
     ghost use Rattle.block_pool.specs.Chains.{chain_of, AreWithin};
 
     ghost Value = { Stacks };

@@ -1,10 +1,8 @@
 -- The floor of a copy is the least of the last number and all pins.
 use Rattle.std.proofs.Common.{◌≡◌, ℕ, ◌≤◌, inl, inr, Bool, true, false, not, List, map, get_or, Option, Some, None, IfSome}
-use Rattle.std.proofs.Common.{IsSomeAnd, refl, sym, ap, subst, ◌∙◌, arith}
-use Rattle.std.proofs.Math.ListN.{get_or-map}
-use Rattle.block_reclamation.specs.declared.copies.Pin.{Pin}
-use Rattle.block_reclamation.specs.Copies.{pin_at, copy_of, number_if, settled_number, unsettled_number, least_of, floor_of}
-use Rattle.block_reclamation.specs.Board.{IsLeast}
+use Rattle.std.proofs.{Common.{IsSomeAnd, refl, sym, ap, subst, ◌∙◌, arith}, Math.ListN.get_or-map}
+use Rattle.block_reclamation.specs.{declared.copies.Pin.Pin, Copies.{pin_at, copy_of, number_if, settled_number}}
+use Rattle.block_reclamation.specs.{Copies.{unsettled_number, least_of, floor_of}, Board.IsLeast}
 use Rattle.block_reclamation.proofs.Least.{least_below, least_each, least_reached}
 
 below_if : (pins : List (Option Pin)) (last seat : ℕ) (pin : Pin) (b : Bool) → pin.is_settled ≡ b

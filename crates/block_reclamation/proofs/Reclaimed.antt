@@ -1,13 +1,10 @@
 -- The laws of status, floor and need.
-use Rattle.std.proofs.Common.{◌≡◌, ℕ, ◌+◌, ◌<◌, ◌≤◌, Bool, true, false, ◌||◌, List, [], ◌∷◌, count_by, cond}
-use Rattle.std.proofs.Common.{Option, Some, None, refl, ap, ◌∙◌, arith, ltb}
-use Rattle.std.proofs.lemmas.{Bool.Decides.nat_tests, List.Sums.sum_by-cons}
+use Rattle.std.proofs.Common.{◌≡◌, ℕ, ◌+◌, ◌<◌, ◌≤◌, Bool, true, false, ◌||◌, List, [], ◌∷◌, count_by, cond, Option, Some, None}
+use Rattle.std.proofs.{Common.{refl, ap, ◌∙◌, arith, ltb}, lemmas.{Bool.Decides.nat_tests, List.Sums.sum_by-cons}}
 use Rattle.std.specs.List.{list_any}
-use Rattle.block_reclamation.specs.declared.status.BlockStatus.{BlockStatus}
-use Rattle.block_reclamation.specs.declared.status.BlockStatus.TheVariants.{Free, Granted, Used, Retired}
-use Rattle.block_reclamation.specs.Copies.{lesser, least_of, is_between, is_before}
-use Rattle.block_reclamation.specs.Status.{is_free, is_granted, is_used, is_retired, is_in_use}
-use Rattle.block_reclamation.specs.Laws.{IsOneOfFour, ArePartition, FloorSpares, NeedIsMonotone}
+use Rattle.block_reclamation.specs.declared.status.BlockStatus.{BlockStatus, TheVariants.{Free, Granted, Used, Retired}}
+use Rattle.block_reclamation.specs.{Copies.{lesser, least_of, is_between, is_before}, Status.{is_free, is_granted, is_used}}
+use Rattle.block_reclamation.specs.{Status.{is_retired, is_in_use}, Laws.{IsOneOfFour, ArePartition, FloorSpares, NeedIsMonotone}}
 use Rattle.block_reclamation.proofs.Least.{least_below, least_each}
 
 pub one_of_four : (status : BlockStatus) → IsOneOfFour status

@@ -1,9 +1,7 @@
 -- A board: the floor, and the pin of each seat. What was retired at latest with the floor may be reused; what else may, the copy of
 -- the pins tells (acquire and release of Aspen, PLDI 2019).
 use Rattle.std.specs.Prelude.{◌≡◌, ℕ, ◌≤◌, List, length, replicate, Option, None, IfSome, IsSomeAnd, ◌⊎◌, slice_set}
-use Rattle.block_reclamation.specs.declared.copies.Pin.{Pin}
-use Rattle.block_reclamation.specs.declared.copies.TheConstants.{SEATS}
-use Rattle.block_reclamation.specs.Copies.{pin_at}
+use Rattle.block_reclamation.specs.{declared.copies.{Pin.Pin, TheConstants.SEATS}, Copies.pin_at}
 
 pub record BoardState : Type 0 where
   pub floor : ℕ

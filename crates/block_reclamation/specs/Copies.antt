@@ -1,12 +1,7 @@
 -- Pins of readers, the copy of them that a collection goes by, its floor, and which retired blocks it needs.
 use Rattle.std.specs.Prelude.{ℕ, Bool, true, false, not, ◌&&◌, ◌||◌, nat_le, nat_lt, min, max, List, [], ◌∷◌, map, replicate}
-use Rattle.std.specs.Prelude.{slice_index_or}
-use Rattle.std.specs.List.{list_any}
-use Rattle.std.specs.declared.option.Option.{Option}
-use Rattle.std.specs.declared.option.Option.TheVariants.{None, Some}
-use Rattle.block_reclamation.specs.declared.copies.Pin.{Pin}
-use Rattle.block_reclamation.specs.declared.copies.PinCopy.{PinCopy}
-use Rattle.block_reclamation.specs.declared.copies.TheConstants.{SEATS}
+use Rattle.std.specs.{Prelude.slice_index_or, List.list_any, declared.option.Option.{Option, TheVariants.{None, Some}}}
+use Rattle.block_reclamation.specs.declared.copies.{Pin.Pin, PinCopy.PinCopy, TheConstants.SEATS}
 
 -- Pins
 

@@ -1,10 +1,7 @@
 -- The laws of status, floor and need.
 use Rattle.std.specs.Prelude.{◌≡◌, ℕ, ◌<◌, ◌≤◌, ◌+◌, true, false, List, [], ◌∷◌, length, count_by, Option}
-use Rattle.block_reclamation.specs.declared.status.BlockStatus.{BlockStatus}
-use Rattle.block_reclamation.specs.declared.copies.Pin.{Pin}
-use Rattle.block_reclamation.specs.declared.copies.PinCopy.{PinCopy}
-use Rattle.block_reclamation.specs.Copies.{copy_of, floor_of, needs}
-use Rattle.block_reclamation.specs.Status.{is_free, is_granted, is_used, is_retired, is_in_use}
+use Rattle.block_reclamation.specs.{declared.{status.BlockStatus.BlockStatus, copies.{Pin.Pin, PinCopy.PinCopy}}, Copies.copy_of}
+use Rattle.block_reclamation.specs.{Copies.{floor_of, needs}, Status.{is_free, is_granted, is_used, is_retired, is_in_use}}
 use Rattle.block_reclamation.specs.Board.{IsLeast}
 
 -- a block is exactly one of free, granted, used and retired

@@ -1,13 +1,9 @@
 -- What a block is: free, granted, used or retired. Birth and retirement are numbers of versions: the one that first listed the
 -- block, and the one that left it out.
-use Rattle.std.specs.Prelude.{ℕ, ◌<◌, ◌≤◌, Bool, true, false, not, ◌==◌, List, if◌then◌else◌}
-use Rattle.std.specs.List.{list_any}
-use Rattle.std.specs.declared.option.Option.{Option}
-use Rattle.std.specs.declared.option.Option.TheVariants.{None, Some}
-use Rattle.block_reclamation.specs.declared.status.BlockStatus.{BlockStatus}
-use Rattle.block_reclamation.specs.declared.status.BlockStatus.TheVariants.{Free, Granted, Used, Retired}
-use Rattle.block_reclamation.specs.declared.copies.PinCopy.{PinCopy}
-use Rattle.block_reclamation.specs.Copies.{needs}
+use Rattle.std.specs.{Prelude.{ℕ, ◌<◌, ◌≤◌, Bool, true, false, not, ◌==◌, List, if◌then◌else◌}, List.list_any}
+use Rattle.std.specs.declared.option.Option.{Option, TheVariants.{None, Some}}
+use Rattle.block_reclamation.specs.declared.status.BlockStatus.{BlockStatus, TheVariants.{Free, Granted, Used, Retired}}
+use Rattle.block_reclamation.specs.{declared.copies.PinCopy.PinCopy, Copies.needs}
 
 abbrev pub is_free : BlockStatus → Bool
 is_free Free = true

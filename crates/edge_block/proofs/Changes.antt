@@ -1,8 +1,7 @@
 -- A list whose elements have something at keys, and one change to the first element that passes a test.
 use Rattle.std.proofs.Common.{◌≡◌, List, [], ◌∷◌, ◌++◌, Bool, true, false, cond, ◌||◌, refl, sym, ap, ◌∙◌, subst, Option, Some}
-use Rattle.std.proofs.Common.{None, is_some, ◌⊎◌, inl, inr, All}
-use Rattle.std.specs.{List.list_any, Option.option_or}
-use Rattle.std.proofs.lemmas.{Bool.true≢false, Bool.false≢true, List.Elements.All-head, List.Elements.All-tail}
+use Rattle.std.proofs.{Common.{None, is_some, ◌⊎◌, inl, inr, All}, lemmas.{Bool.{true≢false, false≢true}, List.Elements.All-head}}
+use Rattle.std.{proofs.lemmas.List.Elements.All-tail, specs.{List.list_any, Option.option_or}}
 use Rattle.edge_block.specs.Slots.{first_some, NoKeyTwice, at_first}
 
 pub or_none : {B : Type 0} (o : Option B) → option_or o None ≡ o

@@ -1,15 +1,13 @@
 -- What a search for a target finds: after a put, after a take, and among a block's entries.
 use Rattle.std.proofs.Common.{◌≡◌, ℕ, zero, suc, ◌<◌, ◌==◌, ◌↔◌, List, [], ◌∷◌, length, get_or, map, Bool, true, false, cond}
-use Rattle.std.proofs.Common.{refl, sym, ap, ◌∙◌, subst, arith, ◌⊎◌, inl, inr}
+use Rattle.std.proofs.{Common.{refl, sym, ap, ◌∙◌, subst, arith, ◌⊎◌, inl, inr}, lemmas.Bool.{false≢true, eqb-true, eq-eqb}}
+use Rattle.std.proofs.lemmas.{Bool.{ne_eqb, cases_eq}, List.{length-map, get_or-map, Elements.Contains-get_or}}
 use Rattle.std.specs.{Prelude.◌||◌, Prelude.Contains, List.list_any, Option.is_some, Option.option_or}
 use Rattle.std.specs.declared.option.Option.{Option, TheVariants.None, TheVariants.Some}
-use Rattle.std.proofs.lemmas.Bool.{false≢true, eqb-true, eq-eqb, ne_eqb, cases_eq}
-use Rattle.std.proofs.lemmas.List.{length-map, get_or-map, Elements.Contains-get_or}
 use Rattle.graph_types.specs.Graph.{Key, Stamp}
 use Rattle.edge_block.specs.Slots.{Slot, BlockView, at_first, slot_at, stamp_at, holds, is_free, has_room_for, AreDistinct}
 use Rattle.edge_block.specs.{Slots.put_slot, Slots.take_slot, Slots.edges_in, Slots.entry_in, Slots.entries_of, Laws.StandsIn}
-use Rattle.edge_block.proofs.Firsts.{at_first-none}
-use Rattle.edge_block.proofs.Changes.{set_first, Fits, Puts, fits_key, fits_room, any_key, none_is}
+use Rattle.edge_block.proofs.{Firsts.at_first-none, Changes.{set_first, Fits, Puts, fits_key, fits_room, any_key, none_is}}
 
 twice : {A : Type 0} (b : Bool) (x y z : A) → cond b x (cond b y z) ≡ cond b x z
 twice true x y z = refl

@@ -1,14 +1,12 @@
 -- What taking an old edge leaves of the old ones.
-use Rattle.std.proofs.Common.{◌≡◌, ℕ, ◌+◌, ◌-◌, ◌≤◌, ◌==◌, ◌&&◌, ◌||◌, List, [], ◌∷◌, Bool, true, false}
-use Rattle.std.proofs.Common.{cond, map, filter, length, refl, sym, ap, ◌∙◌, arith, Option, Some, None, is_some}
+use Rattle.std.proofs.Common.{◌≡◌, ℕ, ◌+◌, ◌-◌, ◌≤◌, ◌==◌, ◌&&◌, ◌||◌, List, [], ◌∷◌, Bool, true, false, cond, map, filter}
+use Rattle.std.proofs.{Common.{length, refl, sym, ap, ◌∙◌, arith, Option, Some, None, is_some}, lemmas.Bool.{false≢true, eq-eqb}}
+use Rattle.std.proofs.lemmas.{Bool.Decides.nat_tests, List.{Sums.sum_by-cons, Folds.{list_any_at, list_any_none}}}
 use Rattle.std.specs.{Option.option_or, Prelude.nat_le, Prelude.nat_lt, List.list_any}
-use Rattle.std.proofs.lemmas.Bool.{false≢true, eq-eqb, Decides.nat_tests}
-use Rattle.std.proofs.lemmas.List.{Sums.sum_by-cons, Folds.list_any_at, Folds.list_any_none}
 use Rattle.lane_scan.specs.Masks.{IsLeastOf}
 use Rattle.graph_types.specs.{Graph.Key, Graph.Stamp, Step.is_before, View.in_view, declared.ids.Filter.Filter}
-use Rattle.edge_block.specs.Slots.{Slot, stamp_at, take_slot, edges_in, AreDistinct, BlockView, entry_in}
-use Rattle.edge_block.specs.Slots.{slots_since, old_in, has_before, entries_of}
-use Rattle.edge_block.specs.Lending.{LentEdge, lent_of}
+use Rattle.edge_block.specs.Slots.{Slot, stamp_at, take_slot, edges_in, AreDistinct, BlockView, entry_in, slots_since, old_in}
+use Rattle.edge_block.specs.{Slots.{has_before, entries_of}, Lending.{LentEdge, lent_of}}
 
 module _ (time : ℕ) where
   abbrev old : Slot → Bool

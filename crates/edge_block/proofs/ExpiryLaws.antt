@@ -1,14 +1,11 @@
 -- What an expiry changes in slots, in blocks and in a source's row.
-use Rattle.std.proofs.Common.{◌≡◌, ℕ, ◌==◌, List, [], ◌∷◌, Bool, true, false, cond, ◌||◌, refl, sym, ap, ◌∙◌, map, All}
-use Rattle.std.proofs.{Common.Option, Common.Some, Common.None, Common.is_some, Common.subst, lemmas.Bool.true≢false}
-use Rattle.std.specs.Option.{option_or}
-use Rattle.std.proofs.lemmas.List.Elements.{All-head, All-tail, All-cons, All-nil}
+use Rattle.std.proofs.Common.{◌≡◌, ℕ, ◌==◌, List, [], ◌∷◌, Bool, true, false, cond, ◌||◌, refl, sym, ap, ◌∙◌, map, All, Option}
+use Rattle.std.proofs.{Common.{Some, None, is_some, subst}, lemmas.{Bool.true≢false, List.Elements.{All-head, All-tail}}}
+use Rattle.std.{proofs.lemmas.List.Elements.{All-cons, All-nil}, specs.Option.option_or}
 use Rattle.graph_types.specs.{Graph.Stamp, Step.is_before, Step.stays_from}
 use Rattle.edge_block.specs.Slots.{Slot, slot_at, stamp_at, AreDistinct, NoKeyTwice, first_some, slot_since, slots_since}
-use Rattle.edge_block.specs.Slots.{has_before}
-use Rattle.edge_block.specs.Rows.{OpenBlock, open_at, edge_at, touch, has_old, expire_block, expire_row}
-use Rattle.edge_block.proofs.Changes.{or_none}
-use Rattle.edge_block.proofs.RowLaws.{IsOpenRow, Within}
+use Rattle.edge_block.specs.{Slots.has_before, Rows.{OpenBlock, open_at, edge_at, touch, has_old, expire_block, expire_row}}
+use Rattle.edge_block.proofs.{Changes.or_none, RowLaws.{IsOpenRow, Within}}
 
 -- what stays is there before
 pub was_there : (time : ℕ) (o : Option Stamp) → is_some (stays_from time o) ≡ true → is_some o ≡ true

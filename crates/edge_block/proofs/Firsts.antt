@@ -1,9 +1,8 @@
 -- The first element of a list that passes a test, and lists in which no two elements have something at one key.
 use Rattle.std.proofs.Common.{◌≡◌, ◌⊎◌, ℕ, zero, suc, ◌<◌, Bool, true, false, List, [], ◌∷◌, length, get_or, set, refl, sym, ap}
-use Rattle.std.proofs.{Common.◌∙◌, Common.inl, Common.inr, Common.arith, lemmas.Bool.or_parts, lemmas.Bool.true≢false}
-use Rattle.std.specs.{Prelude.if◌then◌else◌, Prelude.All, List.list_any, Option.is_some, Option.option_or}
-use Rattle.std.specs.declared.option.Option.{Option, TheVariants.None, TheVariants.Some}
-use Rattle.std.proofs.lemmas.List.Elements.{All-cons, All-head, All-tail}
+use Rattle.std.proofs.{Common.{◌∙◌, inl, inr, arith}, lemmas.{Bool.{or_parts, true≢false}, List.Elements.{All-cons, All-head}}}
+use Rattle.std.{proofs.lemmas.List.Elements.All-tail, specs.{Prelude.{if◌then◌else◌, All}, List.list_any, Option.is_some}}
+use Rattle.std.specs.{Option.option_or, declared.option.Option.{Option, TheVariants.{None, Some}}}
 use Rattle.edge_block.specs.Slots.{first_some, NoKeyTwice, at_first}
 pub use Rattle.std.proofs.lemmas.List.Folds.{list_any_at}
 

@@ -1,19 +1,15 @@
 -- What rows are at a batch's end, and the laws of a batch and of an expiry.
-use Rattle.std.proofs.Common.{◌≡◌, ℕ, ◌<◌, ◌==◌, List, [], ◌∷◌, length, map, filter, Bool, true, false, cond, not, ◌&&◌}
-use Rattle.std.proofs.Common.{◌≤◌, refl, sym, ap, ◌∙◌, Option, Some, None, is_some, All}
+use Rattle.std.proofs.Common.{◌≡◌, ℕ, ◌<◌, ◌==◌, List, [], ◌∷◌, length, map, filter, Bool, true, false, cond, not, ◌&&◌, ◌≤◌}
+use Rattle.std.proofs.{Common.{refl, sym, ap, ◌∙◌, Option, Some, None, is_some, All}, lemmas.Bool.{true≢false, false≢true}}
+use Rattle.std.proofs.lemmas.{Bool.and_parts, List.Elements.{All-head, All-tail, All-cons, All-nil}}
 use Rattle.std.specs.{List.list_all, List.range_with_len, Option.option_or, FinMap.FinMap, FinMap.get}
-use Rattle.std.proofs.lemmas.Bool.{true≢false, false≢true, and_parts}
-use Rattle.std.proofs.lemmas.List.Elements.{All-head, All-tail, All-cons, All-nil}
-use Rattle.graph_types.specs.Graph.{Graph, Key, Stamp, key_cmp}
-use Rattle.graph_types.specs.Step.{after_all, outcomes, expired, count_before}
+use Rattle.graph_types.specs.{Graph.{Graph, Key, Stamp, key_cmp}, Step.{after_all, outcomes, expired, count_before}}
 use Rattle.graph_types.specs.declared.batches.{NamedOp.NamedOp, Outcome.TheVariants.Expired}
-use Rattle.edge_block.specs.Slots.{Slot, NoKeyTwice, stamp_at, is_free, AreDistinct}
-use Rattle.edge_block.specs.Rows.{Shape, OpenBlock, block_at, row_at, open_at, edge_at, IsRow, has_none, is_kept}
-use Rattle.edge_block.specs.Rows.{row_end, shapes, untouched, expire_row}
-use Rattle.edge_block.specs.Batches.{InAll, resolved, rows_step, IsWithin}
-use Rattle.edge_block.specs.Batches.{rows_all, outcome_in, outcomes_all, IsLayoutOf, opened, layout_after}
-use Rattle.edge_block.proofs.RowLaws.{IsOpenRow}
-use Rattle.edge_block.proofs.OperationLaws.{Shows, AreOpenRows, expiry_shows, all_shows}
+use Rattle.edge_block.specs.{Slots.{Slot, NoKeyTwice, stamp_at, is_free, AreDistinct}, Rows.{Shape, OpenBlock, block_at, row_at}}
+use Rattle.edge_block.specs.Rows.{open_at, edge_at, IsRow, has_none, is_kept, row_end, shapes, untouched, expire_row}
+use Rattle.edge_block.specs.Batches.{InAll, resolved, rows_step, IsWithin, rows_all, outcome_in, outcomes_all, IsLayoutOf, opened}
+use Rattle.edge_block.specs.Batches.{layout_after}
+use Rattle.edge_block.proofs.{RowLaws.IsOpenRow, OperationLaws.{Shows, AreOpenRows, expiry_shows, all_shows}}
 
 -- slots that are all free
 all_free : (slots : List (Option Slot)) → list_all is_free slots ≡ true → (q : ℕ) → stamp_at slots q ≡ None

@@ -1,10 +1,9 @@
 -- What a block keeps true of its columns, after each change.
 use Rattle.std.proofs.Common.{◌≡◌, ℕ, zero, suc, ◌*◌, ◌%◌, ◌^◌, ◌<◌, ◌≤◌, ℤ, List, length, set, replicate, sym, ◌∙◌, inl, inr}
 use Rattle.std.proofs.{Common.arith, lemmas.Bool.cases_eq, lemmas.Bool.true≢false}
-use Rattle.std.specs.Int.{w32, bit_not, RustNames.bit_or, RustNames.bit_and}
-use Rattle.std.specs.declared.option.Option.{Option, TheVariants.None, TheVariants.Some}
 use Rattle.std.proofs.lemmas.List.{get_or-set_same, get_or-set_other, get_or-replicate, Elements.All-replicate}
 use Rattle.std.proofs.lemmas.Nat.Bits.{bit_at_set_same, bit_at_set_other, bit_at_clear_other}
+use Rattle.std.specs.{Int.{w32, bit_not, RustNames.{bit_or, bit_and}}, declared.option.Option.{Option, TheVariants.{None, Some}}}
 use Rattle.lane_scan.specs.Masks.{IsPlaceOf}
 use Rattle.edge_block.specs.Slots.{Slot, edge_slot, AreDistinct, IsSlot, IsBlock, BlockView, put_slot, take_slot}
 use Rattle.edge_block.specs.Columns.{slots_of, AreColumns}

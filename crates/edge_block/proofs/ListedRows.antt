@@ -1,20 +1,16 @@
 -- Rows that have a map's edges by look-up list each of them once, and so as many old ones as the map has.
-use Rattle.std.proofs.Common.{◌≡◌, ◌≢◌, ◌⊎◌, inl, inr, ℕ, zero, suc, ◌+◌, ◌<◌, ◌≤◌, ◌==◌, Bool, true, false, cond, ◌&&◌}
-use Rattle.std.proofs.Common.{List, [], ◌∷◌, ◌++◌, map, append_assoc, refl, sym, ap, ◌∙◌, subst, arith, All, Option, None, Some}
-use Rattle.std.specs.{Prelude.count_by, List.sum_by, List.range_with_len, Option.is_some, Option.option_or}
-use Rattle.std.specs.Ordering.{nat_cmp, ordering_then, eq_by_cmp, is_eq}
-use Rattle.std.specs.{Cmp.unsigned_tied, Cmp.tied_then, FinMap.FinMap, FinMap.get, FinMap.same_map, FinMap.get-empty}
-use Rattle.std.proofs.lemmas.Bool.{eq-eqb, eqb-true, true≢false, Decides.eqb_tells, Decides.leb_tells}
-use Rattle.std.proofs.lemmas.List.{map-append, Elements.All-head, Elements.All-tail, Sums.sum_by-cons, Sums.sum_by-append}
-use Rattle.graph_types.specs.Graph.{Key, Stamp, key_cmp, key_of, stamp_of, map_of}
-use Rattle.graph_types.specs.{Step.is_before, Step.was_before, Step.count_before, declared.ids.Edge.Edge}
-use Rattle.graph_types.proofs.Keys.{keys_total, exact_keys, is_key_of, is_key_of_at, HasKeysOnce, once_none, once_cons, get_cons}
-use Rattle.graph_types.proofs.Expiry.{count_before-map_of}
-use Rattle.edge_block.specs.Slots.{Slot, slot_at, stamp_at, edges_in, old_in, AreDistinct, NoKeyTwice}
-use Rattle.edge_block.proofs.Changes.{or_none}
-use Rattle.edge_block.specs.Rows.{Shape, OpenBlock, block_at, row_at, row_entries, shapes, old_in_row, IsRow}
-use Rattle.edge_block.specs.Batches.{IsLayoutOf}
-use Rattle.edge_block.specs.Listed.{edge_from, edges_in_row, edges_in_rows, edges_below, AreListedOnce}
+use Rattle.std.proofs.Common.{◌≡◌, ◌≢◌, ◌⊎◌, inl, inr, ℕ, zero, suc, ◌+◌, ◌<◌, ◌≤◌, ◌==◌, Bool, true, false, cond, ◌&&◌, List, []}
+use Rattle.std.proofs.Common.{◌∷◌, ◌++◌, map, append_assoc, refl, sym, ap, ◌∙◌, subst, arith, All, Option, None, Some}
+use Rattle.std.proofs.lemmas.{Bool.{eq-eqb, eqb-true, true≢false, Decides.{eqb_tells, leb_tells}}, List.map-append}
+use Rattle.std.{proofs.lemmas.List.{Elements.{All-head, All-tail}, Sums.{sum_by-cons, sum_by-append}}, specs.Prelude.count_by}
+use Rattle.std.specs.{List.{sum_by, range_with_len}, Option.{is_some, option_or}, Ordering.{nat_cmp, ordering_then, eq_by_cmp}}
+use Rattle.std.specs.{Ordering.is_eq, Cmp.{unsigned_tied, tied_then}, FinMap.{FinMap, get, same_map, get-empty}}
+use Rattle.graph_types.specs.{Graph.{Key, Stamp, key_cmp, key_of, stamp_of, map_of}, Step.{is_before, was_before, count_before}}
+use Rattle.graph_types.{specs.declared.ids.Edge.Edge, proofs.Keys.{keys_total, exact_keys, is_key_of, is_key_of_at, HasKeysOnce}}
+use Rattle.graph_types.proofs.{Keys.{once_none, once_cons, get_cons}, Expiry.count_before-map_of}
+use Rattle.edge_block.specs.{Slots.{Slot, slot_at, stamp_at, edges_in, old_in, AreDistinct, NoKeyTwice}, Rows.{Shape, OpenBlock}}
+use Rattle.edge_block.specs.{Rows.{block_at, row_at, row_entries, shapes, old_in_row, IsRow}, Batches.IsLayoutOf}
+use Rattle.edge_block.{specs.Listed.{edge_from, edges_in_row, edges_in_rows, edges_below, AreListedOnce}, proofs.Changes.or_none}
 
 -- Tests of keys
 

@@ -1,27 +1,23 @@
 -- The rows that operations leave have the edges that the operation rule leaves, and the outcomes are the rule's.
-use Rattle.std.proofs.Common.{◌≡◌, ℕ, ◌<◌, ◌==◌, List, [], ◌∷◌, length, Bool, true, false, cond, not, ◌&&◌, ◌||◌}
-use Rattle.std.proofs.Common.{◌+◌, ◌≤◌, arith, refl, sym, ap, ◌∙◌, subst, Option, Some, None, is_some, All, bytes_eq, suc}
+use Rattle.std.proofs.Common.{◌≡◌, ℕ, ◌<◌, ◌==◌, List, [], ◌∷◌, length, Bool, true, false, cond, not, ◌&&◌, ◌||◌, ◌+◌, ◌≤◌, arith}
+use Rattle.std.proofs.Common.{refl, sym, ap, ◌∙◌, subst, Option, Some, None, is_some, All, bytes_eq, suc}
+use Rattle.std.proofs.lemmas.{Bool.{true≢false, false≢true, eqb-true}, List.Elements.{All-head, All-tail, All-cons, All-nil}}
 use Rattle.std.specs.{List.list_any, List.position_or_len, List.range_with_len, Option.option_or, Ordering.eq_by_cmp}
 use Rattle.std.specs.{Cmp.Equal-is, FinMap.FinMap, FinMap.get, FinMap.get-insert, FinMap.get-remove}
-use Rattle.std.proofs.lemmas.Bool.{true≢false, false≢true, eqb-true}
-use Rattle.std.proofs.lemmas.List.Elements.{All-head, All-tail, All-cons, All-nil}
-use Rattle.graph_types.specs.{Graph.Graph, Graph.Key, Graph.Stamp, Graph.key_cmp, Step.after_all, Answer.is_listed}
-use Rattle.graph_types.specs.Step.{set_at, stamp_after, outcome_at, changed, changed_key, change_outcome, after, outcome}
-use Rattle.graph_types.specs.Step.{outcomes, number_of, with_name, names_made, kinds_made, stays_from, expired, count_before}
-use Rattle.graph_types.specs.declared.{batches.NamedOp.NamedOp, changes.EdgeChange.EdgeChange}
-use Rattle.graph_types.specs.declared.batches.NamedOp.TheVariants.{Insert, Incr, Remove, Expire}
-use Rattle.graph_types.specs.declared.batches.Outcome.{Outcome, TheVariants.Absent, TheVariants.Expired}
+use Rattle.graph_types.specs.{Graph.{Graph, Key, Stamp, key_cmp}, Step.{after_all, set_at, stamp_after, outcome_at, changed}}
+use Rattle.graph_types.specs.Step.{changed_key, change_outcome, after, outcome, outcomes, number_of, with_name, names_made}
+use Rattle.graph_types.specs.{Step.{kinds_made, stays_from, expired, count_before}, Answer.is_listed}
+use Rattle.graph_types.specs.declared.batches.{NamedOp.{NamedOp, TheVariants.{Insert, Incr, Remove, Expire}}, Outcome.Outcome}
+use Rattle.graph_types.specs.declared.{batches.Outcome.TheVariants.{Absent, Expired}, changes.EdgeChange.EdgeChange}
 use Rattle.graph_types.specs.declared.changes.EdgeChange.TheVariants.{Insert as ToInsert, Incr as ToIncr, Remove as ToRemove}
 use Rattle.edge_block.specs.Operations.{Parts, OfEdge, OfAll, parts_of, names_by, kinds_by, names_after, kinds_after}
+use Rattle.edge_block.specs.{Slots.{NoKeyTwice, AreDistinct}, Rows.{OpenBlock, block_at, row_at, open_at, edge_at, IsRow}}
+use Rattle.edge_block.specs.{Rows.{change_row, shapes}, Batches.{Resolved, InAll, resolve_parts, resolved, key_is_of, key_step}}
+use Rattle.edge_block.specs.Batches.{rows_step, IsWithin, rows_all, key_outcome, outcome_in, outcomes_all, IsLayoutOf}
 use Rattle.graph_types.proofs.{Keys.keys_total, Keys.exact_keys, NameLists.length-after_all-names, Expiry.get-expired}
 use Rattle.graph_types.proofs.NameLists.{appears-with_name, stays-with_name, number_of-lt, length-names_made, length-kinds_made}
-use Rattle.edge_block.specs.Slots.{NoKeyTwice, AreDistinct}
-use Rattle.edge_block.specs.Rows.{OpenBlock, block_at, row_at, open_at, edge_at, IsRow, change_row, shapes}
-use Rattle.edge_block.specs.Batches.{Resolved, InAll, resolve_parts, resolved, key_is_of, key_step, rows_step, IsWithin}
-use Rattle.edge_block.specs.Batches.{rows_all, key_outcome, outcome_in, outcomes_all, IsLayoutOf}
-use Rattle.edge_block.proofs.{RowLaws.IsOpenRow, RowLaws.change_sets, ListedRows.tests, ListedRows.tied, ListedRows.count_shown}
-use Rattle.edge_block.proofs.ExpiryLaws.{expire_stays, expire_open, was_there}
-use Rattle.edge_block.proofs.Changes.{none_is}
+use Rattle.edge_block.proofs.{RowLaws.{IsOpenRow, change_sets}, ListedRows.{tests, tied, count_shown}, ExpiryLaws.expire_stays}
+use Rattle.edge_block.proofs.{ExpiryLaws.{expire_open, was_there}, Changes.none_is}
 
 pub set_at_get : (m : FinMap key_cmp Stamp) (k : Key) (o : Option Stamp) (q : Key)
     → get (set_at m k o) q ≡ cond (eq_by_cmp key_cmp q k) o (get m q)

@@ -1,15 +1,12 @@
 -- The slots that columns make, place by place.
 use Rattle.std.proofs.Common.{◌≡◌, ◌≢◌, ◌⊎◌, ℕ, ◌+◌, ◌-◌, ◌*◌, ◌%◌, ◌^◌, ◌<◌, ◌≤◌, ℤ, pos, true, false, not, List, length, get_or}
-use Rattle.std.proofs.Common.{set, sym, ap, ◌∙◌, inl, inr, arith}
-use Rattle.std.specs.{Prelude.◌==◌, Prelude.slice_index, List.list_any}
-use Rattle.std.specs.Int.{bit_at, w32, bit_not, trailing_ones, RustNames.bit_or, RustNames.bit_and}
-use Rattle.std.specs.declared.option.Option.{Option, TheVariants.None, TheVariants.Some}
-use Rattle.std.proofs.lemmas.Bool.{eq-eqb, ne_eqb, cases_eq, cases_lt, true≢false}
+use Rattle.std.proofs.{Common.{set, sym, ap, ◌∙◌, inl, inr, arith}, lemmas.Bool.{eq-eqb, ne_eqb, cases_eq, cases_lt, true≢false}}
 use Rattle.std.proofs.lemmas.List.{ext_get_or, length-set, get_or-set_same, get_or-set_other, get_or-replicate, get_or_past}
-use Rattle.std.proofs.lemmas.List.{FromFn.length-map-range_with_len, FromFn.get_or-map-range_with_len, Elements.All-from_get_or}
-use Rattle.std.proofs.lemmas.List.Folds.{list_any_none, list_any_at}
-use Rattle.std.proofs.lemmas.Nat.Bits.{bit_at_set_same, bit_at_set_other, bit_at_clear_same, bit_at_clear_other, bit_at-zero}
-use Rattle.std.proofs.lemmas.Nat.Bits.{bit_at-trailing_ones, bit_at_ones}
+use Rattle.std.proofs.lemmas.List.{FromFn.{length-map-range_with_len, get_or-map-range_with_len}, Elements.All-from_get_or}
+use Rattle.std.proofs.lemmas.{List.Folds.{list_any_none, list_any_at}, Nat.Bits.{bit_at_set_same, bit_at_set_other}}
+use Rattle.std.proofs.lemmas.Nat.Bits.{bit_at_clear_same, bit_at_clear_other, bit_at-zero, bit_at-trailing_ones, bit_at_ones}
+use Rattle.std.specs.{Prelude.{◌==◌, slice_index}, List.list_any, Int.{bit_at, w32, bit_not, trailing_ones, RustNames.bit_or}}
+use Rattle.std.specs.{Int.RustNames.bit_and, declared.option.Option.{Option, TheVariants.{None, Some}}}
 use Rattle.lane_scan.specs.Masks.{InMask, IsPlaceOf}
 use Rattle.edge_block.specs.Slots.{Slot, edge_slot, at_first, holds, is_free, slot_at, put_slot, take_slot, has_room_for}
 use Rattle.edge_block.specs.{Slots.stamp_at, Slots.empty_slots, Columns.slots_of, Columns.slot_from, Columns.column_slot}

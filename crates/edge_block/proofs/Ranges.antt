@@ -1,11 +1,9 @@
 -- The weights and times of a block's edges are in range.
 use Rattle.std.proofs.Common.{◌≡◌, ℕ, ◌<◌, List, [], ◌∷◌, length, get_or, map, arith}
-use Rattle.std.specs.Prelude.{filter, All}
-use Rattle.std.specs.declared.option.Option.{Option, TheVariants.None, TheVariants.Some}
 use Rattle.std.proofs.lemmas.List.Elements.{All-cons, All-head, All-tail, All-map, All-filter}
+use Rattle.std.specs.{Prelude.{filter, All}, declared.option.Option.{Option, TheVariants.{None, Some}}}
 use Rattle.graph_types.specs.{View.in_view, declared.ids.Filter.Filter}
-use Rattle.edge_block.specs.Slots.{Slot, BlockView, IsSlot, IsStamp, edges_in, entry_in, entries_of}
-use Rattle.edge_block.specs.Lending.{lent_of}
+use Rattle.edge_block.specs.{Slots.{Slot, BlockView, IsSlot, IsStamp, edges_in, entry_in, entries_of}, Lending.lent_of}
 
 -- the edge in a slot
 pub stamp_in_range : (slots : List (Option Slot)) (i : ℕ) (e : Slot) → All IsSlot slots → i < length slots

@@ -1,11 +1,8 @@
 -- When an edge can be put.
-use Rattle.std.proofs.Common.{◌≡◌, ℕ, true, List, sym, ◌∙◌}
-use Rattle.std.specs.List.{list_any}
-use Rattle.std.specs.declared.option.Option.{Option, TheVariants.None, TheVariants.Some}
-use Rattle.std.proofs.lemmas.Bool.{or_left, or_right, true_from_ne_false}
+use Rattle.std.proofs.{Common.{◌≡◌, ℕ, true, List, sym, ◌∙◌}, lemmas.Bool.{or_left, or_right, true_from_ne_false}}
+use Rattle.std.specs.{List.list_any, declared.option.Option.{Option, TheVariants.{None, Some}}}
 use Rattle.graph_types.specs.Graph.{Stamp}
-use Rattle.edge_block.specs.Slots.{Slot, holds, is_free, slot_at, stamp_at, has_room_for}
-use Rattle.edge_block.proofs.Firsts.{first_some-by_any}
+use Rattle.edge_block.{specs.Slots.{Slot, holds, is_free, slot_at, stamp_at, has_room_for}, proofs.Firsts.first_some-by_any}
 
 -- the target is there
 pub room_found : (target : ℕ) (slots : List (Option Slot)) (stamp : Stamp) → stamp_at slots target ≡ Some stamp

@@ -1,20 +1,17 @@
 -- What one operation changes in a source's row.
 use Rattle.std.proofs.Common.{◌≡◌, ℕ, zero, suc, ◌==◌, List, [], ◌∷◌, ◌++◌, Bool, true, false, cond, ◌&&◌, refl, sym, ap, ◌∙◌}
-use Rattle.std.proofs.Common.{subst, Option, Some, None, is_some, All, replicate, ◌+ℤ◌}
-use Rattle.std.specs.{List.list_any, Option.option_or}
-use Rattle.std.proofs.lemmas.Bool.{true≢false, false≢true, and_parts, eqb-true, or_left, or_right}
-use Rattle.std.proofs.lemmas.List.Elements.{All-head, All-tail, All-cons, All-push}
+use Rattle.std.proofs.{Common.{subst, Option, Some, None, is_some, All, replicate, ◌+ℤ◌}, lemmas.Bool.{true≢false, false≢true}}
+use Rattle.std.proofs.lemmas.{Bool.{and_parts, eqb-true, or_left, or_right}, List.Elements.{All-head, All-tail, All-cons}}
+use Rattle.std.{proofs.lemmas.List.Elements.All-push, specs.{List.list_any, Option.option_or}}
 use Rattle.graph_types.specs.{Graph.Stamp, Limits.is_weight, Step.stamp_after, Step.outcome_at}
 use Rattle.graph_types.specs.declared.changes.EdgeChange.{EdgeChange, TheVariants.Insert, TheVariants.Incr, TheVariants.Remove}
 use Rattle.graph_types.specs.declared.batches.Outcome.TheVariants.{Updated, Overflow}
 use Rattle.edge_block.specs.Slots.{Slot, at_first, slot_at, stamp_at, holds, is_free, AreDistinct, NoKeyTwice, put_slot}
-use Rattle.edge_block.specs.Slots.{take_slot}
-use Rattle.edge_block.specs.Rows.{OpenBlock, open_at, edge_at, has_edge, has_room, touch, new_block, put_edge, take_edge}
-use Rattle.edge_block.specs.Rows.{set_edge, touches, change_row}
-use Rattle.edge_block.proofs.Changes.{or_none, set_first, set_unique, set_last, unique_last, Fits, Puts, fits_key, fits_room}
-use Rattle.edge_block.proofs.{Changes.any_key, Changes.none_is, Entries.stamp_at-put_slot, Entries.stamp_at-take_slot}
-use Rattle.edge_block.proofs.{KeptColumns.distinct_none, SlotLaws.AreDistinct-put_slot, SlotLaws.AreDistinct-take_slot}
-use Rattle.edge_block.proofs.Firsts.{at_first-none}
+use Rattle.edge_block.specs.{Slots.take_slot, Rows.{OpenBlock, open_at, edge_at, has_edge, has_room, touch, new_block, put_edge}}
+use Rattle.edge_block.{specs.Rows.{take_edge, set_edge, touches, change_row}, proofs.Changes.{or_none, set_first, set_unique}}
+use Rattle.edge_block.proofs.Changes.{set_last, unique_last, Fits, Puts, fits_key, fits_room, any_key, none_is}
+use Rattle.edge_block.proofs.{Entries.{stamp_at-put_slot, stamp_at-take_slot}, KeptColumns.distinct_none}
+use Rattle.edge_block.proofs.{SlotLaws.{AreDistinct-put_slot, AreDistinct-take_slot}, Firsts.at_first-none}
 
 abbrev pub same_place : ℕ × ℕ → ℕ × ℕ → Bool
 same_place a b = (a.0 == b.0) && (a.1 == b.1)

@@ -1,13 +1,11 @@
 -- Edges at a block's first places: their targets are a beginning of the column.
-use Rattle.std.proofs.Common.{◌≡◌, ℕ, suc, ◌+◌, ◌-◌, ◌^◌, ◌<◌, ◌≤◌, ℤ, List, [], ◌∷◌, length, get_or, map, take}
-use Rattle.std.proofs.{Common.refl, Common.sym, Common.ap, Common.◌∙◌, Common.inl, Common.inr, Common.arith, Math.Seq.take-nil}
-use Rattle.std.specs.{Int.bit_at, Int.RustNames.bit_and, Option.option_map}
-use Rattle.std.specs.declared.option.Option.{Option, TheVariants.None, TheVariants.Some}
-use Rattle.std.proofs.lemmas.{Bool.eq-eqb, Bool.ne_eqb, Bool.cases_lt, Nat.Bits.bit_at_ones, Nat.Bits.bit_at_ones_above}
+use Rattle.std.proofs.Common.{◌≡◌, ℕ, suc, ◌+◌, ◌-◌, ◌^◌, ◌<◌, ◌≤◌, ℤ, List, [], ◌∷◌, length, get_or, map, take, refl, sym, ap}
+use Rattle.std.proofs.{Common.{◌∙◌, inl, inr, arith}, Math.Seq.take-nil, lemmas.Bool.{eq-eqb, ne_eqb, cases_lt}}
+use Rattle.std.{proofs.lemmas.Nat.Bits.{bit_at_ones, bit_at_ones_above}, specs.Int.{bit_at, RustNames.bit_and}}
+use Rattle.std.specs.{Option.option_map, declared.option.Option.{Option, TheVariants.{None, Some}}}
 use Rattle.graph_types.specs.Graph.{Key, Stamp}
 use Rattle.lane_scan.specs.Masks.{InMask, selected_from, selected}
-use Rattle.edge_block.specs.{Slots.Slot, Slots.BlockView, Slots.edges_in, Columns.slots_of}
-use Rattle.edge_block.specs.Lending.{LentEdge, lent_in, lent_of}
+use Rattle.edge_block.specs.{Slots.{Slot, BlockView, edges_in}, Columns.slots_of, Lending.{LentEdge, lent_in, lent_of}}
 use Rattle.edge_block.proofs.{Places.length-slots_of, Places.slot_live, Views.edges_due, Views.due_lives}
 
 -- one edge more in front

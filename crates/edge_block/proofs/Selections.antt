@@ -1,12 +1,10 @@
 -- The edges at the places of a mask, and how many edges there are.
 use Rattle.std.proofs.Common.{◌≡◌, ◌↔◌, ℕ, suc, ◌+◌, ◌^◌, ◌<◌, ◌≤◌, ℤ, Bool, true, false, not, List, [], ◌∷◌, length, get_or, map}
-use Rattle.std.proofs.Common.{refl, sym, ap, ◌∙◌, inl, inr, arith, cond}
-use Rattle.std.specs.{Prelude.◌==◌, Prelude.if◌then◌else◌, Prelude.filter, Prelude.count_by, Int.bit_at, Int.RustNames.count_ones}
-use Rattle.std.specs.Option.{option_map}
-use Rattle.std.specs.declared.option.Option.{Option, TheVariants.None, TheVariants.Some}
-use Rattle.std.proofs.lemmas.{Bool.eq-eqb, Bool.eqb-true, Bool.ne_eqb, Simd.mask_l-lt, Simd.bit_mask_l, Simd.ones-mask_l}
-use Rattle.std.proofs.lemmas.List.{nil_from_length, length-map, get_or-map, Sums.sum_by-cons, Sums.count_by-le-length}
-use Rattle.std.proofs.lemmas.Nat.{Bits.same_from_bits_below, Bits.bit_at-lt, zero_from_ones}
+use Rattle.std.proofs.{Common.{refl, sym, ap, ◌∙◌, inl, inr, arith, cond}, lemmas.Bool.{eq-eqb, eqb-true, ne_eqb}}
+use Rattle.std.proofs.lemmas.{Simd.{mask_l-lt, bit_mask_l, ones-mask_l}, List.{nil_from_length, length-map, get_or-map}}
+use Rattle.std.proofs.lemmas.{List.Sums.{sum_by-cons, count_by-le-length}, Nat.{zero_from_ones, Bits.same_from_bits_below}}
+use Rattle.std.{proofs.lemmas.Nat.Bits.bit_at-lt, specs.{Prelude.{◌==◌, if◌then◌else◌, filter, count_by}, Int.bit_at}}
+use Rattle.std.specs.{Int.RustNames.count_ones, Option.option_map, declared.option.Option.{Option, TheVariants.{None, Some}}}
 use lib.Lanes.{mask_l}
 use Rattle.lane_scan.specs.Masks.{selected_from, selected}
 use Rattle.edge_block.specs.{Slots.Slot, Slots.is_free, Slots.edges_in, Columns.slots_of}

@@ -1,19 +1,16 @@
 -- The operations of some sources alone leave those sources' rows, and their outcomes, as all operations do.
-use Rattle.std.proofs.Common.{◌≡◌, ℕ, ◌+◌, ◌+ℤ◌, ◌%◌, ◌==◌, List, [], ◌∷◌, ◌++◌, Bool, true, false, cond, ◌&&◌, refl, sym, ap}
-use Rattle.std.proofs.Common.{◌∙◌, Option, Some, None, All, filter}
-use Rattle.std.specs.List.{sum_by}
-use Rattle.std.proofs.lemmas.Bool.{true≢false, false≢true, eqb-true, eq-eqb}
-use Rattle.std.proofs.lemmas.List.Elements.{All-head, All-tail, All-nil, All-cons, All-weaker}
-use Rattle.std.proofs.lemmas.List.Sums.{sum_by-cons, sum_by-append}
+use Rattle.std.proofs.{Common.{◌∙◌, Option, Some, None, All, filter}, Common.{◌≡◌, ℕ, ◌+◌, ◌+ℤ◌, ◌%◌, ◌==◌, List, [], ◌∷◌, ◌++◌}}
+use Rattle.std.proofs.{Common.{Bool, true, false, cond, ◌&&◌, refl, sym, ap}, lemmas.Bool.{true≢false, false≢true, eqb-true}}
+use Rattle.std.proofs.lemmas.{Bool.eq-eqb, List.{Elements.{All-head, All-tail, All-nil, All-cons, All-weaker}, Sums.sum_by-cons}}
+use Rattle.std.{proofs.lemmas.List.Sums.sum_by-append, specs.List.sum_by}
 use Rattle.graph_types.specs.{Graph.Key, Graph.Stamp, Limits.is_weight, Step.number_of, Step.key_in, Step.outcome_at}
 use Rattle.graph_types.specs.{declared.batches.NamedOp.NamedOp, declared.batches.Outcome.Outcome, Answer.is_listed}
 use Rattle.graph_types.specs.declared.batches.Outcome.TheVariants.{Inserted, Updated, Removed, Absent, Overflow, Expired}
-use Rattle.edge_block.specs.Operations.{Parts, OfEdge, OfAll, parts_of, names_after, kinds_after}
 use Rattle.graph_types.specs.declared.changes.EdgeChange.{EdgeChange, TheVariants.Insert, TheVariants.Incr, TheVariants.Remove}
-use Rattle.edge_block.specs.Rows.{OpenBlock, edge_at, old_in_row}
-use Rattle.edge_block.specs.Batches.{Resolved, AtKey, InAll, key_is_of, acts_on, key_step, row_step, key_outcome, outcome_in}
-use Rattle.edge_block.specs.Batches.{rows_step, rows_all, outcomes_all, picked, together, joined, IsPlaced, shard_of}
-use Rattle.edge_block.specs.Batches.{is_in_shard, shard_ops, resolve_parts, resolved}
+use Rattle.edge_block.specs.{Operations.{Parts, OfEdge, OfAll, parts_of, names_after, kinds_after}, Rows.{OpenBlock, edge_at}}
+use Rattle.edge_block.specs.{Rows.old_in_row, Batches.{Resolved, AtKey, InAll, key_is_of, acts_on, key_step, row_step}}
+use Rattle.edge_block.specs.Batches.{key_outcome, outcome_in, rows_step, rows_all, outcomes_all, picked, together, joined}
+use Rattle.edge_block.specs.Batches.{IsPlaced, shard_of, is_in_shard, shard_ops, resolve_parts, resolved}
 
 sum_same : (own : ℕ → Bool) (f g : ℕ → ℕ) → ((s : ℕ) → own s ≡ true → f s ≡ g s) → (xs : List ℕ)
     → All (λ s. own s ≡ true) xs → sum_by f xs ≡ sum_by g xs

@@ -1,8 +1,7 @@
 -- What a put and a take leave of slots.
-use Rattle.std.proofs.Common.{◌≡◌, ℕ, Bool, true, false, List, refl, sym, inl, inr}
+use Rattle.std.proofs.{Common.{◌≡◌, ℕ, Bool, true, false, List, refl, sym, inl, inr}, lemmas.Bool.{eqb-true, true≢false}}
 use Rattle.std.specs.{Prelude.◌==◌, Prelude.if◌then◌else◌, Prelude.All, List.list_any, Option.is_some}
 use Rattle.std.specs.declared.option.Option.{Option, TheVariants.None, TheVariants.Some}
-use Rattle.std.proofs.lemmas.Bool.{eqb-true, true≢false}
 use Rattle.edge_block.specs.Slots.{Slot, AreDistinct, IsSlot, at_first, holds, is_free, slot_at, put_slot, take_slot}
 use Rattle.edge_block.proofs.Firsts.{NoKeyTwice-at_first, All-at_first, first_some-by_any}
 

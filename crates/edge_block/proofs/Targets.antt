@@ -1,9 +1,7 @@
 -- Blocks with the same targets at the same places.
-use Rattle.std.proofs.Common.{◌≡◌, ℕ, ◌^◌, ◌<◌, ℤ, List, length, get_or, sym, ap, ◌∙◌, inl, inr, arith}
-use Rattle.std.specs.{Prelude.slice_index, Int.bit_at}
-use Rattle.std.specs.declared.option.Option.{Option, TheVariants.None, TheVariants.Some}
-use Rattle.std.proofs.lemmas.List.{ext_get_or, length-map, get_or-map}
-use Rattle.std.proofs.lemmas.Nat.Bits.{same_from_bits_below, bit_at-lt}
+use Rattle.std.proofs.{Common.{◌≡◌, ℕ, ◌^◌, ◌<◌, ℤ, List, length, get_or, sym, ap, ◌∙◌, inl, inr, arith}, lemmas.List.ext_get_or}
+use Rattle.std.proofs.lemmas.{List.{length-map, get_or-map}, Nat.Bits.{same_from_bits_below, bit_at-lt}}
+use Rattle.std.specs.{Prelude.slice_index, Int.bit_at, declared.option.Option.{Option, TheVariants.{None, Some}}}
 use Rattle.lane_scan.specs.Masks.{InMask}
 use Rattle.edge_block.specs.{Slots.slot_target, Slots.targets_in, Columns.slots_of, Columns.AreColumns}
 use Rattle.edge_block.proofs.Places.{length-slots_of, slot_live, slot_dead, lives_or_not}

@@ -1,16 +1,13 @@
 -- The least and the greatest of the times at the places in a mask.
-use Rattle.std.proofs.Common.{◌≡◌, ◌≢◌, ℕ, zero, suc, ◌+◌, ◌*◌, ◌%◌, ◌^◌, ◌<◌, ◌≤◌, List, [], ◌∷◌, ◌++◌}
-use Rattle.std.proofs.Common.{length, get_or, set, refl, sym, ap, ◌∙◌, subst, ◌⊎◌, inl, inr, arith}
-use Rattle.std.specs.Option.{unwrap_or}
+use Rattle.std.proofs.Common.{◌≡◌, ◌≢◌, ℕ, zero, suc, ◌+◌, ◌*◌, ◌%◌, ◌^◌, ◌<◌, ◌≤◌, List, [], ◌∷◌, ◌++◌, length, get_or, set}
+use Rattle.std.proofs.{Common.{refl, sym, ap, ◌∙◌, subst, ◌⊎◌, inl, inr, arith}, lemmas.Bool.{eq-eqb, ne_eqb, cases_eq, cases_lt}}
+use Rattle.std.proofs.lemmas.List.{length-set, get_or-set_same, get_or-set_other, Elements.{Contains-append_left, All-contains}}
+use Rattle.std.proofs.lemmas.{List.Elements.{Contains-get_or, Contains-push, Contains-push_cases}, Nat.Bits.bit_at-zero}
+use Rattle.std.proofs.lemmas.Nat.Bits.{bit_at_set_same, bit_at_set_other, bit_at_clear_same, bit_at_clear_other, bit_at_above}
+use Rattle.std.proofs.lemmas.Nat.Bits.{bit_at-trailing_zeros}
+use Rattle.std.specs.{Option.unwrap_or, Prelude.{slice_index, Contains}, Int.{bit_at, bit_not, w32, trailing_zeros}}
+use Rattle.std.specs.{Int.RustNames.bit_or, declared.option.Option.{Option, TheVariants.{None, Some}}}
 use lib.Bits.{and_le_l}
-use Rattle.std.specs.Prelude.{slice_index, Contains}
-use Rattle.std.specs.Int.{bit_at, bit_not, w32, trailing_zeros, RustNames.bit_or}
-use Rattle.std.specs.declared.option.Option.{Option, TheVariants.None, TheVariants.Some}
-use Rattle.std.proofs.lemmas.Bool.{eq-eqb, ne_eqb, cases_eq, cases_lt}
-use Rattle.std.proofs.lemmas.List.{length-set, get_or-set_same, get_or-set_other, Elements.Contains-append_left}
-use Rattle.std.proofs.lemmas.List.Elements.{All-contains, Contains-get_or, Contains-push, Contains-push_cases}
-use Rattle.std.proofs.lemmas.Nat.Bits.{bit_at-zero, bit_at_set_same, bit_at_set_other, bit_at_clear_same}
-use Rattle.std.proofs.lemmas.Nat.Bits.{bit_at_clear_other, bit_at_above, bit_at-trailing_zeros}
 use Rattle.lane_scan.specs.Masks.{InMask, IsPlaceWithin, AreBoundsOf, selected_from, selected}
 use Rattle.lane_scan.proofs.Selected.{selected_from_contains}
 use Rattle.edge_block.specs.Columns.{AreTimes, cleared_at}

@@ -1,19 +1,17 @@
 -- The edges of a view, one after another.
 use Rattle.std.proofs.Common.{◌≡◌, ◌≢◌, ℕ, zero, suc, ◌+◌, ◌*◌, ◌%◌, ◌^◌, ◌<◌, ◌≤◌, ℤ, Bool, true, false, List, [], ◌∷◌, length}
 use Rattle.std.proofs.Common.{get_or, map, refl, sym, ap, ◌∙◌, inl, inr, arith, cond}
-use Rattle.std.specs.Prelude.{◌==◌, ◌&&◌, nat_le, if◌then◌else◌, filter, slice_index, ◌↔◌}
-use Rattle.std.specs.Int.{bit_at, w32, bit_not, trailing_zeros, RustNames.bit_and}
-use Rattle.std.specs.declared.option.Option.{Option, TheVariants.None, TheVariants.Some}
 use Rattle.std.proofs.lemmas.Bool.{eq-eqb, ne_eqb, le-leb, lt-leb, cases_lt, true≢false}
 use Rattle.std.proofs.lemmas.Nat.Bits.{bit_at-zero, bit_at-lt, bit_at_and, bit_at-trailing_zeros, bit_at_clear_same}
 use Rattle.std.proofs.lemmas.{Nat.Bits.bit_at_clear_other, List.length-map, List.Sums.length-filter, List.Sums.count_by-le-length}
+use Rattle.std.specs.{Prelude.{◌==◌, ◌&&◌, nat_le, if◌then◌else◌, filter, slice_index, ◌↔◌}, Int.{bit_at, w32, bit_not}}
+use Rattle.std.specs.{Int.{trailing_zeros, RustNames.bit_and}, declared.option.Option.{Option, TheVariants.{None, Some}}}
 use lib.Bits.{and_le_r}
 use Rattle.graph_types.specs.{Graph.Key, Graph.Stamp, View.in_view, View.takes_kind, declared.ids.Filter.Filter}
 use Rattle.lane_scan.specs.Masks.{InMask, IsPlaceWithin, selected_from, selected}
-use Rattle.edge_block.specs.Slots.{Slot, BlockView, edges_in, entry_in, entries_of}
-use Rattle.edge_block.specs.{Columns.slots_of, Columns.column_slot, Lending.LentEdge, Lending.lent_of, Lending.lent_in}
-use Rattle.edge_block.proofs.Places.{length-slots_of, slot_live, slot_dead, lives_or_not}
-use Rattle.edge_block.proofs.Selections.{edges_filtered, edges_few}
+use Rattle.edge_block.specs.{Slots.{Slot, BlockView, edges_in, entry_in, entries_of}, Columns.{slots_of, column_slot}}
+use Rattle.edge_block.{specs.Lending.{LentEdge, lent_of, lent_in}, proofs.Places.{length-slots_of, slot_live, slot_dead}}
+use Rattle.edge_block.proofs.{Places.lives_or_not, Selections.{edges_filtered, edges_few}}
 
 -- an empty mask selects nothing
 pub selected_none : {X : Type 0} (place : ℕ) (xs : List X) → selected_from 0 place xs ≡ []

@@ -1,21 +1,13 @@
 -- The rows of all sources, and what a batch does to them.
 use Rattle.std.specs.Prelude.{◌≡◌, ℕ, zero, suc, ◌+◌, ◌%◌, ◌<◌, ◌==◌, List, [], ◌∷◌, map, length, filter, Bool, true, false, ◌&&◌}
-use Rattle.std.specs.Prelude.{if◌then◌else◌}
-use Rattle.std.specs.List.{sum_by}
-use Rattle.std.specs.Option.{is_some}
-use Rattle.std.specs.FinMap.{FinMap, get}
-use Rattle.std.specs.declared.option.Option.{Option}
+use Rattle.std.specs.{Prelude.if◌then◌else◌, List.sum_by, Option.is_some, FinMap.{FinMap, get}, declared.option.Option.Option}
 use Rattle.std.specs.declared.option.Option.TheVariants.{None, Some}
-use Rattle.graph_types.specs.Graph.{Graph, Key, Stamp, key_cmp}
-use Rattle.graph_types.specs.Step.{number_of, key_in, outcome_at}
-use Rattle.graph_types.specs.declared.batches.NamedOp.{NamedOp}
-use Rattle.graph_types.specs.declared.batches.Outcome.{Outcome}
-use Rattle.graph_types.specs.declared.batches.Outcome.TheVariants.{Absent, Expired}
-use Rattle.graph_types.specs.declared.changes.EdgeChange.{EdgeChange}
+use Rattle.graph_types.specs.{Graph.{Graph, Key, Stamp, key_cmp}, Step.{number_of, key_in, outcome_at}}
+use Rattle.graph_types.specs.declared.batches.{NamedOp.NamedOp, Outcome.{Outcome, TheVariants.{Absent, Expired}}}
+use Rattle.graph_types.specs.{declared.changes.EdgeChange.EdgeChange, Answer.is_listed}
 use Rattle.edge_block.specs.Operations.{Parts, OfEdge, OfAll, parts_of, names_after, kinds_after}
 use Rattle.edge_block.specs.Rows.{Shape, OpenBlock, row_at, edge_at, untouched, change_row, expire_row, old_in_row, row_end}
 use Rattle.edge_block.specs.Rows.{taken_in, dropped_in, IsRow}
-use Rattle.graph_types.specs.Answer.{is_listed}
 pub use Rattle.graph_types.specs.Answer.{is_listed as is_known}
 
 -- what an operation does, with the numbers of its names, none where a name is unknown at its place: it changes the edge at

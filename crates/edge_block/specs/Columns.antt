@@ -1,11 +1,7 @@
 -- The slots that a word of live places and four columns make.
 use Rattle.std.specs.Prelude.{◌≡◌, ℕ, ◌*◌, ◌%◌, ◌^◌, ◌<◌, ◌==◌, ℤ, pos, List, map, slice_index, slice_index_or, if◌then◌else◌}
-use Rattle.std.specs.Prelude.{All}
-use Rattle.std.specs.Int.{bit_at, bit_not, w32}
-use Rattle.std.specs.Int.RustNames.{bit_and}
-use Rattle.std.specs.List.{range_with_len}
-use Rattle.std.specs.declared.option.Option.{Option}
-use Rattle.std.specs.declared.option.Option.TheVariants.{None, Some}
+use Rattle.std.specs.{Prelude.All, Int.{bit_at, bit_not, w32, RustNames.bit_and}, List.range_with_len}
+use Rattle.std.specs.declared.option.Option.{Option, TheVariants.{None, Some}}
 use Rattle.lane_scan.specs.Masks.{InMask, AreBoundsOf, selected}
 use Rattle.edge_block.specs.Slots.{Slot, edge_slot, AreDistinct, IsSlot}
 

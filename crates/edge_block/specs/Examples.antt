@@ -1,12 +1,9 @@
 -- Layouts worked out, of one source and one kind.
-use Rattle.std.specs.Prelude.{◌≡◌, ℕ, pos, List, [], ◌∷◌, map, length}
-use Rattle.std.specs.List.{range_with_len}
+use Rattle.std.specs.{Prelude.{◌≡◌, ℕ, pos, List, [], ◌∷◌, map, length}, List.range_with_len}
 use Rattle.std.specs.declared.option.Option.TheVariants.{Some}
-use Rattle.edge_block.specs.Slots.{edges_in}
-use Rattle.graph_types.specs.declared.changes.EdgeChange.{EdgeChange}
-use Rattle.graph_types.specs.declared.changes.EdgeChange.TheVariants.{Insert, Remove}
-use Rattle.edge_block.specs.Rows.{OpenBlock, Shape, row_end, taken_in, dropped_in}
-use Rattle.edge_block.specs.Batches.{Resolved, AtKey, InAll, rows_all, opened}
+use Rattle.edge_block.specs.{Slots.edges_in, Rows.{OpenBlock, Shape, row_end, taken_in, dropped_in}, Batches.{Resolved, AtKey}}
+use Rattle.edge_block.specs.Batches.{InAll, rows_all, opened}
+use Rattle.graph_types.specs.declared.changes.EdgeChange.{EdgeChange, TheVariants.{Insert, Remove}}
 
 abbrev pub change_at : EdgeChange → ℕ → Resolved
 change_at change target = AtKey (Some 0) (Some (record { kind = 0; source = 0; target = target })) change

@@ -1,8 +1,6 @@
 -- The laws on slots.
-use Rattle.std.specs.Prelude.{◌≡◌, ℕ, ◌==◌, ◌↔◌, List, false, if◌then◌else◌, Contains, IsTrue}
-use Rattle.std.specs.List.{list_any}
-use Rattle.std.specs.declared.option.Option.{Option}
-use Rattle.std.specs.declared.option.Option.TheVariants.{None, Some}
+use Rattle.std.specs.{Prelude.{◌≡◌, ℕ, ◌==◌, ◌↔◌, List, false, if◌then◌else◌, Contains, IsTrue}, List.list_any}
+use Rattle.std.specs.declared.option.Option.{Option, TheVariants.{None, Some}}
 use Rattle.graph_types.specs.Graph.{Key, Stamp}
 use Rattle.edge_block.specs.Slots.{Slot, BlockView, AreDistinct, holds, has_room_for, stamp_at, put_slot, take_slot, entries_of}
 

@@ -1,11 +1,9 @@
 -- Edges as a block lends them.
-use Rattle.std.specs.Prelude.{◌≡◌, ℕ, List, map}
-use Rattle.std.specs.declared.option.Option.TheVariants.{Some}
+use Rattle.std.specs.{Prelude.{◌≡◌, ℕ, List, map}, declared.option.Option.TheVariants.Some}
 use Rattle.graph_types.specs.Graph.{Key, Stamp}
 use Rattle.lane_scan.specs.Masks.{selected}
-use Rattle.edge_block.specs.declared.blocks.EdgeRef.{EdgeRef}
-use Rattle.edge_block.specs.declared.blocks.BlockIter.{BlockIter}
-use Rattle.edge_block.specs.Slots.{Slot, BlockView, edge_stamp, edges_in, stamp_at}
+use Rattle.edge_block.specs.{declared.blocks.{EdgeRef.EdgeRef, BlockIter.BlockIter}, Slots.{Slot, BlockView, edge_stamp}}
+use Rattle.edge_block.specs.Slots.{edges_in, stamp_at}
 
 -- a lent edge: its kind, its target, and what it bears; its source is the block's
 pub record LentEdge : Type 0 where

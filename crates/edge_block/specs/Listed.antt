@@ -1,9 +1,6 @@
 -- The edges that rows have, as graph_types lists edges.
-use Rattle.std.specs.Prelude.{◌≡◌, ◌≢◌, ℕ, List, map, AllPairs}
-use Rattle.std.specs.List.{flat_map, range_with_len}
-use Rattle.std.specs.FinMap.{FinMap}
-use Rattle.graph_types.specs.Graph.{Key, Stamp, key_cmp, key_of, map_of}
-use Rattle.graph_types.specs.declared.ids.Edge.{Edge}
+use Rattle.std.specs.{Prelude.{◌≡◌, ◌≢◌, ℕ, List, map, AllPairs}, List.{flat_map, range_with_len}, FinMap.FinMap}
+use Rattle.graph_types.specs.{Graph.{Key, Stamp, key_cmp, key_of, map_of}, declared.ids.Edge.Edge}
 use Rattle.edge_block.specs.Rows.{Shape, row_entries}
 
 -- the edge of a key and a stamp

@@ -1,9 +1,7 @@
 -- An operation by its parts: what it does to its edge and the names of the edge, or the time of an expiry.
 use Rattle.std.specs.Prelude.{ℕ, List}
-use Rattle.graph_types.specs.Step.{names_made, kinds_made}
-use Rattle.graph_types.specs.declared.batches.NamedOp.{NamedOp}
-use Rattle.graph_types.specs.declared.batches.NamedOp.TheVariants.{Insert, Incr, Remove, Expire}
-use Rattle.graph_types.specs.declared.changes.EdgeChange.{EdgeChange}
+use Rattle.graph_types.specs.{Step.{names_made, kinds_made}, declared.batches.NamedOp.{NamedOp, TheVariants.{Insert, Incr}}}
+use Rattle.graph_types.specs.declared.{batches.NamedOp.TheVariants.{Remove, Expire}, changes.EdgeChange.EdgeChange}
 use Rattle.graph_types.specs.declared.changes.EdgeChange.TheVariants.{Insert as ToInsert, Incr as ToIncr, Remove as ToRemove}
 
 -- an operation on one edge, with what it does to the edge at its key, and the names of its kind, source and target; or the

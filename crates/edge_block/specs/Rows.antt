@@ -1,15 +1,9 @@
 -- The row of a source: its blocks, and how one operation changes them.
 use Rattle.std.specs.Prelude.{ℕ, ◌==◌, List, [], ◌∷◌, ◌++◌, map, filter, count_by, replicate, All, Bool, true, false, not, ◌&&◌}
-use Rattle.std.specs.Prelude.{if◌then◌else◌}
-use Rattle.std.specs.List.{list_any, list_all, sum_by}
-use Rattle.std.specs.Option.{is_some}
-use Rattle.std.specs.declared.option.Option.{Option}
+use Rattle.std.specs.{Prelude.if◌then◌else◌, List.{list_any, list_all, sum_by}, Option.is_some, declared.option.Option.Option}
 use Rattle.std.specs.declared.option.Option.TheVariants.{None, Some}
-use Rattle.graph_types.specs.Graph.{Key, Stamp}
-use Rattle.graph_types.specs.declared.changes.EdgeChange.{EdgeChange}
-use Rattle.graph_types.specs.Step.{stamp_after, outcome_at}
-use Rattle.graph_types.specs.declared.batches.Outcome.{Outcome}
-use Rattle.graph_types.specs.declared.batches.Outcome.TheVariants.{Inserted, Updated, Removed}
+use Rattle.graph_types.specs.{Graph.{Key, Stamp}, declared.{changes.EdgeChange.EdgeChange, batches.Outcome.Outcome}}
+use Rattle.graph_types.specs.{declared.batches.Outcome.TheVariants.{Inserted, Updated, Removed}, Step.{stamp_after, outcome_at}}
 use Rattle.edge_block.specs.Slots.{BlockView, Slot, is_free, stamp_at, AreDistinct, at_first, put_slot, take_slot, edges_in}
 use Rattle.edge_block.specs.Slots.{first_some, NoKeyTwice, slots_since, old_in, has_before}
 

@@ -1,12 +1,8 @@
 -- Slots of a block: each is empty or has an edge of the block's source and kind.
 use Rattle.std.specs.Prelude.{◌≡◌, ℕ, ℤ, ◌==◌, List, [], ◌∷◌, length, map, replicate, count_by, Bool, true, false, ◌||◌}
-use Rattle.std.specs.Prelude.{if◌then◌else◌, All}
-use Rattle.std.specs.List.{list_any}
-use Rattle.std.specs.Option.{is_some, option_or}
-use Rattle.std.specs.declared.option.Option.{Option}
+use Rattle.std.specs.{Prelude.{if◌then◌else◌, All}, List.list_any, Option.{is_some, option_or}, declared.option.Option.Option}
 use Rattle.std.specs.declared.option.Option.TheVariants.{None, Some}
-use Rattle.graph_types.specs.Graph.{Key, Stamp, IsWeight, IsTime}
-use Rattle.graph_types.specs.Step.{is_before}
+use Rattle.graph_types.specs.{Graph.{Key, Stamp, IsWeight, IsTime}, Step.is_before}
 
 -- what the first element has that has something
 abbrev pub first_some : {A B : Type 0} → (A → Option B) → List A → Option B

@@ -1,25 +1,22 @@
 -- What a session asks in a run is what its holdings say.
 use Rattle.std.proofs.Common.{◌≡◌, ℕ, ◌≤◌, Bool, inl, inr, List, [], ◌∷◌, ◌++◌, length, get_or, set, map, replicate, refl, sym}
-use Rattle.std.proofs.{Common.ap, Common.subst, Common.◌∙◌, Common.arith, lemmas.Bool.eq-eqb, lemmas.Bool.cases_eq}
-use Rattle.std.{proofs.lemmas.Grind.common_steps, specs.List.AllZip}
-use Rattle.std.{specs.Prelude.if◌then◌else◌, specs.Prelude.◌==◌, specs.Prelude.is_some, proofs.lemmas.List.length-replicate}
-use Rattle.std.specs.Option.{option_map, option_to_list, unwrap_or, option_and_then}
-use Rattle.std.specs.declared.option.Option.{Option, TheVariants.None, TheVariants.Some}
+use Rattle.std.proofs.{Common.{ap, subst, ◌∙◌, arith}, lemmas.{Bool.{eq-eqb, cases_eq}, Grind.common_steps}}
+use Rattle.std.{proofs.lemmas.List.length-replicate, specs.{List.AllZip, Prelude.{if◌then◌else◌, ◌==◌, is_some}}}
+use Rattle.std.specs.{Option.{option_map, option_to_list, unwrap_or, option_and_then}, declared.option.Option.Option}
+use Rattle.std.specs.declared.option.Option.TheVariants.{None, Some}
 use Rattle.graph_types.specs.{Graph.Graph, declared.ids.Edge.Edge, declared.requests.Request.Request}
-use Rattle.epoch_core.specs.declared.{states.Version.Version, states.Opening.Opening, session_states.SessionState.SessionState}
-use Rattle.epoch_core.specs.{declared.events.Event.Event, Versions.graph_at, Posting.can_post, Posting.version_by}
-use Rattle.epoch_core.specs.declared.events.Event.TheVariants.{Reply, Release, Take, Fill, Post, Floor, Recycle, Pin, Enter}
-use Rattle.epoch_core.specs.declared.events.Event.TheVariants.{Settle, Ask, Read}
-use Rattle.epoch_core.specs.{Blocks.changed_at, Blocks.filled, Blocks.taken, Blocks.reclaimed, Worlds.session_of, Worlds.start}
+use Rattle.epoch_core.specs.declared.{states.{Version.Version, Opening.Opening}, session_states.SessionState.SessionState}
+use Rattle.epoch_core.specs.declared.events.Event.{Event, TheVariants.{Reply, Release, Take, Fill, Post, Floor, Recycle, Pin}}
+use Rattle.epoch_core.specs.{declared.events.Event.TheVariants.{Enter, Settle, Ask, Read}, Versions.graph_at, Posting.can_post}
+use Rattle.epoch_core.specs.{Posting.version_by, Blocks.{changed_at, filled, taken, reclaimed}, Worlds.{session_of, start}}
 use Rattle.epoch_core.specs.Worlds.{Answer, IsStart, MachineState, World, held_in, last_graph, last_number, replies_of}
-use Rattle.epoch_core.specs.{Posts.posted, Runs.Runs, Runs.is_done, Runs.next_world, Sound.IsSessionSound, Sound.IsSound}
-use Rattle.epoch_core.specs.Machine.{with_status, Answers, Question, move, question_in, question_of, to_ask, to_enter, to_pin}
-use Rattle.epoch_core.specs.Machine.{to_read, to_release, to_reply, to_settle, with_heap, with_sessions}
-use Rattle.epoch_core.specs.Holdings.{Entered, Observation, Released, Replied, answered_first, holdings, holdings_of}
-use Rattle.epoch_core.specs.Holdings.{observations, observed_at, questions, request_in}
-use Rattle.epoch_core.proofs.{Changes.graph_before, Steps.sound_next, Steps.sound_start, Steps.idle_at}
-use Rattle.epoch_core.proofs.Moves.{Moved, moved, session_after, session_else}
-use Rattle.epoch_core.proofs.Answering.{asked, all_asked, Adds, adds_all, same_answers, other}
+use Rattle.epoch_core.specs.{Posts.posted, Runs.{Runs, is_done, next_world}, Sound.{IsSessionSound, IsSound}, Machine.with_status}
+use Rattle.epoch_core.specs.Machine.{Answers, Question, move, question_in, question_of, to_ask, to_enter, to_pin, to_read}
+use Rattle.epoch_core.specs.{Machine.{to_release, to_reply, to_settle, with_heap, with_sessions}, Holdings.{Entered, Observation}}
+use Rattle.epoch_core.specs.Holdings.{Released, Replied, answered_first, holdings, holdings_of, observations, observed_at}
+use Rattle.epoch_core.specs.Holdings.{questions, request_in}
+use Rattle.epoch_core.proofs.{Changes.graph_before, Steps.{sound_next, sound_start, idle_at}, Moves.{Moved, moved, session_after}}
+use Rattle.epoch_core.proofs.{Moves.session_else, Answering.{asked, all_asked, Adds, adds_all, same_answers, other}}
 use Rattle.block_reclamation.specs.declared.status.BlockStatus.{BlockStatus}
 
 abbrev question_on : Graph → Request → Question

@@ -1,16 +1,14 @@
 -- Replies are the answers to what a session asks in a run.
 use Rattle.std.proofs.Common.{◌≡◌, ◌≢◌, ℕ, ◌<◌, true, false, inl, inr, List, [], ◌∷◌, ◌++◌, length, get_or, refl, sym, ap, subst}
-use Rattle.std.{proofs.Common.◌∙◌, proofs.Common.arith, proofs.Common.eqb, specs.Option.option_to_list}
-use Rattle.std.proofs.lemmas.{Grind.common_steps, Bool.eq-eqb, Bool.cases_eq, Bool.Decides.Decides-eqb, Option.slice_get_within}
-use Rattle.std.specs.{Prelude.slice_get, Prelude.if◌then◌else◌, Prelude.MatchOption, Prelude.◌==◌, List.AllZip}
-use Rattle.std.specs.declared.option.Option.TheVariants.{None, Some}
-use Rattle.std.proofs.lemmas.List.{append-nil, append_assoc, get_or-set_same, get_or-set_other, length-set}
+use Rattle.std.proofs.{Common.{◌∙◌, arith, eqb}, lemmas.{Grind.common_steps, Bool.{eq-eqb, cases_eq, Decides.Decides-eqb}}}
+use Rattle.std.proofs.lemmas.{Option.slice_get_within, List.{append-nil, append_assoc, get_or-set_same, get_or-set_other}}
+use Rattle.std.{proofs.lemmas.List.length-set, specs.{Option.option_to_list, Prelude.{slice_get, if◌then◌else◌, MatchOption}}}
+use Rattle.std.specs.{Prelude.◌==◌, List.AllZip, declared.option.Option.TheVariants.{None, Some}}
 use Rattle.graph_types.proofs.OneAnswer.{one_answer}
-use Rattle.epoch_core.specs.declared.events.Event.{Event, TheVariants.Settle, TheVariants.Ask, TheVariants.Read}
-use Rattle.epoch_core.specs.declared.events.Event.TheVariants.{Reply, Release, Take, Fill, Post, Floor, Recycle, Pin, Enter}
-use Rattle.epoch_core.specs.{Worlds.Answer, Worlds.World, Runs.AllReplies, Runs.next_world}
-use Rattle.epoch_core.specs.Machine.{Answers, IsAnswered, Question, Replies, question_in, question_of}
-use Rattle.epoch_core.proofs.{Lists.and_then_some, Sizes.size_next}
+use Rattle.epoch_core.specs.declared.events.Event.{Event, TheVariants.{Settle, Ask, Read, Reply, Release, Take, Fill, Post}}
+use Rattle.epoch_core.specs.{declared.events.Event.TheVariants.{Floor, Recycle, Pin, Enter}, Worlds.{Answer, World}}
+use Rattle.epoch_core.specs.{Runs.{AllReplies, next_world}, Machine.{Answers, IsAnswered, Question, Replies, question_in}}
+use Rattle.epoch_core.{specs.Machine.question_of, proofs.{Lists.and_then_some, Sizes.size_next}}
 
 pub same_answers : (qs : List Question) (xs ys : List Answer) → AllZip Answers qs xs → AllZip Answers qs ys → xs ≡ ys
 same_answers [] [] [] a b = refl

@@ -1,12 +1,10 @@
 -- Versions, and what a new one leaves of the older.
 use Rattle.std.proofs.Common.{◌≡◌, ℕ, zero, suc, ◌<◌, ◌≤◌, List, [], ◌∷◌, ◌++◌, length, map, refl, ap, ◌∙◌, arith, add-one}
-use Rattle.std.{proofs.lemmas.Grind.common_steps, specs.Prelude.slice_get, specs.declared.option.Option.TheVariants.Some}
-use Rattle.std.specs.Option.{unwrap_or}
-use Rattle.std.proofs.lemmas.List.{take-append-le, take_all, map-append, length_push}
-use Rattle.graph_types.specs.{Step.after_all}
+use Rattle.std.proofs.lemmas.{List.{take-append-le, take_all, map-append, length_push}, Grind.common_steps}
+use Rattle.std.specs.{Prelude.slice_get, declared.option.Option.TheVariants.Some, Option.unwrap_or}
+use Rattle.graph_types.{specs.Step.after_all, proofs.More.left_more}
 use Rattle.epoch_core.specs.declared.states.{Version.Version, Opening.Opening}
 use Rattle.epoch_core.specs.Versions.{batches_at, graph_at, left, version_at, version_zero}
-use Rattle.graph_types.proofs.More.{left_more}
 
 pub length_next : (vs : List Version) (v : Version) → length (vs ++ v ∷ []) ≡ suc (length vs)
 length_next vs v = length_push vs v ∙ add-one (length vs)

@@ -1,20 +1,17 @@
 -- What a whole collection leaves.
 use Rattle.std.proofs.Common.{◌≡◌, ℕ, zero, suc, ◌≤◌, Bool, true, false, ◌||◌, ◌⊎◌, inl, inr, List, [], ◌∷◌, ◌++◌, map, replicate}
-use Rattle.std.proofs.Common.{get_or, set, refl, sym, ap, subst, ◌∙◌, arith, eqb}
-use Rattle.std.proofs.lemmas.{Grind.common_steps, Bool.cases_eq, Bool.Decides.nat_tests}
-use Rattle.std.specs.{Prelude.slice_get, List.list_any, Option.unwrap_or}
-use Rattle.std.specs.declared.option.Option.{Option, TheVariants.None, TheVariants.Some}
-use Rattle.block_reclamation.specs.{declared.copies.PinCopy.PinCopy, Status.is_at, Status.is_listed, Status.is_retired}
-use Rattle.block_reclamation.specs.declared.copies.Pin.{Pin}
-use Rattle.block_reclamation.specs.Copies.{needs, is_between, is_before, settled_number, unsettled_number}
-use Rattle.block_reclamation.specs.declared.status.BlockStatus.{BlockStatus, TheVariants.Free, TheVariants.Retired}
+use Rattle.std.proofs.{Common.{get_or, set, refl, sym, ap, subst, ◌∙◌, arith, eqb}, lemmas.{Grind.common_steps, Bool.cases_eq}}
+use Rattle.std.{proofs.lemmas.Bool.Decides.nat_tests, specs.{Prelude.slice_get, List.list_any, Option.unwrap_or}}
+use Rattle.std.specs.declared.option.Option.{Option, TheVariants.{None, Some}}
+use Rattle.block_reclamation.specs.declared.{copies.{PinCopy.PinCopy, Pin.Pin}, status.BlockStatus.BlockStatus}
+use Rattle.block_reclamation.specs.{declared.status.BlockStatus.TheVariants.{Free, Retired}, Status.{is_at, is_listed}}
+use Rattle.block_reclamation.specs.{Status.is_retired, Copies.{needs, is_between, is_before, settled_number, unsettled_number}}
 use Rattle.epoch_core.specs.declared.session_states.SessionState.{SessionState, TheVariants.Idle}
 use Rattle.epoch_core.specs.{declared.events.Event.TheVariants.Recycle, Blocks.reclaimed, Collections.LeavesNoneUnpinned}
-use Rattle.epoch_core.specs.Worlds.{World, last_number, session_of, pin_in, present_copy, seat_pin}
-use Rattle.epoch_core.specs.{Machine.step, Machine.with_status, Runs.next_world, Runs.run, Sound.IsDatedAt, Sound.IsSound}
-use Rattle.epoch_core.specs.Collections.{IsSettledNeed, IsUnsettledNeed, IsPinned, collecting, LeavesWhatPinsNeed}
-use Rattle.epoch_core.proofs.Lists.{option_map_some, ChangedAt, changed_at-some, set_same, set_else}
-use Rattle.epoch_core.proofs.Moves.{floored, settled_needs, unsettled_needs}
+use Rattle.epoch_core.specs.{Collections.{IsSettledNeed, IsUnsettledNeed, IsPinned, collecting, LeavesWhatPinsNeed}, Worlds.World}
+use Rattle.epoch_core.specs.{Worlds.{last_number, session_of, pin_in, present_copy, seat_pin}, Machine.{step, with_status}}
+use Rattle.epoch_core.{specs.{Runs.{next_world, run}, Sound.{IsDatedAt, IsSound}}, proofs.Lists.{option_map_some, ChangedAt}}
+use Rattle.epoch_core.proofs.{Lists.{changed_at-some, set_same, set_else}, Moves.{floored, settled_needs, unsettled_needs}}
 
 -- a block was born and retired with these numbers
 abbrev IsRetiredAt : World → ℕ → ℕ → ℕ → Type 0

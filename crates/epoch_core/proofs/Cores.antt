@@ -1,19 +1,16 @@
 -- Steps of the whole state.
 use Rattle.std.proofs.Common.{◌≡◌, ℕ, zero, suc, ◌+◌, ◌≤◌, min, inl, inr, List, [], ◌∷◌, ◌++◌, length, refl, sym, ap, subst, ◌∙◌}
-use Rattle.std.proofs.{Common.arith, lemmas.Bool.cases_eq, lemmas.List.length-replicate}
-use Rattle.std.specs.{Prelude.if◌then◌else◌, Prelude.is_some, Option.unwrap_or}
-use Rattle.std.specs.declared.option.Option.{Option, TheVariants.None, TheVariants.Some}
+use Rattle.std.{proofs.{Common.arith, lemmas.{Bool.cases_eq, List.length-replicate}}, specs.Prelude.{if◌then◌else◌, is_some}}
+use Rattle.std.specs.{Option.unwrap_or, declared.option.Option.{Option, TheVariants.{None, Some}}}
 use Rattle.graph_types.specs.{declared.batches.NamedOp.NamedOp, declared.contents.Content.Content}
-use Rattle.epoch_core.specs.declared.{states.Version.Version, states.Opening.Opening, step.Step.Step}
-use Rattle.epoch_core.specs.{declared.session_states.SessionState.TheVariants.Idle, Versions.IsContentGraph, Versions.graph_at}
-use Rattle.epoch_core.specs.{declared.events.Event.Event, Posting.graph_after, Posting.version_by, Machine.Replies, Machine.step}
-use Rattle.epoch_core.specs.Worlds.{Answer, HasContents, MachineState, World, empty_opening, start}
-use Rattle.epoch_core.{specs.Sound.IsCore, specs.Sound.IsSound, specs.Blocks.Stepped, proofs.Sizes.size_next}
-use Rattle.epoch_core.specs.Runs.{AllReplies, Runs, Steps, count_of, done_in, is_done, next_world, run}
-use Rattle.epoch_core.proofs.Changes.{graph_before, graph_next, length_next}
-use Rattle.epoch_core.proofs.Steps.{sound_next, sound_start, start_is_start}
-use Rattle.epoch_core.proofs.Answering.{Adds, asked, adds}
 use Rattle.graph_types.proofs.Empty.{empty_content as empty_is_content}
+use Rattle.epoch_core.specs.declared.{states.{Version.Version, Opening.Opening}, step.Step.Step}
+use Rattle.epoch_core.specs.{declared.{session_states.SessionState.TheVariants.Idle, events.Event.Event}, Versions.IsContentGraph}
+use Rattle.epoch_core.specs.{Versions.graph_at, Posting.{graph_after, version_by}, Machine.{Replies, step}, Worlds.Answer}
+use Rattle.epoch_core.specs.{Worlds.{HasContents, MachineState, World, empty_opening, start}, Runs.{AllReplies, Runs, Steps}}
+use Rattle.epoch_core.specs.{Runs.{count_of, done_in, is_done, next_world, run}, Sound.{IsCore, IsSound}, Blocks.Stepped}
+use Rattle.epoch_core.proofs.{Sizes.size_next, Changes.{graph_before, graph_next, length_next}, Steps.{sound_next, sound_start}}
+use Rattle.epoch_core.proofs.{Steps.start_is_start, Answering.{Adds, asked, adds}}
 
 -- a step leads to what next_world, and says whether the event is done
 stepped_to : (o : Option World) (outcome : Step) (old new : World) → Stepped o outcome old new → new ≡ unwrap_or o old

@@ -1,16 +1,14 @@
 -- Edges and stamps compared, and when edges are each once the edges of a graph.
 use Rattle.std.proofs.Common.{◌≡◌, ◌≢◌, suc, ◌-◌, Bool, true, false, cond, not, List, [], ◌∷◌, length, get_or, Decides, refl, sym}
-use Rattle.std.proofs.{Common.ap, Common.subst, Common.◌∙◌, Common.arith, lemmas.Grind.common_steps}
-use Rattle.std.specs.{Prelude.All, Prelude.is_some, List.list_any, List.list_all}
-use Rattle.std.specs.declared.option.Option.{Option, TheVariants.None, TheVariants.Some}
-use Rattle.std.specs.FinMap.{FinMap, get, same_map, insert, remove, len, get-insert, get-remove, len-remove, empty_of_len}
-use Rattle.std.proofs.lemmas.Bool.Decides.{Decides-and, Decides-by_and, Decides-eqb, Decides-like, Decides-not}
+use Rattle.std.proofs.{Common.{ap, subst, ◌∙◌, arith}, lemmas.{Grind.common_steps, Bool.Decides.{Decides-and, Decides-by_and}}}
+use Rattle.std.{proofs.lemmas.Bool.Decides.{Decides-eqb, Decides-like, Decides-not}, specs.Prelude.{All, is_some}}
+use Rattle.std.specs.{List.{list_any, list_all}, declared.option.Option.{Option, TheVariants.{None, Some}}, FinMap.{FinMap, get}}
+use Rattle.std.specs.FinMap.{same_map, insert, remove, len, get-insert, get-remove, len-remove, empty_of_len}
 use Rattle.graph_types.specs.Graph.{Graph, Key, Stamp, key_cmp, key_of, stamp_of, map_of}
 use Rattle.graph_types.{specs.declared.ids.Edge.Edge, proofs.EdgeLookup.Decides-has_key}
 use Rattle.graph_types.proofs.Keys.{keys_total, exact_keys, is_key_of, is_key_of-true, is_key_of-false, HasKeysOnce, once_none}
 use Rattle.graph_types.proofs.Keys.{once_head, once_tail, once_cons, get_listed, len_once}
-use Rattle.epoch_core.proofs.Lists.{neither}
-use Rattle.epoch_core.specs.{Versions.AreEdgesOf, Posting.are_edges_of, Posting.bears, Posting.keys_differ, Posting.same_key}
+use Rattle.epoch_core.{proofs.Lists.neither, specs.{Versions.AreEdgesOf, Posting.{are_edges_of, bears, keys_differ, same_key}}}
 
 Decides-bears : (o : Option Stamp) (s : Stamp) → Decides (bears o s) (o ≡ Some s)
 Decides-bears o s = grind (arith, common_steps)

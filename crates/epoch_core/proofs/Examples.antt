@@ -1,19 +1,16 @@
 -- Small runs, computed.
 use Rattle.std.proofs.Common.{◌≡◌, ℕ, true, false, cond, List, [], ◌∷◌, refl, sym, ap, ◌∙◌, arith, pos, negsuc, length}
 use Rattle.std.{proofs.lemmas.Grind.common_steps, specs.Ordering.eq_by_cmp, specs.declared.option.Option.TheVariants.Some}
-use Rattle.std.specs.Prelude.{ℤ}
-use Rattle.std.specs.FinMap.{FinMap, get, insert, empty, get-empty, get-insert, same_map}
-use Rattle.graph_types.specs.{Graph.Graph, Graph.Key, Graph.Stamp, Graph.key_cmp, Step.after_all, Step.set_at, Step.stamp_after}
-use Rattle.graph_types.specs.declared.{ids.Edge.Edge, batches.NamedOp.NamedOp}
-use Rattle.graph_types.specs.declared.changes.EdgeChange.TheVariants.{Insert, Incr}
+use Rattle.std.specs.{Prelude.ℤ, FinMap.{FinMap, get, insert, empty, get-empty, get-insert, same_map}}
+use Rattle.graph_types.specs.{Graph.{Graph, Key, Stamp, key_cmp}, Step.{after_all, set_at, stamp_after}, declared.ids.Edge.Edge}
+use Rattle.graph_types.specs.declared.{batches.NamedOp.NamedOp, changes.EdgeChange.TheVariants.{Insert, Incr}}
 use Rattle.graph_types.proofs.Keys.{keys_total, exact_keys, once_none, once_cons, HasKeysOnce}
-use Rattle.epoch_core.specs.{declared.events.Event.Event, Posting.can_post, Posting.are_edges_of}
-use Rattle.epoch_core.specs.declared.events.Event.TheVariants.{Release, Take, Fill, Post, Floor, Pin, Enter, Settle, Ask, Read}
-use Rattle.epoch_core.specs.{declared.events.Event.TheVariants.Reply, Worlds.World, Worlds.empty_opening, Worlds.start_world}
-use Rattle.epoch_core.{specs.Posts.posted, specs.Versions.left, proofs.Edges.Decides-edges}
-use Rattle.epoch_core.specs.{Runs.run, Holdings.Holding, Holdings.holdings_of, Holdings.observations}
+use Rattle.epoch_core.specs.declared.events.Event.{Event, TheVariants.{Release, Take, Fill, Post, Floor, Pin, Enter, Settle, Ask}}
+use Rattle.epoch_core.specs.{declared.events.Event.TheVariants.{Read, Reply}, Posting.{can_post, are_edges_of}, Worlds.World}
+use Rattle.epoch_core.specs.{Worlds.{empty_opening, start_world}, Runs.run, Holdings.{Holding, holdings_of, observations}}
 use Rattle.epoch_core.specs.Examples.{AreExamples, name_a, name_b, kind_k, put_edge, add_to_edge, edge_of, ask_edge}
 use Rattle.epoch_core.specs.Examples.{short_batches, long_batches, of_short, of_long}
+use Rattle.epoch_core.{specs.Posts.posted, specs.Versions.left, proofs.Edges.Decides-edges}
 
 -- The graph of one edge, and what batches make of it
 

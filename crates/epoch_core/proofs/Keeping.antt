@@ -1,17 +1,15 @@
 -- Each event keeps what is sound: blocks and versions.
 use Rattle.std.proofs.Common.{◌≡◌, ◌≢◌, ℕ, ◌≤◌, Bool, true, false, not, inl, inr, List, [], set, take, refl, sym, ap, subst, ◌∙◌}
-use Rattle.std.proofs.{Common.arith, lemmas.Grind.common_steps, lemmas.List.get_or-set_other, lemmas.List.length-set}
-use Rattle.std.{proofs.lemmas.Bool.cases_eq, specs.Prelude.slice_get, specs.Prelude.if◌then◌else◌}
-use Rattle.std.specs.declared.option.Option.{Option, TheVariants.None, TheVariants.Some}
+use Rattle.std.proofs.{Common.arith, lemmas.{Grind.common_steps, List.{get_or-set_other, length-set}, Bool.cases_eq}}
+use Rattle.std.specs.{Prelude.{slice_get, if◌then◌else◌}, declared.option.Option.{Option, TheVariants.{None, Some}}}
 use Rattle.graph_types.specs.declared.ids.Edge.{Edge}
 use Rattle.block_reclamation.specs.{declared.status.BlockStatus.BlockStatus, declared.copies.PinCopy.PinCopy, Copies.needs}
 use Rattle.block_reclamation.specs.declared.status.BlockStatus.TheVariants.{Free, Granted, Used, Retired}
 use Rattle.block_reclamation.specs.Status.{is_at, is_listed, is_used, IsDated, IsKept}
-use Rattle.epoch_core.specs.declared.session_states.{Hold.Hold, SessionState.SessionState}
-use Rattle.epoch_core.specs.declared.session_states.SessionState.TheVariants.{Idle, Pinned, Holding, Asking}
-use Rattle.epoch_core.specs.{Blocks.filled, Blocks.taken, Blocks.reclaimed, Machine.with_heap, Machine.with_status}
-use Rattle.epoch_core.specs.Versions.{AreEdgesOf, blocks_at, edges_at, edges_of, graph_at, version_at}
-use Rattle.epoch_core.specs.Worlds.{World, last_blocks, last_graph, last_number, session_of}
+use Rattle.epoch_core.specs.declared.session_states.{Hold.Hold, SessionState.{SessionState, TheVariants.{Idle, Pinned, Holding}}}
+use Rattle.epoch_core.specs.{declared.session_states.SessionState.TheVariants.Asking, Blocks.{filled, taken, reclaimed}}
+use Rattle.epoch_core.specs.{Machine.{with_heap, with_status}, Versions.{AreEdgesOf, blocks_at, edges_at, edges_of, graph_at}}
+use Rattle.epoch_core.specs.{Versions.version_at, Worlds.{World, last_blocks, last_graph, last_number, session_of}}
 use Rattle.epoch_core.specs.Sound.{IsCovered, IsDatedAt, IsHeld, IsKeptAt, IsNamed, IsSessionSound, IsSound}
 use Rattle.epoch_core.proofs.Lists.{set_same, set_else, same_pieces, listed_take}
 

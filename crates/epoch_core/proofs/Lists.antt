@@ -1,10 +1,9 @@
 -- Lists, options and tests.
 use Rattle.std.proofs.Common.{◌≡◌, ◌≢◌, ℕ, zero, suc, ◌+◌, Bool, true, false, not, ◌&&◌, ◌||◌, ◌⊎◌, List, [], ◌∷◌, ◌++◌, length}
-use Rattle.std.proofs.Common.{set, take, map, refl, sym, ap, subst, ◌∙◌, arith, add-one, eqb}
-use Rattle.std.proofs.lemmas.List.{append-nil, append_assoc}
-use Rattle.std.{proofs.lemmas.Grind.common_steps, specs.Prelude.slice_get, proofs.lemmas.Bool.eq-eqb}
-use Rattle.std.specs.{List.list_all, List.enumerate_from, List.flat_map, declared.option.Option.TheVariants.Some}
-use Rattle.std.specs.{Option.option_map, Option.option_and_then, declared.option.Option.Option}
+use Rattle.std.proofs.{Common.{set, take, map, refl, sym, ap, subst, ◌∙◌, arith, add-one, eqb}, lemmas.List.append-nil}
+use Rattle.std.{proofs.lemmas.{List.append_assoc, Grind.common_steps, Bool.eq-eqb}, specs.{Prelude.slice_get, List.list_all}}
+use Rattle.std.specs.{List.{enumerate_from, flat_map}, declared.option.Option.{Option, TheVariants.Some}, Option.option_map}
+use Rattle.std.specs.Option.{option_and_then}
 use Rattle.epoch_core.specs.Blocks.{changed_at}
 use Rattle.block_reclamation.specs.Status.{is_listed}
 

@@ -1,18 +1,16 @@
 -- Each event keeps what is sound: the floor rises, and sessions move.
 use Rattle.std.proofs.Common.{◌≡◌, ◌≢◌, ℕ, ◌+◌, ◌<◌, ◌≤◌, Bool, true, false, not, inl, inr, List, [], ◌∷◌, ◌++◌, length, map}
-use Rattle.std.proofs.Common.{replicate, get_or, set, refl, sym, ap, subst, ◌∙◌, arith, ◌-◌, IfSome}
-use Rattle.std.proofs.lemmas.{Grind.common_steps, Option.slice_get_within, Option.get_or_from_slice_get}
-use Rattle.std.{specs.Prelude.slice_get, specs.Option.option_map, proofs.lemmas.Bool.cases_eq}
-use Rattle.std.proofs.{Math.ListN.get_or-map, lemmas.List.get_or-set_same, lemmas.List.get_or-set_other}
-use Rattle.std.specs.declared.option.Option.{Option, TheVariants.None, TheVariants.Some}
+use Rattle.std.proofs.{Common.{replicate, get_or, set, refl, sym, ap, subst, ◌∙◌, arith, ◌-◌, IfSome}, lemmas.Grind.common_steps}
+use Rattle.std.proofs.lemmas.{Option.{slice_get_within, get_or_from_slice_get}, List.{get_or-set_same, get_or-set_other}}
+use Rattle.std.{proofs.{lemmas.Bool.cases_eq, Math.ListN.get_or-map}, specs.{Prelude.slice_get, Option.option_map}}
+use Rattle.std.specs.declared.option.Option.{Option, TheVariants.{None, Some}}
 use Rattle.graph_types.specs.declared.{requests.Request.Request}
-use Rattle.epoch_core.specs.declared.session_states.{Hold.Hold, SessionState.SessionState}
-use Rattle.epoch_core.specs.declared.session_states.SessionState.TheVariants.{Idle, Pinned, Holding, Asking}
-use Rattle.epoch_core.specs.Worlds.{World, last_number, pin_in, session_of, settled_in, present_copy, seat_pin, seat_pins}
+use Rattle.epoch_core.specs.declared.session_states.{Hold.Hold, SessionState.{SessionState, TheVariants.{Idle, Pinned, Holding}}}
+use Rattle.epoch_core.specs.{declared.session_states.SessionState.TheVariants.Asking, Worlds.{World, last_number, pin_in}}
+use Rattle.epoch_core.specs.{Worlds.{session_of, settled_in, present_copy, seat_pin, seat_pins}, Machine.{to_release, to_reply}}
+use Rattle.epoch_core.specs.Machine.{to_settle, with_sessions, move, read_on, settled_at, to_ask, to_enter, to_pin, to_read}
+use Rattle.epoch_core.specs.{Versions.{blocks_at, edges_at}, Sound.{IsCovered, IsHeld, IsSessionSound, IsSound}}
 use Rattle.epoch_core.{specs.Worlds.unsettled_in, proofs.Keeping.Carries, proofs.Keeping.carry, proofs.Keeping.named_still}
-use Rattle.epoch_core.specs.Machine.{to_release, to_reply, to_settle, with_sessions, move, read_on, settled_at, to_ask, to_enter}
-use Rattle.epoch_core.specs.{Machine.to_pin, Machine.to_read, Versions.blocks_at, Versions.edges_at}
-use Rattle.epoch_core.specs.Sound.{IsCovered, IsHeld, IsSessionSound, IsSound}
 use Rattle.epoch_core.proofs.Lists.{option_map_some, ChangedAt, changed_at-some, one_piece_more}
 use Rattle.block_reclamation.specs.declared.copies.{Pin.Pin, TheConstants.SEATS}
 use Rattle.block_reclamation.specs.Copies.{floor_of, needs, number_if, pin_at, settled_number, unsettled_number}

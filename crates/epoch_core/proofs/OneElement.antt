@@ -1,10 +1,8 @@
 -- What calls on one element do to the whole.
 use Rattle.std.proofs.Common.{◌≡◌, ℕ, ◌<◌, ◌≤◌, List, length, get_or, set, refl, sym, ap, subst, ◌∙◌}
-use Rattle.std.specs.{Prelude.slice_get, Option.option_and_then}
-use Rattle.std.specs.declared.option.Option.{Option, TheVariants.None, TheVariants.Some}
 use Rattle.std.proofs.lemmas.{List.set-get_or, Option.slice_get_past, Option.slice_get-get_or}
-use Rattle.epoch_core.specs.{Blocks.changed_at, Blocks.put, Blocks.Stepped, declared.step.Step.TheVariants.Skipped}
-use Rattle.epoch_core.specs.declared.step.Step.{Step}
+use Rattle.std.specs.{Prelude.slice_get, Option.option_and_then, declared.option.Option.{Option, TheVariants.{None, Some}}}
+use Rattle.epoch_core.specs.{Blocks.{changed_at, put, Stepped}, declared.step.Step.{Step, TheVariants.Skipped}}
 
 put_at : {A : Type 0} (o : Option A) (xs : List A) (i : ℕ) (d : A) (outcome : Step) (new : A)
     → Stepped o outcome (get_or xs i d) new → Stepped (put xs i o) outcome xs (set xs i new)

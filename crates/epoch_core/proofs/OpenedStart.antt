@@ -1,18 +1,15 @@
 -- The start over an opening content is one from which a run may start.
-use Rattle.std.proofs.Common.{◌≡◌, ◌≢◌, ℕ, zero, suc, ◌<◌, ◌==◌, ◌||◌, Bool, true, false, cond, List, [], ◌∷◌, ◌++◌, length}
-use Rattle.std.proofs.Common.{set, replicate, refl, sym, ap, subst, ◌∙◌, arith, All, AllPairs}
+use Rattle.std.proofs.Common.{◌≡◌, ◌≢◌, ℕ, zero, suc, ◌<◌, ◌==◌, ◌||◌, Bool, true, false, cond, List, [], ◌∷◌, ◌++◌, length, set}
+use Rattle.std.proofs.{Common.{replicate, refl, sym, ap, subst, ◌∙◌, arith, All, AllPairs}, lemmas.Bool.{eqb-true, eqb-false}}
+use Rattle.std.proofs.lemmas.List.{length-replicate, length-set, get_or-set_same, get_or-set_other, Elements.{All-head, All-tail}}
+use Rattle.std.proofs.lemmas.List.Elements.{All-nil, All-cons}
 use Rattle.std.specs.{Prelude.slice_get, List.flat_map, declared.option.Option.TheVariants.Some}
-use Rattle.std.proofs.lemmas.Bool.{eqb-true, eqb-false}
-use Rattle.std.proofs.lemmas.List.{length-replicate, length-set, get_or-set_same, get_or-set_other}
-use Rattle.std.proofs.lemmas.List.Elements.{All-head, All-tail, All-nil, All-cons}
 use Rattle.epoch_core.{proofs.PostRule.differ_head, proofs.Lists.set_same, proofs.Lists.set_else, specs.Sound.IsCore}
 use Rattle.epoch_core.specs.{Versions.AreEdgesOf, Versions.edges_at, declared.session_states.SessionState.TheVariants.Idle}
-use Rattle.epoch_core.{specs.Worlds.IsStart, specs.Worlds.HasContents, proofs.Steps.sound_start, proofs.Steps.free_at}
 use Rattle.epoch_core.specs.Opened.{Lists, numbers_in, heap_with, status_with, opened_state, IsOpening}
-use Rattle.graph_types.proofs.Counts.{apart_tail}
-use Rattle.graph_types.specs.{Graph.graph_of, declared.ids.Edge.Edge, declared.contents.Content.Content}
-use Rattle.block_reclamation.specs.declared.status.BlockStatus.{BlockStatus, TheVariants.Free, TheVariants.Used}
-use Rattle.block_reclamation.specs.Status.{is_listed}
+use Rattle.epoch_core.{specs.Worlds.IsStart, specs.Worlds.HasContents, proofs.Steps.sound_start, proofs.Steps.free_at}
+use Rattle.graph_types.{proofs.Counts.apart_tail, specs.{Graph.graph_of, declared.{ids.Edge.Edge, contents.Content.Content}}}
+use Rattle.block_reclamation.specs.{declared.status.BlockStatus.{BlockStatus, TheVariants.{Free, Used}}, Status.is_listed}
 
 length-heap_with : (lists : Lists) (heap : List (List Edge)) → length (heap_with lists heap) ≡ length heap
 length-heap_with [] heap = refl

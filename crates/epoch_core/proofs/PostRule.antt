@@ -1,16 +1,14 @@
 -- The test of a Post decides its rule.
 use Rattle.std.proofs.Common.{◌≡◌, ◌≢◌, ◌⊎◌, ◌↔◌, ℕ, suc, ◌<◌, Bool, true, not, List, [], ◌∷◌, length, Decides, refl, sym, ◌∙◌}
-use Rattle.std.proofs.Common.{arith, eqb, leb}
-use Rattle.std.proofs.lemmas.{Grind.common_steps, Bool.Decides.Decides-ltb, List.Kept.AllPairs-cons}
+use Rattle.std.proofs.{Common.{arith, eqb, leb}, lemmas.{Grind.common_steps, Bool.Decides.{Decides-ltb, Decides-and, Decides-or}}}
+use Rattle.std.proofs.lemmas.{Bool.Decides.{Decides-not, Decides-like, Decides-by_and, Decides-eqb}, List.Kept.AllPairs-cons}
 use Rattle.std.specs.Prelude.{slice_get, if◌then◌else◌, is_some, All, AllPairs, IsTrue}
 use Rattle.std.specs.declared.option.Option.{Option, TheVariants.None, TheVariants.Some}
-use Rattle.std.proofs.lemmas.Bool.Decides.{Decides-and, Decides-or, Decides-not, Decides-like, Decides-by_and, Decides-eqb}
 use Rattle.graph_types.proofs.Counts.{apart_tail}
 use Rattle.graph_types.specs.{Limits.batch_limit, Limits.name_limit, Limits.kind_limit, declared.batches.NamedOp.NamedOp}
-use Rattle.epoch_core.{specs.Blocks.all_differ, proofs.Lists.and_left, proofs.Lists.and_right, proofs.Lists.neither}
-use Rattle.epoch_core.specs.{declared.events.Event.TheVariants.Post, Worlds.World, Worlds.last_blocks, Worlds.last_number}
-use Rattle.epoch_core.{specs.Versions.edges_of, specs.Posts.MayPost, specs.Posts.posted, proofs.Edges.Decides-edges}
-use Rattle.epoch_core.specs.{Runs.is_done, Posting.all_listable, Posting.can_post, Posting.graph_after, Posting.is_listable}
+use Rattle.epoch_core.specs.{Blocks.all_differ, declared.events.Event.TheVariants.Post, Worlds.{World, last_blocks, last_number}}
+use Rattle.epoch_core.specs.{Runs.is_done, Posting.{all_listable, can_post, graph_after, is_listable}, Versions.edges_of}
+use Rattle.epoch_core.{specs.Posts.{MayPost, posted}, proofs.{Lists.{and_left, and_right, neither}, Edges.Decides-edges}}
 use Rattle.block_reclamation.specs.declared.status.BlockStatus.{BlockStatus, TheVariants.Granted}
 use Rattle.block_reclamation.specs.Status.{is_at, is_granted, is_listed}
 

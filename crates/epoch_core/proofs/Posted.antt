@@ -1,19 +1,15 @@
 -- Each event keeps what is sound: a batch is posted.
 use Rattle.std.proofs.Common.{◌≡◌, ◌≢◌, ◌||◌, add-one, ℕ, suc, ◌+◌, ◌<◌, ◌≤◌, Bool, true, inl, inr, List, [], ◌∷◌, ◌++◌, length}
-use Rattle.std.proofs.{Common.sym, Common.ap, Common.subst, Common.◌∙◌, Common.arith, lemmas.Grind.common_steps}
-use Rattle.std.{specs.Prelude.slice_get, specs.Prelude.AllPairs, specs.declared.option.Option.Option, proofs.lemmas.Bool.cases_eq}
-use Rattle.std.specs.Option.{option_map}
+use Rattle.std.{proofs.{Common.{sym, ap, subst, ◌∙◌, arith}, lemmas.{Grind.common_steps, Bool.cases_eq}}, specs.Prelude.slice_get}
+use Rattle.std.specs.{Prelude.AllPairs, declared.option.Option.Option, Option.option_map}
 use Rattle.graph_types.specs.declared.batches.NamedOp.{NamedOp}
-use Rattle.epoch_core.{specs.declared.states.Version.Version, proofs.PostRule.Decides-post, proofs.PostRule.listable_of}
-use Rattle.epoch_core.{specs.Blocks.after_post, specs.Blocks.status_after, proofs.Keeping.Carries, proofs.Keeping.carry}
-use Rattle.epoch_core.specs.Versions.{AreEdgesOf, edges_of, graph_at, version_at}
-use Rattle.epoch_core.specs.Worlds.{World, last_blocks, last_graph, last_number, session_of}
-use Rattle.epoch_core.specs.{Posts.MayPost, Posts.posted, Sound.IsDatedAt, Sound.IsKeptAt, Sound.IsNamed, Sound.IsSound}
-use Rattle.epoch_core.specs.Posting.{all_listable, can_post, graph_after, is_listable, version_by}
-use Rattle.epoch_core.proofs.Lists.{get_enumerated, length_enumerated, all_listed}
-use Rattle.epoch_core.proofs.Changes.{length_next, version_before, graph_before, version_next, graph_next}
-use Rattle.block_reclamation.specs.declared.status.BlockStatus.{BlockStatus}
-use Rattle.block_reclamation.specs.Status.{is_at, is_granted, is_listed, is_used}
+use Rattle.epoch_core.specs.{declared.states.Version.Version, Blocks.{after_post, status_after}, Versions.{AreEdgesOf, edges_of}}
+use Rattle.epoch_core.specs.{Versions.{graph_at, version_at}, Worlds.{World, last_blocks, last_graph, last_number, session_of}}
+use Rattle.epoch_core.specs.{Posts.{MayPost, posted}, Sound.{IsDatedAt, IsKeptAt, IsNamed, IsSound}, Posting.all_listable}
+use Rattle.epoch_core.{specs.Posting.{can_post, graph_after, is_listable, version_by}, proofs.PostRule.Decides-post}
+use Rattle.epoch_core.proofs.{PostRule.listable_of, Keeping.{Carries, carry}, Lists.{get_enumerated, length_enumerated}}
+use Rattle.epoch_core.proofs.{Lists.all_listed, Changes.{length_next, version_before, graph_before, version_next, graph_next}}
+use Rattle.block_reclamation.specs.{declared.status.BlockStatus.BlockStatus, Status.{is_at, is_granted, is_listed, is_used}}
 
 -- the status of each block afterwards
 pub status_at : (n : ℕ) (blocks : List ℕ) (status : List BlockStatus) (b : ℕ) → slice_get (status_after n blocks status) b

@@ -1,8 +1,6 @@
 -- An event that changes one part of the world is a step of the whole state.
-use Rattle.std.proofs.Common.{◌≡◌, ℕ, List, refl, sym, ap, subst}
-use Rattle.std.specs.{Prelude.IfOk, Prelude.OnErr, Option.option_map}
-use Rattle.std.specs.declared.option.Option.{Option, TheVariants.None, TheVariants.Some}
-use Rattle.std.specs.declared.result.Result.{Result, TheVariants.Ok, TheVariants.Err}
+use Rattle.std.{proofs.Common.{◌≡◌, ℕ, List, refl, sym, ap, subst}, specs.{Prelude.{IfOk, OnErr}, Option.option_map}}
+use Rattle.std.specs.declared.{option.Option.{Option, TheVariants.{None, Some}}, result.Result.{Result, TheVariants.{Ok, Err}}}
 use Rattle.epoch_core.specs.{Blocks.Stepped, Blocks.changed_at, Worlds.MachineState, Worlds.World, Runs.Steps}
 use Rattle.epoch_core.specs.declared.{step.Step.Step, events.Event.Event, session_states.SessionState.SessionState}
 use Rattle.epoch_core.specs.Machine.{Replies, move, step, with_sessions, with_status}

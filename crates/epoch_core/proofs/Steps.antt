@@ -1,19 +1,17 @@
 -- Each event keeps what is sound, and so does each run.
 use Rattle.std.proofs.Common.{◌≡◌, ◌||◌, ◌<◌, inl, inr, eqb, length, ℕ, zero, suc, ◌≤◌, Bool, true, false, List, [], ◌∷◌, get_or}
-use Rattle.std.proofs.Common.{replicate, refl, sym, ap, subst, ◌∙◌, arith}
-use Rattle.std.proofs.lemmas.{Grind.common_steps, Bool.cases_lt}
+use Rattle.std.proofs.{Common.{replicate, refl, sym, ap, subst, ◌∙◌, arith}, lemmas.{Grind.common_steps, Bool.cases_lt}}
 use Rattle.std.{proofs.lemmas.List.length-replicate, specs.Prelude.slice_get, specs.Prelude.if◌then◌else◌, specs.Prelude.All}
 use Rattle.std.{proofs.lemmas.Option.slice_get_past, specs.Option.option_map, specs.Option.unwrap_or}
 use Rattle.std.specs.declared.option.Option.{Option, TheVariants.None, TheVariants.Some}
 use Rattle.graph_types.{specs.declared.ids.Edge.Edge, proofs.Keys.once_none}
 use Rattle.block_reclamation.specs.declared.status.BlockStatus.{BlockStatus, TheVariants.Free, TheVariants.Used}
 use Rattle.block_reclamation.specs.Status.{is_at, is_listed, is_used, IsDated}
-use Rattle.epoch_core.specs.declared.{session_states.SessionState.TheVariants.Idle, events.Event.Event}
-use Rattle.epoch_core.specs.{Posts.posted, Worlds.IsStart, Worlds.World, Worlds.session_of, Worlds.start, Worlds.MachineState}
-use Rattle.epoch_core.specs.{Sound.IsDatedAt, Sound.IsNamed, Sound.IsSound, Blocks.changed_at, Blocks.taken, Blocks.reclaimed}
-use Rattle.epoch_core.specs.{Runs.next_world, Runs.run, Posting.can_post, Machine.step, Machine.with_heap, Machine.with_status}
-use Rattle.epoch_core.specs.declared.events.Event.TheVariants.{Reply, Release, Take, Fill, Post, Floor, Recycle, Pin, Enter}
-use Rattle.epoch_core.specs.declared.events.Event.TheVariants.{Settle, Ask, Read}
+use Rattle.epoch_core.specs.declared.{session_states.SessionState.TheVariants.Idle, events.Event.{Event, TheVariants.Reply}}
+use Rattle.epoch_core.specs.declared.events.Event.TheVariants.{Release, Take, Fill, Post, Floor, Recycle, Pin, Enter, Settle, Ask}
+use Rattle.epoch_core.specs.{declared.events.Event.TheVariants.Read, Posts.posted, Worlds.{IsStart, World, session_of, start}}
+use Rattle.epoch_core.specs.{Worlds.MachineState, Sound.{IsDatedAt, IsNamed, IsSound}, Blocks.{changed_at, taken, reclaimed}}
+use Rattle.epoch_core.specs.{Runs.{next_world, run}, Posting.can_post, Machine.{step, with_heap, with_status}}
 use Rattle.epoch_core.proofs.Lists.{true_or_false, option_map_some, ChangedAt, changed_at-some}
 use Rattle.epoch_core.proofs.Keeping.{FreesNone, frees_taken, frees_recycled, sound_status, Fills, fills, sound_fill}
 use Rattle.epoch_core.proofs.{Posted.sound_posted, Moves.floored, Moves.sound_move, Moves.keeps_pin}

@@ -1,11 +1,9 @@
 -- What becomes of blocks, and a change of one element of a list.
 use Rattle.std.specs.Prelude.{◌≡◌, ℕ, Bool, true, false, not, ◌&&◌, List, [], ◌∷◌, map, if◌then◌else◌, slice_get, slice_set}
-use Rattle.std.specs.{List.enumerate_from, Option.option_and_then}
-use Rattle.std.specs.declared.option.Option.{Option, TheVariants.None, TheVariants.Some}
+use Rattle.std.specs.{List.enumerate_from, Option.option_and_then, declared.option.Option.{Option, TheVariants.{None, Some}}}
 use Rattle.graph_types.specs.declared.ids.Edge.{Edge}
-use Rattle.block_reclamation.specs.declared.{status.BlockStatus.BlockStatus, copies.PinCopy.PinCopy}
-use Rattle.block_reclamation.specs.declared.status.BlockStatus.TheVariants.{Free, Granted, Used, Retired}
-use Rattle.block_reclamation.specs.Status.{is_granted, is_listed, is_reclaimable}
+use Rattle.block_reclamation.specs.declared.status.BlockStatus.{BlockStatus, TheVariants.{Free, Granted, Used, Retired}}
+use Rattle.block_reclamation.specs.{declared.copies.PinCopy.PinCopy, Status.{is_granted, is_listed, is_reclaimable}}
 use Rattle.epoch_core.specs.declared.step.Step.{Step, TheVariants.Done, TheVariants.Skipped}
 
 -- no number stands twice

@@ -1,8 +1,7 @@
 -- What a whole collection leaves.
 use Rattle.std.specs.Prelude.{◌≡◌, ◌↔◌, ◌⊎◌, ℕ, ◌≤◌, ◌<◌, List, ◌∷◌, map, slice_get, IsTrue, IsFalse}
 use Rattle.std.specs.declared.option.Option.TheVariants.{None, Some}
-use Rattle.block_reclamation.specs.declared.status.BlockStatus.TheVariants.{Retired}
-use Rattle.block_reclamation.specs.Status.{is_at, is_listed, is_retired}
+use Rattle.block_reclamation.specs.{declared.status.BlockStatus.TheVariants.Retired, Status.{is_at, is_listed, is_retired}}
 use Rattle.epoch_core.specs.declared.events.Event.{Event, TheVariants.Floor, TheVariants.Recycle}
 use Rattle.epoch_core.specs.{Worlds.World, Worlds.session_of, Worlds.pin_in, Worlds.settled_in, Worlds.unsettled_in, Runs.run}
 

@@ -1,11 +1,9 @@
 -- What befalls a session in a list of events, and when two lists are the same to it.
-use Rattle.std.specs.Prelude.{ℕ, ◌==◌, List, [], ◌∷◌, ◌++◌, map, if◌then◌else◌}
-use Rattle.std.specs.List.{flat_map}
+use Rattle.std.specs.{Prelude.{ℕ, ◌==◌, List, [], ◌∷◌, ◌++◌, map, if◌then◌else◌}, List.flat_map}
 use Rattle.graph_types.specs.{Graph.Graph, declared.requests.Request.Request}
-use Rattle.epoch_core.specs.declared.session_states.SessionState.{SessionState, TheVariants.Asking}
-use Rattle.epoch_core.specs.{declared.events.Event.Event, Worlds.World, Worlds.last_graph, Worlds.session_of}
-use Rattle.epoch_core.specs.declared.events.Event.TheVariants.{Enter, Reply, Release}
-use Rattle.epoch_core.specs.{Machine.Question, Runs.is_done, Runs.next_world}
+use Rattle.epoch_core.specs.declared.{session_states.SessionState.{SessionState, TheVariants.Asking}, events.Event.Event}
+use Rattle.epoch_core.specs.{declared.events.Event.TheVariants.{Enter, Reply, Release}, Worlds.{World, last_graph, session_of}}
+use Rattle.epoch_core.specs.{Machine.Question, Runs.{is_done, next_world}}
 
 -- what may befall a session: it takes hold of a version of this graph, it is replied to, it lets go
 pub data Observation : Type 0 where

@@ -2,17 +2,15 @@
 use Rattle.std.specs.Prelude.{◌≡◌, ℕ, Bool, true, false, nat_le, List, [], ◌∷◌, ◌++◌, length, ◌+◌, if◌then◌else◌, slice_get}
 use Rattle.std.specs.{Prelude.slice_set, Prelude.slice_index_or, Prelude.MatchOption, Option.option_and_then, Option.option_map}
 use Rattle.std.specs.declared.option.Option.{Option, TheVariants.None, TheVariants.Some}
-use Rattle.graph_types.specs.{Graph.Graph, Graph.IsContent, declared.ids.Edge.Edge, declared.requests.Request.Request}
-use Rattle.graph_types.specs.Answer.{IsAnswer}
+use Rattle.graph_types.specs.{Graph.{Graph, IsContent}, declared.{ids.Edge.Edge, requests.Request.Request}, Answer.IsAnswer}
 use Rattle.block_reclamation.specs.{declared.status.BlockStatus.BlockStatus, Copies.floor_of}
-use Rattle.epoch_core.specs.declared.{states.Version.Version, events.Event.TheVariants.Reply, events.Event.TheVariants.Release}
-use Rattle.epoch_core.specs.declared.session_states.{Hold.Hold, Inquiry.Inquiry, SessionState.SessionState}
-use Rattle.epoch_core.specs.declared.session_states.SessionState.TheVariants.{Idle, Pinned, Holding, Asking}
-use Rattle.epoch_core.specs.{declared.events.Event.Event, Posting.can_post, Posts.posted}
-use Rattle.epoch_core.specs.declared.events.Event.TheVariants.{Take, Fill, Post, Floor, Recycle, Pin, Enter, Settle, Ask, Read}
-use Rattle.epoch_core.specs.{Blocks.changed_at, Blocks.taken, Blocks.filled, Blocks.reclaimed, declared.states.Opening.Opening}
-use Rattle.epoch_core.specs.Worlds.{Answer, World, last_number, graph_with, present_copy}
-use Rattle.epoch_core.specs.Versions.{version_at, blocks_at, edges_at, content_with}
+use Rattle.epoch_core.specs.declared.{states.{Version.Version, Opening.Opening}, events.Event.{Event, TheVariants.Reply}}
+use Rattle.epoch_core.specs.declared.events.Event.TheVariants.{Release, Take, Fill, Post, Floor, Recycle, Pin, Enter, Settle, Ask}
+use Rattle.epoch_core.specs.declared.{events.Event.TheVariants.Read, session_states.{Hold.Hold, Inquiry.Inquiry}}
+use Rattle.epoch_core.specs.declared.session_states.SessionState.{SessionState, TheVariants.{Idle, Pinned, Holding, Asking}}
+use Rattle.epoch_core.specs.{Posting.can_post, Posts.posted, Blocks.{changed_at, taken, filled, reclaimed}, Worlds.Answer}
+use Rattle.epoch_core.specs.{Worlds.{World, last_number, graph_with, present_copy}, Versions.{version_at, blocks_at, edges_at}}
+use Rattle.epoch_core.specs.Versions.{content_with}
 
 -- Sessions
 

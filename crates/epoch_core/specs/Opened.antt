@@ -1,6 +1,5 @@
 -- The machine's start over an opening content, whose edges stand in blocks.
-use Rattle.std.specs.Prelude.{◌≢◌, ℕ, ◌<◌, List, [], ◌∷◌, map, replicate, slice_set, All, AllPairs}
-use Rattle.std.specs.List.{flat_map}
+use Rattle.std.specs.{Prelude.{◌≢◌, ℕ, ◌<◌, List, [], ◌∷◌, map, replicate, slice_set, All, AllPairs}, List.flat_map}
 use Rattle.graph_types.specs.{Graph.graph_of, Graph.IsContent, declared.ids.Edge.Edge, declared.contents.Content.Content}
 use Rattle.block_reclamation.specs.declared.status.BlockStatus.{BlockStatus, TheVariants.Free, TheVariants.Used}
 use Rattle.epoch_core.specs.{Versions.AreEdgesOf, Worlds.MachineState, Worlds.start_world}

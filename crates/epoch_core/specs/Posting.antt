@@ -4,10 +4,9 @@ use Rattle.std.specs.{Prelude.IsTrue, Prelude.IsFalse, List.list_any, List.list_
 use Rattle.std.specs.declared.option.Option.{Option, TheVariants.None, TheVariants.Some}
 use Rattle.graph_types.specs.Graph.{Graph, Key, Stamp, key_of, stamp_of, graph_of, IsContent}
 use Rattle.graph_types.specs.{Step.after_all, Limits.batch_limit, declared.ids.Edge.Edge}
-use Rattle.graph_types.specs.{GraphLimits.is_within_limits, declared.batches.NamedOp.NamedOp, declared.contents.Content.Content}
+use Rattle.graph_types.specs.{Step.is_within_limits, declared.{batches.NamedOp.NamedOp, contents.Content.Content}}
 use Rattle.block_reclamation.specs.{declared.status.BlockStatus.BlockStatus, Status.is_at, Status.is_granted, Status.is_listed}
-use Rattle.epoch_core.specs.{declared.states.Version.Version, Blocks.all_differ, Blocks.status_after}
-use Rattle.epoch_core.specs.declared.states.Opening.{Opening}
+use Rattle.epoch_core.specs.{declared.states.{Version.Version, Opening.Opening}, Blocks.{all_differ, status_after}}
 use Rattle.epoch_core.specs.Versions.{graph_at, version_at, blocks_at, edges_of, content_with, IsContentGraph}
 
 -- what the batch leaves of the last version

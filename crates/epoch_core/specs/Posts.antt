@@ -1,8 +1,7 @@
 -- Post in a world: what its rule asks, and the world that it makes.
 use Rattle.std.specs.Prelude.{◌≡◌, ◌≢◌, ◌⊎◌, ℕ, ◌<◌, List, [], ◌∷◌, ◌++◌, ◌+◌, slice_get, All, AllPairs, IsTrue}
 use Rattle.std.specs.declared.option.Option.TheVariants.{Some}
-use Rattle.graph_types.specs.Limits.{batch_limit}
-use Rattle.graph_types.specs.{GraphLimits.MeetsNameLimit, GraphLimits.MeetsKindLimit, declared.batches.NamedOp.NamedOp}
+use Rattle.graph_types.specs.{Limits.batch_limit, Step.{MeetsNameLimit, MeetsKindLimit}, declared.batches.NamedOp.NamedOp}
 use Rattle.block_reclamation.specs.{declared.status.BlockStatus.TheVariants.Granted, Status.is_listed}
 use Rattle.epoch_core.specs.{Blocks.status_after, Worlds.World, Worlds.last_number, Worlds.last_blocks, Worlds.last_graph}
 use Rattle.epoch_core.specs.{Versions.AreEdgesOf, Versions.edges_of, Posting.graph_after, Posting.version_by}

@@ -1,9 +1,7 @@
 -- Steps and whole runs of the machine, over the state.
-use Rattle.std.specs.Prelude.{◌≡◌, ℕ, Bool, List, [], ◌∷◌, ◌+◌, if◌then◌else◌, is_some}
-use Rattle.std.specs.Option.{unwrap_or}
-use Rattle.epoch_core.specs.{declared.events.Event.Event, Worlds.Answer, Worlds.World, Worlds.MachineState}
-use Rattle.epoch_core.specs.declared.step.Step.{Step, TheVariants.Done, TheVariants.Skipped}
-use Rattle.epoch_core.specs.{Machine.step, Machine.Replies, Blocks.Stepped}
+use Rattle.std.specs.{Prelude.{◌≡◌, ℕ, Bool, List, [], ◌∷◌, ◌+◌, if◌then◌else◌, is_some}, Option.unwrap_or}
+use Rattle.epoch_core.specs.{declared.{events.Event.Event, step.Step.{Step, TheVariants.{Done, Skipped}}}, Worlds.{Answer, World}}
+use Rattle.epoch_core.specs.{Worlds.MachineState, Machine.{step, Replies}, Blocks.Stepped}
 
 -- whether an event is done in this world
 abbrev pub is_done : World → Event → Bool

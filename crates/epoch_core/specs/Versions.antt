@@ -1,8 +1,7 @@
 -- Versions and the edges of their blocks.
 use Rattle.std.specs.Prelude.{◌≡◌, ◌≢◌, ℕ, zero, suc, List, [], map, take, slice_get, slice_index_or, AllPairs}
 use Rattle.std.specs.{List.flat_map, Option.unwrap_or, declared.option.Option.Option, declared.option.Option.TheVariants.None}
-use Rattle.graph_types.specs.Graph.{Graph, key_of, map_of, graph_of, content_of, IsContent}
-use Rattle.graph_types.specs.Step.{left_by}
+use Rattle.graph_types.specs.{Graph.{Graph, key_of, map_of, graph_of, content_of, IsContent}, Step.left_by}
 use Rattle.graph_types.specs.declared.{ids.Edge.Edge, contents.Content.Content, batches.NamedOp.NamedOp}
 use Rattle.epoch_core.specs.declared.states.{Version.Version, Opening.Opening}
 

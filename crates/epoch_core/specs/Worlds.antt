@@ -6,10 +6,9 @@ use Rattle.std.specs.{Prelude.if◌then◌else◌, Prelude.All, Prelude.AllPairs
 use Rattle.std.specs.declared.option.Option.{Option, TheVariants.None, TheVariants.Some}
 use Rattle.graph_types.specs.{Graph.Graph, Graph.map_of, Graph.content_of, declared.requests.AskError.AskError}
 use Rattle.graph_types.specs.declared.{ids.Edge.Edge, requests.Reply.Reply}
-use Rattle.block_reclamation.specs.declared.status.BlockStatus.{BlockStatus, TheVariants.Free, TheVariants.Used}
-use Rattle.block_reclamation.specs.Status.{is_listed}
-use Rattle.block_reclamation.specs.declared.copies.{PinCopy.PinCopy, TheConstants.SEATS, Pin.Pin}
-use Rattle.block_reclamation.specs.Copies.{no_copy, copy_of, unsettled, settled_number, unsettled_number}
+use Rattle.block_reclamation.specs.declared.{status.BlockStatus.{BlockStatus, TheVariants.{Free, Used}}, copies.PinCopy.PinCopy}
+use Rattle.block_reclamation.specs.{declared.copies.{TheConstants.SEATS, Pin.Pin}, Status.is_listed, Copies.{no_copy, copy_of}}
+use Rattle.block_reclamation.specs.Copies.{unsettled, settled_number, unsettled_number}
 use Rattle.epoch_core.specs.declared.{states.Version.Version, states.Opening.Opening, session_states.SessionState.SessionState}
 use Rattle.epoch_core.specs.declared.session_states.SessionState.TheVariants.{Idle, Pinned, Holding, Asking}
 use Rattle.epoch_core.specs.Versions.{IsContentGraph, AreEdgesOf, blocks_at, edges_of, graph_at, opening_graph}

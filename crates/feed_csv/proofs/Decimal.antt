@@ -1,8 +1,7 @@
 -- Lemmas on the value of decimal digits.
 use Rattle.std.proofs.Common.{◌≡◌, ℕ, suc, ◌+◌, ◌-◌, ◌*◌, ◌^◌, ◌<◌, ◌≤◌, List, [], ◌∷◌, ◌++◌, length, Bool, false, refl, true}
-use Rattle.std.proofs.{Common.◌&&◌, Common.arith, Common.length-append, lemmas.Bool.and_parts, lemmas.Bool.Decides.nat_tests}
-use Rattle.std.proofs.Math.Nat.{pow-suc, pow-le-pow_right, mul-le-mul_right}
-use Rattle.std.specs.{Char.is_ascii_digit, List.list_all}
+use Rattle.std.proofs.{Common.{◌&&◌, arith, length-append}, lemmas.Bool.{and_parts, Decides.nat_tests}, Math.Nat.pow-suc}
+use Rattle.std.{proofs.Math.Nat.{pow-le-pow_right, mul-le-mul_right}, specs.{Char.is_ascii_digit, List.list_all}}
 use Rattle.feed_csv.specs.Number.{decimal_value}
 
 place : (n p d v w digit : ℕ) → p ≡ n * 10 → w ≡ v * 10 + digit → d * p + w ≡ (d * n + v) * 10 + digit

@@ -1,12 +1,10 @@
 -- Records and what they give, computed from the definitions.
 use Rattle.std.proofs.Common.{◌≡◌, ◌∷◌, [], codes, refl, None, Ok, Err, pos, negsuc}
 use Rattle.csv.specs.{Machine.next_record, Reading.records_from, Reading.strip_bom, Records.field_at}
-use Rattle.graph_types.specs.declared.batches.NamedOp.TheVariants.{Insert, Incr}
-use Rattle.graph_types.specs.declared.requests.Request.TheVariants.{Degrees, Levels}
-use Rattle.feed_csv.specs.Commands.{collect_of, commit_of, degrees_of, edge_fields, filter_at, filter_fields, incr_of}
-use Rattle.feed_csv.specs.Commands.{insert_of, item_of, levels_of, names_at, rebase_of, stat_of}
-use Rattle.feed_csv.specs.Fields.{any_kind_at, kind_at, name_at, of_length, slot_at, time_at, weight_at}
-use Rattle.feed_csv.specs.Records.{records_of}
+use Rattle.graph_types.specs.declared.{batches.NamedOp.TheVariants.{Insert, Incr}, requests.Request.TheVariants.{Degrees, Levels}}
+use Rattle.feed_csv.specs.Commands.{collect_of, commit_of, degrees_of, edge_fields, filter_at, filter_fields, incr_of, insert_of}
+use Rattle.feed_csv.specs.{Commands.{item_of, levels_of, names_at, rebase_of, stat_of}, Fields.{any_kind_at, kind_at, name_at}}
+use Rattle.feed_csv.specs.{Fields.{of_length, slot_at, time_at, weight_at}, Records.records_of}
 use Rattle.feed_csv.specs.declared.command.Command.TheVariants.{Collect, Op, Query, Rebase, Stat}
 use Rattle.feed_csv.specs.declared.command.FeedWord.TheVariants.{BadCommand, BadFields, BadName, BadSlot, BadTime}
 

@@ -1,7 +1,6 @@
 -- What the rules for commands give.
 use Rattle.std.proofs.Common.{◌≡◌, Result, Ok, Err, sym}
-use Rattle.feed_csv.specs.Commands.{Gives, Refuses}
-use Rattle.feed_csv.specs.declared.command.FeedWord.{FeedWord, TheVariants.Memory}
+use Rattle.feed_csv.specs.{Commands.{Gives, Refuses}, declared.command.FeedWord.{FeedWord, TheVariants.Memory}}
 
 pub refuses_same : {A : Type 0} (word : FeedWord) (item : Result A FeedWord) → item ≡ Err word → Refuses word item
 refuses_same Memory item same = tt

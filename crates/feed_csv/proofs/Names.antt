@@ -1,7 +1,6 @@
 -- A name is ASCII, and so text.
-use Rattle.std.proofs.Common.{◌≡◌, ℕ, zero, suc, ◌<◌, List, [], ◌∷◌, get_or, true, arith}
-use Rattle.std.specs.{List.list_all, Str.IsAscii, Str.IsUtf8}
-use Rattle.std.proofs.lemmas.{Bool.and_parts, Bool.Decides.nat_tests, Str.IsUtf8-from_ascii}
+use Rattle.std.proofs.{Common.{◌≡◌, ℕ, zero, suc, ◌<◌, List, [], ◌∷◌, get_or, true, arith}, lemmas.Bool.and_parts}
+use Rattle.std.{proofs.lemmas.{Bool.Decides.nat_tests, Str.IsUtf8-from_ascii}, specs.{List.list_all, Str.{IsAscii, IsUtf8}}}
 use Rattle.graph_types.specs.Valid.{is_kind_name, is_name, is_printable}
 
 printable-lt : (byte : ℕ) → is_printable byte ≡ true → byte < 128

@@ -4,14 +4,13 @@ use Rattle.std.proofs.Common.{Result, Ok, Err, IsTrue, length, nat_eq, IfOk, IfS
 use Rattle.std.{proofs.lemmas.Grind.common_steps, specs.Str.bytes_eq}
 use Rattle.graph_types.specs.{Limits.is_time, Limits.is_weight, Valid.are_names, Valid.is_kind_name, Valid.is_name}
 use Rattle.feed_csv.specs.Commands.{HasValidOp, Refuses, close_of, commit_of, cores_of, degrees_of, edge_of, edge_fields}
-use Rattle.feed_csv.specs.Commands.{expire_of, filter_at, filter_fields, incr_of, names_at}
-use Rattle.feed_csv.specs.Commands.{collect_of, insert_of, item_of, labels_of, levels_of, open_of, rebase_of, remove_of, stat_of}
-use Rattle.feed_csv.specs.Fields.{◌>>=◌, any_kind_at, field, kind_at, name_at, of_length, required, slot_at, time_at, weight_at}
-use Rattle.feed_csv.specs.Number.{at_most, has_minus, number_of, slot_of, time_of, weight_of}
-use Rattle.feed_csv.specs.{Records.Row, Script.FaultStep, Script.NextStep, Script.Script, Script.TakesRow}
-use Rattle.feed_csv.specs.declared.command.{Command.Command, FeedFault.FeedFault}
-use Rattle.feed_csv.specs.declared.command.FeedWord.{FeedWord, TheVariants.Read, TheVariants.BadCommand, TheVariants.BadFields}
-use Rattle.feed_csv.specs.declared.command.FeedWord.TheVariants.{BadName, BadWeight, BadTime, BadSlot, Memory}
+use Rattle.feed_csv.specs.Commands.{expire_of, filter_at, filter_fields, incr_of, names_at, collect_of, insert_of, item_of}
+use Rattle.feed_csv.specs.{Commands.{labels_of, levels_of, open_of, rebase_of, remove_of, stat_of}, Fields.{◌>>=◌, any_kind_at}}
+use Rattle.feed_csv.specs.{Fields.{field, kind_at, name_at, of_length, required, slot_at, time_at, weight_at}, Number.at_most}
+use Rattle.feed_csv.specs.{Number.{has_minus, number_of, slot_of, time_of, weight_of}, Records.Row, Script.{FaultStep, NextStep}}
+use Rattle.feed_csv.specs.{Script.{Script, TakesRow}, declared.command.{Command.Command, FeedFault.FeedFault, FeedWord.FeedWord}}
+use Rattle.feed_csv.specs.declared.command.FeedWord.TheVariants.{Read, BadCommand, BadFields, BadName, BadWeight, BadTime}
+use Rattle.feed_csv.specs.declared.command.FeedWord.TheVariants.{BadSlot, Memory}
 
 abbrev pub IsOfRecord : FeedWord → Type 0
 IsOfRecord Read = ⊥

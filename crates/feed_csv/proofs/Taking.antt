@@ -2,10 +2,9 @@
 use Rattle.std.proofs.Common.{◌≡◌, ℕ, zero, suc, ◌+◌, ◌<◌, ◌⊎◌, inl, inr, List, [], ◌∷◌, ◌++◌, length, refl, ap, sym, ◌∙◌, Bool}
 use Rattle.std.proofs.Common.{true, false, cond, Option, Some, None, Result, Ok, Err, arith, add-one}
 use Rattle.std.specs.Prelude.{option_map, IfOk}
-use Rattle.csv.specs.Machine.{Read, next_record, ends_at_end, is_end, step, fields_after, field_after}
-use Rattle.csv.specs.Reading.{NextIs, ReadRecord}
-use Rattle.csv.specs.Reading.{ReadsNext, Ready, default_config, pending_of, reader_trim, records_from, records_next, source_of}
-use Rattle.csv.specs.declared.{parser.Config.Config, parser.State.State, reader.Reader.Reader, error.Error.Error}
+use Rattle.csv.specs.{Machine.{Read, next_record, ends_at_end, is_end, step, fields_after, field_after}, Reading.NextIs}
+use Rattle.csv.specs.Reading.{ReadRecord, ReadsNext, Ready, default_config, pending_of, reader_trim, records_from, records_next}
+use Rattle.csv.specs.{Reading.source_of, declared.{parser.{Config.Config, State.State}, reader.Reader.Reader, error.Error.Error}}
 use Rattle.csv.specs.declared.parser.State.TheVariants as st
 use Rattle.csv.specs.declared.reader.Trim.TheVariants as trim
 use Rattle.feed_csv.specs.Records.{Finds, IsOver, IsPlain, Takes, rows_left}

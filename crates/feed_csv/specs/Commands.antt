@@ -1,18 +1,16 @@
 -- The command of a record, or the word of its refusal: one rule for each command. A rule takes the fields in the
 -- order of refusals: how many there are, names and kinds, the weight, times, the slot.
 use Rattle.std.specs.Prelude.{◌≡◌, ℕ, ◌+◌, bytes_eq, codes, List, if◌then◌else◌, Result, Ok, Err}
-use Rattle.graph_types.specs.Valid.{IsValid}
-use Rattle.graph_types.specs.declared.batches.NamedOp.TheVariants.{Insert, Incr, Remove, Expire}
-use Rattle.graph_types.specs.declared.requests.NamedFilter.{NamedFilter}
-use Rattle.graph_types.specs.declared.requests.Request.TheVariants.{Levels, Labels, Cores, Degrees, OneEdge}
+use Rattle.graph_types.specs.{Valid.IsValid, declared.batches.NamedOp.TheVariants.{Insert, Incr, Remove, Expire}}
+use Rattle.graph_types.specs.declared.requests.{NamedFilter.NamedFilter, Request.TheVariants.{Levels, Labels, Cores, Degrees}}
+use Rattle.graph_types.specs.declared.requests.Request.TheVariants.{OneEdge}
 use Rattle.feed_csv.specs.Fields.{◌>>=◌, any_kind_at, field, kind_at, name_at, of_length, slot_at, time_at, weight_at}
-use Rattle.feed_csv.specs.Records.{Row}
-use Rattle.feed_csv.specs.declared.command.Command.{Command}
-use Rattle.feed_csv.specs.declared.command.Command.TheVariants.{Op, Commit, OpenSlot, CloseSlot, Query, Stat, Collect, Rebase}
-use Rattle.feed_csv.specs.declared.command.FeedWord.{FeedWord}
-use Rattle.feed_csv.specs.declared.command.FeedWord.TheVariants.{Read, BadCommand, BadFields, BadName, BadWeight, BadTime}
-use Rattle.feed_csv.specs.declared.command.FeedWord.TheVariants.{BadSlot, Memory}
-use Rattle.feed_csv.specs.declared.rules.{EdgeFields.EdgeFields, EdgeNames.EdgeNames}
+use Rattle.feed_csv.specs.{Records.Row, declared.command.Command.{Command, TheVariants.{Op, Commit, OpenSlot, CloseSlot, Query}}}
+use Rattle.feed_csv.specs.declared.command.{Command.TheVariants.{Stat, Collect, Rebase}, FeedWord.{FeedWord, TheVariants.Read}}
+use Rattle.feed_csv.specs.declared.command.FeedWord.TheVariants.{BadCommand, BadFields, BadName, BadWeight, BadTime, BadSlot}
+use Rattle.feed_csv.specs.declared.{command.FeedWord.TheVariants.Memory, rules.{EdgeFields.EdgeFields, EdgeNames.EdgeNames}}
+use Rattle.csv.specs.declared.error.ErrorKind.{ErrorKind}
+use Rattle.csv.specs.declared.error.ErrorKind.TheVariants as kind
 
 -- kind,source,target from a place on
 unfoldable pub names_at : Row → ℕ → Result EdgeNames FeedWord
@@ -193,3 +191,8 @@ Refuses word item = item ≡ Err word
 abbrev pub Gives : {A : Type 0} → Result A FeedWord → Result A FeedWord → Type 0
 Gives (Ok value) item = item ≡ Ok value
 Gives (Err word) item = Refuses word item
+
+-- want of memory has a word of its own, and every other fault is the reader's
+abbrev pub fault_word : ErrorKind → FeedWord
+fault_word kind.OutOfMemory = Memory
+fault_word _ = Read

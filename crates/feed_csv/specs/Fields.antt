@@ -3,9 +3,7 @@ use Rattle.std.specs.Prelude.{ℕ, ℤ, nat_eq, bytes_eq, codes, List, [], lengt
 use Rattle.std.specs.Prelude.{Result, Ok, Err}
 use Rattle.csv.specs.Records.{field_at}
 use Rattle.graph_types.specs.Valid.{is_kind_name, is_name}
-use Rattle.feed_csv.specs.Number.{slot_of, time_of, weight_of}
-use Rattle.feed_csv.specs.Records.{Row}
-use Rattle.feed_csv.specs.declared.command.FeedWord.{FeedWord}
+use Rattle.feed_csv.specs.{Number.{slot_of, time_of, weight_of}, Records.Row, declared.command.FeedWord.FeedWord}
 use Rattle.feed_csv.specs.declared.command.FeedWord.TheVariants.{BadFields, BadName, BadWeight, BadTime, BadSlot}
 
 -- a value, and otherwise the first word of refusal

@@ -3,4 +3,3 @@ pub mod Records
 pub mod Fields
 pub mod Commands
 pub mod Script
-pub mod Faults

@@ -1,8 +1,6 @@
 -- Numbers as a script writes them: decimal digits, the greatest place first.
 use Rattle.std.specs.Prelude.{ℕ, ◌+◌, ◌-◌, ◌*◌, ◌^◌, nat_eq, nat_le, ◌&&◌, ℤ, pos, neg_ℤ, Bool, List, [], ◌∷◌, length, drop}
-use Rattle.std.specs.Prelude.{if◌then◌else◌, Option, Some, None, option_map}
-use Rattle.std.specs.Char.{is_ascii_digit}
-use Rattle.std.specs.List.{list_all, starts_with}
+use Rattle.std.specs.{Prelude.{if◌then◌else◌, Option, Some, None, option_map}, Char.is_ascii_digit, List.{list_all, starts_with}}
 
 -- the number that decimal digits stand for: each counts by its place
 abbrev pub decimal_value : List ℕ → ℕ

@@ -1,8 +1,7 @@
 -- The records of a script, in the words of `csv`, which reads comma-separated values after RFC 4180.
 use Rattle.std.specs.Prelude.{◌≡◌, ℕ, ◌+◌, List, [], ◌∷◌, length, Bool, true, false, Option, Some, None, option_map}
 use Rattle.csv.specs.Reading.{Ready, default_config, has_failed, is_flexible, reader_config, reader_state, reader_trim, records}
-use Rattle.csv.specs.Reading.{records_from, source_of, strip_bom}
-use Rattle.csv.specs.declared.reader.Reader.{Reader}
+use Rattle.csv.specs.{Reading.{records_from, source_of, strip_bom}, declared.reader.Reader.Reader}
 use Rattle.csv.specs.declared.reader.Trim.TheVariants as trim
 -- a feed gives no more records than these
 pub use Rattle.graph_types.specs.Limits.{record_limit}

@@ -1,15 +1,9 @@
 -- A feed, as its callers see it, and what one call of it does.
 use Rattle.std.specs.Prelude.{◌≡◌, ◌⊎◌, ℕ, ◌+◌, ◌<◌, Bool, true, List, Option, Some, None, Result, Ok, Err}
 use Rattle.csv.specs.declared.error.ErrorKind.{ErrorKind}
-use Rattle.feed_csv.specs.Commands.{item_of}
-use Rattle.feed_csv.specs.Faults.{fault_word}
-use Rattle.feed_csv.specs.Records.{IsOver, Row, Takes, record_limit}
-use Rattle.feed_csv.specs.declared.command.Command.{Command}
-use Rattle.feed_csv.specs.declared.command.FeedFault.{FeedFault}
-use Rattle.feed_csv.specs.declared.command.FeedWord.{FeedWord}
-use Rattle.feed_csv.specs.declared.command.FeedWord.TheVariants.{Read, Memory}
-use Rattle.feed_csv.specs.declared.phase.Phase.{Phase}
-use Rattle.feed_csv.specs.declared.phase.Phase.TheVariants.{Reading, Ended, Stopped}
+use Rattle.feed_csv.specs.{Commands.{item_of, fault_word}, Records.{IsOver, Row, Takes, record_limit}}
+use Rattle.feed_csv.specs.declared.command.{Command.Command, FeedFault.FeedFault, FeedWord.{FeedWord, TheVariants.{Read, Memory}}}
+use Rattle.feed_csv.specs.declared.phase.Phase.{Phase, TheVariants.{Reading, Ended, Stopped}}
 
 -- whether records may follow, how many records were given, whether csv's reader has failed, what it then told and the feed
 -- kept, and the records that are left, where the reader's bytes are known

@@ -3,7 +3,7 @@
 ghost use Rattle.std.specs.Prelude.{◌≡◌, ◌+◌, ◌<◌, option_map, true, false, IfOk, IfSome, None};
 ghost use Rattle.csv.specs.Reading.{error_kind};
 ghost use Rattle.feed_csv.specs.Commands.{HasValidOp};
-ghost use Rattle.feed_csv.specs.Faults.{fault_word};
+ghost use Rattle.feed_csv.specs.Commands.{fault_word};
 
 use crate::phase::Phase;
 use crate::row::next_row;

@@ -5,8 +5,7 @@ use Rattle.std.specs.{Prelude.filter, declared.sync.Arc.Arc, declared.alloc.Glob
 use Rattle.graph_types.specs.{View.in_view, declared.ids.Edge.Edge, declared.ids.Filter.Filter}
 use Rattle.edge_block.specs.Slots.{Slot, BlockView, edges_in, entry_in, entries_of}
 use Rattle.edge_block.specs.{Lending.LentEdge, Lending.lent_of, declared.blocks.Block.Block}
-use Rattle.graph_version.specs.Sharing.{block_value, block_values}
-use Rattle.graph_version.specs.Edges.{edge_from, edges_in_block, edges_in_blocks}
+use Rattle.graph_version.specs.{Sharing.{block_value, block_values}, Edges.{edge_from, edges_in_block, edges_in_blocks}}
 use Rattle.graph_cores.specs.Tallies.{passes, shown_block, shown_edges}
 
 -- a lent edge with its source, and several of one source

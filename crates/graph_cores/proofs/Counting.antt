@@ -1,17 +1,13 @@
 -- One edge more in a table of degrees.
-use Rattle.std.proofs.Common.{◌≡◌, ℕ, ◌+◌, ◌<◌, Bool, true, false, cond, List, [], ◌∷◌, ◌++◌, length, map, ℤ, pos}
-use Rattle.std.proofs.Common.{◌+ℤ◌, refl, sym, ap, subst, ◌∙◌, arith}
-use Rattle.std.specs.Prelude.{filter, fold, All}
-use Rattle.std.proofs.lemmas.{Int.ints, List.map-append, List.Sums.sum_by_push, List.Sums.fold-append}
+use Rattle.std.proofs.Common.{◌≡◌, ℕ, ◌+◌, ◌<◌, Bool, true, false, cond, List, [], ◌∷◌, ◌++◌, length, map, ℤ, pos, ◌+ℤ◌, refl}
+use Rattle.std.proofs.{Common.{sym, ap, subst, ◌∙◌, arith}, lemmas.{Int.ints, List.{map-append, Sums.{sum_by_push, fold-append}}}}
 use Rattle.std.proofs.lemmas.List.Elements.{filter-append, All-append, All-cons, All-nil, All-head}
-use Rattle.graph_types.specs.{Graph.entry_of, Graph.stamp_of, Limits.kind_limit, View.leaves, View.enters}
-use Rattle.graph_types.specs.Degrees.{listed_degree, with_edge, CountsEdge, IsWithinLimits}
-use Rattle.graph_types.specs.declared.ids.{Edge.Edge, Degree.Degree, Filter.Filter}
-use Rattle.graph_types.proofs.DegreeBounds.{degree_within}
+use Rattle.std.specs.Prelude.{filter, fold, All}
+use Rattle.graph_types.specs.{Graph.{entry_of, stamp_of}, Limits.kind_limit, View.{leaves, enters}, Degrees.listed_degree}
+use Rattle.graph_types.specs.{Degrees.{with_edge, CountsEdge, IsWithinLimits}, declared.ids.{Edge.Edge, Degree.Degree}}
+use Rattle.graph_types.{specs.declared.ids.Filter.Filter, proofs.{DegreeBounds.degree_within, ListedDegrees.with_shown}}
 use Rattle.edge_block.specs.Slots.{IsStamp}
-use Rattle.graph_cores.specs.Tallies.{passes, HasRoomFor, Counts}
-use Rattle.graph_cores.proofs.Parts.{first_edges, All-right}
-use Rattle.graph_types.proofs.ListedDegrees.{with_shown}
+use Rattle.graph_cores.{specs.Tallies.{passes, HasRoomFor, Counts}, proofs.Parts.{first_edges, All-right}}
 
 -- the sum of the weights of listed edges
 abbrev weight_sum : List Edge → ℤ

@@ -1,13 +1,11 @@
 -- What taking a neighbor from each listed vertex does.
 use Rattle.std.proofs.Common.{◌≡◌, ℕ, ◌+◌, ◌-◌, ◌<◌, ◌≤◌, suc, arith, refl, sym, ap, ◌∙◌, subst, inl, inr, List, [], ◌∷◌, ◌++◌}
-use Rattle.std.proofs.Common.{length, set, cond, true, false, Bool}
-use Rattle.std.specs.{Prelude.◌==◌, Prelude.All, Prelude.sum, List.Contains}
-use Rattle.std.proofs.lemmas.Bool.{cases_eq, Decides.Decides-eqb}
+use Rattle.std.proofs.{Common.{length, set, cond, true, false, Bool}, lemmas.Bool.{cases_eq, Decides.Decides-eqb}}
 use Rattle.std.proofs.lemmas.List.{get_or-set_same, get_or-set_other, length-set, length-append, Sums.sum_by-set}
 use Rattle.std.proofs.lemmas.List.Elements.{All-weaker, All-push, All-tail, Contains-push, Contains-append_left}
+use Rattle.std.specs.{Prelude.◌==◌, Prelude.All, Prelude.sum, List.Contains}
 use Rattle.graph_types.specs.Arcs.{at}
-use Rattle.graph_cores.specs.Peel.{lowered}
-use Rattle.graph_cores.proofs.Times.{times, times_yes, times_no}
+use Rattle.graph_cores.{specs.Peel.lowered, proofs.Times.{times, times_yes, times_no}}
 
 abbrev less : List ℕ → ℕ → List ℕ
 less ds w = set ds w (at ds w - 1)

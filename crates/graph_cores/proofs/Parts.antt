@@ -1,10 +1,8 @@
 -- Parts of lists of edges, and what is left to count.
 use Rattle.std.proofs.Common.{◌≡◌, ◌≢◌, ℕ, true, ◌+◌, ◌<◌, List, [], ◌++◌, length, get_or, append_assoc, append-nil}
-use Rattle.std.proofs.Common.{length-append, sym, ap, ◌∙◌, subst, arith}
+use Rattle.std.proofs.{Common.{length-append, sym, ap, ◌∙◌, subst, arith}, lemmas.List.{get_or_append_left, get_or-append-add}}
 use Rattle.std.specs.Prelude.{All, AllPairs}
-use Rattle.std.proofs.lemmas.List.{get_or_append_left, get_or-append-add}
-use Rattle.graph_types.specs.{declared.ids.Degree.Degree, declared.ids.Edge.Edge, declared.ids.Filter.Filter, Graph.key_of}
-use Rattle.graph_types.specs.Limits.{kind_limit}
+use Rattle.graph_types.specs.{declared.ids.{Degree.Degree, Edge.Edge, Filter.Filter}, Graph.key_of, Limits.kind_limit}
 use Rattle.graph_cores.specs.Tallies.{passes, IsCounted, AreViewEdges, HasRoomFor, Counts}
 
 module _ {X : Type 0} where

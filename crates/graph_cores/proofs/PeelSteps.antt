@@ -1,18 +1,15 @@
 -- Steps of peeling.
 use Rattle.std.proofs.Common.{◌≡◌, ◌≢◌, ℕ, ◌+◌, ◌<◌, ◌≤◌, arith, refl, sym, ap, ◌∙◌, subst, ◌⊎◌, inl, inr, List, [], ◌∷◌, ◌++◌}
-use Rattle.std.proofs.Common.{length, get_or, set, true, false, Bool}
-use Rattle.std.specs.Prelude.{IsTrue, All, count_by, filter, nat_le, nat_lt, ◌&&◌, replicate}
-use Rattle.std.specs.List.{Contains}
-use Rattle.std.proofs.lemmas.Bool.{cases_eq, cases_Bool, cases_lt, Decides.nat_tests}
-use Rattle.std.proofs.lemmas.List.{get_or-set_same, get_or-set_other, get_or_default, get_or_append_left, length-append}
-use Rattle.std.proofs.lemmas.List.{length-set, length-replicate, get_or-replicate, get_or_past, Sums.length-filter}
+use Rattle.std.proofs.{Common.{length, get_or, set, true, false, Bool}, lemmas.Bool.{cases_eq, cases_Bool, cases_lt}}
+use Rattle.std.proofs.lemmas.{Bool.Decides.nat_tests, List.{get_or-set_same, get_or-set_other, get_or_default}}
+use Rattle.std.proofs.lemmas.List.{get_or_append_left, length-append, length-set, length-replicate, get_or-replicate, get_or_past}
+use Rattle.std.proofs.lemmas.List.{Sums.length-filter, Kept.AllPairs-filter, Elements.{filter_passes, All-weaker, All-contains}}
+use Rattle.std.proofs.lemmas.List.Elements.{All-tail, Contains-get_or, Contains-push, Contains-append_cases}
 use Rattle.std.proofs.lemmas.Option.{get_or_from_slice_get, slice_get_within}
-use Rattle.std.proofs.lemmas.List.{Kept.AllPairs-filter, Elements.filter_passes, Elements.All-weaker}
-use Rattle.std.proofs.lemmas.List.Elements.{All-contains, All-tail, Contains-get_or, Contains-push, Contains-append_cases}
-use Rattle.graph_types.specs.{Graph.Graph, Analyses.IsTable, Analyses.Joins, Analyses.IsCoreNumber, Arcs.AreNeighbors, Arcs.at}
-use Rattle.graph_types.specs.declared.ids.Filter.{Filter}
-use Rattle.graph_types.proofs.Counts.{Contains-cons_cases, Contains-nil, Contains-cons, count_yes, contains_filter}
-use Rattle.graph_types.proofs.Counts.{filter_contains, passing_length}
+use Rattle.std.specs.{Prelude.{IsTrue, All, count_by, filter, nat_le, nat_lt, ◌&&◌, replicate}, List.Contains}
+use Rattle.graph_types.specs.{Graph.Graph, Analyses.{IsTable, Joins, IsCoreNumber}, Arcs.{AreNeighbors, at}}
+use Rattle.graph_types.{specs.declared.ids.Filter.Filter, proofs.Counts.{Contains-cons_cases, Contains-nil, Contains-cons}}
+use Rattle.graph_types.proofs.Counts.{count_yes, contains_filter, filter_contains, passing_length}
 use Rattle.graph_cores.specs.Peel.{is_alive, lowered, IsPeeling, IsBetween, is_low, is_high}
 use Rattle.graph_cores.proofs.Times.{times, has_times, times_has, apart_times, count_taken}
 use Rattle.graph_cores.proofs.Lowered.{lowered_at, lowered_keeps, lowered_pushes, lowered_low}

@@ -1,9 +1,9 @@
 -- How often a number is listed, and how many of a list are left.
 use Rattle.std.proofs.Common.{◌≡◌, ◌≢◌, ℕ, ◌+◌, ◌<◌, ◌≤◌, arith, refl, ap, ◌∙◌, inl, inr, List, [], ◌∷◌, length, set, true, false}
 use Rattle.std.proofs.{Common.Bool, lemmas.List.get_or-set_same, lemmas.List.get_or-set_other, lemmas.List.Elements.All-contains}
-use Rattle.std.specs.{Prelude.◌==◌, Prelude.All, Prelude.AllPairs, Prelude.count_by, List.Contains, List.range_with_len}
 use Rattle.std.proofs.lemmas.Bool.{cases_eq, cases_Bool, cases_lt, Decides.Decides-eqb}
 use Rattle.std.proofs.lemmas.List.FromFn.{length-range_with_len, get_or-range_with_len}
+use Rattle.std.specs.{Prelude.◌==◌, Prelude.All, Prelude.AllPairs, Prelude.count_by, List.Contains, List.range_with_len}
 use Rattle.graph_types.proofs.Counts.{Contains-cons_cases, Contains-nil, Contains-first, Contains-cons, apart_tail, apart_head}
 use Rattle.graph_types.proofs.Counts.{count_yes, count_no, sub_length}
 use Rattle.graph_cores.specs.Peel.{is_alive}

@@ -1,23 +1,19 @@
 -- The edges of all rows: those of the view of the content, each once, and the degrees over them.
-use Rattle.std.proofs.Common.{◌≡◌, ◌≢◌, ℕ, zero, suc, ◌+◌, ◌<◌, ◌≤◌, Bool, true}
-use Rattle.std.proofs.Common.{false, cond, ◌&&◌, eqb, ◌-◌, List, [], ◌∷◌, ◌++◌, length, get_or, map, pos, ◌+ℤ◌, append_assoc}
-use Rattle.std.proofs.Common.{append-nil, refl, sym, ap, ◌∙◌, subst, arith, inl, inr, Option, None, Some, true≢false}
-use Rattle.std.specs.{Prelude.filter, Prelude.fold, Prelude.count_by, Prelude.All, Option.is_some, FinMap.get, FinMap.entries}
-use Rattle.std.{specs.List.Contains, specs.List.range_with_len, specs.List.list_all, proofs.lemmas.Bool.cases_lt}
-use Rattle.std.proofs.lemmas.{Grind.flat_map-append, List.get_or_past, List.Elements.filter-append, List.Elements.filter_passes}
-use Rattle.std.proofs.lemmas.List.{Elements.All-filter, FromFn.get_or-map-range_with_len, FromFn.length-map-range_with_len}
-use Rattle.std.proofs.lemmas.List.{FromFn.map-range_with_len_more, FromFn.fill_by_all, Kept.AllPairs-filter, Sums.length-filter}
-use Rattle.graph_types.specs.{Graph.Graph, Graph.key_of, Limits.kind_limit, View.leaves, View.enters, Degrees.listed_degree}
-use Rattle.graph_types.specs.{Answer.degree_at, Answer.degree_table, declared.ids.Degree.Degree, declared.ids.Edge.Edge}
-use Rattle.graph_types.{specs.declared.ids.Filter.Filter, proofs.Keys.get_listed}
-use Rattle.graph_types.proofs.{Counts.Contains-first, Arcs.contains_map, Folds.count_entries, Folds.weight_entries}
+use Rattle.std.proofs.Common.{◌≡◌, ◌≢◌, ℕ, zero, suc, ◌+◌, ◌<◌, ◌≤◌, Bool, true, false, cond, ◌&&◌, eqb, ◌-◌, List, [], ◌∷◌, ◌++◌}
+use Rattle.std.proofs.Common.{length, get_or, map, pos, ◌+ℤ◌, append_assoc, append-nil, refl, sym, ap, ◌∙◌, subst, arith, inl}
+use Rattle.std.proofs.{Common.{inr, Option, None, Some, true≢false}, lemmas.{Grind.flat_map-append, List.get_or_past}}
+use Rattle.std.proofs.lemmas.List.{Elements.{filter-append, filter_passes, All-filter}, FromFn.get_or-map-range_with_len}
+use Rattle.std.proofs.lemmas.List.{FromFn.{length-map-range_with_len, map-range_with_len_more, fill_by_all}, Kept.AllPairs-filter}
+use Rattle.std.{proofs.lemmas.{List.Sums.length-filter, Bool.cases_lt}, specs.Prelude.{filter, fold, count_by, All}}
+use Rattle.std.specs.{Option.is_some, FinMap.{get, entries}, List.{Contains, range_with_len, list_all}}
+use Rattle.graph_types.specs.{Graph.{Graph, key_of}, Limits.kind_limit, View.{leaves, enters}, Degrees.listed_degree}
+use Rattle.graph_types.specs.{Answer.{degree_at, degree_table}, declared.ids.{Degree.Degree, Edge.Edge, Filter.Filter}}
+use Rattle.graph_types.proofs.{Keys.get_listed, Counts.Contains-first, Arcs.contains_map, Folds.{count_entries, weight_entries}}
 use Rattle.edge_block.specs.Slots.{Slot, BlockView, is_free, edges_in, entry_in}
-use Rattle.graph_version.specs.Rows.{row_of, blocks_of}
-use Rattle.graph_version.specs.{Versions.VersionView, Versions.content, Versions.IsVersion, Versions.IsBlockOf, Edges.AreEachOnce}
-use Rattle.graph_version.{specs.Edges.edges_in_blocks, proofs.Shown.rows_each_once, proofs.Totals.same_blocks}
+use Rattle.graph_version.specs.{Rows.{row_of, blocks_of}, Versions.{VersionView, content, IsVersion, IsBlockOf}}
+use Rattle.graph_version.{specs.Edges.{AreEachOnce, edges_in_blocks}, proofs.{Shown.rows_each_once, Totals.same_blocks}}
 use Rattle.graph_version.proofs.{Members.in_rows, Rows.stands}
-use Rattle.graph_cores.specs.Tallies.{passes, shown_edges, IsCounted, AreViewEdges}
-use Rattle.graph_cores.proofs.Parts.{first_edges}
+use Rattle.graph_cores.{specs.Tallies.{passes, shown_edges, IsCounted, AreViewEdges}, proofs.Parts.first_edges}
 
 -- Degrees over the edges shown are those over the content
 

@@ -1,9 +1,6 @@
 -- Links: pairs of different vertices that an edge of a view joins, both ways.
-use Rattle.std.specs.Prelude.{◌≡◌, ◌≢◌, ◌⊎◌, ◌↔◌, ℕ, List}
-use Rattle.std.specs.List.{Contains}
-use Rattle.graph_types.specs.Graph.{Graph}
-use Rattle.graph_types.specs.Analyses.{Joins}
-use Rattle.graph_types.specs.declared.ids.Filter.{Filter}
+use Rattle.std.specs.{Prelude.{◌≡◌, ◌≢◌, ◌⊎◌, ◌↔◌, ℕ, List}, List.Contains}
+use Rattle.graph_types.specs.{Graph.Graph, Analyses.Joins, declared.ids.Filter.Filter}
 
 -- each two different vertices that an edge of the view joins, both ways, as often as may be
 abbrev pub AreLinks : Filter → Graph → List (ℕ × ℕ) → Type 0

@@ -1,11 +1,7 @@
 -- Peeling: vertices are taken out, those with fewest neighbors first.
 use Rattle.std.specs.Prelude.{◌≡◌, ℕ, ◌+◌, ◌-◌, ◌<◌, ◌≤◌, ◌==◌, List, [], ◌∷◌, ◌++◌, slice_index_or, slice_set, Bool, false, cond}
-use Rattle.std.specs.Prelude.{IsTrue, All, count_by, ◌&&◌, nat_le, nat_lt}
-use Rattle.std.specs.List.{Contains}
-use Rattle.graph_types.specs.Graph.{Graph}
-use Rattle.graph_types.specs.Analyses.{IsDense, IsCoreNumber}
-use Rattle.graph_types.specs.Arcs.{at}
-use Rattle.graph_types.specs.declared.ids.Filter.{Filter}
+use Rattle.std.specs.{Prelude.{IsTrue, All, count_by, ◌&&◌, nat_le, nat_lt}, List.Contains}
+use Rattle.graph_types.specs.{Graph.Graph, Analyses.{IsDense, IsCoreNumber}, Arcs.at, declared.ids.Filter.Filter}
 
 -- whether v is left
 abbrev pub is_alive : List Bool → ℕ → Bool

@@ -1,12 +1,7 @@
 -- Degrees over the edges of a view in blocks, counted one after another.
 use Rattle.std.specs.Prelude.{◌≡◌, ◌≢◌, ℕ, ℤ, ◌≤◌, ◌<◌, ◌++◌, List, length, filter, Bool, true, All, AllPairs}
-use Rattle.graph_types.specs.Graph.{key_of, stamp_of, entry_of}
-use Rattle.graph_types.specs.Limits.{name_limit, kind_limit}
-use Rattle.graph_types.specs.View.{in_view}
-use Rattle.graph_types.specs.Degrees.{IsTally}
-use Rattle.graph_types.specs.declared.ids.Degree.{Degree}
-use Rattle.graph_types.specs.declared.ids.Edge.{Edge}
-use Rattle.graph_types.specs.declared.ids.Filter.{Filter}
+use Rattle.graph_types.specs.{Graph.{key_of, stamp_of, entry_of}, Limits.{name_limit, kind_limit}, View.in_view, Degrees.IsTally}
+use Rattle.graph_types.specs.declared.ids.{Degree.Degree, Edge.Edge, Filter.Filter}
 use Rattle.edge_block.specs.Slots.{BlockView, IsStamp}
 use Rattle.graph_version.specs.Edges.{edges_in_block, edges_in_blocks}
 

@@ -1,17 +1,15 @@
 -- Steps of a search by frontiers.
 use Rattle.std.proofs.Common.{◌≡◌, ℕ, ◌+◌, ◌<◌, ◌≤◌, zero, suc, arith, refl, sym, ap, ◌∙◌, subst, ◌⊎◌, inl, inr, List, [], ◌∷◌}
 use Rattle.std.proofs.Common.{◌++◌, length, set, drop, get_or, not, Option, Some, None, cond, true, false, Bool}
-use Rattle.std.specs.{Prelude.All, Prelude.replicate, List.Contains}
-use Rattle.std.proofs.lemmas.{Bool.cases_eq, Bool.cases_lt, Option.get_or_from_slice_get}
-use Rattle.std.proofs.lemmas.List.{get_or-set_same, get_or-set_other, get_or_past, length-append, length-replicate}
-use Rattle.std.proofs.lemmas.List.{get_or-replicate, Elements.All-tail}
-use Rattle.graph_types.specs.{Graph.Graph, Analyses.LeadsTo, Analyses.Walk, Analyses.IsLevel, Analyses.IsTable}
-use Rattle.graph_types.specs.declared.ids.Filter.{Filter}
+use Rattle.std.proofs.lemmas.{Bool.{cases_eq, cases_lt}, Option.get_or_from_slice_get, List.{get_or-set_same, get_or-set_other}}
+use Rattle.std.proofs.lemmas.List.{get_or_past, length-append, length-replicate, get_or-replicate, Elements.All-tail}
+use Rattle.std.proofs.lemmas.List.Elements.{All-weaker, All-push, All-nil, All-cons, Contains-push, Contains-append_left}
+use Rattle.std.{proofs.lemmas.List.Elements.All-contains, specs.{Prelude.{All, replicate}, List.Contains}}
+use Rattle.graph_types.specs.{Graph.Graph, Analyses.{LeadsTo, Walk, IsLevel, IsTable}, declared.ids.Filter.Filter}
+use Rattle.graph_types.specs.declared.ids.VertexId.{VertexId}
 use Rattle.graph_levels.specs.Search.{has_none, level_of, HasLevel, IsReached, IsSearch}
 use Rattle.graph_levels.specs.Reached.{met, stands_in, table_of, vertices_of}
 use Rattle.graph_levels.proofs.Tables.{asked, front_long, length-table, levelled, table_push, vertices_push}
-use Rattle.graph_types.specs.declared.ids.VertexId.{VertexId}
-use Rattle.std.proofs.lemmas.List.Elements.{All-weaker, All-push, All-nil, All-cons, Contains-push, Contains-append_left, All-contains}
 
 none_of : (o : Option ℕ) → has_none o ≡ true → o ≡ None
 none_of None h = refl

@@ -1,15 +1,11 @@
 -- Marks that are set.
-use Rattle.std.proofs.Common.{◌≡◌, ◌≢◌, ◌↔◌, ℕ, ◌*◌, ◌/◌, ◌%◌, ◌^◌, ◌<◌, List, [], ◌∷◌, ◌++◌, length, set, get_or}
-use Rattle.std.proofs.Common.{arith, inl, inr, refl, sym, ap, ◌∙◌, subst, Bool, true, false, ◌||◌}
-use Rattle.std.specs.Prelude.{IsTrue, replicate}
-use Rattle.std.specs.Int.{w64, bit_at, RustNames.bit_or}
-use Rattle.std.proofs.lemmas.{Bool.cases_eq, Bool.cases_lt, Bool.false≢true, Bool.Decides.eqb_tells}
-use Rattle.std.proofs.lemmas.Nat.Bits.{bit_at_set_same, bit_at_set_other, bit_at-zero}
+use Rattle.std.proofs.Common.{◌≡◌, ◌≢◌, ◌↔◌, ℕ, ◌*◌, ◌/◌, ◌%◌, ◌^◌, ◌<◌, List, [], ◌∷◌, ◌++◌, length, set, get_or, arith, inl}
+use Rattle.std.proofs.{Common.{inr, refl, sym, ap, ◌∙◌, subst, Bool, true, false, ◌||◌}, lemmas.Bool.{cases_eq, cases_lt}}
+use Rattle.std.proofs.lemmas.{Bool.{false≢true, Decides.eqb_tells}, Nat.Bits.{bit_at_set_same, bit_at_set_other, bit_at-zero}}
 use Rattle.std.proofs.lemmas.List.{get_or-set_same, get_or-set_other, get_or-replicate, get_or_past, length-replicate}
+use Rattle.std.specs.{Prelude.{IsTrue, replicate}, Int.{w64, bit_at, RustNames.bit_or}}
 use Rattle.graph_types.specs.declared.ids.VertexId.{VertexId}
-use Rattle.graph_levels.specs.Marks.{AreMarks, IsMarked}
-use Rattle.graph_levels.specs.Reached.{stands_in}
-use Rattle.graph_levels.proofs.Tables.{stands_push}
+use Rattle.graph_levels.{specs.{Marks.{AreMarks, IsMarked}, Reached.stands_in}, proofs.Tables.stands_push}
 
 -- the word with a bit more
 abbrev pub with_bit : ℕ → ℕ → ℕ

@@ -1,24 +1,19 @@
 -- Rows of vertices, and the table that they make.
-use Rattle.std.proofs.Common.{◌≡◌, ℕ, ◌+◌, ◌<◌, ◌≤◌, zero, suc, arith, refl, sym, ap, ◌∙◌, subst, List, [], ◌∷◌, inl, inr}
-use Rattle.std.proofs.Common.{◌++◌, ◌&&◌, ◌||◌, ◌≢◌, ◌⊎◌, length, drop, set, get_or, drop-cons, add-one, Option, Some, None, cond, true, false, Bool, not}
-use Rattle.std.specs.Prelude.{All, fold, nat_eq, replicate}
-use Rattle.graph_types.proofs.Counts.{Contains-cons, Contains-cons_cases, Contains-first}
-use Rattle.graph_types.proofs.Arcs.{contains_map}
-use Rattle.std.specs.{List.AllPairs, List.Contains, List.IsDistinct, List.list_any, Cmp.nat_eq_equiv}
-use Rattle.std.proofs.lemmas.{Bool.cases_eq, Bool.cases_lt, Bool.Decides.eqb_tells, Map.Keys.IsDistinct-push}
-use Rattle.std.proofs.lemmas.Map.Steps.{length-le_from_distinct_below}
-use Rattle.std.proofs.lemmas.{Bool.Decides.Decides-eqb, Map.Made.AllPairs-from_IsDistinct, Map.Keys.IsDistinct-IsPermutation}
-use Rattle.std.proofs.lemmas.{Map.Keys.IsStrictlyIncreasing-from_distinct, List.Kept.AllPairs-from_increasing}
-use Rattle.std.proofs.lemmas.List.Sorted.{Contains-permutation, IsPermutation-map, IsPermutation-sym}
-use Rattle.std.proofs.Math.Seq.{drop-append_seam}
-use Rattle.std.specs.List.Sorted.{IsNonDecreasing, IsNonDecreasingBy, IsPermutation}
-use Rattle.std.proofs.lemmas.List.{get_or-set_same, get_or-set_other, length-set, length-append, length-replicate, get_or-replicate}
-use Rattle.std.proofs.lemmas.List.{append-nil, append_assoc, length-map, get_or-map, get_or_append_left, get_or_past, Folds.list_any_none, Folds.list_any-append, Elements.All-weaker}
-use Rattle.std.proofs.lemmas.List.{drop-append-le, map-append, Sums.fold-append, Elements.All-tail, Elements.All-push, Elements.All-contains}
-use Rattle.std.proofs.lemmas.List.{drop_all, Elements.All-cons, Elements.All-nil}
+use Rattle.std.proofs.Common.{◌≡◌, ℕ, ◌+◌, ◌<◌, ◌≤◌, zero, suc, arith, refl, sym, ap, ◌∙◌, subst, List, [], ◌∷◌, inl, inr, ◌++◌}
+use Rattle.std.proofs.Common.{◌&&◌, ◌||◌, ◌≢◌, ◌⊎◌, length, drop, set, get_or, drop-cons, add-one, Option, Some, None, cond, true}
+use Rattle.std.proofs.{Common.{false, Bool, not}, lemmas.Bool.{cases_eq, cases_lt, Decides.{eqb_tells, Decides-eqb}}}
+use Rattle.std.proofs.lemmas.Map.Keys.{IsDistinct-push, IsDistinct-IsPermutation, IsStrictlyIncreasing-from_distinct}
+use Rattle.std.proofs.lemmas.{Map.{Steps.length-le_from_distinct_below, Made.AllPairs-from_IsDistinct}, List.get_or-set_same}
+use Rattle.std.proofs.lemmas.List.{get_or-set_other, length-set, length-append, length-replicate, get_or-replicate, append-nil}
+use Rattle.std.proofs.lemmas.List.{append_assoc, length-map, get_or-map, get_or_append_left, get_or_past, drop-append-le}
+use Rattle.std.proofs.lemmas.List.{map-append, drop_all, Kept.AllPairs-from_increasing, Sorted.Contains-permutation}
+use Rattle.std.proofs.lemmas.List.{Sorted.{IsPermutation-map, IsPermutation-sym}, Folds.{list_any_none, list_any-append}}
+use Rattle.std.proofs.lemmas.List.{Elements.{All-weaker, All-tail, All-push, All-contains, All-cons, All-nil}, Sums.fold-append}
+use Rattle.std.{proofs.Math.Seq.drop-append_seam, specs.{Prelude.{All, fold, nat_eq, replicate}, List.{AllPairs, Contains}}}
+use Rattle.std.specs.{List.{IsDistinct, list_any, Sorted.{IsNonDecreasing, IsNonDecreasingBy, IsPermutation}}, Cmp.nat_eq_equiv}
+use Rattle.graph_types.proofs.{Counts.{Contains-cons, Contains-cons_cases, Contains-first}, Arcs.contains_map}
 use Rattle.graph_types.specs.declared.ids.VertexId.{VertexId}
-use Rattle.graph_levels.specs.Search.{has_none, level_of}
-use Rattle.graph_levels.specs.Reached.{AreRows, met, rows_from, stands_in, table_of, vertices_of}
+use Rattle.graph_levels.specs.{Search.{has_none, level_of}, Reached.{AreRows, met, rows_from, stands_in, table_of, vertices_of}}
 
 -- a table with the levels of rows, one after another
 abbrev pub filled : List (Option ℕ) → List (VertexId × ℕ) → List (Option ℕ)

@@ -1,12 +1,9 @@
 -- Changes of trees that keep what they say.
-use Rattle.std.proofs.Common.{◌≡◌, ℕ, ◌+◌, ◌<◌, ◌≤◌, arith, sym, ap, ◌∙◌, subst, inl, inr, List, length, get_or, set}
-use Rattle.std.proofs.{Common.[], lemmas.Bool.cases_eq, lemmas.Bool.cases_lt}
-use Rattle.std.proofs.lemmas.List.{get_or-set_same, get_or-set_other, get_or_default, get_or_past}
-use Rattle.std.specs.List.{range_with_len}
-use Rattle.std.proofs.lemmas.List.FromFn.{length-range_with_len, get_or-range_with_len}
+use Rattle.std.proofs.Common.{◌≡◌, ℕ, ◌+◌, ◌<◌, ◌≤◌, arith, sym, ap, ◌∙◌, subst, inl, inr, List, length, get_or, set, []}
+use Rattle.std.proofs.lemmas.{Bool.{cases_eq, cases_lt}, List.{get_or-set_same, get_or-set_other, get_or_default, get_or_past}}
+use Rattle.std.{proofs.lemmas.List.FromFn.{length-range_with_len, get_or-range_with_len}, specs.List.range_with_len}
 use Rattle.graph_types.specs.{Graph.Graph, Analyses.Connects, declared.ids.Filter.Filter}
-use Rattle.graph_levels.specs.Forest.{parent, IsForest, IsSound, Respects}
-use Rattle.graph_levels.proofs.Walks.{itself, then}
+use Rattle.graph_levels.{specs.Forest.{parent, IsForest, IsSound, Respects}, proofs.Walks.{itself, then}}
 
 -- a read of a place within
 pub read : (ps : List ℕ) (v : ℕ) → v < length ps → get_or ps v 0 ≡ parent ps v

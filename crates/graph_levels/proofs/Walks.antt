@@ -1,9 +1,8 @@
 -- Walks in either direction, and tables that are labels.
 use Rattle.std.proofs.Common.{◌≡◌, ℕ, ◌≤◌, zero, suc, arith, refl, sym, ap, ◌∙◌, subst, inl, inr, List, length}
 use Rattle.std.proofs.lemmas.Option.{get_or_from_slice_get}
-use Rattle.graph_types.specs.{Graph.Graph, declared.ids.Filter.Filter}
-use Rattle.graph_types.specs.Analyses.{LeadsTo, Joins, Walk, Connects, IsLabel, IsTable}
-use Rattle.graph_types.proofs.Walks.{joined, back}
+use Rattle.graph_types.specs.{Graph.Graph, declared.ids.Filter.Filter, Analyses.{LeadsTo, Joins, Walk, Connects, IsLabel}}
+use Rattle.graph_types.{specs.Analyses.IsTable, proofs.Walks.{joined, back}}
 use Rattle.graph_levels.specs.Forest.{parent, IsForest, IsSound}
 
 module _ (f : Filter) (g : Graph) where

@@ -1,8 +1,6 @@
 -- Trees of vertices: each vertex has a parent that is no greater, and a root is its own parent.
 use Rattle.std.specs.Prelude.{ℕ, List, ◌≡◌, ◌≤◌, slice_index_or}
-use Rattle.graph_types.specs.Graph.{Graph}
-use Rattle.graph_types.specs.Analyses.{Connects}
-use Rattle.graph_types.specs.declared.ids.Filter.{Filter}
+use Rattle.graph_types.specs.{Graph.Graph, Analyses.Connects, declared.ids.Filter.Filter}
 
 -- the parent of v, and v past the end
 abbrev pub parent : List ℕ → ℕ → ℕ

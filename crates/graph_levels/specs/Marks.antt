@@ -1,6 +1,5 @@
 -- Marks of vertices, one bit each, 64 in a word.
-use Rattle.std.specs.Prelude.{◌≡◌, ◌↔◌, ℕ, ◌/◌, ◌%◌, List, slice_index_or, IsTrue}
-use Rattle.std.specs.Int.{bit_at}
+use Rattle.std.specs.{Prelude.{◌≡◌, ◌↔◌, ℕ, ◌/◌, ◌%◌, List, slice_index_or, IsTrue}, Int.bit_at}
 use Rattle.graph_types.specs.declared.ids.VertexId.{VertexId}
 use Rattle.graph_levels.specs.Reached.{stands_in}
 

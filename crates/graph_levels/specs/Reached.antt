@@ -1,11 +1,7 @@
 -- Rows of the vertices that were reached, each with its level.
 use Rattle.std.specs.Prelude.{◌≡◌, ℕ, ◌+◌, ◌<◌, nat_eq, List, [], ◌∷◌, ◌++◌, All, Bool, cond, Option, Some, None, fold, map}
-use Rattle.std.specs.Prelude.{replicate, slice_set}
-use Rattle.std.specs.List.{IsDistinct, list_any}
-use Rattle.graph_types.specs.Graph.{Graph}
-use Rattle.graph_types.specs.Analyses.{AreLevels}
-use Rattle.graph_types.specs.declared.ids.Filter.{Filter}
-use Rattle.graph_types.specs.declared.ids.VertexId.{VertexId}
+use Rattle.std.specs.{Prelude.{replicate, slice_set}, List.{IsDistinct, list_any}}
+use Rattle.graph_types.specs.{Graph.Graph, Analyses.AreLevels, declared.ids.{Filter.Filter, VertexId.VertexId}}
 
 abbrev pub vertices_of : List (VertexId × ℕ) → List ℕ
 vertices_of rows = map (λ row. row.0.0) rows

@@ -1,9 +1,7 @@
 -- A search by frontiers, as it goes on.
 use Rattle.std.specs.Prelude.{◌≡◌, ℕ, ◌+◌, ◌≤◌, List, slice_index_or, Option, Some, None, All, ◌⊎◌, Bool, true, false}
 use Rattle.std.specs.List.{Contains}
-use Rattle.graph_types.specs.Graph.{Graph}
-use Rattle.graph_types.specs.Analyses.{LeadsTo, Walk}
-use Rattle.graph_types.specs.declared.ids.Filter.{Filter}
+use Rattle.graph_types.specs.{Graph.Graph, Analyses.{LeadsTo, Walk}, declared.ids.Filter.Filter}
 
 abbrev pub has_none : Option ℕ → Bool
 has_none None = true

@@ -1,19 +1,16 @@
 -- Names put in, and refusals that stay what they are where a vertex is asked for as well.
 use Rattle.std.proofs.Common.{◌≡◌, ℕ, ◌+◌, ◌<◌, Bool, true, false, List, [], ◌∷◌, ◌++◌, length, get_or, take, Option, Some, None}
-use Rattle.std.proofs.Common.{not, subst, refl, sym, ap, ◌∙◌, arith}
-use Rattle.std.specs.Prelude.{All, zip, Ok, position, bytes_eq, nat_lt}
-use Rattle.std.specs.{List.filter_map, Option.option_to_list}
-use Rattle.std.proofs.lemmas.List.{Elements.filter_map-append, get_or-map, length-map, get_or_default}
-use Rattle.std.proofs.lemmas.Option.{slice_get-get_or}
+use Rattle.std.proofs.{Common.{not, subst, refl, sym, ap, ◌∙◌, arith}, lemmas.List.{get_or-map, length-map, get_or_default}}
+use Rattle.std.proofs.lemmas.{List.Elements.filter_map-append, Option.slice_get-get_or}
+use Rattle.std.specs.{Prelude.{All, zip, Ok, position, bytes_eq, nat_lt}, List.filter_map, Option.option_to_list}
 use Rattle.graph_types.specs.{Graph.Graph, Graph.graph_of, Analyses.AreLevels, Analyses.AreLabels, Analyses.AreCoreNumbers}
 use Rattle.graph_types.specs.Answer.{IsAnswer, first_refusal, filter_refusal, is_listed, is_kind_listed, resolved, reached}
 use Rattle.graph_types.specs.{Answer.names_of, Answer.level_row, declared.ids.Filter.Filter, declared.contents.Content.Content}
 use Rattle.graph_types.specs.declared.requests.{NamedFilter.NamedFilter, AskError.AskError, AskError.TheVariants.NoVertex}
 use Rattle.graph_types.specs.declared.requests.Request.TheVariants.{Levels as AskLevels, Labels as AskLabels, Cores as AskCores}
 use Rattle.graph_types.specs.declared.requests.Reply.TheVariants.{Levels, Labels, Cores}
-use Rattle.graph_types.proofs.NameNumbers.{place_some, place_number}
+use Rattle.graph_types.proofs.{NameNumbers.{place_some, place_number}, More.kept_row}
 use Rattle.graph_model.proofs.ZippedRows.{next_row}
-use Rattle.graph_types.proofs.More.{kept_row}
 
 -- a label is a vertex, as it is at most the vertex that has it
 pub labels_below : (f : Filter) (g : Graph) (labels : List ℕ) → AreLabels f g labels

@@ -1,10 +1,9 @@
 -- A table of degrees, one edge after another, and what it is at the end.
-use Rattle.std.proofs.Common.{◌≡◌, ℕ, ◌+◌, ◌<◌, ◌≤◌, Bool, true, false, cond, List, [], ◌∷◌, ◌++◌, length, get_or}
-use Rattle.std.proofs.Common.{take, replicate, map, pos, ◌+ℤ◌, refl, sym, ap, subst, ◌∙◌, arith}
+use Rattle.std.proofs.Common.{◌≡◌, ℕ, ◌+◌, ◌<◌, ◌≤◌, Bool, true, false, cond, List, [], ◌∷◌, ◌++◌, length, get_or, take}
+use Rattle.std.proofs.{Common.{replicate, map, pos, ◌+ℤ◌, refl, sym, ap, subst, ◌∙◌, arith}, lemmas.{Int.ints, List.map-append}}
+use Rattle.std.proofs.lemmas.List.{get_or-replicate, length-replicate, get_or-take, length-take, take_more, take_all}
+use Rattle.std.proofs.lemmas.List.{FromFn.fill_by_all, Elements.{filter-append, All-take}, Sums.{sum_by_push, fold-append}}
 use Rattle.std.specs.Prelude.{filter, fold, All}
-use Rattle.std.proofs.lemmas.{Int.ints, List.FromFn.fill_by_all}
-use Rattle.std.proofs.lemmas.List.{map-append, get_or-replicate, length-replicate, get_or-take, length-take, take_more, take_all}
-use Rattle.std.proofs.lemmas.List.{Elements.filter-append, Elements.All-take, Sums.sum_by_push, Sums.fold-append}
 use Rattle.graph_types.specs.Graph.{graph_of, key_of, entry_of, IsContent, IsEdgeWithin}
 use Rattle.graph_types.specs.{View.in_view, View.leaves, View.enters, Answer.degree_at, Answer.degree_table}
 use Rattle.graph_types.specs.Degrees.{listed_degree, with_edge, IsTally, CountsEdge, IsWithinLimits}

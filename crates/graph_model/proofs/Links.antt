@@ -1,23 +1,21 @@
 -- Links as lists of neighbors, and the rounds that lower numbers by want of support.
 use Rattle.std.proofs.Common.{◌≡◌, ◌≢◌, ℕ, zero, suc, ◌+◌, ◌<◌, ◌≤◌, arith, refl, sym, ap, ◌∙◌, subst, ◌⊎◌, inl, inr, List, []}
 use Rattle.std.proofs.Common.{◌∷◌, length, get_or, map, cond, true, false, Bool, ◌&&◌, not}
-use Rattle.std.specs.Prelude.{All, AllPairs, ◌==◌, nat_le, count_by, filter, replicate, IsPermutation, IsTrue}
-use Rattle.std.specs.List.{Contains, range_with_len, dedup, Sorted.IsSorted, Sorted.IsStrictlySortedBy}
-use Rattle.std.specs.Cmp.{IsTotalOrder, IsEquivalence}
-use Rattle.std.specs.Ordering.{nat_cmp, ordering_then, is_eq, eq_by_cmp}
-use Rattle.std.specs.declared.cmp.Ordering.{Ordering, TheVariants.Less, TheVariants.Equal, TheVariants.Greater}
 use Rattle.std.proofs.lemmas.Cmp.{then_total, on_total, nat_cmp_total, tied_itself, and_equiv, on_equiv, nat_eq_equiv}
 use Rattle.std.proofs.lemmas.{Option.slice_get-get_or, List.FromFn.length-range_with_len, List.FromFn.get_or-range_with_len}
 use Rattle.std.proofs.lemmas.Bool.{cases_Bool, eqb-true, and_parts, Decides.nat_tests, Decides.Decides-eqb}
 use Rattle.std.proofs.lemmas.List.{get_or_default, Sorted.Contains-permutation, Sorted.IsPermutation-sym}
 use Rattle.std.proofs.lemmas.List.Elements.{All-contains, All-weaker, All-from_recursion, Contains-get_or}
 use Rattle.std.proofs.lemmas.List.Kept.{AllPairs-cons, IsStrictlySortedBy-dedup, Contains-dedup, Contains-from_dedup}
-use Rattle.graph_types.specs.{Graph.Graph, Graph.graph_of, Graph.IsContent, Analyses.Joins, Analyses.IsCoreNumber}
-use Rattle.graph_types.specs.{Analyses.IsTable, Arcs.Arc, Arcs.arcs_of, Arcs.two_way, Arcs.AreWithin, Arcs.at, Arcs.AreNeighbors}
-use Rattle.graph_types.specs.{Arcs.support, Arcs.AreUpper, declared.contents.Content.Content, declared.ids.Filter.Filter}
-use Rattle.graph_types.proofs.Counts.{apart_tail, apart_head, count_yes, count_no, sub_length, contains_filter, filter_contains}
-use Rattle.graph_types.proofs.Arcs.{contains_map, map_contains, arc_joins, joins_arc, two_way_within}
-use Rattle.graph_types.proofs.Cores.{upper_first, upper_more, settled_cores}
+use Rattle.std.specs.{Prelude.{All, AllPairs, ◌==◌, nat_le, count_by, filter, replicate, IsPermutation, IsTrue}, List.Contains}
+use Rattle.std.specs.{List.{range_with_len, dedup, Sorted.{IsSorted, IsStrictlySortedBy}}, Cmp.{IsTotalOrder, IsEquivalence}}
+use Rattle.std.specs.{Ordering.{nat_cmp, ordering_then, is_eq, eq_by_cmp}, declared.cmp.Ordering.{Ordering, TheVariants.Less}}
+use Rattle.std.specs.declared.cmp.Ordering.TheVariants.{Equal, Greater}
+use Rattle.graph_types.specs.{Graph.{Graph, graph_of, IsContent}, Analyses.{Joins, IsCoreNumber, IsTable}, Arcs.{Arc, arcs_of}}
+use Rattle.graph_types.specs.{Arcs.{two_way, AreWithin, at, AreNeighbors, support, AreUpper}, declared.contents.Content.Content}
+use Rattle.graph_types.{specs.declared.ids.Filter.Filter, proofs.Counts.{apart_tail, apart_head, count_yes, count_no, sub_length}}
+use Rattle.graph_types.proofs.{Counts.{contains_filter, filter_contains}, Arcs.{contains_map, map_contains, arc_joins, joins_arc}}
+use Rattle.graph_types.proofs.{Arcs.two_way_within, Cores.{upper_first, upper_more, settled_cores}}
 use Rattle.graph_model.specs.Links.{AreLinks, ends, supports}
 
 -- what links lead to from v are its ends, and back

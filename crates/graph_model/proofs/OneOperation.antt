@@ -1,18 +1,16 @@
 -- A change that is applied to plain lists does to the graph that they show what its definition says.
 use Rattle.std.proofs.Common.{◌≡◌, ◌≢◌, ℕ, ◌≤◌, List, [], ◌∷◌, ◌++◌, true, false, cond, not, length, get_or, All, AllPairs}
 use Rattle.std.proofs.Common.{Option, Some, None, option_map, option_to_list, IfSome, refl, sym, ap, subst, ◌∙◌, arith}
-use Rattle.std.specs.{List.find, FinMap.get}
 use Rattle.std.proofs.lemmas.{Bool.false≢true, List.append-nil, List.Kept.AllPairs-filter, List.Quantifiers.all_pairs_push}
 use Rattle.std.proofs.lemmas.List.Elements.{All-head, All-tail, All-filter, All-weaker, All-push, All-get_or, filter_passes}
-use Rattle.graph_types.specs.Limits.{IsWeight, IsTime, name_limit, kind_limit}
-use Rattle.graph_types.specs.Graph.{Graph, Key, Stamp, key_of, stamp_of, map_of, graph_of, has_key, without, IsAt, IsEdgeWithin}
-use Rattle.graph_types.specs.{Graph.IsContent, Graph.content_of, Changes.AreMarks, Changes.option_stamp}
-use Rattle.graph_types.specs.Step.{names_made, kinds_made, stamp_after, set_at, changed_key, changed, was_before, later}
-use Rattle.graph_types.specs.declared.{ids.Edge.Edge, changes.EdgeChange.EdgeChange, changes.EdgeMarks.EdgeMarks}
-use Rattle.graph_types.specs.declared.contents.Content.{Content}
+use Rattle.std.specs.{List.find, FinMap.get}
+use Rattle.graph_types.specs.{Limits.{IsWeight, IsTime, name_limit, kind_limit}, Graph.{Graph, Key, Stamp, key_of, stamp_of}}
+use Rattle.graph_types.specs.Graph.{map_of, graph_of, has_key, without, IsAt, IsEdgeWithin, IsContent, content_of}
+use Rattle.graph_types.specs.{Changes.{AreMarks, option_stamp}, Step.{names_made, kinds_made, stamp_after, set_at, changed_key}}
+use Rattle.graph_types.specs.{Step.{changed, was_before, later}, declared.{ids.Edge.Edge, changes.EdgeChange.EdgeChange}}
+use Rattle.graph_types.specs.declared.{changes.EdgeMarks.EdgeMarks, contents.Content.Content}
 use Rattle.graph_types.proofs.NameLists.{IsNamed, IsNamed-changed_key, length-names_made, length-kinds_made, AllPairs-names_made}
-use Rattle.graph_types.proofs.NameLists.{AllPairs-kinds_made}
-use Rattle.graph_types.proofs.EdgeLookup.{Decides-has_key, get-map_of, map_of-put}
+use Rattle.graph_types.proofs.{NameLists.AllPairs-kinds_made, EdgeLookup.{Decides-has_key, get-map_of, map_of-put}}
 use Rattle.graph_model.specs.{Drafts.shown_key, Drafts.edge_with, declared.edges.EdgeKey.EdgeKey}
 
 -- one change on plain lists: what stood at its key is taken away, and what is to stand there comes at the end

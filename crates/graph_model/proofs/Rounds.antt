@@ -1,13 +1,11 @@
 -- Rounds that lower numbers, one step after another.
-use Rattle.std.proofs.Common.{◌≡◌, ℕ, suc, ◌+◌, ◌-◌, ◌<◌, ◌≤◌, arith, refl, sym, ap, ◌∙◌, subst, ◌⊎◌, inl, inr, List, []}
-use Rattle.std.proofs.Common.{length, get_or, set, take, cond, true, false, Bool, ◌&&◌}
+use Rattle.std.proofs.Common.{◌≡◌, ℕ, suc, ◌+◌, ◌-◌, ◌<◌, ◌≤◌, arith, refl, sym, ap, ◌∙◌, subst, ◌⊎◌, inl, inr, List, [], length}
+use Rattle.std.proofs.{Common.{get_or, set, take, cond, true, false, Bool, ◌&&◌}, lemmas.Bool.{cases_eq, eqb-true}}
+use Rattle.std.proofs.lemmas.{Bool.Decides.{nat_tests, Decides-eqb}, List.{get_or-set_same, get_or-set_other, length-set}}
+use Rattle.std.proofs.lemmas.List.{take_more, take_all, length-take, Sums.{sum_by_push, count_by-le-length}, Elements.All-set}
+use Rattle.std.proofs.lemmas.List.Elements.{All-nil, All-more, Contains-get_or}
 use Rattle.std.specs.Prelude.{All, sum, count_by, ◌==◌, nat_le}
-use Rattle.std.proofs.lemmas.Bool.{cases_eq, eqb-true, Decides.nat_tests, Decides.Decides-eqb}
-use Rattle.std.proofs.lemmas.List.{get_or-set_same, get_or-set_other, length-set, take_more, take_all, length-take}
-use Rattle.std.proofs.lemmas.List.{Sums.sum_by_push, Sums.count_by-le-length}
-use Rattle.std.proofs.lemmas.List.Elements.{All-set, All-nil, All-more, Contains-get_or}
-use Rattle.graph_types.specs.Arcs.{AreWithin, at, IsLowered, IsClosed}
-use Rattle.graph_types.proofs.Settling.{lowered_more, sum_falls}
+use Rattle.graph_types.{specs.Arcs.{AreWithin, at, IsLowered, IsClosed}, proofs.Settling.{lowered_more, sum_falls}}
 use Rattle.graph_model.specs.Links.{supports}
 
 -- a round along arcs, so far

@@ -1,12 +1,11 @@
 -- Levels and labels of a content, once its numbers are settled.
 use Rattle.std.proofs.Common.{◌≡◌, ℕ, ◌<◌, ◌≤◌, arith, sym, ap, ◌∙◌, subst, List, length, map}
-use Rattle.std.{specs.Prelude.All, specs.Prelude.replicate, specs.List.range_with_len, proofs.lemmas.List.Elements.All-set}
 use Rattle.std.proofs.lemmas.List.{Elements.All-replicate, FromFn.length-range_with_len, FromFn.get_or-range_with_len}
-use Rattle.graph_types.specs.{Graph.graph_of, Graph.IsContent, Analyses.AreLevels, Analyses.AreLabels}
-use Rattle.graph_types.specs.Arcs.{arcs_of, two_way, AreWithin, IsLowered, IsClosed, level_start, level_of}
-use Rattle.graph_types.specs.declared.{contents.Content.Content, ids.Filter.Filter}
-use Rattle.graph_types.proofs.Arcs.{arc_leads, leads_arc, arcs_within, arc_joins, joins_arc, two_way_within}
-use Rattle.graph_types.proofs.Settling.{level_start_long, settled_levels, settled_labels}
+use Rattle.std.{specs.Prelude.All, specs.Prelude.replicate, specs.List.range_with_len, proofs.lemmas.List.Elements.All-set}
+use Rattle.graph_types.specs.{Graph.{graph_of, IsContent}, Analyses.{AreLevels, AreLabels}, Arcs.{arcs_of, two_way, AreWithin}}
+use Rattle.graph_types.specs.{Arcs.{IsLowered, IsClosed, level_start, level_of}, declared.contents.Content.Content}
+use Rattle.graph_types.{specs.declared.ids.Filter.Filter, proofs.Arcs.{arc_leads, leads_arc, arcs_within, arc_joins, joins_arc}}
+use Rattle.graph_types.proofs.{Arcs.two_way_within, Settling.{level_start_long, settled_levels, settled_labels}}
 
 module _ (f : Filter) (c : Content) (is : IsContent c) where
   pub levels_within : (source : ℕ) (arcs : List (ℕ × ℕ)) (first : List ℕ) → arcs ≡ arcs_of f c.edges

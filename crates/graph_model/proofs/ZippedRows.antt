@@ -1,7 +1,6 @@
 -- Rows put together from two lists, one place after another.
 use Rattle.std.proofs.Common.{◌≡◌, ℕ, ◌+◌, ◌<◌, min, List, [], ◌∷◌, ◌++◌, length, get_or, take, sym, ap, ◌∙◌, arith}
-use Rattle.std.specs.Prelude.{zip}
-use Rattle.std.proofs.lemmas.{List.take_more, List.take_all, Slice.Zip.length-zip, Slice.Zip.get_or-zip}
+use Rattle.std.{proofs.lemmas.{List.{take_more, take_all}, Slice.Zip.{length-zip, get_or-zip}}, specs.Prelude.zip}
 
 module _ {A B : Type 0} (xs : List A) (ys : List B) where
   pub rows_more : (rows : List (A × B)) (k n : ℕ) (x : A) (y : B) → rows ≡ take k (zip xs ys) → n ≡ k + 1

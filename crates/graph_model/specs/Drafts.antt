@@ -1,14 +1,8 @@
 -- Words on the copy of a content that is changed, and on the edges in it.
-use Rattle.std.specs.Prelude.{ℕ, List, [], ◌∷◌}
-use Rattle.std.specs.FinMap.{empty}
-use Rattle.graph_types.specs.Graph.{Key, content_of}
-use Rattle.graph_types.specs.Step.{after}
-use Rattle.graph_types.specs.declared.ids.Edge.{Edge}
-use Rattle.graph_types.specs.declared.batches.NamedOp.{NamedOp}
-use Rattle.graph_types.specs.declared.changes.EdgeMarks.{EdgeMarks}
-use Rattle.graph_types.specs.declared.contents.Content.{Content}
-use Rattle.graph_model.specs.declared.drafts.Draft.{Draft}
-use Rattle.graph_model.specs.declared.edges.EdgeKey.{EdgeKey}
+use Rattle.std.specs.{Prelude.{ℕ, List, [], ◌∷◌}, FinMap.empty}
+use Rattle.graph_types.specs.{Graph.{Key, content_of}, Step.after, declared.{ids.Edge.Edge, batches.NamedOp.NamedOp}}
+use Rattle.graph_types.specs.declared.{changes.EdgeMarks.EdgeMarks, contents.Content.Content}
+use Rattle.graph_model.specs.declared.{drafts.Draft.Draft, edges.EdgeKey.EdgeKey}
 
 -- the content that a draft shows
 abbrev pub shown_by : Draft → Content

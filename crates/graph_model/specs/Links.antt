@@ -1,10 +1,6 @@
 -- Lists of links: pairs of different vertices that an edge of a view joins.
-use Rattle.std.specs.Prelude.{◌≢◌, ℕ, ◌==◌, nat_le, List, map, filter, Bool, ◌&&◌, ◌↔◌, AllPairs}
-use Rattle.std.specs.List.{Contains}
-use Rattle.graph_types.specs.Graph.{Graph}
-use Rattle.graph_types.specs.Analyses.{Joins}
-use Rattle.graph_types.specs.Arcs.{at}
-use Rattle.graph_types.specs.declared.ids.Filter.{Filter}
+use Rattle.std.specs.{Prelude.{◌≢◌, ℕ, ◌==◌, nat_le, List, map, filter, Bool, ◌&&◌, ◌↔◌, AllPairs}, List.Contains}
+use Rattle.graph_types.specs.{Graph.Graph, Analyses.Joins, Arcs.at, declared.ids.Filter.Filter}
 
 -- each two different vertices that an edge joins, both ways and each once
 pub record AreLinks (f : Filter) (g : Graph) (links : List (ℕ × ℕ)) : Type 0 where

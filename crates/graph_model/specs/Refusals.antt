@@ -1,11 +1,8 @@
 -- When a batch is refused.
 use Rattle.std.specs.Prelude.{◌≡◌, ◌≢◌, ◌⊎◌, ◌<◌, ℕ, List, length}
-use Rattle.graph_types.specs.Limits.{name_limit, kind_limit}
-use Rattle.graph_types.specs.Graph.{Graph}
-use Rattle.graph_types.specs.GraphLimits.{MeetsNameLimit, MeetsKindLimit}
+use Rattle.graph_types.specs.{Limits.{name_limit, kind_limit}, Graph.Graph, Step.{MeetsNameLimit, MeetsKindLimit}}
 use Rattle.graph_types.specs.declared.batches.NamedOp.{NamedOp}
-use Rattle.graph_model.specs.declared.apply.PlainError.{PlainError}
-use Rattle.graph_model.specs.declared.apply.PlainError.TheVariants.{NamesFull, KindsFull, OutOfMemory}
+use Rattle.graph_model.specs.declared.apply.PlainError.{PlainError, TheVariants.{NamesFull, KindsFull, OutOfMemory}}
 
 -- for the names first, then for the kinds; want of memory may come at any time
 abbrev pub Refuses : PlainError → List NamedOp → Graph → Type 0

@@ -2,7 +2,7 @@
 
 ghost use Rattle.std.specs.Prelude.{◌≡◌, IfOk, OnOk, OnErr, IfErr, All};
 ghost use Rattle.graph_types.specs.Graph.{graph_of, IsContent};
-ghost use Rattle.graph_types.specs.GraphLimits.{MeetsKindLimit};
+ghost use Rattle.graph_types.specs.Step.{MeetsKindLimit};
 ghost use Rattle.graph_types.specs.Step.{after_all, outcomes};
 ghost use Rattle.graph_types.specs.Valid.{IsValid};
 ghost use Rattle.graph_model.specs.Drafts.{shown_by};

@@ -1,13 +1,11 @@
 -- The arcs of a view are its edges.
 use Rattle.std.proofs.Common.{◌≡◌, ℕ, zero, suc, ◌<◌, arith, refl, sym, ap, ◌∙◌, subst, inl, inr, List, [], ◌∷◌, length, map}
-use Rattle.std.proofs.Common.{Some, true, Bool}
-use Rattle.std.specs.{Prelude.filter, Prelude.IsTrue, List.Contains, FinMap.get}
-use Rattle.std.proofs.lemmas.List.Elements.{All-contains, All-append, All-map, All-filter, Contains-append_left}
-use Rattle.std.proofs.lemmas.List.{Elements.Contains-append_right, Elements.Contains-append_cases, get_or-map, length-map}
-use Rattle.graph_types.specs.Graph.{Key, Stamp, graph_of, map_of, key_of, stamp_of, IsContent}
-use Rattle.graph_types.specs.{View.in_view, Analyses.LeadsTo, Analyses.Joins}
-use Rattle.graph_types.specs.Arcs.{Arc, AreWithin, arcs_of, two_way}
-use Rattle.graph_types.specs.declared.{contents.Content.Content, ids.Edge.Edge, ids.Filter.Filter}
+use Rattle.std.proofs.{Common.{Some, true, Bool}, lemmas.List.{get_or-map, length-map, Elements.{All-contains, All-append}}}
+use Rattle.std.proofs.lemmas.List.Elements.{All-map, All-filter, Contains-append_left, Contains-append_right}
+use Rattle.std.{proofs.lemmas.List.Elements.Contains-append_cases, specs.{Prelude.{filter, IsTrue}, List.Contains, FinMap.get}}
+use Rattle.graph_types.specs.{Graph.{Key, Stamp, graph_of, map_of, key_of, stamp_of, IsContent}, View.in_view, Analyses.LeadsTo}
+use Rattle.graph_types.specs.{Analyses.Joins, Arcs.{Arc, AreWithin, arcs_of, two_way}, declared.contents.Content.Content}
+use Rattle.graph_types.specs.declared.ids.{Edge.Edge, Filter.Filter}
 use Rattle.graph_types.proofs.{Keys.get_is, Keys.get_listed, Keys.find_listed, Counts.contains_filter, Counts.filter_contains}
 
 module _ {X Y : Type 0} (h : X → Y) where

@@ -1,6 +1,5 @@
 -- A list whose elements are equal to another's, place by place, is that list.
-use Rattle.std.proofs.Common.{◌≡◌, List, [], ◌∷◌, refl}
-use Rattle.std.specs.List.{AllZip}
+use Rattle.std.{proofs.Common.{◌≡◌, List, [], ◌∷◌, refl}, specs.List.AllZip}
 
 pub same_by_zip : {X : Type 0} (xs ys : List X) → AllZip (λ x y. y ≡ x) xs ys → ys ≡ xs
 same_by_zip [] [] z = refl

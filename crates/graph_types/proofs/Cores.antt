@@ -1,18 +1,15 @@
 -- Numbers that no core number exceeds, lowered where too few neighbors have as much, until each has enough: then they
 -- are the core numbers. (Such rounds: Montresor, De Pellegrini, Miorandi, Distributed k-core decomposition, 2013.)
 use Rattle.std.proofs.Common.{◌≡◌, ◌≢◌, ℕ, zero, suc, ◌<◌, ◌≤◌, arith, refl, sym, ap, ◌∙◌, subst, ◌⊎◌, inl, inr, List, [], ◌∷◌}
-use Rattle.std.proofs.Common.{length, get_or, set, map, true, false, Bool, ◌&&◌, ◌||◌, not}
-use Rattle.std.specs.Prelude.{sum, nat_le, count_by, filter, IsTrue, ◌==◌}
-use Rattle.std.specs.List.{Contains, range_with_len, list_any}
-use Rattle.std.proofs.lemmas.Bool.{cases_eq, cases_lt, cases_Bool, and_parts, or_right, eqb-true}
-use Rattle.std.proofs.lemmas.Bool.Decides.{nat_tests, Decides-eqb}
-use Rattle.std.proofs.lemmas.{Option.get_or_from_slice_get, Option.slice_get_within, List.FromFn.get_or-map-range_with_len}
-use Rattle.std.proofs.lemmas.List.{get_or-set_same, get_or-set_other, length-set, get_or_past, get_or_default}
-use Rattle.std.proofs.lemmas.List.{Sums.length-filter, Sums.count_by-le-length, Elements.All-contains, Kept.AllPairs-filter}
+use Rattle.std.proofs.{Common.{length, get_or, set, map, true, false, Bool, ◌&&◌, ◌||◌, not}, lemmas.Bool.{cases_eq, cases_lt}}
+use Rattle.std.proofs.lemmas.Bool.{cases_Bool, and_parts, or_right, eqb-true, Decides.{nat_tests, Decides-eqb}}
+use Rattle.std.proofs.lemmas.{Option.{get_or_from_slice_get, slice_get_within}, List.{get_or-set_same, get_or-set_other}}
+use Rattle.std.proofs.lemmas.List.{length-set, get_or_past, get_or_default, FromFn.get_or-map-range_with_len}
 use Rattle.std.proofs.lemmas.List.FromFn.{length-range_with_len, get_or-range_with_len, length-map-range_with_len}
-use Rattle.graph_types.specs.{Graph.Graph, Analyses.Joins, Analyses.HasNeighbors, Analyses.IsCoreNumber, Analyses.IsTable}
-use Rattle.graph_types.specs.Arcs.{Arc, AreWithin, at, AreNeighbors, support, AreUpper}
-use Rattle.graph_types.specs.declared.ids.Filter.{Filter}
+use Rattle.std.proofs.lemmas.List.{Sums.{length-filter, count_by-le-length}, Elements.All-contains, Kept.AllPairs-filter}
+use Rattle.std.specs.{Prelude.{sum, nat_le, count_by, filter, IsTrue, ◌==◌}, List.{Contains, range_with_len, list_any}}
+use Rattle.graph_types.specs.{Graph.Graph, Analyses.{Joins, HasNeighbors, IsCoreNumber, IsTable}, Arcs.{Arc, AreWithin, at}}
+use Rattle.graph_types.specs.{Arcs.{AreNeighbors, support, AreUpper}, declared.ids.Filter.Filter}
 use Rattle.graph_types.proofs.Counts.{Contains-cons_cases, Contains-nil, Contains-first, Contains-cons, passing_length}
 use Rattle.graph_types.proofs.{Counts.filter_contains, Counts.contains_filter, Settling.sum_falls}
 

@@ -1,8 +1,8 @@
 -- Lists of distinct numbers, and how many of a list pass a test.
 use Rattle.std.proofs.Common.{◌≡◌, ◌≢◌, ℕ, zero, suc, ◌+◌, ◌<◌, ◌≤◌, arith, refl, sym, ap, ◌∙◌, ◌⊎◌, inl, inr, List, [], ◌∷◌}
 use Rattle.std.proofs.Common.{length, cond, true, false, Bool, not}
-use Rattle.std.specs.{Prelude.◌==◌, Prelude.AllPairs, Prelude.count_by, Prelude.filter, List.Contains}
 use Rattle.std.proofs.lemmas.{Bool.ne_eqb, Bool.Decides.Decides-eqb, List.Sums.sum_by-cons, List.Sums.length-filter}
+use Rattle.std.specs.{Prelude.◌==◌, Prelude.AllPairs, Prelude.count_by, Prelude.filter, List.Contains}
 
 module _ {X : Type 0} where
   pub Contains-cons_cases : (x : X) (xs : List X) (y : X) → Contains (x ∷ xs) y → (x ≡ y) ⊎ Contains xs y

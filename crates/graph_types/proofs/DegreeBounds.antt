@@ -1,13 +1,11 @@
 -- How many edges a vertex can have: where each key stands once, at most one for each kind and each other end,
 -- so 2 ^ 22 with 64 kinds and 65,536 vertices. And how large the sum of their weights can be.
 use Rattle.std.proofs.Common.{◌≡◌, ℕ, zero, suc, ◌+◌, ◌*◌, ◌^◌, ◌<◌, ◌≤◌, Bool, true, false, cond, ◌&&◌, eqb, ltb, List, [], ◌∷◌}
-use Rattle.std.proofs.Common.{get_or, map, ℤ, pos, negsuc, neg_ℤ, ◌+ℤ◌, ◌≤ℤ◌, nat_abs, refl, sym, subst, arith}
-use Rattle.std.specs.Prelude.{count_by, sum_by, filter, fold, All}
-use Rattle.std.proofs.lemmas.{Int.ints, Bool.and_parts, Bool.eqb-true, Bool.Decides.nat_tests}
-use Rattle.std.proofs.lemmas.List.{Sums.sum_by-cons, Sums.sum_by-le-sum_by, Sums.sum_by-le, Elements.All-tail}
-use Rattle.graph_types.specs.{Graph.Key, Graph.entry_of, Graph.IsEdgeWithin, Limits.IsWeight}
-use Rattle.graph_types.specs.{View.in_view, View.leaves, View.enters, Degrees.listed_degree, Degrees.IsWithinLimits}
-use Rattle.graph_types.specs.declared.ids.{Edge.Edge, Filter.Filter}
+use Rattle.std.proofs.{Common.{get_or, map, ℤ, pos, negsuc, neg_ℤ, ◌+ℤ◌, ◌≤ℤ◌, nat_abs, refl, sym, subst, arith}, lemmas.Int.ints}
+use Rattle.std.proofs.lemmas.{Bool.{and_parts, eqb-true, Decides.nat_tests}, List.Sums.{sum_by-cons, sum_by-le-sum_by, sum_by-le}}
+use Rattle.std.{proofs.lemmas.List.Elements.All-tail, specs.Prelude.{count_by, sum_by, filter, fold, All}}
+use Rattle.graph_types.specs.{Graph.{Key, entry_of, IsEdgeWithin}, Limits.IsWeight, View.{in_view, leaves, enters}}
+use Rattle.graph_types.specs.{Degrees.{listed_degree, IsWithinLimits}, declared.ids.{Edge.Edge, Filter.Filter}}
 use Rattle.graph_types.proofs.{Keys.HasKeysOnce, Keys.is_key_of, Keys.is_key_of_at, Keys.count_key, Folds.fold_from}
 
 step_up : (b : Bool) (c k : ℕ) → cond (b && ltb c (suc k)) 1 0 ≤ cond (b && ltb c k) 1 0 + cond (b && eqb c k) 1 0

@@ -2,14 +2,12 @@
 -- away and to add one.
 use Rattle.std.proofs.Common.{◌≡◌, List, [], ◌∷◌, ◌++◌, Bool, true, false, cond, not, map, Option, Some, None, Decides}
 use Rattle.std.proofs.Common.{option_map, option_to_list, IfSome, refl, sym, ap, subst, ◌∙◌}
-use Rattle.std.specs.{List.find, Ordering.eq_by_cmp}
-use Rattle.std.specs.FinMap.{get, insert, remove, from_entries, get-from_entries, get-insert, get-remove, same_map}
-use Rattle.std.specs.FinMap.{from_entries_push, Entries.find as look_up, Entries.where_key, Entries.find-where_key}
 use Rattle.std.proofs.lemmas.Bool.Decides.{same_from_decides, Decides-and, Decides-eqb, Decides-like}
 use Rattle.std.proofs.lemmas.{Cmp.eq_by_cmp_equiv, List.append-nil, List.map-append, Map.Views.tells_apart}
+use Rattle.std.specs.{List.find, Ordering.eq_by_cmp, FinMap.{get, insert, remove, from_entries, get-from_entries, get-insert}}
+use Rattle.std.specs.FinMap.{get-remove, same_map, from_entries_push, Entries.{find as look_up, where_key, find-where_key}}
 use Rattle.graph_types.specs.Graph.{Key, Stamp, key_cmp, key_of, stamp_of, entry_of, map_of, has_key, without, IsAt}
-use Rattle.graph_types.specs.{Step.set_at, declared.ids.Edge.Edge}
-use Rattle.graph_types.proofs.Keys.{keys_total, exact_keys}
+use Rattle.graph_types.{specs.{Step.set_at, declared.ids.Edge.Edge}, proofs.Keys.{keys_total, exact_keys}}
 
 tied_itself : (key : Key) → eq_by_cmp key_cmp key key ≡ true
 tied_itself key = (eq_by_cmp_equiv keys_total).refl key

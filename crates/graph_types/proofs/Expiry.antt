@@ -1,18 +1,14 @@
 -- Edges that expire: what stays at each key, in the map and in a list of edges.
 use Rattle.std.proofs.Common.{◌≡◌, ◌≢◌, ℕ, ◌+◌, Bool, true, false, cond, not, ◌&&◌, List, [], ◌∷◌, Option, Some, None, is_some}
-use Rattle.std.proofs.Common.{map, length, refl, sym, ap, ◌∙◌, subst, arith}
-use Rattle.std.specs.{Prelude.count_by, Prelude.All, Prelude.T, Ordering.is_lt}
-use Rattle.std.specs.declared.cmp.Ordering.{Ordering, TheVariants.Less, TheVariants.Equal, TheVariants.Greater}
-use Rattle.std.specs.FinMap.{FinMap, get, len, entries, entries_sorted, find, get-entries, get-retain_keys, same_map}
-use Rattle.std.specs.FinMap.Entries.{is_sorted, below_all}
-use Rattle.std.proofs.lemmas.Cmp.{tied_itself}
-use Rattle.std.proofs.lemmas.List.{Elements.All-cons, Elements.All-nil, Sums.sum_by-cons, Kept.AllPairs-filter}
-use Rattle.graph_types.specs.Graph.{Key, Stamp, key_cmp, key_of, stamp_of, entry_of, map_of}
-use Rattle.graph_types.specs.Step.{is_before, stays_from, expired, count_before, was_before, later}
-use Rattle.graph_types.specs.{Laws.Expires, declared.ids.Edge.Edge}
+use Rattle.std.proofs.{Common.{map, length, refl, sym, ap, ◌∙◌, subst, arith}, lemmas.{Cmp.tied_itself, List.Elements.All-cons}}
+use Rattle.std.proofs.lemmas.List.{Elements.All-nil, Sums.sum_by-cons, Kept.AllPairs-filter}
+use Rattle.std.specs.{Prelude.{count_by, All, T}, Ordering.is_lt, declared.cmp.Ordering.{Ordering, TheVariants.{Less, Equal}}}
+use Rattle.std.specs.{declared.cmp.Ordering.TheVariants.Greater, FinMap.{FinMap, get, len, entries, entries_sorted, find}}
+use Rattle.std.specs.FinMap.{get-entries, get-retain_keys, same_map, Entries.{is_sorted, below_all}}
+use Rattle.graph_types.specs.{Graph.{Key, Stamp, key_cmp, key_of, stamp_of, entry_of, map_of}, Step.{is_before, stays_from}}
+use Rattle.graph_types.specs.{Step.{expired, count_before, was_before, later}, Laws.Expires, declared.ids.Edge.Edge}
 use Rattle.graph_types.proofs.Keys.{keys_total, exact_keys, HasKeysOnce, once_head, once_tail, once_none, once_cons, find_absent}
-use Rattle.graph_types.proofs.Keys.{get_is, get_cons, is_key_of, is_key_of-true, len_once}
-use Rattle.graph_types.proofs.Folds.{count_entries}
+use Rattle.graph_types.proofs.{Keys.{get_is, get_cons, is_key_of, is_key_of-true, len_once}, Folds.count_entries}
 
 kept_some : (time : ℕ) (o : Option Stamp) → cond (is_some (stays_from time o)) o None ≡ stays_from time o
 kept_some time None = refl

@@ -1,13 +1,11 @@
 -- What is gathered over a graph's map is what is gathered over the list of its edges: a finite map has its
 -- entries in the order of their keys, so this holds of each fold whose steps commute.
 use Rattle.std.proofs.Common.{◌≡◌, ◌+◌, Bool, true, false, cond, List, [], ◌∷◌, map, ℤ, pos, ◌+ℤ◌, refl, sym, ap, ◌∙◌, arith}
-use Rattle.std.specs.{Prelude.count_by, Prelude.filter, Prelude.fold, Ordering.is_eq, FinMap.Entries.put, FinMap.Entries.by_order}
-use Rattle.std.specs.declared.cmp.Ordering.TheVariants.{Less, Equal, Greater}
-use Rattle.std.specs.declared.option.Option.TheVariants.{None, Some}
-use Rattle.std.specs.FinMap.{entries, empty, find, get-entries, get-from_entries, entries-insert, len-entries, len-empty}
 use Rattle.std.proofs.lemmas.{List.nil_from_length, List.Sums.sum_by-cons, List.Folds.fold-map, Option.none-some, Int.ints}
-use Rattle.graph_types.specs.Graph.{Key, Stamp, key_cmp, key_of, stamp_of, entry_of, map_of}
-use Rattle.graph_types.specs.declared.ids.Edge.{Edge}
+use Rattle.std.specs.{Prelude.{count_by, filter, fold}, Ordering.is_eq, FinMap.{entries, empty, find, get-entries}}
+use Rattle.std.specs.FinMap.{get-from_entries, entries-insert, len-entries, len-empty, Entries.{put, by_order}}
+use Rattle.std.specs.declared.{cmp.Ordering.TheVariants.{Less, Equal, Greater}, option.Option.TheVariants.{None, Some}}
+use Rattle.graph_types.specs.{Graph.{Key, Stamp, key_cmp, key_of, stamp_of, entry_of, map_of}, declared.ids.Edge.Edge}
 use Rattle.graph_types.proofs.Keys.{keys_total, HasKeysOnce, once_head, once_tail, find_absent}
 
 -- gathers by steps from the end of the list, which commute

@@ -1,17 +1,14 @@
 -- Keys in order, and lists of edges that list each key once.
 use Rattle.std.proofs.Common.{◌≡◌, ◌≢◌, ℕ, zero, suc, ◌+◌, ◌<◌, ◌≤◌, Bool, true, false, cond, List, [], ◌∷◌, length, get_or, map}
-use Rattle.std.proofs.Common.{refl, sym, ap, subst, ◌∙◌, arith}
-use Rattle.std.specs.Prelude.{count_by, is_some, AllPairs, All, Contains, IsPermutation}
-use Rattle.std.specs.declared.cmp.Ordering.{Ordering, TheVariants.Less, TheVariants.Equal, TheVariants.Greater}
-use Rattle.std.specs.declared.option.Option.{Option, TheVariants.None, TheVariants.Some}
-use Rattle.std.specs.{Ordering.nat_cmp, Ordering.ordering_then, Ordering.is_eq, Ordering.eq_by_cmp, Cmp.IsTotalOrder}
-use Rattle.std.specs.FinMap.{IsAntisymmetric, nat_cmp-IsAntisymmetric, find, get, len, get-insert, get-from_entries, len-empty}
-use Rattle.std.specs.FinMap.{len-insert, same_map}
-use Rattle.std.proofs.lemmas.Cmp.{then_total, on_total, nat_cmp_total, tied_itself}
-use Rattle.std.proofs.lemmas.List.Sums.{sum_by-cons, get_or-le-sum_by}
-use Rattle.std.proofs.lemmas.List.Sorted.{Contains-permutation, sum_by-IsPermutation, IsPermutation-sym}
-use Rattle.graph_types.specs.Graph.{Key, Stamp, key_cmp, key_of, stamp_of, entry_of, map_of}
-use Rattle.graph_types.specs.declared.ids.Edge.{Edge}
+use Rattle.std.proofs.{Common.{refl, sym, ap, subst, ◌∙◌, arith}, lemmas.Cmp.{then_total, on_total, nat_cmp_total, tied_itself}}
+use Rattle.std.proofs.lemmas.List.{Sums.{sum_by-cons, get_or-le-sum_by}, Sorted.{Contains-permutation, sum_by-IsPermutation}}
+use Rattle.std.proofs.lemmas.List.Sorted.{IsPermutation-sym}
+use Rattle.std.specs.{Prelude.{count_by, is_some, AllPairs, All, Contains, IsPermutation}, declared.cmp.Ordering.Ordering}
+use Rattle.std.specs.declared.{cmp.Ordering.TheVariants.{Less, Equal, Greater}, option.Option.{Option, TheVariants.{None, Some}}}
+use Rattle.std.specs.{Ordering.{nat_cmp, ordering_then, is_eq, eq_by_cmp}, Cmp.IsTotalOrder, FinMap.IsAntisymmetric}
+use Rattle.std.specs.FinMap.{nat_cmp-IsAntisymmetric, find, get, len, get-insert, get-from_entries, len-empty, len-insert}
+use Rattle.std.specs.FinMap.{same_map}
+use Rattle.graph_types.specs.{Graph.{Key, Stamp, key_cmp, key_of, stamp_of, entry_of, map_of}, declared.ids.Edge.Edge}
 
 pub keys_total : IsTotalOrder key_cmp
 keys_total =

@@ -1,10 +1,8 @@
 -- The degrees that a content shows are those that its list of edges shows.
-use Rattle.std.proofs.Common.{◌≡◌, ℕ, ◌+◌, ◌&&◌, ◌+ℤ◌, Bool, cond, eqb, length, map, pos, sym, ap}
-use Rattle.std.specs.List.{range_with_len}
-use Rattle.graph_types.specs.{Graph.graph_of, Graph.IsContent, View.leaves, View.enters, Answer.degree_at, Answer.degree_table}
-use Rattle.graph_types.specs.Degrees.{listed_degree}
-use Rattle.graph_types.specs.declared.{contents.Content.Content, ids.{Degree.Degree, Edge.Edge, Filter.Filter}}
-use Rattle.graph_types.proofs.Folds.{count_entries, weight_entries}
+use Rattle.std.{proofs.Common.{◌≡◌, ℕ, ◌+◌, ◌&&◌, ◌+ℤ◌, Bool, cond, eqb, length, map, pos, sym, ap}, specs.List.range_with_len}
+use Rattle.graph_types.specs.{Graph.{graph_of, IsContent}, View.{leaves, enters}, Answer.{degree_at, degree_table}}
+use Rattle.graph_types.specs.{Degrees.listed_degree, declared.{contents.Content.Content, ids.{Degree.Degree, Edge.Edge}}}
+use Rattle.graph_types.{specs.declared.ids.Filter.Filter, proofs.Folds.{count_entries, weight_entries}}
 
 -- what an edge makes of the degrees of v, where b says whether the filter lets it through
 abbrev pub with_shown : Bool → Edge → ℕ → Degree → Degree

@@ -1,7 +1,7 @@
 -- What one more makes of a list: of a range, of the batches that left a graph, of an answer's rows.
 use Rattle.std.proofs.Common.{◌≡◌, ℕ, ◌+◌, List, [], ◌∷◌, ◌++◌, None, Some, refl, sym, ap, ◌∙◌, arith}
-use Rattle.std.specs.{Prelude.Option, Prelude.filter_map, List.{range_with_len, cons_option}, Option.option_to_list}
 use Rattle.std.proofs.lemmas.List.{map-id, FromFn.map-range_with_len_more}
+use Rattle.std.specs.{Prelude.Option, Prelude.filter_map, List.{range_with_len, cons_option}, Option.option_to_list}
 use Rattle.graph_types.specs.{Graph.Graph, Step.{after_all, left_by}, Answer.level_row, declared.batches.NamedOp.NamedOp}
 
 pub range_more : (n : ℕ) → range_with_len 0 (n + 1) ≡ range_with_len 0 n ++ n ∷ []

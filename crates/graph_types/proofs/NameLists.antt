@@ -1,13 +1,11 @@
 -- Lists of names in order of first appearance, as operations make them.
 use Rattle.std.proofs.Common.{◌≡◌, ◌≢◌, ℕ, ◌+◌, ◌<◌, ◌≤◌, List, [], ◌∷◌, ◌++◌, true, false, cond, not, ◌||◌, length, get_or}
-use Rattle.std.proofs.Common.{AllPairs, bytes_eq, Option, Some, suc, refl, sym, ap, ◌∙◌, arith}
-use Rattle.std.specs.List.{list_any}
-use Rattle.std.proofs.lemmas.{Bool.false≢true, Slice.Eq.bytes_eq-Decides}
-use Rattle.std.proofs.lemmas.List.{Folds.list_any-append, Folds.list_any_at, Quantifiers.all_pairs_push, length-append}
+use Rattle.std.proofs.{Common.{AllPairs, bytes_eq, Option, Some, suc, refl, sym, ap, ◌∙◌, arith}, lemmas.Bool.false≢true}
+use Rattle.std.proofs.lemmas.{Slice.Eq.bytes_eq-Decides, List.{length-append, Folds.{list_any-append, list_any_at}}}
+use Rattle.std.{proofs.lemmas.List.Quantifiers.all_pairs_push, specs.List.list_any}
 use Rattle.graph_types.specs.Step.{with_name, number_of, makes_names, names_made, kinds_made, stamp_after, changed_key, after}
-use Rattle.graph_types.specs.{Step.after_all, Graph.Graph, Graph.Key, Graph.Stamp}
-use Rattle.graph_types.specs.declared.{batches.NamedOp.NamedOp, changes.EdgeChange.EdgeChange}
-use Rattle.graph_types.specs.declared.batches.NamedOp.TheVariants.{Insert, Incr, Remove, Expire}
+use Rattle.graph_types.specs.{Step.after_all, Graph.{Graph, Key, Stamp}, declared.batches.NamedOp.{NamedOp, TheVariants.Insert}}
+use Rattle.graph_types.specs.declared.{batches.NamedOp.TheVariants.{Incr, Remove, Expire}, changes.EdgeChange.EdgeChange}
 use Rattle.graph_types.specs.declared.changes.EdgeChange.TheVariants.{Insert as ToInsert, Incr as ToIncr, Remove as ToRemove}
 
 pub length-with_name : (names : List (List ℕ)) (name : List ℕ) → length names ≤ length (with_name names name)

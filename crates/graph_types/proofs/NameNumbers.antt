@@ -1,10 +1,8 @@
 -- A name's place in a list, and whether it is listed.
 use Rattle.std.proofs.Common.{◌≡◌, ℕ, suc, ◌+◌, ◌<◌, ◌≤◌, Bool, true, false, cond, not, ◌||◌, ltb, List, [], ◌∷◌, ◌++◌, length}
-use Rattle.std.proofs.Common.{Option, Some, None, refl, sym, subst, ◌∙◌, arith}
+use Rattle.std.proofs.{Common.{Option, Some, None, refl, sym, subst, ◌∙◌, arith}, lemmas.Bool.{false≢true, Decides.nat_tests}}
 use Rattle.std.specs.{Prelude.bytes_eq, Prelude.position, Prelude.is_some, Prelude.IfSome, List.list_any, List.position_or_len}
-use Rattle.std.proofs.lemmas.Bool.{Decides.nat_tests, false≢true}
-use Rattle.graph_types.specs.{Answer.is_listed, Step.number_of}
-use Rattle.graph_types.proofs.NameLists.{number_of-lt}
+use Rattle.graph_types.{specs.{Answer.is_listed, Step.number_of}, proofs.NameLists.number_of-lt}
 
 later : (m n : ℕ) → ltb m n ≡ ltb (1 + m) (suc n)
 later m n = grind (arith, nat_tests)

@@ -1,12 +1,9 @@
 -- Valid operations leave names where there were names.
-use Rattle.std.proofs.Common.{ℕ, List, [], ◌∷◌, ◌++◌, true, false, cond, bytes_eq}
-use Rattle.std.specs.{Prelude.All, Prelude.IsTrue, Prelude.◌&&◌, List.list_any}
-use Rattle.std.proofs.lemmas.{Bool.and_parts, List.Elements.All-head, List.Elements.All-tail, List.Elements.All-push}
-use Rattle.graph_types.specs.{Graph.Graph, Laws.HasNames}
-use Rattle.graph_types.specs.Step.{with_name, makes_names, changed, after, after_all, left_by}
-use Rattle.graph_types.specs.Valid.{is_name, is_kind_name, are_names, IsValid, IsBatch}
-use Rattle.graph_types.specs.declared.{batches.NamedOp.NamedOp, changes.EdgeChange.EdgeChange}
-use Rattle.graph_types.specs.declared.batches.NamedOp.TheVariants.{Insert, Incr, Remove, Expire}
+use Rattle.std.proofs.{Common.{ℕ, List, [], ◌∷◌, ◌++◌, true, false, cond, bytes_eq}, lemmas.Bool.and_parts}
+use Rattle.std.{proofs.lemmas.List.Elements.{All-head, All-tail, All-push}, specs.{Prelude.{All, IsTrue, ◌&&◌}, List.list_any}}
+use Rattle.graph_types.specs.{Graph.Graph, Laws.HasNames, Step.{with_name, makes_names, changed, after, after_all, left_by}}
+use Rattle.graph_types.specs.{Valid.{is_name, is_kind_name, are_names, IsValid, IsBatch}, declared.batches.NamedOp.NamedOp}
+use Rattle.graph_types.specs.declared.{batches.NamedOp.TheVariants.{Insert, Incr, Remove, Expire}, changes.EdgeChange.EdgeChange}
 use Rattle.graph_types.specs.declared.changes.EdgeChange.TheVariants.{Insert as ToInsert, Incr as ToIncr, Remove as ToRemove}
 
 All-with_name : (P : List ℕ → Type 0) (names : List (List ℕ)) (name : List ℕ) → All P names → P name

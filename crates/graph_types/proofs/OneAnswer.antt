@@ -1,13 +1,12 @@
 -- Over a graph a request has one answer, and over that of a content it has one.
 use Rattle.std.proofs.Common.{◌≡◌, Some, None, Bool, true, false, not, refl, sym, ap, ◌∙◌}
 use Rattle.std.specs.{Prelude.Result, Prelude.Ok, Prelude.Err, Prelude.zip, Prelude.nat_lt, Option.option_map, FinMap.get}
-use Rattle.graph_types.specs.{Graph.Graph, Graph.graph_of, Graph.IsContent, Step.key_in, Step.number_of}
-use Rattle.graph_types.specs.Answer.{IsAnswer, IsReply, refusal, first_refusal, resolved, degree_table, shown, reached, names_of}
-use Rattle.graph_types.specs.{Answer.is_listed, Answer.is_kind_listed, declared.contents.Content.Content}
-use Rattle.graph_types.specs.declared.requests.{Request.Request, Reply.Reply, AskError.AskError}
-use Rattle.graph_types.specs.declared.requests.Request.TheVariants.{Levels as AskLevels, Labels as AskLabels, Cores as AskCores}
-use Rattle.graph_types.specs.declared.requests.Request.TheVariants.{Degrees as AskDegrees, OneEdge as AskOneEdge}
-use Rattle.graph_types.specs.declared.requests.Reply.TheVariants.{Levels, Labels, Cores, Degrees, OneEdge}
+use Rattle.graph_types.specs.{Graph.{Graph, graph_of, IsContent}, Step.{key_in, number_of}, Answer.{IsAnswer, IsReply, refusal}}
+use Rattle.graph_types.specs.Answer.{first_refusal, resolved, degree_table, shown, reached, names_of, is_listed, is_kind_listed}
+use Rattle.graph_types.specs.declared.{contents.Content.Content, requests.Request.{Request, TheVariants.Levels as AskLevels}}
+use Rattle.graph_types.specs.declared.requests.Request.TheVariants.{Labels as AskLabels, Cores as AskCores, Degrees as AskDegrees}
+use Rattle.graph_types.specs.declared.requests.{Request.TheVariants.OneEdge as AskOneEdge, Reply.{Reply, TheVariants.Levels}}
+use Rattle.graph_types.specs.declared.requests.{Reply.TheVariants.{Labels, Cores, Degrees, OneEdge}, AskError.AskError}
 use Rattle.graph_types.proofs.{NameLists.number_of-lt, OneTable.one_table, SomeTable.some_table}
 
 pub one_reply : (request : Request) (g : Graph) (x y : Reply) → IsReply request g x → IsReply request g y → x ≡ y

@@ -1,16 +1,12 @@
 -- Numbers that are lowered along arcs until none is left to lower: what they are then, and that they come to it.
 use Rattle.std.proofs.Common.{◌≡◌, ◌≢◌, ℕ, zero, suc, ◌+◌, ◌*◌, ◌<◌, ◌≤◌, arith, refl, sym, ap, ◌∙◌, subst, ◌⊎◌, inl, inr, List}
-use Rattle.std.proofs.Common.{[], ◌∷◌, length, set, Some, None, cond, true, false}
-use Rattle.std.specs.Prelude.{AllPairs, sum, replicate, nat_lt, map}
-use Rattle.std.specs.List.{Contains, range_with_len}
-use Rattle.std.proofs.lemmas.Bool.{cases_eq, cases_lt, Decides.nat_tests}
-use Rattle.std.proofs.lemmas.Option.{get_or_from_slice_get, slice_get_within}
-use Rattle.std.proofs.lemmas.List.{get_or-set_same, get_or-set_other, length-set, get_or-map, length-map, length-replicate}
-use Rattle.std.proofs.lemmas.List.{get_or-replicate, get_or_past, get_or_default, Sums.sum_by-set}
-use Rattle.std.proofs.lemmas.List.Elements.{All-cons, All-nil, All-contains}
+use Rattle.std.proofs.{Common.{[], ◌∷◌, length, set, Some, None, cond, true, false}, lemmas.Bool.{cases_eq, cases_lt}}
+use Rattle.std.proofs.lemmas.{Bool.Decides.nat_tests, Option.{get_or_from_slice_get, slice_get_within}, List.get_or-set_same}
+use Rattle.std.proofs.lemmas.List.{get_or-set_other, length-set, get_or-map, length-map, length-replicate, get_or-replicate}
+use Rattle.std.proofs.lemmas.List.{get_or_past, get_or_default, Sums.sum_by-set, Elements.{All-cons, All-nil, All-contains}}
 use Rattle.std.proofs.lemmas.List.FromFn.{length-range_with_len, get_or-range_with_len}
-use Rattle.graph_types.specs.{Graph.Graph, declared.ids.Filter.Filter}
-use Rattle.graph_types.specs.Analyses.{LeadsTo, Joins, Walk, IsLevel, IsLabel, IsTable}
+use Rattle.std.specs.{Prelude.{AllPairs, sum, replicate, nat_lt, map}, List.{Contains, range_with_len}}
+use Rattle.graph_types.specs.{Graph.Graph, declared.ids.Filter.Filter, Analyses.{LeadsTo, Joins, Walk, IsLevel, IsLabel, IsTable}}
 use Rattle.graph_types.specs.Arcs.{Arc, AreWithin, at, IsLowered, IsClosed, level_start, level_of}
 use Rattle.graph_types.proofs.{Walks.walk_map, Counts.Contains-first, Counts.Contains-cons, Counts.sub_length}
 

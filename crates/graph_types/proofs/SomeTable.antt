@@ -1,12 +1,9 @@
 -- Each content has levels, labels and core numbers.
-use Rattle.std.proofs.{Common.length, Common.sym, Common.subst, Common.map, lemmas.List.FromFn.length-range_with_len}
-use Rattle.std.specs.List.{range_with_len}
-use Rattle.graph_types.specs.{Graph.graph_of, Graph.IsContent, Tables.HasSomeTable}
-use Rattle.graph_types.specs.Arcs.{AreWithin, arcs_of, two_way, level_start, level_of}
-use Rattle.graph_types.specs.declared.{contents.Content.Content, ids.Filter.Filter}
+use Rattle.std.{proofs.{Common.{length, sym, subst, map}, lemmas.List.FromFn.length-range_with_len}, specs.List.range_with_len}
+use Rattle.graph_types.specs.{Graph.{graph_of, IsContent}, Tables.HasSomeTable, Arcs.{AreWithin, arcs_of, two_way, level_start}}
+use Rattle.graph_types.specs.{Arcs.level_of, declared.{contents.Content.Content, ids.Filter.Filter}}
 use Rattle.graph_types.proofs.Arcs.{arc_leads, leads_arc, arcs_within, arc_joins, joins_arc, two_way_within}
-use Rattle.graph_types.proofs.Cores.{cores_by_arcs}
-use Rattle.graph_types.proofs.Settling.{some_settled, settled_levels, settled_labels, level_start_long}
+use Rattle.graph_types.proofs.{Cores.cores_by_arcs, Settling.{some_settled, settled_levels, settled_labels, level_start_long}}
 
 pub some_table : (f : Filter) (c : Content) → IsContent c → HasSomeTable f (graph_of c)
 some_table f c is =

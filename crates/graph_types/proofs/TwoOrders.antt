@@ -1,9 +1,8 @@
 -- One graph, listed in two orders: two edges between two vertices, and the degrees that both lists show.
 use Rattle.std.proofs.Common.{◌≡◌, ◌≢◌, ℕ, zero, suc, List, [], ◌∷◌, get_or, pos, ap, arith}
 use Rattle.std.specs.{Prelude.All, Prelude.AllPairs, declared.option.Option.TheVariants.None}
-use Rattle.graph_types.specs.Graph.{Key, graph_of, content_of, key_of, IsContent, IsEdgeWithin}
-use Rattle.graph_types.specs.Answer.{degree_table}
-use Rattle.graph_types.specs.declared.{contents.Content.Content, ids.Edge.Edge, ids.Degree.Degree, ids.Filter.Filter}
+use Rattle.graph_types.specs.{Graph.{Key, graph_of, content_of, key_of, IsContent, IsEdgeWithin}, Answer.degree_table}
+use Rattle.graph_types.specs.declared.{contents.Content.Content, ids.{Edge.Edge, Degree.Degree, Filter.Filter}}
 use Rattle.graph_types.proofs.ListedDegrees.{degree_table_is}
 
 abbrev edge : ℕ → ℕ → ℕ → ℕ → Edge

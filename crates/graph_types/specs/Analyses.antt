@@ -1,11 +1,7 @@
 -- What the analyses measure on a view: levels, labels and core numbers.
 use Rattle.std.specs.Prelude.{◌≡◌, ◌≢◌, ℕ, ◌≤◌, List, length, slice_get, Bool, IsTrue, zero, suc, ◌⊎◌, All, AllPairs}
-use Rattle.std.specs.FinMap.{get}
-use Rattle.std.specs.declared.option.Option.{Option}
-use Rattle.std.specs.declared.option.Option.TheVariants.{None, Some}
-use Rattle.graph_types.specs.Graph.{Graph, Stamp}
-use Rattle.graph_types.specs.View.{in_view}
-use Rattle.graph_types.specs.declared.ids.Filter.{Filter}
+use Rattle.std.specs.{FinMap.get, declared.option.Option.{Option, TheVariants.{None, Some}}}
+use Rattle.graph_types.specs.{Graph.{Graph, Stamp}, View.in_view, declared.ids.Filter.Filter}
 
 -- an edge of the view leads from a to b
 abbrev pub LeadsTo : Filter → Graph → ℕ → ℕ → Type 0

@@ -1,24 +1,13 @@
 -- The answer to a request.
 use Rattle.std.specs.Prelude.{◌≡◌, ℕ, ℤ, List, length, map, zip, slice_index_or, [], nat_lt, Bool, true, false, bytes_eq, Result}
-use Rattle.std.specs.Prelude.{Ok, Err, not, ◌&&◌}
-use Rattle.std.specs.List.{list_any, range_with_len, filter_map}
-use Rattle.std.specs.Option.{option_map}
-use Rattle.std.specs.FinMap.{get}
-use Rattle.std.specs.declared.option.Option.{Option}
-use Rattle.std.specs.declared.option.Option.TheVariants.{None, Some}
-use Rattle.graph_types.specs.Graph.{Graph, Stamp}
-use Rattle.graph_types.specs.Step.{number_of, key_in}
-use Rattle.graph_types.specs.Analyses.{AreLevels, AreLabels, AreCoreNumbers}
-use Rattle.graph_types.specs.View.{out_degree, in_degree, out_weight}
-use Rattle.graph_types.specs.declared.ids.Filter.{Filter}
-use Rattle.graph_types.specs.declared.ids.Degree.{Degree}
-use Rattle.graph_types.specs.declared.requests.NamedFilter.{NamedFilter}
-use Rattle.graph_types.specs.declared.requests.Request.{Request}
-use Rattle.graph_types.specs.declared.requests.Request.TheVariants.{Levels as AskLevels, Labels as AskLabels, Cores as AskCores}
-use Rattle.graph_types.specs.declared.requests.Request.TheVariants.{Degrees as AskDegrees, OneEdge as AskOneEdge}
-use Rattle.graph_types.specs.declared.requests.Reply.{Reply}
-use Rattle.graph_types.specs.declared.requests.Reply.TheVariants.{Levels, Labels, Cores, Degrees, OneEdge}
-use Rattle.graph_types.specs.declared.requests.AskError.{AskError}
+use Rattle.std.specs.{Prelude.{Ok, Err, not, ◌&&◌}, List.{list_any, range_with_len, filter_map}, Option.option_map, FinMap.get}
+use Rattle.std.specs.declared.option.Option.{Option, TheVariants.{None, Some}}
+use Rattle.graph_types.specs.{Graph.{Graph, Stamp}, Step.{number_of, key_in}, Analyses.{AreLevels, AreLabels, AreCoreNumbers}}
+use Rattle.graph_types.specs.{View.{out_degree, in_degree, out_weight}, declared.ids.{Filter.Filter, Degree.Degree}}
+use Rattle.graph_types.specs.declared.requests.{NamedFilter.NamedFilter, Request.{Request, TheVariants.Levels as AskLevels}}
+use Rattle.graph_types.specs.declared.requests.Request.TheVariants.{Labels as AskLabels, Cores as AskCores, Degrees as AskDegrees}
+use Rattle.graph_types.specs.declared.requests.{Request.TheVariants.OneEdge as AskOneEdge, Reply.{Reply, TheVariants.Levels}}
+use Rattle.graph_types.specs.declared.requests.{Reply.TheVariants.{Labels, Cores, Degrees, OneEdge}, AskError.AskError}
 use Rattle.graph_types.specs.declared.requests.AskError.TheVariants.{BadWindow, NoKind, NoVertex}
 
 -- whether a name is listed, and whether a filter's kind is: a filter may name none

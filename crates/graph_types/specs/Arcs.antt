@@ -1,15 +1,10 @@
 -- The arcs of a view, and numbers at vertices that are lowered along arcs or by want of neighbors: the words of the
 -- slow forms of levels, labels and core numbers, by which each content is shown to have them.
 use Rattle.std.specs.Prelude.{◌≡◌, ◌≢◌, ℕ, ◌+◌, ◌*◌, ◌<◌, ◌≤◌, ◌↔◌, nat_le, nat_lt, cond, List, ◌++◌, length, map, filter}
-use Rattle.std.specs.Prelude.{replicate, slice_index_or, slice_set, count_by, All, AllPairs}
-use Rattle.std.specs.List.{Contains}
-use Rattle.std.specs.declared.option.Option.{Option}
-use Rattle.std.specs.declared.option.Option.TheVariants.{None, Some}
-use Rattle.graph_types.specs.Graph.{Graph, key_of, stamp_of}
-use Rattle.graph_types.specs.View.{in_view}
-use Rattle.graph_types.specs.Analyses.{Joins, Walk, InCore}
-use Rattle.graph_types.specs.declared.ids.Edge.{Edge}
-use Rattle.graph_types.specs.declared.ids.Filter.{Filter}
+use Rattle.std.specs.{Prelude.{replicate, slice_index_or, slice_set, count_by, All, AllPairs}, List.Contains}
+use Rattle.std.specs.declared.option.Option.{Option, TheVariants.{None, Some}}
+use Rattle.graph_types.specs.{Graph.{Graph, key_of, stamp_of}, View.in_view, Analyses.{Joins, Walk, InCore}}
+use Rattle.graph_types.specs.declared.ids.{Edge.Edge, Filter.Filter}
 
 -- source and target of each listed edge of the view
 abbrev pub arcs_of : Filter → List Edge → List (ℕ × ℕ)

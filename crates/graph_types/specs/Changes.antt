@@ -1,11 +1,7 @@
 -- What an edge bears, and what is done to it, as the program has them.
-use Rattle.std.specs.Option.{option_map}
-use Rattle.std.specs.declared.option.Option.{Option}
-use Rattle.graph_types.specs.Graph.{Stamp}
-use Rattle.graph_types.specs.Limits.{IsWeight, IsTime}
-use Rattle.graph_types.specs.declared.changes.EdgeChange.{EdgeChange}
-use Rattle.graph_types.specs.declared.changes.EdgeChange.TheVariants.{Insert, Incr, Remove}
-use Rattle.graph_types.specs.declared.changes.EdgeMarks.{EdgeMarks}
+use Rattle.std.specs.{Option.option_map, declared.option.Option.Option}
+use Rattle.graph_types.specs.{Graph.Stamp, Limits.{IsWeight, IsTime}, declared.changes.EdgeChange.EdgeChange}
+use Rattle.graph_types.specs.declared.changes.{EdgeChange.TheVariants.{Insert, Incr, Remove}, EdgeMarks.EdgeMarks}
 
 -- the stamp that marks show
 abbrev pub stamp_in : EdgeMarks → Stamp

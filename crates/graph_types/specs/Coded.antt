@@ -1,7 +1,6 @@
 -- Graphs as values of a model.
-use Rattle.std.specs.Prelude.{ℕ, ℤ, List, refl}
-use Rattle.std.specs.Coded.{Coded, code_by, coded×, coded_ℕ, coded_ℤ, coded_list}
-use Rattle.std.specs.FinMap.{FinMap, code}
+use Rattle.std.specs.{Prelude.{ℕ, ℤ, List, refl}, Coded.{Coded, code_by, coded×, coded_ℕ, coded_ℤ, coded_list}, FinMap.FinMap}
+use Rattle.std.specs.FinMap.{code}
 use Rattle.graph_types.specs.Graph.{Graph, Key, Stamp, key_cmp}
 
 abbrev pub key_code : Coded Key

@@ -1,11 +1,7 @@
 -- Degrees over a plain list of edges, and a table of them.
 use Rattle.std.specs.Prelude.{◌≡◌, ℕ, ◌+◌, ◌<◌, ◌≤◌, ◌^◌, pos, nat_abs, ◌+ℤ◌, ◌==◌, cond, List, map, filter, count_by, fold}
 use Rattle.std.specs.Prelude.{length, slice_index_or}
-use Rattle.graph_types.specs.Graph.{entry_of}
-use Rattle.graph_types.specs.View.{leaves, enters}
-use Rattle.graph_types.specs.declared.ids.Degree.{Degree}
-use Rattle.graph_types.specs.declared.ids.Edge.{Edge}
-use Rattle.graph_types.specs.declared.ids.Filter.{Filter}
+use Rattle.graph_types.specs.{Graph.entry_of, View.{leaves, enters}, declared.ids.{Degree.Degree, Edge.Edge, Filter.Filter}}
 
 -- the degrees of v over the listed edges that the filter lets through
 abbrev pub listed_degree : Filter → List Edge → ℕ → Degree

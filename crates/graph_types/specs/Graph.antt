@@ -2,13 +2,9 @@
 -- STINGER's edge has a kind, a weight and two times (Ediger, McColl, Riedy, Bader; IEEE HPEC 2012); the names
 -- and their numbers, the whole-number weights and the limits are this project's own profile.
 use Rattle.std.specs.Prelude.{◌≡◌, ◌≢◌, ℕ, ◌<◌, ◌≤◌, ℤ, List, map, length, All, AllPairs, Bool, not, ◌&&◌, ◌==◌, filter}
-use Rattle.std.specs.Ordering.{nat_cmp, ordering_then}
-use Rattle.std.specs.FinMap.{FinMap, from_entries}
-use Rattle.std.specs.declared.cmp.Ordering.{Ordering}
+use Rattle.std.specs.{Ordering.{nat_cmp, ordering_then}, FinMap.{FinMap, from_entries}, declared.cmp.Ordering.Ordering}
 pub use Rattle.graph_types.specs.Limits.{IsWeight, IsTime}
-use Rattle.graph_types.specs.Limits.{name_limit, kind_limit}
-use Rattle.graph_types.specs.declared.ids.Edge.{Edge}
-use Rattle.graph_types.specs.declared.contents.Content.{Content}
+use Rattle.graph_types.specs.{Limits.{name_limit, kind_limit}, declared.{ids.Edge.Edge, contents.Content.Content}}
 
 -- which edge: the numbers of its kind, its source and its target
 pub record Key : Type 0 where

@@ -1,19 +1,11 @@
 -- Laws about the definitions.
 use Rattle.std.specs.Prelude.{◌≡◌, ◌↔◌, ℕ, ◌+◌, List, Result, IsPermutation, IsTrue, All, true}
-use Rattle.std.specs.declared.option.Option.TheVariants.{Some}
-use Rattle.std.specs.FinMap.{FinMap, get, len}
-use Rattle.graph_types.specs.Graph.{Graph, Key, Stamp, key_cmp, graph_of, content_of, IsContent}
-use Rattle.graph_types.specs.Step.{after_all, left_by, stamp_after, stays_from, expired, count_before}
-use Rattle.graph_types.specs.Valid.{is_name, is_kind_name, IsBatch}
-use Rattle.graph_types.specs.GraphLimits.{MeetsNameLimit, MeetsKindLimit, is_within_limits}
-use Rattle.graph_types.specs.Answer.{IsAnswer}
-use Rattle.graph_types.specs.declared.batches.NamedOp.{NamedOp}
-use Rattle.graph_types.specs.declared.changes.EdgeChange.{EdgeChange}
-use Rattle.graph_types.specs.declared.contents.Content.{Content}
-use Rattle.graph_types.specs.declared.ids.Edge.{Edge}
-use Rattle.graph_types.specs.declared.requests.Request.{Request}
-use Rattle.graph_types.specs.declared.requests.Reply.{Reply}
-use Rattle.graph_types.specs.declared.requests.AskError.{AskError}
+use Rattle.std.specs.{declared.option.Option.TheVariants.Some, FinMap.{FinMap, get, len}}
+use Rattle.graph_types.specs.{Graph.{Graph, Key, Stamp, key_cmp, graph_of, content_of, IsContent}, Step.{after_all, left_by}}
+use Rattle.graph_types.specs.Step.{stamp_after, stays_from, expired, count_before, MeetsNameLimit, MeetsKindLimit}
+use Rattle.graph_types.specs.{Step.is_within_limits, Valid.{is_name, is_kind_name, IsBatch}, Answer.IsAnswer}
+use Rattle.graph_types.specs.declared.{batches.NamedOp.NamedOp, changes.EdgeChange.EdgeChange, contents.Content.Content}
+use Rattle.graph_types.specs.declared.{ids.Edge.Edge, requests.{Request.Request, Reply.Reply, AskError.AskError}}
 
 -- over one graph a request has one answer
 abbrev pub HasOneAnswer : Type 0

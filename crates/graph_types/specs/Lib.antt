@@ -4,7 +4,6 @@ pub mod Coded
 pub mod Valid
 pub mod Changes
 pub mod Step
-pub mod GraphLimits
 pub mod View
 pub mod Degrees
 pub mod Analyses

@@ -1,19 +1,12 @@
 -- What operations and batches do to a graph.
 use Rattle.std.specs.Prelude.{ℕ, ◌+ℤ◌, List, [], ◌∷◌, ◌++◌, Bool, true, false, if◌then◌else◌, bytes_eq, nat_lt, count_by, filter}
-use Rattle.std.specs.Prelude.{not}
-use Rattle.std.specs.Option.{is_some}
-use Rattle.std.specs.List.{list_any, position_or_len}
-use Rattle.std.specs.FinMap.{FinMap, empty, get, insert, remove, retain_keys, entries}
-use Rattle.std.specs.declared.option.Option.{Option}
+use Rattle.std.specs.{Prelude.{not, ◌<◌, length, nat_le, ◌&&◌}, Option.is_some, List.{list_any, position_or_len}, FinMap.FinMap}
+use Rattle.std.specs.{FinMap.{empty, get, insert, remove, retain_keys, entries}, declared.option.Option.Option}
 use Rattle.std.specs.declared.option.Option.TheVariants.{None, Some}
-use Rattle.graph_types.specs.Limits.{is_weight}
-use Rattle.graph_types.specs.Graph.{Graph, Key, Stamp, key_cmp, stamp_of}
-use Rattle.graph_types.specs.declared.ids.Edge.{Edge}
-use Rattle.graph_types.specs.declared.batches.NamedOp.{NamedOp}
-use Rattle.graph_types.specs.declared.batches.NamedOp.TheVariants.{Insert, Incr, Remove, Expire}
-use Rattle.graph_types.specs.declared.batches.Outcome.{Outcome}
-use Rattle.graph_types.specs.declared.batches.Outcome.TheVariants.{Inserted, Updated, Removed, Absent, Overflow, Expired}
-use Rattle.graph_types.specs.declared.changes.EdgeChange.{EdgeChange}
+use Rattle.graph_types.specs.{Limits.{is_weight, name_limit, kind_limit}, Graph.{Graph, Key, Stamp, key_cmp, stamp_of}}
+use Rattle.graph_types.specs.declared.{ids.Edge.Edge, batches.NamedOp.{NamedOp, TheVariants.{Insert, Incr, Remove, Expire}}}
+use Rattle.graph_types.specs.declared.batches.Outcome.{Outcome, TheVariants.{Inserted, Updated, Removed, Absent, Overflow}}
+use Rattle.graph_types.specs.declared.{batches.Outcome.TheVariants.Expired, changes.EdgeChange.EdgeChange}
 use Rattle.graph_types.specs.declared.changes.EdgeChange.TheVariants.{Insert as ToInsert, Incr as ToIncr, Remove as ToRemove}
 
 -- a list of names in order of first appearance, with a name that has now appeared
@@ -146,3 +139,14 @@ left_by (batch ∷ batches) g = left_by batches (after_all batch g)
 -- the graph without names, kinds and edges
 abbrev pub empty_graph : Graph
 empty_graph = record { names = []; kinds = []; edges = empty }
+
+-- a batch meets a limit where it would leave more names or kinds than that
+abbrev pub MeetsNameLimit : List NamedOp → Graph → Type 0
+MeetsNameLimit ops g = name_limit < length (after_all ops g).names
+
+abbrev pub MeetsKindLimit : List NamedOp → Graph → Type 0
+MeetsKindLimit ops g = kind_limit < length (after_all ops g).kinds
+
+-- whether a graph is within both limits
+abbrev pub is_within_limits : Graph → Bool
+is_within_limits g = nat_le (length g.names) name_limit && nat_le (length g.kinds) kind_limit

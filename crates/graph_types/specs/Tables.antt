@@ -1,10 +1,7 @@
 -- Two laws about levels, labels and core numbers.
-use Rattle.std.specs.Prelude.{◌≡◌, ℕ, ◌<◌, List, length}
-use Rattle.std.specs.declared.option.Option.{Option}
-use Rattle.graph_types.specs.Graph.{Graph, graph_of, IsContent}
-use Rattle.graph_types.specs.Analyses.{AreLevels, AreLabels, AreCoreNumbers}
-use Rattle.graph_types.specs.declared.contents.Content.{Content}
-use Rattle.graph_types.specs.declared.ids.Filter.{Filter}
+use Rattle.std.specs.{Prelude.{◌≡◌, ℕ, ◌<◌, List, length}, declared.option.Option.Option}
+use Rattle.graph_types.specs.{Graph.{Graph, graph_of, IsContent}, Analyses.{AreLevels, AreLabels, AreCoreNumbers}}
+use Rattle.graph_types.specs.declared.{contents.Content.Content, ids.Filter.Filter}
 
 -- a graph has at most one table of each
 pub record HasOneTable (f : Filter) (g : Graph) : Type 0 where

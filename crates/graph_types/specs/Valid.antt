@@ -1,12 +1,8 @@
 -- Which names, operations and batches are valid.
 use Rattle.std.specs.Prelude.{ℕ, ◌≤◌, nat_le, List, [], ◌∷◌, length, Bool, true, if◌then◌else◌, bytes_eq, not, ◌&&◌, IsTrue, All}
-use Rattle.std.specs.List.{list_all}
-use Rattle.std.specs.declared.option.Option.{Option}
-use Rattle.std.specs.declared.option.Option.TheVariants.{None, Some}
-use Rattle.graph_types.specs.Limits.{operation_limit, is_weight, is_time}
-use Rattle.graph_types.specs.declared.batches.NamedOp.{NamedOp}
-use Rattle.graph_types.specs.declared.batches.NamedOp.TheVariants.{Insert, Incr, Remove, Expire}
-use Rattle.graph_types.specs.declared.batches.PushError.{PushError}
+use Rattle.std.specs.{List.list_all, declared.option.Option.{Option, TheVariants.{None, Some}}}
+use Rattle.graph_types.specs.{Limits.{operation_limit, is_weight, is_time}, declared.batches.NamedOp.NamedOp}
+use Rattle.graph_types.specs.declared.batches.{NamedOp.TheVariants.{Insert, Incr, Remove, Expire}, PushError.PushError}
 use Rattle.graph_types.specs.declared.batches.PushError.TheVariants.{BadName, BadWeight, BadTime, BatchFull}
 
 -- from ! to ~

@@ -1,11 +1,7 @@
 -- The view: the edges that a filter lets through, and the degrees that are counted over it.
-use Rattle.std.specs.Prelude.{ℕ, ℤ, pos, ◌+ℤ◌, ◌==◌, nat_le, map, filter, count_by, Bool, true, ◌&&◌, fold}
-use Rattle.std.specs.FinMap.{entries}
-use Rattle.std.specs.declared.option.Option.{Option}
-use Rattle.std.specs.declared.option.Option.TheVariants.{None, Some}
-use Rattle.graph_types.specs.Graph.{Graph, Key, Stamp}
-use Rattle.graph_types.specs.declared.ids.Filter.{Filter}
-use Rattle.graph_types.specs.declared.ids.KindId.{KindId}
+use Rattle.std.specs.{Prelude.{ℕ, ℤ, pos, ◌+ℤ◌, ◌==◌, nat_le, map, filter, count_by, Bool, true, ◌&&◌, fold}, FinMap.entries}
+use Rattle.std.specs.declared.option.Option.{Option, TheVariants.{None, Some}}
+use Rattle.graph_types.specs.{Graph.{Graph, Key, Stamp}, declared.ids.{Filter.Filter, KindId.KindId}}
 
 -- whether the filter takes edges of this kind
 abbrev pub takes_kind : Option KindId → ℕ → Bool

@@ -1,9 +1,8 @@
 -- Edges along arcs lead where the arcs do.
 use Rattle.std.proofs.Common.{◌≡◌, ℕ, zero, suc, ◌<◌, arith, refl, sym, ap, ◌∙◌, subst, List, [], ◌∷◌, ◌++◌, length, map}
-use Rattle.std.proofs.Common.{append-nil, append_assoc, Some, true, false, Bool, cond, Option}
+use Rattle.std.proofs.{Common.{append-nil, append_assoc, Some, true, false, Bool, cond, Option}, lemmas.Bool.and_parts}
+use Rattle.std.proofs.lemmas.{Bool.{eqb-true, Decides.{nat_tests, Decides-eqb}}, List.length-replicate}
 use Rattle.std.specs.{Prelude.filter, Prelude.nat_lt, Prelude.◌&&◌, Prelude.◌==◌, Prelude.◌↔◌, List.Contains, FinMap.find}
-use Rattle.std.proofs.lemmas.Bool.{and_parts, eqb-true, Decides.nat_tests, Decides.Decides-eqb}
-use Rattle.std.proofs.lemmas.List.{length-replicate}
 use Rattle.graph_types.specs.Graph.{Key, Stamp, key_cmp, key_of, stamp_of, entry_of}
 use Rattle.graph_types.{specs.Analyses.LeadsTo, proofs.Arcs.contains_map, proofs.Arcs.map_contains, proofs.Counts.contains_filter}
 use Rattle.graph_types.proofs.{Counts.filter_contains, Keys.get_is, Keys.find_listed, Keys.is_key_of, Keys.is_key_of_at}

@@ -1,8 +1,6 @@
 -- How many blocks rows have: a version at most 2 ^ 38, since each of its blocks has an edge.
-use Rattle.std.proofs.Common.{◌≡◌, ℕ, suc, ◌≤◌, ◌^◌, false, List, [], ◌∷◌, length, Option, Some, None}
-use Rattle.std.proofs.Common.{arith, All, length-append}
-use Rattle.std.specs.List.{list_all}
-use Rattle.std.proofs.lemmas.List.Elements.{All-head, All-tail, All-append}
+use Rattle.std.proofs.Common.{◌≡◌, ℕ, suc, ◌≤◌, ◌^◌, false, List, [], ◌∷◌, length, Option, Some, None, arith, All, length-append}
+use Rattle.std.{proofs.lemmas.List.Elements.{All-head, All-tail, All-append}, specs.List.list_all}
 use Rattle.edge_block.specs.Slots.{Slot, BlockView, is_free, edges_in}
 use Rattle.version_pages.specs.Rows.{row_of, blocks_of}
 use Rattle.graph_version.specs.{Versions.VersionView, Versions.IsVersion, Edges.edges_in_block, Edges.edges_in_blocks}

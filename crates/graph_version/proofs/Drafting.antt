@@ -3,9 +3,7 @@ use Rattle.std.proofs.Common.{◌≡◌, ℕ, ◌%◌, ◌^◌, List, refl, arit
 use Rattle.graph_types.specs.{Graph.Graph, declared.batches.NamedOp.NamedOp}
 use Rattle.edge_block.specs.Slots.{BlockView}
 use Rattle.vertex_names.specs.Book.{Book}
-use Rattle.graph_version.specs.Kept.{version_of, edge_total, IsSummary}
-use Rattle.graph_version.specs.Drafts.{DraftView, IsWhole}
-use Rattle.graph_version.proofs.Few.{few_total}
+use Rattle.graph_version.{specs.{Kept.{version_of, edge_total, IsSummary}, Drafts.{DraftView, IsWhole}}, proofs.Few.few_total}
 
 -- the draft of these parts
 abbrev pub draft_of : Book → Book → Graph → List (List NamedOp) → List (List BlockView) → DraftView

@@ -2,10 +2,9 @@
 use Rattle.std.proofs.Common.{◌≡◌, ◌∙◌, ℕ, List, [], refl, sym, ap, arith, true≢false}
 use Rattle.std.specs.{Option.is_some, FinMap.get-empty, FinMap.len-empty}
 use Rattle.graph_types.specs.{Graph.Graph, Graph.Stamp, Graph.key_cmp, Step.empty_graph, declared.batches.NamedOp.NamedOp}
-use Rattle.edge_block.specs.Slots.{BlockView}
+use Rattle.edge_block.specs.{Slots.BlockView, Rows.IsRow}
 use Rattle.vertex_names.specs.Book.{Book, empty_book}
 use Rattle.graph_version.specs.{Versions.IsVersion, Versions.empty_version, Kept.version_of, Kept.IsSummary}
-use Rattle.edge_block.specs.Rows.{IsRow}
 
 pub no_row : IsRow []
 no_row = record { within = λ k d h. absurd (omega arith); between = tt }

@@ -1,16 +1,12 @@
 -- A version has at most 2 ^ 38 edges: as many as there are kinds, sources and targets.
-use Rattle.std.proofs.Common.{◌≡◌, ℕ, ◌^◌, ◌<◌, ◌≤◌, true, cond, ◌&&◌, eqb, List, [], ◌∷◌, refl, length, get_or}
-use Rattle.std.proofs.Common.{sym, ap, ◌∙◌, arith, All}
+use Rattle.std.proofs.Common.{◌≡◌, ℕ, ◌^◌, ◌<◌, ◌≤◌, true, cond, ◌&&◌, eqb, List, [], ◌∷◌, refl, length, get_or, sym, ap, ◌∙◌}
+use Rattle.std.proofs.{Common.{arith, All}, lemmas.{Bool.{and_parts, eqb-true}, List.Sums.{sum_by-cons, sum_by-le-sum_by}}}
 use Rattle.std.specs.{Prelude.count_by, Option.is_some, FinMap.get, FinMap.len}
-use Rattle.graph_types.specs.{Graph.Key, Graph.key_of, declared.ids.Edge.Edge}
-use Rattle.std.proofs.lemmas.{Bool.and_parts, Bool.eqb-true, List.Sums.sum_by-cons, List.Sums.sum_by-le-sum_by}
-use Rattle.graph_types.proofs.DegreeBounds.{crowd}
+use Rattle.graph_types.{specs.{Graph.{Key, key_of}, declared.ids.Edge.Edge}, proofs.DegreeBounds.{crowd, one_where}}
 use Rattle.graph_types.proofs.Keys.{HasKeysOnce, is_key_of, is_key_of_at, count_key, get_listed, len_once}
 use Rattle.version_pages.specs.Rows.{blocks_of}
-use Rattle.graph_version.specs.{Versions.VersionView, Versions.content, Versions.IsVersion, Edges.edges_in_blocks}
-use Rattle.graph_version.specs.Kept.{edge_total}
+use Rattle.graph_version.specs.{Versions.{VersionView, content, IsVersion}, Edges.edges_in_blocks, Kept.edge_total}
 use Rattle.graph_version.proofs.Shown.{rows_each_once}
-use Rattle.graph_types.proofs.DegreeBounds.{one_where}
 
 -- the rows of a version list as many edges as its content has
 pub count_is_total : (v : VersionView) → IsVersion v → length (edges_in_blocks (blocks_of v.rows)) ≡ edge_total v

@@ -1,10 +1,8 @@
 -- What a filter that takes all lends of a block.
 use Rattle.std.proofs.Common.{◌≡◌, ◌-◌, ◌<◌, ◌^◌, Bool, true, List, [], ◌∷◌, map, refl, ap, arith, All, Option, None, Some}
-use Rattle.std.specs.Prelude.{filter}
-use Rattle.std.proofs.lemmas.{Bool.le-leb, List.Elements.All-head, List.Elements.All-tail}
+use Rattle.std.{proofs.lemmas.{Bool.le-leb, List.Elements.{All-head, All-tail}}, specs.Prelude.filter}
 use Rattle.graph_types.specs.{Graph.Key, Graph.Stamp, View.in_view, declared.ids.Filter.Filter}
-use Rattle.edge_block.specs.Slots.{Slot, BlockView, IsBlock, IsSlot, IsStamp, edges_in, entry_in, entries_of}
-use Rattle.edge_block.specs.Lending.{lent_of}
+use Rattle.edge_block.specs.{Slots.{Slot, BlockView, IsBlock, IsSlot, IsStamp, edges_in, entry_in, entries_of}, Lending.lent_of}
 
 -- the filter names no kind, and its window has all times
 pub record TakesAll (f : Filter) : Type 0 where

@@ -4,9 +4,9 @@ use Rattle.std.proofs.Common.{refl, sym, ap, ◌∙◌, arith}
 use Rattle.std.specs.{Option.is_some, Option.option_or, declared.sync.Arc.Arc, declared.alloc.Global.Global, FinMap.get}
 use Rattle.graph_types.specs.Graph.{Stamp}
 use Rattle.edge_block.specs.{Slots.BlockView, Slots.first_some, Lending.LentEdge, declared.blocks.Block.Block}
+use Rattle.edge_block.specs.Rows.{shape_of, block_at, row_at}
 use Rattle.version_pages.specs.{Rows.row_of, Sharing.block_value, Sharing.block_values}
 use Rattle.graph_version.specs.{Versions.VersionView, Versions.content, Versions.IsVersion, Edges.lent_to, Lending.lent_at}
-use Rattle.edge_block.specs.Rows.{shape_of, block_at, row_at}
 
 -- what a shared block has at a kind and a target
 abbrev pub place_at : ℕ × ℕ → Arc Block Global → Option Stamp

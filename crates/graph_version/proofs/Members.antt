@@ -1,7 +1,7 @@
 -- What several lists, one behind the other, contain; and the blocks of rows.
 use Rattle.std.proofs.Common.{ℕ, zero, suc, sym, subst, inl, inr, List, [], ◌∷◌}
-use Rattle.std.specs.{Prelude.flat_map, List.Contains}
 use Rattle.std.proofs.lemmas.List.Elements.{Contains-append_left, Contains-append_right, Contains-append_cases}
+use Rattle.std.specs.{Prelude.flat_map, List.Contains}
 use Rattle.graph_types.proofs.Counts.{Contains-cons_cases, Contains-nil, Contains-first, Contains-cons}
 use Rattle.edge_block.specs.Slots.{BlockView}
 use Rattle.version_pages.specs.Rows.{row_of, blocks_of}

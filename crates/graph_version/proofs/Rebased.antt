@@ -1,25 +1,18 @@
 -- A version 0 over copies of another version's blocks.
-use Rattle.std.proofs.Common.{◌≡◌, ◌≢◌, ℕ, zero, suc, ◌+◌, ◌-◌, ◌<◌, ◌≤◌, List, [], ◌∷◌, ◌++◌, map, length, take}
-use Rattle.std.proofs.Common.{drop, get_or, refl, sym, ap, ap₂, subst, ◌∙◌, arith, inl, inr, All, AllPairs, length-append}
-use Rattle.std.proofs.Common.{ℤ, true, rules, w64, FitsSigned}
-use Rattle.std.proofs.lemmas.List.{append-nil, take-append-drop, take_all, drop_all, length-map, map-append}
-use Rattle.std.specs.{List.list_all, declared.sync.Arc.Arc, declared.alloc.Global.Global, FinMap.len}
-use Rattle.std.proofs.lemmas.Bool.{cases_lt, Decides.eqb_tells}
-use Rattle.std.proofs.lemmas.List.Elements.{All-head, All-tail, All-cons}
-use Rattle.graph_types.specs.{Graph.key_of, Graph.stamp_of, Graph.IsContent}
+use Rattle.std.proofs.Common.{◌≡◌, ◌≢◌, ℕ, zero, suc, ◌+◌, ◌-◌, ◌<◌, ◌≤◌, List, [], ◌∷◌, ◌++◌, map, length, take, drop, get_or}
+use Rattle.std.proofs.Common.{refl, sym, ap, ap₂, subst, ◌∙◌, arith, inl, inr, All, AllPairs, length-append, ℤ, true, rules, w64}
+use Rattle.std.proofs.{Common.FitsSigned, lemmas.List.{append-nil, take-append-drop, take_all, drop_all, length-map, map-append}}
+use Rattle.std.proofs.lemmas.{List.Elements.{All-head, All-tail, All-cons}, Bool.{cases_lt, Decides.eqb_tells}}
+use Rattle.std.specs.{List.list_all, declared.{sync.Arc.Arc, alloc.Global.Global}, FinMap.{len, get}, Option.is_some}
+use Rattle.graph_types.specs.{Graph.{key_of, stamp_of, IsContent, Graph, graph_of, map_of}, Limits.{name_limit, kind_limit}}
+use Rattle.graph_types.specs.{Limits.IsWeight, declared.{batches.NamedOp.NamedOp, contents.Content.Content, ids.Edge.Edge}}
 use Rattle.graph_types.proofs.Keys.{get_listed}
-use Rattle.std.specs.{Option.is_some, FinMap.get}
-use Rattle.graph_types.specs.{Graph.Graph, Graph.graph_of, Graph.map_of, Limits.name_limit, Limits.kind_limit, Limits.IsWeight}
-use Rattle.graph_types.specs.declared.{batches.NamedOp.NamedOp, contents.Content.Content, ids.Edge.Edge}
-use Rattle.edge_block.specs.Slots.{IsStamp, Slot, BlockView, is_free, entry_in, entries_of, edges_in}
-use Rattle.edge_block.specs.{Lending.LentEdge, Lending.lent_of, declared.blocks.Block.Block}
-use Rattle.edge_block.specs.{Rows.shape_of, Batches.IsLayoutOf, Batches.IsWithin}
+use Rattle.edge_block.specs.{Slots.{IsStamp, Slot, BlockView, is_free, entry_in, entries_of, edges_in}, Lending.LentEdge}
+use Rattle.edge_block.specs.{Lending.lent_of, declared.blocks.Block.Block, Rows.shape_of, Batches.{IsLayoutOf, IsWithin}}
 use Rattle.vertex_names.specs.Book.{Book}
-use Rattle.version_pages.specs.Rows.{row_of, blocks_of, numbers_of, Replaces}
-use Rattle.version_pages.specs.Sharing.{block_value, block_values}
-use Rattle.graph_version.specs.Versions.{VersionView, IsBlockOf, AreRowsOf, IsVersion, content, layout_of}
-use Rattle.graph_version.specs.Edges.{edge_from, edges_in_block, edges_in_blocks}
-use Rattle.graph_version.specs.Kept.{vertex_book, kind_book, version_of, IsSummary}
+use Rattle.version_pages.specs.{Rows.{row_of, blocks_of, numbers_of, Replaces}, Sharing.{block_value, block_values}}
+use Rattle.graph_version.specs.{Versions.{VersionView, IsBlockOf, AreRowsOf, IsVersion, content, layout_of}, Edges.edge_from}
+use Rattle.graph_version.specs.{Edges.{edges_in_block, edges_in_blocks}, Kept.{vertex_book, kind_book, version_of, IsSummary}}
 use Rattle.graph_version.specs.Rebased.{AreCopies, IsRebased, rows_like, unnumbered}
 use Rattle.graph_version.proofs.{Shown.rows_each_once, Totals.same_blocks, Totals.at_source, Totals.elsewhere}
 

@@ -1,17 +1,14 @@
 -- The targets in a source's row are those that edges of the view lead to.
-use Rattle.std.proofs.Common.{◌≡◌, ℕ, sym, ap, ◌∙◌, subst, List, Some, true}
+use Rattle.std.proofs.{Common.{◌≡◌, ℕ, sym, ap, ◌∙◌, subst, List, Some, true}, lemmas.List.Elements.All-contains}
 use Rattle.std.specs.{Prelude.IsTrue, Prelude.◌↔◌, List.Contains, FinMap.get}
-use Rattle.std.proofs.lemmas.List.Elements.{All-contains}
-use Rattle.graph_types.specs.{Graph.Graph, Graph.Key, Graph.Stamp, Graph.key_of, Graph.stamp_of, Graph.map_of, View.in_view}
-use Rattle.graph_types.specs.{Analyses.LeadsTo, declared.ids.Edge.Edge, declared.ids.Filter.Filter}
-use Rattle.graph_types.proofs.{Arcs.contains_map, Arcs.map_contains, Counts.contains_filter, Counts.filter_contains}
-use Rattle.graph_types.proofs.Keys.{get_is, get_listed, find_listed}
+use Rattle.graph_types.specs.{Graph.{Graph, Key, Stamp, key_of, stamp_of, map_of}, View.in_view, Analyses.LeadsTo}
+use Rattle.graph_types.{specs.declared.ids.{Edge.Edge, Filter.Filter}, proofs.Arcs.{contains_map, map_contains}}
+use Rattle.graph_types.proofs.{Counts.{contains_filter, filter_contains}, Keys.{get_is, get_listed, find_listed}}
 use Rattle.edge_block.specs.Slots.{BlockView, edges_in, entry_in, entries_of}
 use Rattle.version_pages.specs.Rows.{row_of, blocks_of}
-use Rattle.graph_version.specs.{Versions.AreRowsOf, Versions.IsBlockOf, Edges.edge_from, Edges.edges_in_block}
-use Rattle.graph_version.{specs.Edges.edges_in_blocks, proofs.Shown.rows_each_once}
-use Rattle.graph_version.specs.Shown.{shown, shown_in, targets_of}
-use Rattle.graph_version.proofs.Members.{contains_flat, flat_contains, in_rows, row_with}
+use Rattle.graph_version.specs.{Versions.{AreRowsOf, IsBlockOf}, Edges.{edge_from, edges_in_block, edges_in_blocks}, Shown.shown}
+use Rattle.graph_version.{specs.Shown.{shown_in, targets_of}, proofs.{Shown.rows_each_once, Members.contains_flat}}
+use Rattle.graph_version.proofs.Members.{flat_contains, in_rows, row_with}
 
 -- the entries of a block are of its source
 pub of_source : (b : BlockView) (e : Key × Stamp) → Contains (entries_of b) e → e.0.source ≡ b.source

@@ -1,17 +1,13 @@
 -- Rows that are tied to a graph by look-up list each of its edges once.
-use Rattle.std.proofs.Common.{◌≡◌, ℕ, zero, suc, ◌+◌, ◌<◌, ◌≤◌, List, [], ◌∷◌, ◌++◌, map, length, refl, sym, ap, ap₂, ◌∙◌}
-use Rattle.std.proofs.Common.{subst, arith, inl, inr, All, true, None}
+use Rattle.std.proofs.Common.{◌≡◌, ℕ, zero, suc, ◌+◌, ◌<◌, ◌≤◌, List, [], ◌∷◌, ◌++◌, map, length, refl, sym, ap, ap₂, ◌∙◌, subst}
+use Rattle.std.proofs.{Common.{arith, inl, inr, All, true, None}, lemmas.Bool.{false≢true, Decides.leb_tells}}
+use Rattle.std.proofs.lemmas.{Grind.flat_map-append, List.{map-append, Elements.{All-head, All-tail}}}
 use Rattle.std.specs.{Option.is_some, FinMap.get}
-use Rattle.std.proofs.lemmas.{Bool.false≢true, Bool.Decides.leb_tells, Grind.flat_map-append}
-use Rattle.std.proofs.lemmas.List.{map-append, Elements.All-head, Elements.All-tail}
 use Rattle.graph_types.specs.{Graph.Graph, Graph.Key, declared.ids.Edge.Edge}
-use Rattle.edge_block.specs.Slots.{BlockView, edges_in}
-use Rattle.edge_block.specs.Rows.{Shape, shape_of, row_at, row_entries}
-use Rattle.edge_block.specs.Listed.{edge_from, edges_in_row, edges_in_rows}
-use Rattle.edge_block.proofs.ListedRows.{listed_once, slot_entry}
+use Rattle.edge_block.specs.{Slots.{BlockView, edges_in}, Rows.{Shape, shape_of, row_at, row_entries}, Listed.edge_from}
+use Rattle.edge_block.{specs.Listed.{edges_in_row, edges_in_rows}, proofs.ListedRows.{listed_once, slot_entry}}
 use Rattle.version_pages.specs.Rows.{row_of, blocks_of}
-use Rattle.graph_version.specs.Versions.{layout_of, AreRowsOf}
-use Rattle.graph_version.specs.Edges.{edges_in_block, edges_in_blocks, AreEachOnce}
+use Rattle.graph_version.specs.{Versions.{layout_of, AreRowsOf}, Edges.{edges_in_block, edges_in_blocks, AreEachOnce}}
 
 -- a row's blocks list what its shapes do
 row_listed : (source : ℕ) (row : List BlockView) → All (λ b. b.source ≡ source) row

@@ -1,8 +1,7 @@
 -- How many edges rows have, and rows that look the same.
-use Rattle.std.proofs.Common.{◌≡◌, ◌≢◌, ◌==◌, ℕ, zero, suc, ◌+◌, ◌<◌, List, [], ◌∷◌, ◌++◌, length, get_or, take}
-use Rattle.std.proofs.Common.{refl, sym, ap, ◌∙◌, arith, length-append, inl, inr, if◌then◌else◌}
-use Rattle.std.specs.declared.{sync.Arc.Arc, alloc.Global.Global}
-use Rattle.std.proofs.lemmas.{Grind.flat_map-append, List.length-map, Bool.Decides.eqb_tells}
+use Rattle.std.proofs.Common.{◌≡◌, ◌≢◌, ◌==◌, ℕ, zero, suc, ◌+◌, ◌<◌, List, [], ◌∷◌, ◌++◌, length, get_or, take, refl, sym, ap}
+use Rattle.std.proofs.{Common.{◌∙◌, arith, length-append, inl, inr, if◌then◌else◌}, lemmas.Grind.flat_map-append}
+use Rattle.std.{proofs.lemmas.{List.length-map, Bool.Decides.eqb_tells}, specs.declared.{sync.Arc.Arc, alloc.Global.Global}}
 use Rattle.edge_block.specs.{Slots.BlockView, Slots.entry_in, Slots.entries_of, Slots.edges_in, declared.blocks.Block.Block}
 use Rattle.version_pages.specs.{Rows.row_of, Rows.blocks_of, Sharing.block_value, Sharing.block_values}
 use Rattle.graph_version.specs.Edges.{edge_from, edges_in_block, edges_in_blocks}

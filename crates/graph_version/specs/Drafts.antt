@@ -4,8 +4,7 @@ use Rattle.graph_types.specs.declared.batches.NamedOp.{NamedOp}
 use Rattle.edge_block.specs.Slots.{BlockView}
 use Rattle.vertex_names.specs.Book.{Book}
 use Rattle.version_pages.specs.Rows.{Replaces}
-use Rattle.graph_version.specs.Versions.{VersionView, content, IsVersion}
-use Rattle.graph_version.specs.Kept.{vertex_book, kind_book}
+use Rattle.graph_version.specs.{Versions.{VersionView, content, IsVersion}, Kept.{vertex_book, kind_book}}
 
 -- the two books, and what the version would be now
 pub record DraftView : Type 0 where

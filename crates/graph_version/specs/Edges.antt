@@ -1,14 +1,8 @@
 -- The edges in blocks, as graph_types lists edges.
-use Rattle.std.specs.Prelude.{ℕ, List, map}
-use Rattle.std.specs.List.{flat_map}
-use Rattle.graph_types.specs.Graph.{Graph, Stamp}
-use Rattle.graph_types.specs.declared.ids.Edge.{Edge}
-use Rattle.std.specs.Option.{option_map}
-use Rattle.std.specs.declared.option.Option.{Option}
-use Rattle.edge_block.specs.Slots.{BlockView, entries_of}
-use Rattle.edge_block.specs.Lending.{LentEdge}
+use Rattle.std.specs.{Prelude.{ℕ, List, map}, List.flat_map, Option.option_map, declared.option.Option.Option}
+use Rattle.graph_types.specs.{Graph.{Graph, Stamp}, declared.ids.Edge.Edge}
+use Rattle.edge_block.specs.{Slots.{BlockView, entries_of}, Lending.LentEdge, Listed.AreListedOnce}
 pub use Rattle.edge_block.specs.Listed.{edge_from}
-use Rattle.edge_block.specs.Listed.{AreListedOnce}
 
 -- a block's edges, in slot order
 abbrev pub edges_in_block : BlockView → List Edge

@@ -1,17 +1,11 @@
 -- What a version keeps beside its batches and rows: what it began with, two books of names, and how many edges there are.
-use Rattle.std.specs.Prelude.{◌≡◌, ℕ, List}
-use Rattle.std.specs.Arc.{arc_value}
-use Rattle.std.specs.FinMap.{len}
-use Rattle.graph_types.specs.Limits.{name_limit, kind_limit}
-use Rattle.graph_types.specs.Graph.{Graph, graph_of}
-use Rattle.graph_types.specs.declared.batches.NamedOp.{NamedOp}
+use Rattle.std.specs.{Prelude.{◌≡◌, ℕ, List}, Arc.arc_value, FinMap.len}
+use Rattle.graph_types.specs.{Limits.{name_limit, kind_limit}, Graph.{Graph, graph_of}, declared.batches.NamedOp.NamedOp}
 use Rattle.graph_types.specs.declared.contents.Content.{Content}
 use Rattle.edge_block.specs.Slots.{BlockView}
 use Rattle.vertex_names.specs.Book.{Book}
-use Rattle.graph_version.specs.Versions.{VersionView, content, IsVersion}
-use Rattle.graph_version.specs.declared.listed.ListedContent.{ListedContent}
-use Rattle.graph_version.specs.declared.opening.Opening.{Opening}
-use Rattle.graph_version.specs.declared.opening.Opening.TheVariants.{Alone, Shared}
+use Rattle.graph_version.specs.{Versions.{VersionView, content, IsVersion}, declared.listed.ListedContent.ListedContent}
+use Rattle.graph_version.specs.declared.opening.Opening.{Opening, TheVariants.{Alone, Shared}}
 
 -- a book of at most 65,536 vertex names, and one of at most 64 kind names
 abbrev pub vertex_book : List (List ℕ) → Book

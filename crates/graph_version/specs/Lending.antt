@@ -1,16 +1,10 @@
 -- Edges and block numbers as a version lends them.
-use Rattle.std.specs.Prelude.{ℕ, List, [], ◌++◌, map, drop, flat_map}
-use Rattle.std.specs.FinMap.{get}
-use Rattle.std.specs.declared.option.Option.{Option}
+use Rattle.std.specs.{Prelude.{ℕ, List, [], ◌++◌, map, drop, flat_map}, FinMap.get, declared.option.Option.Option}
 use Rattle.std.specs.declared.option.Option.TheVariants.{None, Some}
-use Rattle.edge_block.specs.Slots.{BlockView, entries_of}
-use Rattle.edge_block.specs.Lending.{LentEdge, lent_of, edges_left}
+use Rattle.edge_block.specs.{Slots.{BlockView, entries_of}, Lending.{LentEdge, lent_of, edges_left}}
 use Rattle.edge_block.specs.declared.blocks.BlockIter.{BlockIter}
-use Rattle.version_pages.specs.Rows.{blocks_of, numbers_of}
-use Rattle.version_pages.specs.Sharing.{block_values}
-use Rattle.graph_version.specs.Versions.{VersionView, content}
-use Rattle.graph_version.specs.Edges.{lent_to}
-use Rattle.graph_version.specs.declared.lending.RowIter.{RowIter}
+use Rattle.version_pages.specs.{Rows.{blocks_of, numbers_of}, Sharing.block_values}
+use Rattle.graph_version.specs.{Versions.{VersionView, content}, Edges.lent_to, declared.lending.RowIter.RowIter}
 use Rattle.graph_version.specs.declared.lending.BlockNumbers.{BlockNumbers}
 
 -- the content's edge of a kind from a source to a target, as it is lent

@@ -1,9 +1,7 @@
 -- The graph that a list of arcs shows: an edge of the first kind along each arc between its vertices.
 use Rattle.std.specs.Prelude.{ℕ, List, [], ◌∷◌, ◌++◌, cond, map, filter, replicate, nat_lt, Bool, ◌&&◌, ◌==◌, pos}
 use Rattle.std.specs.declared.option.Option.TheVariants.{None}
-use Rattle.graph_types.specs.Graph.{Graph, map_of}
-use Rattle.graph_types.specs.declared.ids.Edge.{Edge}
-use Rattle.graph_types.specs.declared.ids.Filter.{Filter}
+use Rattle.graph_types.specs.{Graph.{Graph, map_of}, declared.ids.{Edge.Edge, Filter.Filter}}
 
 -- the edge along an arc, of weight 0 and time 0
 abbrev pub edge_along : ℕ × ℕ → Edge

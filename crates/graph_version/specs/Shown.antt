@@ -1,8 +1,6 @@
 -- The edges of blocks that a filter lets through, as entries of a map.
 use Rattle.std.specs.Prelude.{ℕ, List, map, filter, flat_map}
-use Rattle.graph_types.specs.Graph.{Key, Stamp}
-use Rattle.graph_types.specs.View.{in_view}
-use Rattle.graph_types.specs.declared.ids.Filter.{Filter}
+use Rattle.graph_types.specs.{Graph.{Key, Stamp}, View.in_view, declared.ids.Filter.Filter}
 use Rattle.edge_block.specs.Slots.{BlockView, entries_of}
 
 -- those of a block, in slot order, and of several blocks taken together

@@ -1,13 +1,9 @@
 -- A version of a graph: what it began with, its batches, and its rows of blocks.
 use Rattle.std.specs.Prelude.{◌≡◌, ◌≢◌, ℕ, ◌≤◌, List, [], map, length, All, AllPairs, Bool, false, ◌==◌}
 use Rattle.std.specs.List.{list_any, list_all}
-use Rattle.graph_types.specs.Graph.{Graph}
-use Rattle.graph_types.specs.Limits.{name_limit, kind_limit, batch_limit}
-use Rattle.graph_types.specs.Step.{left_by, empty_graph}
+use Rattle.graph_types.specs.{Graph.Graph, Limits.{name_limit, kind_limit, batch_limit}, Step.{left_by, empty_graph}}
 use Rattle.graph_types.specs.declared.batches.NamedOp.{NamedOp}
-use Rattle.edge_block.specs.Slots.{BlockView, is_free}
-use Rattle.edge_block.specs.Rows.{Shape, shape_of}
-use Rattle.edge_block.specs.Batches.{IsLayoutOf, IsWithin}
+use Rattle.edge_block.specs.{Slots.{BlockView, is_free}, Rows.{Shape, shape_of}, Batches.{IsLayoutOf, IsWithin}}
 use Rattle.version_pages.specs.Rows.{row_of, blocks_of, numbers_of}
 
 -- the graph that it began with, the batches since, and a row of blocks for each source

@@ -1,11 +1,11 @@
 -- Masks of comparisons, lane by lane.
 use Rattle.std.proofs.Common.{◌≡◌, ◌↔◌, ℕ, ◌-◌, ◌%◌, ◌^◌, ◌<◌, ◌≤◌, List, Bool, true, false, cond, leb, eqb, length, get_or, map}
 use Rattle.std.proofs.Common.{◌+◌, ◌*◌, [], ◌∷◌, not, take, replicate, refl, sym, ap, ◌∙◌, arith, inl, inr}
-use Rattle.std.specs.{Int.bit_at, Int.w32, Int.w64, Int.RustNames.bit_and, Simd.Lanes.zip2, Simd.Lanes.mask_l, Simd.Lanes.top}
 use Rattle.std.proofs.lemmas.Simd.{length-zip2, get_or-zip2, get_or-replicate, bit_mask_l, tops_compared, mask_l-mod, mask_l-lt}
 use Rattle.std.proofs.lemmas.{Simd.length-replicate, List.length-take, List.get_or-take, List.take_all}
 use Rattle.std.proofs.{Math.Pow.pow_mono, lemmas.Nat.Bits.bit_at_and, lemmas.Nat.Bits.bit_at_above, lemmas.Nat.Bits.bit_at-lt}
 use Rattle.std.proofs.lemmas.Bool.{leb-true, leb-false, eqb-true, eqb-false, eq-eqb, cases_lt}
+use Rattle.std.specs.{Int.bit_at, Int.w32, Int.w64, Int.RustNames.bit_and, Simd.Lanes.zip2, Simd.Lanes.mask_l, Simd.Lanes.top}
 use Rattle.lane_scan.specs.Masks.{InMask, IsPlaceOf, IsPlaceWithin}
 
 -- what a comparison of 32-bit lanes, or of 64-bit ones, gives as a mask

@@ -1,9 +1,9 @@
 -- The items at the places in a mask, one place more at a time.
 use Rattle.std.proofs.Common.{◌≡◌, ℕ, suc, ◌+◌, ◌<◌, ◌≤◌, Bool, true, false, List, [], ◌∷◌, ◌++◌, length, get_or, take, refl, ap}
 use Rattle.std.proofs.Common.{arith, min, max, zero, inl, inr}
-use Rattle.std.specs.{Prelude.if◌then◌else◌, Prelude.All, Prelude.Contains, declared.option.Option.TheVariants.Some, Int.bit_at}
 use Rattle.std.proofs.lemmas.{Bool.eq-eqb, Bool.ne_eqb, Bool.cases_lt, List.take_more, List.length-take}
 use Rattle.std.proofs.lemmas.List.Elements.{All-push, Contains-push, Contains-append_left, All-contains, All-weaker}
+use Rattle.std.specs.{Prelude.if◌then◌else◌, Prelude.All, Prelude.Contains, declared.option.Option.TheVariants.Some, Int.bit_at}
 use Rattle.lane_scan.specs.Masks.{InMask, selected_from, selected, AreBoundsOf, IsLeastOf, IsGreatestOf}
 
 -- a list that may begin with y, with x at its end

@@ -1,11 +1,9 @@
 -- Scans that end at the last place of a mask.
 use Rattle.std.proofs.Common.{◌≡◌, ℕ, zero, suc, ◌+◌, ◌*◌, ◌^◌, ◌<◌, ◌≤◌, List, [], ◌∷◌, length, get_or, take, refl, sym, ap, ◌∙◌}
-use Rattle.std.proofs.Common.{arith, inl, inr}
-use Rattle.std.specs.{Prelude.slice_index, Int.bit_at, Int.w32, Int.leading_zeros}
-use Rattle.std.proofs.lemmas.{Bool.ne_eqb, Bool.cases_lt, Nat.leading_length, Nat.Bits.bit_at_above}
+use Rattle.std.proofs.{Common.{arith, inl, inr}, lemmas.{Bool.{ne_eqb, cases_lt}, Nat.{leading_length, Bits.bit_at_above}}}
 use Rattle.std.proofs.lemmas.List.{length-take, get_or-take, take_all}
-use Rattle.lane_scan.specs.Masks.{InMask, IsUsedPart, IsPlaceWithin, selected_from, selected}
-use Rattle.lane_scan.proofs.Selected.{same_after}
+use Rattle.std.specs.{Prelude.slice_index, Int.bit_at, Int.w32, Int.leading_zeros}
+use Rattle.lane_scan.{specs.Masks.{InMask, IsUsedPart, IsPlaceWithin, selected_from, selected}, proofs.Selected.same_after}
 
 -- no bit stands past the highest one
 pub past_highest : (mask place : ℕ) → mask < 2 ^ 32 → 32 ≤ place + leading_zeros w32 mask → InMask mask place → ⊥

@@ -1,7 +1,6 @@
 -- A mask of the places that pass, one place more at a time.
-use Rattle.std.proofs.Common.{◌≢◌, ◌↔◌, ℕ, ◌+◌, ◌*◌, ◌%◌, ◌^◌, ◌<◌, ◌≤◌, arith, inl, inr, sym, ◌∙◌}
-use Rattle.std.specs.Int.{w32, RustNames.bit_or}
-use Rattle.std.proofs.lemmas.{Bool.cases_eq, Nat.Bits.bit_at_set_same, Nat.Bits.bit_at_set_other}
+use Rattle.std.proofs.{Common.{◌≢◌, ◌↔◌, ℕ, ◌+◌, ◌*◌, ◌%◌, ◌^◌, ◌<◌, ◌≤◌, arith, inl, inr, sym, ◌∙◌}, lemmas.Bool.cases_eq}
+use Rattle.std.{proofs.lemmas.Nat.Bits.{bit_at_set_same, bit_at_set_other}, specs.Int.{w32, RustNames.bit_or}}
 use Rattle.lane_scan.specs.Masks.{InMask}
 
 -- the places below one are judged, and the others are not in the mask yet

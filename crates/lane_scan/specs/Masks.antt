@@ -1,9 +1,7 @@
 -- Masks over the places of a list of at most 32 items: which places are in one, and the items that stand there.
 use Rattle.std.specs.Prelude.{◌≡◌, ℕ, ◌+◌, ◌<◌, ◌≤◌, ◌^◌, ◌==◌, ℤ, nat_abs, List, [], ◌∷◌, length, take, slice_index}
-use Rattle.std.specs.Prelude.{if◌then◌else◌, All, Contains}
-use Rattle.std.specs.Int.{bit_at}
-use Rattle.std.specs.declared.option.Option.{Option}
-use Rattle.std.specs.declared.option.Option.TheVariants.{None, Some}
+use Rattle.std.specs.{Prelude.{if◌then◌else◌, All, Contains}, Int.bit_at, declared.option.Option.{Option, TheVariants.None}}
+use Rattle.std.specs.declared.option.Option.TheVariants.{Some}
 
 -- a place is in a mask where its bit is set
 abbrev pub InMask : ℕ → ℕ → Type 0

@@ -1,11 +1,10 @@
 -- Pieces that all have one length: their elements, and one of them changed.
 use Rattle.std.proofs.Common.{◌≡◌, ℕ, zero, suc, ◌+◌, ◌*◌, ◌<◌, ◌≤◌, ◌==◌, List, [], ◌∷◌, ◌++◌, length, get_or, set, flat_map}
 use Rattle.std.proofs.Common.{take, replicate, refl, sym, ap, ◌∙◌, arith, length-append, inl, inr, if◌then◌else◌, All}
-use Rattle.std.proofs.{lemmas.Bool.Decides.eqb_tells, lemmas.Grind.flat_map-append, Math.ListN.get_or-eq_default}
-use Rattle.std.proofs.lemmas.List.{set-append_left, set-append_right, get_or-set_same, get_or-set_other, append-nil}
-use Rattle.std.proofs.lemmas.List.{length-replicate, replicate-append-replicate, Concat.get_or-flat_map}
-use Rattle.std.specs.List.{AllZip}
-use Rattle.std.proofs.lemmas.List.Elements.{All-head, All-tail, All-cons, All-push}
+use Rattle.std.proofs.lemmas.{Bool.Decides.eqb_tells, Grind.flat_map-append, List.{set-append_left, set-append_right}}
+use Rattle.std.proofs.lemmas.List.{get_or-set_same, get_or-set_other, append-nil, length-replicate, replicate-append-replicate}
+use Rattle.std.proofs.lemmas.List.{Concat.get_or-flat_map, Elements.{All-head, All-tail, All-cons, All-push}}
+use Rattle.std.{proofs.Math.ListN.get_or-eq_default, specs.List.AllZip}
 use Rattle.list_pieces.specs.Pieces.{AreFull}
 
 default_only : {A : Type 0} (d : A) (m s : ℕ) → get_or (replicate m d) s d ≡ d

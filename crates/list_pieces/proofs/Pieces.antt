@@ -1,8 +1,8 @@
 -- Pieces of one length but for the last: their elements, one piece more, and a last one that grows.
 use Rattle.std.proofs.Common.{◌≡◌, ℕ, zero, suc, ◌+◌, ◌*◌, ◌<◌, ◌≤◌, List, [], ◌∷◌, ◌++◌, length, get_or, set, flat_map}
 use Rattle.std.proofs.Common.{refl, sym, ap, ◌∙◌, arith, append_assoc, length-append, None, Result, Ok, Err}
-use Rattle.std.specs.{List.slice_get, List.AllZip, Result.OnOk, Result.OnErr}
 use Rattle.std.proofs.lemmas.{Slice.Zip.AllZip-long, List.append-nil, Option.slice_get_past}
+use Rattle.std.specs.{List.slice_get, List.AllZip, Result.OnOk, Result.OnErr}
 use Rattle.list_pieces.specs.Pieces.{ArePieces}
 
 slice_get-left : {A : Type 0} (xs ys : List A) (j : ℕ) → j < length xs → slice_get (xs ++ ys) j ≡ slice_get xs j

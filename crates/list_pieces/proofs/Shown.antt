@@ -1,7 +1,6 @@
 -- What pieces show where each shows the same as another, and what a refused call left.
 use Rattle.std.proofs.Common.{◌≡◌, List, [], ◌∷◌, map, flat_map, refl, sym, ap, ◌∙◌, Result, Ok, Err}
-use Rattle.std.specs.{List.AllZip, Result.OnErr}
-use Rattle.std.proofs.lemmas.List.Folds.{flat_map-map}
+use Rattle.std.{proofs.lemmas.List.Folds.flat_map-map, specs.{List.AllZip, Result.OnErr}}
 
 pub always-OnErr : {T E : Type 0} (r : Result T E) {P : Type 0} → P → OnErr r P
 always-OnErr (Ok x) p = tt

@@ -2,13 +2,11 @@
 use mir.Val.{bool_byte}
 use Rattle.std.proofs.Common.{◌≡◌, ◌≢◌, ℕ, ◌+◌, ◌<◌, ◌≤◌, List, [], ◌∷◌, ◌++◌, Bool, true, false, cond, length, min, max, take}
 use Rattle.std.proofs.Common.{get_or, append_assoc, append-nil, bytes_eq, arith, refl, sym, ap, subst, ◌∙◌, inl, inr}
-use Rattle.std.proofs.{Common.length-append, lemmas.Slice.Eq.bytes_eq-Decides, Math.Nat.eq-or-lt_of_le}
-use Rattle.std.specs.Prelude.{IsTrue, Option, None, Some, sum_by, count_by, zip, ◌==◌, is_some}
-use Rattle.std.specs.{List.flat_map, List.filter_map, Option.option_to_list}
-use Rattle.std.proofs.lemmas.{Bool.cases_lt, Bool.false≢true, Bool.Decides.eqb_tells, Grind.flat_map-append}
-use Rattle.std.proofs.lemmas.List.{get_or_default, get_or_past, Elements.All-get_or, Sums.fold-append, Sums.sum_by-append}
-use Rattle.graph_types.specs.{Answer.level_row, Answer.names_of, Valid.is_name}
-use Rattle.graph_types.specs.declared.ids.{Degree.Degree, VertexId.VertexId}
+use Rattle.std.proofs.{Common.length-append, lemmas.{Slice.Eq.bytes_eq-Decides, Bool.{cases_lt, false≢true, Decides.eqb_tells}}}
+use Rattle.std.proofs.lemmas.{Grind.flat_map-append, List.{get_or_default, get_or_past, Elements.All-get_or, Sums.fold-append}}
+use Rattle.std.{proofs.{lemmas.List.Sums.sum_by-append, Math.Nat.eq-or-lt_of_le}, specs.Prelude.{IsTrue, Option, None, Some}}
+use Rattle.std.specs.{Prelude.{sum_by, count_by, zip, ◌==◌, is_some}, List.{flat_map, filter_map}, Option.option_to_list}
+use Rattle.graph_types.specs.{Answer.{level_row, names_of}, Valid.is_name, declared.ids.{Degree.Degree, VertexId.VertexId}}
 use Rattle.graph_levels.specs.Vertices.{numbers_of}
 use Rattle.vertex_names.specs.Book.{Book, IsBook}
 use Rattle.version_answers.proofs.NamedRows.{label_at, length-labels, level_rows_more, next_row, rows_all}

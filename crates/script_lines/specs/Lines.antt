@@ -1,17 +1,12 @@
 -- The lines that a run prints. Each ends with one line feed, and numbers are plain decimals.
 use Rattle.std.specs.Prelude.{ℕ, ℤ, Bool, true, false, codes, decimal, zero, suc, List, [], ◌++◌, length, max, fold, count_by}
-use Rattle.std.specs.Prelude.{Option, None, Some, bytes_eq, sum_by, ◌==◌, if◌then◌else◌}
-use Rattle.std.specs.Fmt.{signed_decimal}
-use Rattle.std.specs.List.{flat_map, list_any}
-use Rattle.graph_types.specs.Step.{with_name}
-use Rattle.graph_types.specs.declared.ids.Degree.{Degree}
-use Rattle.graph_types.specs.declared.batches.Outcome.{Outcome}
-use Rattle.graph_types.specs.declared.batches.Outcome.TheVariants.{Inserted, Updated, Removed, Absent, Overflow, Expired}
-use Rattle.graph_types.specs.declared.requests.Reply.{Reply}
-use Rattle.graph_types.specs.declared.requests.Reply.TheVariants.{Cores, Degrees, Labels, Levels, OneEdge}
+use Rattle.std.specs.{Prelude.{Option, None, Some, bytes_eq, sum_by, ◌==◌, if◌then◌else◌}, Fmt.signed_decimal, List.flat_map}
+use Rattle.std.specs.List.{list_any}
+use Rattle.graph_types.specs.{Step.with_name, declared.{ids.Degree.Degree, batches.Outcome.{Outcome, TheVariants.Inserted}}}
+use Rattle.graph_types.specs.declared.batches.Outcome.TheVariants.{Updated, Removed, Absent, Overflow, Expired}
+use Rattle.graph_types.specs.declared.requests.Reply.{Reply, TheVariants.{Cores, Degrees, Labels, Levels, OneEdge}}
 use Rattle.feed_csv.specs.Commands.{word_text as feed_word_text}
-use Rattle.script_lines.specs.declared.words.Word.{Word}
-use Rattle.script_lines.specs.declared.words.Word.TheVariants.{Feed, NotOpen, AlreadyOpen, BadWindow, NoKind, NoVertex}
+use Rattle.script_lines.specs.declared.words.Word.{Word, TheVariants.{Feed, NotOpen, AlreadyOpen, BadWindow, NoKind, NoVertex}}
 use Rattle.script_lines.specs.declared.words.Word.TheVariants.{BatchFull, BatchLimit, NamesFull, KindsFull, PoolEmpty, Start}
 
 -- how a refusal is written

@@ -1,21 +1,17 @@
 -- What a slot's session answers, from what the server's slots hold.
 use Rattle.std.proofs.Common.{◌≡◌, ◌≢◌, ℕ, List, length, take, get_or, refl, sym, ap, subst, ◌∙◌}
-use Rattle.std.specs.Prelude.{◌⊎◌, IfErr, Option, None, Some, Result, Ok, Err, slice_get}
 use Rattle.std.proofs.lemmas.Option.{get_or_from_slice_get, slice_get_within}
-use Rattle.graph_types.specs.{Graph.Graph, Step.left_by, declared.requests.AskError.AskError}
+use Rattle.std.specs.Prelude.{◌⊎◌, IfErr, Option, None, Some, Result, Ok, Err, slice_get}
+use Rattle.graph_types.specs.{Graph.Graph, Step.left_by, declared.requests.{AskError.AskError, Request.Request}}
 use Rattle.graph_types.specs.declared.requests.AskError.TheVariants as ask
-use Rattle.graph_types.specs.declared.requests.Request.{Request}
 use Rattle.graph_version.specs.Versions.{VersionView}
 use Rattle.stream_store.specs.Seats.{SeatView, SessionView, held_graph, held_version}
 use Rattle.version_answers.specs.{Numbered.IsNumberedAnswer, Numbered.named, declared.numbered.NumberedReply.NumberedReply}
 use Rattle.script_lines.specs.{Lines.shown_lines, declared.words.Word.Word}
 use Rattle.feed_csv.specs.declared.command.Command.TheVariants.{Rebase}
-use Rattle.script_server.specs.{Servers.EndsAt, Servers.IsServer, Servers.LacksReader, Servers.ReopensIn, Servers.ShowsServer}
-use Rattle.script_server.specs.{Slots.IsEarlier, Slots.IsSlot}
-use Rattle.script_server.specs.Slots.{held_of}
-use Rattle.script_server.specs.States.{IsReplied, ServerState, ask_word, version, version_in}
-use Rattle.script_server.specs.declared.server.{Server.Server, Stop.Stop}
-use Rattle.script_server.proofs.{Commands.held_there, NamesApart.AreApart}
+use Rattle.script_server.specs.{Servers.{EndsAt, IsServer, LacksReader, ReopensIn, ShowsServer}, Slots.{IsEarlier, IsSlot}}
+use Rattle.script_server.specs.{Slots.held_of, States.{IsReplied, ServerState, ask_word, version, version_in}}
+use Rattle.script_server.{specs.declared.server.{Server.Server, Stop.Stop}, proofs.{Commands.held_there, NamesApart.AreApart}}
 use Rattle.script_server.proofs.Replies.{IsAsked, asked_version, replied_err, replied_ok}
 
 earlier_in : (last : VersionView) (slot : ℕ) (seat : Option SeatView) (session : Option SessionView) (s : SessionView)

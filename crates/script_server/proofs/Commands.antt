@@ -1,7 +1,6 @@
 -- What the commands of slots come to, from what the calls below them say.
-use Rattle.std.proofs.Common.{◌≡◌, ℕ, List, map, ap, ◌∙◌}
+use Rattle.std.proofs.{Common.{◌≡◌, ℕ, List, map, ap, ◌∙◌}, lemmas.Option.slice_get-map}
 use Rattle.std.specs.{Prelude.Option, Prelude.Some, Prelude.slice_get, Option.option_map}
-use Rattle.std.proofs.lemmas.Option.{slice_get-map}
 use Rattle.stream_store.specs.Seats.{SessionView, held_version}
 use Rattle.script_server.specs.{Slots.held_by, Slots.held_of}
 

@@ -1,17 +1,14 @@
 -- What valid operations leave of a content is a content, where they leave no more names and kinds than the limits.
-use Rattle.std.proofs.Common.{◌≡◌, ℕ, ◌≤◌, List, [], ◌∷◌, ◌++◌, true, false, length, Option, Some, None, option_map, option_to_list}
-use Rattle.std.proofs.Common.{IfSome, All, ℤ, refl, sym, ap, subst, arith, cond}
-use Rattle.std.specs.{FinMap.get, Prelude.◌+ℤ◌}
-use Rattle.std.proofs.lemmas.{Bool.Decides.nat_tests, List.Elements.All-head, List.Elements.All-tail}
-use Rattle.graph_types.specs.Limits.{IsWeight, IsTime, is_weight, is_time, name_limit, kind_limit}
-use Rattle.graph_types.specs.Graph.{Graph, Key, Stamp, stamp_of, map_of, graph_of, without, content_of, IsAt, IsContent}
-use Rattle.graph_types.specs.Changes.{AreMarks, IsChange, option_stamp}
-use Rattle.graph_types.specs.Step.{names_made, kinds_made, stamp_after, changed_key, changed, later, after, after_all}
-use Rattle.graph_types.specs.Valid.{IsValid}
-use Rattle.graph_types.specs.declared.{ids.Edge.Edge, changes.EdgeChange.EdgeChange, changes.EdgeMarks.EdgeMarks}
-use Rattle.graph_types.specs.declared.changes.EdgeChange.TheVariants.{Insert as ToInsert, Incr as ToIncr, Remove as ToRemove}
-use Rattle.graph_types.specs.declared.batches.NamedOp.{NamedOp}
-use Rattle.graph_types.specs.declared.batches.NamedOp.TheVariants.{Insert, Incr, Remove, Expire}
+use Rattle.std.proofs.Common.{◌≡◌, ℕ, ◌≤◌, List, [], ◌∷◌, ◌++◌, true, false, length, Option, Some, None, option_map}
+use Rattle.std.proofs.{Common.{option_to_list, IfSome, All, ℤ, refl, sym, ap, subst, arith, cond}, lemmas.Bool.Decides.nat_tests}
+use Rattle.std.{proofs.lemmas.List.Elements.{All-head, All-tail}, specs.{FinMap.get, Prelude.◌+ℤ◌}}
+use Rattle.graph_types.specs.{Limits.{IsWeight, IsTime, is_weight, is_time, name_limit, kind_limit}, Graph.{Graph, Key, Stamp}}
+use Rattle.graph_types.specs.{Graph.{stamp_of, map_of, graph_of, without, content_of, IsAt, IsContent}, Changes.AreMarks}
+use Rattle.graph_types.specs.{Changes.{IsChange, option_stamp}, Step.{names_made, kinds_made, stamp_after, changed_key, changed}}
+use Rattle.graph_types.specs.{Step.{later, after, after_all}, Valid.IsValid, declared.ids.Edge.Edge}
+use Rattle.graph_types.specs.declared.changes.EdgeChange.{EdgeChange, TheVariants.{Insert as ToInsert, Incr as ToIncr}}
+use Rattle.graph_types.specs.declared.changes.{EdgeChange.TheVariants.Remove as ToRemove, EdgeMarks.EdgeMarks}
+use Rattle.graph_types.specs.declared.batches.NamedOp.{NamedOp, TheVariants.{Insert, Incr, Remove, Expire}}
 use Rattle.graph_types.specs.declared.contents.Content.{Content}
 use Rattle.graph_types.proofs.{Expiry.map_of-later, NameLists.length-after_all-names, NameLists.length-after_all-kinds}
 use Rattle.graph_model.proofs.OneOperation.{AreMarks-found, IsApplied, IsContent-applied, IsContent-later, graph_of-applied}

@@ -1,33 +1,25 @@
 -- A desk that shows a state: what batches, collections and counts come to.
-use Rattle.std.proofs.Common.{◌≡◌, ◌≢◌, ℕ, zero, suc, ◌+◌, Bool, true, false, cond, ◌&&◌, List, [], ◌∷◌, ◌++◌, subst}
-use Rattle.std.proofs.Common.{length, map, not, count_by, filter, replicate, refl, sym, ap, ◌∙◌, arith}
+use Rattle.std.proofs.Common.{◌≡◌, ◌≢◌, ℕ, zero, suc, ◌+◌, Bool, true, false, cond, ◌&&◌, List, [], ◌∷◌, ◌++◌, subst, length, map}
+use Rattle.std.proofs.{Common.{not, count_by, filter, replicate, refl, sym, ap, ◌∙◌, arith}, lemmas.List.length-append}
 use Rattle.std.specs.{Prelude.Ok, Prelude.Err, Prelude.if◌then◌else◌, FinMap.len}
-use Rattle.std.proofs.lemmas.List.{length-append}
-use Rattle.batch_shards.proofs.Places.{count_by-append}
-use Rattle.edge_block.specs.Batches.{layout_after, taken_by}
-use Rattle.block_reclamation.specs.declared.status.BlockStatus.{BlockStatus}
-use Rattle.block_reclamation.specs.declared.status.BlockStatus.TheVariants.{Free, Granted, Used, Retired}
-use Rattle.block_reclamation.specs.Status.{is_free, is_reclaimable, is_retired, is_in_use}
-use Rattle.block_reclamation.specs.declared.copies.PinCopy.{PinCopy}
-use Rattle.block_reclamation.specs.Copies as copies
+use Rattle.batch_shards.{proofs.Places.count_by-append, specs.Births.{births_after, dropped_births}}
+use Rattle.edge_block.{specs.Batches.{layout_after, taken_by}, proofs.Counts.count_more}
+use Rattle.block_reclamation.specs.declared.status.BlockStatus.{BlockStatus, TheVariants.{Free, Granted, Used, Retired}}
+use Rattle.block_reclamation.specs.{declared.copies.PinCopy.PinCopy, Status.{is_free, is_reclaimable, is_retired, is_in_use}}
 use Rattle.block_reclamation.specs.Copies.{needs}
-use Rattle.batch_shards.specs.Births.{births_after, dropped_births}
+use Rattle.block_reclamation.specs.Copies as copies
 use Rattle.feed_csv.specs.declared.command.Command.TheVariants.{Collect, Commit, Stat}
-use Rattle.graph_types.specs.Step.{after_all, left_by, outcomes}
-use Rattle.graph_types.specs.declared.batches.{NamedOp.NamedOp, Outcome.Outcome}
+use Rattle.graph_types.specs.{Step.{after_all, left_by, outcomes}, declared.batches.{NamedOp.NamedOp, Outcome.Outcome}}
 use Rattle.graph_version.specs.{Kept.edge_total, Versions.content, Versions.layout_of, Versions.empty_version}
 use Rattle.store_steps.specs.Desks.{DeskView, IsCollected, AcceptedCounts, CollectedCounts, births_in, is_retired_by}
-use Rattle.store_steps.specs.{Opening.opened_desk, Steps.Accepts}
-use Rattle.store_steps.proofs.StatusCounts.{accepted_counts, collected_counts}
+use Rattle.store_steps.{specs.{Opening.opened_desk, Steps.Accepts}, proofs.StatusCounts.{accepted_counts, collected_counts}}
 use Rattle.stream_store.specs.{Configs.ConfigView, declared.receipts.ApplyError.ApplyError}
 use Rattle.stream_store.specs.Refusals.{Attempt, BatchRefusal, IsAdmissible, IsWithin, Refuses, attempt_on, block_count}
 use Rattle.stream_store.specs.declared.receipts.ApplyError.TheVariants as refused
 use Rattle.script_lines.specs.Lines.{collect_line, commit_line, stat_line}
-use Rattle.script_server.specs.{Servers.ShowsDesk, States.dates, States.dropped, States.floor_of}
-use Rattle.script_server.specs.States.{Dates, IsCommandResult, ServerState, after_collect, after_commit, attempt, batch_word}
-use Rattle.script_server.specs.States.{beginning, copy_of}
-use Rattle.script_server.specs.States.{last_version, left_by_pending, recycled, set_up, taken, used}
-use Rattle.edge_block.proofs.Counts.{count_more}
+use Rattle.script_server.specs.{Servers.ShowsDesk, States.{dates, dropped, floor_of, Dates, IsCommandResult, ServerState}}
+use Rattle.script_server.specs.States.{after_collect, after_commit, attempt, batch_word, beginning, copy_of, last_version}
+use Rattle.script_server.specs.States.{left_by_pending, recycled, set_up, taken, used}
 
 -- Counts
 

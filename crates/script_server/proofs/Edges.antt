@@ -1,13 +1,11 @@
 -- The out-degrees of a graph add up to the number of edges in the view: each of them leaves one vertex.
 use Rattle.std.proofs.Common.{◌≡◌, ℕ, ◌+◌, ◌<◌, ◌≤◌, zero, suc, Bool, true, false, cond, ◌&&◌, List, [], ◌∷◌, length, map, arith}
-use Rattle.std.proofs.Common.{get_or, refl, sym, ap, ◌∙◌, inl, inr}
-use Rattle.std.specs.{Prelude.All, Prelude.Some, Prelude.count_by, Prelude.is_some, Prelude.sum_by, Prelude.◌==◌, Cmp.tied_itself}
-use Rattle.std.specs.{List.range_with_len, List.zip, FinMap.entries, FinMap.find, FinMap.get-entries, Ordering.is_eq}
-use Rattle.std.proofs.{lemmas.Bool.Decides.nat_tests, lemmas.List.Sums.sum_by-cons, Math.Nat.eq-or-lt_of_le}
+use Rattle.std.proofs.{Common.{get_or, refl, sym, ap, ◌∙◌, inl, inr}, lemmas.{Bool.Decides.nat_tests, List.Sums.sum_by-cons}}
+use Rattle.std.{proofs.Math.Nat.eq-or-lt_of_le, specs.{Prelude.{All, Some, count_by, is_some, sum_by, ◌==◌}, Cmp.tied_itself}}
+use Rattle.std.specs.{List.{range_with_len, zip}, FinMap.{entries, find, get-entries}, Ordering.is_eq}
 use Rattle.edge_block.specs.Batches.{IsWithin}
-use Rattle.graph_types.specs.{Answer.degree_at, Answer.degree_table, Graph.Graph, Graph.Key, Graph.Stamp, Graph.key_cmp}
-use Rattle.graph_types.specs.{View.in_view, View.leaves, declared.ids.Degree.Degree, declared.ids.Filter.Filter}
-use Rattle.graph_types.proofs.Keys.{keys_total}
+use Rattle.graph_types.specs.{Answer.{degree_at, degree_table}, Graph.{Graph, Key, Stamp, key_cmp}, View.{in_view, leaves}}
+use Rattle.graph_types.{specs.declared.ids.{Degree.Degree, Filter.Filter}, proofs.Keys.keys_total}
 
 -- the sum over n numbers from a
 abbrev sum_from : (ℕ → ℕ) → ℕ → ℕ → ℕ

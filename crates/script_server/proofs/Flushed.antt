@@ -1,8 +1,6 @@
 -- A text that is written whole, and then flushed.
-use Rattle.std.proofs.Common.{ℕ, List, [], append-nil, sym}
-use Rattle.std.specs.{Prelude.Option, Io.KnownBytes.Appends, Io.KnownBytes.Keeps}
-use Rattle.script_server.specs.Writes.{AppendsPart}
-use Rattle.script_server.proofs.Writing.{appends_kept}
+use Rattle.std.{proofs.Common.{ℕ, List, [], append-nil, sym}, specs.{Prelude.Option, Io.KnownBytes.{Appends, Keeps}}}
+use Rattle.script_server.{specs.Writes.AppendsPart, proofs.Writing.appends_kept}
 
 -- the text was written, and the flush failed
 pub all_of_it : (a b c : Option (List ℕ)) (x : List ℕ) → Appends a b x → Keeps b c → AppendsPart a c x

@@ -1,12 +1,9 @@
 -- How many blocks a held version has: as many as its layout has in the rows of its vertices.
 use Rattle.std.proofs.Common.{◌≡◌, ℕ, zero, suc, ◌+◌, ◌<◌, ◌≤◌, List, [], ◌∷◌, length, map, refl, sym, ap, ◌∙◌, arith}
-use Rattle.std.proofs.Common.{length-append}
-use Rattle.std.specs.List.{range_with_len}
-use Rattle.std.proofs.lemmas.List.{length-map, FromFn.get_or-map-range_with_len, FromFn.length-map-range_with_len}
-use Rattle.edge_block.specs.Slots.{BlockView}
-use Rattle.graph_version.specs.Rows.{blocks_of, row_of}
-use Rattle.edge_block.specs.{Batches.sum_below, Rows.shape_of}
-use Rattle.graph_version.specs.Versions.{IsVersion, VersionView, content, layout_of}
+use Rattle.std.proofs.{Common.length-append, lemmas.List.{length-map, FromFn.get_or-map-range_with_len}}
+use Rattle.std.{proofs.lemmas.List.FromFn.length-map-range_with_len, specs.List.range_with_len}
+use Rattle.edge_block.specs.{Slots.BlockView, Batches.sum_below, Rows.shape_of}
+use Rattle.graph_version.specs.{Rows.{blocks_of, row_of}, Versions.{IsVersion, VersionView, content, layout_of}}
 use Rattle.batch_apply.proofs.Kept.{shift, below_zero}
 use Rattle.graph_cores.proofs.Whole.{all_below}
 

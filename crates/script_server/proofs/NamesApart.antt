@@ -1,6 +1,5 @@
 -- The names of a graph that batches leave differ where they did before.
-use Rattle.std.proofs.Common.{◌≢◌, ℕ, List, [], ◌∷◌, arith}
-use Rattle.std.specs.Prelude.{AllPairs}
+use Rattle.std.{proofs.Common.{◌≢◌, ℕ, List, [], ◌∷◌, arith}, specs.Prelude.AllPairs}
 use Rattle.graph_types.specs.{Graph.Graph, Step.after, Step.after_all, Step.left_by, declared.batches.NamedOp.NamedOp}
 use Rattle.graph_types.specs.declared.batches.NamedOp.TheVariants.{Insert, Incr, Remove, Expire}
 use Rattle.graph_types.specs.declared.changes.EdgeChange.TheVariants.{Insert as ToInsert, Incr as ToIncr, Remove as ToRemove}

@@ -3,11 +3,9 @@ use Rattle.std.proofs.Common.{◌≡◌, ◌≢◌, ℕ, ◌+◌, List, [], ◌�
 use Rattle.std.specs.Prelude.{Result, Ok, Err, slice_get}
 use Rattle.feed_csv.specs.{Commands.item_of, Records.Row, declared.command.Command.Command, declared.command.FeedWord.FeedWord}
 use Rattle.feed_csv.specs.declared.command.Command.TheVariants.{Op, Commit, OpenSlot, CloseSlot, Query, Collect, Stat, Rebase}
-use Rattle.graph_types.proofs.OneAnswer.{one_answer}
-use Rattle.graph_types.specs.declared.requests.Request.{Request}
+use Rattle.graph_types.{proofs.OneAnswer.one_answer, specs.declared.requests.Request.Request}
 use Rattle.script_lines.specs.{declared.words.Word.Word, Lines.end_line}
-use Rattle.stream_store.specs.Refusals.{Attempt, BatchRefusal, IsAdmissible}
-use Rattle.stream_store.specs.declared.receipts.ApplyError.{ApplyError}
+use Rattle.stream_store.specs.{Refusals.{Attempt, BatchRefusal, IsAdmissible}, declared.receipts.ApplyError.ApplyError}
 use Rattle.stream_store.specs.declared.receipts.ApplyError.TheVariants as refused
 use Rattle.script_server.specs.States.{IsCommitted, attempt, batch_word, answer_result, beginning, printed, version, version_in}
 use Rattle.script_server.specs.States.{Held, IsRecordResult, IsReplied, Progress, RecordResult, Setup, ServerState, after_record}

@@ -1,13 +1,11 @@
 -- As many vertices are their own label as there are different labels.
 use Rattle.std.proofs.Common.{◌≡◌, ◌≢◌, ℕ, ◌+◌, ◌<◌, ◌≤◌, zero, suc, List, [], ◌∷◌, ◌++◌, Bool, true, false, cond, ◌||◌, length}
 use Rattle.std.proofs.Common.{map, get_or, bytes_eq, fold, zip, count_by, arith, refl, sym, ◌∙◌, ap, inl, inr}
+use Rattle.std.proofs.lemmas.{Bool.{cases_lt, false≢true}, Option.slice_get-get_or, Slice.Eq.bytes_eq-Decides, List.length-append}
+use Rattle.std.proofs.{lemmas.List.{Folds.list_any-append, Sums.sum_by-cons}, Math.Nat.eq-or-lt_of_le}
 use Rattle.std.specs.{Prelude.◌⊎◌, Prelude.AllPairs, List.list_any, List.range_with_len}
-use Rattle.std.proofs.lemmas.{Bool.cases_lt, Bool.false≢true, Option.slice_get-get_or, Slice.Eq.bytes_eq-Decides}
-use Rattle.std.proofs.Math.Nat.{eq-or-lt_of_le}
-use Rattle.std.proofs.lemmas.List.{Folds.list_any-append, Sums.sum_by-cons, length-append}
-use Rattle.graph_types.specs.{Analyses.AreLabels, Analyses.IsLabel, Analyses.Joins, Answer.names_of, Graph.Graph, Step.with_name}
-use Rattle.graph_types.specs.declared.ids.Filter.{Filter}
-use Rattle.graph_types.proofs.{NameLists.appears-with_name, NameLists.stays-with_name, Walks.joined}
+use Rattle.graph_types.specs.{Analyses.{AreLabels, IsLabel, Joins}, Answer.names_of, Graph.Graph, Step.with_name}
+use Rattle.graph_types.{specs.declared.ids.Filter.Filter, proofs.{NameLists.{appears-with_name, stays-with_name}, Walks.joined}}
 use Rattle.script_lines.specs.Lines.{count_different}
 
 -- every label is that of itself, and no vertex has a greater one; vertices have different names

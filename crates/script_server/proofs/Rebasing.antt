@@ -1,14 +1,10 @@
 -- A desk that opened with what a session holds: which state it shows, and what its line says.
-use Rattle.std.proofs.Common.{◌≡◌, ℕ, zero, suc, Bool, false, cond, List, [], ◌∷◌, length, map, set}
-use Rattle.std.proofs.Common.{count_by, replicate, refl, ap, ap₂, ◌∙◌, arith}
-use Rattle.std.specs.{Prelude.Ok, Prelude.slice_get, FinMap.len}
-use Rattle.edge_block.specs.{Batches.sum_below, Rows.Shape, Rows.shape_of}
-use Rattle.block_pool.specs.Pools.{marked}
-use Rattle.block_reclamation.specs.declared.status.BlockStatus.{BlockStatus}
-use Rattle.block_reclamation.specs.declared.status.BlockStatus.TheVariants.{Free, Used}
-use Rattle.block_reclamation.specs.Status.{is_retired, is_in_use}
-use Rattle.block_pool.proofs.Grants.{length-marked}
-use Rattle.edge_block.specs.Slots.{BlockView}
+use Rattle.std.proofs.Common.{◌≡◌, ℕ, zero, suc, Bool, false, cond, List, [], ◌∷◌, length, map, set, count_by, replicate, refl}
+use Rattle.std.{proofs.Common.{ap, ap₂, ◌∙◌, arith}, specs.{Prelude.{Ok, slice_get}, FinMap.len}}
+use Rattle.edge_block.{specs.{Batches.sum_below, Rows.{Shape, shape_of}, Slots.BlockView}, proofs.Counts.count_more}
+use Rattle.block_pool.{specs.Pools.marked, proofs.Grants.length-marked}
+use Rattle.block_reclamation.specs.{declared.status.BlockStatus.{BlockStatus, TheVariants.{Free, Used}}, Status.is_retired}
+use Rattle.block_reclamation.specs.Status.{is_in_use}
 use Rattle.feed_csv.specs.declared.command.Command.TheVariants.{Rebase}
 use Rattle.graph_types.specs.Step.{left_by}
 use Rattle.graph_version.specs.{Kept.edge_total, Rebased.IsRebased, Versions.VersionView, Versions.content}
@@ -19,7 +15,6 @@ use Rattle.stream_store.specs.Refusals.{block_count}
 use Rattle.script_server.proofs.{DeskLaws.length-replicate, DeskLaws.none_counted, DeskLaws.parts, HeldBlocks.blocks_counted}
 use Rattle.script_server.specs.{Servers.ShowsDesk, Slots.held_of}
 use Rattle.script_server.specs.States.{IsCommandResult, ServerState, after_rebase, version, version_in, blocks_of as held_blocks}
-use Rattle.edge_block.proofs.Counts.{count_more}
 
 -- The pool
 

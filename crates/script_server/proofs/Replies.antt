@@ -1,12 +1,11 @@
 -- The lines of a reply, from what the reply says.
 use Rattle.std.proofs.Common.{◌≡◌, ◌≢◌, ℕ, List, refl, ◌∙◌, ap, inl, inr}
 use Rattle.std.specs.{Prelude.AllPairs, Prelude.Result, Prelude.Ok, Prelude.Err, Prelude.◌⊎◌, Prelude.slice_get, List.zip}
-use Rattle.graph_types.specs.{Answer.IsAnswer, Answer.IsReply, Answer.resolved, Answer.degree_table, Answer.names_of, Graph.Graph}
+use Rattle.graph_types.specs.{Answer.{IsAnswer, IsReply, resolved, degree_table, names_of}, Graph.Graph}
+use Rattle.graph_types.specs.declared.requests.{Request.Request, Reply.Reply, AskError.AskError}
 use Rattle.graph_version.specs.Versions.{IsVersion, VersionView, content}
 use Rattle.edge_block.specs.Batches.{IsWithin}
-use Rattle.graph_types.specs.declared.requests.Request.{Request}
 use Rattle.graph_types.specs.declared.requests.Request.TheVariants as request
-use Rattle.graph_types.specs.declared.requests.{Reply.Reply, AskError.AskError}
 use Rattle.graph_types.specs.declared.requests.AskError.TheVariants as ask
 use Rattle.graph_levels.specs.Vertices.{numbers_of}
 use Rattle.version_answers.specs.Numbered.{IsNumberedAnswer, IsNumberedReply, named}

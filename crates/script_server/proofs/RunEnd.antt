@@ -1,13 +1,10 @@
 -- Why a run ends as it does.
-use Rattle.std.proofs.Common.{◌≡◌, ℕ, ◌+◌, ◌<◌, List, length, ◌∙◌, ap, subst, sym, arith, inl}
+use Rattle.std.proofs.{Common.{◌≡◌, ℕ, ◌+◌, ◌<◌, List, length, ◌∙◌, ap, subst, sym, arith, inl}, lemmas.Bool.true≢false}
 use Rattle.std.specs.Prelude.{Bool, false, true, Option, Some, Result, Ok, Err, IfErr, IfOk, is_err}
-use Rattle.std.proofs.lemmas.Bool.{true≢false}
 use Rattle.feed_csv.specs.{Records.record_limit, Script.NextStep, Script.Script, declared.command.Command.Command}
-use Rattle.script_server.specs.declared.script.{Run.Run, ServeFault.ServeFault, Summary.Summary}
-use Rattle.script_server.specs.declared.script.ServeFault.TheVariants.{Read, Memory, Start, Write}
-use Rattle.script_server.specs.Servers.{pending_of}
-use Rattle.script_server.specs.Runs.{ExecutesRecord, FailsToWrite, HasCause, IsReady, IsTurn, ReopensAfter, done_by}
-use Rattle.script_server.specs.Runs.{is_start, is_write}
+use Rattle.script_server.specs.declared.script.{Run.Run, ServeFault.{ServeFault, TheVariants.{Read, Memory, Start, Write}}}
+use Rattle.script_server.specs.{declared.script.Summary.Summary, Servers.pending_of, Runs.{ExecutesRecord, FailsToWrite}}
+use Rattle.script_server.specs.Runs.{HasCause, IsReady, IsTurn, ReopensAfter, done_by, is_start, is_write}
 
 -- a turn ended the run
 pub cause_stopped : (feed feed' : Script) (run run' : Run) (now after : Option (List ℕ)) (failed : Bool) (fault : ServeFault)

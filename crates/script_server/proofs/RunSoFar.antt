@@ -2,8 +2,7 @@
 use Rattle.std.proofs.Common.{◌≡◌, ℕ, ◌+◌, ◌<◌, List, [], ◌∷◌, ◌++◌, append_assoc, append-nil, arith, refl, sym, ◌∙◌, ap}
 use Rattle.std.specs.{Prelude.true, Prelude.Option, Prelude.None, Prelude.Some, Prelude.Ok, Io.KnownBytes.Appends}
 use Rattle.feed_csv.specs.{Commands.item_of, Records.Row, Records.Takes, Records.record_limit, Script.IsOpen, Script.Script}
-use Rattle.script_server.specs.{declared.script.Run.Run, Runs.IsReady, Runs.ShowsRun, Runs.IsTurn}
-use Rattle.script_server.specs.Executions.{Executes}
+use Rattle.script_server.specs.{declared.script.Run.Run, Runs.{IsReady, ShowsRun, IsTurn}, Executions.Executes}
 use Rattle.script_server.specs.States.{IsRecordResult, Progress, RecordResult, Setup, after_record, beginning, printed}
 use Rattle.script_server.proofs.Writing.{appends_nothing, appends_then}
 

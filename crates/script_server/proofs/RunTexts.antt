@@ -1,24 +1,19 @@
 -- What a run has written when it ends.
 use Rattle.std.proofs.Common.{◌≡◌, ℕ, ◌+◌, ◌<◌, List, [], ◌∷◌, ◌++◌, length, append_assoc, append-nil, arith, refl, sym, ◌∙◌, ap}
-use Rattle.std.proofs.Common.{subst, inl, inr}
-use Rattle.std.specs.Prelude.{false, Option, None, Some, Result, Ok, Err, IfErr, IfOk, IfSome, OnErr, OnOk, option_map}
-use Rattle.std.specs.Io.KnownBytes.{Appends}
+use Rattle.std.{proofs.Common.{subst, inl, inr}, specs.Prelude.{false, Option, None, Some, Result, Ok, Err, IfErr, IfOk, IfSome}}
+use Rattle.std.specs.{Prelude.{OnErr, OnOk, option_map}, Io.KnownBytes.Appends}
 use Rattle.feed_csv.specs.{Commands.item_of, Records.IsOver, Records.Row, Records.Takes, Records.record_limit, Records.records_of}
 use Rattle.feed_csv.specs.{Script.MeetsEnd, Script.Script, Script.TakesRow}
 use Rattle.feed_csv.specs.declared.command.FeedWord.TheVariants as feed_word
-use Rattle.script_server.specs.declared.script.{Run.Run, ServeFault.ServeFault, Summary.Summary}
-use Rattle.script_server.specs.declared.script.ServeFault.TheVariants.{Read, Memory, Start, Write}
-use Rattle.script_lines.specs.declared.words.Word.{Word, TheVariants.Feed}
-use Rattle.script_lines.specs.declared.words.Word.TheVariants as told
-use Rattle.script_lines.specs.Lines.{end_line, error_line}
-use Rattle.script_server.specs.Runs.{FailsToWrite, IsFresh, IsReady, ShowsRun, IsStartup, IsTurn, records_done}
-use Rattle.script_server.specs.States.{IsRecordResult, RecordResult, Reopens, Setup, after_record, beginning, printed}
-use Rattle.script_server.specs.Executions.{ExecutesPrefix, IsFullText}
-use Rattle.script_server.specs.Servers.{pending_of}
-use Rattle.script_server.specs.Texts.{IsTextToFault, IsText, IsTextToRebase, IsIntendedText}
-use Rattle.script_server.specs.Writes.{AppendsPart, AppendsSome}
+use Rattle.script_server.specs.declared.script.{Run.Run, ServeFault.{ServeFault, TheVariants.{Read, Memory, Start, Write}}}
+use Rattle.script_server.specs.{declared.script.Summary.Summary, Runs.{FailsToWrite, IsFresh, IsReady, ShowsRun, IsStartup}}
+use Rattle.script_server.specs.{Runs.{IsTurn, records_done}, States.{IsRecordResult, RecordResult, Reopens, Setup, after_record}}
+use Rattle.script_server.specs.{States.{beginning, printed}, Executions.{ExecutesPrefix, IsFullText}, Servers.pending_of}
+use Rattle.script_server.specs.{Texts.{IsTextToFault, IsText, IsTextToRebase, IsIntendedText}, Writes.{AppendsPart, AppendsSome}}
 use Rattle.script_server.proofs.Writing.{appends_nothing, appends_then, part_then}
 use Rattle.script_server.proofs.RunSoFar.{Reaches, few_given, leaves-append, run-append}
+use Rattle.script_lines.specs.{declared.words.Word.{Word, TheVariants.Feed}, Lines.{end_line, error_line}}
+use Rattle.script_lines.specs.declared.words.Word.TheVariants as told
 
 -- the lines so far are those of some first records
 start_of : (setup : Setup) (rows : List Row) (left : Option (List Row)) (run : Run) (before now : Option (List ℕ))

@@ -1,23 +1,18 @@
 -- Slots that stay slots: as sessions are acquired and released, batches come, and the floor rises.
 use Rattle.std.proofs.Common.{◌≡◌, ◌≢◌, ℕ, zero, suc, ◌+◌, ◌<◌, ◌≤◌, ◌==◌, max, true, false, List, [], ◌∷◌, ◌++◌, length, map}
 use Rattle.std.proofs.Common.{take, get_or, set, replicate, append-nil, refl, sym, ap, ap₂, subst, ◌∙◌, arith, inl, inr, ◌-◌}
-use Rattle.std.specs.{Prelude.◌⊎◌, Prelude.Option, Prelude.None, Prelude.Some, Prelude.IfSome, Prelude.slice_get, Iterator.Yields}
-use Rattle.std.specs.{List.range_with_len, Option.option_map, declared.vec.IntoIter.IntoIter}
+use Rattle.std.proofs.lemmas.{Bool.{eq-eqb, eqb-true, true≢false}, List.{get_or-set_same, get_or-set_other, length-map, map-set}}
+use Rattle.std.proofs.lemmas.List.{take-append-le, length-append, get_or-map, FromFn.get_or-range_with_len}
+use Rattle.std.proofs.{lemmas.Option.{get_or_from_slice_get, slice_get_read, slice_get_within}, Math.ListN.length-set}
+use Rattle.std.{proofs.Math.{Seq.take-length, Nat.max-eq_right}, specs.Prelude.{◌⊎◌, Option, None, Some, IfSome, slice_get}}
+use Rattle.std.specs.{Iterator.Yields, List.range_with_len, Option.option_map, declared.vec.IntoIter.IntoIter}
 use Rattle.std.specs.Vec.Iter.{into_iter_items, into_iter_len, into_iter_steps}
-use Rattle.std.proofs.lemmas.Bool.{eq-eqb, eqb-true, true≢false}
-use Rattle.std.proofs.lemmas.List.{get_or-set_same, get_or-set_other, length-map, map-set, FromFn.get_or-range_with_len}
-use Rattle.std.proofs.lemmas.List.{take-append-le, length-append, get_or-map}
-use Rattle.std.proofs.lemmas.Option.{get_or_from_slice_get, slice_get_read, slice_get_within}
-use Rattle.std.proofs.Math.{ListN.length-set, Seq.take-length, Nat.max-eq_right}
 use Rattle.graph_types.specs.declared.batches.NamedOp.{NamedOp}
 use Rattle.graph_version.specs.Versions.{IsVersion, VersionView}
-use Rattle.block_reclamation.specs.Board.{BoardState, no_pins, with_pin}
-use Rattle.block_reclamation.specs.Copies.{copy_of, pin_at}
-use Rattle.block_reclamation.specs.declared.copies.Pin.{Pin}
+use Rattle.block_reclamation.specs.{Board.{BoardState, no_pins, with_pin}, Copies.{copy_of, pin_at}, declared.copies.Pin.Pin}
 use Rattle.block_reclamation.specs.declared.copies.TheConstants.{SEATS}
 use Rattle.stream_store.specs.Seats.{SeatView, SessionView, held_version, lent_to, seat_of}
-use Rattle.script_server.specs.Slots.{AreSlots, IsEarlier, IsPinned, IsSlot, held_by, held_of}
-use Rattle.script_server.specs.States.{holding, pins_of}
+use Rattle.script_server.specs.{Slots.{AreSlots, IsEarlier, IsPinned, IsSlot, held_by, held_of}, States.{holding, pins_of}}
 
 same_or_not : (a b : ℕ) → (a ≡ b) ⊎ (a ≢ b)
 same_or_not a b = elim (a == b) as (λ t. (a == b) ≡ t → (a ≡ b) ⊎ (a ≢ b)) [

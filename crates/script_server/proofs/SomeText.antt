@@ -1,32 +1,26 @@
 -- A script has a text: each record comes to an outcome, in each state that a run reaches.
 use Rattle.std.proofs.Common.{◌≡◌, ℕ, ◌+◌, ◌<◌, ◌≤◌, List, [], ◌∷◌, ◌++◌, true, false, Bool, All, length, take, refl, sym, subst}
 use Rattle.std.proofs.Common.{arith, inl, inr}
-use Rattle.std.specs.Prelude.{None, Some, Result, Ok, Err, slice_get, not, nat_le, if◌then◌else◌}
 use Rattle.std.proofs.lemmas.{Bool.cases_lt, List.take_all, List.take-append-le, List.length-append, List.Elements.All-push}
+use Rattle.std.specs.Prelude.{None, Some, Result, Ok, Err, slice_get, not, nat_le, if◌then◌else◌}
 use Rattle.feed_csv.specs.{Commands.item_of, Records.Row, Records.record_limit, declared.command.Command.Command}
 use Rattle.feed_csv.specs.declared.command.FeedWord.{FeedWord}
 use Rattle.feed_csv.specs.declared.command.Command.TheVariants.{Op, Commit, OpenSlot, CloseSlot, Query, Collect, Stat, Rebase}
-use Rattle.graph_types.proofs.OneAnswer.{some_answer}
-use Rattle.graph_types.specs.Graph.{Graph}
-use Rattle.graph_types.specs.{GraphLimits.MeetsNameLimit, GraphLimits.MeetsKindLimit, Answer.IsAnswer}
-use Rattle.graph_types.specs.Limits.{batch_limit, name_limit, kind_limit, operation_limit}
-use Rattle.graph_types.specs.Step.{after_all, left_by, outcomes}
-use Rattle.graph_types.specs.Valid.{IsValid, has_names, has_weight, has_time, push_refusal}
-use Rattle.graph_types.specs.declared.{batches.NamedOp.NamedOp}
+use Rattle.graph_types.proofs.{OneAnswer.some_answer, More.left_more}
+use Rattle.graph_types.specs.{Graph.Graph, Step.{MeetsNameLimit, MeetsKindLimit, after_all, left_by, outcomes}, Answer.IsAnswer}
+use Rattle.graph_types.specs.{Limits.{batch_limit, name_limit, kind_limit, operation_limit}, Valid.{IsValid, has_names}}
+use Rattle.graph_types.specs.{Valid.{has_weight, has_time, push_refusal}, declared.batches.NamedOp.NamedOp}
 use Rattle.graph_types.specs.declared.batches.PushError.TheVariants.{BadName, BadWeight, BadTime, BatchFull}
 use Rattle.graph_types.specs.declared.requests.{Request.Request, Reply.Reply, AskError.AskError}
 use Rattle.script_lines.specs.{declared.words.Word.Word, declared.words.Word.TheVariants.Feed, Lines.end_line, Lines.commit_line}
 use Rattle.script_lines.specs.Lines.{open_line, collect_line}
 use Rattle.stream_store.specs.Refusals.{asked}
 use Rattle.stream_store.specs.declared.receipts.ApplyError.TheVariants as refused
-use Rattle.script_server.specs.Executions.{Executes, IsFullText}
-use Rattle.script_server.specs.States.{Held, IsCommitted, IsRecordResult, IsReplied, Progress, RecordResult, ServerState, Setup}
-use Rattle.script_server.specs.States.{after_collect, after_commit, after_item, after_record}
-use Rattle.script_server.specs.States.{answer_result, batch_word, beginning, close_result, floor_of, last_version}
-use Rattle.script_server.specs.States.{lines_unless, op_refusal, open_refusal, printed, rebase_result, rebased, recycled}
-use Rattle.script_server.specs.States.{used, version, version_in}
-use Rattle.script_server.proofs.ContentsKept.{HasContent, content_after_all}
-use Rattle.graph_types.proofs.More.{left_more}
+use Rattle.script_server.specs.{Executions.{Executes, IsFullText}, States.{Held, IsCommitted, IsRecordResult, IsReplied}}
+use Rattle.script_server.specs.States.{Progress, RecordResult, ServerState, Setup, after_collect, after_commit, after_item}
+use Rattle.script_server.specs.States.{after_record, answer_result, batch_word, beginning, close_result, floor_of, last_version}
+use Rattle.script_server.specs.States.{lines_unless, op_refusal, open_refusal, printed, rebase_result, rebased, recycled, used}
+use Rattle.script_server.{specs.States.{version, version_in}, proofs.ContentsKept.{HasContent, content_after_all}}
 
 -- each version that the batches of a state leave is that of a content, and what is pending is valid
 record IsSound (s : ServerState) : Type 0 where

@@ -1,8 +1,7 @@
 -- Known bytes that grow by one text and then by another.
 use Rattle.std.proofs.Common.{◌≡◌, ℕ, ◌+◌, ◌-◌, List, [], ◌++◌, append_assoc, append-nil, sym, ◌∙◌, ap, take, drop, length}
 use Rattle.std.proofs.{Common.length-drop, lemmas.List.take-append-drop, Math.Seq.take-add, Math.Seq.take-length}
-use Rattle.std.specs.Prelude.{Option, None, Some, Result, Ok, Err, OnErr, OnOk}
-use Rattle.std.specs.Io.KnownBytes.{Appends, Keeps}
+use Rattle.std.specs.{Prelude.{Option, None, Some, Result, Ok, Err, OnErr, OnOk}, Io.KnownBytes.{Appends, Keeps}}
 use Rattle.script_server.specs.Writes.{AppendsPart}
 
 pub appends_nothing : (a : Option (List ℕ)) → Appends a a []

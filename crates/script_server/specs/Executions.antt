@@ -1,7 +1,6 @@
 -- The records of a script, executed one after another, and the text of a whole script.
 use Rattle.std.specs.Prelude.{◌≡◌, ◌<◌, ℕ, ◌+◌, List, [], ◌∷◌, ◌++◌, length}
-use Rattle.feed_csv.specs.Commands.{item_of}
-use Rattle.feed_csv.specs.Records.{Row, record_limit}
+use Rattle.feed_csv.specs.{Commands.item_of, Records.{Row, record_limit}}
 use Rattle.script_lines.specs.Lines.{end_line}
 use Rattle.script_server.specs.States.{IsRecordResult, RecordResult, Progress, Setup, after_record, beginning, printed}
 

@@ -1,11 +1,9 @@
 -- Laws about the text of a script.
 use Rattle.std.specs.Prelude.{◌≡◌, ◌<◌, ℕ, List, length}
 use Rattle.feed_csv.specs.Records.{record_limit, records_of}
-use Rattle.graph_types.specs.Graph.{graph_of, IsContent}
-use Rattle.graph_types.specs.declared.contents.Content.{Content}
+use Rattle.graph_types.specs.{Graph.{graph_of, IsContent}, declared.contents.Content.Content}
 use Rattle.stream_store.specs.Configs.{ConfigView}
-use Rattle.script_server.specs.States.{Progress, Setup, set_up}
-use Rattle.script_server.specs.Executions.{IsFullText}
+use Rattle.script_server.specs.{States.{Progress, Setup, set_up}, Executions.IsFullText}
 
 -- a script has one text, and leaves one state
 abbrev pub HasOneText : Type 0

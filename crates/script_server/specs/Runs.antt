@@ -2,28 +2,17 @@
 -- writer holds, where they are known.
 use Rattle.std.specs.Prelude.{◌≡◌, ◌<◌, ◌≤◌, ◌⊎◌, ℕ, ◌+◌, ◌-◌, Bool, true, false, List, [], Option, Result, Ok, Err}
 use Rattle.std.specs.Io.KnownBytes.{Appends}
-use Rattle.feed_csv.specs.Commands.{item_of}
-use Rattle.feed_csv.specs.Records.{Row, record_limit}
-use Rattle.feed_csv.specs.Script.{FailsWith, LacksMemory, MeetsEnd, Script, TakesRow}
-use Rattle.feed_csv.specs.declared.command.Command.{Command}
-use Rattle.feed_csv.specs.declared.command.FeedWord.{FeedWord}
-use Rattle.feed_csv.specs.declared.command.FeedWord.TheVariants as word
-use Rattle.feed_csv.specs.declared.phase.Phase.{Phase}
+use Rattle.feed_csv.specs.{Commands.item_of, Records.{Row, record_limit}, Script.{FailsWith, LacksMemory, MeetsEnd, Script}}
+use Rattle.feed_csv.specs.{Script.TakesRow, declared.{command.{Command.Command, FeedWord.FeedWord}, phase.Phase.Phase}}
 use Rattle.feed_csv.specs.declared.phase.Phase.TheVariants.{Ended, Reading, Stopped}
-use Rattle.script_server.specs.declared.script.Run.{Run}
-use Rattle.script_server.specs.declared.script.ServeFault.{ServeFault}
-use Rattle.script_server.specs.declared.script.ServeFault.TheVariants.{Read, Memory, Start, Write}
-use Rattle.script_server.specs.declared.script.Summary.{Summary}
-use Rattle.script_server.specs.declared.server.Response.{Response}
-use Rattle.script_server.specs.declared.server.Response.TheVariants.{Lines, Refused}
-use Rattle.script_server.specs.declared.server.Stop.{Stop}
+use Rattle.feed_csv.specs.declared.command.FeedWord.TheVariants as word
+use Rattle.script_server.specs.declared.script.{Run.Run, ServeFault.{ServeFault, TheVariants.{Read, Memory, Start, Write}}}
+use Rattle.script_server.specs.declared.{script.Summary.Summary, server.Response.{Response, TheVariants.{Lines, Refused}}}
+use Rattle.script_server.specs.{declared.server.Stop.Stop, Servers.{IsServer, ShowsServer}, States.{IsRecordResult, Progress}}
+use Rattle.script_server.specs.{States.{RecordResult, Reopens, Setup, after_record, beginning, printed}, Writes.AppendsPart}
 use Rattle.script_server.specs.declared.server.Stop.TheVariants as stopped
-use Rattle.script_lines.specs.declared.words.Word.TheVariants.{Feed}
+use Rattle.script_lines.specs.{declared.words.Word.TheVariants.Feed, Lines.error_line}
 use Rattle.script_lines.specs.declared.words.Word.TheVariants as told
-use Rattle.script_lines.specs.Lines.{error_line}
-use Rattle.script_server.specs.Servers.{IsServer, ShowsServer}
-use Rattle.script_server.specs.States.{IsRecordResult, Progress, RecordResult, Reopens, Setup, after_record, beginning, printed}
-use Rattle.script_server.specs.Writes.{AppendsPart}
 
 -- a feed that gave nothing yet
 pub record IsFresh (feed : Script) : Type 0 where

@@ -5,13 +5,9 @@ use Rattle.block_reclamation.specs.Status.{is_free}
 use Rattle.store_steps.specs.Desks.{DeskView, births_in, is_retired_by}
 use Rattle.feed_csv.specs.declared.command.Command.{Command}
 use Rattle.graph_types.specs.declared.batches.NamedOp.{NamedOp}
-use Rattle.script_server.specs.Slots.{AreFew, AreSlotsOf, held_in}
-use Rattle.script_server.specs.States.{Dates, IsCommandResult, RecordResult, Reopens, ServerState, after_command}
-use Rattle.script_server.specs.declared.server.Server.{Server}
-use Rattle.script_server.specs.declared.server.Response.{Response}
-use Rattle.script_server.specs.declared.server.Response.TheVariants.{Lines, Refused}
-use Rattle.script_server.specs.declared.server.Stop.{Stop}
-use Rattle.script_server.specs.declared.server.Stop.TheVariants.{Memory, Start}
+use Rattle.script_server.specs.{Slots.{AreFew, AreSlotsOf, held_in}, States.{Dates, IsCommandResult, RecordResult, Reopens}}
+use Rattle.script_server.specs.{States.{ServerState, after_command}, declared.server.{Server.Server, Response.Response}}
+use Rattle.script_server.specs.declared.server.{Response.TheVariants.{Lines, Refused}, Stop.{Stop, TheVariants.{Memory, Start}}}
 use Rattle.stream_store.specs.declared.opening.OpenError.{OpenError}
 use Rattle.stream_store.specs.declared.opening.OpenError.TheVariants as opening
 

@@ -2,13 +2,9 @@
 use Rattle.std.specs.Prelude.{◌≡◌, ℕ, ◌<◌, ◌≤◌, All, IfSome, List, length, map, take, slice_index_or, Option, None, Some}
 use Rattle.std.specs.Option.{option_map}
 use Rattle.graph_version.specs.Versions.{VersionView, IsVersion, layout_of}
-use Rattle.block_reclamation.specs.Board.{BoardState}
-use Rattle.block_reclamation.specs.Copies.{pin_at}
-use Rattle.block_reclamation.specs.declared.copies.TheConstants.{SEATS}
-use Rattle.stream_store.specs.Refusals.{block_count}
-use Rattle.stream_store.specs.Seats.{SeatView, SessionView, held_version}
-use Rattle.script_server.specs.States.{Held, holding}
-use Rattle.script_server.specs.declared.slots.Slots.{Slots}
+use Rattle.block_reclamation.specs.{Board.BoardState, Copies.pin_at, declared.copies.TheConstants.SEATS}
+use Rattle.stream_store.specs.{Refusals.block_count, Seats.{SeatView, SessionView, held_version}}
+use Rattle.script_server.specs.{States.{Held, holding}, declared.slots.Slots.Slots}
 
 -- a version, as a slot holds it
 abbrev pub held_of : VersionView → Held

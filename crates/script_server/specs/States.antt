@@ -1,43 +1,28 @@
 -- Where a run stands between two records, and what one record does.
-use Rattle.std.specs.Prelude.{◌≡◌, ◌≢◌, ℕ, ◌+◌, ◌-◌, not, List, [], ◌∷◌, ◌++◌, length, map, take, replicate}
-use Rattle.std.specs.Prelude.{filter, true}
-use Rattle.std.specs.Prelude.{slice_get, slice_set, count_by, Option, None, Some, Result, Ok, Err}
-use Rattle.std.specs.FinMap.{entries, len}
+use Rattle.std.specs.Prelude.{◌≡◌, ◌≢◌, ℕ, ◌+◌, ◌-◌, not, List, [], ◌∷◌, ◌++◌, length, map, take, replicate, filter, true}
+use Rattle.std.specs.{Prelude.{slice_get, slice_set, count_by, Option, None, Some, Result, Ok, Err}, FinMap.{entries, len}}
 use Rattle.std.specs.Option.{option_map}
-use Rattle.edge_block.specs.Batches.{layout_after, sum_below, taken_by}
-use Rattle.edge_block.specs.Rows.{Shape}
-use Rattle.block_reclamation.specs.declared.copies.{Pin.Pin, PinCopy.PinCopy}
-use Rattle.block_reclamation.specs.declared.copies.TheConstants.{SEATS}
+use Rattle.edge_block.specs.{Batches.{layout_after, sum_below, taken_by}, Rows.Shape}
+use Rattle.block_reclamation.specs.{declared.copies.{Pin.Pin, PinCopy.PinCopy, TheConstants.SEATS}, Copies.needs}
 use Rattle.block_reclamation.specs.Copies as copies
-use Rattle.block_reclamation.specs.Copies.{needs}
 use Rattle.batch_shards.specs.Births.{births_after, dropped_births}
-use Rattle.graph_types.specs.Graph.{Graph}
-use Rattle.graph_types.specs.Step.{after_all, empty_graph, left_by, outcomes}
-use Rattle.graph_types.specs.View.{in_view}
-use Rattle.graph_types.specs.Valid.{push_refusal}
-use Rattle.graph_types.specs.Answer.{IsAnswer, resolved}
-use Rattle.graph_types.specs.declared.batches.NamedOp.{NamedOp}
-use Rattle.graph_types.specs.declared.batches.PushError.{PushError}
+use Rattle.graph_types.specs.{Graph.Graph, Step.{after_all, empty_graph, left_by, outcomes}, View.in_view, Valid.push_refusal}
+use Rattle.graph_types.specs.{Answer.{IsAnswer, resolved}, declared.batches.{NamedOp.NamedOp, PushError.PushError}}
+use Rattle.graph_types.specs.declared.requests.{Request.Request, Reply.Reply, AskError.AskError}
 use Rattle.graph_types.specs.declared.batches.PushError.TheVariants as push
-use Rattle.graph_types.specs.declared.requests.Request.{Request}
 use Rattle.graph_types.specs.declared.requests.Request.TheVariants as request
-use Rattle.graph_types.specs.declared.requests.Reply.{Reply}
 use Rattle.graph_types.specs.declared.requests.Reply.TheVariants as reply
-use Rattle.graph_types.specs.declared.requests.AskError.{AskError}
 use Rattle.graph_types.specs.declared.requests.AskError.TheVariants as ask
-use Rattle.feed_csv.specs.declared.command.Command.{Command}
-use Rattle.feed_csv.specs.declared.command.Command.TheVariants.{Op, Commit, OpenSlot, CloseSlot, Query, Collect, Stat, Rebase}
-use Rattle.feed_csv.specs.declared.command.FeedWord.{FeedWord}
+use Rattle.feed_csv.specs.declared.command.Command.{Command, TheVariants.{Op, Commit, OpenSlot, CloseSlot, Query, Collect, Stat}}
+use Rattle.feed_csv.specs.declared.command.{Command.TheVariants.Rebase, FeedWord.FeedWord}
 use Rattle.feed_csv.specs.declared.command.FeedWord.TheVariants as feed
-use Rattle.stream_store.specs.Configs.{ConfigView}
-use Rattle.stream_store.specs.Refusals.{Attempt, BatchRefusal, IsAdmissible}
+use Rattle.stream_store.specs.{Configs.ConfigView, Refusals.{Attempt, BatchRefusal, IsAdmissible}}
 use Rattle.stream_store.specs.declared.receipts.ApplyError.{ApplyError}
 use Rattle.stream_store.specs.declared.receipts.ApplyError.TheVariants as refused
-use Rattle.script_lines.specs.declared.words.Word.{Word}
-use Rattle.script_lines.specs.declared.words.Word.TheVariants.{Feed, NotOpen, AlreadyOpen, BadWindow, NoKind, NoVertex}
+use Rattle.script_lines.specs.declared.words.Word.{Word, TheVariants.{Feed, NotOpen, AlreadyOpen, BadWindow, NoKind, NoVertex}}
 use Rattle.script_lines.specs.declared.words.Word.TheVariants.{BatchFull, BatchLimit, NamesFull, KindsFull, PoolEmpty}
-use Rattle.script_lines.specs.Lines.{close_line, collect_line, commit_line, core_lines, count_different, degree_lines}
-use Rattle.script_lines.specs.Lines.{edge_line, error_line, label_lines, level_lines, open_line, rebase_line, stat_line}
+use Rattle.script_lines.specs.Lines.{close_line, collect_line, commit_line, core_lines, count_different, degree_lines, edge_line}
+use Rattle.script_lines.specs.Lines.{error_line, label_lines, level_lines, open_line, rebase_line, stat_line}
 
 -- how a run is set up: the graph that it opens with, and how many blocks and seats there are
 pub record Setup : Type 0 where

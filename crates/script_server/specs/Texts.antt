@@ -1,17 +1,12 @@
 -- The text of a script: what a run prints for the bytes that it reads.
 use Rattle.std.specs.Prelude.{◌≡◌, ◌<◌, ◌⊎◌, ℕ, ◌+◌, List, [], ◌∷◌, ◌++◌, length, Result, Ok, Err}
-use Rattle.feed_csv.specs.Commands.{item_of}
-use Rattle.feed_csv.specs.Records.{Row, record_limit}
+use Rattle.feed_csv.specs.{Commands.item_of, Records.{Row, record_limit}}
 use Rattle.feed_csv.specs.declared.command.FeedWord.TheVariants as feed
-use Rattle.script_server.specs.declared.script.ServeFault.{ServeFault}
-use Rattle.script_server.specs.declared.script.ServeFault.TheVariants.{Read, Memory, Start, Write}
-use Rattle.script_server.specs.declared.script.Summary.{Summary}
-use Rattle.script_lines.specs.declared.words.Word.{Word}
-use Rattle.script_lines.specs.declared.words.Word.TheVariants.{Feed}
-use Rattle.script_lines.specs.declared.words.Word.TheVariants as word
-use Rattle.script_lines.specs.Lines.{error_line}
-use Rattle.script_server.specs.Executions.{Executes, ExecutesPrefix, IsFullText}
+use Rattle.script_server.specs.declared.script.ServeFault.{ServeFault, TheVariants.{Read, Memory, Start, Write}}
+use Rattle.script_server.specs.{declared.script.Summary.Summary, Executions.{Executes, ExecutesPrefix, IsFullText}}
 use Rattle.script_server.specs.States.{Progress, Reopens, Setup, beginning}
+use Rattle.script_lines.specs.{declared.words.Word.{Word, TheVariants.Feed}, Lines.error_line}
+use Rattle.script_lines.specs.declared.words.Word.TheVariants as word
 
 -- the text of a run that this word ended after so many records: the lines of exactly these records, the first of the script,
 -- and then one error line, whose number is that of the next record

@@ -1,6 +1,5 @@
 -- What a writer holds after a text, or a part of one, was written.
-use Rattle.std.specs.Prelude.{◌≡◌, ℕ, List, ◌++◌, Option}
-use Rattle.std.specs.Io.KnownBytes.{Appends}
+use Rattle.std.specs.{Prelude.{◌≡◌, ℕ, List, ◌++◌, Option}, Io.KnownBytes.Appends}
 use Rattle.script_server.specs.declared.sink.Sink.{Sink}
 
 -- the bytes that the writer of a sink holds, where they are known

@@ -1,18 +1,16 @@
 -- Without options, what the arguments ask for is what the kinds of clap's errors say of them.
-use Rattle.std.proofs.Common.{◌≡◌, ◌⊎◌, ◌++◌, ◌∙◌, Bool, true, false, codes, List, []}
-use Rattle.std.proofs.Common.{◌∷◌, append_assoc, append-nil, refl, subst, sym, ap, ap₂, fold, inl, inr}
+use Rattle.std.proofs.Common.{◌≡◌, ◌⊎◌, ◌++◌, ◌∙◌, Bool, true, false, codes, List, [], ◌∷◌, append_assoc, append-nil, refl, subst}
+use Rattle.std.proofs.{Common.{sym, ap, ap₂, fold, inl, inr}, lemmas.Slice.Eq.bytes_eq-Decides}
 use Rattle.std.specs.{Prelude.None, Prelude.Some, Prelude.if◌then◌else◌, Str.bytes_eq}
-use Rattle.std.proofs.lemmas.Slice.Eq.{bytes_eq-Decides}
 use Rattle.clap.specs.{Faults.fault_of, Faults.level_fault, Faults.walk_fault, Kinds.Kinds, Simple.Shape, Simple.subcommand_of}
 use Rattle.clap.specs.Walk.{Names, Rule, Text, Walk, idle, nothing_held, subcommand_met, walk_from, walked}
 use Rattle.clap.specs.declared.error.kind.ErrorKind.TheVariants.{DisplayHelp, InvalidSubcommand, MissingRequiredArgument}
 use Rattle.clap.specs.declared.error.kind.ErrorKind.TheVariants.{MissingSubcommand, UnknownArgument}
 use Rattle.clap.proofs.OnLiterals.{clap_on_literals}
 use Rattle.stinger_server.specs.Program.{Asked, Drive, Help, RunView, Serve, Usage, Version, asked, asked_by, asked_of_command}
-use Rattle.stinger_server.specs.Program.{asked_of_subcommand, asks_for_help, begins_with_option, default_run}
-use Rattle.stinger_server.specs.Program.{help_words, is_drive_option, is_option, is_version}
-use Rattle.stinger_server.specs.Program.{plainly_asked, plainly_asked_of_command, plainly_asked_of_drive}
-use Rattle.stinger_server.specs.Program.{plainly_asked_of_run, program, without_help}
+use Rattle.stinger_server.specs.Program.{asked_of_subcommand, asks_for_help, begins_with_option, default_run, help_words}
+use Rattle.stinger_server.specs.Program.{is_drive_option, is_option, is_version, plainly_asked, plainly_asked_of_command}
+use Rattle.stinger_server.specs.Program.{plainly_asked_of_drive, plainly_asked_of_run, program, without_help}
 use Rattle.stinger_server.proofs.Levels.{HasKinds, one_mistake, two_mistakes, flagged, as_asked, or_else_nil, top, names, run}
 use Rattle.stinger_server.proofs.Levels.{drive, flag_rules, level_kinds, top_level, top_word, run_level, run_word, drive_level}
 use Rattle.stinger_server.proofs.Levels.{drive_word}

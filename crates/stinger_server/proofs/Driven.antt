@@ -1,6 +1,5 @@
 -- What a drive came to, from what was told of it.
-use Rattle.std.proofs.Common.{◌≡◌, ◌⊎◌, ◌++◌, ℕ, List, subst}
-use Rattle.std.specs.Prelude.{IfOk, Option, Result}
+use Rattle.std.{proofs.Common.{◌≡◌, ◌⊎◌, ◌++◌, ℕ, List, subst}, specs.Prelude.{IfOk, Option, Result}}
 use Rattle.stinger_server.specs.Program.{IsDriven, IsTold, drive_line, drive_status}
 use Rattle.script_server.specs.Writes.{AppendsPart}
 use Rattle.store_drive.specs.{Reports.IsReport, declared.reports.DriveFault.DriveFault, declared.reports.DriveReport.DriveReport}

@@ -1,6 +1,5 @@
 -- A text that is told in two parts, of which the second is its end.
-use Rattle.std.proofs.Common.{◌≡◌, ◌++◌, ℕ, List, [], inl, inr, refl}
-use Rattle.std.specs.Prelude.{Option}
+use Rattle.std.{proofs.Common.{◌≡◌, ◌++◌, ℕ, List, [], inl, inr, refl}, specs.Prelude.Option}
 use Rattle.stinger_server.specs.Program.{EndsWith, IsTold}
 use Rattle.script_server.proofs.Writing.{appends_nothing}
 

@@ -1,7 +1,6 @@
 -- Which kinds of errors clap finds at one level of a command line without options.
 use Rattle.std.proofs.Common.{◌≡◌, ◌==◌, ℕ, Bool, true, false, codes, List, [], ◌∷◌, refl, ap}
-use Rattle.std.specs.Prelude.{Option, None, Some, if◌then◌else◌, slice_get, unwrap_or}
-use Rattle.std.specs.Str.{bytes_eq, chars}
+use Rattle.std.specs.{Prelude.{Option, None, Some, if◌then◌else◌, slice_get, unwrap_or}, Str.{bytes_eq, chars}}
 use Rattle.clap.specs.Faults.{bundle_fault, flags_fault, level_fault, long_fault, step_fault, stray_fault, turn_fault, walk_fault}
 use Rattle.clap.specs.{Kinds.Kinds, Kinds.or_else, Lexer.long_of, Lexer.short_of, Simple.Shape, Simple.built, Simple.names_of}
 use Rattle.clap.specs.Walk.{Names, Rule, Text, arg_by_index, arg_by_long, arg_by_short, bundle_met, idle, nothing_held}

@@ -1,24 +1,22 @@
 -- What clap finds wrong with a command line has one meaning, whichever of its kinds of error comes.
 use Rattle.std.proofs.Common.{◌≡◌, ◌⊎◌, ◌==◌, ◌&&◌, ◌||◌, ◌+◌, ℕ, Bool, true}
 use Rattle.std.proofs.Common.{false, codes, List, [], ◌∷◌, refl, sym, ap, inl, inr}
-use Rattle.std.specs.Prelude.{Option, None, Some, find, if◌then◌else◌, is_some, length, nat_lt, not, slice_get}
-use Rattle.std.specs.{Prelude.drop, Prelude.encode_utf8, Prelude.min, Prelude.suc, Prelude.zero, List.list_any}
-use Rattle.std.specs.{Option.option_map_or, Str.bytes_eq, Str.chars}
-use Rattle.clap.specs.{Facts.explicit_source, Facts.parser_of_value, Facts.unwrap_or_range, Lexer.long_of, Lexer.short_of}
-use Rattle.clap.specs.{Faults.action_fault, Faults.bundle_step_fault, Faults.check_fault, Faults.count_fault, Matches.count_text}
-use Rattle.clap.specs.Faults.{default_fault, defaults_fault, entered_fault, fault_of, flag_word_fault, flags_fault, level_fault}
-use Rattle.clap.specs.Faults.{long_fault, option_fault, other_fault, positional_fault, react_fault, set_fault}
-use Rattle.clap.specs.Faults.{settle_fault, short_fault, step_fault, stray_fault, turn_fault, use_fault, walk_fault}
-use Rattle.clap.specs.Kinds.{IsAmong, Kinds, or_else, range_kinds, request_kinds, value_kinds, values_kinds}
-use Rattle.clap.specs.{Simple.App, Simple.Shape, Simple.built, Simple.entered, Simple.label_of, Simple.names_of, Takes.is_given}
+use Rattle.std.specs.Prelude.{Option, None, Some, find, if◌then◌else◌, is_some, length, nat_lt, not, slice_get, drop, encode_utf8}
+use Rattle.std.specs.{Prelude.{min, suc, zero}, List.list_any, Option.option_map_or, Str.{bytes_eq, chars}}
+use Rattle.clap.specs.{Facts.{explicit_source, parser_of_value, unwrap_or_range}, Lexer.{long_of, short_of}, Faults.action_fault}
+use Rattle.clap.specs.Faults.{bundle_step_fault, check_fault, count_fault, default_fault, defaults_fault, entered_fault, fault_of}
+use Rattle.clap.specs.Faults.{flag_word_fault, flags_fault, level_fault, long_fault, option_fault, other_fault, positional_fault}
+use Rattle.clap.specs.Faults.{react_fault, set_fault, settle_fault, short_fault, step_fault, stray_fault, turn_fault, use_fault}
+use Rattle.clap.specs.{Faults.walk_fault, Matches.count_text, Kinds.{IsAmong, Kinds, or_else, range_kinds, request_kinds}}
+use Rattle.clap.specs.{Kinds.{value_kinds, values_kinds}, Simple.{App, Shape, built, entered, label_of, names_of}, Takes.is_given}
 use Rattle.clap.specs.{ValueTests.accepts, Values.refused_kind, declared.builder.action.ArgAction.ArgAction}
-use Rattle.clap.specs.Walk.{Held, Names, Row, Rule, Step, Text, Waiting, Walk, action_of, answers_to, arg_by_id, arg_by_index}
-use Rattle.clap.specs.Walk.{arg_by_long, arg_by_short, attached_value, count_of, most_values, has_row}
-use Rattle.clap.specs.Walk.{idle, is_empty, is_pending, next, nothing_held, option, positional}
-use Rattle.clap.specs.Walk.{reacted, settled, subcommand, subcommand_met, takes_several, takes_values, trailing, value}
-use Rattle.clap.specs.Walk.{values_or_missing, finished, walk, walk_from, walked, with_default, word_met}
+use Rattle.clap.specs.{declared.{builder.value_parser.ValueParser.ValueParser, error.kind.ErrorKind.ErrorKind}, Walk.Held}
+use Rattle.clap.specs.Walk.{Names, Row, Rule, Step, Text, Waiting, Walk, action_of, answers_to, arg_by_id, arg_by_index}
+use Rattle.clap.specs.Walk.{arg_by_long, arg_by_short, attached_value, count_of, most_values, has_row, idle, is_empty, is_pending}
+use Rattle.clap.specs.Walk.{next, nothing_held, option, positional, reacted, settled, subcommand, subcommand_met, takes_several}
+use Rattle.clap.specs.Walk.{takes_values, trailing, value, values_or_missing, finished, walk, walk_from, walked, with_default}
+use Rattle.clap.specs.Walk.{word_met}
 use Rattle.clap.specs.declared.builder.action.ArgAction.TheVariants as action
-use Rattle.clap.specs.declared.{builder.value_parser.ValueParser.ValueParser, error.kind.ErrorKind.ErrorKind}
 use Rattle.clap.specs.declared.error.kind.ErrorKind.TheVariants as kind
 use Rattle.stinger_server.specs.Program.{Asked, asked_by, asked_by_kind, program}
 

@@ -1,15 +1,13 @@
 -- What the options of a run are read as.
-use Rattle.std.proofs.Common.{◌≡◌, ◌⊎◌, ◌<◌, ◌≤◌, ◌^◌, ◌∙◌, ℕ, Bool, true, false, codes, List, ap, arith}
-use Rattle.std.proofs.Common.{inl, inr, refl, subst, sym}
-use Rattle.std.proofs.lemmas.Bool.Decides.{leb_tells, nat_tests}
+use Rattle.std.proofs.Common.{◌≡◌, ◌⊎◌, ◌<◌, ◌≤◌, ◌^◌, ◌∙◌, ℕ, Bool, true, false, codes, List, ap, arith, inl, inr, refl, subst}
+use Rattle.std.proofs.{Common.sym, lemmas.Bool.Decides.{leb_tells, nat_tests}}
 use Rattle.std.specs.Prelude.{◌&&◌, MatchResult, Option, None, Some, Result, Ok, Err, if◌then◌else◌, nat_le}
 use Rattle.std.specs.{Prelude.option_and_then, Prelude.option_map, Option.option_map_or, Str.bytes_eq}
 use Rattle.std.specs.Str.Parse.{ExplainsUnsignedError, HasUnsignedDigitsIfOk, ParsesUnsigned, digits_value, without_leading_plus}
 use Rattle.clap.specs.{Matches.ReadsOne, Matches.first_value, Matches.one_text, ValueTests.is_unsigned_in}
 use Rattle.clap.specs.declared.{builder.value_parser.ValueParser.TheVariants.Unsigned, parser.matches.Found.Found}
 use Rattle.clap.specs.Walk.{Row, Text, one_of, rows_of}
-use Rattle.clap.proofs.WalkLemmas.{first_value-rows, one_text-rows}
-use Rattle.clap.proofs.ValueTestLemmas.{Accepts-accepts, accepts-Accepts}
+use Rattle.clap.proofs.{WalkLemmas.{first_value-rows, one_text-rows}, ValueTestLemmas.{Accepts-accepts, accepts-Accepts}}
 use Rattle.stream_store.specs.{Configs.AreSizesWithin, Configs.ConfigView, declared.config.BadConfig.BadConfig}
 use Rattle.stinger_server.specs.Program.{is_quiet, number_within, readers_of, sizes_given, sizes_of}
 

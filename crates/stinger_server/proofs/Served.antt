@@ -7,9 +7,8 @@ use Rattle.clap.specs.{Faults.fault_of, Kinds.IsAmong, Kinds.Kinds, Simple.subco
 use Rattle.clap.specs.declared.error.kind.ErrorKind.{ErrorKind, TheVariants.OutOfMemory}
 use Rattle.stinger_server.proofs.{OneFault.fault_meaning, Options.number_limits, Options.sizes_limits}
 use Rattle.stinger_server.specs.Program.{Asked, Drive, Help, RunView, Serve, Usage, Version, asked, asked_by, asked_by_kind}
-use Rattle.stinger_server.specs.Program.{asked_for, asked_of_command, asked_of_subcommand, is_quiet, is_version}
-use Rattle.stinger_server.specs.Program.{is_wish_for_help, program, readers_of, sizes_of, without_help}
-use Rattle.stinger_server.specs.declared.arguments.Order.{Order}
+use Rattle.stinger_server.specs.Program.{asked_for, asked_of_command, asked_of_subcommand, is_quiet, is_version, is_wish_for_help}
+use Rattle.stinger_server.specs.{Program.{program, readers_of, sizes_of, without_help}, declared.arguments.Order.Order}
 use Rattle.stream_store.specs.Configs.{AreSizesWithin, ConfigView}
 use Rattle.store_drive.specs.Reports.{IsReaderCount}
 

@@ -1,34 +1,19 @@
 -- The program over its arguments: what they ask for, and what is done and told.
 use Rattle.std.specs.Prelude.{◌≡◌, ◌⊎◌, ◌==◌, ◌++◌, ◌&&◌, ◌||◌, ℕ, Bool, true, false, codes, decimal, List, [], ◌∷◌, slice_get}
-use Rattle.std.specs.Prelude.{if◌then◌else◌, map, IfOk, IfSome, Option, None, Some, Result, Ok, Err, option_and_then}
-use Rattle.std.specs.Prelude.{option_map, not}
-use Rattle.std.specs.Str.{bytes_eq, chars}
-use Rattle.std.specs.Str.Parse.{digits_value, without_leading_plus}
-use Rattle.std.specs.Option.{option_map_or}
-use Rattle.clap.specs.Faults.{fault_of}
-use Rattle.clap.specs.Kinds.{Kinds}
-use Rattle.clap.specs.Lexer.{long_of, short_of}
-use Rattle.clap.specs.Simple.{App, new_app, new_rule, new_shape, subcommand_of, with_rule, with_subcommand}
-use Rattle.clap.specs.Walk.{Row, Rule, first_of, one_of}
-use Rattle.clap.specs.ValueTests.{is_unsigned_in}
-use Rattle.clap.specs.declared.builder.value_parser.ValueParser.TheVariants.{Unsigned}
-use Rattle.clap.specs.declared.builder.action.ArgAction.TheVariants.{SetTrue}
-use Rattle.clap.specs.declared.error.kind.ErrorKind.{ErrorKind}
+use Rattle.std.specs.Prelude.{if◌then◌else◌, map, IfOk, IfSome, Option, None, Some, Result, Ok, Err, option_and_then, option_map}
+use Rattle.std.specs.{Prelude.not, Str.{bytes_eq, chars, Parse.{digits_value, without_leading_plus}}, Option.option_map_or}
+use Rattle.clap.specs.{Faults.fault_of, Kinds.Kinds, Lexer.{long_of, short_of}, Simple.{App, new_app, new_rule, new_shape}}
+use Rattle.clap.specs.{Simple.{subcommand_of, with_rule, with_subcommand}, Walk.{Row, Rule, first_of, one_of}}
+use Rattle.clap.specs.{ValueTests.is_unsigned_in, declared.builder.value_parser.ValueParser.TheVariants.Unsigned}
+use Rattle.clap.specs.declared.{builder.action.ArgAction.TheVariants.SetTrue, error.kind.ErrorKind.ErrorKind}
 use Rattle.clap.specs.declared.error.kind.ErrorKind.TheVariants.{DisplayHelp}
 use Rattle.feed_csv.specs.Records.{records_of}
-use Rattle.stream_store.specs.Configs.{ConfigView, AreSizesWithin}
-use Rattle.stream_store.specs.declared.config.BadConfig.{BadConfig}
-use Rattle.stinger_server.specs.declared.arguments.RunOptions.{RunOptions}
-use Rattle.stinger_server.specs.declared.arguments.Order.{Order}
+use Rattle.stream_store.specs.{Configs.{ConfigView, AreSizesWithin}, declared.config.BadConfig.BadConfig}
+use Rattle.stinger_server.specs.declared.arguments.{RunOptions.RunOptions, Order.Order}
 use Rattle.stinger_server.specs.declared.arguments.Order.TheVariants as order
-use Rattle.script_server.specs.declared.script.ServeFault.{ServeFault}
-use Rattle.script_server.specs.declared.script.ServeFault.TheVariants.{Read, Start, Write}
-use Rattle.script_server.specs.declared.script.Summary.{Summary}
-use Rattle.script_server.specs.States.{set_up}
-use Rattle.script_server.specs.Texts.{IsText}
-use Rattle.script_server.specs.Writes.{AppendsPart, AppendsSome}
-use Rattle.store_drive.specs.Reports.{IsReaderCount, IsReport, word_text}
-use Rattle.store_drive.specs.declared.reports.DriveFault.{DriveFault}
+use Rattle.script_server.specs.declared.script.{ServeFault.{ServeFault, TheVariants.{Read, Start, Write}}, Summary.Summary}
+use Rattle.script_server.specs.{States.set_up, Texts.IsText, Writes.{AppendsPart, AppendsSome}}
+use Rattle.store_drive.specs.{Reports.{IsReaderCount, IsReport, word_text}, declared.reports.DriveFault.DriveFault}
 use Rattle.store_drive.specs.declared.reports.DriveReport.{DriveReport}
 
 -- a run: its sizes, and whether no progress is to be shown

@@ -1,6 +1,5 @@
 -- What is answered where no growth was refused.
-use Rattle.std.proofs.Common.{◌≡◌, ◌≢◌, ◌⊎◌, inl, inr}
-use Rattle.std.specs.Prelude.{Result, Err}
+use Rattle.std.{proofs.Common.{◌≡◌, ◌≢◌, ◌⊎◌, inl, inr}, specs.Prelude.{Result, Err}}
 use Rattle.graph_types.specs.{Graph.Graph, Answer.IsAnswer}
 use Rattle.graph_types.specs.declared.requests.{Request.Request, Reply.Reply, AskError.AskError, AskError.TheVariants.OutOfMemory}
 

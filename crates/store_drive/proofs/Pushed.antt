@@ -1,6 +1,5 @@
 -- What holds at each place of a list, and of one element more at the place behind.
-use Rattle.std.proofs.Common.{ℕ, suc, zero, List, [], ◌∷◌, ◌++◌, length}
-use Rattle.std.specs.Prelude.{IfSome, slice_get}
+use Rattle.std.{proofs.Common.{ℕ, suc, zero, List, [], ◌∷◌, ◌++◌, length}, specs.Prelude.{IfSome, slice_get}}
 
 pub pushed : {X : Type 0} (P : ℕ → X → Type 0) (list : List X) (x : X)
     → ((place : ℕ) → IfSome (slice_get list place) (P place)) → P (length list) x

@@ -1,7 +1,6 @@
 -- The sums over readers each of which has compared 80 answers, and found none wrong.
-use Rattle.std.proofs.Common.{◌≡◌, suc, ◌*◌, List, [], ◌∷◌, length, refl, arith}
+use Rattle.std.proofs.{Common.{◌≡◌, suc, ◌*◌, List, [], ◌∷◌, length, refl, arith}, lemmas.List.Sums.sum_by-cons}
 use Rattle.std.specs.Prelude.{All, sum_by}
-use Rattle.std.proofs.lemmas.List.Sums.{sum_by-cons}
 use Rattle.store_drive.specs.declared.tally.Tally.{Tally}
 
 pub right_sums : (xs : List Tally) → All (λ t. (t.checked ≡ 80) × (t.wrong ≡ 0)) xs

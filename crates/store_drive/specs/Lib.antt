@@ -1,4 +1,2 @@
-pub mod Counts
-pub mod Feeds
 pub mod Load
 pub mod Reports

@@ -1,14 +1,14 @@
 -- What is fed to a store, and what its readers ask of it. The load is this project's own: 24 vertices, three kinds, and names,
 -- weights and times that the numbers of a batch and of a place in it give.
 use Rattle.std.specs.Prelude.{ℕ, ◌+◌, ◌*◌, ◌%◌, ◌==◌, ◌||◌, ℤ, pos, codes, decimal, if◌then◌else◌, List, [], ◌∷◌, ◌++◌, map}
-use Rattle.std.specs.List.{range_with_len}
-use Rattle.std.specs.declared.option.Option.{Option}
+use Rattle.std.specs.{Prelude.{IfSome, slice_get, Bool, ◌&&◌, nat_lt}, List.range_with_len, declared.option.Option.Option}
 use Rattle.std.specs.declared.option.Option.TheVariants.{None, Some}
-use Rattle.graph_types.specs.declared.batches.NamedOp.{NamedOp}
-use Rattle.graph_types.specs.declared.batches.NamedOp.TheVariants.{Insert, Incr, Remove}
-use Rattle.graph_types.specs.declared.requests.NamedFilter.{NamedFilter}
-use Rattle.graph_types.specs.declared.requests.Request.{Request}
-use Rattle.graph_types.specs.declared.requests.Request.TheVariants.{Levels, Labels, Cores, Degrees, OneEdge}
+use Rattle.graph_types.specs.declared.batches.NamedOp.{NamedOp, TheVariants.{Insert, Incr, Remove}}
+use Rattle.graph_types.specs.declared.requests.{NamedFilter.NamedFilter, Request.{Request, TheVariants.{Levels, Labels, Cores}}}
+use Rattle.graph_types.specs.declared.requests.Request.TheVariants.{Degrees, OneEdge}
+use Rattle.version_shelf.specs.Shelves.{ToldView}
+use Rattle.stream_store.specs.Stores.{IsReceiptOf}
+use Rattle.store_drive.specs.declared.feeder.Answered.{Answered}
 
 -- the name of a vertex and of a kind: a letter and a number
 abbrev pub vertex_name : ℕ → List ℕ
@@ -62,3 +62,20 @@ requests =
     ++ Degrees (filter_of None 16 48)
     ∷ OneEdge (kind_name 1) (vertex_name 4) (vertex_name 7)
     ∷ []
+
+-- the number and the outcomes are those of a receipt of the load's batch of this number
+pub record IsAnswered (batch : ℕ) (answered : Answered) : Type 0 where
+  pub told : ToldView
+  pub receipt_is : IsReceiptOf (batch_at batch) answered.number answered.outcomes told
+
+-- each at its place, the first of which is that of batch 1
+abbrev pub AreAnswered : List Answered → Type 0
+AreAnswered list = (place : ℕ) → IfSome (slice_get list place) (IsAnswered (place + 1))
+
+-- the version of this number is neither the empty one nor that behind all 64 batches
+abbrev pub lies_between : ℕ → Bool
+lies_between number = nat_lt 0 number && nat_lt number 64
+
+-- how many of these answers, which a version of this number gave, are of such a version
+abbrev pub between_of : ℕ → ℕ → ℕ
+between_of number answers = if lies_between number then answers else 0

@@ -4,9 +4,7 @@ use Rattle.stream_store.specs.declared.receipts.ApplyError.{ApplyError}
 use Rattle.stream_store.specs.declared.receipts.ApplyError.TheVariants as errors
 use Rattle.graph_model.specs.declared.apply.PlainError.{PlainError}
 use Rattle.graph_model.specs.declared.apply.PlainError.TheVariants as plain
-use Rattle.store_drive.specs.declared.reports.DriveCounts.{DriveCounts}
-use Rattle.store_drive.specs.declared.reports.DriveReport.{DriveReport}
-use Rattle.store_drive.specs.declared.reports.DriveWord.{DriveWord}
+use Rattle.store_drive.specs.declared.reports.{DriveCounts.DriveCounts, DriveReport.DriveReport, DriveWord.DriveWord}
 use Rattle.store_drive.specs.declared.reports.DriveWord.TheVariants.{Start, Memory, BatchLimit, NamesFull, KindsFull, PoolEmpty}
 
 -- a word as the program writes it

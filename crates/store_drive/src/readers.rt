@@ -8,7 +8,7 @@ ghost use Rattle.graph_types.specs.Graph.{graph_of, IsContent};
 ghost use Rattle.graph_types.specs.Step.{empty_graph};
 ghost use Rattle.stream_store.specs.Seats.{held_graph, held_version};
 ghost use Rattle.stream_store.specs.Stores.{IsOfOpening};
-ghost use Rattle.store_drive.specs.Counts.{between_of};
+ghost use Rattle.store_drive.specs.Load.{between_of};
 
 use crate::contents::content_of;
 use crate::load::requests;

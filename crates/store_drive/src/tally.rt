@@ -1,7 +1,7 @@
 //! What was counted.
 
 ghost use Rattle.std.specs.Prelude.{◌≡◌, ◌≢◌, ◌+◌, ◌<◌, ◌≤◌, ◌^◌, All, length, sum_by};
-ghost use Rattle.store_drive.specs.Counts.{between_of, lies_between};
+ghost use Rattle.store_drive.specs.Load.{between_of, lies_between};
 
 use crate::load::BATCHES;
 use crate::sames::{Answer, are_same_answers};

@@ -1,14 +1,12 @@
 -- A batch that was applied with granted blocks is accepted, and the desk after it is a desk.
 use Rattle.std.proofs.Common.{◌≡◌, ℕ, zero, suc, ◌<◌, Bool, true, false, List, [], ◌∷◌, ◌++◌, length, get_or, count_by, refl, sym}
-use Rattle.std.proofs.lemmas.Grind.{common_steps}
-use Rattle.std.proofs.{Common.ap, Common.◌∙◌, Common.arith, lemmas.Bool.true≢false, lemmas.List.length-map}
+use Rattle.std.proofs.{Common.{ap, ◌∙◌, arith}, lemmas.{Grind.common_steps, Bool.true≢false, List.length-map}}
 use Rattle.std.specs.{List.list_all, Option.option_and_then, Prelude.slice_get, Prelude.if◌then◌else◌, Prelude.Contains}
 use Rattle.std.specs.declared.option.Option.{Option, TheVariants.None, TheVariants.Some}
-use Rattle.block_pool.proofs.Grants.{length-marked}
+use Rattle.block_pool.{proofs.Grants.length-marked, specs.Pools.{retired, is_free_at, marked, is_used_at}}
 use Rattle.edge_block.specs.Slots.{BlockView}
 use Rattle.graph_version.specs.Rows.{row_of, blocks_of, numbers_of}
 use Rattle.block_reclamation.specs.{Status.is_listed, Status.is_used, Status.is_at, declared.status.BlockStatus.TheVariants.Used}
-use Rattle.block_pool.specs.Pools.{retired, is_free_at, marked, is_used_at}
 use Rattle.epoch_core.specs.Blocks.{all_differ}
 use Rattle.store_steps.specs.Journal.{Entry, Ledger, opened_ledger, is_legal, after_entry, entered, replay}
 use Rattle.store_steps.specs.Desks.{IsDesk, IsAccepted, FollowsBirths, birth_at, last_numbers, ledger_of}

@@ -8,11 +8,10 @@ use Rattle.block_reclamation.specs.{Status.is_listed, declared.status.BlockStatu
 use Rattle.block_reclamation.specs.declared.status.BlockStatus.TheVariants.{Free, Granted, Used}
 use Rattle.block_pool.specs.Pools.{retired, is_free_at, marked, changed, AreFree, is_used_at}
 use Rattle.epoch_core.{specs.Blocks.all_differ, proofs.Lists.all_listed}
-use Rattle.store_steps.specs.{Journal.Entry, Journal.Applied, Journal.exchanged, Desks.DeskView, Desks.IsDesk, Desks.IsAppliedTo}
-use Rattle.store_steps.{specs.Desks.desk_after, specs.Desks.last_numbers, proofs.NumberLists.all_from}
-use Rattle.store_steps.proofs.{NumberLists.differ_from, ChangedLists.marked_at, ChangedLists.changed_at, ChangedLists.same_list}
-use Rattle.store_steps.proofs.Counting.{times, is_some_times, in_times, times_numbers, once_at_most, apart_if}
-use Rattle.store_steps.proofs.OneNumber.{marked_if, number_after, OneNumber, one_number}
+use Rattle.store_steps.specs.{Journal.{Entry, Applied, exchanged}, Desks.{DeskView, IsDesk, IsAppliedTo, desk_after}}
+use Rattle.store_steps.{specs.Desks.last_numbers, proofs.{NumberLists.{all_from, differ_from}, ChangedLists.marked_at}}
+use Rattle.store_steps.proofs.{ChangedLists.{changed_at, same_list}, Counting.{times, is_some_times, in_times, times_numbers}}
+use Rattle.store_steps.proofs.{Counting.{once_at_most, apart_if}, OneNumber.{marked_if, number_after, OneNumber, one_number}}
 
 -- a batch that was applied to a desk
 pub record Application : Type 0 where

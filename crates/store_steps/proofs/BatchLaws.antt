@@ -1,12 +1,10 @@
 -- The laws in the words of their clauses.
-use Rattle.std.proofs.Common.{◌≡◌, ℕ, ◌+◌, Bool, true, false, List, length, ap, arith}
-use Rattle.std.{proofs.lemmas.Grind.common_steps, specs.Prelude.if◌then◌else◌}
-use Rattle.std.specs.declared.option.Option.TheVariants.{None, Some}
+use Rattle.std.proofs.{Common.{◌≡◌, ℕ, ◌+◌, Bool, true, false, List, length, ap, arith}, lemmas.Grind.common_steps}
+use Rattle.std.specs.{Prelude.if◌then◌else◌, declared.option.Option.TheVariants.{None, Some}}
 use Rattle.graph_types.specs.declared.batches.NamedOp.{NamedOp}
 use Rattle.edge_block.specs.Slots.{BlockView}
 use Rattle.graph_version.specs.{Rows.numbers_of, Versions.VersionView}
-use Rattle.block_reclamation.specs.Status.{is_listed}
-use Rattle.block_reclamation.specs.declared.status.BlockStatus.TheVariants.{Free, Granted, Used}
+use Rattle.block_reclamation.specs.{Status.is_listed, declared.status.BlockStatus.TheVariants.{Free, Granted, Used}}
 use Rattle.block_pool.specs.Pools.{retired, is_free_at, marked, changed, is_used_at}
 use Rattle.epoch_core.proofs.Lists.{all_listed}
 use Rattle.store_steps.specs.Journal.{Entry, Applied, Ledger, is_legal, after_entry, entered}

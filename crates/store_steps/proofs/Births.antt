@@ -1,8 +1,7 @@
 -- The births of blocks over a batch: what one number's is, and which numbers a row has.
 use Rattle.std.proofs.Common.{◌≡◌, ℕ, zero, suc, ◌<◌, ◌==◌, Bool, true, false, List, [], ◌∷◌, ◌++◌, length, get_or, map, refl, ap}
-use Rattle.std.proofs.Common.{arith}
-use Rattle.std.{proofs.lemmas.Grind.common_steps, proofs.lemmas.Bool.eq-eqb, proofs.lemmas.Bool.or_right, specs.Prelude.slice_get}
-use Rattle.std.specs.declared.option.Option.{Option, TheVariants.None, TheVariants.Some}
+use Rattle.std.{proofs.{Common.arith, lemmas.{Grind.common_steps, Bool.{eq-eqb, or_right}}}, specs.Prelude.slice_get}
+use Rattle.std.specs.declared.option.Option.{Option, TheVariants.{None, Some}}
 use Rattle.edge_block.specs.Slots.{BlockView}
 use Rattle.graph_version.specs.Rows.{row_of, blocks_of, numbers_of}
 use Rattle.block_reclamation.specs.{Status.is_listed, Status.is_free, Status.is_at, declared.status.BlockStatus.BlockStatus}

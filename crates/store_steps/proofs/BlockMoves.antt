@@ -1,10 +1,8 @@
 -- One block after another is given back or retired.
-use Rattle.std.proofs.Common.{◌≡◌, ℕ, ◌==◌, true, false, List, [], ◌∷◌, set, refl, sym, ap, ◌∙◌}
-use Rattle.std.proofs.lemmas.Bool.{eq-eqb, true≢false}
-use Rattle.std.specs.{List.list_all, Prelude.slice_get, Prelude.Bool}
+use Rattle.std.proofs.{Common.{◌≡◌, ℕ, ◌==◌, true, false, List, [], ◌∷◌, set, refl, sym, ap, ◌∙◌}, lemmas.Bool.eq-eqb}
+use Rattle.std.{proofs.lemmas.Bool.true≢false, specs.{List.list_all, Prelude.{slice_get, Bool}}}
 use Rattle.block_reclamation.specs.{declared.status.BlockStatus.BlockStatus, Status.is_at, Status.is_listed}
-use Rattle.epoch_core.specs.Blocks.{all_differ}
-use Rattle.epoch_core.proofs.Lists.{set_else, and_left, and_right, or_false}
+use Rattle.epoch_core.{specs.Blocks.all_differ, proofs.Lists.{set_else, and_left, and_right, or_false}}
 use Rattle.store_steps.proofs.NumberLists.{differ_head, differ_tail}
 
 -- numbers whose statuses pass a test, and that are each there once: they may be moved one after another

@@ -1,10 +1,9 @@
 -- The board's calls are the machine's steps.
 use Rattle.std.proofs.Common.{◌≡◌, ℕ, zero, suc, ◌<◌, ◌≤◌, List, [], ◌∷◌, length, true, refl, sym, ap, ◌∙◌, arith}
-use Rattle.std.{proofs.lemmas.Grind.common_steps, specs.Prelude.Option, specs.Prelude.Some, specs.Prelude.option_map}
 use Rattle.std.proofs.lemmas.{Bool.cases_eq, List.get_or-set_same, List.get_or-set_other, List.length-map, List.length-replicate}
-use Rattle.block_reclamation.specs.declared.copies.{Pin.Pin, PinCopy.PinCopy}
-use Rattle.block_reclamation.specs.{declared.copies.TheConstants.SEATS, Board.BoardState, Board.IsBoard, Board.with_pin}
-use Rattle.block_reclamation.specs.Copies.{pin_at, unsettled, settled, copy_of}
+use Rattle.std.{proofs.lemmas.Grind.common_steps, specs.Prelude.Option, specs.Prelude.Some, specs.Prelude.option_map}
+use Rattle.block_reclamation.specs.{declared.copies.{Pin.Pin, PinCopy.PinCopy, TheConstants.SEATS}, Board.{BoardState, IsBoard}}
+use Rattle.block_reclamation.specs.{Board.with_pin, Copies.{pin_at, unsettled, settled, copy_of}}
 use Rattle.epoch_core.specs.{declared.session_states.SessionState.SessionState, Machine.to_pin, Machine.to_settle}
 use Rattle.epoch_core.specs.Worlds.{World, session_of, seat_pin, seat_pins, pin_in, held_in, last_number, present_copy}
 use Rattle.epoch_core.proofs.Moves.{Moved, moved, floored, seated_at, session_after, session_else}

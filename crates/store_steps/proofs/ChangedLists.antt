@@ -3,8 +3,7 @@ use Rattle.std.proofs.Common.{◌≡◌, ℕ, zero, suc, ◌==◌, Bool, true, f
 use Rattle.std.proofs.{Common.subst, Common.◌∙◌, Common.arith, lemmas.Bool.eqb-true, lemmas.List.length-set}
 use Rattle.std.{proofs.lemmas.Grind.common_steps, specs.Option.option_map, specs.Prelude.slice_get, specs.Prelude.if◌then◌else◌}
 use Rattle.std.specs.declared.option.Option.{Option, TheVariants.None, TheVariants.Some}
-use Rattle.block_reclamation.specs.Status.{is_listed}
-use Rattle.block_reclamation.specs.declared.status.BlockStatus.{BlockStatus, TheVariants.Granted}
+use Rattle.block_reclamation.specs.{Status.is_listed, declared.status.BlockStatus.{BlockStatus, TheVariants.Granted}}
 use Rattle.block_pool.specs.Pools.{marked, changed}
 use Rattle.epoch_core.specs.Blocks.{all_differ}
 use Rattle.store_steps.proofs.NumberLists.{apart_test, differ_head, differ_tail}

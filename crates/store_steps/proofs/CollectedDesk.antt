@@ -1,20 +1,15 @@
 -- A collection leaves a desk.
 use Rattle.std.proofs.Common.{◌≡◌, ℕ, ◌+◌, ◌<◌, ◌≤◌, ◌==◌, true, false, cond, List, [], ◌∷◌, ◌++◌, length, map, count_by, refl}
-use Rattle.std.proofs.Common.{sym, ap, ap₂, subst, ◌∙◌, arith}
-use Rattle.std.{proofs.lemmas.Grind.common_steps, proofs.lemmas.Option.slice_get-map, specs.declared.option.Option.Option}
-use Rattle.std.{proofs.lemmas.List.append-nil, proofs.lemmas.List.length-map, specs.declared.option.Option.TheVariants.Some}
-use Rattle.std.{proofs.lemmas.Bool.eq-eqb, proofs.lemmas.Bool.or_right, specs.Prelude.slice_get, specs.Prelude.if◌then◌else◌}
-use Rattle.std.specs.Option.{option_map}
-use Rattle.edge_block.specs.Slots.{BlockView}
+use Rattle.std.proofs.{Common.{sym, ap, ap₂, subst, ◌∙◌, arith}, lemmas.{Grind.common_steps, Option.slice_get-map}}
+use Rattle.std.{proofs.lemmas.{List.{append-nil, length-map}, Bool.{eq-eqb, or_right}}, specs.declared.option.Option.Option}
+use Rattle.std.specs.{declared.option.Option.TheVariants.Some, Prelude.{slice_get, if◌then◌else◌}, Option.option_map}
+use Rattle.edge_block.{specs.Slots.BlockView, proofs.Counts.count_more}
 use Rattle.graph_version.specs.{Rows.row_of, Rows.numbers_of, Versions.VersionView}
 use Rattle.block_reclamation.specs.Status.{is_listed, is_retired, is_reclaimable, is_used, is_at, recycled}
-use Rattle.block_reclamation.specs.declared.copies.PinCopy.{PinCopy}
-use Rattle.block_reclamation.specs.declared.status.BlockStatus.{BlockStatus, TheVariants.Free}
+use Rattle.block_reclamation.specs.declared.{copies.PinCopy.PinCopy, status.BlockStatus.{BlockStatus, TheVariants.Free}}
 use Rattle.store_steps.specs.Journal.{Collected, Ledger, opened_ledger, is_legal, replay}
 use Rattle.store_steps.specs.Desks.{DeskView, IsDesk, IsCollected, birth_at, births_in, collections}
-use Rattle.store_steps.proofs.{NumberLists.apart_test, Births.birth_in, Births.birth_from, Births.row_listed}
-use Rattle.store_steps.proofs.Accepting.{replay_more}
-use Rattle.edge_block.proofs.Counts.{count_more}
+use Rattle.store_steps.proofs.{NumberLists.apart_test, Births.{birth_in, birth_from, row_listed}, Accepting.replay_more}
 
 -- one status is freed, or retired still, or was never retired
 past_one : (copy : PinCopy) (x : BlockStatus) → cond (is_reclaimable copy x) 1 0 + cond (is_retired (recycled copy x)) 1 0

@@ -1,17 +1,14 @@
 -- A collection is Recycle of each block that the copy frees, all done, and no further block goes afterwards.
 use Rattle.std.proofs.Common.{◌≡◌, ◌≢◌, ℕ, zero, suc, ◌+◌, ◌<◌, ◌==◌, Bool, true, false, ◌||◌, List, [], ◌∷◌, map, set, refl, sym}
-use Rattle.std.proofs.Common.{ap, ◌∙◌, arith}
-use Rattle.std.proofs.lemmas.{Grind.common_steps, Bool.eq-eqb, Bool.true≢false, Bool.or_right, Option.slice_get-map}
-use Rattle.std.specs.{Prelude.slice_get, Prelude.if◌then◌else◌, Prelude.filter, List.enumerate_from}
-use Rattle.std.specs.Option.{option_map, option_and_then, is_some}
-use Rattle.std.specs.declared.option.Option.{Option, TheVariants.None, TheVariants.Some}
+use Rattle.std.proofs.{Common.{ap, ◌∙◌, arith}, lemmas.{Grind.common_steps, Bool.{eq-eqb, true≢false, or_right}}}
+use Rattle.std.{proofs.lemmas.Option.slice_get-map, specs.{Prelude.{slice_get, if◌then◌else◌, filter}, List.enumerate_from}}
+use Rattle.std.specs.{Option.{option_map, option_and_then, is_some}, declared.option.Option.{Option, TheVariants.{None, Some}}}
 use Rattle.block_pool.{proofs.Grants.length-marked, specs.Pools.marked}
 use Rattle.block_reclamation.specs.{Status.is_listed, Status.is_reclaimable, Status.is_at, declared.copies.PinCopy.PinCopy}
 use Rattle.block_reclamation.specs.declared.status.BlockStatus.{BlockStatus, TheVariants.Free}
 use Rattle.epoch_core.specs.{Blocks.put, Blocks.all_differ, Blocks.reclaimed, declared.events.Event.TheVariants.Recycle}
 use Rattle.epoch_core.{specs.Worlds.World, specs.Machine.step, specs.Machine.with_status, proofs.Lists.set_else}
-use Rattle.store_steps.specs.{Desks.DeskView, Desks.IsCollected, Shown.ShowsWorld}
-use Rattle.store_steps.specs.Steps.{all_done, past_numbers, recycling, TakesAt}
+use Rattle.store_steps.specs.{Desks.{DeskView, IsCollected}, Shown.ShowsWorld, Steps.{all_done, past_numbers, recycling, TakesAt}}
 use Rattle.store_steps.proofs.NumberLists.{apart_test, differ_head, differ_tail}
 use Rattle.store_steps.proofs.{Filling.step_then, ChangedLists.marked_at, ChangedLists.same_list}
 

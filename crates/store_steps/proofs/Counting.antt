@@ -1,16 +1,14 @@
 -- How often a number or a block stands in a list.
 use Rattle.std.proofs.Common.{◌≡◌, ℕ, zero, suc, ◌+◌, ◌<◌, ◌≤◌, ◌==◌, Bool, true, false, cond, ◌&&◌, ◌||◌, List, [], ◌∷◌, length}
-use Rattle.std.proofs.Common.{get_or, count_by, Decides, refl, sym, ap, subst, ◌∙◌, arith}
+use Rattle.std.proofs.{Common.{get_or, count_by, Decides, refl, sym, ap, subst, ◌∙◌, arith}, lemmas.Bool.{eq-eqb, eqb-true}}
+use Rattle.std.proofs.lemmas.{Bool.Decides.{Decides-and, Decides-eqb, Decides-like}, Slice.Eq.slice_eq-Decides}
 use Rattle.std.{proofs.lemmas.Grind.common_steps, specs.Prelude.Contains, specs.Cmp.Lexicographic.pointwise}
-use Rattle.std.proofs.lemmas.{Bool.eq-eqb, Bool.eqb-true, Slice.Eq.slice_eq-Decides}
-use Rattle.std.proofs.lemmas.Bool.Decides.{Decides-and, Decides-eqb, Decides-like}
 use Rattle.std.specs.declared.option.Option.{Option, TheVariants.None, TheVariants.Some}
 use Rattle.epoch_core.specs.{Blocks.all_differ, Posting.same_stamp}
-use Rattle.edge_block.specs.Slots.{BlockView, Slot}
+use Rattle.edge_block.{specs.Slots.{BlockView, Slot}, proofs.Counts.count_more}
 use Rattle.graph_version.specs.Rows.{numbers_of}
 use Rattle.block_reclamation.specs.Status.{is_listed}
 use Rattle.store_steps.proofs.NumberLists.{differ_head, differ_tail}
-use Rattle.edge_block.proofs.Counts.{count_more}
 
 -- how often a number stands in a list
 abbrev pub times : ℕ → List ℕ → ℕ

@@ -1,19 +1,16 @@
 -- A journal that replays leaves blocks whose births and retirements are numbers of its versions.
 use Rattle.std.proofs.Common.{◌≡◌, ℕ, zero, suc, ◌+◌, Bool, true, false, List, [], ◌∷◌, ◌++◌, length, refl, sym, subst, arith}
-use Rattle.std.{proofs.Common.length-append, proofs.Common.replicate, specs.Option.option_map, specs.Option.option_and_then}
-use Rattle.std.proofs.lemmas.Grind.{common_steps}
-use Rattle.std.{proofs.lemmas.Option.slice_get-map, specs.Prelude.slice_get, specs.Prelude.if◌then◌else◌}
-use Rattle.std.specs.declared.option.Option.{Option, TheVariants.None, TheVariants.Some}
+use Rattle.std.proofs.{Common.{length-append, replicate}, lemmas.{Grind.common_steps, Option.slice_get-map}}
+use Rattle.std.specs.{Option.{option_map, option_and_then}, Prelude.{slice_get, if◌then◌else◌}, declared.option.Option.Option}
+use Rattle.std.specs.declared.option.Option.TheVariants.{None, Some}
 use Rattle.graph_types.specs.declared.batches.NamedOp.{NamedOp}
-use Rattle.block_reclamation.specs.Status.{is_listed, is_free, is_used, is_at, recycled}
-use Rattle.block_reclamation.specs.declared.copies.PinCopy.{PinCopy}
-use Rattle.block_reclamation.specs.declared.status.BlockStatus.{BlockStatus, TheVariants.Free, TheVariants.Used}
+use Rattle.block_reclamation.specs.{Status.{is_listed, is_free, is_used, is_at, recycled}, declared.copies.PinCopy.PinCopy}
+use Rattle.block_reclamation.specs.declared.status.BlockStatus.{BlockStatus, TheVariants.{Free, Used}}
 use Rattle.block_pool.specs.Pools.{is_free_at, is_used_at}
 use Rattle.epoch_core.proofs.Lists.{all_listed}
 use Rattle.store_steps.specs.Journal.{Entry, Applied, Collected, Ledger, opened_ledger, is_legal, after_entry, exchanged, replay}
-use Rattle.store_steps.specs.{Desks.DeskView, Desks.IsDesk, Desks.ledger_of, Dates.IsDated, Dates.AreDated}
-use Rattle.store_steps.proofs.{ChangedLists.marked_at, OneNumber.number_after, Applications.exchanged_at}
-use Rattle.store_steps.proofs.Posting.{IsLegalBatch, legal_batch}
+use Rattle.store_steps.{specs.{Desks.{DeskView, IsDesk, ledger_of}, Dates.{IsDated, AreDated}}, proofs.ChangedLists.marked_at}
+use Rattle.store_steps.proofs.{OneNumber.number_after, Applications.exchanged_at, Posting.{IsLegalBatch, legal_batch}}
 
 -- One number
 

@@ -1,10 +1,8 @@
 -- Small stores, computed.
-use Rattle.std.proofs.Common.{◌≡◌, ℕ, Bool, false, [], ◌∷◌, refl, sym, ap, arith}
-use Rattle.std.proofs.lemmas.{Grind.common_steps, Bool.true≢false}
+use Rattle.std.proofs.{Common.{◌≡◌, ℕ, Bool, false, [], ◌∷◌, refl, sym, ap, arith}, lemmas.{Grind.common_steps, Bool.true≢false}}
 use Rattle.std.specs.Prelude.{All, slice_get, Option, Some, None}
 use Rattle.graph_version.specs.Edges.{edges_in_block}
-use Rattle.epoch_core.specs.{Worlds.seat_pin, Worlds.start_world, Worlds.session_of, declared.events.Event.TheVariants.Pin}
-use Rattle.epoch_core.specs.Versions.{edges_at}
+use Rattle.epoch_core.specs.{Worlds.{seat_pin, start_world, session_of}, declared.events.Event.TheVariants.Pin, Versions.edges_at}
 use Rattle.block_reclamation.specs.{Copies.pin_at, Copies.unsettled, declared.copies.Pin.Pin as SeatPin}
 use Rattle.block_reclamation.specs.{Board.no_pins, Board.with_pin, Status.is_at, Status.is_granted}
 use Rattle.store_steps.specs.{Reached.world_by, Desks.birth_at}

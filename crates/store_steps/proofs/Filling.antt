@@ -1,19 +1,16 @@
 -- Take and Fill of several blocks.
 use Rattle.std.proofs.Common.{◌≡◌, ◌≢◌, ℕ, ◌<◌, ◌==◌, true, false, List, [], ◌∷◌, ◌++◌, length, set, refl, sym, ap, ◌∙◌, arith}
-use Rattle.std.{proofs.Common.get_or-set_same, proofs.Common.get_or-set_other, specs.declared.option.Option.TheVariants.Some}
 use Rattle.std.proofs.lemmas.{Grind.common_steps, Bool.eq-eqb, Bool.true≢false, List.length-set}
 use Rattle.std.proofs.lemmas.List.Elements.{All-head, All-tail, All-cons}
-use Rattle.std.specs.{Prelude.slice_get, Prelude.All, Option.option_map, Option.option_and_then}
-use Rattle.std.specs.List.{flat_map}
+use Rattle.std.{proofs.Common.get_or-set_same, proofs.Common.get_or-set_other, specs.declared.option.Option.TheVariants.Some}
+use Rattle.std.specs.{Prelude.{slice_get, All}, Option.{option_map, option_and_then}, List.flat_map}
 use Rattle.graph_types.specs.declared.ids.Edge.{Edge}
 use Rattle.edge_block.specs.Slots.{BlockView}
 use Rattle.graph_version.specs.{Rows.numbers_of, Edges.edges_in_block, Edges.edges_in_blocks}
-use Rattle.block_reclamation.specs.Status.{is_listed}
-use Rattle.block_reclamation.specs.declared.status.BlockStatus.{BlockStatus, TheVariants.Free, TheVariants.Granted}
+use Rattle.block_reclamation.specs.{Status.is_listed, declared.status.BlockStatus.{BlockStatus, TheVariants.{Free, Granted}}}
 use Rattle.block_pool.specs.Pools.{marked}
-use Rattle.epoch_core.specs.declared.events.Event.{Event, TheVariants.Take, TheVariants.Fill}
-use Rattle.epoch_core.specs.{Blocks.taken, Blocks.put, Blocks.all_differ, Machine.step, Machine.with_status, Machine.with_heap}
-use Rattle.epoch_core.specs.{Versions.edges_at, Versions.edges_of, Worlds.World}
+use Rattle.epoch_core.specs.{declared.events.Event.{Event, TheVariants.{Take, Fill}}, Blocks.{taken, put, all_differ}}
+use Rattle.epoch_core.specs.{Machine.{step, with_status, with_heap}, Versions.{edges_at, edges_of}, Worlds.World}
 use Rattle.epoch_core.proofs.Lists.{set_same, set_else, or_false}
 use Rattle.store_steps.{specs.Steps.all_done, specs.Steps.filling, proofs.NumberLists.differ_head, proofs.NumberLists.differ_tail}
 

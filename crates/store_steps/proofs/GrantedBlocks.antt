@@ -3,13 +3,11 @@ use Rattle.std.proofs.Common.{◌≡◌, ℕ, zero, suc, ◌≤◌, Bool, true, 
 use Rattle.std.{proofs.lemmas.Grind.common_steps, proofs.lemmas.Bool.true≢false, specs.Option.option_map}
 use Rattle.std.specs.{Prelude.slice_get, Prelude.if◌then◌else◌, declared.option.Option.Option}
 use Rattle.block_reclamation.specs.Status.{is_listed, is_free, is_in_use, is_used, is_at}
-use Rattle.block_reclamation.specs.declared.status.BlockStatus.{BlockStatus}
-use Rattle.block_reclamation.specs.declared.status.BlockStatus.TheVariants.{Free, Granted, Used}
+use Rattle.block_reclamation.specs.declared.status.BlockStatus.{BlockStatus, TheVariants.{Free, Granted, Used}}
 use Rattle.block_pool.specs.Pools.{retired, is_free_at, marked, AreFree, is_in_use_at, is_used_at}
-use Rattle.store_steps.specs.Desks.{DeskView, IsDesk, last_numbers}
-use Rattle.store_steps.proofs.{NumberLists.all_by, NumberLists.differ_from, OneNumber.marked_if, OneNumber.not_both}
-use Rattle.store_steps.proofs.{ChangedLists.marked_at, ChangedLists.changed_at, ChangedLists.same_list, BlockMoves.AreMovable}
-use Rattle.store_steps.proofs.Counting.{times, is_some_times, in_times, apart_if, listed}
+use Rattle.store_steps.{specs.Desks.{DeskView, IsDesk, last_numbers}, proofs.NumberLists.{all_by, differ_from}}
+use Rattle.store_steps.proofs.{OneNumber.{marked_if, not_both}, ChangedLists.{marked_at, changed_at, same_list}}
+use Rattle.store_steps.proofs.{BlockMoves.AreMovable, Counting.{times, is_some_times, in_times, apart_if, listed}}
 use Rattle.store_steps.proofs.Applications.{Application, number_in_desk, dropped_numbers, handed_once, granted_free, in_numbers}
 use Rattle.store_steps.proofs.Applications.{some_either, dropped_differ, dropped_born, granted_pool, born_pool, retired_pool}
 

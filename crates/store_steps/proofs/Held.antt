@@ -1,15 +1,12 @@
 -- What a session holds is a snapshot.
-use Rattle.std.proofs.Common.{◌≡◌, ℕ, not, false, take, refl, sym, ap, subst, ◌∙◌, arith, List}
-use Rattle.std.{proofs.lemmas.Grind.common_steps, specs.Prelude.slice_get, proofs.lemmas.List.take-map}
-use Rattle.std.specs.declared.option.Option.{Option, TheVariants.Some}
+use Rattle.std.proofs.{Common.{◌≡◌, ℕ, not, false, take, refl, sym, ap, subst, ◌∙◌, arith, List}, lemmas.Grind.common_steps}
+use Rattle.std.{proofs.lemmas.List.take-map, specs.{Prelude.slice_get, declared.option.Option.{Option, TheVariants.Some}}}
 use Rattle.graph_types.specs.Step.{left_by}
-use Rattle.block_reclamation.specs.declared.status.BlockStatus.{BlockStatus, TheVariants.Retired}
+use Rattle.block_reclamation.specs.declared.{status.BlockStatus.{BlockStatus, TheVariants.Retired}, copies.PinCopy.PinCopy}
 use Rattle.block_reclamation.specs.Status.{is_free, is_reclaimable, is_at, is_listed}
-use Rattle.block_reclamation.specs.declared.copies.PinCopy.{PinCopy}
-use Rattle.epoch_core.specs.declared.session_states.{Hold.Hold, SessionState.SessionState}
-use Rattle.epoch_core.specs.Sound.{IsSound, IsSessionSound, IsHeld, IsCovered, IsKeptAt}
-use Rattle.epoch_core.{specs.Worlds.World, specs.Worlds.session_of, specs.Worlds.held_in, proofs.Steps.always_sound}
-use Rattle.epoch_core.specs.Versions.{AreEdgesOf, opening_graph, blocks_at, edges_of, graph_at}
+use Rattle.epoch_core.specs.{declared.session_states.{Hold.Hold, SessionState.SessionState}, Sound.{IsSound, IsSessionSound}}
+use Rattle.epoch_core.specs.{Sound.{IsHeld, IsCovered, IsKeptAt}, Versions.{AreEdgesOf, opening_graph, blocks_at, edges_of}}
+use Rattle.epoch_core.{specs.{Versions.graph_at, Worlds.{World, session_of, held_in}}, proofs.Steps.always_sound}
 use Rattle.store_steps.specs.{Desks.DeskView, Shown.ShowsWorld, Reached.world_by, Held.IsSnapshot}
 use Rattle.store_steps.{specs.Held.HeldIsSnapshot, proofs.Reached.same_count}
 

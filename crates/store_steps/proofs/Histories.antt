@@ -1,13 +1,11 @@
 -- The steps of the store's calls inside whole runs of the machine.
 use Rattle.std.proofs.Common.{◌≡◌, ℕ, inl, inr, List, [], ◌∷◌, get_or, set, refl, sym, ap, subst, ◌∙◌, arith}
-use Rattle.std.{proofs.lemmas.Grind.common_steps, specs.Option.unwrap_or, specs.Option.option_and_then}
-use Rattle.std.proofs.lemmas.Bool.{cases_eq}
-use Rattle.std.specs.declared.option.Option.{Option, TheVariants.None, TheVariants.Some}
+use Rattle.std.{proofs.lemmas.{Bool.cases_eq, Grind.common_steps}, specs.Option.{unwrap_or, option_and_then}}
+use Rattle.std.specs.declared.option.Option.{Option, TheVariants.{None, Some}}
 use Rattle.graph_types.specs.declared.requests.Request.{Request}
-use Rattle.epoch_core.specs.{declared.states.Version.Version, declared.states.Opening.Opening, Runs.run}
-use Rattle.epoch_core.specs.Worlds.{seat_pin, World, session_of, last_number}
-use Rattle.epoch_core.specs.declared.session_states.SessionState.{SessionState, TheVariants.Idle}
-use Rattle.epoch_core.specs.Machine.{step, to_enter, to_ask, to_read, to_reply}
+use Rattle.epoch_core.specs.declared.{states.{Version.Version, Opening.Opening}, session_states.SessionState.SessionState}
+use Rattle.epoch_core.specs.{declared.session_states.SessionState.TheVariants.Idle, Runs.run, Worlds.{seat_pin, World}}
+use Rattle.epoch_core.specs.{Worlds.{session_of, last_number}, Machine.{step, to_enter, to_ask, to_read, to_reply}}
 use Rattle.epoch_core.proofs.Moves.{Moved, moved, session_after, session_else}
 use Rattle.block_reclamation.specs.Board.{BoardState}
 use Rattle.store_steps.specs.{Desks.DeskView, Shown.ShowsWorld, Boards.ShowsBoard, Steps.all_done}

@@ -1,8 +1,7 @@
 -- Numbers in lists, and blocks that are picked by their numbers.
 use Rattle.std.proofs.Common.{◌≡◌, ◌≢◌, ℕ, zero, suc, ◌<◌, ◌==◌, Bool, true, false, ◌||◌, List, [], ◌∷◌, length, get_or, refl}
-use Rattle.std.proofs.{Common.sym, Common.ap, Common.◌∙◌, Common.arith, lemmas.Grind.common_steps}
-use Rattle.std.specs.{Prelude.if◌then◌else◌, Prelude.All, Prelude.AllPairs, Prelude.filter, List.list_all}
-use Rattle.std.proofs.lemmas.{List.Elements.All-head, List.Elements.All-tail, List.Elements.All-cons, Bool.eq-eqb, Bool.or_right}
+use Rattle.std.proofs.{Common.{sym, ap, ◌∙◌, arith}, lemmas.{Grind.common_steps, List.Elements.{All-head, All-tail, All-cons}}}
+use Rattle.std.{proofs.lemmas.Bool.{eq-eqb, or_right}, specs.{Prelude.{if◌then◌else◌, All, AllPairs, filter}, List.list_all}}
 use Rattle.graph_types.proofs.Counts.{apart_tail}
 use Rattle.edge_block.specs.Slots.{BlockView}
 use Rattle.graph_version.specs.Rows.{numbers_of}

@@ -1,7 +1,6 @@
 -- What a batch makes of one number, which was kept, dropped, taken or left unused so often.
-use Rattle.std.proofs.Common.{◌≡◌, ℕ, ◌+◌, ◌≤◌, Bool, true, arith}
-use Rattle.std.{proofs.lemmas.Grind.common_steps, specs.Prelude.if◌then◌else◌, specs.Option.option_map}
-use Rattle.std.specs.declared.option.Option.{Option, TheVariants.Some}
+use Rattle.std.{proofs.{Common.{◌≡◌, ℕ, ◌+◌, ◌≤◌, Bool, true, arith}, lemmas.Grind.common_steps}, specs.Prelude.if◌then◌else◌}
+use Rattle.std.specs.{Option.option_map, declared.option.Option.{Option, TheVariants.Some}}
 use Rattle.block_pool.specs.Pools.{retired}
 use Rattle.block_reclamation.specs.{declared.status.BlockStatus.BlockStatus, Status.is_free, Status.is_used, Status.is_at}
 use Rattle.block_reclamation.specs.declared.status.BlockStatus.TheVariants.{Free, Granted, Used}

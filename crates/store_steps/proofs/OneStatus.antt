@@ -1,7 +1,6 @@
 -- One number in the pool and in the machine: what a batch makes of it on both sides.
-use Rattle.std.proofs.Common.{◌≡◌, ℕ, Bool, true, arith}
-use Rattle.std.{proofs.lemmas.Grind.common_steps, specs.Prelude.if◌then◌else◌, specs.declared.option.Option.Option}
-use Rattle.std.specs.Option.{option_map}
+use Rattle.std.{proofs.{Common.{◌≡◌, ℕ, Bool, true, arith}, lemmas.Grind.common_steps}, specs.Prelude.if◌then◌else◌}
+use Rattle.std.specs.{declared.option.Option.Option, Option.option_map}
 use Rattle.block_reclamation.specs.declared.status.BlockStatus.{BlockStatus, TheVariants.Granted}
 use Rattle.block_reclamation.specs.Status.{is_free, is_used, is_at}
 use Rattle.epoch_core.specs.Blocks.{after_post}

@@ -1,23 +1,20 @@
 -- The opening.
 use Rattle.std.proofs.Common.{◌≡◌, ◌≢◌, ℕ, zero, suc, ◌<◌, ◌==◌, ◌||◌, Bool, true, false, List, [], ◌∷◌, ◌++◌, length, replicate}
-use Rattle.std.proofs.Common.{refl, sym, ap, subst, ◌∙◌, arith, All, AllPairs}
-use Rattle.std.{proofs.lemmas.Grind.common_steps, proofs.lemmas.Bool.eqb-true, specs.Option.option_map}
-use Rattle.std.proofs.lemmas.List.{length-replicate, Elements.All-head, Elements.All-tail, Elements.All-cons}
-use Rattle.std.specs.{Prelude.map, Prelude.slice_get, Prelude.slice_set, Prelude.if◌then◌else◌, List.flat_map}
+use Rattle.std.proofs.{Common.{refl, sym, ap, subst, ◌∙◌, arith, All, AllPairs}, lemmas.List.length-replicate}
+use Rattle.std.proofs.lemmas.{List.Elements.{All-head, All-tail, All-cons}, Grind.common_steps, Bool.eqb-true}
+use Rattle.std.specs.{Option.option_map, Prelude.{map, slice_get, slice_set, if◌then◌else◌}, List.flat_map}
 use Rattle.std.specs.declared.option.Option.TheVariants.{None, Some}
 use Rattle.block_pool.{proofs.Grants.length-marked, specs.Pools.marked, specs.Pools.is_used_at}
 use Rattle.graph_types.specs.{Graph.graph_of, Graph.content_of, Graph.IsContent, declared.contents.Content.Content}
 use Rattle.graph_types.specs.{Step.left_by, declared.ids.Edge.Edge}
 use Rattle.edge_block.specs.Slots.{BlockView}
-use Rattle.graph_version.specs.{Rows.blocks_of, Rows.numbers_of, Edges.edges_in_block, Edges.edges_in_blocks}
-use Rattle.graph_version.specs.Versions.{VersionView, content, empty_version}
-use Rattle.graph_version.proofs.{Empty.is_empty_version, Shown.rows_each_once}
+use Rattle.graph_version.specs.{Rows.{blocks_of, numbers_of}, Edges.{edges_in_block, edges_in_blocks}, Versions.VersionView}
+use Rattle.graph_version.{specs.Versions.{content, empty_version}, proofs.{Empty.is_empty_version, Shown.rows_each_once}}
 use Rattle.block_reclamation.specs.{Status.is_listed, Status.is_used, Status.is_at, Copies.pin_at}
 use Rattle.block_reclamation.specs.declared.status.BlockStatus.{BlockStatus, TheVariants.Free, TheVariants.Used}
-use Rattle.epoch_core.specs.Versions.{AreEdgesOf, edges_at, edges_of}
-use Rattle.epoch_core.specs.{Worlds.seat_pin, Worlds.IsStart, declared.session_states.SessionState.TheVariants.Idle}
-use Rattle.epoch_core.specs.Opened.{Lists, numbers_in, heap_with, status_with, IsOpening}
-use Rattle.epoch_core.proofs.Steps.{all_idle, free_at}
+use Rattle.epoch_core.specs.{Versions.{AreEdgesOf, edges_at, edges_of}, Worlds.{seat_pin, IsStart}}
+use Rattle.epoch_core.specs.{declared.session_states.SessionState.TheVariants.Idle, Opened.{Lists, numbers_in, heap_with}}
+use Rattle.epoch_core.{specs.Opened.{status_with, IsOpening}, proofs.Steps.{all_idle, free_at}}
 use Rattle.store_steps.{specs.Desks.IsDesk, specs.Shown.ShowsWorld, proofs.NumberLists.differ_from, proofs.ChangedLists.marked_at}
 use Rattle.store_steps.specs.Opening.{opened_desk, opened_start, lists_of, IsVersionZero, OpensAsMachine, OpensBlank}
 use Rattle.store_steps.proofs.Filling as filling

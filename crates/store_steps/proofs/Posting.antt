@@ -1,31 +1,28 @@
 -- An accepted batch is Take and Fill of each taken block and then one Post, all done.
 use Rattle.std.proofs.Common.{◌≡◌, ℕ, zero, suc, ◌+◌, ◌<◌, Bool, true, false, ◌&&◌, List, [], ◌∷◌, ◌++◌, length, get_or, refl}
-use Rattle.std.proofs.Common.{sym, ap, subst, ◌∙◌, arith, length-append}
-use Rattle.std.proofs.lemmas.{Grind.common_steps, List.map-append, List.length-map, Option.slice_get_within}
-use Rattle.std.proofs.lemmas.Bool.{and_from, or_right, lt-ltb, le-leb, or_left}
+use Rattle.std.proofs.{Common.{sym, ap, subst, ◌∙◌, arith, length-append}, lemmas.{Grind.common_steps, List.map-append}}
+use Rattle.std.proofs.lemmas.{List.length-map, Option.slice_get_within, Bool.{and_from, or_right, lt-ltb, le-leb, or_left}}
 use Rattle.std.specs.{Prelude.slice_get, Prelude.if◌then◌else◌, Prelude.All, Prelude.Contains, Option.option_map}
 use Rattle.std.specs.{List.list_all, declared.option.Option.TheVariants.None, declared.option.Option.TheVariants.Some}
 use Rattle.block_pool.{proofs.Grants.length-marked, specs.Pools.is_free_at, specs.Pools.is_used_at}
-use Rattle.graph_types.specs.{Limits.batch_limit, GraphLimits.is_within_limits, declared.batches.NamedOp.NamedOp}
+use Rattle.graph_types.specs.{Limits.batch_limit, Step.is_within_limits, declared.batches.NamedOp.NamedOp}
+use Rattle.graph_types.proofs.More.{left_more}
 use Rattle.edge_block.specs.Slots.{BlockView}
 use Rattle.graph_version.specs.{Rows.blocks_of, Rows.numbers_of, Edges.edges_in_block, Edges.edges_in_blocks, Edges.AreEachOnce}
 use Rattle.graph_version.{specs.Versions.content, proofs.Shown.rows_each_once}
 use Rattle.block_reclamation.specs.Status.{is_listed, is_used, is_at, is_granted}
 use Rattle.block_reclamation.specs.declared.status.BlockStatus.{BlockStatus, TheVariants.Free, TheVariants.Granted}
-use Rattle.epoch_core.{specs.declared.states.Version.Version, proofs.Lists.all_listed, proofs.Lists.length_enumerated}
-use Rattle.epoch_core.specs.{Blocks.all_differ, Blocks.after_post, Posts.posted, Worlds.World, Worlds.last_blocks}
-use Rattle.epoch_core.specs.{declared.events.Event.TheVariants.Post, Versions.AreEdgesOf, Versions.edges_at, Versions.edges_of}
-use Rattle.epoch_core.proofs.{Edges.Decides-edges, Changes.version_next, Changes.batches_all, Posted.status_at}
-use Rattle.epoch_core.specs.Posting.{is_listable, version_by, can_post, graph_after, are_edges_of}
-use Rattle.store_steps.specs.{Journal.Applied, Journal.Ledger, Journal.is_legal, Shown.ShowsWorld}
-use Rattle.store_steps.specs.Desks.{DeskView, IsDesk, IsAccepted, last_numbers, ledger_of}
-use Rattle.store_steps.specs.Steps.{fresh_in, posting, Takes}
+use Rattle.epoch_core.specs.{declared.{states.Version.Version, events.Event.TheVariants.Post}, Blocks.{all_differ, after_post}}
+use Rattle.epoch_core.specs.{Posts.posted, Worlds.{World, last_blocks}, Versions.{AreEdgesOf, edges_at, edges_of}}
+use Rattle.epoch_core.{specs.Posting.{is_listable, version_by, can_post, graph_after, are_edges_of}, proofs.Lists.all_listed}
+use Rattle.epoch_core.proofs.{Lists.length_enumerated, Edges.Decides-edges, Changes.{version_next, batches_all}, Posted.status_at}
+use Rattle.store_steps.specs.{Journal.{Applied, Ledger, is_legal}, Shown.ShowsWorld, Desks.{DeskView, IsDesk, IsAccepted}}
+use Rattle.store_steps.specs.{Desks.{last_numbers, ledger_of}, Steps.{fresh_in, posting, Takes}}
 use Rattle.store_steps.proofs.NumberLists.{same_bool, differ_from, number_in, numbers_all, picked, in_picked, picked_in}
 use Rattle.store_steps.proofs.{NumberLists.picked_apart, NumberLists.picked_all, OneNumber.number_after, OneNumber.free_is, Filling.edges_from}
 use Rattle.store_steps.proofs.{ChangedLists.marked_at, ChangedLists.same_list, Applications.exchanged_at}
 use Rattle.store_steps.proofs.OneStatus.{status_by, same_after, born_mark}
 use Rattle.store_steps.proofs.Filling.{filled_world, fills_done, step_then, AllAre, length-heap_with, heap_else, heap_here}
-use Rattle.graph_types.proofs.More.{left_more}
 
 -- what a legal batch asks of the pool
 pub record IsLegalBatch (pool : List BlockStatus) (taken dropped : List ℕ) : Type 0 where

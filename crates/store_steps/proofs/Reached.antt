@@ -4,13 +4,11 @@ use Rattle.std.proofs.{Common.arith, lemmas.Grind.common_steps, lemmas.List.leng
 use Rattle.std.specs.{Option.unwrap_or, Option.option_map, Option.option_and_then, Prelude.slice_get, Prelude.is_some}
 use Rattle.std.specs.declared.option.Option.{Option, TheVariants.None, TheVariants.Some}
 use Rattle.epoch_core.specs.Worlds.{seat_pin, World, MachineState, IsStart, start_world, last_number, session_of, held_in}
-use Rattle.epoch_core.specs.{declared.events.Event.Event, Epochs.PinsInOrder, Blocks.put}
-use Rattle.epoch_core.specs.{declared.session_states.SessionState.SessionState, Runs.run, Runs.next_world, Runs.is_done}
-use Rattle.epoch_core.specs.declared.events.Event.TheVariants.{Floor, Pin, Enter, Settle, Ask, Read, Reply, Release}
-use Rattle.epoch_core.specs.declared.session_states.SessionState.TheVariants.{Idle, Pinned, Holding, Asking}
-use Rattle.epoch_core.specs.Machine.{step, move, to_pin, to_enter, to_settle, with_sessions}
-use Rattle.epoch_core.proofs.{Moves.Moved, Moves.moved, Moves.floored, Moves.session_after, Steps.always_sound, Steps.idle_at}
-use Rattle.epoch_core.proofs.{Sizes.size_run, Epochs.pins_in_order}
+use Rattle.epoch_core.specs.declared.events.Event.{Event, TheVariants.{Floor, Pin, Enter, Settle, Ask, Read, Reply, Release}}
+use Rattle.epoch_core.specs.declared.session_states.SessionState.{SessionState, TheVariants.{Idle, Pinned, Holding, Asking}}
+use Rattle.epoch_core.specs.{Epochs.PinsInOrder, Blocks.put, Runs.{run, next_world, is_done}, Machine.{step, move, to_pin}}
+use Rattle.epoch_core.{specs.Machine.{to_enter, to_settle, with_sessions}, proofs.Moves.{Moved, moved, floored, session_after}}
+use Rattle.epoch_core.proofs.{Steps.{always_sound, idle_at}, Sizes.size_run, Epochs.pins_in_order}
 use Rattle.graph_version.specs.Versions.{empty_version}
 use Rattle.block_reclamation.specs.{declared.copies.PinCopy.PinCopy, Board.BoardState, Board.with_pin}
 use Rattle.block_reclamation.specs.Copies.{pin_at, unsettled, settled, copy_of}

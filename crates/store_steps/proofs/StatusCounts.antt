@@ -1,9 +1,8 @@
 -- How many blocks are free, and how many retired, after a batch and after a collection.
 use Rattle.std.proofs.Common.{◌≡◌, ◌≢◌, ℕ, ◌+◌, ◌==◌, Bool, true, false, cond, ◌||◌, List, [], ◌∷◌, length, get_or, map, set}
-use Rattle.std.proofs.Common.{count_by, refl, sym, ap, ◌∙◌, arith, ◌&&◌, subst}
-use Rattle.std.{proofs.lemmas.Grind.common_steps, proofs.lemmas.List.length-map, specs.Option.option_map}
-use Rattle.std.proofs.lemmas.{Bool.eq-eqb, Bool.true≢false, Bool.or_right, Option.slice_get_within, Option.get_or_from_slice_get}
-use Rattle.std.specs.{Prelude.slice_get, Prelude.if◌then◌else◌, declared.option.Option.TheVariants.Some}
+use Rattle.std.proofs.{Common.{count_by, refl, sym, ap, ◌∙◌, arith, ◌&&◌, subst}, lemmas.Bool.{eq-eqb, true≢false, or_right}}
+use Rattle.std.proofs.lemmas.{Option.{slice_get_within, get_or_from_slice_get}, Grind.common_steps, List.length-map}
+use Rattle.std.specs.{Option.option_map, Prelude.{slice_get, if◌then◌else◌}, declared.option.Option.TheVariants.Some}
 use Rattle.block_pool.proofs.{Grants.length-marked, Tallies.count_here}
 use Rattle.block_pool.specs.Pools.{retired, is_free_at, marked, changed, is_used_at}
 use Rattle.graph_types.specs.declared.batches.NamedOp.{NamedOp}
@@ -11,11 +10,10 @@ use Rattle.block_reclamation.specs.Status.{is_listed, is_free, is_retired, is_re
 use Rattle.block_reclamation.specs.{declared.copies.PinCopy.PinCopy, Copies.needs, declared.status.BlockStatus.BlockStatus}
 use Rattle.block_reclamation.specs.declared.status.BlockStatus.TheVariants.{Free, Granted, Used, Retired}
 use Rattle.epoch_core.{specs.Blocks.all_differ, proofs.Lists.set_else, proofs.Lists.all_listed}
-use Rattle.store_steps.specs.Desks.{DeskView, IsAccepted, IsCollected, AcceptedCounts, CollectedCounts, is_retired_by, birth_of, birth_at}
-use Rattle.store_steps.specs.Desks.{ledger_of}
-use Rattle.store_steps.proofs.{NumberLists.differ_head, NumberLists.differ_tail, CollectedDesk.past_and_left}
-use Rattle.store_steps.proofs.{ChangedLists.marked_at, ChangedLists.length-changed, Posting.IsLegalBatch, Posting.legal_batch}
-use Rattle.store_steps.proofs.OneNumber.{free_is, born_is, not_both}
+use Rattle.store_steps.specs.Desks.{DeskView, IsAccepted, IsCollected, AcceptedCounts, CollectedCounts, is_retired_by, birth_of}
+use Rattle.store_steps.{specs.Desks.{birth_at, ledger_of}, proofs.NumberLists.{differ_head, differ_tail}}
+use Rattle.store_steps.proofs.{CollectedDesk.past_and_left, ChangedLists.{marked_at, length-changed}, Posting.IsLegalBatch}
+use Rattle.store_steps.proofs.{Posting.legal_batch, OneNumber.{free_is, born_is, not_both}}
 use Rattle.edge_block.proofs.Counts.{count_more}
 
 -- one status is set

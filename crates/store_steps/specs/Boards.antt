@@ -1,12 +1,10 @@
 -- Worlds of the machine of interleavings that a board shows, and the steps of the machine that the board's calls are
 -- where these are done. Blocks, versions, and what a session holds are open.
 use Rattle.std.specs.Prelude.{◌≡◌, ℕ, ◌<◌, ◌≤◌, length, Some, None, option_map}
-use Rattle.epoch_core.specs.{declared.events.Event.Event, Machine.step}
-use Rattle.epoch_core.specs.declared.events.Event.TheVariants.{Floor, Pin, Settle, Release}
-use Rattle.epoch_core.specs.Worlds.{World, session_of, seat_pin, pin_in, held_in, last_number}
-use Rattle.block_reclamation.specs.declared.copies.PinCopy.{PinCopy}
-use Rattle.block_reclamation.specs.Copies.{floor_of, pin_at, unsettled, settled, copy_of}
-use Rattle.block_reclamation.specs.{Board.BoardState, Board.IsBoard, Board.with_pin, declared.copies.TheConstants.SEATS}
+use Rattle.epoch_core.specs.{declared.events.Event.{Event, TheVariants.{Floor, Pin, Settle, Release}}, Machine.step, Worlds.World}
+use Rattle.epoch_core.specs.Worlds.{session_of, seat_pin, pin_in, held_in, last_number}
+use Rattle.block_reclamation.specs.{declared.copies.{PinCopy.PinCopy, TheConstants.SEATS}, Copies.{floor_of, pin_at, unsettled}}
+use Rattle.block_reclamation.specs.{Copies.{settled, copy_of}, Board.{BoardState, IsBoard, with_pin}}
 use Rattle.store_steps.specs.{Desks.DeskView, Shown.ShowsWorld}
 
 -- the board shows the floor, and each session's pin

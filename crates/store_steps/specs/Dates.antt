@@ -1,6 +1,5 @@
 -- The numbers of versions that a desk's blocks carry.
-use Rattle.std.specs.Prelude.{◌≡◌, ℕ, ◌<◌, ◌≤◌, Bool, false, List, slice_get}
-use Rattle.std.specs.declared.option.Option.{Option, TheVariants.Some}
+use Rattle.std.specs.{Prelude.{◌≡◌, ℕ, ◌<◌, ◌≤◌, Bool, false, List, slice_get}, declared.option.Option.{Option, TheVariants.Some}}
 use Rattle.block_reclamation.specs.{Status.is_listed, declared.status.BlockStatus.BlockStatus}
 use Rattle.block_reclamation.specs.declared.status.BlockStatus.TheVariants.{Granted, Used, Retired}
 

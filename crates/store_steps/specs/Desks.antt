@@ -4,8 +4,7 @@ use Rattle.std.specs.Prelude.{◌≡◌, ℕ, ◌+◌, ◌==◌, List, [], ◌�
 use Rattle.std.specs.{Prelude.true, Prelude.false, Prelude.◌&&◌, Prelude.if◌then◌else◌, declared.option.Option.TheVariants.Some}
 use Rattle.graph_types.specs.{declared.batches.NamedOp.NamedOp, Step.after_all}
 use Rattle.edge_block.specs.{Slots.BlockView, Batches.layout_after, Batches.taken_by, Batches.dropped_by}
-use Rattle.graph_version.specs.Rows.{row_of, blocks_of, numbers_of}
-use Rattle.graph_version.specs.Versions.{VersionView, IsVersion, content, layout_of}
+use Rattle.graph_version.specs.{Rows.{row_of, blocks_of, numbers_of}, Versions.{VersionView, IsVersion, content, layout_of}}
 use Rattle.block_reclamation.specs.Status.{is_listed, is_free, is_retired, is_reclaimable, recycled}
 use Rattle.block_reclamation.specs.{declared.copies.PinCopy.PinCopy, Copies.needs, declared.status.BlockStatus.BlockStatus}
 use Rattle.block_reclamation.specs.declared.status.BlockStatus.TheVariants.{Granted, Used, Retired}

@@ -1,7 +1,6 @@
 -- Small stores worked out by hand: journals that replay and journals that don't, a desk and a world that it shows, the
 -- events of a batch and of a collection, and a board beside sessions.
-use Rattle.std.specs.Prelude.{◌≡◌, pos, ℕ, List, [], ◌∷◌, ◌++◌, map, replicate, true, false, Some, None}
-use Rattle.std.specs.List.{range_with_len}
+use Rattle.std.specs.{Prelude.{◌≡◌, pos, ℕ, List, [], ◌∷◌, ◌++◌, map, replicate, true, false, Some, None}, List.range_with_len}
 use Rattle.graph_types.specs.{Graph.graph_of, Graph.content_of, Step.empty_graph, declared.contents.Content.Content}
 use Rattle.edge_block.specs.{Slots.BlockView, Slots.edge_slot, Rows.OpenBlock, Rows.Shape, Rows.row_end}
 use Rattle.edge_block.specs.Examples.{insert_at, remove_at, row_by, many}

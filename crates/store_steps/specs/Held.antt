@@ -1,8 +1,7 @@
 -- What a session holds, where the desk and the board show a run of the machine.
 use Rattle.std.specs.Prelude.{◌≡◌, ℕ, ◌≤◌, false, List, length, take, slice_get, Some, IsTrue}
 use Rattle.graph_types.specs.Step.{left_by}
-use Rattle.block_reclamation.specs.Status.{is_free, is_reclaimable, is_at, is_listed}
-use Rattle.block_reclamation.specs.declared.copies.PinCopy.{PinCopy}
+use Rattle.block_reclamation.specs.{Status.{is_free, is_reclaimable, is_at, is_listed}, declared.copies.PinCopy.PinCopy}
 use Rattle.epoch_core.specs.{declared.events.Event.Event, Versions.AreEdgesOf, Versions.blocks_at, Versions.edges_of}
 use Rattle.epoch_core.specs.Worlds.{World, MachineState, IsStart, session_of, held_in}
 use Rattle.store_steps.specs.{Desks.DeskView, Reached.Store, Reached.world_by, Reached.IsReached}

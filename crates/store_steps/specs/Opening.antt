@@ -4,10 +4,8 @@ use Rattle.graph_types.specs.{Graph.IsContent, declared.contents.Content.Content
 use Rattle.graph_version.specs.{Rows.blocks_of, Rows.numbers_of, Versions.VersionView, Versions.IsVersion, Versions.empty_version}
 use Rattle.graph_version.specs.Edges.{edges_in_block}
 use Rattle.block_pool.specs.Pools.{marked}
-use Rattle.block_reclamation.specs.declared.status.BlockStatus.TheVariants.{Free, Used}
-use Rattle.block_reclamation.specs.Board.{no_pins}
-use Rattle.epoch_core.specs.Worlds.{MachineState, IsStart, start_world}
-use Rattle.epoch_core.specs.Opened.{Lists, IsOpening, opened_state}
+use Rattle.block_reclamation.specs.{declared.status.BlockStatus.TheVariants.{Free, Used}, Board.no_pins}
+use Rattle.epoch_core.specs.{Worlds.{MachineState, IsStart, start_world}, Opened.{Lists, IsOpening, opened_state}}
 use Rattle.store_steps.specs.{Desks.DeskView, Desks.IsDesk, Shown.ShowsWorld, Boards.ShowsBoard}
 
 -- version 0, an empty journal, and all blocks free but those of version 0, which have birth 0

@@ -3,11 +3,9 @@ use Rattle.std.specs.Prelude.{◌≡◌, ℕ, ◌<◌, ◌≤◌, List, [], ◌�
 use Rattle.epoch_core.specs.{declared.events.Event.Event, Worlds.World, Worlds.session_of, Worlds.held_in, Runs.run, Runs.is_done}
 use Rattle.epoch_core.specs.declared.events.Event.TheVariants.{Floor, Pin, Enter, Settle, Ask, Read, Reply, Release}
 use Rattle.graph_types.specs.declared.requests.Request.{Request}
-use Rattle.block_reclamation.specs.declared.copies.{PinCopy.PinCopy, Pin.Pin as SeatPin, TheConstants.SEATS}
-use Rattle.block_reclamation.specs.Copies.{no_copy, pin_at, unsettled, settled, copy_of}
-use Rattle.block_reclamation.specs.Board.{BoardState, IsBoard, no_pins, with_pin}
-use Rattle.store_steps.specs.Desks.{DeskView}
-use Rattle.store_steps.specs.{Shown.ShowsWorld, Boards.ShowsBoard, Boards.raised_board, Steps.Takes, Steps.TakesAt}
+use Rattle.block_reclamation.specs.{declared.copies.{PinCopy.PinCopy, Pin.Pin as SeatPin, TheConstants.SEATS}, Copies.no_copy}
+use Rattle.block_reclamation.specs.{Copies.{pin_at, unsettled, settled, copy_of}, Board.{BoardState, IsBoard, no_pins, with_pin}}
+use Rattle.store_steps.specs.{Desks.DeskView, Shown.ShowsWorld, Boards.{ShowsBoard, raised_board}, Steps.{Takes, TakesAt}}
 
 -- the world that these events leave of a start
 abbrev pub world_by : World → List Event → World

@@ -1,14 +1,12 @@
 -- The steps of the machine of interleavings that a desk's calls take.
-use Rattle.std.specs.Prelude.{◌≡◌, ℕ, List, [], ◌∷◌, ◌++◌, map, filter}
-use Rattle.std.specs.{List.flat_map, List.enumerate_from, Option.option_and_then}
-use Rattle.std.specs.declared.option.Option.{Option, TheVariants.None, TheVariants.Some}
+use Rattle.std.specs.{Prelude.{◌≡◌, ℕ, List, [], ◌∷◌, ◌++◌, map, filter}, List.{flat_map, enumerate_from}, Option.option_and_then}
+use Rattle.std.specs.declared.option.Option.{Option, TheVariants.{None, Some}}
 use Rattle.graph_types.specs.declared.batches.NamedOp.{NamedOp}
 use Rattle.edge_block.specs.Slots.{BlockView}
 use Rattle.graph_version.specs.{Rows.blocks_of, Rows.numbers_of, Versions.VersionView, Edges.edges_in_block}
 use Rattle.block_reclamation.specs.{Status.is_listed, Status.is_reclaimable, declared.status.BlockStatus.BlockStatus}
 use Rattle.block_reclamation.specs.declared.copies.PinCopy.{PinCopy}
-use Rattle.epoch_core.specs.{declared.events.Event.Event, Worlds.World, Machine.step}
-use Rattle.epoch_core.specs.declared.events.Event.TheVariants.{Take, Fill, Post, Recycle}
+use Rattle.epoch_core.specs.{declared.events.Event.{Event, TheVariants.{Take, Fill, Post, Recycle}}, Worlds.World, Machine.step}
 use Rattle.store_steps.specs.{Desks.DeskView, Desks.IsAccepted, Shown.ShowsWorld}
 
 -- the world after these events, all of them done; none where one of them is skipped

@@ -1,29 +1,25 @@
 -- A batch handed over: what the desk's call does with what was made of it.
 use Rattle.std.proofs.Common.{◌≡◌, ℕ, ◌+◌, ◌≤◌, true, false, List, [], ◌∷◌, ◌++◌, length, map, refl, sym, ap, subst, ◌∙◌, arith}
-use Rattle.std.{proofs.Common.count_by, proofs.Common.vec_len, proofs.lemmas.Grind.common_steps, specs.declared.sync.Arc.Arc}
-use Rattle.std.{proofs.lemmas.List.map-append, proofs.lemmas.List.length-map, specs.declared.alloc.Global.Global}
-use Rattle.std.specs.{Prelude.All, List.sum_by, Arc.arc_value}
+use Rattle.std.proofs.{Common.{count_by, vec_len}, lemmas.{Grind.common_steps, List.{map-append, length-map}}}
+use Rattle.std.specs.{declared.{sync.Arc.Arc, alloc.Global.Global}, Prelude.All, List.sum_by, Arc.arc_value}
 use Rattle.graph_types.specs.declared.batches.NamedOp.{NamedOp}
 use Rattle.edge_block.specs.declared.blocks.Block.{Block}
 use Rattle.batch_shards.specs.RowBlocks.{block_of, blocks_of, numbers_of}
 use Rattle.graph_version.specs.{declared.versions.Version.Version, Versions.VersionView, Versions.content}
-use Rattle.block_reclamation.specs.Status.{is_listed, is_free, is_retired, is_in_use}
-use Rattle.block_reclamation.specs.declared.status.BlockStatus.{BlockStatus}
+use Rattle.block_reclamation.specs.{Status.{is_listed, is_free, is_retired, is_in_use}, declared.status.BlockStatus.BlockStatus}
 use Rattle.block_reclamation.specs.declared.status.BlockStatus.TheVariants.{Free, Granted, Used}
 use Rattle.block_pool.specs.Pools.{retired, marked, changed, AreFree}
 use Rattle.version_shelf.specs.Shelves.{ShelfView}
-use Rattle.store_steps.{specs.Desks.DeskView, specs.Desks.IsDesk, specs.Desks.FollowsLayout, proofs.BatchLaws.accepted_steps}
-use Rattle.store_steps.specs.Steps.{Accepts}
+use Rattle.store_steps.{specs.{Desks.{DeskView, IsDesk, FollowsLayout}, Steps.Accepts}, proofs.BatchLaws.accepted_steps}
 use Rattle.store_steps.proofs.Applications.{Application, next_desk, born_pool, retired_pool, moves_left}
-use Rattle.store_steps.proofs.{Accepting.made_accepted, Accepting.made_desk, RetiredCounts.retired_room}
-use Rattle.store_steps.proofs.GrantedBlocks.{taken_granted, taken_movable, dropped_movable, unused_movable, granted_movable}
-use Rattle.store_steps.proofs.GrantedBlocks.{given_back, born_movable, born_given_back}
+use Rattle.store_steps.proofs.{Accepting.{made_accepted, made_desk}, RetiredCounts.retired_room, GrantedBlocks.taken_granted}
+use Rattle.store_steps.proofs.GrantedBlocks.{taken_movable, dropped_movable, unused_movable, granted_movable, given_back}
+use Rattle.store_steps.proofs.GrantedBlocks.{born_movable, born_given_back}
 use Rattle.batch_apply.{specs.declared.plans.Plan.Plan, proofs.Asked.needs_within}
 use Rattle.stream_store.specs.declared.{entries.JournalEntry.JournalEntry, receipts.ApplyError.ApplyError}
-use Rattle.stream_store.specs.{declared.applying.Prepared.Prepared, Kept.DeskState, Kept.IsDeskState, Kept.entry_of}
-use Rattle.stream_store.specs.Applying.{IsPrepared}
-use Rattle.stream_store.{specs.Moves.AreUsedOnce, specs.Moves.AreBornOnce, proofs.UsedBlocks.used_blocks}
-use Rattle.stream_store.specs.Refusals.{Refuses, RefusesGrant, IsAdmitted, IsWithin, asked, block_count, workers_for}
+use Rattle.stream_store.specs.{declared.applying.Prepared.Prepared, Kept.{DeskState, IsDeskState, entry_of}, Applying.IsPrepared}
+use Rattle.stream_store.specs.{Applying.{AreUsedOnce, AreBornOnce}, Refusals.{Refuses, RefusesGrant, IsAdmitted, IsWithin, asked}}
+use Rattle.stream_store.{specs.Refusals.{block_count, workers_for}, proofs.UsedBlocks.used_blocks}
 use Rattle.graph_version.specs.Rows as rows
 use Rattle.stream_store.specs.declared.entries.JournalEntry.TheVariants as entries
 

@@ -8,10 +8,9 @@ use Rattle.block_reclamation.specs.Status.{is_listed, is_in_use, is_used, is_at}
 use Rattle.block_reclamation.specs.declared.status.BlockStatus.{BlockStatus, TheVariants.Granted}
 use Rattle.block_pool.specs.Pools.{marked, changed, retired, is_in_use_at, is_used_at}
 use Rattle.epoch_core.{specs.Blocks.all_differ, proofs.Lists.all_listed}
-use Rattle.store_steps.proofs.{NumberLists.all_by, ChangedLists.marked_at, ChangedLists.changed_at, ChangedLists.same_list}
-use Rattle.store_steps.proofs.Counting.{times, is_some_times, in_times, once_at_most, apart_if}
-use Rattle.store_steps.proofs.BlockMoves.{AreMovable, moving}
-use Rattle.stream_store.specs.Moves.{AreOnce, AreUsedOnce, AreBornOnce}
+use Rattle.store_steps.proofs.{NumberLists.all_by, ChangedLists.{marked_at, changed_at, same_list}, Counting.times}
+use Rattle.store_steps.proofs.{Counting.{is_some_times, in_times, once_at_most, apart_if}, BlockMoves.{AreMovable, moving}}
+use Rattle.stream_store.specs.Applying.{AreOnce, AreUsedOnce, AreBornOnce}
 
 -- a list with its last number first has each number as often
 turned_times : (m n : ℕ) (ns : List ℕ) → times m (ns ++ n ∷ []) ≡ times m (n ∷ ns)

@@ -1,6 +1,5 @@
 -- What a store's receipts and refusals say where the desk behind the lock is not known.
-use Rattle.std.proofs.{Common.ℕ, Common.List, Common.Result, Common.arith, lemmas.Grind.common_steps}
-use Rattle.std.specs.Prelude.{IfOk, OnOk}
+use Rattle.std.{proofs.{Common.{ℕ, List, Result, arith}, lemmas.Grind.common_steps}, specs.Prelude.{IfOk, OnOk}}
 use Rattle.graph_types.specs.declared.batches.{NamedOp.NamedOp, Outcome.Outcome}
 use Rattle.version_shelf.specs.Shelves.{ToldView}
 use Rattle.store_steps.specs.Steps.{Accepts}

@@ -1,8 +1,7 @@
 -- Seats: a pin set twice, and the seats of an opening.
 use Rattle.std.proofs.Common.{◌≡◌, ℕ, zero, suc, ◌+◌, ◌<◌, List, [], ◌∷◌, ◌++◌, length, map, take, drop, refl, sym, ap, subst}
-use Rattle.std.{proofs.Common.◌∙◌, proofs.Common.arith, proofs.lemmas.Grind.common_steps, specs.List.range_with_len}
-use Rattle.std.proofs.lemmas.List.{map-append, length-append, Elements.All-head, Elements.All-tail, Elements.All-cons}
-use Rattle.std.specs.Prelude.{All, Option, slice_set, slice_index_or}
+use Rattle.std.proofs.{Common.{◌∙◌, arith}, lemmas.List.{map-append, length-append, Elements.{All-head, All-tail, All-cons}}}
+use Rattle.std.{proofs.lemmas.Grind.common_steps, specs.{List.range_with_len, Prelude.{All, Option, slice_set, slice_index_or}}}
 use Rattle.logbook.specs.Pages.{Book}
 use Rattle.graph_version.specs.Versions.{VersionView}
 use Rattle.version_shelf.specs.Shelves.{ToldView}

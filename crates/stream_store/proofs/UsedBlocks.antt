@@ -1,19 +1,16 @@
 -- The used blocks of a desk are those of its last version.
-use Rattle.std.proofs.Common.{◌≡◌, ◌≢◌, ℕ, zero, suc, ◌+◌, ◌==◌, Bool, true, false, cond, ◌||◌, List, [], ◌∷◌, length}
-use Rattle.std.proofs.Common.{set, count_by, refl, sym, ap, ◌∙◌, arith}
-use Rattle.std.specs.{Prelude.slice_get, declared.option.Option.TheVariants.Some}
-use Rattle.std.proofs.lemmas.{List.length-map, Bool.eq-eqb, Bool.eqb-true, Bool.true≢false}
-use Rattle.edge_block.specs.Slots.{BlockView}
+use Rattle.std.proofs.Common.{◌≡◌, ◌≢◌, ℕ, zero, suc, ◌+◌, ◌==◌, Bool, true, false, cond, ◌||◌, List, [], ◌∷◌, length, set}
+use Rattle.std.proofs.{Common.{count_by, refl, sym, ap, ◌∙◌, arith}, lemmas.{List.length-map, Bool.{eq-eqb, eqb-true}}}
+use Rattle.std.{proofs.lemmas.Bool.true≢false, specs.{Prelude.slice_get, declared.option.Option.TheVariants.Some}}
+use Rattle.edge_block.{specs.Slots.BlockView, proofs.Counts.count_more}
 use Rattle.graph_version.specs.Rows.{blocks_of}
-use Rattle.block_reclamation.specs.Status.{is_listed, is_used, is_in_use, is_at}
-use Rattle.block_reclamation.specs.declared.status.BlockStatus.{BlockStatus}
+use Rattle.block_reclamation.specs.{Status.{is_listed, is_used, is_in_use, is_at}, declared.status.BlockStatus.BlockStatus}
 use Rattle.block_reclamation.specs.declared.status.BlockStatus.TheVariants.{Free, Granted, Used, Retired}
 use Rattle.block_pool.specs.Pools.{is_used_at}
 use Rattle.epoch_core.{specs.Blocks.all_differ, proofs.Lists.set_else}
 use Rattle.store_steps.specs.{Dates.IsDated, Desks.DeskView, Desks.IsDesk, Desks.last_numbers}
 use Rattle.store_steps.proofs.{NumberLists.differ_from, NumberLists.differ_head, NumberLists.differ_tail, Dated.desk_dated}
 use Rattle.stream_store.specs.Refusals.{block_count}
-use Rattle.edge_block.proofs.Counts.{count_more}
 
 -- none is born
 none_born : (pool : List BlockStatus) → ((n : ℕ) → is_used_at pool n ≡ false) → count_by is_used pool ≡ 0

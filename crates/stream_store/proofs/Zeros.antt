@@ -7,8 +7,7 @@ use Rattle.graph_version.specs.{Versions.VersionView, Versions.IsVersion, declar
 use Rattle.block_reclamation.specs.{Status.is_listed, declared.status.BlockStatus.BlockStatus}
 use Rattle.block_reclamation.specs.declared.status.BlockStatus.TheVariants.{Free, Granted, Used}
 use Rattle.block_pool.specs.Pools.{is_free_at, marked, AreFree}
-use Rattle.store_steps.specs.Opening.{IsVersionZero, opened_desk}
-use Rattle.store_steps.proofs.ChangedLists.{marked_at, same_list}
+use Rattle.store_steps.{specs.Opening.{IsVersionZero, opened_desk}, proofs.ChangedLists.{marked_at, same_list}}
 use Rattle.stream_store.specs.{Openings.OpensWith, declared.zero.Zero.Zero}
 
 -- what is marked twice is as it was marked last

@@ -1,14 +1,15 @@
 -- What is made of a batch, and what its receipt says.
-use Rattle.std.specs.Prelude.{◌≡◌, ℕ, ◌+◌, List, [], ◌∷◌, ◌++◌, length, count_by, Bool}
-use Rattle.std.specs.Arc.{arc_value}
-use Rattle.graph_types.specs.Step.{outcomes}
-use Rattle.graph_types.specs.declared.batches.{Batch.Batch, NamedOp.NamedOp, Outcome.Outcome}
+use Rattle.std.specs.{Prelude.{◌≡◌, ℕ, ◌+◌, List, [], ◌∷◌, ◌++◌, length, count_by, Bool, true, slice_get}, Arc.arc_value}
+use Rattle.std.specs.List.{list_all}
+use Rattle.graph_types.specs.{Step.outcomes, declared.batches.{Batch.Batch, NamedOp.NamedOp, Outcome.Outcome}}
 use Rattle.batch_shards.specs.{RowBlocks.blocks_of, RowBlocks.numbers_of, Births.CarriesBirths, Done.Exchanges}
 use Rattle.graph_version.specs.{declared.versions.Version.Version, Versions.VersionView, Versions.IsVersion, Versions.content}
 use Rattle.version_shelf.specs.Shelves.{ToldView}
 use Rattle.store_steps.specs.Desks.{FollowsLayout}
 use Rattle.stream_store.specs.{Kept.DeskState, declared.applying.Prepared.Prepared}
 use Rattle.graph_version.specs.Rows as rows
+use Rattle.epoch_core.specs.Blocks.{all_differ}
+use Rattle.block_reclamation.specs.{declared.status.BlockStatus.BlockStatus, Status.is_in_use, Status.is_used, Status.is_at}
 
 -- the next version was made of this version and batch, from blocks of these numbers
 pub record IsPrepared (v : VersionView) (ops : List NamedOp) (numbers : List ℕ) (p : Prepared) : Type 0 where
@@ -30,3 +31,14 @@ pub record IsReceipt (old : DeskState) (ops : List NamedOp) (new : DeskState) (n
   pub told_is : told ≡ record { book = old.book; version = new.desk.last }
   pub number_is : number ≡ length new.desk.last.batches
   pub outcomes_are : results ≡ outcomes ops (content old.desk.last)
+
+-- each of the numbers has a status that passes, and none stands twice
+pub record AreOnce (test : BlockStatus → Bool) (numbers : List ℕ) (pool : List BlockStatus) : Type 0 where
+  pub pass : list_all (λ n. is_at test (slice_get pool n)) numbers ≡ true
+  pub apart : all_differ numbers ≡ true
+
+abbrev pub AreUsedOnce : List ℕ → List BlockStatus → Type 0
+AreUsedOnce numbers pool = AreOnce is_in_use numbers pool
+
+abbrev pub AreBornOnce : List ℕ → List BlockStatus → Type 0
+AreBornOnce numbers pool = AreOnce is_used numbers pool

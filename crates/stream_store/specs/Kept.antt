@@ -1,6 +1,5 @@
 -- What a desk keeps.
-use Rattle.std.specs.Prelude.{◌≡◌, ℕ, ◌+◌, ◌≤◌, List, map, count_by}
-use Rattle.std.specs.Arc.{arc_value}
+use Rattle.std.specs.{Prelude.{◌≡◌, ℕ, ◌+◌, ◌≤◌, List, map, count_by}, Arc.arc_value}
 use Rattle.logbook.specs.Pages.{Book}
 use Rattle.graph_types.specs.declared.batches.Batch.{Batch}
 use Rattle.graph_version.specs.Versions.{VersionView}

@@ -1,6 +1,5 @@
 -- When the desk refuses a batch.
-use Rattle.std.specs.Prelude.{◌≡◌, ℕ, ◌+◌, ◌<◌, ◌≤◌, nat_lt, if◌then◌else◌, List, length}
-use Rattle.std.specs.List.{list_any}
+use Rattle.std.specs.{Prelude.{◌≡◌, ℕ, ◌+◌, ◌<◌, ◌≤◌, nat_lt, if◌then◌else◌, List, length}, List.list_any}
 use Rattle.graph_types.specs.{Limits.batch_limit, Graph.Graph, Step.is_expire, declared.batches.NamedOp.NamedOp}
 use Rattle.graph_version.specs.{Rows.blocks_of, Rows.row_of, Versions.VersionView, Versions.content}
 use Rattle.batch_apply.specs.{OldRows.AreOldRows, OldRows.expiry_time, declared.old.OldRow.OldRow}

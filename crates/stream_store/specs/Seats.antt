@@ -1,7 +1,7 @@
 -- Seats and sessions.
-use Rattle.std.specs.Prelude.{◌≡◌, ℕ, Option, Some, None}
+use Rattle.std.specs.Prelude.{◌≡◌, ℕ, Option, Some, None, Result}
 use Rattle.logbook.specs.Pages.{Book}
-use Rattle.graph_types.specs.Graph.{Graph}
+use Rattle.graph_types.specs.{Graph.Graph, Answer.IsAnswer, declared.requests.{Request.Request, Reply.Reply, AskError.AskError}}
 use Rattle.graph_version.specs.Versions.{VersionView, content, empty_version}
 use Rattle.version_shelf.specs.Shelves.{ToldView}
 
@@ -43,3 +43,10 @@ HasSeen book version s = s.seen ≡ record { book = book; version = version }
 -- a seat of a store that opened without blocks
 abbrev pub IsNewSeat : Book → SeatView → Type 0
 IsNewSeat book s = HasSeen book empty_version s
+
+-- two sessions, of whatever stores and after whatever batches: where they hold versions of equal content, equal requests
+-- have equal answers
+abbrev pub AnswersByContent : Type 0
+AnswersByContent =
+    (here there : SessionView) (request : Request) (x y : Result Reply AskError) → held_graph here ≡ held_graph there
+    → IsAnswer request (held_graph here) x → IsAnswer request (held_graph there) y → x ≡ y

@@ -4,7 +4,7 @@ ghost use Rattle.std.specs.Prelude.{◌≡◌};
 ghost use Rattle.block_pool.specs.Pools.{marked, changed, retired};
 ghost use Rattle.block_reclamation.specs.declared.status.BlockStatus.TheVariants.{Free, Used};
 ghost use Rattle.batch_shards.specs.RowBlocks.{numbers_of};
-ghost use Rattle.stream_store.specs.Moves.{AreUsedOnce, AreBornOnce};
+ghost use Rattle.stream_store.specs.Applying.{AreUsedOnce, AreBornOnce};
 
 use block_pool::Pool;
 use edge_block::Block;

@@ -2,8 +2,7 @@
 use Rattle.std.proofs.Common.{◌≡◌, ℕ, ◌<◌, List, [], ◌∷◌, ◌++◌, append-nil, refl, sym, subst, ◌∙◌, arith}
 use Rattle.std.proofs.lemmas.List.Elements.{All-nil, All-cons}
 use Rattle.graph_types.specs.{Graph.IsContent, Graph.graph_of, declared.ids.Edge.Edge, declared.contents.Content.Content}
-use Rattle.epoch_core.specs.Versions.{AreEdgesOf}
-use Rattle.epoch_core.specs.Opened.{IsOpening}
+use Rattle.epoch_core.specs.{Versions.AreEdgesOf, Opened.IsOpening}
 
 shows_all : (content : Content) (edges : List Edge) → IsContent content → edges ≡ content.edges → AreEdgesOf edges (graph_of content)
 shows_all content edges is same =

@@ -3,11 +3,9 @@ use Rattle.std.proofs.Common.{◌≡◌, ◌≢◌, ℕ, zero, suc, ◌<◌, Lis
 use Rattle.std.proofs.{Common.refl, Common.sym, Common.ap, Common.subst, Common.◌∙◌, Common.arith, lemmas.List.length-set}
 use Rattle.std.specs.{Prelude.slice_get, declared.sync.Arc.Arc, declared.alloc.Global.Global, Arc.arc_value}
 use Rattle.edge_block.specs.declared.blocks.Block.{Block}
-use Rattle.block_pool.specs.Pools.{marked, AreFree, is_in_use_at, is_used_at, changed, retired}
-use Rattle.block_reclamation.specs.declared.status.BlockStatus.{BlockStatus}
-use Rattle.block_reclamation.specs.declared.status.BlockStatus.TheVariants.{Granted, Used}
-use Rattle.block_reclamation.specs.Status.{is_free, is_in_use, is_at}
-use Rattle.block_pool.proofs.Tallies.{within_pool}
+use Rattle.block_pool.{specs.Pools.{marked, AreFree, is_in_use_at, is_used_at, changed, retired}, proofs.Tallies.within_pool}
+use Rattle.block_reclamation.specs.{declared.status.BlockStatus.{BlockStatus, TheVariants.{Granted, Used}}, Status.is_free}
+use Rattle.block_reclamation.specs.Status.{is_in_use, is_at}
 use Rattle.tests_parts.specs.Held.{numbers_of, AreHeld}
 
 used_beside : (pool : List BlockStatus) (n m : ℕ) → is_in_use_at pool m ≡ true → is_in_use_at (set pool n Granted) m ≡ true

@@ -1,8 +1,7 @@
 -- Lists of weights, for what calls a sum.
-use Rattle.std.proofs.Common.{◌≡◌, ℕ, ◌+◌, ◌^◌, Bool, true, false, ℤ, nat_abs, List, [], ◌∷◌}
+use Rattle.std.proofs.{Common.{◌≡◌, ℕ, ◌+◌, ◌^◌, Bool, true, false, ℤ, nat_abs, List, [], ◌∷◌}, lemmas.Bool.leb-true}
+use Rattle.std.proofs.lemmas.List.{Sums.AllPass-from_list_all, Elements.{All-weaker, All-cons, All-head, All-tail}}
 use Rattle.std.specs.{Prelude.nat_le, Prelude.if◌then◌else◌, Prelude.All, List.list_all}
-use Rattle.std.proofs.lemmas.{Bool.leb-true, List.Sums.AllPass-from_list_all}
-use Rattle.std.proofs.lemmas.List.Elements.{All-weaker, All-cons, All-head, All-tail}
 use Rattle.lane_scan.specs.Masks.{IsWeight, selected_from}
 
 -- a test of each item

@@ -1,7 +1,5 @@
 -- Blocks that a pool granted, and that were neither given back nor retired since.
-use Rattle.std.specs.Prelude.{◌≡◌, ◌≢◌, ℕ, List, All, AllPairs, true, map}
-use Rattle.std.specs.Arc.{arc_value}
-use Rattle.std.specs.declared.sync.Arc.{Arc}
+use Rattle.std.specs.{Prelude.{◌≡◌, ◌≢◌, ℕ, List, All, AllPairs, true, map}, Arc.arc_value, declared.sync.Arc.Arc}
 use Rattle.std.specs.declared.alloc.Global.{Global}
 use Rattle.edge_block.specs.declared.blocks.Block.{Block}
 use Rattle.block_reclamation.specs.declared.status.BlockStatus.{BlockStatus}

@@ -1,7 +1,6 @@
 -- Rows without blocks need none.
-use Rattle.std.proofs.Common.{◌≡◌, ℕ, ◌+◌, ◌≤◌, not, List, [], ◌∷◌, length, refl, arith}
-use Rattle.std.specs.List.{sum_by}
-use Rattle.std.proofs.lemmas.List.Sums.{sum_by-cons, count_by-le-length}
+use Rattle.std.proofs.{Common.{◌≡◌, ℕ, ◌+◌, ◌≤◌, not, List, [], ◌∷◌, length, refl, arith}, lemmas.List.Sums.sum_by-cons}
+use Rattle.std.{proofs.lemmas.List.Sums.count_by-le-length, specs.List.sum_by}
 use Rattle.graph_version.specs.Rows.{row_of}
 use Rattle.batch_shards.specs.{Groups.is_expiry, Spending.needed, Spending.old_blocks, Spending.latest, declared.shard.Step.Step}
 

@@ -1,9 +1,8 @@
 -- Numbers that follow one another.
-use Rattle.std.proofs.Common.{◌≡◌, ◌≢◌, ◌∙◌, ◌+◌, ◌<◌, ◌≤◌, ◌==◌, ℕ, zero, suc, List, [], ◌∷◌, ◌++◌, length}
-use Rattle.std.proofs.Common.{get_or, true, false, All, AllPairs, refl, sym, ap, subst, arith}
+use Rattle.std.proofs.Common.{◌≡◌, ◌≢◌, ◌∙◌, ◌+◌, ◌<◌, ◌≤◌, ◌==◌, ℕ, zero, suc, List, [], ◌∷◌, ◌++◌, length, get_or, true, false}
+use Rattle.std.proofs.{Common.{All, AllPairs, refl, sym, ap, subst, arith}, lemmas.{Bool.eqb-true, List.{map-append, length-map}}}
+use Rattle.std.proofs.lemmas.List.{Elements.{All-head, All-tail}, FromFn.{length-range_with_len, get_or-range_with_len}}
 use Rattle.std.specs.{List.range_with_len, declared.sync.Arc.Arc, declared.alloc.Global.Global}
-use Rattle.std.proofs.lemmas.{Bool.eqb-true, List.map-append, List.length-map, List.Elements.All-head, List.Elements.All-tail}
-use Rattle.std.proofs.lemmas.List.FromFn.{length-range_with_len, get_or-range_with_len}
 use Rattle.edge_block.specs.declared.blocks.Block.{Block}
 use Rattle.graph_version.specs.Versions.{is_in}
 use Rattle.batch_shards.specs.RowBlocks.{block_of, numbers_of}

@@ -1,14 +1,11 @@
 -- A draft over the version without batches, of rows without blocks, with a batch without operations, is a version: the draft
 -- itself, and one whose one replaced row is taken back.
 use Rattle.std.proofs.Common.{◌≡◌, ◌≢◌, ◌∙◌, ℕ, All, List, [], refl, sym, ap, subst, map, arith, true≢false, inl, inr}
-use Rattle.std.specs.{Prelude.AllPairs, Option.is_some, FinMap.get-empty}
-use Rattle.std.proofs.lemmas.Bool.Decides.{eqb_tells}
+use Rattle.std.{proofs.lemmas.Bool.Decides.eqb_tells, specs.{Prelude.AllPairs, Option.is_some, FinMap.get-empty}}
 use Rattle.graph_types.specs.{Graph.key_cmp, Step.empty_graph, declared.batches.NamedOp.NamedOp}
-use Rattle.edge_block.specs.Slots.{BlockView}
-use Rattle.edge_block.specs.Rows.{shape_of, row_at, IsRow}
-use Rattle.graph_version.specs.Rows.{row_of, numbers_of}
-use Rattle.graph_version.specs.Versions.{IsBlockOf, AreRowsOf, empty_version}
-use Rattle.graph_version.specs.Drafts.{DraftView, drafted_over, with_batch, ReplacesRow, IsWhole}
+use Rattle.edge_block.specs.{Slots.BlockView, Rows.{shape_of, row_at, IsRow}}
+use Rattle.graph_version.specs.{Rows.{row_of, numbers_of}, Versions.{IsBlockOf, AreRowsOf, empty_version}, Drafts.DraftView}
+use Rattle.graph_version.specs.Drafts.{drafted_over, with_batch, ReplacesRow, IsWhole}
 use Rattle.graph_version.proofs.{Totals.same_blocks, Totals.at_source, Totals.elsewhere, Empty.no_row}
 
 no_block : (s : ℕ) → All (IsBlockOf s) []

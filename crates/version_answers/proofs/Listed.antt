@@ -1,7 +1,6 @@
 -- What a book answers of a name.
 use Rattle.std.proofs.Common.{◌≡◌, ℕ, ◌<◌, true, List, length, subst, sym}
-use Rattle.graph_types.specs.{Step.number_of, Answer.is_listed}
-use Rattle.graph_types.proofs.NameLists.{number_of-lt}
+use Rattle.graph_types.{specs.{Step.number_of, Answer.is_listed}, proofs.NameLists.number_of-lt}
 
 -- the number of a listed name is below their count
 pub listed_below : (names : List (List ℕ)) (name : List ℕ) (number : ℕ) → is_listed names name ≡ true

@@ -1,12 +1,10 @@
 -- Rows of names and values, put together one vertex after another.
 use Rattle.std.proofs.Common.{◌≡◌, ℕ, ◌+◌, ◌<◌, min, List, [], ◌∷◌, ◌++◌, length, get_or, take, Option, Some, None, refl, sym, ap}
-use Rattle.std.proofs.Common.{◌∙◌, arith}
+use Rattle.std.proofs.{Common.{◌∙◌, arith}, lemmas.List.{take_more, take_all, get_or-map, length-map, get_or_default}}
+use Rattle.std.proofs.lemmas.{List.Elements.filter_map-append, Option.unwrap_or-slice_get, Slice.Zip.{length-zip, get_or-zip}}
 use Rattle.std.specs.{Prelude.zip, List.filter_map, List.slice_get, Option.option_to_list, Option.unwrap_or}
-use Rattle.std.proofs.lemmas.List.{take_more, take_all, get_or-map, length-map, get_or_default, Elements.filter_map-append}
-use Rattle.std.proofs.lemmas.{Option.unwrap_or-slice_get, Slice.Zip.length-zip, Slice.Zip.get_or-zip}
-use Rattle.graph_types.specs.{Answer.names_of, Answer.level_row, declared.ids.VertexId.VertexId}
+use Rattle.graph_types.{specs.{Answer.{names_of, level_row}, declared.ids.VertexId.VertexId}, proofs.More.kept_row}
 use Rattle.graph_levels.specs.Vertices.{numbers_of}
-use Rattle.graph_types.proofs.More.{kept_row}
 
 -- a vertex's name, and the empty one past the last vertex
 pub name_there : (names : List (List ℕ)) (number : ℕ) (name : List ℕ) → Some name ≡ slice_get names number

@@ -1,20 +1,12 @@
 -- The answer to a request in numbers, and the same reply with names.
-use Rattle.std.specs.Prelude.{◌≡◌, ℕ, List, zip, Result, Ok, Err}
-use Rattle.std.specs.FinMap.{get}
-use Rattle.std.specs.Option.{option_map}
-use Rattle.std.specs.declared.option.Option.{Option}
+use Rattle.std.specs.{Prelude.{◌≡◌, ℕ, List, zip, Result, Ok, Err}, FinMap.get, Option.option_map, declared.option.Option.Option}
 use Rattle.std.specs.declared.option.Option.TheVariants.{None, Some}
-use Rattle.graph_types.specs.Graph.{Graph}
-use Rattle.graph_types.specs.Step.{number_of, key_in}
-use Rattle.graph_types.specs.Analyses.{AreLevels, AreLabels, AreCoreNumbers}
-use Rattle.graph_types.specs.Answer.{refusal, resolved, degree_table, shown, reached, names_of}
-use Rattle.graph_types.specs.declared.ids.VertexId.{VertexId}
-use Rattle.graph_types.specs.declared.requests.Request.{Request}
-use Rattle.graph_types.specs.declared.requests.Request.TheVariants.{Levels as AskLevels, Labels as AskLabels, Cores as AskCores}
-use Rattle.graph_types.specs.declared.requests.Request.TheVariants.{Degrees as AskDegrees, OneEdge as AskOneEdge}
-use Rattle.graph_types.specs.declared.requests.Reply.{Reply}
+use Rattle.graph_types.specs.{Graph.Graph, Step.{number_of, key_in}, Analyses.{AreLevels, AreLabels, AreCoreNumbers}}
+use Rattle.graph_types.specs.{Answer.{refusal, resolved, degree_table, shown, reached, names_of}, declared.ids.VertexId.VertexId}
+use Rattle.graph_types.specs.declared.requests.Request.{Request, TheVariants.{Levels as AskLevels, Labels as AskLabels}}
+use Rattle.graph_types.specs.declared.requests.Request.TheVariants.{Cores as AskCores, Degrees as AskDegrees}
+use Rattle.graph_types.specs.declared.requests.{Request.TheVariants.OneEdge as AskOneEdge, Reply.Reply, AskError.AskError}
 use Rattle.graph_types.specs.declared.requests.Reply.TheVariants as replies
-use Rattle.graph_types.specs.declared.requests.AskError.{AskError}
 use Rattle.graph_levels.specs.Vertices.{numbers_of}
 use Rattle.version_answers.specs.declared.numbered.NumberedReply.{NumberedReply}
 use Rattle.version_answers.specs.declared.numbered.NumberedReply.TheVariants.{Levels, Labels, Cores, Degrees, OneEdge}

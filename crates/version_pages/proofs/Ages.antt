@@ -1,15 +1,12 @@
 -- Rows by when their edges were last touched: earlier times, rows in pieces, and bounds of the times.
-use Rattle.std.proofs.Common.{◌≡◌, ℕ, ◌+◌, ◌-◌, ◌*◌, ◌<◌, ◌≤◌, ◌||◌, Bool, true, false, List, [], ◌∷◌, length, get_or, take, set}
-use Rattle.std.proofs.Common.{flat_map, map, refl, sym, ap, ap₂, ◌∙◌, arith, subst, All, ltb, replicate}
-use Rattle.std.proofs.lemmas.Bool.{true≢false, le-ltb, ltb-true, ltb-false, or_from}
-use Rattle.std.proofs.lemmas.List.{take_more, Folds.list_any_none}
+use Rattle.std.proofs.{Common.{flat_map, map, refl, sym, ap, ap₂, ◌∙◌, arith, subst, All, ltb, replicate}, Common.{◌≡◌, ℕ, ◌+◌}}
+use Rattle.std.proofs.Common.{◌-◌, ◌*◌, ◌<◌, ◌≤◌, ◌||◌, Bool, true, false, List, [], ◌∷◌, length, get_or, take, set}
+use Rattle.std.proofs.lemmas.{Bool.{true≢false, le-ltb, ltb-true, ltb-false, or_from}, List.{take_more, Folds.list_any_none}}
 use Rattle.std.proofs.lemmas.List.Elements.{All-nil, All-push, All-append, All-head, All-tail, All-weaker, All-set, All-replicate}
-use Rattle.std.proofs.{Math.ListN.get_or-eq_default, Math.Nat.mul-le-mul_right}
-use Rattle.std.specs.List.{list_any}
+use Rattle.std.{proofs.Math.{ListN.get_or-eq_default, Nat.mul-le-mul_right}, specs.List.list_any}
 use Rattle.graph_types.specs.Step.{is_before}
 use Rattle.edge_block.specs.Slots.{BlockView, Slot, edges_in, has_before}
-use Rattle.list_pieces.specs.Pieces.{AreFull}
-use Rattle.list_pieces.proofs.Full.{long, at_piece}
+use Rattle.list_pieces.{specs.Pieces.AreFull, proofs.Full.{long, at_piece}}
 use Rattle.version_pages.specs.{Ages.is_old_row, Ages.AreSince, Ages.AreYoung, Rows.row_of}
 
 neither : (a b : Bool) → (a || b) ≡ false → (a ≡ false) × (b ≡ false)

@@ -1,6 +1,5 @@
 -- Lists of eight elements.
-use Rattle.std.proofs.Common.{◌≡◌, List, [], ◌∷◌, length, get_or, map, arith, All}
-use Rattle.std.proofs.lemmas.List.Elements.{All-nil, All-cons}
+use Rattle.std.proofs.{Common.{◌≡◌, List, [], ◌∷◌, length, get_or, map, arith, All}, lemmas.List.Elements.{All-nil, All-cons}}
 
 -- a list whose elements are those of a list of eight
 pub eight : {A B : Type 0} (f : A → B) (xs : List A) (d0 d1 d2 d3 d4 d5 d6 d7 : A) (r0 r1 r2 r3 r4 r5 r6 r7 : B) → length xs ≡ 8

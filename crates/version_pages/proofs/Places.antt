@@ -1,7 +1,6 @@
 -- What stands at a place of a list, and what is left of the list from there on.
 use Rattle.std.proofs.Common.{◌≡◌, ℕ, zero, suc, ◌+◌, List, [], ◌∷◌, ◌++◌, length, refl, ap, ◌∙◌, arith, None, Some, Option}
-use Rattle.std.proofs.Common.{MatchOption, option_copied, Bor, drop}
-use Rattle.std.specs.List.{slice_get}
+use Rattle.std.{proofs.Common.{MatchOption, option_copied, Bor, drop}, specs.List.slice_get}
 
 -- what is left of a list from a place on, where the place has no element and where it has one
 pub drop_past : {X : Type 0} (xs : List X) (i : ℕ) → slice_get xs i ≡ None → drop i xs ≡ []

@@ -1,8 +1,6 @@
 -- Rows by when their edges were last touched.
-use Rattle.std.specs.Prelude.{◌≡◌, ◌+◌, ◌<◌, ◌≤◌, ℕ, List, length, All, Bool, true, false}
-use Rattle.std.specs.List.{list_any}
-use Rattle.std.specs.declared.option.Option.{Option}
-use Rattle.std.specs.declared.option.Option.TheVariants.{None, Some}
+use Rattle.std.specs.{Prelude.{◌≡◌, ◌+◌, ◌<◌, ◌≤◌, ℕ, List, length, All, Bool, true, false}, List.list_any}
+use Rattle.std.specs.declared.option.Option.{Option, TheVariants.{None, Some}}
 use Rattle.graph_types.specs.declared.ids.VertexId.{VertexId}
 use Rattle.edge_block.specs.Slots.{BlockView, has_before}
 use Rattle.version_pages.specs.Rows.{row_of}

@@ -1,8 +1,5 @@
 -- Batches in pages of 32.
-use Rattle.std.specs.Prelude.{List, flat_map}
-use Rattle.std.specs.Arc.{arc_value}
-use Rattle.std.specs.declared.sync.Arc.{Arc}
-use Rattle.std.specs.declared.alloc.Global.{Global}
+use Rattle.std.specs.{Prelude.{List, flat_map}, Arc.arc_value, declared.{sync.Arc.Arc, alloc.Global.Global}}
 use Rattle.graph_types.specs.declared.batches.NamedOp.{NamedOp}
 use Rattle.list_pieces.specs.Pieces.{ArePieces}
 use Rattle.version_pages.specs.declared.batch_page.BatchPage.{BatchPage}

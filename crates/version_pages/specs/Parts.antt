@@ -1,8 +1,5 @@
 -- The rows of parts, one part behind the other.
-use Rattle.std.specs.Prelude.{List, flat_map}
-use Rattle.std.specs.Arc.{arc_value}
-use Rattle.std.specs.declared.sync.Arc.{Arc}
-use Rattle.std.specs.declared.alloc.Global.{Global}
+use Rattle.std.specs.{Prelude.{List, flat_map}, Arc.arc_value, declared.{sync.Arc.Arc, alloc.Global.Global}}
 use Rattle.edge_block.specs.Slots.{BlockView}
 use Rattle.list_pieces.specs.Pieces.{AreFull}
 use Rattle.version_pages.specs.declared.row_page.Part.{Part}

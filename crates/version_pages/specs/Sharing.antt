@@ -1,13 +1,7 @@
 -- Blocks behind counted references, as the rows that they show.
-use Rattle.std.specs.Prelude.{List, [], ◌∷◌, map}
-use Rattle.std.specs.Arc.{arc_value}
-use Rattle.std.specs.declared.sync.Arc.{Arc}
-use Rattle.std.specs.declared.alloc.Global.{Global}
-use Rattle.std.specs.declared.vec.Vec.{Vec}
-use Rattle.edge_block.specs.declared.blocks.Block.{Block}
-use Rattle.edge_block.specs.Slots.{BlockView}
-use Rattle.version_pages.specs.declared.row.Blocks.{Blocks}
-use Rattle.version_pages.specs.declared.row.Blocks.TheVariants.{Empty, One, Many}
+use Rattle.std.specs.{Prelude.{List, [], ◌∷◌, map}, Arc.arc_value, declared.{sync.Arc.Arc, alloc.Global.Global, vec.Vec.Vec}}
+use Rattle.edge_block.specs.{declared.blocks.Block.Block, Slots.BlockView}
+use Rattle.version_pages.specs.declared.row.Blocks.{Blocks, TheVariants.{Empty, One, Many}}
 
 abbrev pub block_value : Arc Block Global → BlockView
 block_value block = arc_value {X = Block} block

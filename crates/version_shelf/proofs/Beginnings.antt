@@ -1,7 +1,6 @@
 -- Beginnings of one list.
-use Rattle.std.proofs.Common.{fold, ◌≡◌, ℕ, ◌≤◌, ◌<◌, Bool, true, false, nat_lt, MatchBool, List, [], ◌∷◌, ◌++◌, length, refl}
-use Rattle.std.proofs.Common.{ap, sym, ◌∙◌, arith, append_assoc, length-append}
-use Rattle.std.proofs.lemmas.Bool.Decides.{nat_tests}
+use Rattle.std.proofs.Common.{fold, ◌≡◌, ℕ, ◌≤◌, ◌<◌, Bool, true, false, nat_lt, MatchBool, List, [], ◌∷◌, ◌++◌, length, refl, ap}
+use Rattle.std.proofs.{Common.{sym, ◌∙◌, arith, append_assoc, length-append}, lemmas.Bool.Decides.nat_tests}
 use mathlib.Core.List.{IsPrefix}
 
 -- each list begins with itself

@@ -1,7 +1,5 @@
 -- The readers of a shelf at its opening.
-use Rattle.std.proofs.Common.{◌≡◌, zero, suc, List, [], ◌∷◌, ◌++◌, arith}
-use Rattle.std.proofs.lemmas.List.Elements.{All-append}
-use Rattle.std.specs.List.{All}
+use Rattle.std.{proofs.{Common.{◌≡◌, zero, suc, List, [], ◌∷◌, ◌++◌, arith}, lemmas.List.Elements.All-append}, specs.List.All}
 use Rattle.version_shelf.specs.Shelves.{ToldView}
 
 all_one : (t x : ToldView) → x ≡ t → All (λ (y : ToldView). y ≡ t) (x ∷ [])

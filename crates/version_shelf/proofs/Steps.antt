@@ -1,15 +1,13 @@
 -- The steps of the shelf keep its rule.
 use Rattle.graph_types.specs.declared.batches.NamedOp.{NamedOp}
-use Rattle.std.proofs.Common.{◌≡◌, ℕ, ◌≢◌, ◌⊎◌, Bool, true, false, MatchBool, List, [], ◌∷◌, ◌++◌, set, refl, sym, ap}
-use Rattle.std.proofs.Common.{subst, ◌∙◌, ⊎_elim, Option, Some, None, IfSome, IfOk, Result, Ok, Err}
-use Rattle.std.specs.Result.{result_ok}
+use Rattle.std.proofs.Common.{◌≡◌, ℕ, ◌≢◌, ◌⊎◌, Bool, true, false, MatchBool, List, [], ◌∷◌, ◌++◌, set, refl, sym, ap, subst, ◌∙◌}
+use Rattle.std.{proofs.Common.{⊎_elim, Option, Some, None, IfSome, IfOk, Result, Ok, Err}, specs.Result.result_ok}
 use mathlib.Core.Option.{some}
 use mathlib.Core.List.{IsPrefix}
 use lib.ListN.{get_elem?}
 use Rattle.left_right.specs.Register.{Admits, TurnsAt, Forks, Merges}
 use Rattle.atomic_table.proofs.Lists.{at_set, at_snoc, set_again}
-use Rattle.version_shelf.specs.Histories.{HistoryView}
-use Rattle.version_shelf.specs.Shelves.{ToldView, Begins, IsOfOneShelf, IsShowing, Keeps, Sees}
+use Rattle.version_shelf.specs.{Histories.HistoryView, Shelves.{ToldView, Begins, IsOfOneShelf, IsShowing, Keeps, Sees}}
 use Rattle.version_shelf.proofs.Beginnings.{prefix_self, prefix_trans, same_last}
 
 some_same : (x u : ToldView) → Some x ≡ Some u → x ≡ u

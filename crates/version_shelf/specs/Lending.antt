@@ -1,9 +1,7 @@
 -- What a reader is once the version that it lent is given back.
-use Rattle.std.specs.Prelude.{⊤}
+use Rattle.std.specs.{Prelude.⊤, Borrow.{follows_so, Fml, MutBor}}
 use mathlib.Core.Option.{none}
-use Rattle.std.specs.Borrow.{follows_so, Fml, MutBor}
-use Rattle.version_shelf.specs.Shelves.{ToldView}
-use Rattle.version_shelf.specs.contracts.readers.ShelfReader.{the_row}
+use Rattle.version_shelf.specs.{Shelves.ToldView, contracts.readers.ShelfReader.the_row}
 
 -- the reader then keeps a version of which P holds
 abbrev pub Rests : MutBor ToldView → (ToldView → Type 0) → Fml

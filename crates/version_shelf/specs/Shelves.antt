@@ -4,8 +4,7 @@ use mathlib.Core.Option.{some}
 use mathlib.Core.List.{IsPrefix}
 use lib.ListN.{get_elem?}
 use Rattle.logbook.specs.Pages.{Book}
-use Rattle.graph_types.specs.Graph.{Graph}
-use Rattle.graph_types.specs.declared.batches.NamedOp.{NamedOp}
+use Rattle.graph_types.specs.{Graph.Graph, declared.batches.NamedOp.NamedOp}
 use Rattle.graph_version.specs.Versions.{VersionView}
 use Rattle.version_shelf.specs.Histories.{HistoryView}
 

@@ -1,9 +1,8 @@
 -- What stands at a hash among pairs whose hashes rise, and what an edit of the pairs does to it.
 use Rattle.std.proofs.Common.{◌≡◌, ◌≢◌, ℕ, zero, suc, ◌+◌, ◌<◌, ◌≤◌, List, [], ◌∷◌, length, get_or, set, take, drop}
-use Rattle.std.proofs.Common.{if◌then◌else◌, ◌-◌, Some, None, refl, sym, ap, ◌∙◌, arith, nat_eq, inl, inr}
-use Rattle.std.specs.{List.insert, Map.lookup}
-use Rattle.std.proofs.{lemmas.Bool.cases_lt, lemmas.Bool.Decides.nat_tests, Math.Seq.map-set_same}
-use Rattle.std.proofs.lemmas.List.{length-map, get_or-map, get_or-take, get_or-drop, length-take, length-drop}
+use Rattle.std.proofs.{Common.{if◌then◌else◌, ◌-◌, Some, None, refl, sym, ap, ◌∙◌, arith, nat_eq, inl, inr}, lemmas.Bool.cases_lt}
+use Rattle.std.proofs.lemmas.{Bool.Decides.nat_tests, List.{length-map, get_or-map, get_or-take, get_or-drop, length-take}}
+use Rattle.std.{proofs.{lemmas.List.length-drop, Math.Seq.map-set_same}, specs.{List.insert, Map.lookup}}
 use Rattle.vertex_names.specs.Order.{firsts, IsRising, IsFoundAt, IsGap, last_place}
 use Rattle.vertex_names.proofs.Places.{rising-tail, rising_gap, above_place, up_to_place}
 

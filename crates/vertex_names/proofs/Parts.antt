@@ -1,8 +1,7 @@
 -- Parts of an index.
-use Rattle.std.proofs.Common.{◌≡◌, ℕ, ◌%◌, ◌<◌, false, List, map, set, get_or, length, [], sym, ap, ◌∙◌, arith, Some}
-use Rattle.std.proofs.Common.{inl, inr, if◌then◌else◌, nat_eq}
-use Rattle.std.proofs.lemmas.Bool.{ne_eqb, Decides.eqb_tells}
-use Rattle.std.proofs.lemmas.List.{map-set, get_or-set_same, get_or-set_other, get_or-map, length-map}
+use Rattle.std.proofs.Common.{◌≡◌, ℕ, ◌%◌, ◌<◌, false, List, map, set, get_or, length, [], sym, ap, ◌∙◌, arith, Some, inl, inr}
+use Rattle.std.proofs.{Common.{if◌then◌else◌, nat_eq}, lemmas.{Bool.{ne_eqb, Decides.eqb_tells}, List.{map-set, get_or-set_same}}}
+use Rattle.std.proofs.lemmas.List.{get_or-set_other, get_or-map, length-map}
 use Rattle.vertex_names.specs.{Order.found_in, Index.found_at}
 
 module _ {X : Type 0} (f : X → List (ℕ × List (ℕ × ℕ))) where

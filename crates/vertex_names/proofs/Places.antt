@@ -1,9 +1,7 @@
 -- Places among numbers that rise.
-use Rattle.std.proofs.Common.{◌≡◌, ℕ, zero, suc, ◌+◌, ◌-◌, ◌<◌, ◌≤◌, List, [], ◌∷◌, length, get_or, if◌then◌else◌, ap}
-use Rattle.std.proofs.Common.{arith, inl, inr, subst, true, false}
-use Rattle.std.specs.List.{insert}
-use Rattle.std.proofs.lemmas.Bool.{cases_lt, Decides.leb_tells}
-use Rattle.std.proofs.lemmas.List.Edits.{length-insert, get_or-insert_below, get_or-insert_at, get_or-insert_above}
+use Rattle.std.proofs.Common.{◌≡◌, ℕ, zero, suc, ◌+◌, ◌-◌, ◌<◌, ◌≤◌, List, [], ◌∷◌, length, get_or, if◌then◌else◌, ap, arith, inl}
+use Rattle.std.proofs.{Common.{inr, subst, true, false}, lemmas.{Bool.{cases_lt, Decides.leb_tells}, List.Edits.length-insert}}
+use Rattle.std.{proofs.lemmas.List.Edits.{get_or-insert_below, get_or-insert_at, get_or-insert_above}, specs.List.insert}
 use Rattle.vertex_names.specs.Order.{IsRising, last_place, Bounds}
 use lib.Dec.{leb}
 

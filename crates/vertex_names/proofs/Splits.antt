@@ -1,14 +1,13 @@
 -- Pieces of a part: what a changed piece leaves, and what a split does.
 use Rattle.std.proofs.Common.{◌≡◌, ◌≢◌, ℕ, zero, suc, ◌+◌, ◌<◌, ◌≤◌, List, [], ◌∷◌, length, get_or, set, map, if◌then◌else◌}
 use Rattle.std.proofs.Common.{Some, refl, sym, ap, ◌∙◌, arith, nat_eq, subst, inl, inr, false}
-use Rattle.std.specs.{List.insert, List.AllZip, Map.lookup, declared.sync.Arc.Arc, declared.alloc.Global.Global}
 use Rattle.std.proofs.{lemmas.Bool.cases_lt, lemmas.Bool.ne_eqb, lemmas.Bool.Decides.eqb_tells, Math.Seq.map-set_same}
 use Rattle.std.proofs.lemmas.List.{length-map, get_or-map, map-set, get_or-set_same, get_or-set_other, get_or_default}
 use Rattle.std.proofs.lemmas.List.Edits.{length-insert, get_or-insert_below, get_or-insert_at, get_or-insert_above}
-use Rattle.vertex_names.specs.{declared.piece.Piece.Piece, Order.firsts, Order.IsRising, Order.last_place, Order.found_in}
-use Rattle.vertex_names.specs.Pieces.{entries_of, pieces_of}
-use Rattle.vertex_names.proofs.Places.{rising-insert, place-before, place-lower, place-upper, place-behind}
-use Rattle.vertex_names.proofs.Entries.{Pairs, firsts-insert, first_read}
+use Rattle.std.specs.{List.insert, List.AllZip, Map.lookup, declared.sync.Arc.Arc, declared.alloc.Global.Global}
+use Rattle.vertex_names.specs.{declared.piece.Piece.Piece, Order.{firsts, IsRising, last_place, found_in}, Pieces.entries_of}
+use Rattle.vertex_names.{specs.Pieces.pieces_of, proofs.Places.{rising-insert, place-before, place-lower, place-upper}}
+use Rattle.vertex_names.proofs.{Places.place-behind, Entries.{Pairs, firsts-insert, first_read}}
 
 abbrev pub Spans : Type 0
 Spans = List (ℕ × Pairs)

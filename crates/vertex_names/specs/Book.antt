@@ -1,9 +1,7 @@
 -- A book of names: the names that have appeared, in order of first appearance, and how many there may be.
 use Rattle.std.specs.Prelude.{◌≢◌, ℕ, ◌<◌, ◌≤◌, ◌^◌, List, [], length, IsTrue, All, AllPairs}
-use Rattle.graph_types.specs.Step.{with_name}
-use Rattle.graph_types.specs.Valid.{is_name}
-use Rattle.vertex_names.specs.declared.book.AddError.{AddError}
-use Rattle.vertex_names.specs.declared.book.AddError.TheVariants.{NamesFull, OutOfMemory}
+use Rattle.graph_types.specs.{Step.with_name, Valid.is_name}
+use Rattle.vertex_names.specs.declared.book.AddError.{AddError, TheVariants.{NamesFull, OutOfMemory}}
 
 pub record Book : Type 0 where
   pub limit : ℕ

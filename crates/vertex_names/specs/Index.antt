@@ -1,14 +1,9 @@
 -- From the hash of a name to the number of the first name that had it; a name whose hash was taken has its number in
 -- a list beside. The hashes stand in parts, those of a part in pieces, and in a piece they rise.
-use Rattle.std.specs.Prelude.{◌≡◌, ◌≢◌, ◌⊎◌, ◌<◌, ℕ, ◌%◌, List, [], length, get_or, map, Some, None}
-use Rattle.std.specs.List.{IsAmong}
-use Rattle.std.specs.Arc.{arc_value}
-use Rattle.std.specs.declared.option.Option.{Option}
-use Rattle.std.specs.declared.sync.Arc.{Arc}
-use Rattle.std.specs.declared.alloc.Global.{Global}
+use Rattle.std.specs.{Prelude.{◌≡◌, ◌≢◌, ◌⊎◌, ◌<◌, ℕ, ◌%◌, List, [], length, get_or, map, Some, None}, List.IsAmong}
+use Rattle.std.specs.{Arc.arc_value, declared.{option.Option.Option, sync.Arc.Arc, alloc.Global.Global}}
 use Rattle.std.specs.Hash.DefaultHasher as sip
-use Rattle.vertex_names.specs.Order.{found_in}
-use Rattle.vertex_names.specs.declared.part.Part.{Part}
+use Rattle.vertex_names.specs.{Order.found_in, declared.part.Part.Part}
 
 -- what a text's bytes hash to, by SipHash-1-3 with keys 0
 abbrev pub text_hash : List ℕ → ℕ

@@ -1,6 +1,5 @@
 -- Pairs in the order of their firsts, and what stands at a hash among them.
-use Rattle.std.specs.Prelude.{◌≡◌, ◌<◌, ◌≤◌, ◌-◌, ℕ, suc, List, [], ◌∷◌, length, get_or, nat_eq, map, if◌then◌else◌}
-use Rattle.std.specs.Map.{lookup}
+use Rattle.std.specs.{Prelude.{◌≡◌, ◌<◌, ◌≤◌, ◌-◌, ℕ, suc, List, [], ◌∷◌, length, get_or, nat_eq, map, if◌then◌else◌}, Map.lookup}
 use Rattle.std.specs.declared.option.Option.{Option}
 use lib.Dec.{leb}
 

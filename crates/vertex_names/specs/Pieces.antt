@@ -1,8 +1,5 @@
 -- Pieces of a part, each behind its lowest hash.
-use Rattle.std.specs.Prelude.{ℕ, List, map}
-use Rattle.std.specs.Arc.{arc_value}
-use Rattle.std.specs.declared.sync.Arc.{Arc}
-use Rattle.std.specs.declared.alloc.Global.{Global}
+use Rattle.std.specs.{Prelude.{ℕ, List, map}, Arc.arc_value, declared.{sync.Arc.Arc, alloc.Global.Global}}
 use Rattle.vertex_names.specs.declared.piece.Piece.{Piece}
 
 abbrev pub entries_of : Arc Piece Global → List (ℕ × ℕ)

@@ -1,13 +1,8 @@
 -- Names in chunks of 256.
-use Rattle.std.specs.Prelude.{ℕ, List, flat_map}
-use Rattle.std.specs.Arc.{arc_value}
-use Rattle.std.specs.declared.sync.Arc.{Arc}
-use Rattle.std.specs.declared.alloc.Global.{Global}
-use Rattle.list_pieces.specs.Pieces.{ArePieces}
-use Rattle.vertex_names.specs.declared.texts.Chunk.{Chunk}
-use Rattle.vertex_names.specs.declared.texts.Kept.{Kept}
-use Rattle.vertex_names.specs.declared.texts.Kept.TheVariants.{Short, Long}
+use Rattle.std.specs.{Prelude.{ℕ, List, flat_map}, Arc.arc_value, declared.{sync.Arc.Arc, alloc.Global.Global}}
 use Rattle.std.specs.String.{string_bytes}
+use Rattle.list_pieces.specs.Pieces.{ArePieces}
+use Rattle.vertex_names.specs.declared.texts.{Chunk.Chunk, Kept.{Kept, TheVariants.{Short, Long}}}
 
 -- the bytes of a name's text
 abbrev pub kept_bytes : Kept → List ℕ

@@ -1,7 +1,7 @@
 use Rattle.std.proofs.{Common.arith, lemmas.List.take_all, lemmas.Bool.iff_false}
 use Rattle.lane_scan.proofs.{Selected.selected_more_in, Selected.selected_more_out, UsedParts.selected_used}
-use Rattle.lane_scan.proofs.bounds.Goals as goal
 use Rattle.lane_scan.proofs.bounds.Goals.{then-is_in, else-is_in}
+use Rattle.lane_scan.proofs.bounds.Goals as goal
 
 pub loop-place-preserved : goal.loop-place-preserved
 loop-place-preserved c =

@@ -1,9 +1,8 @@
 use Rattle.std.proofs.Common.{◌≡◌, pos, ◌+ℤ◌, arith, get_or, sym, ap, ◌∙◌}
 use Rattle.std.proofs.lemmas.{Int.ints, Bool.iff_false, List.Sums.fold_push}
-use Rattle.lane_scan.proofs.Selected.{selected_more_in, selected_more_out, All-selected_at}
-use Rattle.lane_scan.specs.Masks.{IsWeight}
+use Rattle.lane_scan.proofs.{Selected.{selected_more_in, selected_more_out, All-selected_at}, masked_sum.Goals.then-is_in}
+use Rattle.lane_scan.{proofs.masked_sum.Goals.else-is_in, specs.Masks.IsWeight}
 use Rattle.lane_scan.proofs.masked_sum.Goals as goal
-use Rattle.lane_scan.proofs.masked_sum.Goals.{then-is_in, else-is_in}
 
 pub overflow_add-sum : goal.overflow_add-sum
 overflow_add-sum c =

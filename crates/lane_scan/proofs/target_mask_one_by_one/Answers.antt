@@ -1,9 +1,8 @@
 use Rattle.std.proofs.{Common.arith, Common.length, Common.inl, Common.inr, lemmas.Bool.iff_false, lemmas.Bool.cases_lt}
-use Rattle.lane_scan.specs.Masks.{IsPlaceOf}
-use Rattle.lane_scan.proofs.Windows.{judged_in, judged_out}
-use Rattle.lane_scan.proofs.target_mask_one_by_one.Goals as goal
+use Rattle.lane_scan.{specs.Masks.IsPlaceOf, proofs.Windows.{judged_in, judged_out}}
 use Rattle.lane_scan.proofs.target_mask_one_by_one.Goals.{then-is_in+then-found-target, else-is_in}
 use Rattle.lane_scan.proofs.target_mask_one_by_one.Goals.{else-is_in-via-then-is_in+else-found-target, else-is_in-via-else-is_in}
+use Rattle.lane_scan.proofs.target_mask_one_by_one.Goals as goal
 
 pub loop-place-preserved : goal.loop-place-preserved
 loop-place-preserved c =

@@ -1,5 +1,4 @@
-use Rattle.lane_scan.specs.Masks.{IsPlaceOf}
-use Rattle.lane_scan.proofs.Windows.{IsJudged}
+use Rattle.lane_scan.{specs.Masks.IsPlaceOf, proofs.Windows.IsJudged}
 use Rattle.lane_scan.proofs.target_mask_one_by_one.Given as goal
 
 abbrev pub invariant-loop-place : goal.invariant-loop-place

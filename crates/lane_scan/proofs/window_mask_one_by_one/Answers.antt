@@ -1,11 +1,9 @@
 use Rattle.std.proofs.{Common.arith, Common.length, Common.inl, Common.inr, lemmas.Bool.iff_false, lemmas.Bool.cases_lt}
-use Rattle.lane_scan.specs.Masks.{IsPlaceWithin}
-use Rattle.lane_scan.proofs.UsedParts.{used_few, within_from_used, within_in_used}
-use Rattle.lane_scan.proofs.Windows.{judged_in, judged_out}
-use Rattle.lane_scan.proofs.window_mask_one_by_one.Goals as goal
-use Rattle.lane_scan.proofs.window_mask_one_by_one.Goals.{then-is_in+then-lo-time+then-time-hi, else-is_in}
-use Rattle.lane_scan.proofs.window_mask_one_by_one.Goals.{else-is_in-via-then-is_in+then-lo-time+else-time-hi}
+use Rattle.lane_scan.{specs.Masks.IsPlaceWithin, proofs.UsedParts.{used_few, within_from_used, within_in_used}}
+use Rattle.lane_scan.proofs.{Windows.{judged_in, judged_out}, window_mask_one_by_one.Goals.then-is_in+then-lo-time+then-time-hi}
+use Rattle.lane_scan.proofs.window_mask_one_by_one.Goals.{else-is_in, else-is_in-via-then-is_in+then-lo-time+else-time-hi}
 use Rattle.lane_scan.proofs.window_mask_one_by_one.Goals.{else-is_in-via-then-is_in+else-lo-time, else-is_in-via-else-is_in}
+use Rattle.lane_scan.proofs.window_mask_one_by_one.Goals as goal
 
 pub loop-place-preserved : goal.loop-place-preserved
 loop-place-preserved c =

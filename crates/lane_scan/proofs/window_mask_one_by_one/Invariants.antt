@@ -1,5 +1,4 @@
-use Rattle.lane_scan.specs.Masks.{IsPlaceWithin}
-use Rattle.lane_scan.proofs.Windows.{IsJudged}
+use Rattle.lane_scan.{specs.Masks.IsPlaceWithin, proofs.Windows.IsJudged}
 use Rattle.lane_scan.proofs.window_mask_one_by_one.Given as goal
 
 abbrev pub invariant-loop-place : goal.invariant-loop-place

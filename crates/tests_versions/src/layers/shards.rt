@@ -1,7 +1,7 @@
 ghost use Rattle.std.specs.Prelude.{◌≡◌, [], IfOk, length};
 ghost use Rattle.graph_version.specs.Rows.{row_of};
 ghost use Rattle.batch_shards.specs.Shards.{IsAct, AreSteps};
-ghost use Rattle.batch_apply.specs.Jobs.{IsShard};
+ghost use Rattle.batch_apply.specs.Gathered.{IsShard};
 ghost use Rattle.graph_types.specs.Changes.{IsChange};
 
 use crate::texts::{check_text, push_item, tell_refused, write_blocks, write_outcome};

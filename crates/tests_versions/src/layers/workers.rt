@@ -1,6 +1,6 @@
 ghost use Rattle.std.specs.Prelude.{[], IfOk, All};
 ghost use Rattle.graph_version.specs.Rows.{row_of};
-ghost use Rattle.batch_apply.specs.Jobs.{IsShard};
+ghost use Rattle.batch_apply.specs.Gathered.{IsShard};
 
 use super::shards::{shard_of, write_done};
 use crate::texts::{check_text, tell_refused};

@@ -1,5 +1,4 @@
-use Rattle.std.proofs.{Common.ap, Common.◌∙◌, lemmas.List.map-append}
-use Rattle.std.specs.declared.{sync.Arc.Arc, alloc.Global.Global}
+use Rattle.std.{proofs.{Common.{ap, ◌∙◌}, lemmas.List.map-append}, specs.declared.{sync.Arc.Arc, alloc.Global.Global}}
 use Rattle.edge_block.specs.declared.blocks.Block.{Block}
 use Rattle.batch_shards.specs.RowBlocks.{block_of, blocks_of, numbers_of}
 use Rattle.batch_apply.proofs.applied.add_blocks.Goals as goal

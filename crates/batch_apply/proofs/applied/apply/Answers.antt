@@ -3,17 +3,14 @@ use Rattle.std.{specs.Prelude.count_by, specs.List.sum_by, specs.FinMap.len, pro
 use Rattle.graph_types.specs.{Graph.Graph, Limits.operation_limit, Step.after_all, Step.outcomes}
 use Rattle.graph_types.specs.declared.batches.{NamedOp.NamedOp, Outcome.TheVariants.Absent}
 use Rattle.edge_block.specs.Batches.{resolved}
-use Rattle.graph_version.specs.Rows.{row_of}
-use Rattle.graph_version.specs.Batches.{batch_value}
-use Rattle.batch_shards.specs.RowBlocks.{blocks_of, numbers_of}
-use Rattle.graph_version.specs.{Versions.VersionView, Versions.content, Versions.layout_of, Kept.edge_total}
+use Rattle.graph_version.specs.{Rows.row_of, Batches.batch_value, Versions.{VersionView, content, layout_of}, Kept.edge_total}
 use Rattle.graph_version.specs.Drafts.{DraftView, IsWhole}
-use Rattle.batch_apply.specs.{Counts.is_inserted, Counts.taken_away, declared.applied.Applied.Applied}
-use Rattle.batch_apply.specs.Applied.{IsApplied, ReplacesRows, written_from}
-use Rattle.batch_apply.proofs.{EdgeCounts.len_after_all, Dealt.needs_of, Dealt.dealt_ready, Left.rows_left}
-use Rattle.batch_apply.{specs.Planned.MeetsNeitherLimit, proofs.Leaving.neither_limit}
-use Rattle.batch_apply.proofs.Applying.{next_made, draft_is, draft_among, draft_whole, edges_left}
-use Rattle.batch_apply.proofs.applied.apply.{Given.Over, Goals.In_ok-draft-2}
+use Rattle.batch_shards.specs.RowBlocks.{blocks_of, numbers_of}
+use Rattle.batch_apply.specs.Applied.{is_inserted, taken_away, IsApplied, ReplacesRows, written_from}
+use Rattle.batch_apply.{specs.{declared.applied.Applied.Applied, Planned.MeetsNeitherLimit}, proofs.EdgeCounts.len_after_all}
+use Rattle.batch_apply.proofs.{Dealt.{needs_of, dealt_ready}, Left.rows_left, Applying.{next_made, draft_is, draft_among}}
+use Rattle.batch_apply.proofs.{Applying.{draft_whole, edges_left}, applied.apply.{Given.Over, Goals.In_ok-draft-2}}
+use Rattle.batch_apply.proofs.Leaving.{neither_limit}
 use Rattle.batch_apply.proofs.applied.apply.Goals as goal
 
 pub work-requires-clause-long : goal.work-requires-clause-long

@@ -1,12 +1,9 @@
 use Rattle.std.proofs.Common.{◌≡◌, ◌<◌, ◌+◌, ◌++◌, ◌∷◌, [], ℕ, List, flat_map, count_by, length, length-append, zip, take, get_or}
-use Rattle.std.proofs.Common.{slice_index_or, arith, refl, sym, ap, ◌∙◌, subst}
-use Rattle.std.specs.List.{sum_by, AllZip}
-use Rattle.std.proofs.lemmas.{Iterator.Adapters.YieldsList-from_vec, Iterator.Consumers.YieldsList-turn, List.Sums.sum_by-take-le}
-use Rattle.batch_shards.specs.{RowBlocks.numbers_of, declared.shard.Shard.Shard}
-use Rattle.batch_apply.specs.{Jobs.IsDealt, declared.workers.Job.Job}
-use Rattle.batch_apply.proofs.{Dealt.sum_taken, Dealt.zip_push, Halves.zip_more}
-use Rattle.batch_shards.proofs.Places.{count_by-append, one_piece}
-use Rattle.batch_apply.proofs.applied.deal.Goals.{After-len-in-loop-shard}
+use Rattle.std.proofs.{Common.{slice_index_or, arith, refl, sym, ap, ◌∙◌, subst}, lemmas.Iterator.Adapters.YieldsList-from_vec}
+use Rattle.std.{proofs.lemmas.{Iterator.Consumers.YieldsList-turn, List.Sums.sum_by-take-le}, specs.List.{sum_by, AllZip}}
+use Rattle.batch_shards.{specs.{RowBlocks.numbers_of, declared.shard.Shard.Shard}, proofs.Places.{count_by-append, one_piece}}
+use Rattle.batch_apply.specs.{Gathered.IsDealt, declared.workers.Job.Job}
+use Rattle.batch_apply.proofs.{Dealt.{sum_taken, zip_push}, Halves.zip_more, applied.deal.Goals.After-len-in-loop-shard}
 use Rattle.batch_apply.proofs.applied.deal.Goals as goal
 
 -- the next shard is one of the plan's, and what it needs is read at its place

@@ -1,7 +1,6 @@
-use Rattle.std.proofs.Common.{◌≡◌, ◌+◌, ℕ, Bool, length, flat_map, count_by, zip, take}
-use Rattle.std.specs.List.{sum_by, AllZip}
+use Rattle.std.{proofs.Common.{◌≡◌, ◌+◌, ℕ, Bool, length, flat_map, count_by, zip, take}, specs.List.{sum_by, AllZip}}
 use Rattle.batch_shards.specs.RowBlocks.{numbers_of}
-use Rattle.batch_apply.specs.Jobs.{IsDealt}
+use Rattle.batch_apply.specs.Gathered.{IsDealt}
 use Rattle.batch_apply.proofs.applied.deal.Given as goal
 
 abbrev pub invariant-loop-shard : goal.invariant-loop-shard

@@ -1,7 +1,7 @@
 use Rattle.std.proofs.Common.{◌≡◌, ◌+◌, ◌<◌, ◌≤◌, ◌%◌, ◌^◌, ℕ, List, length, take, get_or, cond, count_by, arith, subst}
 use Rattle.std.{specs.List.sum_by, proofs.lemmas.List.Sums.sum_by_more, proofs.lemmas.List.take_all}
 use Rattle.graph_types.specs.declared.batches.Outcome.{Outcome}
-use Rattle.batch_apply.specs.Counts.{is_inserted, taken_away}
+use Rattle.batch_apply.specs.Applied.{is_inserted, taken_away}
 use Rattle.batch_apply.proofs.applied.edges_after.Goals as goal
 
 -- as many edges as before with those inserted, where those taken away are added, after the first outcomes

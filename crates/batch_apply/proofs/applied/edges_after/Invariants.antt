@@ -1,6 +1,5 @@
-use Rattle.std.proofs.Common.{◌≡◌, ◌+◌, ◌<◌, ◌%◌, ◌^◌, take, count_by}
-use Rattle.std.specs.List.{sum_by}
-use Rattle.batch_apply.specs.Counts.{is_inserted, taken_away}
+use Rattle.std.{proofs.Common.{◌≡◌, ◌+◌, ◌<◌, ◌%◌, ◌^◌, take, count_by}, specs.List.sum_by}
+use Rattle.batch_apply.specs.Applied.{is_inserted, taken_away}
 use Rattle.batch_apply.proofs.applied.edges_after.Given as goal
 
 abbrev pub invariant-loop-outcome : goal.invariant-loop-outcome

@@ -1,7 +1,6 @@
-use Rattle.std.proofs.Common.{zip, subst}
-use Rattle.std.specs.List.{AllZip}
+use Rattle.std.{proofs.Common.{zip, subst}, specs.List.AllZip}
 use Rattle.batch_shards.specs.RowBlocks.{numbers_of}
-use Rattle.batch_apply.specs.Jobs.{IsDealt}
+use Rattle.batch_apply.specs.Gathered.{IsDealt}
 use Rattle.batch_apply.proofs.applied.work.Goals as goal
 
 pub do_all-requires-after_bounds : goal.do_all-requires-after_bounds

@@ -1,8 +1,7 @@
-use Rattle.std.proofs.Common.{◌≡◌, List, set, get_or, sym, ap, ◌∙◌, arith}
+use Rattle.std.proofs.{Common.{◌≡◌, List, set, get_or, sym, ap, ◌∙◌, arith}, lemmas.List.get_or_default}
 use Rattle.graph_types.specs.declared.batches.Outcome.{Outcome, TheVariants.Absent}
 use Rattle.edge_block.specs.Batches.{together}
 use Rattle.batch_shards.specs.Groups.{told}
-use Rattle.std.proofs.lemmas.List.{get_or_default}
 use Rattle.batch_apply.proofs.Loops.{written_more}
 use Rattle.batch_apply.proofs.applied.write_outcomes.Goals as goal
 

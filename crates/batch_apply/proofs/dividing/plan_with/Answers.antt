@@ -1,20 +1,14 @@
-use Rattle.std.proofs.Common.{◌≡◌, ◌≤◌, length, map, arith, ap, sym, subst, ◌∙◌, ℕ, List, All}
+use Rattle.std.proofs.{Common.{◌≡◌, ◌≤◌, length, map, arith, ap, sym, subst, ◌∙◌, ℕ, List, All}, lemmas.List.length-map}
 use Rattle.std.specs.List.{range_with_len, AllZip}
-use Rattle.std.proofs.lemmas.List.{length-map}
 use Rattle.graph_types.specs.{Graph.Graph, Valid.IsValid, declared.batches.NamedOp.NamedOp}
 use Rattle.vertex_names.specs.Book.{Book}
-use Rattle.edge_block.specs.Slots.{BlockView}
-use Rattle.edge_block.specs.Batches.{Resolved, resolved, IsPlaced}
-use Rattle.graph_version.specs.Rows.{row_of}
-use Rattle.graph_version.specs.{Kept.vertex_book, Kept.kind_book, Versions.VersionView, Versions.content}
+use Rattle.edge_block.specs.{Slots.BlockView, Batches.{Resolved, resolved, IsPlaced}}
+use Rattle.graph_version.specs.{Rows.row_of, Kept.{vertex_book, kind_book}, Versions.{VersionView, content}}
 use Rattle.batch_shards.specs.{Done.layout_by, declared.shard.Shard.Shard}
-use Rattle.batch_apply.specs.{Plan.shown, Plan.names_all, Plan.kinds_all, Plan.with_names, Plan.Fits, Shards.IsShardOf, Shards.latest}
-use Rattle.batch_apply.specs.{Plan.IsInRange}
-use Rattle.batch_apply.specs.{OldRows.AreOldRows, OldRows.expiry_time, Planned.IsPlanRefusal}
-use Rattle.batch_apply.specs.{declared.resolve.ResolvedOp.ResolvedOp}
-use Rattle.batch_apply.proofs.{Resolving.as_many_shown, Leaving.names_book, Leaving.kinds_book, Leaving.neither_limit}
-use Rattle.batch_apply.proofs.{Leaving.plan_refused, Names.err_then}
-use Rattle.batch_apply.proofs.Needs.{same_time, exact_needs, few_old_rows}
+use Rattle.batch_apply.specs.{Plan.{shown, names_all, kinds_all, with_names, Fits, IsInRange}, Shards.{IsShardOf, latest}}
+use Rattle.batch_apply.specs.{OldRows.{AreOldRows, expiry_time}, Planned.IsPlanRefusal, declared.resolve.ResolvedOp.ResolvedOp}
+use Rattle.batch_apply.proofs.{Resolving.as_many_shown, Leaving.{names_book, kinds_book, neither_limit, plan_refused}}
+use Rattle.batch_apply.proofs.{Names.err_then, Needs.{same_time, exact_needs, few_old_rows}}
 use Rattle.batch_apply.proofs.dividing.plan_with.Goals as goal
 
 -- the version's books are within their limits

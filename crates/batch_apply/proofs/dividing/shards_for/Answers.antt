@@ -1,8 +1,7 @@
 use Rattle.std.proofs.Common.{◌≡◌, ◌-◌, ◌^◌, ℕ, List, [], ◌∷◌, ◌++◌, map, min, ap₂, sym, subst, ◌∙◌, arith}
 use Rattle.std.{proofs.lemmas.List.map-append, specs.List.range_with_len, specs.List.AllZip}
 use Rattle.batch_shards.specs.{Done.layout_by, Done.sources_in, Spending.needed, declared.shard.Shard.Shard}
-use Rattle.batch_apply.specs.{Plan.shown, Shards.IsShardOf}
-use Rattle.batch_apply.proofs.Leaving.{one_more_shard}
+use Rattle.batch_apply.{specs.{Plan.shown, Shards.IsShardOf}, proofs.Leaving.one_more_shard}
 use Rattle.batch_apply.proofs.dividing.shards_for.Goals as goal
 
 pub loop-worker-preserved : goal.loop-worker-preserved

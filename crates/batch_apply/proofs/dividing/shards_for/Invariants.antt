@@ -1,5 +1,4 @@
-use Rattle.std.proofs.Common.{◌≡◌, ◌-◌, ◌^◌, ℕ, List, map, min}
-use Rattle.std.specs.List.{range_with_len, AllZip}
+use Rattle.std.{proofs.Common.{◌≡◌, ◌-◌, ◌^◌, ℕ, List, map, min}, specs.List.{range_with_len, AllZip}}
 use Rattle.edge_block.specs.Slots.{BlockView}
 use Rattle.batch_shards.specs.{Done.layout_by, Done.sources_in, Spending.needed}
 use Rattle.batch_apply.specs.{Plan.shown, Shards.IsShardOf, Shards.latest, OldRows.AreOldRows}

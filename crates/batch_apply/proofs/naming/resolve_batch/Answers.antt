@@ -3,8 +3,7 @@ use Rattle.std.proofs.lemmas.List.{Elements.All-push}
 use Rattle.graph_types.specs.declared.batches.NamedOp.{NamedOp}
 use Rattle.edge_block.specs.{Operations.names_after, Operations.kinds_after, Batches.resolved}
 use Rattle.vertex_names.specs.Book.{Book}
-use Rattle.batch_apply.specs.Plan.{names_all, kinds_all, shown, IsInRange}
-use Rattle.batch_apply.proofs.Resolving.{one_more, placed_in, all_resolved}
+use Rattle.batch_apply.{specs.Plan.{names_all, kinds_all, shown, IsInRange}, proofs.Resolving.{one_more, placed_in, all_resolved}}
 use Rattle.batch_apply.proofs.naming.resolve_batch.Goals as goal
 
 pub loop-k-preserved : goal.loop-k-preserved

@@ -1,6 +1,5 @@
-use Rattle.std.proofs.Common.{◌≡◌, ◌∷◌, ◌++◌, ◌+◌, [], ℕ, Bool, List, cond, take, ap, sym, ◌∙◌, arith}
-use Rattle.std.proofs.lemmas.List.{map-append, take_more, Sums.sum_by_push}
-use Rattle.std.specs.declared.{sync.Arc.Arc, alloc.Global.Global}
+use Rattle.std.proofs.{Common.{◌≡◌, ◌∷◌, ◌++◌, ◌+◌, [], ℕ, Bool, List, cond, take, ap, sym, ◌∙◌, arith}, lemmas.List.map-append}
+use Rattle.std.{proofs.lemmas.List.{take_more, Sums.sum_by_push}, specs.declared.{sync.Arc.Arc, alloc.Global.Global}}
 use Rattle.edge_block.specs.{Slots.BlockView, Slots.has_before, declared.blocks.Block.Block}
 use Rattle.graph_version.specs.Sharing.{block_values}
 use Rattle.batch_shards.specs.{RowBlocks.block_of, Spending.old_blocks}

@@ -1,7 +1,6 @@
 use Rattle.std.proofs.Common.{◌≡◌, ℕ, ◌+◌, ◌-◌, ◌<◌, ◌≤◌, List, length, refl, ap, sym, subst, ◌∙◌, arith}
 use Rattle.edge_block.specs.Slots.{BlockView}
-use Rattle.graph_version.specs.Rows.{row_of}
-use Rattle.graph_version.specs.Versions.{content}
+use Rattle.graph_version.specs.{Rows.row_of, Versions.content}
 use Rattle.batch_shards.specs.Spending.{old_blocks}
 use Rattle.batch_apply.specs.{OldRows.AreOldRows, OldRows.expiry_time, declared.old.OldRow.OldRow}
 use Rattle.batch_apply.proofs.OldRows.{found_no_more, found_more, found_all, none_at_zero, old_is_within, some_counted}

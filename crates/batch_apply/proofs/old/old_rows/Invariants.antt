@@ -1,6 +1,5 @@
 use Rattle.std.proofs.Common.{◌-◌, length}
-use Rattle.graph_version.specs.Rows.{row_of}
-use Rattle.graph_version.specs.Versions.{content}
+use Rattle.graph_version.specs.{Rows.row_of, Versions.content}
 use Rattle.batch_apply.proofs.OldRows.{AreFound}
 use Rattle.batch_apply.proofs.old.old_rows.Given as goal
 

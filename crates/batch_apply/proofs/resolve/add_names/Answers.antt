@@ -1,6 +1,5 @@
 use Rattle.std.proofs.Common.{◌≡◌, ◌∷◌, ◌+◌, drop, drop-cons, rules}
-use Rattle.batch_apply.specs.Plan.{names_all, IsRefusal}
-use Rattle.batch_apply.proofs.Names.{refused_all, err_then}
+use Rattle.batch_apply.{specs.Plan.{names_all, IsRefusal}, proofs.Names.{refused_all, err_then}}
 use Rattle.batch_apply.proofs.resolve.add_names.Goals as goal
 
 pub returns-in_err-op_ends-clause-refused : goal.returns-in_err-op_ends-clause-refused

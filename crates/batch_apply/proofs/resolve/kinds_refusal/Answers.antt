@@ -1,9 +1,7 @@
 use Rattle.std.proofs.Common.{◌≤◌, length, subst}
 use Rattle.edge_block.specs.Operations.{kinds_after}
-use Rattle.vertex_names.specs.Book.{Book}
-use Rattle.vertex_names.specs.declared.book.AddError.{AddError}
-use Rattle.batch_apply.specs.Plan.{names_all, IsRefusal}
-use Rattle.batch_apply.proofs.Names.{kinds_refused}
+use Rattle.vertex_names.specs.{Book.Book, declared.book.AddError.AddError}
+use Rattle.batch_apply.{specs.Plan.{names_all, IsRefusal}, proofs.Names.kinds_refused}
 use Rattle.batch_apply.proofs.resolve.kinds_refusal.Goals as goal
 
 pub returns-in-Ok : goal.returns-in-Ok

@@ -1,8 +1,6 @@
 use Rattle.std.proofs.Common.{◌∙◌, ◌∷◌, ℕ, List, ap}
 use Rattle.edge_block.specs.Operations.{parts_of, names_after, kinds_after}
-use Rattle.batch_apply.specs.declared.resolve.Ends.{Ends}
-use Rattle.batch_apply.specs.Plan.{with_kind}
-use Rattle.batch_apply.proofs.{Names.names_refused, Resolving.one_resolved}
+use Rattle.batch_apply.{specs.{declared.resolve.Ends.Ends, Plan.with_kind}, proofs.{Names.names_refused, Resolving.one_resolved}}
 use Rattle.batch_apply.proofs.resolve.resolve_op.Goals as goal
 
 pub returns-in-Err-clause-refused : goal.returns-in-Err-clause-refused

@@ -1,10 +1,7 @@
-use Rattle.std.proofs.Common.{◌≡◌, ◌+◌, ◌-◌, ◌^◌, ◌<◌, ◌%◌, ◌==◌, ◌++◌, true, false, cond, ℕ, List, [], ◌∷◌, length, get_or}
-use Rattle.std.proofs.Common.{take, min}
-use Rattle.std.proofs.Common.{ap, refl, sym, ◌∙◌, arith, nat_eq}
+use Rattle.std.proofs.Common.{◌≡◌, ◌+◌, ◌-◌, ◌^◌, ◌<◌, ◌%◌, ◌==◌, ◌++◌, true, false, cond, ℕ, List, [], ◌∷◌, length, get_or, take}
+use Rattle.std.proofs.{Common.{min, ap, refl, sym, ◌∙◌, arith, nat_eq}, lemmas.{Bool.{eq-eqb, ne_eqb}, List.take_all}}
 use Rattle.std.specs.List.{list_any}
-use Rattle.std.proofs.lemmas.{Bool.eq-eqb, Bool.ne_eqb, List.take_all}
-use Rattle.batch_apply.specs.{OldRows.old_sources, OldRows.own_rows, OldRows.blocks_in, declared.old.OldRow.OldRow}
-use Rattle.batch_apply.specs.Shards.{source_numbers}
+use Rattle.batch_apply.specs.{OldRows.{old_sources, own_rows, blocks_in}, declared.old.OldRow.OldRow, Shards.source_numbers}
 use Rattle.batch_apply.proofs.Listing.{not_before, one_other, one_source, one_row}
 use Rattle.batch_apply.proofs.shards.list_old.Goals.{then-row-workers+in_ok-place_of, else-row-workers}
 use Rattle.batch_apply.proofs.shards.list_old.Goals as goal

@@ -1,5 +1,4 @@
-use Rattle.std.proofs.Common.{◌≡◌, ◌-◌, ◌^◌, min, take}
-use Rattle.std.specs.Prelude.{IfSome}
+use Rattle.std.{proofs.Common.{◌≡◌, ◌-◌, ◌^◌, min, take}, specs.Prelude.IfSome}
 use Rattle.batch_apply.specs.{OldRows.old_sources, OldRows.own_rows, OldRows.blocks_in, Shards.source_numbers}
 use Rattle.batch_apply.proofs.shards.list_old.Given as goal
 

@@ -1,8 +1,7 @@
 use Rattle.std.proofs.Common.{◌≡◌, ◌∙◌, ◌++◌, ◌∷◌, [], ap, sym, subst, Some, nat_eq, length, arith}
 use Rattle.std.specs.Prelude.{position, slice_get}
 use Rattle.graph_types.specs.declared.ids.VertexId.{VertexId}
-use Rattle.batch_apply.specs.Shards.{source_numbers}
-use Rattle.batch_apply.proofs.Places.{found_among, found_at, added_among, added_at}
+use Rattle.batch_apply.{specs.Shards.source_numbers, proofs.Places.{found_among, found_at, added_among, added_at}}
 use Rattle.batch_apply.proofs.shards.place_among_few.Goals as goal
 
 pub returns-in-Some-clause-sources : goal.returns-in-Some-clause-sources

@@ -1,11 +1,8 @@
 use Rattle.std.proofs.Common.{◌≡◌, ◌≤◌, ◌+◌, ◌++◌, ◌∷◌, [], ℕ, List, true, false, cond, length, length-append, nat_eq, ap, sym}
-use Rattle.std.proofs.Common.{◌∙◌, arith}
-use Rattle.std.specs.{List.list_any, Option.option_map}
-use Rattle.std.specs.declared.option.Option.{Option, TheVariants.Some}
-use Rattle.std.proofs.lemmas.{List.length-map, Option.get_or_from_slice_get, Option.slice_get_within}
+use Rattle.std.proofs.{Common.{◌∙◌, arith}, lemmas.{List.length-map, Option.{get_or_from_slice_get, slice_get_within}}}
+use Rattle.std.specs.{List.list_any, Option.option_map, declared.option.Option.{Option, TheVariants.Some}}
 use Rattle.graph_types.specs.{Graph.Key, declared.ids.VertexId.VertexId}
-use Rattle.batch_apply.specs.{Plan.key_of, Shards.source_numbers, Shards.with_number, Shards.with_source}
-use Rattle.batch_apply.specs.declared.resolve.EdgeKey.{EdgeKey}
+use Rattle.batch_apply.specs.{Plan.key_of, Shards.{source_numbers, with_number, with_source}, declared.resolve.EdgeKey.EdgeKey}
 use Rattle.batch_apply.proofs.shards.place_in.Goals as goal
 
 pub place_of-requires : goal.place_of-requires

@@ -1,19 +1,17 @@
-use Rattle.std.proofs.Common.{◌≡◌, ◌+◌, ◌-◌, ◌^◌, ◌<◌, true, false, ℕ, List, [], ◌∷◌, ◌++◌, length, map, get_or, take, min, cond, ap}
-use Rattle.std.proofs.Common.{sym, subst, ◌∙◌, arith}
+use Rattle.std.proofs.Common.{◌≡◌, ◌+◌, ◌-◌, ◌^◌, ◌<◌, true, false, ℕ, List, [], ◌∷◌, ◌++◌, length, map, get_or, take, min, cond}
+use Rattle.std.proofs.{Common.{ap, sym, subst, ◌∙◌, arith}, lemmas.List.{length-map, length-take-le, take_all, take_more}}
+use Rattle.std.{proofs.lemmas.List.{get_or-map, Sums.sum_by_push}, specs.Prelude.{pos, count_by, not, Bool, IfSome}}
+use Rattle.std.specs.{List.sum_by, declared.option.Option.{Option, TheVariants.{None, Some}}}
 use mir.Val.{bool_byte}
-use Rattle.std.specs.{Prelude.pos, Prelude.count_by, Prelude.not, Prelude.Bool, Prelude.IfSome, List.sum_by}
-use Rattle.std.specs.declared.option.Option.{Option, TheVariants.None, TheVariants.Some}
-use Rattle.std.proofs.lemmas.List.{length-map, length-take-le, take_all, take_more, get_or-map, Sums.sum_by_push}
 use Rattle.graph_types.specs.declared.{changes.EdgeChange.TheVariants.Insert, ids.VertexId.VertexId}
 use Rattle.edge_block.specs.Batches.{Resolved, IsPlaced, is_in_shard}
 use Rattle.batch_shards.specs.{Done.layout_by, Groups.is_expiry, Spending.old_blocks, Spending.latest as latest_step}
 use Rattle.batch_shards.specs.declared.shard.{Act.Act, Step.Step}
-use Rattle.batch_apply.specs.{Plan.shown, Shards.AreShardSteps, Shards.is_old_row, Shards.latest, Shards.source_numbers}
+use Rattle.batch_apply.specs.{Plan.shown, Shards.AreShardSteps, Shards.has_old_shape, Shards.latest, Shards.source_numbers}
 use Rattle.batch_apply.specs.OldRows.{own_rows, blocks_in, old_sources}
 use Rattle.batch_apply.specs.declared.{old.OldRow.OldRow, resolve.ResolvedOp.ResolvedOp, resolve.ResolvedOp.TheVariants.Edge}
-use Rattle.batch_apply.proofs.{Growth.passed, Growth.added, Growth.same_sum, Listing.sum_agrees}
-use Rattle.batch_apply.proofs.Listing.{is_listed, listed_blocks, not_listed, start, own_few, own_blocks, same_old, same_latest}
-use Rattle.batch_apply.proofs.Listing.{listed_agrees}
+use Rattle.batch_apply.proofs.{Growth.{passed, added, same_sum}, Listing.{sum_agrees, is_listed, listed_blocks, not_listed}}
+use Rattle.batch_apply.proofs.Listing.{start, own_few, own_blocks, same_old, same_latest, listed_agrees}
 use Rattle.batch_apply.proofs.shards.shard_for.Goals.{then-is_in_shard+in_ok-act+in_ok-push, else-is_in_shard}
 use Rattle.batch_apply.proofs.shards.shard_for.Goals as goal
 
@@ -117,7 +115,7 @@ returns-clause-shard c rows are =
     let whole : take c.loop-k.k rs ≡ rs = take_all c.loop-k.k rs (omega (arith, long, c.loop-k-test.false)) in
     let done : AreShardSteps c.args.workers rs c.args.worker (is_listed c.args.old.now) sources c.loop-k.steps.items =
     rw (sym whole) c.loop-k.invariant.steps in
-    same_old c.args.workers c.args.worker rs (is_listed c.args.old.now) (λ s. is_old_row (latest rs) (layout_by rows s)) sources
+    same_old c.args.workers c.args.worker rs (is_listed c.args.old.now) (λ s. has_old_shape (latest rs) (layout_by rows s)) sources
     c.loop-k.steps.items (listed_agrees (latest rs) rows c.args.old.now are) done
 
 pub returns-clause-blocks : goal.returns-clause-blocks

@@ -1,8 +1,7 @@
-use Rattle.std.proofs.Common.{rules, All, sym, subst}
-use Rattle.std.proofs.lemmas.{Result.IfOk-at_ok, List.Elements.All-take, List.Elements.All-drop}
+use Rattle.std.proofs.{Common.{rules, All, sym, subst}, lemmas.{Result.IfOk-at_ok, List.Elements.{All-take, All-drop}}}
 use Rattle.graph_version.specs.Rows.{row_of}
 use Rattle.batch_shards.specs.{Done.IsShardDone, declared.shard.ShardDone.ShardDone}
-use Rattle.batch_apply.{specs.Jobs.IsShard, specs.Jobs.AreDone, specs.declared.workers.Job.Job, proofs.Halves.zip_halves}
+use Rattle.batch_apply.{specs.{Gathered.{IsShard, AreDone}, declared.workers.Job.Job}, proofs.Halves.zip_halves}
 use Rattle.batch_apply.proofs.workers.+do_busy+fn-do_busy-front.Goals as goal
 
 pub returns : goal.returns

@@ -2,7 +2,7 @@ use Rattle.std.proofs.Common.{◌++◌, ◌∷◌, [], length, sym, ◌∙◌, s
 use Rattle.std.proofs.lemmas.Iterator.{Adapters.YieldsList-from_vec, Consumers.YieldsList-turn}
 use Rattle.graph_version.specs.Rows.{row_of}
 use Rattle.batch_shards.specs.{Done.IsShardDone, declared.shard.ShardDone.ShardDone}
-use Rattle.batch_apply.{specs.Jobs.IsShard, specs.Jobs.AreDone, specs.declared.workers.Job.Job, proofs.Halves.zip_more}
+use Rattle.batch_apply.{specs.{Gathered.{IsShard, AreDone}, declared.workers.Job.Job}, proofs.Halves.zip_more}
 use Rattle.batch_apply.proofs.workers.do_each.Goals as goal
 
 pub do_one-requires : goal.do_one-requires

@@ -1,5 +1,5 @@
 use Rattle.graph_version.specs.Rows.{row_of}
-use Rattle.batch_apply.specs.Jobs.{AreDone}
+use Rattle.batch_apply.specs.Gathered.{AreDone}
 use Rattle.batch_apply.proofs.workers.do_each.Given as goal
 
 abbrev pub invariant-loop-job : goal.invariant-loop-job

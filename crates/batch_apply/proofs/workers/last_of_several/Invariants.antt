@@ -1,5 +1,4 @@
-use Rattle.std.proofs.Common.{◌<◌}
-use Rattle.std.specs.Prelude.{IfSome}
+use Rattle.std.{proofs.Common.◌<◌, specs.Prelude.IfSome}
 use Rattle.batch_apply.proofs.workers.last_of_several.Given as goal
 
 abbrev pub invariant-loop-place : goal.invariant-loop-place

@@ -1,5 +1,4 @@
-use Rattle.std.proofs.Common.{◌≡◌, ℕ, ◌+◌, ◌<◌, List, sym, subst, arith, ap, get_or, take, length}
-use Rattle.std.proofs.lemmas.List.{length_push}
+use Rattle.std.proofs.{Common.{◌≡◌, ℕ, ◌+◌, ◌<◌, List, sym, subst, arith, ap, get_or, take, length}, lemmas.List.length_push}
 use Rattle.batch_shards.{specs.Spending.latest, proofs.Young.latest_more, proofs.Young.reached_push}
 use Rattle.batch_shards.proofs.groups.reached_by.Goals as goal
 

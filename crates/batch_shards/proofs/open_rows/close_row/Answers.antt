@@ -1,6 +1,5 @@
 use Rattle.std.proofs.Common.{◌≡◌, ℕ, ◌++◌, ◌∷◌, [], List, ap, sym, arith, ◌∙◌, append_assoc, length-append, map}
-use Rattle.std.proofs.lemmas.List.{map-append}
-use Rattle.std.proofs.lemmas.Iterator.{Adapters.YieldsList-from_vec, Consumers.YieldsList-turn}
+use Rattle.std.proofs.lemmas.{List.map-append, Iterator.{Adapters.YieldsList-from_vec, Consumers.YieldsList-turn}}
 use Rattle.edge_block.specs.Slots.{BlockView}
 use Rattle.batch_shards.specs.Closing.{after_here, written_here, dropped_here, unused_here, written_of}
 use Rattle.batch_shards.{specs.declared.row_blocks.RowBlock.RowBlock, proofs.Places.one_piece}

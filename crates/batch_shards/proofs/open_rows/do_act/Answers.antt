@@ -1,6 +1,5 @@
 use Rattle.std.proofs.Common.{ap, arith}
-use Rattle.batch_shards.specs.{RowBlocks.opens, Groups.key_of, Spending.takes, Spending.time_of}
-use Rattle.batch_shards.proofs.Expiring.{edge_owes}
+use Rattle.batch_shards.{specs.{RowBlocks.opens, Groups.key_of, Spending.{takes, time_of}}, proofs.Expiring.edge_owes}
 use Rattle.batch_shards.proofs.open_rows.do_act.Goals as goal
 
 pub returns-in_ok-outcome-in-Edge-clause-enough : goal.returns-in_ok-outcome-in-Edge-clause-enough

@@ -1,13 +1,10 @@
-use Rattle.std.proofs.Common.{◌≡◌, true, get_or, length, arith, [], ◌∷◌, ◌++◌, sym, ap, ◌∙◌, subst, w64}
-use Rattle.std.proofs.lemmas.Int.{to_z-of_z}
-use Rattle.edge_block.specs.Slots.{Slot, has_room_for, edge_slot, put_slot}
-use Rattle.edge_block.specs.Rows.{touch}
-use Rattle.batch_shards.specs.RowBlocks.{block_of, open_of, IsTouched}
-use Rattle.batch_shards.specs.{declared.row_blocks.RowBlock.RowBlock, Notes.Gains, Room.IsFull}
-use Rattle.batch_shards.proofs.Rooms.{full_set, full_before, full_all}
+use Rattle.std.proofs.{Common.{◌≡◌, true, get_or, length, arith, [], ◌∷◌, ◌++◌, sym, ap, ◌∙◌, subst, w64}, lemmas.Int.to_z-of_z}
+use Rattle.edge_block.specs.{Slots.{Slot, has_room_for, edge_slot, put_slot}, Rows.touch}
+use Rattle.batch_shards.specs.{RowBlocks.{block_of, open_of, IsTouched}, declared.row_blocks.RowBlock.RowBlock, Notes.Gains}
+use Rattle.batch_shards.{specs.Room.IsFull, proofs.{Rooms.{full_set, full_before, full_all}, RowSteps.{at_room, placed}}}
+use Rattle.batch_shards.proofs.{RowSteps.{put_into, put_last, room_is, room_within, keeps_set}, Noting.{gains_put, gains_push}}
+use Rattle.batch_shards.proofs.Noting.{put_block_targets, new_block_targets}
 use Rattle.graph_version.proofs.Rebased.{weight_fits}
-use Rattle.batch_shards.proofs.RowSteps.{at_room, placed, put_into, put_last, room_is, room_within, keeps_set}
-use Rattle.batch_shards.proofs.Noting.{gains_put, gains_push, put_block_targets, new_block_targets}
 use Rattle.batch_shards.proofs.rows.add_edge.Goals as goal
 
 pub put-requires-clause-room : goal.put-requires-clause-room

@@ -2,11 +2,10 @@ use Rattle.std.proofs.Common.{◌≡◌, ◌<◌, List, true, sym, ap, ◌∙◌
 use Rattle.std.specs.{Option.is_some, declared.option.Option.TheVariants.None, declared.option.Option.TheVariants.Some}
 use Rattle.graph_types.specs.{Step.stamp_after, Changes.option_stamp, Changes.stamp_in}
 use Rattle.edge_block.{specs.Slots.stamp_at, proofs.Entries.list_any-holds}
-use Rattle.batch_shards.specs.RowBlocks.{block_of, opens, IsChanged}
-use Rattle.batch_shards.specs.{declared.row_blocks.RowBlock.RowBlock, Notes.has_target, Room.IsRoom}
-use Rattle.batch_shards.proofs.RowSteps.{absent_edge, absent_puts, absent_stays}
-use Rattle.batch_shards.proofs.RowSteps.{at_edge, placed, keeps_set, found_within, found_edge, found_some, found_changed, absent_any}
-use Rattle.batch_shards.proofs.{Noting.noted_kept, Noting.changed_targets, Young.none_at_start}
+use Rattle.batch_shards.specs.{RowBlocks.{block_of, opens, IsChanged}, declared.row_blocks.RowBlock.RowBlock, Notes.has_target}
+use Rattle.batch_shards.{specs.Room.IsRoom, proofs.RowSteps.{absent_edge, absent_puts, absent_stays, at_edge, placed, keeps_set}}
+use Rattle.batch_shards.proofs.{RowSteps.{found_within, found_edge, found_some, found_changed, absent_any}, Noting.noted_kept}
+use Rattle.batch_shards.proofs.{Noting.changed_targets, Young.none_at_start}
 use Rattle.batch_shards.proofs.rows.apply_step.Goals as goal
 
 pub change_here-requires-clause-edge : goal.change_here-requires-clause-edge

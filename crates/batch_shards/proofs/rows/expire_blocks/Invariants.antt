@@ -1,7 +1,5 @@
-use Rattle.std.proofs.Common.{◌≡◌, ℕ, ◌%◌, ◌^◌, All, take}
-use Rattle.std.specs.List.{sum_by}
-use Rattle.edge_block.specs.Slots.{old_in}
-use Rattle.edge_block.specs.Rows.{expire_block}
+use Rattle.std.{proofs.Common.{◌≡◌, ℕ, ◌%◌, ◌^◌, All, take}, specs.List.sum_by}
+use Rattle.edge_block.specs.{Slots.old_in, Rows.expire_block}
 use Rattle.batch_shards.specs.RowBlocks.{opens, had_in, own_in, numbers_of, HaveSame, IsOf}
 use Rattle.batch_shards.{specs.OpenRows.LeavesEnough, proofs.Expiring.map_first}
 use Rattle.batch_shards.proofs.rows.expire_blocks.Given as goal

@@ -1,6 +1,5 @@
 use Rattle.std.proofs.{Common.sym, Common.subst, Common.◌≡◌, Common.◌<◌, Common.ℕ, Common.List, lemmas.List.take_all}
-use Rattle.batch_shards.specs.declared.row_blocks.RowBlock.{RowBlock}
-use Rattle.batch_shards.proofs.{RowSteps.at_edge, Noting.IsFirstOf, Noting.first_is}
+use Rattle.batch_shards.{specs.declared.row_blocks.RowBlock.RowBlock, proofs.{RowSteps.at_edge, Noting.{IsFirstOf, first_is}}}
 use Rattle.batch_shards.proofs.rows.first_place.Goals as goal
 
 pub returns : goal.returns

@@ -1,9 +1,6 @@
-use Rattle.std.proofs.Common.{◌∷◌, [], ◌+◌, ap, length, replicate, sym, subst, arith}
-use Rattle.block_pool.specs.Kept.{Lists}
-use Rattle.block_pool.proofs.Tallies.{free_more}
-use Rattle.block_reclamation.specs.declared.status.BlockStatus.TheVariants.{Free}
-use Rattle.block_reclamation.specs.Status.{is_free}
-use Rattle.std.proofs.lemmas.List.{length-append}
+use Rattle.std.proofs.{Common.{◌∷◌, [], ◌+◌, ap, length, replicate, sym, subst, arith}, lemmas.List.length-append}
+use Rattle.block_pool.{specs.Kept.Lists, proofs.Tallies.free_more}
+use Rattle.block_reclamation.specs.{declared.status.BlockStatus.TheVariants.Free, Status.is_free}
 use Rattle.block_pool.proofs.numbers.numbers_up_to.Goals as goal
 
 pub loop-number-preserved : goal.loop-number-preserved

@@ -1,7 +1,6 @@
 use Rattle.std.proofs.Common.{◌≡◌, length, replicate}
 use Rattle.block_pool.specs.Kept.{Lists}
-use Rattle.block_reclamation.specs.declared.status.BlockStatus.TheVariants.{Free}
-use Rattle.block_reclamation.specs.Status.{is_free}
+use Rattle.block_reclamation.specs.{declared.status.BlockStatus.TheVariants.Free, Status.is_free}
 use Rattle.block_pool.proofs.numbers.numbers_up_to.Given as goal
 
 abbrev pub invariant-loop-number : goal.invariant-loop-number

@@ -1,9 +1,7 @@
-use Rattle.std.proofs.Common.{◌∙◌, ◌-◌, ◌++◌, ◌∷◌, [], ℕ, None, length, map, sym, ap, subst, arith}
-use Rattle.std.proofs.lemmas.List.{map-append}
+use Rattle.std.proofs.{Common.{◌∙◌, ◌-◌, ◌++◌, ◌∷◌, [], ℕ, None, length, map, sym, ap, subst, arith}, lemmas.List.map-append}
 use Rattle.std.specs.{Arc.arc_value, declared.sync.Arc.Arc, declared.alloc.Global.Global}
 use Rattle.edge_block.specs.declared.blocks.Block.{Block}
-use Rattle.block_pool.specs.{Kept.popped, Bodies.AreBodies}
-use Rattle.block_pool.proofs.{Grants.free_read, Grants.popped_last, BodyLaws.bodies_set}
+use Rattle.block_pool.{specs.{Kept.popped, Pools.AreBodies}, proofs.{Grants.{free_read, popped_last}, BodyLaws.bodies_set}}
 use Rattle.block_pool.proofs.pool.gather.Goals as goal
 
 abbrev number_of : Arc Block Global → ℕ

@@ -1,6 +1,6 @@
 use Rattle.std.{proofs.Common.◌≡◌, proofs.Common.map, proofs.Common.length, specs.Arc.arc_value}
 use Rattle.edge_block.specs.declared.blocks.Block.{Block}
-use Rattle.block_pool.specs.{Kept.popped, Bodies.AreBodies}
+use Rattle.block_pool.specs.{Kept.popped, Pools.AreBodies}
 use Rattle.block_pool.proofs.pool.gather.Given as goal
 
 abbrev pub invariant-loop-i : goal.invariant-loop-i

@@ -1,5 +1,5 @@
 use Rattle.std.proofs.{Common.◌+◌, Common.sym, Common.subst, Common.arith, lemmas.Grind.common_steps}
-use Rattle.block_pool.{specs.Bodies.AreBodies, proofs.BodyLaws.bodies_more}
+use Rattle.block_pool.{specs.Pools.AreBodies, proofs.BodyLaws.bodies_more}
 use Rattle.block_pool.proofs.pool.no_bodies.Goals as goal
 
 pub loop-preserved : goal.loop-preserved

@@ -1,4 +1,4 @@
-use Rattle.block_pool.specs.Bodies.{AreBodies}
+use Rattle.block_pool.specs.Pools.{AreBodies}
 use Rattle.block_pool.proofs.pool.no_bodies.Given as goal
 
 abbrev pub invariant-loop : goal.invariant-loop

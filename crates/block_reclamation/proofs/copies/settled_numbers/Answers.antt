@@ -1,6 +1,5 @@
 use Rattle.std.proofs.Common.{◌≡◌, set, ap, ◌∙◌, arith}
-use Rattle.block_reclamation.specs.Copies.{settled_number}
-use Rattle.block_reclamation.proofs.Seats.{seat_next}
+use Rattle.block_reclamation.{specs.Copies.settled_number, proofs.Seats.seat_next}
 use Rattle.block_reclamation.proofs.copies.settled_numbers.Goals as goal
 
 pub loop-seat-preserved : goal.loop-seat-preserved

@@ -1,6 +1,5 @@
 use Rattle.std.proofs.Common.{◌≡◌, set, ap, ◌∙◌, arith}
-use Rattle.block_reclamation.specs.Copies.{unsettled_number}
-use Rattle.block_reclamation.proofs.Seats.{seat_next}
+use Rattle.block_reclamation.{specs.Copies.unsettled_number, proofs.Seats.seat_next}
 use Rattle.block_reclamation.proofs.copies.unsettled_numbers.Goals as goal
 
 pub loop-seat-preserved : goal.loop-seat-preserved

@@ -1,5 +1,4 @@
-use Rattle.std.proofs.Common.{◌≡◌, ◌≤◌, ◌-◌, ◌++◌, map, take, replicate}
-use Rattle.std.specs.declared.option.Option.TheVariants.{None}
+use Rattle.std.{proofs.Common.{◌≡◌, ◌≤◌, ◌-◌, ◌++◌, map, take, replicate}, specs.declared.option.Option.TheVariants.None}
 use Rattle.block_reclamation.specs.Copies.{unsettled_number}
 use Rattle.block_reclamation.proofs.copies.unsettled_numbers.Given as goal
 

@@ -1,6 +1,5 @@
-use Rattle.std.proofs.{Common.◌≡◌, Common.true, Common.List, Common.refl, Common.sym, Common.ap, Common.subst, Common.◌∙◌}
-use Rattle.std.{proofs.lemmas.Result.on_err_weaker, specs.declared.result.Result.Result, specs.Prelude.IfOk, specs.Prelude.OnErr}
-use Rattle.std.specs.Prelude.{IsTrue}
+use Rattle.std.proofs.{Common.{◌≡◌, true, List, refl, sym, ap, subst, ◌∙◌}, lemmas.Result.on_err_weaker}
+use Rattle.std.specs.{declared.result.Result.Result, Prelude.{IfOk, OnErr, IsTrue}}
 use Rattle.epoch_core.specs.{Blocks.Stepped, Blocks.changed_at, Blocks.taken, Blocks.reclaimed, Worlds.MachineState, Runs.Steps}
 use Rattle.epoch_core.specs.{Cores.state_of, declared.session_states.SessionState.SessionState, declared.step.Step.Step}
 use Rattle.epoch_core.specs.declared.events.Event.{Event, TheVariants.Fill, TheVariants.Post, TheVariants.Ask}

@@ -1,12 +1,10 @@
 use Rattle.std.proofs.Common.{◌≡◌, ℕ, List, ◌∷◌, [], ◌++◌, refl, sym, ap, subst, ◌∙◌}
-use Rattle.std.specs.{Prelude.if◌then◌else◌, Option.option_map}
-use Rattle.std.specs.declared.option.Option.{Option, TheVariants.None, TheVariants.Some}
+use Rattle.std.specs.{Prelude.if◌then◌else◌, Option.option_map, declared.option.Option.{Option, TheVariants.{None, Some}}}
 use Rattle.graph_types.specs.{Graph.IsContent, declared.ids.Edge.Edge, declared.batches.NamedOp.NamedOp}
-use Rattle.epoch_core.specs.{declared.states.Version.Version, declared.states.Opening.Opening, Worlds.HasContents, Worlds.World}
-use Rattle.epoch_core.{specs.Versions.IsContentGraph, proofs.Read.last_is_content, proofs.Cores.contents_posted}
-use Rattle.epoch_core.specs.{Blocks.Stepped, Posting.IsPlanOf, Posting.graph_after, Posting.last_content, Posting.version_by}
-use Rattle.epoch_core.specs.declared.{step.Step.TheVariants.Done, step.Step.TheVariants.Skipped, events.Event.TheVariants.Post}
-use Rattle.epoch_core.specs.{Cores.state_of, Machine.step, Posts.posted}
+use Rattle.epoch_core.specs.declared.{states.{Version.Version, Opening.Opening}, step.Step.TheVariants.{Done, Skipped}}
+use Rattle.epoch_core.specs.{declared.events.Event.TheVariants.Post, Worlds.{HasContents, World}, Blocks.Stepped}
+use Rattle.epoch_core.specs.{Posting.{IsPlanOf, graph_after, last_content, version_by}, Cores.state_of, Machine.step}
+use Rattle.epoch_core.{specs.{Posts.posted, Versions.IsContentGraph}, proofs.{Read.last_is_content, Cores.contents_posted}}
 use Rattle.block_reclamation.specs.declared.status.BlockStatus.{BlockStatus}
 use Rattle.epoch_core.proofs.advancing.post.Goals as goal
 

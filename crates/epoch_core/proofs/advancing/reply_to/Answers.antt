@@ -1,5 +1,4 @@
-use Rattle.std.proofs.Common.{◌≡◌, sym, subst}
-use Rattle.std.specs.{Prelude.MatchOption, Prelude.slice_get, Prelude.slice_index_or, Option.option_and_then}
+use Rattle.std.{proofs.Common.{◌≡◌, sym, subst}, specs.{Prelude.{MatchOption, slice_get, slice_index_or}, Option.option_and_then}}
 use Rattle.epoch_core.specs.{Blocks.Stepped, Blocks.changed_at, declared.session_states.SessionState.TheVariants.Idle}
 use Rattle.epoch_core.specs.Machine.{ReadsContent, IsAnswered, question_in, to_reply, with_sessions}
 use Rattle.epoch_core.{specs.Worlds.MachineState, specs.Cores.state_of, proofs.Read.reads_content, proofs.Stepping.stepped_in}

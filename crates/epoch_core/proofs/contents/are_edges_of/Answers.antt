@@ -1,8 +1,6 @@
-use Rattle.std.proofs.Common.{ap, sym, ◌∙◌, ◌&&◌, Bool, List, eqb, length}
-use Rattle.std.specs.{List.list_all, FinMap.get}
-use Rattle.graph_types.specs.{Graph.graph_of, Graph.key_of, Graph.stamp_of, Graph.map_of, declared.ids.Edge.Edge}
+use Rattle.std.{proofs.Common.{ap, sym, ◌∙◌, ◌&&◌, Bool, List, eqb, length}, specs.{List.list_all, FinMap.get}}
+use Rattle.graph_types.{specs.{Graph.{graph_of, key_of, stamp_of, map_of}, declared.ids.Edge.Edge}, proofs.Keys.len_once}
 use Rattle.epoch_core.specs.Posting as posting
-use Rattle.graph_types.proofs.Keys.{len_once}
 use Rattle.epoch_core.proofs.Edges.{Decides-edges}
 use Rattle.epoch_core.proofs.contents.are_edges_of.Goals as goal
 

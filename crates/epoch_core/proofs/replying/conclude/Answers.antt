@@ -1,9 +1,7 @@
-use Rattle.std.proofs.Common.{◌≡◌, List, refl, arith}
-use Rattle.std.specs.declared.option.Option.TheVariants.{None}
-use Rattle.epoch_core.{specs.declared.states.Opening.Opening, proofs.OneElement.stepped_past, proofs.OneElement.stays_at}
-use Rattle.epoch_core.specs.{declared.states.Version.Version, Machine.to_reply}
-use Rattle.epoch_core.specs.declared.session_states.{Hold.Hold, Inquiry.Inquiry, SessionState.SessionState}
-use Rattle.epoch_core.specs.declared.session_states.SessionState.TheVariants.{Idle, Pinned, Holding, Asking}
+use Rattle.std.{proofs.Common.{◌≡◌, List, refl, arith}, specs.declared.option.Option.TheVariants.None}
+use Rattle.epoch_core.specs.declared.{states.{Opening.Opening, Version.Version}, session_states.{Hold.Hold, Inquiry.Inquiry}}
+use Rattle.epoch_core.specs.declared.session_states.SessionState.{SessionState, TheVariants.{Idle, Pinned, Holding, Asking}}
+use Rattle.epoch_core.{specs.Machine.to_reply, proofs.OneElement.{stepped_past, stays_at}}
 use Rattle.epoch_core.proofs.replying.conclude.Goals as goal
 
 reply_stays : (o : Opening) (versions : List Version) (p : SessionState)

@@ -1,5 +1,4 @@
-use Rattle.std.proofs.Common.{[], ◌∷◌, ◌++◌, set, ap, ◌∙◌, arith}
-use Rattle.std.proofs.lemmas.List.{get_or_read}
+use Rattle.std.proofs.{Common.{[], ◌∷◌, ◌++◌, set, ap, ◌∙◌, arith}, lemmas.List.get_or_read}
 use Rattle.epoch_core.proofs.replying.push_answer.Goals as goal
 
 pub returns-clause-added : goal.returns-clause-added

@@ -1,7 +1,6 @@
 use Rattle.std.proofs.Common.{◌≡◌, refl, sym, subst, arith}
 use Rattle.std.{specs.Prelude.MatchOption, specs.Option.option_and_then, proofs.lemmas.Option.slice_get_past}
-use Rattle.epoch_core.specs.Machine.{IsAnswered, question_in, to_reply}
-use Rattle.epoch_core.proofs.OneElement.{stepped_past}
+use Rattle.epoch_core.{specs.Machine.{IsAnswered, question_in, to_reply}, proofs.OneElement.stepped_past}
 use Rattle.epoch_core.proofs.replying.reply.Goals as goal
 
 pub returns-then-session-len-clause-moved : goal.returns-then-session-len-clause-moved

@@ -1,5 +1,4 @@
-use Rattle.std.proofs.Common.{◌≡◌, refl, arith}
-use Rattle.std.specs.declared.option.Option.TheVariants.{None}
+use Rattle.std.{proofs.Common.{◌≡◌, refl, arith}, specs.declared.option.Option.TheVariants.None}
 use Rattle.graph_types.specs.declared.requests.Request.{Request}
 use Rattle.epoch_core.specs.declared.session_states.{Hold.Hold, SessionState.SessionState}
 use Rattle.epoch_core.specs.declared.session_states.SessionState.TheVariants.{Idle, Pinned, Holding, Asking}

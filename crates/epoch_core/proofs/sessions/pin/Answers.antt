@@ -1,8 +1,6 @@
-use Rattle.std.proofs.Common.{◌≡◌, ℕ, refl, arith}
-use Rattle.std.specs.declared.option.Option.TheVariants.{None}
-use Rattle.epoch_core.specs.{declared.session_states.SessionState.SessionState, Machine.to_pin}
-use Rattle.epoch_core.specs.declared.session_states.SessionState.TheVariants.{Idle, Pinned, Holding, Asking}
-use Rattle.epoch_core.proofs.OneElement.{stepped_past, stays_at}
+use Rattle.std.{proofs.Common.{◌≡◌, ℕ, refl, arith}, specs.declared.option.Option.TheVariants.None}
+use Rattle.epoch_core.specs.declared.session_states.SessionState.{SessionState, TheVariants.{Idle, Pinned, Holding, Asking}}
+use Rattle.epoch_core.{specs.Machine.to_pin, proofs.OneElement.{stepped_past, stays_at}}
 use Rattle.epoch_core.proofs.sessions.pin.Goals as goal
 
 pin_stays : (floor : ℕ) (p : SessionState) → (p ≡ Idle → ⊥) → to_pin floor p ≡ None

@@ -1,5 +1,4 @@
-use Rattle.std.proofs.Common.{◌≡◌, ℕ, refl, arith}
-use Rattle.std.specs.declared.option.Option.TheVariants.{None}
+use Rattle.std.{proofs.Common.{◌≡◌, ℕ, refl, arith}, specs.declared.option.Option.TheVariants.None}
 use Rattle.epoch_core.specs.declared.session_states.{Hold.Hold, SessionState.SessionState}
 use Rattle.epoch_core.specs.declared.session_states.SessionState.TheVariants.{Idle, Pinned, Holding, Asking}
 use Rattle.epoch_core.{specs.Machine.to_release, proofs.OneElement.stepped_past, proofs.OneElement.stays_at}

@@ -1,5 +1,4 @@
-use Rattle.std.proofs.Common.{◌≡◌, ◌≤◌, ◌-◌, ◌++◌, length, map, take, replicate}
-use Rattle.std.specs.declared.option.Option.TheVariants.{None}
+use Rattle.std.{proofs.Common.{◌≡◌, ◌≤◌, ◌-◌, ◌++◌, length, map, take, replicate}, specs.declared.option.Option.TheVariants.None}
 use Rattle.epoch_core.specs.Worlds.{seat_pin}
 use Rattle.epoch_core.proofs.sessions.seat_pins.Given as goal
 

@@ -1,5 +1,4 @@
-use Rattle.std.proofs.Common.{◌<◌, ◌∙◌, ℕ, List, [], length, All, ap, subst, sym}
-use Rattle.std.proofs.lemmas.List.{length-replicate}
+use Rattle.std.proofs.{Common.{◌<◌, ◌∙◌, ℕ, List, [], length, All, ap, subst, sym}, lemmas.List.length-replicate}
 use Rattle.graph_types.specs.declared.ids.Edge.{Edge}
 use Rattle.block_reclamation.specs.declared.status.BlockStatus.TheVariants.{Free}
 use Rattle.epoch_core.specs.{Worlds.MachineState, Opened.opened_over}

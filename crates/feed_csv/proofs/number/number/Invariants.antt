@@ -1,5 +1,4 @@
-use Rattle.std.proofs.Common.{◌≡◌, take, true, ◌≤◌, length}
-use Rattle.std.specs.{Char.is_ascii_digit, List.list_all}
+use Rattle.std.{proofs.Common.{◌≡◌, take, true, ◌≤◌, length}, specs.{Char.is_ascii_digit, List.list_all}}
 use Rattle.feed_csv.specs.Number.{decimal_value}
 use Rattle.feed_csv.proofs.number.number.Given as goal
 

@@ -1,10 +1,9 @@
 use Rattle.std.proofs.Common.{◌≡◌, ◌<◌, ◌≤◌, ◌+◌, ◌*◌, ◌++◌, ◌∷◌, [], ℕ, List, arith, length, get_or, take, subst, sym, ap, ◌∙◌}
-use Rattle.std.proofs.Common.{refl, vec_len, vec_capacity}
-use Rattle.std.proofs.lemmas.List.{take_all}
+use Rattle.std.proofs.{Common.{refl, vec_len, vec_capacity}, lemmas.List.take_all}
 use Rattle.std.specs.declared.{alloc.Global.Global, vec.Vec.Vec}
 use Rattle.graph_cores.proofs.LinkSteps.{LinkedSoFar, linked, not_linked}
-use Rattle.graph_cores.proofs.links.link.Goals as goal
 use Rattle.graph_cores.proofs.links.link.Goals.{then-target-source, else-target-source}
+use Rattle.graph_cores.proofs.links.link.Goals as goal
 
 pub loop-target-preserved : goal.loop-target-preserved
 loop-target-preserved c =

@@ -1,5 +1,4 @@
-use Rattle.std.proofs.Common.{ℕ, List, length, subst, sym, arith}
-use Rattle.std.specs.{Prelude.◌↔◌, List.Contains}
+use Rattle.std.{proofs.Common.{ℕ, List, length, subst, sym, arith}, specs.{Prelude.◌↔◌, List.Contains}}
 use Rattle.graph_types.specs.Analyses.{LeadsTo}
 use Rattle.graph_cores.proofs.LinkSteps.{links_more, links_all, links_within}
 use Rattle.graph_cores.proofs.links.list_links.Goals as goal

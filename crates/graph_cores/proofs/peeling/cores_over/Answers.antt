@@ -1,6 +1,5 @@
 use Rattle.std.proofs.Common.{arith, length}
-use Rattle.graph_cores.specs.Rows.{row_of}
-use Rattle.graph_cores.proofs.{RowSteps.row_within, Times.apart_few}
+use Rattle.graph_cores.{specs.Rows.row_of, proofs.{RowSteps.row_within, Times.apart_few}}
 use Rattle.graph_cores.proofs.peeling.cores_over.Goals as goal
 
 pub peel-requires-clause-short : goal.peel-requires-clause-short

@@ -1,10 +1,8 @@
 use Rattle.std.proofs.Common.{◌≡◌, ◌<◌, ◌≤◌, ◌+◌, ◌++◌, ◌∷◌, [], ℕ, List, arith, length, set, ◌∙◌, sym, ap, subst, false}
-use Rattle.std.specs.Prelude.{All, sum}
-use Rattle.std.proofs.lemmas.List.{length-append, Elements.All-contains, Elements.Contains-push}
+use Rattle.std.{proofs.lemmas.List.{length-append, Elements.{All-contains, Contains-push}}, specs.Prelude.{All, sum}}
 use Rattle.graph_types.specs.Arcs.{at}
-use Rattle.graph_cores.specs.{Rows.row_of, Peel.lowered, Peel.IsPeeling}
-use Rattle.graph_cores.proofs.{RowSteps.row_within, Lowered.lowered_sum, Lowered.lowered_all, Lowered.lowered_at}
-use Rattle.graph_cores.proofs.PeelSteps.{take_out, skip, front_low, still}
+use Rattle.graph_cores.{specs.{Rows.row_of, Peel.{lowered, IsPeeling}}, proofs.{RowSteps.row_within, Lowered.lowered_sum}}
+use Rattle.graph_cores.proofs.{Lowered.{lowered_all, lowered_at}, PeelSteps.{take_out, skip, front_low, still}}
 use Rattle.graph_cores.proofs.peeling.peel_level.Goals as goal
 
 -- the popped vertex is one of n

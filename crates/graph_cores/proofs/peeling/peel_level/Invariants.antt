@@ -1,5 +1,4 @@
-use Rattle.std.proofs.Common.{◌<◌, ◌≤◌, ◌+◌, ℕ, All, length}
-use Rattle.std.specs.Prelude.{sum, IsTrue}
+use Rattle.std.{proofs.Common.{◌<◌, ◌≤◌, ◌+◌, ℕ, All, length}, specs.Prelude.{sum, IsTrue}}
 use Rattle.graph_types.specs.{Graph.Graph, Arcs.AreNeighbors, Arcs.at, declared.ids.Filter.Filter}
 use Rattle.graph_cores.specs.{Rows.row_of, Peel.IsPeeling, Peel.is_alive}
 use Rattle.graph_cores.proofs.peeling.peel_level.Given as goal

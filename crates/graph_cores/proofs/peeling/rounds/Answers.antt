@@ -1,7 +1,6 @@
 use Rattle.std.proofs.Common.{◌≡◌, ◌<◌, ◌+◌, ◌++◌, [], ℕ, List, Bool, arith, length, inl, inr, ◌∙◌, sym, ap, subst, false}
-use Rattle.std.specs.{Prelude.All, Prelude.IsTrue, Prelude.filter, List.Contains}
 use Rattle.std.proofs.lemmas.{Grind.common_steps, Bool.cases_Bool, List.Elements.All-filter, List.Sums.count_by-le-length}
-use Rattle.std.specs.declared.{alloc.Global.Global, vec.Vec.Vec}
+use Rattle.std.specs.{Prelude.{All, IsTrue, filter}, List.Contains, declared.{alloc.Global.Global, vec.Vec.Vec}}
 use Rattle.graph_types.proofs.Counts.{Contains-nil}
 use Rattle.graph_cores.specs.{Rows.row_of, Peel.is_alive, Peel.is_low, Peel.is_high, Peel.IsPeeling, Peel.IsBetween}
 use Rattle.graph_cores.proofs.{RowSteps.row_within, PeelSteps.round, PeelSteps.after, PeelSteps.none_left, PeelSteps.first}

@@ -1,5 +1,4 @@
-use Rattle.std.proofs.Common.{◌≡◌, ◌++◌, take}
-use Rattle.std.specs.Prelude.{filter}
+use Rattle.std.{proofs.Common.{◌≡◌, ◌++◌, take}, specs.Prelude.filter}
 use Rattle.graph_cores.specs.Peel.{is_low, is_high}
 use Rattle.graph_cores.proofs.peeling.split.Given as goal
 

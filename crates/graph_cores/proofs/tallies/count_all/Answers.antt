@@ -1,9 +1,7 @@
-use Rattle.std.proofs.Common.{◌≡◌, ◌∙◌, ◌++◌, ◌+◌, ◌≤◌, List, length, ap, sym, subst, arith, pos}
-use Rattle.std.proofs.lemmas.List.{length-replicate}
+use Rattle.std.proofs.{Common.{◌≡◌, ◌∙◌, ◌++◌, ◌+◌, ◌≤◌, List, length, ap, sym, subst, arith, pos}, lemmas.List.length-replicate}
 use Rattle.graph_types.specs.declared.ids.{Degree.Degree, Edge.Edge}
 use Rattle.edge_block.specs.Slots.{BlockView}
-use Rattle.graph_version.specs.{Rows.row_of, Sharing.block_values}
-use Rattle.graph_version.specs.Versions.{content}
+use Rattle.graph_version.specs.{Rows.row_of, Sharing.block_values, Versions.content}
 use Rattle.graph_cores.specs.Tallies.{shown_edges, IsCounted, AreViewEdges, Counts}
 use Rattle.graph_cores.proofs.Whole.{blocks_below, below_within, shown_more, table_is}
 use Rattle.graph_cores.proofs.tallies.count_all.Goals as goal

@@ -1,7 +1,5 @@
-use Rattle.std.proofs.Common.{◌<◌, ◌+◌, arith, length, sym, get_or, ℕ, subst}
-use Rattle.std.specs.Prelude.{All}
+use Rattle.std.{proofs.Common.{◌<◌, ◌+◌, arith, length, sym, get_or, ℕ, subst}, specs.{Prelude.All, List.Contains}}
 use Rattle.graph_types.specs.{Analyses.LeadsTo, declared.ids.VertexId.VertexId}
-use Rattle.std.specs.List.{Contains}
 use Rattle.graph_levels.proofs.{Frontiers.step, Tables.front_more, Tables.met_rows, Targets.told}
 use Rattle.graph_levels.proofs.distances.advance.Goals as goal
 

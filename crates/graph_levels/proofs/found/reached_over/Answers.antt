@@ -1,7 +1,5 @@
-use Rattle.std.proofs.Common.{◌∙◌, length, rules}
-use Rattle.std.proofs.lemmas.List.Sorted.{IsNonDecreasingBy-from_sort_by_key}
-use Rattle.graph_levels.specs.Reached.{table_of}
-use Rattle.graph_levels.proofs.Tables.{sorted_rows}
+use Rattle.std.proofs.{Common.{◌∙◌, length, rules}, lemmas.List.Sorted.IsNonDecreasingBy-from_sort_by_key}
+use Rattle.graph_levels.{specs.Reached.table_of, proofs.Tables.sorted_rows}
 use Rattle.graph_levels.proofs.found.reached_over.Goals as goal
 
 pub returns : goal.returns

@@ -1,6 +1,5 @@
 use Rattle.std.proofs.Common.{◌≡◌, drop, length}
-use Rattle.graph_levels.specs.Reached.{table_of}
-use Rattle.graph_levels.proofs.Tables.{filled}
+use Rattle.graph_levels.{specs.Reached.table_of, proofs.Tables.filled}
 use Rattle.graph_levels.proofs.found.table.Given as goal
 
 abbrev pub invariant-loop-row : goal.invariant-loop-row

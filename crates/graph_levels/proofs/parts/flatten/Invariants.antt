@@ -1,7 +1,6 @@
 use Rattle.std.proofs.Common.{ℕ}
 use Rattle.graph_types.specs.{Graph.Graph, declared.ids.Filter.Filter}
-use Rattle.graph_levels.specs.Forest.{IsForest, IsSound, Respects}
-use Rattle.graph_levels.proofs.Trees.{FlatBelow}
+use Rattle.graph_levels.{specs.Forest.{IsForest, IsSound, Respects}, proofs.Trees.FlatBelow}
 use Rattle.graph_levels.proofs.parts.flatten.Given as goal
 
 abbrev pub invariant-loop-vertex : goal.invariant-loop-vertex

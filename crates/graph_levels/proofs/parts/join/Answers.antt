@@ -1,7 +1,6 @@
 use Rattle.std.proofs.Common.{◌<◌, arith, length, ◌∙◌, sym, ℕ}
 use Rattle.graph_types.specs.{Graph.Graph, Analyses.Connects, Analyses.Joins, declared.ids.Filter.Filter}
-use Rattle.graph_levels.proofs.Trees.{forest_set, respects_linked, linked_same, sound_set}
-use Rattle.graph_levels.proofs.Walks.{then, one_step, backward}
+use Rattle.graph_levels.proofs.{Trees.{forest_set, respects_linked, linked_same, sound_set}, Walks.{then, one_step, backward}}
 use Rattle.graph_levels.proofs.parts.join.Goals as goal
 
 -- first's tree is joined to a, second's to b

@@ -1,5 +1,4 @@
-use Rattle.std.proofs.Common.{◌<◌, ◌≡◌, arith, length, get_or, ℕ, subst}
-use Rattle.std.proofs.lemmas.List.{take_all, Elements.All-more}
+use Rattle.std.proofs.{Common.{◌<◌, ◌≡◌, arith, length, get_or, ℕ, subst}, lemmas.List.{take_all, Elements.All-more}}
 use Rattle.graph_levels.proofs.parts.join_all.Goals as goal
 
 pub loop-target-preserved : goal.loop-target-preserved

@@ -1,5 +1,4 @@
-use Rattle.std.proofs.Common.{◌≡◌, length, ◌∙◌, sym, ap, subst, drop}
-use Rattle.std.proofs.lemmas.List.{take_at, FromFn.length-range_with_len}
+use Rattle.std.proofs.{Common.{◌≡◌, length, ◌∙◌, sym, ap, subst, drop}, lemmas.List.{take_at, FromFn.length-range_with_len}}
 use Rattle.graph_types.specs.Analyses.{IsTable, IsLabel}
 use Rattle.graph_levels.proofs.Trees.{fresh_forest, fresh_sound}
 use Rattle.graph_levels.proofs.parts.labels_over.Goals as goal

@@ -1,5 +1,4 @@
-use Rattle.std.proofs.Common.{◌≡◌}
-use Rattle.std.specs.List.{range_with_len}
+use Rattle.std.{proofs.Common.◌≡◌, specs.List.range_with_len}
 use Rattle.graph_levels.proofs.parts.own_parents.Given as goal
 
 abbrev pub invariant-loop-vertex : goal.invariant-loop-vertex

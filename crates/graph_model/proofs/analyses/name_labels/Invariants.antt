@@ -1,5 +1,4 @@
-use Rattle.std.proofs.Common.{◌≡◌, take, length}
-use Rattle.std.specs.Prelude.{zip}
+use Rattle.std.{proofs.Common.{◌≡◌, take, length}, specs.Prelude.zip}
 use Rattle.graph_types.specs.Answer.{names_of}
 use Rattle.graph_model.proofs.analyses.name_labels.Given as goal
 

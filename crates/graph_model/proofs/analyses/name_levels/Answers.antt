@@ -1,6 +1,5 @@
-use Rattle.std.proofs.Common.{take, length, ap, ◌∙◌}
+use Rattle.std.proofs.{Common.{take, length, ap, ◌∙◌}, lemmas.{List.length_push, Slice.Zip.{zip_turn, zip_end}}}
 use Rattle.std.specs.{Prelude.zip, List.filter_map}
-use Rattle.std.proofs.lemmas.{List.length_push, Slice.Zip.zip_turn, Slice.Zip.zip_end}
 use Rattle.graph_types.specs.Answer.{level_row}
 use Rattle.graph_model.proofs.{ZippedRows.rows_all, AnalysisReplies.level_rows_more}
 use Rattle.graph_model.proofs.analyses.name_levels.Goals as goal

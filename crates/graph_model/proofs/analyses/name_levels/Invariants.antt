@@ -1,5 +1,4 @@
-use Rattle.std.proofs.Common.{◌≡◌, take, length}
-use Rattle.std.specs.{Prelude.zip, List.filter_map}
+use Rattle.std.{proofs.Common.{◌≡◌, take, length}, specs.{Prelude.zip, List.filter_map}}
 use Rattle.graph_types.specs.Answer.{level_row}
 use Rattle.graph_model.proofs.analyses.name_levels.Given as goal
 

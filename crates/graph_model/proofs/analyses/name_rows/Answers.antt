@@ -1,5 +1,4 @@
-use Rattle.std.proofs.Common.{ap, ◌∙◌, ◌++◌, ◌∷◌, []}
-use Rattle.std.proofs.lemmas.{List.length_push, Slice.Zip.zip_turn, Slice.Zip.zip_end}
+use Rattle.std.proofs.{Common.{ap, ◌∙◌, ◌++◌, ◌∷◌, []}, lemmas.{List.length_push, Slice.Zip.{zip_turn, zip_end}}}
 use Rattle.graph_model.proofs.ZippedRows.{rows_more, rows_all}
 use Rattle.graph_model.proofs.analyses.name_rows.Goals as goal
 

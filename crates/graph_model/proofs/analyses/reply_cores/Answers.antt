@@ -1,5 +1,4 @@
-use Rattle.std.proofs.Common.{◌∙◌, inr}
-use Rattle.std.specs.Prelude.{zip}
+use Rattle.std.{proofs.Common.{◌∙◌, inr}, specs.Prelude.zip}
 use Rattle.graph_model.proofs.AnalysisReplies.{cores_answer}
 use Rattle.graph_model.proofs.analyses.reply_cores.Goals as goal
 

@@ -1,5 +1,4 @@
-use Rattle.std.proofs.Common.{◌<◌, ◌∙◌, ℕ, List, length, sym, subst, inr}
-use Rattle.std.specs.Prelude.{All, zip}
+use Rattle.std.{proofs.Common.{◌<◌, ◌∙◌, ℕ, List, length, sym, subst, inr}, specs.Prelude.{All, zip}}
 use Rattle.graph_types.specs.{Graph.graph_of, Answer.names_of}
 use Rattle.graph_model.proofs.AnalysisReplies.{labels_below, labels_answer}
 use Rattle.graph_model.proofs.analyses.reply_labels.Goals as goal

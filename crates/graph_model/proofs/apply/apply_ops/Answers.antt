@@ -1,8 +1,7 @@
 -- What one operation exceeds, all of them exceed.
 use Rattle.std.proofs.{Common.subst, lemmas.Result.err_from_is_err_and}
 use Rattle.graph_types.specs.Graph.{graph_of}
-use Rattle.graph_model.specs.{Drafts.shown_by, Refusals.Exceeds}
-use Rattle.graph_model.proofs.BatchRefusals.{Exceeds-drop}
+use Rattle.graph_model.{specs.{Drafts.shown_by, Refusals.Exceeds}, proofs.BatchRefusals.Exceeds-drop}
 use Rattle.graph_model.proofs.apply.apply_ops.Goals as goal
 
 pub returns-in_err-apply-clause-refused : goal.returns-in_err-apply-clause-refused

@@ -2,9 +2,8 @@
 use Rattle.std.proofs.Common.{◌≤◌, length, sym, ap, subst, ◌∙◌}
 use Rattle.graph_types.specs.{Graph.graph_of, Limits.name_limit}
 use Rattle.graph_model.specs.{Drafts.names_left, Refusals.Refuses, Refusals.IsNamesRefusal}
-use Rattle.graph_model.proofs.BatchRefusals.{names_fit, Refuses-names}
+use Rattle.graph_model.proofs.{BatchRefusals.{names_fit, Refuses-names}, apply.kinds_refusal.Goals.{in-Ok, in-Err}}
 use Rattle.graph_model.proofs.apply.kinds_refusal.Goals as goal
-use Rattle.graph_model.proofs.apply.kinds_refusal.Goals.{in-Ok, in-Err}
 
 pub returns : goal.returns
 returns c =

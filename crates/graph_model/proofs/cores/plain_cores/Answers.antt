@@ -1,6 +1,6 @@
 use Rattle.std.proofs.Common.{◌≡◌, ◌<◌, ◌≤◌, ◌⊎◌, ℕ, suc, length, ◌∙◌, sym, ap, List, subst, drop}
-use Rattle.std.specs.{Prelude.All, Prelude.count_by, Prelude.replicate, declared.alloc.Global.Global, declared.vec.Vec.Vec}
 use Rattle.std.proofs.lemmas.{List.take_at, List.length-replicate, Result.IfOk-weaker}
+use Rattle.std.specs.{Prelude.All, Prelude.count_by, Prelude.replicate, declared.alloc.Global.Global, declared.vec.Vec.Vec}
 use Rattle.graph_types.specs.{Graph.graph_of, Analyses.AreCoreNumbers, Arcs.at, Arcs.AreUpper}
 use Rattle.graph_model.{specs.Links.supports, proofs.Links.joined_within, proofs.Links.first_upper}
 use Rattle.graph_model.proofs.{Links.more_upper, Links.cores_done, Links.cores_few, cores.plain_cores.Goals.After-deref-3}

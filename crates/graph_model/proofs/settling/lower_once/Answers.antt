@@ -1,7 +1,7 @@
 use Rattle.std.proofs.Common.{ℕ, arith}
 use Rattle.graph_model.proofs.Rounds.{arc_round_kept, arc_round_lowered, arc_round_closed}
-use Rattle.graph_model.proofs.settling.lower_once.Goals as goal
 use Rattle.graph_model.proofs.settling.lower_once.Goals.{then-number-numbers, else-number-numbers}
+use Rattle.graph_model.proofs.settling.lower_once.Goals as goal
 
 pub loop-arc-preserved : goal.loop-arc-preserved
 loop-arc-preserved c =

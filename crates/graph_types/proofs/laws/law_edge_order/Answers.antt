@@ -1,6 +1,5 @@
 use Rattle.std.proofs.Common.{ap}
-use Rattle.graph_types.specs.Graph.{Graph}
-use Rattle.graph_types.proofs.Keys.{same_map_of}
+use Rattle.graph_types.{specs.Graph.Graph, proofs.Keys.same_map_of}
 use Rattle.graph_types.proofs.laws.law_edge_order.Goals as goal
 
 pub returns : goal.returns

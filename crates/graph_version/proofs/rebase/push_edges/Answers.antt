@@ -1,9 +1,7 @@
 use Rattle.std.proofs.Common.{◌≡◌, ◌++◌, ◌∷◌, [], ◌∙◌, List, All, map, ap, sym, subst, rules, w64, append_assoc}
-use Rattle.std.proofs.lemmas.Int.{to_z-of_z}
-use Rattle.std.proofs.lemmas.List.Elements.{All-head, All-tail, All-cons, All-nil, All-append}
+use Rattle.std.proofs.lemmas.{Int.to_z-of_z, List.Elements.{All-head, All-tail, All-cons, All-nil, All-append}}
 use Rattle.graph_types.specs.{Graph.stamp_of, declared.ids.Edge.Edge}
-use Rattle.edge_block.specs.{Slots.IsStamp, Lending.LentEdge, Lending.lent_edge, Lending.edges_left}
-use Rattle.edge_block.specs.declared.blocks.BlockIter.{BlockIter}
+use Rattle.edge_block.specs.{Slots.IsStamp, Lending.{LentEdge, lent_edge, edges_left}, declared.blocks.BlockIter.BlockIter}
 use Rattle.graph_version.proofs.Rebased.{edge_lent, lent_edges, weight_fits}
 use Rattle.graph_version.proofs.rebase.push_edges.Goals as goal
 

@@ -1,8 +1,7 @@
 use Rattle.std.proofs.Common.{◌≡◌, ◌++◌, map, All}
 use Rattle.graph_types.specs.Graph.{stamp_of}
 use Rattle.edge_block.specs.{Slots.IsStamp, Lending.edges_left}
-use Rattle.graph_version.specs.Edges.{edges_in_block}
-use Rattle.graph_version.proofs.Rebased.{edge_lent}
+use Rattle.graph_version.{specs.Edges.edges_in_block, proofs.Rebased.edge_lent}
 use Rattle.graph_version.proofs.rebase.push_edges.Given as goal
 
 abbrev pub invariant-loop-edge : goal.invariant-loop-edge

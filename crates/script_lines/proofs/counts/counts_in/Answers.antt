@@ -1,8 +1,6 @@
 use Rattle.std.proofs.Common.{◌≡◌, ◌∙◌, ◌+◌, ◌<◌, ◌||◌, ℕ, Bool, List, length, take, get_or, cond, ap, sym, arith}
-use Rattle.std.specs.{List.list_any, List.sum_by}
-use Rattle.std.proofs.lemmas.{List.Sums.sum_by_more, List.Folds.list_any_more}
-use Rattle.graph_types.specs.declared.batches.Outcome.{Outcome}
-use Rattle.graph_types.specs.declared.batches.Outcome.TheVariants.{Inserted, Updated, Removed, Absent, Overflow}
+use Rattle.std.{proofs.lemmas.List.{Sums.sum_by_more, Folds.list_any_more}, specs.List.{list_any, sum_by}}
+use Rattle.graph_types.specs.declared.batches.Outcome.{Outcome, TheVariants.{Inserted, Updated, Removed, Absent, Overflow}}
 use Rattle.script_lines.specs.Lines.{expired_in, is_expired, is_outcome}
 use Rattle.script_lines.proofs.counts.counts_in.Goals as goal
 

@@ -1,10 +1,8 @@
 use Rattle.std.proofs.Common.{◌≡◌, ◌++◌, ◌∷◌, [], ℕ, List, refl, sym, ap, ap₂, ◌∙◌, append_assoc, count_by, arith}
-use Rattle.std.proofs.lemmas.Fmt.{decimal_digit}
+use Rattle.std.proofs.lemmas.{Fmt.decimal_digit, Result.on_ok_weaker}
 use Rattle.std.specs.Prelude.{codes, decimal, if◌then◌else◌, string_bytes}
-use Rattle.std.proofs.lemmas.Result.{on_ok_weaker}
 use Rattle.graph_types.specs.declared.batches.Outcome.TheVariants.{Inserted, Updated, Removed, Absent, Overflow}
-use Rattle.script_lines.specs.Lines.{expired_part, is_outcome}
-use Rattle.script_lines.proofs.Parts.{part_more}
+use Rattle.script_lines.{specs.Lines.{expired_part, is_outcome}, proofs.Parts.part_more}
 use Rattle.script_lines.proofs.lines.commit_line.Goals as goal
 
 -- the text of a label and 0

@@ -1,6 +1,5 @@
 use mir.Val.{bool_byte}
-use Rattle.std.proofs.Common.{◌+◌, ◌<◌, ◌≤◌, ◌∙◌, length, ap, arith}
-use Rattle.std.specs.List.{filter_map}
+use Rattle.std.{proofs.Common.{◌+◌, ◌<◌, ◌≤◌, ◌∙◌, length, ap, arith}, specs.List.filter_map}
 use Rattle.graph_types.specs.Answer.{level_row}
 use Rattle.script_lines.proofs.TableRows.{at_most_one, reached_more}
 use Rattle.version_answers.proofs.NamedRows.{rows_all}

@@ -1,5 +1,4 @@
-use Rattle.std.proofs.Common.{◌≡◌, ◌≤◌, length, take}
-use Rattle.std.specs.{Prelude.zip, List.filter_map}
+use Rattle.std.{proofs.Common.{◌≡◌, ◌≤◌, length, take}, specs.{Prelude.zip, List.filter_map}}
 use Rattle.graph_types.specs.Answer.{level_row}
 use Rattle.script_lines.proofs.tables.count_reached.Given as goal
 

@@ -1,7 +1,5 @@
-use Rattle.std.proofs.Common.{◌<◌, ◌++◌, ◌∙◌, [], length, arith, string_bytes}
-use Rattle.std.proofs.lemmas.List.{get_or_default}
-use Rattle.script_lines.specs.Lines.{degree_line}
-use Rattle.script_lines.proofs.TableRows.{lines_all, lines_more}
+use Rattle.std.proofs.{Common.{◌<◌, ◌++◌, ◌∙◌, [], length, arith, string_bytes}, lemmas.List.get_or_default}
+use Rattle.script_lines.{specs.Lines.degree_line, proofs.TableRows.{lines_all, lines_more}}
 use Rattle.script_lines.proofs.tables.degree_rows.Goals as goal
 
 pub loop-vertex-preserved : goal.loop-vertex-preserved

@@ -1,5 +1,4 @@
-use Rattle.std.proofs.Common.{◌≡◌, ◌++◌, take, string_bytes}
-use Rattle.std.specs.{Prelude.zip, List.flat_map}
+use Rattle.std.{proofs.Common.{◌≡◌, ◌++◌, take, string_bytes}, specs.{Prelude.zip, List.flat_map}}
 use Rattle.script_lines.specs.Lines.{degree_line}
 use Rattle.script_lines.proofs.tables.degree_rows.Given as goal
 

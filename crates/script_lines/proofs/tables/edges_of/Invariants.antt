@@ -1,5 +1,4 @@
-use Rattle.std.proofs.Common.{◌≡◌, ◌≤◌, sum_by, take, ◌*◌, ◌^◌}
-use Rattle.std.specs.Prelude.{zip}
+use Rattle.std.{proofs.Common.{◌≡◌, ◌≤◌, sum_by, take, ◌*◌, ◌^◌}, specs.Prelude.zip}
 use Rattle.script_lines.proofs.tables.edges_of.Given as goal
 
 abbrev pub invariant-loop-vertex : goal.invariant-loop-vertex

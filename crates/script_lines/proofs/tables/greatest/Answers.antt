@@ -1,6 +1,5 @@
 use Rattle.std.proofs.Common.{◌<◌, ◌∙◌, length, ap, arith}
-use Rattle.script_lines.specs.Lines.{greatest}
-use Rattle.script_lines.proofs.TableRows.{greatest_more}
+use Rattle.script_lines.{specs.Lines.greatest, proofs.TableRows.greatest_more}
 use Rattle.version_answers.proofs.NamedRows.{rows_all}
 use Rattle.script_lines.proofs.tables.greatest.Goals as goal
 

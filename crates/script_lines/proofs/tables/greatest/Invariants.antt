@@ -1,5 +1,4 @@
-use Rattle.std.proofs.Common.{◌≡◌, take}
-use Rattle.std.specs.Prelude.{zip}
+use Rattle.std.{proofs.Common.{◌≡◌, take}, specs.Prelude.zip}
 use Rattle.script_lines.specs.Lines.{greatest}
 use Rattle.script_lines.proofs.tables.greatest.Given as goal
 

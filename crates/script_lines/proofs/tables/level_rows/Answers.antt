@@ -1,8 +1,6 @@
-use Rattle.std.proofs.Common.{◌<◌, ◌++◌, ◌∙◌, length, ap, arith, string_bytes}
-use Rattle.std.specs.List.{filter_map, flat_map}
+use Rattle.std.{proofs.Common.{◌<◌, ◌++◌, ◌∙◌, length, ap, arith, string_bytes}, specs.List.{filter_map, flat_map}}
 use Rattle.graph_types.specs.Answer.{level_row}
-use Rattle.script_lines.specs.Lines.{number_line}
-use Rattle.script_lines.proofs.TableRows.{level_lines_more}
+use Rattle.script_lines.{specs.Lines.number_line, proofs.TableRows.level_lines_more}
 use Rattle.version_answers.proofs.NamedRows.{rows_all}
 use Rattle.script_lines.proofs.tables.level_rows.Goals as goal
 

@@ -1,5 +1,4 @@
-use Rattle.std.proofs.Common.{◌≡◌, ◌++◌, take, string_bytes}
-use Rattle.std.specs.{Prelude.zip, List.filter_map, List.flat_map}
+use Rattle.std.{proofs.Common.{◌≡◌, ◌++◌, take, string_bytes}, specs.{Prelude.zip, List.{filter_map, flat_map}}}
 use Rattle.graph_types.specs.Answer.{level_row}
 use Rattle.script_lines.specs.Lines.{number_line}
 use Rattle.script_lines.proofs.tables.level_rows.Given as goal

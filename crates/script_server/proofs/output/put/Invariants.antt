@@ -1,5 +1,4 @@
-use Rattle.std.proofs.Common.{◌≡◌, ◌≤◌, ◌-◌, false, length, take}
-use Rattle.std.specs.Io.KnownBytes.{Appends}
+use Rattle.std.{proofs.Common.{◌≡◌, ◌≤◌, ◌-◌, false, length, take}, specs.Io.KnownBytes.Appends}
 use Rattle.script_server.specs.Writes.{held}
 use Rattle.script_server.proofs.output.put.Given as goal
 

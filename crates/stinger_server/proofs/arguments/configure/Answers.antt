@@ -1,9 +1,7 @@
-use Rattle.std.proofs.Common.{◌≡◌, ◌∙◌, ap, arith, codes, rules, sym}
-use Rattle.std.specs.Prelude.{None, Some, option_and_then, option_map}
+use Rattle.std.{proofs.Common.{◌≡◌, ◌∙◌, ap, arith, codes, rules, sym}, specs.Prelude.{None, Some, option_and_then, option_map}}
 use Rattle.clap.specs.Words.{found_of, rows_of, subcommand_rows_of}
-use Rattle.stinger_server.specs.Program.{sizes_given}
-use Rattle.stinger_server.proofs.Options.{option_read, options_met, sizes_made, with_all, within, without_blocks, without_seats}
-use Rattle.stinger_server.proofs.Options.{without_workers}
+use Rattle.stinger_server.{specs.Program.sizes_given, proofs.Options.{option_read, options_met, sizes_made, with_all, within}}
+use Rattle.stinger_server.proofs.Options.{without_blocks, without_seats, without_workers}
 use Rattle.stinger_server.proofs.arguments.configure.Goals as goal
 
 pub returns-in_err-workers : goal.returns-in_err-workers

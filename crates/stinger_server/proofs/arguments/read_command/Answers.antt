@@ -1,6 +1,5 @@
 use Rattle.std.proofs.Common.{◌∙◌, ap, ap₂, map}
-use Rattle.clap.specs.{Faults.fault_of, Faults.is_simple_and_free, Simple.is_simple, Simple.subcommand_of}
-use Rattle.clap.specs.Words.{subcommand_rows_of}
+use Rattle.clap.specs.{Faults.{fault_of, is_simple_and_free}, Simple.{is_simple, subcommand_of}, Words.subcommand_rows_of}
 use Rattle.stinger_server.proofs.Served.{asked_well, explained}
 use Rattle.stinger_server.proofs.arguments.read_command.Goals as goal
 

@@ -1,10 +1,9 @@
-use Rattle.std.proofs.Common.{◌≡◌, ◌∙◌, ap, arith, codes, rules, sym}
-use Rattle.std.specs.Prelude.{None, Some, option_and_then, option_map}
+use Rattle.std.{proofs.Common.{◌≡◌, ◌∙◌, ap, arith, codes, rules, sym}, specs.Prelude.{None, Some, option_and_then, option_map}}
 use Rattle.clap.specs.Words.{found_of, rows_of, subcommand_rows_of}
 use Rattle.stinger_server.proofs.Options.{option_read, readers_met, within, within_all, within_none}
-use Rattle.stinger_server.proofs.arguments.readers.Goals as goal
 use Rattle.stinger_server.proofs.arguments.readers.Goals.{then-readers-lt1-via-then-readers-lt1}
 use Rattle.stinger_server.proofs.arguments.readers.Goals.{then-readers-lt1-via-else-readers-lt1+then-readers-gt4}
+use Rattle.stinger_server.proofs.arguments.readers.Goals as goal
 
 pub returns-in_err-readers : goal.returns-in_err-readers
 returns-in_err-readers c =

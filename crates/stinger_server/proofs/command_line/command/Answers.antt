@@ -1,6 +1,5 @@
-use Rattle.std.proofs.Common.{◌≡◌, ◌∙◌, ◌&&◌, [], Bool, ap, ap₂, codes, false, refl, rules, true}
+use Rattle.std.proofs.{Common.{◌≡◌, ◌∙◌, ◌&&◌, [], Bool, ap, ap₂, codes, false, refl, rules, true}, lemmas.Result.IfOk-weaker}
 use Rattle.std.specs.Prelude.{is_some, not}
-use Rattle.std.proofs.lemmas.Result.{IfOk-weaker}
 use Rattle.clap.specs.{Simple.App, Simple.app_of, Simple.new_shape, Simple.with_subcommand, Walk.is_empty}
 use Rattle.clap.specs.declared.builder.command.Command.{Command, TheViews.out-Command}
 use Rattle.stinger_server.proofs.command_line.command.Goals as goal

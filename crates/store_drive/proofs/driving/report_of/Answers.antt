@@ -1,8 +1,6 @@
 -- The sums over the readers, each of which found nothing wrong.
-use Rattle.std.proofs.Common.{◌≡◌, ◌*◌, ◌∙◌, List, ap, sym, arith, length}
-use Rattle.std.specs.Prelude.{sum_by}
-use Rattle.store_drive.specs.declared.tally.Tally.{Tally}
-use Rattle.store_drive.proofs.Right.{right_sums}
+use Rattle.std.{proofs.Common.{◌≡◌, ◌*◌, ◌∙◌, List, ap, sym, arith, length}, specs.Prelude.sum_by}
+use Rattle.store_drive.{specs.declared.tally.Tally.Tally, proofs.Right.right_sums}
 use Rattle.store_drive.proofs.driving.report_of.Goals as goal
 
 pub returns : goal.returns

@@ -1,5 +1,4 @@
-use Rattle.std.proofs.Common.{◌≡◌, length}
-use Rattle.std.specs.Prelude.{All}
+use Rattle.std.{proofs.Common.{◌≡◌, length}, specs.Prelude.All}
 use Rattle.store_drive.proofs.driving.tallies_of.Given as goal
 
 -- what each reader so far has counted: 80 answers, and none as wrong

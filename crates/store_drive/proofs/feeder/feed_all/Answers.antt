@@ -1,7 +1,6 @@
 -- One batch more was answered with what its receipt tells.
 use Rattle.std.proofs.Common.{◌≡◌, ◌+◌, [], ◌∷◌, ◌++◌, ap, arith, length, length-append}
-use Rattle.store_drive.specs.Feeds.{IsAnswered}
-use Rattle.store_drive.proofs.Pushed.{pushed}
+use Rattle.store_drive.{specs.Load.IsAnswered, proofs.Pushed.pushed}
 use Rattle.store_drive.proofs.feeder.feed_all.Goals as goal
 
 pub loop-number-preserved : goal.loop-number-preserved

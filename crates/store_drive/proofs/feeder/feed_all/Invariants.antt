@@ -1,5 +1,5 @@
 use Rattle.std.proofs.Common.{◌≡◌, ◌+◌, length}
-use Rattle.store_drive.specs.Feeds.{AreAnswered}
+use Rattle.store_drive.specs.Load.{AreAnswered}
 use Rattle.store_drive.proofs.feeder.feed_all.Given as goal
 
 -- what the batches so far were answered with

@@ -1,5 +1,4 @@
-use Rattle.std.proofs.Common.{◌≡◌}
-use Rattle.std.specs.{Prelude.map, List.range_with_len}
+use Rattle.std.{proofs.Common.◌≡◌, specs.{Prelude.map, List.range_with_len}}
 use Rattle.store_drive.specs.Load.{operation_at}
 use Rattle.store_drive.proofs.load.batch_of.Given as goal
 

@@ -1,6 +1,5 @@
-use Rattle.std.proofs.Common.{◌≡◌, ◌∷◌, ◌++◌, ◌+◌, [], ℕ, List, take, ap, ap₂, sym, ◌∙◌, arith}
-use Rattle.std.proofs.lemmas.List.{map-append, take_more}
-use Rattle.std.specs.declared.{sync.Arc.Arc, alloc.Global.Global}
+use Rattle.std.proofs.{Common.{◌≡◌, ◌∷◌, ◌++◌, ◌+◌, [], ℕ, List, take, ap, ap₂, sym, ◌∙◌, arith}, lemmas.List.map-append}
+use Rattle.std.{proofs.lemmas.List.take_more, specs.declared.{sync.Arc.Arc, alloc.Global.Global}}
 use Rattle.edge_block.specs.{Slots.BlockView, declared.blocks.Block.Block}
 use Rattle.batch_shards.specs.RowBlocks.{block_of, numbers_of}
 use Rattle.stream_store.proofs.applying.numbers_in.Goals as goal

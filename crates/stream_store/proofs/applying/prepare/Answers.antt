@@ -1,5 +1,4 @@
-use Rattle.std.proofs.Common.{◌≡◌, ◌+◌, ℕ, length, List, sym, subst, ◌∙◌}
-use Rattle.std.{specs.Arc.arc_value, proofs.lemmas.Result.IfOk-weaker}
+use Rattle.std.{proofs.{Common.{◌≡◌, ◌+◌, ℕ, length, List, sym, subst, ◌∙◌}, lemmas.Result.IfOk-weaker}, specs.Arc.arc_value}
 use Rattle.graph_types.specs.declared.batches.{Batch.Batch, NamedOp.NamedOp}
 use Rattle.graph_version.specs.{Rows.row_of, Versions.content, Versions.VersionView}
 use Rattle.batch_shards.specs.RowBlocks.{numbers_of}

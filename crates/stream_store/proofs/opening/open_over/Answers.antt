@@ -1,5 +1,4 @@
-use Rattle.std.proofs.Common.{ℕ, ap, sym, subst, ◌∙◌, All}
-use Rattle.std.specs.Arc.{arc_value}
+use Rattle.std.{proofs.Common.{ℕ, ap, sym, subst, ◌∙◌, All}, specs.Arc.arc_value}
 use Rattle.logbook.specs.Pages.{Book}
 use Rattle.graph_version.specs.declared.versions.Version.{Version}
 use Rattle.batch_apply.proofs.Names.{err_then}

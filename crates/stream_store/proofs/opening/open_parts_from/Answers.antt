@@ -1,5 +1,4 @@
-use Rattle.std.proofs.{Common.ap, Common.rules, Common.subst, Common.sym, lemmas.Result.IfOk-weaker}
-use Rattle.std.specs.Arc.{arc_value}
+use Rattle.std.{proofs.{Common.{ap, rules, subst, sym}, lemmas.Result.IfOk-weaker}, specs.Arc.arc_value}
 use Rattle.graph_version.specs.{declared.versions.Version.Version, Rebased.IsRebased}
 use Rattle.stream_store.specs.Kept.{DeskState}
 use Rattle.stream_store.proofs.opening.open_parts_from.Goals as goal

@@ -1,5 +1,4 @@
-use Rattle.std.proofs.Common.{◌≡◌, ◌+◌, ◌≤◌, ◌++◌, map, length, vec_len}
-use Rattle.std.specs.List.{range_with_len}
+use Rattle.std.{proofs.Common.{◌≡◌, ◌+◌, ◌≤◌, ◌++◌, map, length, vec_len}, specs.List.range_with_len}
 use Rattle.stream_store.specs.Seats.{SeatView}
 use Rattle.stream_store.proofs.opening.seats_of.Given as goal
 

@@ -1,5 +1,4 @@
-use Rattle.std.proofs.Common.{◌≡◌, map, length, refl, sym, ap, subst, ◌∙◌, arith, All}
-use Rattle.std.proofs.lemmas.List.{length-map}
+use Rattle.std.proofs.{Common.{◌≡◌, map, length, refl, sym, ap, subst, ◌∙◌, arith, All}, lemmas.List.length-map}
 use Rattle.graph_version.specs.Versions.{VersionView}
 use Rattle.stream_store.{specs.Seats.SeatView, specs.Seats.HasSeen, proofs.Seated.new_seats}
 use Rattle.stream_store.proofs.opening.shelf_and_seats.Goals as goal

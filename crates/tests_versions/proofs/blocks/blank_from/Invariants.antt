@@ -1,5 +1,4 @@
-use Rattle.std.proofs.Common.{◌≡◌}
-use Rattle.std.specs.List.{range_with_len}
+use Rattle.std.{proofs.Common.◌≡◌, specs.List.range_with_len}
 use Rattle.batch_shards.specs.RowBlocks.{numbers_of}
 use Rattle.tests_versions.proofs.blocks.blank_from.Given as goal
 

@@ -1,5 +1,4 @@
-use Rattle.std.proofs.Common.{◌≡◌, take}
-use Rattle.std.specs.Prelude.{zip}
+use Rattle.std.{proofs.Common.{◌≡◌, take}, specs.Prelude.zip}
 use Rattle.graph_types.specs.Answer.{names_of}
 use Rattle.graph_levels.specs.Vertices.{numbers_of}
 use Rattle.version_answers.proofs.naming.name_labels.Given as goal

@@ -1,5 +1,4 @@
-use Rattle.std.proofs.Common.{◌<◌, ◌∙◌, length, ap, arith}
-use Rattle.std.specs.List.{filter_map}
+use Rattle.std.{proofs.Common.{◌<◌, ◌∙◌, length, ap, arith}, specs.List.filter_map}
 use Rattle.graph_types.specs.Answer.{level_row}
 use Rattle.version_answers.proofs.NamedRows.{level_rows_more, rows_all}
 use Rattle.version_answers.proofs.naming.name_levels.Goals as goal

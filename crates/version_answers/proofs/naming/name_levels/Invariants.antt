@@ -1,5 +1,4 @@
-use Rattle.std.proofs.Common.{◌≡◌, take}
-use Rattle.std.specs.{Prelude.zip, List.filter_map}
+use Rattle.std.{proofs.Common.{◌≡◌, take}, specs.{Prelude.zip, List.filter_map}}
 use Rattle.graph_types.specs.Answer.{level_row}
 use Rattle.version_answers.proofs.naming.name_levels.Given as goal
 

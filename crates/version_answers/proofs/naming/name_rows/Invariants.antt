@@ -1,5 +1,4 @@
-use Rattle.std.proofs.Common.{◌≡◌, take}
-use Rattle.std.specs.Prelude.{zip}
+use Rattle.std.{proofs.Common.{◌≡◌, take}, specs.Prelude.zip}
 use Rattle.version_answers.proofs.naming.name_rows.Given as goal
 
 abbrev pub invariant-loop-vertex : goal.invariant-loop-vertex

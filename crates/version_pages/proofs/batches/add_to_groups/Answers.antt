@@ -1,9 +1,7 @@
-use Rattle.std.proofs.Common.{◌≡◌, ◌∙◌, ◌∷◌, ◌/◌, ◌%◌, [], ap, inl, inr, length, rules, arith}
+use Rattle.std.proofs.{Common.{◌≡◌, ◌∙◌, ◌∷◌, ◌/◌, ◌%◌, [], ap, inl, inr, length, rules, arith}, lemmas.Result.IfErr-at_err}
 use Rattle.std.specs.{Result.IsOk, declared.sync.Arc.Arc, declared.alloc.Global.Global}
-use Rattle.std.proofs.lemmas.Result.{IfErr-at_err}
 use Rattle.version_pages.specs.{Batches.batch_value, BatchGroups.in_group, declared.batch_group.BatchGroup.BatchGroup}
-use Rattle.list_pieces.proofs.Pieces.{last_place, last_room, push_piece, pushed_last, same_last}
-use Rattle.list_pieces.proofs.Shown.{always-OnErr}
+use Rattle.list_pieces.proofs.{Pieces.{last_place, last_room, push_piece, pushed_last, same_last}, Shown.always-OnErr}
 use Rattle.version_pages.proofs.batches.add_to_groups.Goals as goal
 
 pub returns-then-len-eq0-clause-groups : goal.returns-then-len-eq0-clause-groups

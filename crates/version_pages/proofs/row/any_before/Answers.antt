@@ -1,6 +1,5 @@
-use Rattle.std.proofs.Common.{ℕ, List, sym, ap, ◌∙◌, arith}
+use Rattle.std.proofs.{Common.{ℕ, List, sym, ap, ◌∙◌, arith}, lemmas.List.{get_or-map, length-map, Folds.list_any_at}}
 use Rattle.std.specs.declared.{sync.Arc.Arc, alloc.Global.Global}
-use Rattle.std.proofs.lemmas.List.{get_or-map, length-map, Folds.list_any_at}
 use Rattle.edge_block.specs.{Slots.BlockView, Slots.has_before, declared.blocks.Block.Block}
 use Rattle.version_pages.specs.Sharing.{block_value, block_values}
 use Rattle.version_pages.proofs.row.any_before.Goals as goal

@@ -1,5 +1,4 @@
-use Rattle.std.proofs.Common.{sym, ◌∙◌, arith}
-use Rattle.std.proofs.lemmas.Bool.{le-ltb}
+use Rattle.std.proofs.{Common.{sym, ◌∙◌, arith}, lemmas.Bool.le-ltb}
 use Rattle.edge_block.proofs.Expiring.{bounds_tell, bare_tells}
 use Rattle.version_pages.proofs.row.block_since.Goals as goal
 

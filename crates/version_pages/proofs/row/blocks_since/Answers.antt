@@ -1,6 +1,5 @@
-use Rattle.std.proofs.Common.{◌≡◌, ℕ, List, false, sym, subst, ap, ◌∙◌, arith, All}
+use Rattle.std.proofs.{Common.{◌≡◌, ℕ, List, false, sym, subst, ap, ◌∙◌, arith, All}, lemmas.List.take_all}
 use Rattle.std.specs.declared.{sync.Arc.Arc, alloc.Global.Global}
-use Rattle.std.proofs.lemmas.List.{take_all}
 use Rattle.edge_block.specs.{Slots.BlockView, Slots.has_before, declared.blocks.Block.Block}
 use Rattle.version_pages.specs.Sharing.{block_value, block_values}
 use Rattle.version_pages.proofs.Ages.{bounded_more, bounded_row, earlier_block, row_before_zero}

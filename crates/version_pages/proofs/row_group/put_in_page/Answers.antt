@@ -1,9 +1,8 @@
-use Rattle.std.proofs.Common.{◌≡◌, ◌∙◌, ◌/◌, ◌%◌, inl, inr, ap, List, set, get_or, rules, arith}
+use Rattle.std.proofs.{Common.{◌≡◌, ◌∙◌, ◌/◌, ◌%◌, inl, inr, ap, List, set, get_or, rules, arith}, lemmas.Result.on_ok_weaker}
 use Rattle.std.specs.{Result.IsOk, declared.sync.Arc.Arc, declared.alloc.Global.Global}
 use Rattle.edge_block.specs.Slots.{BlockView}
 use Rattle.version_pages.specs.{RowPages.in_page, declared.row_page.Page.Page}
 use Rattle.list_pieces.proofs.Full.{set_piece}
-use Rattle.std.proofs.lemmas.Result.{on_ok_weaker}
 use Rattle.version_pages.proofs.row_group.put_in_page.Goals as goal
 
 pub returns-clause-rows : goal.returns-clause-rows

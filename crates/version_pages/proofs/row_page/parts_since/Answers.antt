@@ -1,6 +1,5 @@
-use Rattle.std.proofs.Common.{ℕ, List, subst, ap, ◌∙◌, arith, All}
+use Rattle.std.proofs.{Common.{ℕ, List, subst, ap, ◌∙◌, arith, All}, lemmas.List.take_all}
 use Rattle.std.specs.declared.{sync.Arc.Arc, alloc.Global.Global}
-use Rattle.std.proofs.lemmas.List.{take_all}
 use Rattle.edge_block.specs.Slots.{BlockView}
 use Rattle.version_pages.specs.{Ages.AreSince, Parts.in_part, declared.row_page.Part.Part}
 use Rattle.version_pages.proofs.Ages.{bounded_more, bounded_pieces, earlier_rows}

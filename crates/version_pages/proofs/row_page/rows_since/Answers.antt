@@ -1,8 +1,6 @@
-use Rattle.std.proofs.Common.{◌≡◌, ℕ, List, false, subst, sym, ap, ◌∙◌, arith}
-use Rattle.std.proofs.lemmas.List.{take_all}
+use Rattle.std.proofs.{Common.{◌≡◌, ℕ, List, false, subst, sym, ap, ◌∙◌, arith}, lemmas.List.take_all}
 use Rattle.edge_block.specs.Slots.{BlockView}
-use Rattle.version_pages.specs.Ages.{AreSince, is_old_row}
-use Rattle.version_pages.proofs.Ages.{bounded_more, earlier_row}
+use Rattle.version_pages.{specs.Ages.{AreSince, is_old_row}, proofs.Ages.{bounded_more, earlier_row}}
 use Rattle.version_pages.proofs.row_page.rows_since.Goals as goal
 
 pub loop-row-preserved : goal.loop-row-preserved

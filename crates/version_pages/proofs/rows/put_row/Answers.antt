@@ -2,8 +2,7 @@ use Rattle.std.proofs.Common.{◌≡◌, ◌∙◌, ◌+◌, ◌/◌, ◌%◌, �
 use Rattle.std.proofs.{Common.if◌then◌else◌, lemmas.Result.on_ok_weaker}
 use Rattle.std.specs.{Result.IsOk, declared.sync.Arc.Arc, declared.alloc.Global.Global}
 use Rattle.edge_block.specs.Slots.{BlockView}
-use Rattle.version_pages.specs.{Rows.row_of, RowGroups.in_group, RowGroups.in_groups}
-use Rattle.version_pages.specs.{declared.row_group.Group.Group}
+use Rattle.version_pages.specs.{Rows.row_of, RowGroups.{in_group, in_groups}, declared.row_group.Group.Group}
 use Rattle.list_pieces.proofs.Full.{long, set_piece, set_look_up}
 use Rattle.version_pages.proofs.rows.put_row.Goals as goal
 

@@ -1,6 +1,5 @@
 use Rattle.std.proofs.Common.{refl, sym, subst, ◌∙◌, IfSome, Option}
-use Rattle.version_shelf.specs.Shelves.{ToldView, Begins, IsOfOneShelf}
-use Rattle.version_shelf.proofs.Steps.{turns, begins_self, copy_of_one_shelf}
+use Rattle.version_shelf.{specs.Shelves.{ToldView, Begins, IsOfOneShelf}, proofs.Steps.{turns, begins_self, copy_of_one_shelf}}
 use Rattle.version_shelf.proofs.readers.glance.Goals as goal
 
 pub enter_as-requires : goal.enter_as-requires

@@ -1,7 +1,5 @@
 use Rattle.std.proofs.Common.{sym, subst, ◌∙◌, arith}
-use Rattle.version_shelf.specs.Shelves.{ToldView, Begins}
-use Rattle.version_shelf.proofs.Steps.{begins_self}
-use Rattle.version_shelf.proofs.Showing.{nothing_seen}
+use Rattle.version_shelf.{specs.Shelves.{ToldView, Begins}, proofs.{Steps.begins_self, Showing.nothing_seen}}
 use Rattle.version_shelf.proofs.writers.opened.Goals as goal
 
 pub new-requires-clause-readers : goal.new-requires-clause-readers

@@ -1,7 +1,6 @@
 use Rattle.std.proofs.Common.{arith, ◌≡◌, ◌+◌, List, [], ◌∷◌, All, length, length-append, refl, sym, ap, subst, ◌∙◌}
 use Rattle.std.proofs.lemmas.List.Elements.{All-nil}
-use Rattle.version_shelf.specs.Shelves.{ToldView}
-use Rattle.version_shelf.proofs.Openings.{all_same_more}
+use Rattle.version_shelf.{specs.Shelves.ToldView, proofs.Openings.all_same_more}
 use Rattle.version_shelf.proofs.writers.readers_of.Goals as goal
 
 -- Its search is long where it fails.

@@ -1,10 +1,8 @@
 use Rattle.std.proofs.Common.{◌≡◌, ◌∙◌, ℕ, List, ap, inl, inr, get_or, rules, ◌<◌, length, arith, if◌then◌else◌, nat_eq, Some}
-use Rattle.std.proofs.{Common.map, Common.set, Math.Seq.map-set_same}
+use Rattle.std.proofs.{Common.{map, set}, Math.Seq.map-set_same, lemmas.Result.{IfErr-at_err, on_ok_weaker, on_err_weaker}}
 use Rattle.std.specs.{Arc.arc_value, Result.IsOk, declared.sync.Arc.Arc, declared.alloc.Global.Global}
-use Rattle.vertex_names.specs.{declared.part.Part.Part, Order.found_in, Index.found_at}
-use Rattle.std.proofs.lemmas.Result.{IfErr-at_err, on_ok_weaker, on_err_weaker}
+use Rattle.vertex_names.{specs.{declared.part.Part.Part, Order.found_in, Index.found_at}, proofs.Parts.{put_part, same_part}}
 use Rattle.list_pieces.proofs.Shown.{always-OnErr}
-use Rattle.vertex_names.proofs.Parts.{put_part, same_part}
 use Rattle.vertex_names.proofs.index.put_in.Goals as goal
 
 abbrev shown : Arc Part Global → List (ℕ × List (ℕ × ℕ))

@@ -1,7 +1,6 @@
-use Rattle.std.proofs.Common.{◌≡◌, ◌∙◌, ◌<◌, ℕ, List, length, sym, ap}
+use Rattle.std.proofs.{Common.{◌≡◌, ◌∙◌, ◌<◌, ℕ, List, length, sym, ap}, lemmas.Result.{on_ok_weaker, on_err_weaker}}
 use Rattle.std.specs.declared.{sync.Arc.Arc, alloc.Global.Global}
 use Rattle.vertex_names.specs.{declared.piece.Piece.Piece, Order.firsts, Order.last_place}
-use Rattle.std.proofs.lemmas.Result.{on_ok_weaker, on_err_weaker}
 use Rattle.vertex_names.proofs.Splits.{set_lows, set_put, set_kept}
 use Rattle.vertex_names.proofs.part.put_at.Goals as goal
 

@@ -1,6 +1,5 @@
 use Rattle.std.proofs.Common.{sym}
-use Rattle.vertex_names.specs.Order.{firsts}
-use Rattle.vertex_names.proofs.{Places.bounds-all, Entries.firsts_long}
+use Rattle.vertex_names.{specs.Order.firsts, proofs.{Places.bounds-all, Entries.firsts_long}}
 use Rattle.vertex_names.proofs.piece.last_at.Goals as goal
 
 pub narrowed-low-requires-clause-bounds : goal.narrowed-low-requires-clause-bounds

@@ -1,6 +1,5 @@
 use Rattle.std.proofs.Common.{◌≡◌, ◌≤◌, ◌<◌, ◌+◌, ◌-◌, ◌/◌, ℕ, suc, length, get_or, ap, arith}
-use Rattle.vertex_names.specs.Order.{firsts}
-use Rattle.vertex_names.proofs.{Places.place_up, Places.place_down, Entries.firsts_long, Entries.first_at}
+use Rattle.vertex_names.{specs.Order.firsts, proofs.{Places.{place_up, place_down}, Entries.{firsts_long, first_at}}}
 use Rattle.vertex_names.proofs.piece.last_between.Goals as goal
 
 pub loop-end-init : goal.loop-end-init

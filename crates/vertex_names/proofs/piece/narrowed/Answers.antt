@@ -1,6 +1,5 @@
 use Rattle.std.proofs.Common.{◌≤◌, ◌<◌, length, arith}
-use Rattle.vertex_names.specs.Order.{firsts}
-use Rattle.vertex_names.proofs.{Places.bounds-up, Places.bounds-down, Entries.firsts_long, Entries.first_at}
+use Rattle.vertex_names.{specs.Order.firsts, proofs.{Places.{bounds-up, bounds-down}, Entries.{firsts_long, first_at}}}
 use Rattle.vertex_names.proofs.piece.narrowed.Goals as goal
 
 pub returns-then-pairs-place-clause-bounds : goal.returns-then-pairs-place-clause-bounds

@@ -1,6 +1,5 @@
-use Rattle.std.proofs.Common.{◌≡◌, ◌∙◌, ◌∷◌, ◌/◌, ◌%◌, [], ap, inl, inr, length, rules, arith}
+use Rattle.std.proofs.{Common.{◌≡◌, ◌∙◌, ◌∷◌, ◌/◌, ◌%◌, [], ap, inl, inr, length, rules, arith}, lemmas.Result.IfErr-at_err}
 use Rattle.std.specs.{Result.IsOk, declared.sync.Arc.Arc, declared.alloc.Global.Global}
-use Rattle.std.proofs.lemmas.Result.{IfErr-at_err}
 use Rattle.vertex_names.specs.{Texts.names_in, declared.texts.Chunk.Chunk}
 use Rattle.list_pieces.proofs.{Pieces.last_place, Pieces.push_piece, Pieces.pushed_last, Pieces.same_last, Shown.always-OnErr}
 use Rattle.vertex_names.proofs.texts.add_text.Goals as goal

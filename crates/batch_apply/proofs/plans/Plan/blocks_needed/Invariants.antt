@@ -1,5 +1,4 @@
-use Rattle.std.proofs.Common.{◌≡◌, ◌-◌, ◌^◌, min, take}
-use Rattle.std.specs.List.{sum_by}
+use Rattle.std.{proofs.Common.{◌≡◌, ◌-◌, ◌^◌, min, take}, specs.List.sum_by}
 use Rattle.batch_apply.proofs.plans.Plan.blocks_needed.Given as goal
 
 abbrev pub invariant-loop-need : goal.invariant-loop-need

@@ -1,9 +1,7 @@
 use Rattle.std.proofs.Common.{List, Option, None, true, ◌≡◌, ◌∙◌, ℕ, length, take, replicate, count_by, sym, ap, subst, arith}
 use Rattle.std.proofs.lemmas.List.{length-replicate, take_all}
-use Rattle.block_pool.specs.Stacks.{Stacks}
-use Rattle.block_pool.specs.Kept.{Lists, IsSorted}
-use Rattle.block_reclamation.specs.declared.status.BlockStatus.TheVariants.{Free}
-use Rattle.block_reclamation.specs.Status.{is_free, is_retired}
+use Rattle.block_pool.specs.{Chains.Stacks, Kept.{Lists, IsSorted}}
+use Rattle.block_reclamation.specs.{declared.status.BlockStatus.TheVariants.Free, Status.{is_free, is_retired}}
 use Rattle.block_pool.proofs.{Tallies.none_retired, Tallies.tally_true, Stacking.sorted_first}
 use Rattle.block_pool.proofs.numbers.Numbers.all_free.Goals as goal
 

@@ -1,9 +1,6 @@
-use Rattle.std.proofs.Common.{◌∙◌, sym, refl, take, arith}
-use Rattle.std.proofs.Math.ListN.{length-set}
-use Rattle.block_reclamation.specs.declared.status.BlockStatus.TheVariants.{Used}
-use Rattle.block_reclamation.specs.Status.{is_free, is_retired}
-use Rattle.block_pool.specs.Kept.{statuses}
-use Rattle.block_pool.proofs.{Tallies.lists_same, Tallies.used_at, Tallies.count_kept, Stacking.sorted_set}
+use Rattle.std.proofs.{Common.{◌∙◌, sym, refl, take, arith}, Math.ListN.length-set}
+use Rattle.block_reclamation.specs.{declared.status.BlockStatus.TheVariants.Used, Status.{is_free, is_retired}}
+use Rattle.block_pool.{specs.Kept.statuses, proofs.{Tallies.{lists_same, used_at, count_kept}, Stacking.sorted_set}}
 use Rattle.block_pool.proofs.numbers.Numbers.born.Goals as goal
 
 pub returns-clause-kept : goal.returns-clause-kept

@@ -1,7 +1,6 @@
 use Rattle.std.proofs.Common.{◌∙◌, ◌+◌, ◌<◌, length, set, sym, subst, refl, take, arith, length-take}
 use Rattle.std.proofs.{Math.ListN.length-set, lemmas.List.take_more_set}
-use Rattle.block_reclamation.specs.declared.status.BlockStatus.TheVariants.{Free}
-use Rattle.block_reclamation.specs.Status.{is_free, is_retired}
+use Rattle.block_reclamation.specs.{declared.status.BlockStatus.TheVariants.Free, Status.{is_free, is_retired}}
 use Rattle.block_pool.specs.Kept.{statuses, Lists}
 use Rattle.block_pool.proofs.{Tallies.lists_more, Tallies.lists_room, Tallies.used_at, Tallies.count_kept, Stacking.sorted_set}
 use Rattle.block_pool.proofs.numbers.Numbers.give_back.Goals as goal

@@ -1,6 +1,5 @@
 use Rattle.std.proofs.Common.{◌∙◌, List, ℕ, length, ap, arith}
-use Rattle.block_pool.specs.Stacks.{stack_of}
-use Rattle.block_pool.{specs.declared.numbers.TheConstants.LOOSE, proofs.Stacking.shorter_moved, proofs.Stacking.no_number}
+use Rattle.block_pool.{specs.{Chains.stack_of, declared.numbers.TheConstants.LOOSE}, proofs.Stacking.{shorter_moved, no_number}}
 use Rattle.block_pool.proofs.numbers.Numbers.loosen.Goals as goal
 
 pub height-requires : goal.height-requires

@@ -1,6 +1,5 @@
 use Rattle.std.proofs.Common.{◌≡◌, length}
-use Rattle.block_pool.specs.Stacks.{stack_of}
-use Rattle.block_pool.specs.Kept.{IsNumbers, IsSame}
+use Rattle.block_pool.specs.{Chains.stack_of, Kept.{IsNumbers, IsSame}}
 use Rattle.block_pool.proofs.numbers.Numbers.loosen.Given as goal
 
 abbrev pub invariant-loosen : goal.invariant-loosen

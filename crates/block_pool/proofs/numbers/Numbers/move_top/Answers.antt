@@ -1,8 +1,6 @@
-use Rattle.std.proofs.Common.{length, ◌≡◌, ◌∙◌, ℕ, List, sym, ap, ap₂, subst, arith}
-use Rattle.std.proofs.Math.ListN.{length-set}
-use Rattle.block_pool.specs.Stacks.{Stacks, stack_of, below_top, AreAbsent}
-use Rattle.block_pool.specs.Kept.{statuses, IsSorted, top_of, put_on, taken_off, moved}
-use Rattle.block_pool.proofs.Stacking.{top_listed, top_absent, top_room, sorted_moved}
+use Rattle.std.proofs.{Common.{length, ◌≡◌, ◌∙◌, ℕ, List, sym, ap, ap₂, subst, arith}, Math.ListN.length-set}
+use Rattle.block_pool.specs.{Chains.{Stacks, stack_of, below_top, AreAbsent}, Kept.{statuses, IsSorted, top_of, put_on}}
+use Rattle.block_pool.{specs.Kept.{taken_off, moved}, proofs.Stacking.{top_listed, top_absent, top_room, sorted_moved}}
 use Rattle.block_pool.proofs.numbers.Numbers.move_top.Goals as goal
 
 pub top-number-requires : goal.top-number-requires

@@ -1,11 +1,8 @@
 use Rattle.std.proofs.Common.{◌≡◌, ◌∙◌, ◌+◌, ◌<◌, ℕ, length, get_or, set, count_by, sym, ap, subst, refl, take, arith}
-use Rattle.std.proofs.{Common.length-take, Common.true, Math.ListN.length-set}
-use Rattle.std.proofs.lemmas.List.{get_or_read}
-use Rattle.block_pool.specs.Stacks.{Stacks, stack_of}
-use Rattle.block_pool.specs.declared.numbers.{Numbers.Numbers, TheConstants.LOOSE}
-use Rattle.block_reclamation.specs.declared.status.BlockStatus.TheVariants.{Free, Granted}
-use Rattle.block_reclamation.specs.Status.{is_free, is_retired}
-use Rattle.block_pool.specs.Kept.{statuses, status_of, IsNumbers, IsSorted, top_of, taken_off}
+use Rattle.std.proofs.{Common.{length-take, true}, Math.ListN.length-set, lemmas.List.get_or_read}
+use Rattle.block_pool.specs.{Chains.{Stacks, stack_of}, declared.numbers.{Numbers.Numbers, TheConstants.LOOSE}, Kept.statuses}
+use Rattle.block_pool.specs.Kept.{status_of, IsNumbers, IsSorted, top_of, taken_off}
+use Rattle.block_reclamation.specs.{declared.status.BlockStatus.TheVariants.{Free, Granted}, Status.{is_free, is_retired}}
 use Rattle.block_pool.proofs.Tallies.{lists_more, lists_room, count_at, count_here, retired_not_free}
 use Rattle.block_pool.proofs.{Grants.placed, Stacking.top_listed, Stacking.sorted_freed}
 use Rattle.block_pool.proofs.numbers.Numbers.release_top.Goals as goal

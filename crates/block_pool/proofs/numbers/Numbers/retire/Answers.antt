@@ -1,14 +1,10 @@
 use Rattle.std.proofs.Common.{◌≡◌, ◌∙◌, count_by, ◌<◌, length, set, sym, ap, subst, refl, take, arith, false}
 use Rattle.std.proofs.Math.ListN.{length-set}
-use Rattle.block_pool.specs.declared.numbers.TheConstants.{LOOSE}
-use Rattle.block_reclamation.specs.declared.status.BlockStatus.{BlockStatus}
-use Rattle.block_reclamation.specs.declared.status.BlockStatus.TheVariants.{Granted, Retired}
-use Rattle.block_reclamation.specs.Status.{is_free, is_retired}
-use Rattle.block_pool.specs.Pools.{retired}
-use Rattle.block_pool.specs.Kept.{statuses, status_of, Lists}
+use Rattle.block_pool.specs.{declared.numbers.TheConstants.LOOSE, Pools.retired, Kept.{statuses, status_of, Lists}}
+use Rattle.block_reclamation.specs.{declared.status.BlockStatus.{BlockStatus, TheVariants.{Granted, Retired}}, Status.is_free}
+use Rattle.block_reclamation.specs.Status.{is_retired}
 use Rattle.block_pool.{specs.Kept.IsSorted, proofs.Tallies.lists_same, proofs.Tallies.born_at, proofs.Tallies.count_here}
-use Rattle.block_pool.proofs.Stacking.{absent, room, sorted_retired}
-use Rattle.block_pool.proofs.StatusReads.{status_read}
+use Rattle.block_pool.proofs.{Stacking.{absent, room, sorted_retired}, StatusReads.status_read}
 use Rattle.block_pool.proofs.numbers.Numbers.retire.Goals as goal
 
 pub push-requires : goal.push-requires

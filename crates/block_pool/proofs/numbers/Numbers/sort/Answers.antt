@@ -1,8 +1,5 @@
-use Rattle.std.proofs.Common.{◌∙◌, sym, subst, refl, arith}
-use Rattle.std.proofs.lemmas.List.{Sums.count_by-le-length}
-use Rattle.block_pool.specs.Stacks.{stack_of}
-use Rattle.block_pool.specs.declared.numbers.TheConstants.{LOOSE}
-use Rattle.block_pool.specs.Kept.{statuses, HasPins}
+use Rattle.std.proofs.{Common.{◌∙◌, sym, subst, refl, arith}, lemmas.List.Sums.count_by-le-length}
+use Rattle.block_pool.specs.{Chains.stack_of, declared.numbers.TheConstants.LOOSE, Kept.{statuses, HasPins}}
 use Rattle.block_reclamation.specs.Status.{is_reclaimable}
 use Rattle.block_pool.proofs.{Tallies.none_past, Stacking.all_sorted, Stacking.no_number}
 use Rattle.block_pool.proofs.numbers.Numbers.sort.Goals as goal

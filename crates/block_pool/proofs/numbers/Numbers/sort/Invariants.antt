@@ -1,7 +1,6 @@
 use Rattle.std.proofs.Common.{◌≡◌, ◌≤◌, ◌+◌, map, count_by, length}
-use Rattle.block_pool.specs.Stacks.{stack_of}
-use Rattle.block_pool.specs.declared.numbers.TheConstants.{LOOSE, LATE}
-use Rattle.block_pool.specs.Kept.{statuses, AreNeeded, HasPins, IsNumbers}
+use Rattle.block_pool.specs.{Chains.stack_of, declared.numbers.TheConstants.{LOOSE, LATE}, Kept.{statuses, AreNeeded, HasPins}}
+use Rattle.block_pool.specs.Kept.{IsNumbers}
 use Rattle.block_reclamation.specs.Status.{recycled, is_reclaimable}
 use Rattle.block_pool.proofs.numbers.Numbers.sort.Given as goal
 

@@ -1,8 +1,6 @@
 use Rattle.std.proofs.Common.{◌≡◌, ◌∙◌, ℕ, map, count_by, true, sym, ap, subst, arith}
-use Rattle.block_pool.specs.Stacks.{stack_of}
-use Rattle.block_pool.specs.declared.numbers.TheConstants.{LOOSE, LATE}
+use Rattle.block_pool.specs.{Chains.stack_of, declared.numbers.TheConstants.{LOOSE, LATE}, Kept.{statuses, status_of}}
 use Rattle.block_reclamation.specs.declared.status.BlockStatus.TheVariants.{Retired}
-use Rattle.block_pool.specs.Kept.{statuses, status_of}
 use Rattle.block_reclamation.specs.Status.{is_retired, is_reclaimable, recycled}
 use Rattle.block_pool.{specs.Kept.AreNeeded, specs.Kept.top_of, proofs.Tallies.recycled_set, proofs.Tallies.past_set}
 use Rattle.block_pool.proofs.{Needs.pinned, Needs.later, Needs.kept_back, Needs.due, Stacking.top_listed, Stacking.needed_moved}

@@ -1,8 +1,6 @@
 use Rattle.std.proofs.Common.{◌∙◌, ◌-◌, ℕ, List, sym, ap, arith}
-use Rattle.block_pool.specs.Pools.{marked}
-use Rattle.block_pool.specs.Kept.{statuses, popped}
+use Rattle.block_pool.{specs.{Pools.marked, Kept.{statuses, popped}}, proofs.Grants.{popped_more, popped_none}}
 use Rattle.block_reclamation.specs.declared.status.BlockStatus.TheVariants.{Granted}
-use Rattle.block_pool.proofs.Grants.{popped_more, popped_none}
 use Rattle.block_pool.proofs.numbers.Numbers.use_last.Goals as goal
 
 pub use_one-requires-clause-kept : goal.use_one-requires-clause-kept

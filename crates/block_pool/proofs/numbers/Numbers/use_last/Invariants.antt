@@ -1,6 +1,5 @@
 use Rattle.std.proofs.Common.{◌≡◌, ◌≤◌}
-use Rattle.block_pool.specs.Pools.{marked}
-use Rattle.block_pool.specs.Kept.{statuses, popped, IsNumbers}
+use Rattle.block_pool.specs.{Pools.marked, Kept.{statuses, popped, IsNumbers}}
 use Rattle.block_reclamation.specs.declared.status.BlockStatus.TheVariants.{Granted}
 use Rattle.block_pool.proofs.numbers.Numbers.use_last.Given as goal
 

@@ -1,11 +1,8 @@
-use Rattle.std.proofs.Common.{◌≡◌, ◌∙◌, ◌+◌, ◌<◌, ℕ, length, get_or, set, count_by, cond, ◌-◌, sym, ap, refl, take, arith}
-use Rattle.std.proofs.{Common.true, Math.ListN.length-set}
-use Rattle.std.proofs.lemmas.List.{get_or_read, take_more}
+use Rattle.std.proofs.Common.{◌≡◌, ◌∙◌, ◌+◌, ◌<◌, ℕ, length, get_or, set, count_by, cond, ◌-◌, sym, ap, refl, take, arith, true}
+use Rattle.std.proofs.{Math.ListN.length-set, lemmas.List.{get_or_read, take_more}}
 use Rattle.block_pool.specs.Kept.{statuses, status_of}
-use Rattle.block_reclamation.specs.declared.status.BlockStatus.TheVariants.{Granted}
-use Rattle.block_reclamation.specs.Status.{is_free, is_retired}
-use Rattle.block_pool.proofs.Tallies.{lists_less, listed_at}
-use Rattle.block_pool.proofs.{Tallies.count_last, Tallies.free_not_retired, Tallies.count_kept, Stacking.sorted_set}
+use Rattle.block_reclamation.specs.{declared.status.BlockStatus.TheVariants.Granted, Status.{is_free, is_retired}}
+use Rattle.block_pool.proofs.{Tallies.{lists_less, listed_at, count_last, free_not_retired, count_kept}, Stacking.sorted_set}
 use Rattle.block_pool.proofs.numbers.Numbers.use_one.Goals as goal
 
 pub index_mut-requires : goal.index_mut-requires

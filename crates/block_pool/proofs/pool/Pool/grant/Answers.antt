@@ -1,9 +1,6 @@
 use Rattle.std.proofs.Common.{◌≡◌, ℕ, ◌∙◌, ◌≤◌, length, sym, ap, subst, count_by, arith}
-use Rattle.block_pool.specs.Pools.{AreFree}
-use Rattle.block_pool.specs.Kept.{statuses, popped}
-use Rattle.block_reclamation.specs.declared.status.BlockStatus.TheVariants.{Granted}
-use Rattle.block_reclamation.specs.Status.{is_free}
-use Rattle.block_pool.specs.Bodies.{AreBodies}
+use Rattle.block_pool.specs.{Pools.{AreFree, AreBodies}, Kept.{statuses, popped}}
+use Rattle.block_reclamation.specs.{declared.status.BlockStatus.TheVariants.Granted, Status.is_free}
 use Rattle.block_pool.proofs.Grants.{free_listed, popped_free, length-popped, length-marked}
 use Rattle.block_pool.proofs.pool.Pool.grant.Goals as goal
 

@@ -1,7 +1,5 @@
-use Rattle.std.proofs.Common.{◌∙◌, ℕ, List, length, map, sym, ap, ap₂, subst, arith}
-use Rattle.std.proofs.lemmas.List.{length-replicate}
-use Rattle.block_pool.specs.{Stacks.Stacks, Chains.chain_of, Chains.AreWithin}
-use Rattle.block_pool.proofs.Links.{map_empty, empty_within}
+use Rattle.std.proofs.{Common.{◌∙◌, ℕ, List, length, map, sym, ap, ap₂, subst, arith}, lemmas.List.length-replicate}
+use Rattle.block_pool.{specs.Chains.{Stacks, chain_of, AreWithin}, proofs.Links.{map_empty, empty_within}}
 use Rattle.block_pool.proofs.stacks.LinkedStacks.new.Goals as goal
 
 pub invariant_of-result : goal.invariant_of-result

@@ -1,6 +1,5 @@
 use Rattle.std.proofs.Common.{◌∙◌, length, sym, ap, subst, arith}
-use Rattle.block_pool.specs.{Stacks.Stacks, Stacks.AreAbsent, Chains.chain_of}
-use Rattle.block_pool.proofs.Links.{shown, length-chain, pushed, pushed_within}
+use Rattle.block_pool.{specs.Chains.{Stacks, AreAbsent, chain_of}, proofs.Links.{shown, length-chain, pushed, pushed_within}}
 use Rattle.block_pool.proofs.stacks.LinkedStacks.push.Goals as goal
 
 pub overflow_add-old : goal.overflow_add-old

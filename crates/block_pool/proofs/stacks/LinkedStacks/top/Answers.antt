@@ -1,6 +1,5 @@
 use Rattle.std.proofs.Common.{◌∙◌, ◌∷◌, length, sym, ap, arith}
-use Rattle.block_pool.specs.{Stacks.below_top, Chains.chain_of}
-use Rattle.block_pool.proofs.Links.{shown, length-chain, chain_top}
+use Rattle.block_pool.{specs.Chains.{below_top, chain_of}, proofs.Links.{shown, length-chain, chain_top}}
 use Rattle.block_pool.proofs.stacks.LinkedStacks.top.Goals as goal
 
 pub returns : goal.returns

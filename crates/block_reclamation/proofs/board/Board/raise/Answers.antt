@@ -1,6 +1,5 @@
 use Rattle.std.proofs.Common.{ap, sym, subst, ◌∙◌}
-use Rattle.block_reclamation.specs.{Copies.floor_of, Board.IsLeast}
-use Rattle.block_reclamation.proofs.Copied.{floor_is_least}
+use Rattle.block_reclamation.{specs.{Copies.floor_of, Board.IsLeast}, proofs.Copied.floor_is_least}
 use Rattle.block_reclamation.proofs.board.Board.raise.Goals as goal
 
 pub invariant_of-self : goal.invariant_of-self

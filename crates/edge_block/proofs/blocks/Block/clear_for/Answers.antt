@@ -1,6 +1,5 @@
 use Rattle.std.proofs.Common.{arith, refl, replicate, []}
-use Rattle.edge_block.specs.Slots.{BlockView}
-use Rattle.edge_block.proofs.{Places.slots_of-none, KeptColumns.columns_none, KeptColumns.same_block}
+use Rattle.edge_block.{specs.Slots.BlockView, proofs.{Places.slots_of-none, KeptColumns.{columns_none, same_block}}}
 use Rattle.edge_block.proofs.blocks.Block.clear_for.Goals as goal
 
 pub invariant_of-self : goal.invariant_of-self

@@ -1,5 +1,4 @@
-use Rattle.std.proofs.Common.{◌≡◌, ◌+◌, ◌≤◌, length, refl, sym, ap, ◌∙◌, arith}
-use Rattle.std.proofs.lemmas.List.{length-map}
+use Rattle.std.proofs.{Common.{◌≡◌, ◌+◌, ◌≤◌, length, refl, sym, ap, ◌∙◌, arith}, lemmas.List.length-map}
 use Rattle.edge_block.specs.Slots.{BlockView, slot_since, slots_since, old_in, with_slots}
 use Rattle.edge_block.proofs.Expiring.{few_old, kept_taken, count_taken, none_old}
 use Rattle.edge_block.proofs.blocks.Block.expire.Goals as goal

@@ -1,6 +1,5 @@
-use Rattle.std.proofs.Common.{arith}
+use Rattle.std.{proofs.Common.arith, specs.declared.option.Option.TheVariants.{Some, None}}
 use Rattle.lane_scan.specs.Masks.{IsFirstPlaceOf}
-use Rattle.std.specs.declared.option.Option.TheVariants.{Some, None}
 use Rattle.edge_block.specs.{Slots.edge_slot, Slots.slot_at, Columns.slots_of}
 use Rattle.edge_block.proofs.{Firsts.first_some-by_any, KeptColumns.block_of_columns, Ranges.stamp_in_range}
 use Rattle.edge_block.proofs.Places.{length-slots_of, none_holds, found_at, not_free_at}

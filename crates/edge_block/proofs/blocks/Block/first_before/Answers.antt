@@ -1,6 +1,5 @@
 use Rattle.std.proofs.Common.{◌∙◌, sym, ap}
-use Rattle.edge_block.specs.Slots.{old_in}
-use Rattle.edge_block.proofs.Expiring.{old_stands, none_left, none_at_zero}
+use Rattle.edge_block.{specs.Slots.old_in, proofs.Expiring.{old_stands, none_left, none_at_zero}}
 use Rattle.edge_block.proofs.blocks.Block.first_before.Goals as goal
 
 pub returns-then-time-eq0-clause-edge : goal.returns-then-time-eq0-clause-edge

@@ -1,5 +1,4 @@
-use Rattle.std.proofs.Common.{◌≡◌, ◌∙◌, ◌++◌, ◌-◌, ◌^◌, ap, sym, arith, map, filter}
-use Rattle.std.specs.Int.RustNames.{bit_and}
+use Rattle.std.{proofs.Common.{◌≡◌, ◌∙◌, ◌++◌, ◌-◌, ◌^◌, ap, sym, arith, map, filter}, specs.Int.RustNames.bit_and}
 use Rattle.graph_types.specs.View.{in_view}
 use Rattle.lane_scan.specs.Masks.{selected}
 use Rattle.edge_block.specs.{Slots.edges_in, Slots.entries_of, Lending.edges_left}

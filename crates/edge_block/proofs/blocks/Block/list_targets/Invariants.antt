@@ -1,7 +1,6 @@
 use Rattle.std.proofs.Common.{◌≡◌, ◌++◌, map, filter}
 use Rattle.graph_types.specs.View.{in_view}
-use Rattle.edge_block.specs.{Slots.entries_of, Lending.edges_left}
-use Rattle.edge_block.proofs.Runs.{lent_targets}
+use Rattle.edge_block.{specs.{Slots.entries_of, Lending.edges_left}, proofs.Runs.lent_targets}
 use Rattle.edge_block.proofs.blocks.Block.list_targets.Given as goal
 
 abbrev pub invariant-loop-edge : goal.invariant-loop-edge

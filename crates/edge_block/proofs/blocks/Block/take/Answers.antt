@@ -1,8 +1,7 @@
 use Rattle.std.proofs.Common.{◌≡◌, false, ◌∙◌, ap, sym, arith, refl}
 use Rattle.std.specs.{List.list_any, declared.option.Option.TheVariants.None}
-use Rattle.edge_block.specs.Slots.{take_slot, holds}
-use Rattle.edge_block.proofs.{Firsts.at_first-none, Places.none_holds, Places.take_at, Times.times_taken}
-use Rattle.edge_block.proofs.KeptColumns.{after_take, columns_take, same_block}
+use Rattle.edge_block.{specs.Slots.{take_slot, holds}, proofs.{Firsts.at_first-none, Places.{none_holds, take_at}}}
+use Rattle.edge_block.proofs.{Times.times_taken, KeptColumns.{after_take, columns_take, same_block}}
 use Rattle.edge_block.proofs.blocks.Block.take.Goals as goal
 
 pub returns-in_default-clause-slots : goal.returns-in_default-clause-slots

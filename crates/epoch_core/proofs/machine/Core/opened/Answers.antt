@@ -1,6 +1,5 @@
 use Rattle.std.proofs.Common.{sym, subst, arith}
-use Rattle.epoch_core.specs.{Sound.IsCore, Worlds.IsStart}
-use Rattle.epoch_core.proofs.OpenedStart.{opened_is_start, opened_is_core}
+use Rattle.epoch_core.{specs.{Sound.IsCore, Worlds.IsStart}, proofs.OpenedStart.{opened_is_start, opened_is_core}}
 use Rattle.epoch_core.proofs.machine.Core.opened.Goals as goal
 
 pub invariant_of-result : goal.invariant_of-result

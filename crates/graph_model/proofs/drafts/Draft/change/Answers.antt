@@ -1,12 +1,9 @@
 -- The steps of the body are those of a change on plain lists.
-use Rattle.std.proofs.Common.{◌≡◌, ◌∙◌, length, ap, arith}
-use Rattle.std.specs.{Option.option_map, FinMap.get}
-use Rattle.graph_types.specs.{Graph.Key, Graph.graph_of, Graph.map_of, Step.number_of, Step.changed_key, Step.stamp_after}
-use Rattle.graph_types.specs.Changes.{option_stamp}
+use Rattle.std.{proofs.Common.{◌≡◌, ◌∙◌, length, ap, arith}, specs.{Option.option_map, FinMap.get}}
+use Rattle.graph_types.specs.{Graph.{Key, graph_of, map_of}, Step.{number_of, changed_key, stamp_after}, Changes.option_stamp}
 use Rattle.graph_types.proofs.NameNumbers.{number_at_most}
-use Rattle.graph_model.specs.Drafts.{shown_by, shown_key, edge_with}
-use Rattle.graph_model.proofs.OneOperation.{IsApplied, AreMarks-found, stamp_of-edge_with, IsAt-edge_with, graph_of-applied}
-use Rattle.graph_model.proofs.OneOperation.{IsContent-applied}
+use Rattle.graph_model.{specs.Drafts.{shown_by, shown_key, edge_with}, proofs.OneOperation.{IsApplied, AreMarks-found}}
+use Rattle.graph_model.proofs.OneOperation.{stamp_of-edge_with, IsAt-edge_with, graph_of-applied, IsContent-applied}
 use Rattle.graph_model.proofs.drafts.Draft.change.Goals as goal
 
 pub of-key-requires-clause-kind : goal.of-key-requires-clause-kind

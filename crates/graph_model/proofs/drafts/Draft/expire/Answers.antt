@@ -1,10 +1,8 @@
 -- The edges that stay show the map without the others, and the list is shorter by those that went.
 use Rattle.std.proofs.Common.{◌≡◌, ℕ, ◌+◌, ◌-◌, ◌≤◌, length, ap, sym, ◌∙◌, arith, subst}
-use Rattle.graph_types.specs.Graph.{Graph, content_of, graph_of, IsContent}
+use Rattle.graph_types.specs.{Graph.{Graph, content_of, graph_of, IsContent}, declared.batches.Outcome.TheVariants.Expired}
 use Rattle.graph_types.proofs.Expiry.{map_of-later, count_before-map_of, count-later}
-use Rattle.graph_types.specs.declared.batches.Outcome.TheVariants.{Expired}
-use Rattle.graph_model.proofs.OneOperation.{IsContent-later}
-use Rattle.graph_model.specs.Drafts.{shown_by}
+use Rattle.graph_model.{proofs.OneOperation.IsContent-later, specs.Drafts.shown_by}
 use Rattle.graph_model.proofs.drafts.Draft.expire.Goals as goal
 
 pub overflow_sub-result : goal.overflow_sub-result

@@ -1,6 +1,5 @@
 use Rattle.std.proofs.Common.{ℕ, ◌%◌, ◌^◌, ◌∙◌, sym, ap, subst}
-use Rattle.graph_version.specs.{Drafts.DraftView, Drafts.IsWhole, Kept.edge_total}
-use Rattle.graph_version.proofs.Few.{count_is_total}
+use Rattle.graph_version.{specs.{Drafts.{DraftView, IsWhole}, Kept.edge_total}, proofs.Few.count_is_total}
 use Rattle.graph_version.proofs.drafts.VersionDraft.finish.Goals as goal
 
 pub finish_counted-requires-clause-edges : goal.finish_counted-requires-clause-edges

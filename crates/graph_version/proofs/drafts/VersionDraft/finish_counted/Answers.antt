@@ -1,6 +1,5 @@
 use Rattle.std.proofs.Common.{◌≡◌, ◌%◌, ◌^◌, sym, ap, subst}
-use Rattle.graph_version.specs.{Kept.edge_total, Drafts.DraftView, Drafts.IsWhole}
-use Rattle.graph_version.proofs.Drafting.{whole_kept}
+use Rattle.graph_version.{specs.{Kept.edge_total, Drafts.{DraftView, IsWhole}}, proofs.Drafting.whole_kept}
 use Rattle.graph_version.proofs.drafts.VersionDraft.finish_counted.Goals as goal
 
 pub invariant_of-result : goal.invariant_of-result

@@ -1,8 +1,7 @@
 use Rattle.std.proofs.Common.{◌≡◌, ℕ, List, [], arith, map, drop, subst, sym, ap, ◌∙◌}
 use Rattle.std.{specs.Prelude.◌↔◌, specs.Prelude.filter, specs.List.Contains, proofs.lemmas.List.drop_all}
 use Rattle.graph_types.specs.Analyses.{LeadsTo}
-use Rattle.graph_version.specs.Listed.{along, all_edges, leaves, put_targets}
-use Rattle.graph_version.proofs.Arcs.{listed, put_is}
+use Rattle.graph_version.{specs.Listed.{along, all_edges, leaves, put_targets}, proofs.Arcs.{listed, put_is}}
 use Rattle.graph_version.proofs.listed_arcs.ListedArcsViewEdges.list_targets.Goals as goal
 
 pub returns : goal.returns

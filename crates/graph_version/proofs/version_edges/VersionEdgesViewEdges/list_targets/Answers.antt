@@ -1,11 +1,9 @@
-use Rattle.std.proofs.Common.{◌≡◌, ◌∙◌, ◌++◌, ℕ, List, [], arith, drop, sym, ap, subst, append-nil}
+use Rattle.std.proofs.{Common.{◌≡◌, ◌∙◌, ◌++◌, ℕ, List, [], arith, drop, sym, ap, subst, append-nil}, lemmas.List.drop_all}
 use Rattle.std.specs.{Prelude.◌↔◌, List.Contains, declared.sync.Arc.Arc, declared.alloc.Global.Global}
-use Rattle.std.proofs.lemmas.List.{drop_all}
 use Rattle.graph_types.specs.Analyses.{LeadsTo}
 use Rattle.edge_block.specs.declared.blocks.Block.{Block}
 use Rattle.version_pages.specs.Rows.{row_of}
-use Rattle.graph_version.specs.Versions.{content}
-use Rattle.graph_version.{specs.Shown.shown_in, specs.Shown.targets_of, proofs.Rows.row_targets, proofs.Targets.targets_in}
+use Rattle.graph_version.{specs.{Versions.content, Shown.{shown_in, targets_of}}, proofs.{Rows.row_targets, Targets.targets_in}}
 use Rattle.graph_version.proofs.version_edges.VersionEdgesViewEdges.list_targets.Goals as goal
 
 pub returns : goal.returns

@@ -1,8 +1,7 @@
 use Rattle.std.proofs.Common.{◌≢◌, ◌∙◌, ℕ, List, All, AllPairs, ap, sym, subst}
 use Rattle.graph_types.specs.{Graph.stamp_of, declared.ids.Edge.Edge}
 use Rattle.edge_block.specs.Slots.{IsStamp}
-use Rattle.graph_version.specs.Versions.{content}
-use Rattle.graph_version.proofs.Rebased.{same_content, listed_content}
+use Rattle.graph_version.{specs.Versions.content, proofs.Rebased.{same_content, listed_content}}
 use Rattle.graph_version.proofs.versions.Version.contents.Goals as goal
 
 pub invariant_of-result : goal.invariant_of-result

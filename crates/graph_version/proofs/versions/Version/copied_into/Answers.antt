@@ -1,5 +1,4 @@
-use Rattle.std.proofs.Common.{◌≡◌, ◌∙◌, List, map, sym, ap, subst, arith}
-use Rattle.std.specs.declared.{sync.Arc.Arc, alloc.Global.Global}
+use Rattle.std.{proofs.Common.{◌≡◌, ◌∙◌, List, map, sym, ap, subst, arith}, specs.declared.{sync.Arc.Arc, alloc.Global.Global}}
 use Rattle.edge_block.specs.declared.blocks.Block.{Block}
 use Rattle.version_pages.specs.{Rows.blocks_of, Rows.numbers_of, Sharing.block_values}
 use Rattle.graph_version.specs.{Versions.VersionView, Rebased.AreCopies, Rebased.unnumbered}

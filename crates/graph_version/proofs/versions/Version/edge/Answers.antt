@@ -1,5 +1,4 @@
-use Rattle.std.proofs.Common.{◌≡◌, ◌∙◌, List, get_or, ap, sym, arith, Some, None}
-use Rattle.std.proofs.lemmas.List.{take_all}
+use Rattle.std.proofs.{Common.{◌≡◌, ◌∙◌, List, get_or, ap, sym, arith, Some, None}, lemmas.List.take_all}
 use Rattle.std.specs.{Option.option_map, declared.sync.Arc.Arc, declared.alloc.Global.Global}
 use Rattle.edge_block.specs.{Slots.BlockView, Slots.first_some, Lending.lent_edge, declared.blocks.Block.Block}
 use Rattle.edge_block.specs.Rows.{shape_of, block_at}

@@ -1,10 +1,8 @@
-use Rattle.std.proofs.Common.{◌≡◌, ◌∙◌, ap, subst}
-use Rattle.std.specs.Arc.{arc_value}
+use Rattle.std.{proofs.Common.{◌≡◌, ◌∙◌, ap, subst}, specs.Arc.arc_value}
 use Rattle.graph_types.specs.Graph.{graph_of}
-use Rattle.graph_version.specs.declared.listed.ListedContent.{ListedContent}
-use Rattle.version_pages.specs.{Rows.row_of, Sharing.block_values}
-use Rattle.graph_version.specs.{Versions.content, Kept.IsSummary, Rebased.rows_like}
+use Rattle.graph_version.specs.{declared.listed.ListedContent.ListedContent, Versions.content, Kept.IsSummary, Rebased.rows_like}
 use Rattle.graph_version.proofs.Rebased.{LookLike, look_blocks, rebased_kept, rebased_is}
+use Rattle.version_pages.specs.{Rows.row_of, Sharing.block_values}
 use Rattle.graph_version.proofs.versions.Version.rebased.Goals as goal
 
 pub invariant_of-result : goal.invariant_of-result

@@ -1,6 +1,5 @@
 use Rattle.std.proofs.Common.{◌≡◌, ◌+◌, ◌-◌, length, drop, ap, ◌∙◌, arith, length-drop, length-append}
-use Rattle.std.specs.Fmt.{decimal}
-use Rattle.std.proofs.lemmas.{Fmt.length-decimal-le, Fmt.IsAscii-decimal, Str.IsAscii-append}
+use Rattle.std.{proofs.lemmas.{Fmt.{length-decimal-le, IsAscii-decimal}, Str.IsAscii-append}, specs.Fmt.decimal}
 use Rattle.script_lines.proofs.ends.RowEnd.put_digits.Goals as goal
 
 pub write_digits-self-inside-requires : goal.write_digits-self-inside-requires

@@ -1,8 +1,7 @@
 use Rattle.std.proofs.Common.{◌≡◌, ◌∙◌, ap, arith, length}
 use Rattle.block_reclamation.specs.declared.copies.PinCopy.{PinCopy}
 use Rattle.block_reclamation.specs.Copies as copies
-use Rattle.script_server.specs.States.{copy_of, pins_of}
-use Rattle.script_server.proofs.DeskLaws.{collect_done, shows_collected}
+use Rattle.script_server.{specs.States.{copy_of, pins_of}, proofs.DeskLaws.{collect_done, shows_collected}}
 use Rattle.script_server.proofs.server.Server.collect.Goals as goal
 
 -- the copy's last number is the desk's

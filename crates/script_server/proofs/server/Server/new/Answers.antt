@@ -1,5 +1,4 @@
-use Rattle.std.proofs.{Common.◌∙◌, Common.ap, Common.length, Common.replicate, lemmas.List.length-replicate}
-use Rattle.std.specs.Prelude.{None}
+use Rattle.std.{proofs.{Common.{◌∙◌, ap, length, replicate}, lemmas.List.length-replicate}, specs.Prelude.None}
 use Rattle.script_server.proofs.{DeskLaws.shows_opened, NamesApart.none_apart}
 use Rattle.script_server.specs.{Servers.ShowsDesk, States.beginning, States.set_up}
 use Rattle.script_server.proofs.server.Server.new.Goals as goal

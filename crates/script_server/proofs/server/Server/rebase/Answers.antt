@@ -1,10 +1,8 @@
-use Rattle.std.proofs.Common.{◌≡◌, ◌∙◌, ap, length, replicate, rules, subst, sym}
+use Rattle.std.proofs.{Common.{◌≡◌, ◌∙◌, ap, length, replicate, rules, subst, sym}, lemmas.List.length-replicate}
 use Rattle.std.specs.Prelude.{IfErr, None, Ok, slice_get}
-use Rattle.std.proofs.lemmas.List.{length-replicate}
 use Rattle.graph_types.specs.Graph.{Graph}
 use Rattle.stream_store.specs.Seats.{held_graph, held_version}
-use Rattle.script_server.proofs.{Asking.asked_there, Asking.graph_there, Asking.stops_reopening, Asking.version_there}
-use Rattle.script_server.proofs.NamesApart.{AreApart}
+use Rattle.script_server.proofs.{Asking.{asked_there, graph_there, stops_reopening, version_there}, NamesApart.AreApart}
 use Rattle.script_server.proofs.Rebasing.{length_opened, rebase_done, shows_rebased}
 use Rattle.script_server.specs.{Servers.LacksReader, Slots.held_of, States.version, States.version_in}
 use Rattle.script_server.proofs.server.Server.rebase.Goals as goal

@@ -1,6 +1,5 @@
-use Rattle.std.proofs.Common.{rules, arith, ◌≡◌, ◌<◌, length}
+use Rattle.std.proofs.{Common.{rules, arith, ◌≡◌, ◌<◌, length}, lemmas.Option.{get_or_from_slice_get, slice_get_within}}
 use Rattle.std.specs.Prelude.{None, Some, slice_get}
-use Rattle.std.proofs.lemmas.Option.{get_or_from_slice_get, slice_get_within}
 use Rattle.script_server.proofs.SlotLaws.{held_acquired, read_some, slots_acquired}
 use Rattle.script_server.proofs.slots.Slots.acquire.Goals as goal
 

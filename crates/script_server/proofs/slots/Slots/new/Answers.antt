@@ -1,5 +1,4 @@
-use Rattle.std.proofs.Common.{arith, ◌≡◌, ◌∙◌, ap, map, length, replicate}
-use Rattle.std.specs.{Prelude.None, Prelude.Some, Vec.Iter.into_iter_len}
+use Rattle.std.{proofs.Common.{arith, ◌≡◌, ◌∙◌, ap, map, length, replicate}, specs.{Prelude.{None, Some}, Vec.Iter.into_iter_len}}
 use Rattle.script_server.proofs.SlotLaws.{all_given, none_held, slots_first}
 use Rattle.script_server.proofs.slots.Slots.new.Goals as goal
 

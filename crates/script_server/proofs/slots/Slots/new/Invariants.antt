@@ -1,5 +1,4 @@
-use Rattle.std.proofs.Common.{◌≡◌, map, length, replicate}
-use Rattle.std.specs.Prelude.{None, Some}
+use Rattle.std.{proofs.Common.{◌≡◌, map, length, replicate}, specs.Prelude.{None, Some}}
 use Rattle.script_server.proofs.slots.Slots.new.Given as goal
 
 abbrev pub invariant-loop-seat : goal.invariant-loop-seat

@@ -1,5 +1,4 @@
-use Rattle.std.proofs.{Common.rules, Common.◌≡◌, lemmas.Option.slice_get_within}
-use Rattle.std.specs.Prelude.{Some, slice_get}
+use Rattle.std.{proofs.{Common.{rules, ◌≡◌}, lemmas.Option.slice_get_within}, specs.Prelude.{Some, slice_get}}
 use Rattle.script_server.proofs.SlotLaws.{held_released, read_some, slots_released}
 use Rattle.script_server.proofs.slots.Slots.release.Goals as goal
 

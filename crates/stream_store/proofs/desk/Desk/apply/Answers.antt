@@ -1,6 +1,5 @@
 use Rattle.std.proofs.Common.{◌≡◌, ◌≢◌, ◌+◌, ◌++◌, ◌∷◌, [], List, AllPairs, length, length-append, count_by, refl, sym, ap, ap₂}
-use Rattle.std.proofs.Common.{subst, ◌∙◌}
-use Rattle.std.specs.Arc.{arc_value}
+use Rattle.std.{proofs.Common.{subst, ◌∙◌}, specs.Arc.arc_value}
 use Rattle.graph_version.specs.{declared.versions.Version.Version, Versions.VersionView, Versions.content}
 use Rattle.logbook.specs.Pages.{Book}
 use Rattle.graph_types.specs.{Step.outcomes, declared.batches.NamedOp.NamedOp}
@@ -10,12 +9,11 @@ use Rattle.batch_apply.proofs.Names.{err_then}
 use Rattle.epoch_core.proofs.Stepping.{err_always}
 use Rattle.version_shelf.specs.Shelves.{ToldView}
 use Rattle.store_steps.specs.Steps.{Accepts}
-use Rattle.stream_store.specs.{Kept.DeskState, Kept.state_of, Moves.AreUsedOnce, Refusals.Refuses, Refusals.IsWithin, Refusals.IsAdmitted}
-use Rattle.stream_store.proofs.{Collections.kept_same, Collections.same_room, Handing.end_accepts, Handing.end_fits}
-use Rattle.stream_store.proofs.Handing.{Handing, handing, desk_of, back_used, back_same, taken_once, dropped_once, unused_once}
-use Rattle.stream_store.proofs.Handing.{born_used, born_same, end_pool, grant_within, desk_refuses, desk_admits, end_desk, end_kept}
-use Rattle.stream_store.proofs.Handing.{granted_many, unlisted}
-use Rattle.stream_store.proofs.desk.Desk.apply.{Given.Over, Goals.In-Ok, Goals.After-born_blocks}
+use Rattle.stream_store.specs.{Kept.{DeskState, state_of}, Applying.AreUsedOnce, Refusals.{Refuses, IsWithin, IsAdmitted}}
+use Rattle.stream_store.proofs.{Collections.{kept_same, same_room}, Handing.{end_accepts, end_fits, Handing, handing, desk_of}}
+use Rattle.stream_store.proofs.Handing.{back_used, back_same, taken_once, dropped_once, unused_once, born_used, born_same}
+use Rattle.stream_store.proofs.Handing.{end_pool, grant_within, desk_refuses, desk_admits, end_desk, end_kept, granted_many}
+use Rattle.stream_store.proofs.{Handing.unlisted, desk.Desk.apply.{Given.Over, Goals.{In-Ok, After-born_blocks}}}
 use Rattle.stream_store.proofs.desk.Desk.apply.Goals as goal
 
 pub returns-in_err-plan-clause-refused : goal.returns-in_err-plan-clause-refused

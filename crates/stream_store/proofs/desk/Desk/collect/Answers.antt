@@ -2,8 +2,7 @@ use Rattle.std.proofs.Common.{◌≡◌, ℕ, ◌≤◌, length, sym, ap, subst,
 use Rattle.std.{proofs.lemmas.Grind.common_steps, specs.Arc.arc_value}
 use Rattle.graph_version.specs.declared.versions.Version.{Version}
 use Rattle.block_reclamation.specs.Status.{is_reclaimable, is_retired}
-use Rattle.store_steps.{specs.Desks.IsCollected, specs.Desks.births_in, proofs.Collecting.collected_takes}
-use Rattle.store_steps.specs.Steps.{TakesAt, recycling}
+use Rattle.store_steps.{specs.{Desks.{IsCollected, births_in}, Steps.{TakesAt, recycling}}, proofs.Collecting.collected_takes}
 use Rattle.store_steps.proofs.CollectedDesk.{past_and_left, is_collected, births_collected}
 use Rattle.stream_store.{specs.Kept.DeskState, specs.Kept.state_of, proofs.desk.Desk.collect.Goals.After-enter_collection}
 use Rattle.stream_store.proofs.Collections.{collection_kept, state_collected}

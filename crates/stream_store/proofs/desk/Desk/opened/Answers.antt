@@ -1,5 +1,4 @@
-use Rattle.std.proofs.Common.{◌≡◌, [], map, arith, rules, vec_len}
-use Rattle.std.specs.Arc.{arc_value}
+use Rattle.std.{proofs.Common.{◌≡◌, [], map, arith, rules, vec_len}, specs.Arc.arc_value}
 use Rattle.graph_version.specs.{declared.versions.Version.Version, Versions.VersionView}
 use Rattle.version_shelf.specs.Shelves.{opened_shelf}
 use Rattle.store_steps.specs.Opening.{opened_desk}

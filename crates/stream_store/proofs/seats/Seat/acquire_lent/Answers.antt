@@ -1,5 +1,4 @@
-use Rattle.std.proofs.Common.{◌≡◌, length, max, Some, true, refl, ap, ◌∙◌, rules}
-use Rattle.std.specs.Prelude.{option_map}
+use Rattle.std.{proofs.Common.{◌≡◌, length, max, Some, true, refl, ap, ◌∙◌, rules}, specs.Prelude.option_map}
 use Rattle.block_reclamation.specs.{Board.with_pin, Copies.settled}
 use Rattle.stream_store.proofs.Seated.{pin_twice}
 use Rattle.stream_store.proofs.seats.Seat.acquire_lent.Goals as goal

@@ -1,6 +1,5 @@
 use Rattle.std.proofs.Common.{◌≡◌, ◌⊎◌, ℕ, List, Err, subst}
-use Rattle.graph_types.specs.Answer.{IsAnswer}
-use Rattle.graph_types.specs.declared.requests.{AskError.TheVariants.OutOfMemory, Request.TheVariants.OneEdge}
+use Rattle.graph_types.specs.{Answer.IsAnswer, declared.requests.{AskError.TheVariants.OutOfMemory, Request.TheVariants.OneEdge}}
 use Rattle.graph_version.specs.Versions.{VersionView, content}
 use Rattle.stream_store.proofs.seats.Session.ask.Goals as goal
 

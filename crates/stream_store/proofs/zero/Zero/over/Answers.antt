@@ -1,11 +1,9 @@
-use Rattle.std.proofs.Common.{rules, ◌≡◌, ℕ, List, length, replicate, sym, ap, subst, ◌∙◌}
-use Rattle.std.specs.Arc.{arc_value}
+use Rattle.std.{proofs.Common.{rules, ◌≡◌, ℕ, List, length, replicate, sym, ap, subst, ◌∙◌}, specs.Arc.arc_value}
 use Rattle.graph_version.specs.{declared.versions.Version.Version, Versions.VersionView}
 use Rattle.graph_version.specs.{Rows.blocks_of, Rows.numbers_of, Sharing.block_values}
 use Rattle.block_pool.specs.Pools.{AreFree, marked}
 use Rattle.block_reclamation.specs.declared.status.BlockStatus.TheVariants.{Free, Used}
-use Rattle.stream_store.specs.Moves.{AreUsedOnce}
-use Rattle.stream_store.proofs.{Handing.back_used, Zeros.zero_is, Zeros.zero_pool, Zeros.opens_with}
+use Rattle.stream_store.{specs.Applying.AreUsedOnce, proofs.{Handing.back_used, Zeros.{zero_is, zero_pool, opens_with}}}
 use Rattle.stream_store.proofs.zero.Zero.over.Goals as goal
 
 pub born_blocks-requires : goal.born_blocks-requires

@@ -1,5 +1,4 @@
-use Rattle.std.proofs.Common.{◌≡◌, length}
-use Rattle.std.specs.List.{AllWithin}
+use Rattle.std.{proofs.Common.{◌≡◌, length}, specs.List.AllWithin}
 use Rattle.lane_scan.specs.Masks.{IsWeight}
 use Rattle.tests_parts.proofs.tests.lanes.small_weights.Given as goal
 

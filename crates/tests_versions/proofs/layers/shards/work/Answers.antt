@@ -1,7 +1,6 @@
 use Rattle.std.proofs.Common.{arith, sym, subst}
-use Rattle.graph_version.specs.Rows.{row_of}
-use Rattle.graph_version.specs.Versions.{VersionView}
-use Rattle.batch_apply.specs.Jobs.{IsShard}
+use Rattle.graph_version.specs.{Rows.row_of, Versions.VersionView}
+use Rattle.batch_apply.specs.Gathered.{IsShard}
 use Rattle.tests_versions.proofs.layers.shards.work.Goals as goal
 
 pub work_on-requires-clause-fresh : goal.work_on-requires-clause-fresh

@@ -1,7 +1,6 @@
 use Rattle.std.proofs.Common.{List, sym, subst, rules}
 use Rattle.graph_types.specs.declared.batches.NamedOp.{NamedOp}
-use Rattle.graph_version.specs.Rows.{row_of}
-use Rattle.graph_version.specs.Versions.{content}
+use Rattle.graph_version.specs.{Rows.row_of, Versions.content}
 use Rattle.batch_apply.specs.Planned.{IsPlan}
 use Rattle.tests_versions.proofs.versions.steps.applied_batch.Goals as goal
 

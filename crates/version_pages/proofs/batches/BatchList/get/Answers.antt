@@ -1,6 +1,5 @@
-use Rattle.std.proofs.Common.{◌≡◌, ◌∙◌, ◌≤◌, ◌<◌, ◌/◌, ◌%◌, ap, sym, subst, List, length, get_or, arith}
+use Rattle.std.proofs.{Common.{◌≡◌, ◌∙◌, ◌≤◌, ◌<◌, ◌/◌, ◌%◌, ap, sym, subst, List, length, get_or, arith}, lemmas.Bool.ltb-false}
 use Rattle.std.specs.{List.slice_get, declared.sync.Arc.Arc, declared.alloc.Global.Global}
-use Rattle.std.proofs.lemmas.Bool.{ltb-false}
 use Rattle.version_pages.specs.{BatchGroups.in_group, declared.batch_group.BatchGroup.BatchGroup}
 use Rattle.graph_types.specs.declared.batches.NamedOp.{NamedOp}
 use Rattle.list_pieces.proofs.Pieces.{at_piece, past_pieces}

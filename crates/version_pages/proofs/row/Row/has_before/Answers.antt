@@ -1,7 +1,5 @@
-use Rattle.std.proofs.Common.{◌≤◌, sym, ◌∙◌, arith}
-use Rattle.std.proofs.lemmas.Bool.{le-ltb}
-use Rattle.version_pages.specs.Sharing.{row_values}
-use Rattle.version_pages.proofs.Ages.{earlier_row}
+use Rattle.std.proofs.{Common.{◌≤◌, sym, ◌∙◌, arith}, lemmas.Bool.le-ltb}
+use Rattle.version_pages.{specs.Sharing.row_values, proofs.Ages.earlier_row}
 use Rattle.version_pages.proofs.row.Row.has_before.Goals as goal
 
 pub returns-else-self-time : goal.returns-else-self-time

@@ -1,9 +1,7 @@
-use Rattle.std.proofs.Common.{◌≡◌, ◌∙◌, List, [], ◌∷◌, ◌++◌, replicate, refl, All}
-use Rattle.std.proofs.lemmas.List.Elements.{All-append}
+use Rattle.std.proofs.{Common.{◌≡◌, ◌∙◌, List, [], ◌∷◌, ◌++◌, replicate, refl, All}, lemmas.List.Elements.All-append}
 use Rattle.std.specs.declared.{sync.Arc.Arc, alloc.Global.Global}
-use Rattle.version_pages.specs.{RowPages.in_page, declared.row_page.Page.Page}
+use Rattle.version_pages.{specs.{RowPages.in_page, declared.row_page.Page.Page}, proofs.Eights.all_eight}
 use Rattle.list_pieces.proofs.Full.{blank_pieces, blank_flat}
-use Rattle.version_pages.proofs.Eights.{all_eight}
 use Rattle.version_pages.proofs.row_group.Group.blank.Goals as goal
 
 pub invariant_of-result : goal.invariant_of-result

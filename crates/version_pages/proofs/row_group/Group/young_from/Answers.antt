@@ -1,7 +1,6 @@
 use Rattle.std.proofs.Common.{◌≡◌, ◌/◌, ◌%◌, List, length, subst, arith}
 use Rattle.edge_block.specs.Slots.{BlockView}
-use Rattle.version_pages.specs.{Ages.AreYoung, RowPages.in_page}
-use Rattle.version_pages.proofs.Ages.{young_in_pieces}
+use Rattle.version_pages.{specs.{Ages.AreYoung, RowPages.in_page}, proofs.Ages.young_in_pieces}
 use Rattle.version_pages.proofs.row_group.Group.young_from.Goals as goal
 
 pub returns : goal.returns

@@ -1,8 +1,6 @@
-use Rattle.std.proofs.Common.{◌≡◌, ◌∙◌, ℕ, length, min, sym, subst, arith}
-use Rattle.std.proofs.Math.Nat.{min-le_left, min-le_right}
-use Rattle.version_pages.specs.{Ages.AreSince, Parts.in_part, Parts.in_parts}
+use Rattle.std.proofs.{Common.{◌≡◌, ◌∙◌, ℕ, length, min, sym, subst, arith}, Math.Nat.{min-le_left, min-le_right}}
+use Rattle.version_pages.{specs.{Ages.AreSince, Parts.{in_part, in_parts}}, proofs.Ages.{bounded_set, rows_before_zero}}
 use Rattle.list_pieces.proofs.Full.{long}
-use Rattle.version_pages.proofs.Ages.{bounded_set, rows_before_zero}
 use Rattle.version_pages.proofs.row_page.Page.put.Goals as goal
 
 pub invariant_of-self : goal.invariant_of-self

@@ -1,8 +1,7 @@
 use Rattle.std.proofs.Common.{◌≡◌, ◌/◌, ◌%◌, List, length, subst, arith}
 use Rattle.edge_block.specs.Slots.{BlockView}
-use Rattle.version_pages.specs.{Ages.AreYoung, Parts.in_part, Parts.in_parts}
+use Rattle.version_pages.{specs.{Ages.AreYoung, Parts.{in_part, in_parts}}, proofs.Ages.{young_from_bound, young_in_pieces}}
 use Rattle.list_pieces.proofs.Full.{long}
-use Rattle.version_pages.proofs.Ages.{young_from_bound, young_in_pieces}
 use Rattle.version_pages.proofs.row_page.Page.young_from.Goals as goal
 
 pub returns-then-self-time : goal.returns-then-self-time

@@ -1,7 +1,6 @@
 use Rattle.std.proofs.Common.{◌∙◌, ◌∷◌, [], sym, subst, rules}
-use Rattle.version_pages.specs.{Ages.AreSince, Parts.in_part}
+use Rattle.version_pages.{specs.{Ages.AreSince, Parts.in_part}, proofs.Eights.eight}
 use Rattle.list_pieces.proofs.Shown.{flat_from_map}
-use Rattle.version_pages.proofs.Eights.{eight}
 use Rattle.version_pages.proofs.row_page.PageClone.clone.Goals as goal
 
 pub invariant_of-result : goal.invariant_of-result

@@ -1,6 +1,4 @@
-use Rattle.std.proofs.Common.{◌∙◌}
-use Rattle.std.proofs.Math.Nat.{min-le_left, min-le_right}
-use Rattle.std.proofs.lemmas.List.{length-set}
+use Rattle.std.proofs.{Common.◌∙◌, Math.Nat.{min-le_left, min-le_right}, lemmas.List.length-set}
 use Rattle.version_pages.proofs.Ages.{bounded_set}
 use Rattle.version_pages.proofs.row_page.Part.set.Goals as goal
 

@@ -1,8 +1,6 @@
-use Rattle.std.proofs.Common.{◌∙◌, List, refl, sym, subst}
-use Rattle.std.proofs.lemmas.List.{map-id}
+use Rattle.std.proofs.{Common.{◌∙◌, List, refl, sym, subst}, lemmas.List.map-id}
 use Rattle.edge_block.specs.Slots.{BlockView}
-use Rattle.version_pages.specs.Ages.{AreSince}
-use Rattle.version_pages.proofs.Eights.{eight}
+use Rattle.version_pages.{specs.Ages.AreSince, proofs.Eights.eight}
 use Rattle.version_pages.proofs.row_page.PartClone.clone.Goals as goal
 
 pub invariant_of-result : goal.invariant_of-result

@@ -1,11 +1,9 @@
 use Rattle.std.proofs.Common.{◌≡◌, ◌∙◌, ◌+◌, ◌-◌, ◌≤◌, ◌<◌, ◌/◌, ◌%◌, ℕ, List, length, get_or, ap, sym, subst, arith}
-use Rattle.std.specs.declared.{sync.Arc.Arc, alloc.Global.Global}
-use Rattle.std.proofs.lemmas.Bool.{ltb-false}
+use Rattle.std.{proofs.lemmas.Bool.ltb-false, specs.declared.{sync.Arc.Arc, alloc.Global.Global}}
 use Rattle.edge_block.specs.Slots.{BlockView}
-use Rattle.version_pages.specs.{Ages.AreYoung, RowGroups.AreGroups, RowGroups.in_group, RowGroups.in_groups}
-use Rattle.version_pages.specs.declared.row_group.Group.{Group}
-use Rattle.list_pieces.proofs.Full.{long}
+use Rattle.version_pages.specs.{Ages.AreYoung, RowGroups.{AreGroups, in_group, in_groups}, declared.row_group.Group.Group}
 use Rattle.version_pages.proofs.Ages.{none_past, young_in_pieces, young_on}
+use Rattle.list_pieces.proofs.Full.{long}
 use Rattle.version_pages.proofs.rows.Rows.next_old.Goals as goal
 
 -- young rows of the group that a look-up found are so among all

@@ -1,6 +1,5 @@
 use Rattle.std.proofs.Common.{sym, ◌∙◌, ap, length}
-use Rattle.version_shelf.specs.Histories.{HistoryView, right_at}
-use Rattle.version_shelf.proofs.Adding.{adds_moves}
+use Rattle.version_shelf.{specs.Histories.{HistoryView, right_at}, proofs.Adding.adds_moves}
 use Rattle.version_shelf.proofs.history.History.push.Goals as goal
 
 pub compare_exchange-self-inside-requires : goal.compare_exchange-self-inside-requires

@@ -1,6 +1,5 @@
 use Rattle.std.proofs.Common.{[], sym, ◌∙◌, ap}
-use Rattle.version_shelf.specs.Histories.{HistoryView}
-use Rattle.version_shelf.proofs.Adding.{makes_moves}
+use Rattle.version_shelf.{specs.Histories.HistoryView, proofs.Adding.makes_moves}
 use Rattle.version_shelf.proofs.history.History.right.Goals as goal
 
 pub compare_exchange-found-requires : goal.compare_exchange-found-requires

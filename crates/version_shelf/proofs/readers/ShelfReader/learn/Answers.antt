@@ -1,6 +1,5 @@
 use Rattle.std.proofs.Common.{sym, subst}
-use Rattle.version_shelf.specs.Shelves.{ToldView, Begins}
-use Rattle.version_shelf.proofs.Steps.{begins_self}
+use Rattle.version_shelf.{specs.Shelves.{ToldView, Begins}, proofs.Steps.begins_self}
 use Rattle.version_shelf.proofs.readers.ShelfReader.learn.Goals as goal
 
 -- The searches of these goals are long where they fail.

@@ -1,6 +1,5 @@
 use Rattle.std.proofs.Common.{rules, subst, sym}
-use Rattle.version_shelf.specs.Shelves.{ToldView, Begins}
-use Rattle.version_shelf.proofs.Steps.{begins_self}
+use Rattle.version_shelf.{specs.Shelves.{ToldView, Begins}, proofs.Steps.begins_self}
 use Rattle.version_shelf.proofs.readers.ShelfReader.look.Goals as goal
 
 pub returns-else-is_below : goal.returns-else-is_below

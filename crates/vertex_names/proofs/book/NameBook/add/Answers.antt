@@ -1,8 +1,6 @@
 use Rattle.std.proofs.Common.{◌≡◌, ◌∙◌, ◌++◌, ◌∷◌, ◌<◌, [], ℕ, List, length, false, sym, ap, arith}
-use Rattle.graph_types.specs.Answer.{is_listed}
-use Rattle.vertex_names.specs.{Book.Book, Tables.names_of}
-use Rattle.graph_types.proofs.NameNumbers.{number_absent}
-use Rattle.vertex_names.proofs.Names.{not_listed, IsBook-pushed}
+use Rattle.graph_types.{specs.Answer.is_listed, proofs.NameNumbers.number_absent}
+use Rattle.vertex_names.{specs.{Book.Book, Tables.names_of}, proofs.Names.{not_listed, IsBook-pushed}}
 use Rattle.vertex_names.proofs.book.NameBook.add.Goals as goal
 
 pub invariant_of-self-2 : goal.invariant_of-self-2

@@ -1,7 +1,6 @@
 use Rattle.std.proofs.Common.{◌≡◌, ◌∙◌, ◌<◌, ℕ, List, length, get_or, sym, ap, subst, nat_eq}
 use Rattle.std.specs.{Map.lookup, declared.sync.Arc.Arc, declared.alloc.Global.Global}
-use Rattle.vertex_names.specs.{declared.piece.Piece.Piece, Order.firsts, Order.last_place}
-use Rattle.vertex_names.proofs.Splits.{found_read}
+use Rattle.vertex_names.{specs.{declared.piece.Piece.Piece, Order.{firsts, last_place}}, proofs.Splits.found_read}
 use Rattle.vertex_names.proofs.part.Part.first.Goals as goal
 
 pub returns : goal.returns

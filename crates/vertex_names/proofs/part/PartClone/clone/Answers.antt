@@ -1,6 +1,5 @@
 use Rattle.std.proofs.Common.{subst, sym}
-use Rattle.vertex_names.specs.Order.{IsRising}
-use Rattle.vertex_names.proofs.Splits.{spans_same, lows_same}
+use Rattle.vertex_names.{specs.Order.IsRising, proofs.Splits.{spans_same, lows_same}}
 use Rattle.vertex_names.proofs.part.PartClone.clone.Goals as goal
 
 pub invariant_of-result : goal.invariant_of-result

@@ -1,7 +1,5 @@
-use Rattle.std.proofs.Common.{◌≡◌, ◌∙◌, ℕ, sym, ap, Some, get_or}
-use Rattle.std.proofs.lemmas.List.{get_or_default}
-use Rattle.vertex_names.specs.Order.{IsFoundAt, IsGap}
-use Rattle.vertex_names.proofs.Entries.{found, missing}
+use Rattle.std.proofs.{Common.{◌≡◌, ◌∙◌, ℕ, sym, ap, Some, get_or}, lemmas.List.get_or_default}
+use Rattle.vertex_names.{specs.Order.{IsFoundAt, IsGap}, proofs.Entries.{found, missing}}
 use Rattle.vertex_names.proofs.piece.Piece.first.Goals as goal
 
 pub returns-in-Ok : goal.returns-in-Ok

@@ -1,5 +1,4 @@
-use Rattle.vertex_names.specs.Order.{IsFoundAt, IsGap}
-use Rattle.vertex_names.proofs.Entries.{put-found, rising-found, put-missing, rising-missing}
+use Rattle.vertex_names.{specs.Order.{IsFoundAt, IsGap}, proofs.Entries.{put-found, rising-found, put-missing, rising-missing}}
 use Rattle.vertex_names.proofs.piece.Piece.put.Goals as goal
 
 pub invariant_of-self : goal.invariant_of-self

@@ -1,6 +1,5 @@
 use Rattle.std.proofs.Common.{◌≡◌, ◌∙◌, ◌<◌, ℕ, List, length, get_or, ap, subst, arith}
-use Rattle.vertex_names.specs.Order.{firsts, last_place}
-use Rattle.vertex_names.proofs.Entries.{search-less, search-more, first_read}
+use Rattle.vertex_names.{specs.Order.{firsts, last_place}, proofs.Entries.{search-less, search-more, first_read}}
 use Rattle.vertex_names.proofs.piece.Piece.search.Goals as goal
 
 pub returns-then-known-hash-clause-found : goal.returns-then-known-hash-clause-found

@@ -1,6 +1,5 @@
 use Rattle.std.proofs.Common.{◌≡◌, ◌∙◌, ◌++◌, ◌∷◌, [], ℕ, List, length, ap, subst}
-use Rattle.vertex_names.specs.Index.{text_hash, Stands}
-use Rattle.vertex_names.proofs.Names.{IsIndexed-kept, IsIndexed-pushed}
+use Rattle.vertex_names.{specs.Index.{text_hash, Stands}, proofs.Names.{IsIndexed-kept, IsIndexed-pushed}}
 use Rattle.vertex_names.proofs.tables.Tables.push.Goals as goal
 
 pub invariant_of-self : goal.invariant_of-self

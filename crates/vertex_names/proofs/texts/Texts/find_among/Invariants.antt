@@ -1,5 +1,4 @@
-use Rattle.std.proofs.Common.{◌≢◌, All, take, Some}
-use Rattle.std.specs.List.{slice_get}
+use Rattle.std.{proofs.Common.{◌≢◌, All, take, Some}, specs.List.slice_get}
 use Rattle.vertex_names.proofs.texts.Texts.find_among.Given as goal
 
 abbrev pub invariant-loop-number : goal.invariant-loop-number

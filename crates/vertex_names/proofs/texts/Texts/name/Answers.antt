@@ -1,6 +1,5 @@
 use Rattle.std.proofs.Common.{◌≡◌, ◌∙◌, ◌≤◌, ◌<◌, ◌/◌, ◌%◌, ℕ, ap, sym, subst, List, length, get_or, arith}
-use Rattle.std.specs.{List.slice_get, declared.sync.Arc.Arc, declared.alloc.Global.Global}
-use Rattle.std.proofs.lemmas.Bool.{ltb-false}
+use Rattle.std.{proofs.lemmas.Bool.ltb-false, specs.{List.slice_get, declared.{sync.Arc.Arc, alloc.Global.Global}}}
 use Rattle.vertex_names.specs.{Texts.names_in, declared.texts.Chunk.Chunk}
 use Rattle.list_pieces.proofs.Pieces.{at_piece, past_pieces}
 use Rattle.vertex_names.proofs.texts.Texts.name.Goals as goal

@@ -1,9 +1,7 @@
-use Rattle.std.proofs.Common.{◌≡◌, ℕ, List, [], ◌∷◌, set, refl, true, sym, ap, subst, ◌∙◌, rules}
-use Rattle.std.specs.Arc.{arc_value}
+use Rattle.std.{proofs.Common.{◌≡◌, ℕ, List, [], ◌∷◌, set, refl, true, sym, ap, subst, ◌∙◌, rules}, specs.Arc.arc_value}
 use Rattle.edge_block.specs.declared.blocks.Block.{Block}
 use Rattle.block_pool.specs.Pools.{changed, retired, is_used_at}
-use Rattle.block_reclamation.specs.declared.status.BlockStatus.{BlockStatus}
-use Rattle.block_reclamation.specs.declared.status.BlockStatus.TheVariants.{Used}
+use Rattle.block_reclamation.specs.declared.status.BlockStatus.{BlockStatus, TheVariants.Used}
 use Rattle.tests_parts.proofs.Held.{rest_held, first_used, born_here, retired_at}
 use Rattle.tests_parts.proofs.tests.pools.Hand.retire.Goals as goal
 

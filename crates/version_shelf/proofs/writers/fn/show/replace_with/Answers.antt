@@ -1,6 +1,5 @@
 use Rattle.std.proofs.Common.{subst, sym}
-use Rattle.version_shelf.specs.Shelves.{Begins}
-use Rattle.version_shelf.proofs.Steps.{turns}
+use Rattle.version_shelf.{specs.Shelves.Begins, proofs.Steps.turns}
 use Rattle.version_shelf.proofs.writers.fn.show.replace_with.Goals as goal
 
 pub show_as-requires : goal.show_as-requires
