@@ -1,11 +1,12 @@
 -- Lines, sums and maxima over rows of names and values, one vertex after another.
 use mir.Val.{bool_byte}
 use Rattle.std.proofs.Common.{◌≡◌, ◌≢◌, ℕ, ◌+◌, ◌<◌, ◌≤◌, List, [], ◌∷◌, ◌++◌, Bool, true, false, cond, length, min, max, take}
-use Rattle.std.proofs.Common.{get_or, append_assoc, append-nil, bytes_eq, arith, refl, sym, ap, subst, ◌∙◌, inl, inr}
-use Rattle.std.proofs.{Common.length-append, lemmas.{Slice.Eq.bytes_eq-Decides, Bool.{cases_lt, false≢true, Decides.eqb_tells}}}
-use Rattle.std.proofs.lemmas.{Grind.flat_map-append, List.{get_or_default, get_or_past, Elements.All-get_or, Sums.fold-append}}
-use Rattle.std.{proofs.{lemmas.List.Sums.sum_by-append, Math.Nat.eq-or-lt_of_le}, specs.Prelude.{IsTrue, Option, None, Some}}
-use Rattle.std.specs.{Prelude.{sum_by, count_by, zip, ◌==◌, is_some}, List.{flat_map, filter_map}, Option.option_to_list}
+use Rattle.std.proofs.Common.{get_or, map, append_assoc, append-nil, bytes_eq, arith, refl, sym, ap, subst, ◌∙◌, inl, inr}
+use Rattle.std.proofs.{Common.length-append, lemmas.Slice.Eq.bytes_eq-Decides, Math.Nat.eq-or-lt_of_le}
+use Rattle.std.proofs.lemmas.{Bool.cases_lt, Bool.false≢true, Bool.Decides.eqb_tells, Grind.flat_map-append}
+use Rattle.std.proofs.lemmas.List.{map_more, get_or_default, get_or_past, Elements.All-get_or, Sums.fold-append, Sums.sum_by-append}
+use Rattle.std.specs.Prelude.{IsTrue, Option, None, Some, sum_by, count_by, zip, ◌==◌, is_some}
+use Rattle.std.specs.{List.flat_map, List.filter_map, Option.option_to_list}
 use Rattle.graph_types.specs.{Answer.{level_row, names_of}, Valid.is_name, declared.ids.{Degree.Degree, VertexId.VertexId}}
 use Rattle.graph_levels.specs.Vertices.{numbers_of}
 use Rattle.vertex_names.specs.Book.{Book, IsBook}
@@ -159,3 +160,22 @@ reached_more names levels count k d is left right =
     length_row (get_or names k []) (get_or levels k d) ∙ sym (bool_value (is_some (get_or levels k d))) in
     let all = ap length (levels_more names levels k d left right) in
     omega (arith, is, more, one, all)
+
+-- one row more of a vertex that was reached
+pub reached_lines_more : (names : List (List ℕ)) (rows : List (VertexId × ℕ)) (start lines new : List ℕ) (k : ℕ)
+    (d : VertexId × ℕ) (x : List ℕ) → x ≡ get_or names (get_or rows k d).0.0 []
+    → lines ≡ start ++ flat_map number_line (map (λ row. (get_or names row.0.0 [], row.1)) (take k rows))
+    → new ≡ lines ++ number_line (x, (get_or rows k d).1) → k < length rows
+    → new ≡ start ++ flat_map number_line (map (λ row. (get_or names row.0.0 [], row.1)) (take (k + 1) rows))
+reached_lines_more names rows start lines new k d x name is written lt =
+    let level = (get_or rows k d).1 in
+    let row : List (List ℕ × ℕ) = named (get_or rows k d) ∷ [] in
+    let before = map named (take k rows) in
+    written ∙ ap (λ n. lines ++ number_line (n, level)) name
+    ∙ ap (λ text. lines ++ text) (sym (append-nil (number_line (named (get_or rows k d)))))
+    ∙ ap (λ text. text ++ flat_map number_line row) is
+    ∙ append_assoc start (flat_map number_line before) (flat_map number_line row)
+    ∙ ap (λ text. start ++ text) (sym (flat_map-append number_line before row))
+    ∙ ap (λ rs. start ++ flat_map number_line rs) (sym (map_more named rows k d lt)) where
+      named : VertexId × ℕ → List ℕ × ℕ
+      named row = (get_or names row.0.0 [], row.1)

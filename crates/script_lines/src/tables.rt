@@ -1,8 +1,8 @@
 //! The lines of an answer in numbers, appended to a buffer. A vertex's name is read where it stands in the version's book, and no
 //! text is made of it.
 
-ghost use Rattle.std.specs.Prelude.{◌≡◌, ◌++◌, [], OnOk, bytes_eq, count_by, length, slice_index_or, string_bytes};
-ghost use Rattle.std.specs.Prelude.{sum_by, zip};
+ghost use Rattle.std.specs.Prelude.{◌≡◌, ◌++◌, [], OnOk, bytes_eq, count_by, length, map, slice_index_or};
+ghost use Rattle.std.specs.Prelude.{string_bytes, sum_by, zip};
 ghost use Rattle.std.specs.List.{flat_map};
 ghost use Rattle.std.specs.Option.{option_to_list};
 ghost use Rattle.graph_levels.specs.Vertices.{numbers_of};
@@ -31,6 +31,7 @@ pub fn reply_lines(
 {
     match reply {
         NumberedReply::Levels(levels) => level_lines(lines, slot, names, levels.as_slice()),
+        NumberedReply::Reached(rows) => reached_lines(lines, slot, names, rows.as_slice()),
         NumberedReply::Labels(labels) => label_lines(lines, slot, names, labels.as_slice()),
         NumberedReply::Cores(numbers) => core_lines(lines, slot, names, numbers.as_slice()),
         NumberedReply::Degrees(degrees) => degree_lines(lines, slot, names, degrees.as_slice()),
@@ -86,6 +87,38 @@ fn count_reached(names: &NameBook, levels: &[Option<u32>]) -> usize
         reached += usize::from(levels[vertex].is_some());
     }
     reached
+}
+
+/// The lines of levels of a few vertices: how many they are, and each of them with its level.
+fn reached_lines(
+    lines: &mut String,
+    slot: u8,
+    names: &NameBook,
+    rows: &[(VertexId, u32)],
+) -> Result<(), AllocError>
+    ensures { OnOk result (string_bytes lines.new ≡ string_bytes lines.old
+        ++ lines_of.level_lines slot (map (λ row. (slice_index_or names.now.names row.0.0 [], row.1)) rows.now)) }
+{
+    let reached = rows.len();
+    write!(lines, "bfs {slot} reached={reached}\n")?;
+    reached_rows(lines, names, rows)
+}
+
+/// A line for each of these vertices, with its level.
+fn reached_rows(
+    lines: &mut String,
+    names: &NameBook,
+    rows: &[(VertexId, u32)],
+) -> Result<(), AllocError>
+    ensures { OnOk result (string_bytes lines.new ≡ string_bytes lines.old
+        ++ flat_map lines_of.number_line (map (λ row. (slice_index_or names.now.names row.0.0 [], row.1)) rows.now)) }
+{
+    let mut page = ArrayString::new();
+    for row in rows {
+        number_line(lines, &mut page, name_at(names, row.0.0), row.1)?;
+    }
+    flush(lines, &page)?;
+    Ok(())
 }
 
 /// The lines of core numbers: the greatest, and each vertex with its own.

@@ -7,9 +7,8 @@ use Rattle.graph_version.specs.Versions.{IsVersion, VersionView, content}
 use Rattle.edge_block.specs.Batches.{IsWithin}
 use Rattle.graph_types.specs.declared.requests.Request.TheVariants as request
 use Rattle.graph_types.specs.declared.requests.AskError.TheVariants as ask
-use Rattle.graph_levels.specs.Vertices.{numbers_of}
-use Rattle.version_answers.specs.Numbered.{IsNumberedAnswer, IsNumberedReply, named}
-use Rattle.version_answers.specs.declared.numbered.NumberedReply.{NumberedReply}
+use Rattle.version_answers.specs.{Numbered.{IsNumberedAnswer, named}, declared.numbered.NumberedReply.NumberedReply}
+use Rattle.version_answers.proofs.NamedRows.{named_reply}
 use Rattle.script_server.proofs.{Edges.edges_in_view, NamesApart.AreApart, NamesApart.apart_names, OwnLabels.own_labels}
 use Rattle.script_lines.specs.{Lines.degree_lines, Lines.label_lines, Lines.shown_lines, declared.words.Word.Word}
 use Rattle.script_server.specs.States.{Held, IsReplied, ServerState, ask_word, reply_lines, version, version_in}
@@ -37,15 +36,6 @@ shown_lines-reply slot (request.Degrees filter) g reply valid is =
     let table = zip g.names (degree_table (resolved g filter) g) in
     rw is (ap (λ n. degree_lines slot n table) (edges_in_view (resolved g filter) g valid.within))
 shown_lines-reply slot (request.OneEdge kind source target) g reply valid is = rw is refl
-
--- a reply in numbers is a reply by the names of its vertices
-named_reply : (request : Request) (g : Graph) (reply : NumberedReply) → IsNumberedReply request g reply
-    → IsReply request g (named g.names reply)
-named_reply (request.Levels source filter) g reply is = (is.0, is.1, ap (named g.names) is.2)
-named_reply (request.Labels filter) g reply is = (numbers_of is.0, is.1, ap (named g.names) is.2)
-named_reply (request.Cores filter) g reply is = (is.0, is.1, ap (named g.names) is.2)
-named_reply (request.Degrees filter) g reply is = ap (named g.names) is
-named_reply (request.OneEdge kind source target) g reply is = ap (named g.names) is
 
 -- a result that isn't want of memory is an answer
 answer_ok : (request : Request) (g : Graph) (reply : NumberedReply)

@@ -1,10 +1,16 @@
 -- Rows of names and values, put together one vertex after another.
-use Rattle.std.proofs.Common.{◌≡◌, ℕ, ◌+◌, ◌<◌, min, List, [], ◌∷◌, ◌++◌, length, get_or, take, Option, Some, None, refl, sym, ap}
-use Rattle.std.proofs.{Common.{◌∙◌, arith}, lemmas.List.{take_more, take_all, get_or-map, length-map, get_or_default}}
-use Rattle.std.proofs.lemmas.{List.Elements.filter_map-append, Option.unwrap_or-slice_get, Slice.Zip.{length-zip, get_or-zip}}
+use Rattle.std.proofs.Common.{◌≡◌, ℕ, ◌+◌, ◌<◌, ◌≤◌, ◌⊎◌, inl, inr, min, List, [], ◌∷◌, ◌++◌, length, get_or, map, take, drop}
+use Rattle.std.proofs.Common.{drop-cons, add-one, Option, Some, None, refl, sym, ap, ◌∙◌, arith}
+use Rattle.std.proofs.lemmas.List.{take_more, take_all, get_or-map, length-map, get_or_default, Elements.filter_map-append}
+use Rattle.std.proofs.lemmas.{Option.unwrap_or-slice_get, Slice.Zip.length-zip, Slice.Zip.get_or-zip}
 use Rattle.std.specs.{Prelude.zip, List.filter_map, List.slice_get, Option.option_to_list, Option.unwrap_or}
-use Rattle.graph_types.{specs.{Answer.{names_of, level_row}, declared.ids.VertexId.VertexId}, proofs.More.kept_row}
-use Rattle.graph_levels.specs.Vertices.{numbers_of}
+use Rattle.graph_types.specs.{Answer.{names_of, level_row, reached, IsReply}, declared.ids.{VertexId.VertexId, Filter.Filter}}
+use Rattle.graph_types.{specs.{declared.requests.Request.Request, Analyses.AreLevels, Graph.Graph}, proofs.More.kept_row}
+use Rattle.graph_levels.specs.{Reached.AreReached, Reached.rows_from, Vertices.numbers_of}
+use Rattle.graph_types.specs.declared.requests.Reply.TheVariants as replies
+use Rattle.graph_types.specs.declared.requests.Request.TheVariants as request
+use Rattle.version_answers.specs.{Numbered.IsNumberedReply, Numbered.named, declared.numbered.NumberedReply.NumberedReply}
+use Rattle.version_answers.specs.declared.numbered.NumberedReply.TheVariants.{Levels, Reached}
 
 -- a vertex's name, and the empty one past the last vertex
 pub name_there : (names : List (List ℕ)) (number : ℕ) (name : List ℕ) → Some name ≡ slice_get names number
@@ -59,3 +65,47 @@ level_rows_more names levels rows new k d is pushed left right =
     ∙ sym (filter_map-append level_row (take k (zip names levels)) ((x, level) ∷ []))
     ∙ ap (filter_map level_row)
     (sym (next_row names levels k x [] level left right refl (get_or_default levels k d level right)))
+
+zip_none : (names : List (List ℕ)) → zip names (let none : List (Option ℕ) = [] in none) ≡ []
+zip_none [] = refl
+zip_none (name ∷ names) = refl
+
+next_name : (names : List (List ℕ)) (v : ℕ) → v < length names → drop v names ≡ get_or names v [] ∷ drop (v + 1) names
+next_name names v lt = rw add-one (drop-cons names v [] lt)
+
+-- the names of a table's rows are the rows of its named levels
+rows_named : (names : List (List ℕ)) (levels : List (Option ℕ)) (v : ℕ) → v + length levels ≤ length names
+    → map (λ row. (get_or names row.0.0 [], row.1)) (rows_from v levels) ≡ filter_map level_row (zip (drop v names) levels)
+rows_named names [] v fits = sym (ap (filter_map level_row) (zip_none (drop v names)))
+rows_named names (None ∷ levels) v fits =
+    rows_named names levels (v + 1) (omega (arith, fits))
+    ∙ sym (ap (λ ns. filter_map level_row (zip ns (None ∷ levels))) (next_name names v (omega (arith, fits))))
+rows_named names (Some d ∷ levels) v fits =
+    ap (λ rows. (get_or names v [], d) ∷ rows) (rows_named names levels (v + 1) (omega (arith, fits)))
+    ∙ sym (ap (λ ns. filter_map level_row (zip ns (Some d ∷ levels))) (next_name names v (omega (arith, fits))))
+
+pub named_levels : (names : List (List ℕ)) (levels : List (Option ℕ)) (reply : NumberedReply) → length levels ≡ length names
+    → (reply ≡ Levels levels) ⊎ (reply ≡ Reached (rows_from 0 levels)) → named names reply ≡ replies.Levels (reached names levels)
+named_levels names levels reply long (inl is) = ap (named names) is
+named_levels names levels reply long (inr is) =
+    ap (named names) is ∙ ap replies.Levels (rows_named names levels 0 (omega (arith, long)))
+
+-- levels are told by their table, and by its rows
+pub each_told : (f : Filter) (g : Graph) (source : ℕ) (levels : List (Option ℕ)) → AreLevels f g source levels
+    → (table : List (Option ℕ)) × AreLevels f g source table
+    × ((Levels levels ≡ Levels table) ⊎ (Levels levels ≡ Reached (rows_from 0 table)))
+each_told f g source levels are = (levels, are, inl refl)
+
+pub rows_told : (f : Filter) (g : Graph) (source : ℕ) (rows : List (VertexId × ℕ)) → AreReached f g source rows
+    → (table : List (Option ℕ)) × AreLevels f g source table
+    × ((Reached rows ≡ Levels table) ⊎ (Reached rows ≡ Reached (rows_from 0 table)))
+rows_told f g source rows are = (are.0, are.1, inr (ap Reached are.2))
+
+-- a reply in numbers is a reply by the names of its vertices
+pub named_reply : (request : Request) (g : Graph) (reply : NumberedReply) → IsNumberedReply request g reply
+    → IsReply request g (named g.names reply)
+named_reply (request.Levels source filter) g reply is = (is.0, is.1, named_levels g.names is.0 reply is.1.one_each is.2)
+named_reply (request.Labels filter) g reply is = (numbers_of is.0, is.1, ap (named g.names) is.2)
+named_reply (request.Cores filter) g reply is = (is.0, is.1, ap (named g.names) is.2)
+named_reply (request.Degrees filter) g reply is = ap (named g.names) is
+named_reply (request.OneEdge kind source target) g reply is = ap (named g.names) is

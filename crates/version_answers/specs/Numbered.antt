@@ -1,20 +1,22 @@
 -- The answer to a request in numbers, and the same reply with names.
-use Rattle.std.specs.{Prelude.{◌≡◌, ℕ, List, zip, Result, Ok, Err}, FinMap.get, Option.option_map, declared.option.Option.Option}
-use Rattle.std.specs.declared.option.Option.TheVariants.{None, Some}
+use Rattle.std.specs.{Prelude.{◌≡◌, ◌⊎◌, ℕ, List, [], map, slice_index_or, zip, Result, Ok, Err}, FinMap.get, Option.option_map}
+use Rattle.std.specs.declared.option.Option.{Option, TheVariants.{None, Some}}
 use Rattle.graph_types.specs.{Graph.Graph, Step.{number_of, key_in}, Analyses.{AreLevels, AreLabels, AreCoreNumbers}}
 use Rattle.graph_types.specs.{Answer.{refusal, resolved, degree_table, shown, reached, names_of}, declared.ids.VertexId.VertexId}
 use Rattle.graph_types.specs.declared.requests.Request.{Request, TheVariants.{Levels as AskLevels, Labels as AskLabels}}
 use Rattle.graph_types.specs.declared.requests.Request.TheVariants.{Cores as AskCores, Degrees as AskDegrees}
 use Rattle.graph_types.specs.declared.requests.{Request.TheVariants.OneEdge as AskOneEdge, Reply.Reply, AskError.AskError}
 use Rattle.graph_types.specs.declared.requests.Reply.TheVariants as replies
-use Rattle.graph_levels.specs.Vertices.{numbers_of}
+use Rattle.graph_levels.specs.{Reached.rows_from, Vertices.numbers_of}
 use Rattle.version_answers.specs.declared.numbered.NumberedReply.{NumberedReply}
-use Rattle.version_answers.specs.declared.numbered.NumberedReply.TheVariants.{Levels, Labels, Cores, Degrees, OneEdge}
+use Rattle.version_answers.specs.declared.numbered.NumberedReply.TheVariants.{Levels, Reached, Labels, Cores, Degrees, OneEdge}
 
--- a reply in numbers to a request that is not refused: one table over the view, or one edge
+-- a reply in numbers to a request that is not refused: one table over the view, of levels also the rows of the vertices that
+-- have one, or one edge
 abbrev pub IsNumberedReply : Request → Graph → NumberedReply → Type 0
 IsNumberedReply (AskLevels source filter) g reply =
-    (levels : List (Option ℕ)) × AreLevels (resolved g filter) g (number_of g.names source) levels × (reply ≡ Levels levels)
+    (levels : List (Option ℕ)) × AreLevels (resolved g filter) g (number_of g.names source) levels
+    × ((reply ≡ Levels levels) ⊎ (reply ≡ Reached (rows_from 0 levels)))
 IsNumberedReply (AskLabels filter) g reply =
     (labels : List VertexId) × AreLabels (resolved g filter) g (numbers_of labels) × (reply ≡ Labels labels)
 IsNumberedReply (AskCores filter) g reply =
@@ -31,6 +33,7 @@ IsNumberedAnswer request g (Err error) = refusal request g ≡ Some error
 -- a reply with names in place of numbers, where these are the vertices' names
 abbrev pub named : List (List ℕ) → NumberedReply → Reply
 named names (Levels levels) = replies.Levels (reached names levels)
+named names (Reached rows) = replies.Levels (map (λ row. (slice_index_or names row.0.0 [], row.1)) rows)
 named names (Labels labels) = replies.Labels (zip names (names_of names (numbers_of labels)))
 named names (Cores numbers) = replies.Cores (zip names numbers)
 named names (Degrees degrees) = replies.Degrees (zip names degrees)

@@ -15,6 +15,7 @@ use std::alloc::Global;
 /// else the reply; `OutOfMemory` where a growth was refused, and never for one edge.
 ///
 /// It is [`answer_in_numbers`] with names put in, one copy of a name's text for each row, and two for each label.
+#[tactic(auto, using(crate::proofs::NamedRows::named_reply))]
 pub fn answer(alloc: Global, version: &Version, request: &Request) -> Result<Reply, AskError>
     ensures answer { (result ≡ Err AskError.OutOfMemory) ⊎ IsAnswer request.now (content version.now) result }
     ensures one_edge { (kind source target : List ℕ) → request.now ≡ OneEdge kind source target

@@ -1,6 +1,6 @@
 //! Names in place of numbers.
 
-ghost use Rattle.std.specs.Prelude.{◌≡◌, ◌++◌, ℕ, ℤ, [], length, zip, IfOk, OnOk, OnErr, slice_index_or};
+ghost use Rattle.std.specs.Prelude.{◌≡◌, ◌++◌, ℕ, ℤ, [], length, map, zip, IfOk, OnOk, OnErr, slice_index_or};
 ghost use Rattle.std.specs.declared.option.Option.{Option};
 ghost use Rattle.std.specs.Option.{option_to_list};
 ghost use Rattle.graph_types.specs.Answer.{reached, level_row, names_of};
@@ -18,8 +18,8 @@ use vertex_names::NameBook;
 /// The reply with the names that the version's vertices have: each row gets the name of its vertex, levels of vertices that
 /// no walk reaches are left out, and a label becomes the name of its vertex.
 ///
-/// Rows past the last vertex are left out, and a label past it becomes an empty text; a reply about this version has neither.
-/// The error is want of memory, and never comes for one edge.
+/// Rows past the last vertex are left out, and a vertex past it that is a label or was reached becomes an empty text; a reply
+/// about this version has neither. The error is want of memory, and never comes for one edge.
 pub fn name_reply(
     alloc: Global,
     version: &Version,
@@ -32,6 +32,9 @@ pub fn name_reply(
     match reply {
         NumberedReply::Levels(levels) => {
             Ok(Reply::Levels(List::of(name_levels(alloc, names, levels.as_slice())?)))
+        }
+        NumberedReply::Reached(rows) => {
+            Ok(Reply::Levels(List::of(name_reached(alloc, names, rows.as_slice())?)))
         }
         NumberedReply::Labels(labels) => {
             Ok(Reply::Labels(List::of(name_labels(alloc, names, labels.as_slice())?)))
@@ -122,4 +125,20 @@ fn push_level(
         rows.push((name_at(alloc, names, vertex)?, level))?;
     }
     Ok(())
+}
+
+/// The name of each of these vertices, with its level.
+fn name_reached(
+    alloc: Global,
+    names: &NameBook,
+    rows: &[(VertexId, u32)],
+) -> Result<Vec<(Name, u32)>, AllocError>
+    ensures { IfOk result (λ named. named.items
+        ≡ map (λ row. (slice_index_or names.now.names row.0.0 [], row.1)) rows.now) }
+{
+    let mut named = Vec::with_capacity(alloc, rows.len())?;
+    for row in rows {
+        named.push((name_at(alloc, names, row.0.0)?, row.1))?;
+    }
+    Ok(named)
 }

@@ -10,17 +10,19 @@ ghost use Rattle.graph_version.specs.Versions.{content};
 ghost use Rattle.version_answers.specs.Numbered.{IsNumberedAnswer};
 
 use graph_cores::{cores, degrees};
-use graph_levels::{labels, levels};
+use graph_levels::{labels, reached};
 use graph_types::{AskError, Degree, Filter, KindId, List, Name, NamedFilter, Request, VertexId};
 use graph_version::Version;
 use std::alloc::Global;
 
-/// The reply to a request, with vertices by their numbers in the version that was asked; each list has one item for each
-/// vertex, in number order.
+/// The reply to a request, with vertices by their numbers in the version that was asked; each list is in number order, and
+/// but for [`NumberedReply::Reached`] it has one item for each vertex.
 #[derive(Debug, Drop)]
 pub enum NumberedReply {
     /// The level of each vertex to which a walk leads from the source.
     Levels(List<Option<u32>>),
+    /// The vertices to which a walk leads from the source, with their levels, where these are few.
+    Reached(List<(VertexId, u32)>),
     /// The least vertex of each vertex's part.
     Labels(List<VertexId>),
     /// Core numbers.
@@ -71,8 +73,9 @@ fn answer_levels(
     let Some(source) = version.names().number(source.as_str()) else {
         return Err(AskError::NoVertex);
     };
-    match levels(alloc, version, VertexId(source), &view) {
-        Ok(table) => Ok(NumberedReply::Levels(List::of(table))),
+    match reached(alloc, version, VertexId(source), &view) {
+        Ok(graph_levels::Levels::Each(levels)) => Ok(NumberedReply::Levels(levels)),
+        Ok(graph_levels::Levels::Reached(rows)) => Ok(NumberedReply::Reached(rows)),
         Err(_) => Err(AskError::OutOfMemory),
     }
 }
