@@ -3,7 +3,7 @@
 
 use crate::texts::{check_so, push_item, tell_refused};
 use graph_cores::cores_over;
-use graph_levels::{labels_over, levels_over};
+use graph_levels::{Levels, labels_over, levels_over, reached_over};
 use graph_types::VertexId;
 use graph_version::{ListedArcs, ViewEdges};
 use std::alloc::{AllocError, Global};
@@ -51,6 +51,30 @@ fn write_levels(text: &mut String, levels: &[Option<u32>]) -> Result<(), AllocEr
     Ok(())
 }
 
+/// Each row, its vertex and its level with a colon between them, with a comma behind it.
+fn write_rows(text: &mut String, rows: &[(VertexId, u32)]) -> Result<(), AllocError> {
+    for row in rows {
+        write_row(text, row.0.0, row.1)?;
+    }
+    Ok(())
+}
+
+fn write_row(text: &mut String, vertex: u32, level: u32) -> Result<(), AllocError> {
+    push_item(text, vertex, ":")?;
+    push_item(text, level, ",")
+}
+
+/// The levels from a source that is a vertex, or the rows of the few vertices that are reached.
+fn add_reached(alloc: Global, text: &mut String, edges: &ListedArcs, source: u32) -> Option<()> {
+    if source >= edges.count as u32 {
+        return None;
+    }
+    match reached_over(alloc, edges, VertexId(source)).ok()? {
+        Levels::Each(levels) => write_levels(text, levels.as_slice()).ok(),
+        Levels::Reached(rows) => write_rows(text, rows.as_slice()).ok(),
+    }
+}
+
 /// The levels from a source that is a vertex.
 fn add_levels(alloc: Global, text: &mut String, edges: &ListedArcs, source: u32) -> Option<()> {
     if source >= edges.count as u32 {
@@ -84,6 +108,7 @@ fn add_table(alloc: Global, text: &mut String, edges: &ListedArcs, what: &str) -
     let source: u32 = source.parse().ok()?;
     match what {
         "levels" => add_levels(alloc, text, edges, source),
+        "reached" => add_reached(alloc, text, edges, source),
         "labels" => add_labels(alloc, text, edges),
         "cores" => add_cores(alloc, text, edges),
         _ => add_targets(alloc, text, edges, source),
@@ -107,6 +132,8 @@ fn told_of_line(alloc: Global, line: &str) -> Option<bool> {
 /// A triangle with a tail, from its corner and from the tail's end; levels go by direction, and labels against it too; loops, and
 /// an arc twice; the shorter of two ways; trees that are joined by their ends; one vertex, and an arc to none; no vertices.
 ///
+/// Rows where at most one vertex of 16 is reached, whatever the order in which they are met; the table where one more is.
+///
 /// Core numbers: no vertices, and one without arcs; a loop and parallel arcs, one of them the other way; an arc to no vertex, and
 /// no arcs between the others; a path, by arcs in both directions; a triangle with a tail; five vertices that are joined two by
 /// two, with a sixth that hangs on; two triangles, joined by a path whose inner vertex has two neighbors.
@@ -126,6 +153,11 @@ levels 3 of 6: 3>4 1>2 2>4 => -,-,-,0,1,-,
 labels of 6: 3>4 1>2 2>4 => 0,1,1,1,1,5,
 levels 0 of 1: 0>1 => 0,
 labels of 1: 0>1 => 0,
+reached 0 of 48: 0>31 31>5 7>8 0>5 => 0:0,5:1,31:1,
+reached 40 of 48: 7>8 => 40:0,
+reached 5 of 16: 3>5 => 5:0,
+reached 0 of 16: 0>3 => 0,-,-,1,-,-,-,-,-,-,-,-,-,-,-,-,
+reached 1 of 3: 1>2 => -,0,1,
 labels of 0: =>
 cores of 0: =>
 cores of 1: => 0,

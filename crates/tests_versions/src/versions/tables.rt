@@ -4,7 +4,7 @@
 use super::steps::first;
 use batch_apply::PassAll;
 use graph_cores::{cores, degrees};
-use graph_levels::{LevelError, labels, levels};
+use graph_levels::{LevelError, Levels, labels, levels, reached};
 use graph_types::{Degree, Filter, VertexId};
 use graph_version::{Version, VersionEdges, ViewEdges};
 use std::alloc::Global;
@@ -30,6 +30,14 @@ fn are_levels(alloc: Global, version: &Version, wanted: &[Option<u32>]) -> bool 
     match levels(alloc, version, VertexId(2), &NO_TIME) {
         Ok(table) => table.as_slice() == wanted,
         Err(_) => false,
+    }
+}
+
+// The same where the reached vertices alone are told if they are few: one of four isn't.
+fn are_reached(alloc: Global, version: &Version, wanted: &[Option<u32>]) -> bool {
+    match reached(alloc, version, VertexId(2), &NO_TIME) {
+        Ok(Levels::Each(table)) => table.as_slice() == wanted,
+        _ => false,
     }
 }
 
@@ -61,6 +69,13 @@ fn is_no_vertex(alloc: Global, version: &Version, view: &Filter, number: u32) ->
     )
 }
 
+fn reaches_no_vertex(alloc: Global, version: &Version, view: &Filter, number: u32) -> bool {
+    matches!(
+        reached(alloc, version, VertexId(number), view),
+        Err(LevelError::NoVertex)
+    )
+}
+
 // The labels of four vertices without edges, each its own, and their degrees.
 const OWN: [VertexId; 4] = [VertexId(0), VertexId(1), VertexId(2), VertexId(3)];
 
@@ -72,10 +87,12 @@ const NONE: Degree = Degree {
 
 fn check_tables(rt: &impl Abort, alloc: Global, version: &Version) {
     assert!(rt; are_levels(alloc, version, &[None, None, Some(0), None]));
+    assert!(rt; are_reached(alloc, version, &[None, None, Some(0), None]));
     assert!(rt; are_labels(alloc, version, &NO_TIME, &OWN));
     assert!(rt; are_cores(alloc, version, &NO_TIME, &[0, 0, 0, 0]));
     assert!(rt; are_degrees(alloc, version, &NO_TIME, &[NONE, NONE, NONE, NONE]));
     assert!(rt; is_no_vertex(alloc, version, &NO_TIME, 4));
+    assert!(rt; reaches_no_vertex(alloc, version, &NO_TIME, 4));
 }
 
 #[test]
