@@ -5,6 +5,7 @@ ghost use Rattle.std.specs.Prelude.{All};
 ghost use Rattle.stream_store.specs.Opened.{IsOpeningOf};
 ghost use Rattle.stream_store.specs.Stores.{IsSeatOf};
 
+use super::checks::check_so;
 use super::learnt::{check_learnt, check_learnt_later};
 use super::threads::check_beside;
 use super::told_readers::check_told_readers;
@@ -28,6 +29,23 @@ pub(super) enum Story {
     ToldReaders,
 }
 
+/// Tells a story of one seat.
+fn check_seat<J: Naming + Send + Sync, R: Threads + Wait + Sync + Abort + Print>(
+    rt: &R,
+    alloc: Global,
+    store: &Store<J>,
+    seat: Seat,
+    story: Story,
+)
+    requires { IsSeatOf J.book J.opening seat }
+{
+    match story {
+        Story::Learnt => check_learnt(rt, alloc, store, seat),
+        Story::LearntLater => check_learnt_later(rt, alloc, store, seat),
+        _ => check_beside(rt, alloc, store, seat),
+    }
+}
+
 /// Tells a story of one seat, or of all.
 fn check_seats<J: Naming + Send + Sync, R: Threads + Wait + Sync + Abort + Print>(
     rt: &R,
@@ -41,11 +59,9 @@ fn check_seats<J: Naming + Send + Sync, R: Threads + Wait + Sync + Abort + Print
     if matches!(story, Story::ToldReaders) {
         return check_told_readers(rt, alloc, store, seats);
     }
-    let seat = seats.pop().expect(rt, "a seat");
-    match story {
-        Story::Learnt => check_learnt(rt, alloc, store, seat),
-        Story::LearntLater => check_learnt_later(rt, alloc, store, seat),
-        _ => check_beside(rt, alloc, store, seat),
+    match seats.pop() {
+        Some(seat) => check_seat(rt, alloc, store, seat, story),
+        None => check_so(rt, false, "a seat"),
     }
 }
 
