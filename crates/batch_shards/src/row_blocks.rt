@@ -2,13 +2,51 @@
 
 ghost use Rattle.std.specs.Prelude.{◌≡◌, ◌+◌, ◌<◌, ◌≤◌, IsTrue, OnOk, IfOk, vec_len, true, false, cond};
 ghost use Rattle.graph_types.specs.Graph.{IsWeight, IsTime};
-ghost use Rattle.edge_block.specs.Slots.{has_room_for, put_slot, take_slot, edge_slot, slots_since, old_in};
+ghost use Rattle.edge_block.specs.Slots.{has_room_for, put_slot, take_slot, edge_slot, slots_since, old_in, with_slots};
 ghost use Rattle.edge_block.specs.Rows as layout;
+ghost use Rattle.batch_shards.specs.RowBlocks.{block_of};
 
 use edge_block::Block;
 use graph_types::KindId;
 use std::alloc::AllocError;
 use std::sync::Arc;
+
+/// Has a block take over another one's source, kind and slots.
+///
+/// Mostly nobody else holds it. `Arc::make_mut` clears room for a copy of it before it looks, so it is asked last.
+fn copy_into(own: &mut Arc<Block>, other: &Block) -> Result<(), AllocError>
+    ensures { OnOk result (block_of own.new ≡ record other.now { number = (block_of own.old).number }) }
+{
+    if let Some(own) = Arc::get_mut(own) {
+        own.copy_from(other);
+        return Ok(());
+    }
+    Arc::make_mut(own)?.copy_from(other);
+    Ok(())
+}
+
+/// Writes an edge into a block, as [`Block::put`]; it looks first whether somebody else holds it, as `copy_into`.
+fn put_into(
+    own: &mut Arc<Block>,
+    target: u32,
+    weight: i64,
+    first: u64,
+    recent: u64,
+) -> Result<(), AllocError>
+    requires room { IsTrue (has_room_for target (block_of own.old).slots) }
+    requires weight { IsWeight weight }
+    requires first { IsTime first }
+    requires recent { IsTime recent }
+    ensures { OnOk result (block_of own.new
+        ≡ with_slots (block_of own.old) (put_slot (edge_slot target weight first recent) (block_of own.old).slots)) }
+{
+    if let Some(own) = Arc::get_mut(own) {
+        own.put(target, weight, first, recent);
+        return Ok(());
+    }
+    Arc::make_mut(own)?.put(target, weight, first, recent);
+    Ok(())
+}
 
 /// A block of a row while a batch goes on.
 #[derive(Drop)]
@@ -61,7 +99,7 @@ impl RowBlock {
         let Some(mut own) = fresh.pop() else {
             return Ok(());
         };
-        Arc::make_mut(&mut own)?.copy_from(&self.block);
+        copy_into(&mut own, &self.block)?;
         let before = std::mem::replace(&mut self.block, own);
         self.before = Some(before);
         self.touched = true;
@@ -86,8 +124,7 @@ impl RowBlock {
         ensures keeps { OnOk result (KeepsHere 1 self.old fresh.old self.new fresh.new) }
     {
         self.own(fresh)?;
-        Arc::make_mut(&mut self.block)?.put(target, weight, first, recent);
-        Ok(())
+        put_into(&mut self.block, target, weight, first, recent)
     }
 
     /// Takes the edge to a target out.
