@@ -1,7 +1,7 @@
 //! Work on the row of a source: it is opened, its operations are done, and it is closed.
 
 ghost use Rattle.std.specs.Prelude.{◌≡◌, ◌+◌, ◌++◌, ◌<◌, ◌≤◌, ℕ, List, [], IfOk, OnOk, All};
-ghost use Rattle.std.specs.Prelude.{vec_len, length, map, count_by, ◌%◌, ◌^◌};
+ghost use Rattle.std.specs.Prelude.{vec_len, vec_capacity, length, map, count_by, ◌%◌, ◌^◌};
 ghost use Rattle.graph_types.specs.declared.batches.Outcome.TheVariants.{Expired};
 ghost use Rattle.graph_types.specs.Changes.{IsChange};
 ghost use Rattle.edge_block.specs.Rows as layout;
@@ -181,11 +181,12 @@ pub fn open_row(
 {
     let mut blocks = Vec::with_capacity(alloc, row.len() + 1)?;
     for block in row {
-        blocks.push(RowBlock {
-            block: Arc::try_clone(block)?,
+        let block = Arc::try_clone(block)?;
+        blocks.push_reserved(RowBlock {
+            block,
             touched: false,
             before: None,
-        })?;
+        });
     }
     let notes = notes_for(alloc, blocks.as_slice(), targets)?;
     Ok(OpenRow {
@@ -226,7 +227,10 @@ fn close_block(
     row: &mut Vec<Arc<Block>>,
     left: &mut Leavings,
 ) -> Result<(), AllocError>
+    requires room { vec_len row.old < vec_capacity row.old }
     ensures row { OnOk result (blocks_of row.new.items ≡ blocks_of row.old.items ++ after_here blocks) }
+    ensures grows { OnOk result (vec_len row.new ≤ vec_len row.old + 1) }
+    ensures capacity { vec_capacity row.new ≡ vec_capacity row.old }
     ensures taken { OnOk result (left.new.taken.items ≡ left.old.taken.items ++ map (λ b. b.number) (written_here blocks)) }
     ensures dropped { OnOk result (blocks_of left.new.dropped.items ≡ blocks_of left.old.dropped.items ++ dropped_here blocks) }
     ensures unused { OnOk result (numbers_of left.new.unused.items ≡ numbers_of left.old.unused.items ++ unused_here blocks) }
@@ -237,7 +241,7 @@ fn close_block(
         before,
     } = blocks;
     if !touched {
-        row.push(block)?;
+        row.push_reserved(block);
         return Ok(());
     }
     if let Some(old) = before {
@@ -248,7 +252,7 @@ fn close_block(
         return Ok(());
     }
     left.taken.push(block.number())?;
-    row.push(block)?;
+    row.push_reserved(block);
     Ok(())
 }
 

@@ -1,5 +1,6 @@
-use Rattle.std.proofs.Common.{◌≡◌, ℕ, ◌++◌, List, ap, sym, ◌∙◌, append_assoc, map}
+use Rattle.std.proofs.Common.{◌≡◌, ℕ, ◌++◌, ◌∷◌, [], List, ap, sym, arith, ◌∙◌, append_assoc, length, length-append, map}
 use Rattle.std.proofs.lemmas.List.{map-append}
+use Rattle.std.proofs.lemmas.Iterator.{Adapters.YieldsList-from_vec, Consumers.YieldsList-turn}
 use Rattle.edge_block.specs.Slots.{BlockView}
 use Rattle.batch_shards.specs.Closing.{after_here, written_here, dropped_here, unused_here, written_of}
 use Rattle.batch_shards.{specs.declared.row_blocks.RowBlock.RowBlock, proofs.Places.one_piece}
@@ -11,12 +12,25 @@ behind : {A : Type 0} (base so_far here old new all : List A) → new ≡ old ++
 behind base so_far here old new all added before whole =
     added ∙ ap (λ l. l ++ here) before ∙ append_assoc base so_far here ∙ ap (λ l. base ++ l) (sym whole)
 
+-- room was made for all blocks at once
+pub close_block-requires : goal.close_block-requires
+close_block-requires c =
+    let start = c.into_iter-block-iterator.ensures.into_iter_gives in
+    let turn = YieldsList-turn (YieldsList-from_vec {s = c.into_iter-block-iterator.result} c.args.blocks.items start.0
+    (start.1 ∙ c.args.blocks.ok.0))
+    c.loop-block.yielded c.loop-block.block-iterator c.loop-block.yielded_by c.next.result c.next.new.self
+    c.in-Some.block c.in-Some.is c.next.ensures.steps in
+    omega (arith, turn.0, c.loop-block.invariant.few, c.loop-block.invariant.room)
+
 pub loop-block-preserved : goal.loop-block-preserved
 loop-block-preserved c =
     let done : List RowBlock = c.loop-block.yielded in
     let block : RowBlock = c.in-Some.block in
     let number : BlockView → ℕ = λ b. b.number in
+    let more = length-append done (block ∷ []) in
     record {
+      few = omega (arith, more, c.in_ok-close_block.ensures.grows, c.loop-block.invariant.few);
+      room = omega (arith, c.close_block.ensures.capacity, c.loop-block.invariant.room);
       row = c.in_ok-close_block.ensures.row ∙ ap (λ l. l ++ after_here block) c.loop-block.invariant.row
           ∙ sym (one_piece after_here done block);
       taken = behind _ (map number (written_of done)) (map number (written_here block)) _ _ _ c.in_ok-close_block.ensures.taken

@@ -1,4 +1,4 @@
-use Rattle.std.proofs.Common.{◌≡◌, [], map, take, All}
+use Rattle.std.proofs.Common.{◌≡◌, ◌<◌, [], map, take, length, All, vec_len, vec_capacity}
 use Rattle.batch_shards.specs.RowBlocks.{blocks_of, kept_of, opens, had_in, own_in, IsOf}
 use Rattle.batch_shards.proofs.open_rows.open_row.Given as goal
 
@@ -8,4 +8,6 @@ invariant-loop-block l = record {
   had : had_in l.blocks.items ≡ blocks_of (take l.block-index l.row);
   none_own : own_in l.blocks.items ≡ [];
   own : All (IsOf l.source.0) l.blocks.items;
+  count : vec_len l.blocks ≡ l.block-index;
+  room : length l.row < vec_capacity l.blocks;
 }
