@@ -1,8 +1,10 @@
 -- Where a batch's targets may stand in a long row.
-use Rattle.std.specs.Prelude.{◌≡◌, ℕ, ◌<◌, ◌==◌, nat_lt, List, [], map, length, get_or, Bool, true, not, ◌||◌, bit_and, ◌⊎◌}
+use Rattle.std.specs.Prelude.{◌≡◌, ℕ, ◌<◌, ◌==◌, nat_lt, List, [], ◌∷◌, ◌++◌, map, length, get_or, set, Bool, true, not, ◌||◌, bit_and, ◌⊎◌}
 use Rattle.std.specs.List.{list_any}
 use Rattle.std.specs.declared.option.Option.{Option}
 use Rattle.std.specs.declared.option.Option.TheVariants.{None, Some}
+use Rattle.std.specs.declared.vec.Vec.{Vec}
+use Rattle.std.specs.declared.alloc.Global.{Global}
 use Rattle.edge_block.specs.Slots.{holds}
 use Rattle.batch_shards.specs.declared.notes.Notes.{Notes}
 use Rattle.batch_shards.specs.declared.row_blocks.RowBlock.{RowBlock}
@@ -27,6 +29,14 @@ stands places place = list_any (λ p. p == place) places
 abbrev pub may_stand : Notes → ℕ → ℕ → Bool
 may_stand n target place =
     not (nat_lt (list_of n target) (length n.places.items)) || stands (get_or (places_in n) (list_of n target) []) place
+
+-- one of the lists of places has a place more
+pub record HasPlace (list place : ℕ) (old new : List (Vec ℕ Global)) : Type 0 where
+  pub before : Vec ℕ Global
+  pub after : Vec ℕ Global
+  pub before_is : before ≡ get_or old list before
+  pub after_is : after.items ≡ before.items ++ place ∷ []
+  pub lists_are : new ≡ set old list after
 
 -- a target may stand wherever it might
 pub record HasMore (old new : Notes) : Type 0 where

@@ -5,7 +5,7 @@
 ghost use Rattle.std.specs.Prelude.{◌≡◌, ℕ, ◌<◌, IfOk, IfSome, OnOk, MatchOption, true, length};
 ghost use Rattle.std.specs.List.{list_any};
 ghost use Rattle.edge_block.specs.Slots.{holds};
-ghost use Rattle.batch_shards.specs.Notes.{may_stand, list_of, places_in, stands, HasMore, IsNoted};
+ghost use Rattle.batch_shards.specs.Notes.{may_stand, list_of, places_in, stands, HasMore, HasPlace, IsNoted};
 
 use crate::row_blocks::RowBlock;
 use edge_block::Block;
@@ -102,7 +102,7 @@ impl Notes {
     {
         let list = self.list_of(target);
         if list < self.places.len() {
-            self.places[list].push(place)?;
+            add_place(&mut self.places, list, place)?;
         }
         Ok(())
     }
@@ -128,4 +128,13 @@ impl Notes {
             None
         }
     }
+}
+
+/// Adds a place to one of the lists. It stands apart, so that what passes over a target without a list is short.
+fn add_place(places: &mut Vec<Vec<usize>>, list: usize, place: usize) -> Result<(), AllocError>
+    requires { list < length places.old.items }
+    ensures { OnOk result (HasPlace list place places.old.items places.new.items) }
+{
+    places[list].push(place)?;
+    Ok(())
 }
