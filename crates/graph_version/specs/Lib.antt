@@ -7,4 +7,8 @@ pub mod Rebased
 pub use Rattle.version_pages.specs.Rows
 pub mod Listed
 pub mod Shown
-pub use Rattle.version_pages.specs.{BatchLending, Batches, Rows, Ages, Sharing}
+pub use Rattle.version_pages.specs.BatchLending
+pub use Rattle.version_pages.specs.Batches
+pub use Rattle.version_pages.specs.Rows
+pub use Rattle.version_pages.specs.Ages
+pub use Rattle.version_pages.specs.Sharing

@@ -1,6 +1,19 @@
 -- What the contracts of what is handed on are said in.
-pub use Rattle.graph_types.specs.{Answer, Graph, Limits, Step, Valid}
+pub use Rattle.graph_types.specs.Answer
+pub use Rattle.graph_types.specs.Graph
+pub use Rattle.graph_types.specs.Limits
+pub use Rattle.graph_types.specs.Step
+pub use Rattle.graph_types.specs.Valid
 pub use Rattle.graph_version.specs.Versions
-pub use Rattle.block_reclamation.specs.{Board, Copies, Status}
+pub use Rattle.block_reclamation.specs.Board
+pub use Rattle.block_reclamation.specs.Copies
+pub use Rattle.block_reclamation.specs.Status
 pub use Rattle.version_shelf.specs.Shelves
-pub use Rattle.stream_store.specs.{Applying, Configs, Kept, Opened, Openings, Refusals, Seats, Stores}
+pub use Rattle.stream_store.specs.Applying
+pub use Rattle.stream_store.specs.Configs
+pub use Rattle.stream_store.specs.Kept
+pub use Rattle.stream_store.specs.Opened
+pub use Rattle.stream_store.specs.Openings
+pub use Rattle.stream_store.specs.Refusals
+pub use Rattle.stream_store.specs.Seats
+pub use Rattle.stream_store.specs.Stores
