@@ -42,6 +42,11 @@ map_first_all f zero (x ∷ xs) le = absurd (omega arith)
 map_first_all f (suc k) [] le = refl
 map_first_all f (suc k) (x ∷ xs) le = ap (λ ys. f x ∷ ys) (map_first_all f k xs (omega arith))
 
+pub map_first_long : {A : Type 0} (f : A → A) (k : ℕ) (xs : List A) → length (map_first f k xs) ≡ length xs
+map_first_long f zero xs = refl
+map_first_long f (suc k) [] = refl
+map_first_long f (suc k) (x ∷ xs) = ap suc (map_first_long f k xs)
+
 -- a sum over one element more
 sum_next : {A : Type 0} (f : A → ℕ) (k : ℕ) (xs : List A) (d : A) → k < length xs
     → sum_by f (take (suc k) xs) ≡ sum_by f (take k xs) + f (get_or xs k d)
