@@ -114,6 +114,10 @@ sizes_of options =
 abbrev pub is_quiet : List Row → Bool
 is_quiet options = option_map_or (λ text. bytes_eq text (codes "true")) (first_of (codes "quiet") options) false
 
+-- the run that the options of `run` stand for
+abbrev pub run_of : List Row → Option RunView
+run_of options = option_map (λ sizes. record { sizes = sizes; quiet = is_quiet options }) (sizes_of options)
+
 -- the readers that the option of `drive` stands for
 abbrev pub readers_of : List Row → Option ℕ
 readers_of options = number_within 1 4 (one_of (codes "readers") options)
@@ -123,7 +127,7 @@ abbrev pub asked_of_subcommand : Option (List ℕ × List Row) → Asked
 asked_of_subcommand None = Usage
 asked_of_subcommand (Some (name, options)) =
     if bytes_eq name (codes "drive") then option_map_or Drive (readers_of options) Usage
-    else option_map_or (λ sizes. Serve (record { sizes = sizes; quiet = is_quiet options })) (sizes_of options) Usage
+    else option_map_or Serve (run_of options) Usage
 
 -- an error of the command line is a wish for help, or a mistake
 abbrev pub is_wish_for_help : ErrorKind → Bool
