@@ -1,5 +1,5 @@
 -- The numbers of a batch's names, each operation by the names at its place.
-use Rattle.std.specs.{Prelude.{ℕ, ◌<◌, ◌≤◌, List, [], ◌∷◌, length, if◌then◌else◌}, Option.option_map}
+use Rattle.std.specs.{Prelude.{ℕ, ◌≡◌, ◌<◌, ◌≤◌, List, [], ◌∷◌, length, if◌then◌else◌}, Option.option_map}
 use Rattle.std.specs.declared.option.Option.{Option, TheVariants.{None, Some}}
 use Rattle.graph_types.specs.{Graph.Key, Step.number_of, declared.batches.NamedOp.NamedOp, Changes.IsChange}
 use Rattle.vertex_names.specs.{Book.Book, declared.book.AddError.{AddError, TheVariants.{NamesFull, OutOfMemory}}}
@@ -20,6 +20,16 @@ ends_by names (OfAll time) = record { source = None; target = None }
 
 abbrev pub ends_in : List (List ℕ) → NamedOp → Ends
 ends_in names op = ends_by names (parts_of op)
+
+-- what was found of an operation's ends: if both numbers, then those that the names give them
+abbrev pub IsFound : List (List ℕ) → NamedOp → Ends → Type 0
+IsFound names op found = (source target : ℕ) → found.source ≡ Some source → found.target ≡ Some target
+    → found ≡ ends_in names op
+
+-- what was found of the first of these operations, or of all
+abbrev pub AreFound : List (List ℕ) → List NamedOp → List Ends → Type 0
+AreFound names (op ∷ ops) (ends ∷ found) = IsFound names op ends × AreFound names ops found
+AreFound names _ _ = Unit {0}
 
 -- the number of an operation's kind, by these kinds
 abbrev pub kind_by : List (List ℕ) → Parts → Option ℕ

@@ -8,7 +8,7 @@ ghost use Rattle.graph_version.specs.Versions.{content};
 ghost use Rattle.graph_version.specs.Rows.{row_of};
 ghost use Rattle.batch_shards.specs.Done.{layout_by, sources_in};
 ghost use Rattle.batch_shards.specs.Spending.{needed};
-ghost use Rattle.batch_apply.specs.Plan.{shown, IsInRange};
+ghost use Rattle.batch_apply.specs.Plan.{shown, AreFound, IsInRange};
 ghost use Rattle.batch_apply.specs.Planned.{IsPlan, MeetsNeitherLimit, IsPlanRefusal};
 ghost use Rattle.batch_apply.specs.Shards.{IsShardOf, latest};
 ghost use Rattle.batch_apply.specs.OldRows.{AreOldRows, expiry_time};
@@ -16,7 +16,7 @@ ghost use Rattle.batch_apply.specs.OldRows.{AreOldRows, expiry_time};
 use crate::naming::resolve_batch;
 use crate::old::OldRow;
 use crate::plans::{Plan, PlanError};
-use crate::resolve::ResolvedOp;
+use crate::resolve::{Ends, ResolvedOp};
 use crate::shards::{Needing, shard_for};
 use batch_shards::Shard;
 use graph_types::Batch;
@@ -25,27 +25,30 @@ use std::alloc::{AllocError, Global};
 
 /// Plans a batch over a version for so many workers: a vertex's operations are those of the worker whose number is the
 /// vertex's modulo the number of workers, in the batch's order, an operation whose source is unknown at its place is
-/// worker 0's, and an expiry is every worker's. These are the version's old rows for the batch.
+/// worker 0's, and an expiry is every worker's. These are the version's old rows for the batch, and this was found of the ends
+/// of its first operations among the version's names.
 ///
 /// `NamesFull` where the batch would leave more than 65,536 vertex names, else `KindsFull` where it would leave more
 /// than 64 kinds, and `OutOfMemory` where a growth was refused. The plan shares the version's names, and copies no text
 /// but those of the last 256 where the batch has new ones.
-pub fn plan_with(
+pub fn plan_found(
     alloc: Global,
     version: &Version,
     batch: &Batch,
     old: &[OldRow],
+    found: &[Ends],
     workers: usize,
 ) -> Result<Plan, PlanError>
     requires workers { 0 < workers }
     requires old { AreOldRows (expiry_time batch.now) (row_of version.now.rows) old.now }
+    requires found { AreFound (content version.now).names batch.now found.now }
     ensures plan { IfOk result (IsPlan workers batch.now (content version.now) (row_of version.now.rows)) }
     ensures limits { OnOk result (MeetsNeitherLimit batch.now (content version.now)) }
     ensures refused { IfErr result (λ error. IsPlanRefusal error batch.now (content version.now)) }
 {
     let mut names = version.names().share()?;
     let mut kinds = version.kinds().share()?;
-    let ops = resolve_batch(alloc, &mut names, &mut kinds, batch.ops())?;
+    let ops = resolve_batch(alloc, &mut names, &mut kinds, batch.ops(), found)?;
     let Shards { shards, needs } = shards_for(alloc, workers, ops.as_slice(), old)?;
     Ok(Plan {
         names,

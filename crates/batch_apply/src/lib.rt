@@ -7,6 +7,7 @@
 
 mod applied;
 mod dividing;
+mod finding;
 mod laws;
 mod naming;
 mod old;
@@ -18,13 +19,12 @@ mod source_laws;
 mod workers;
 
 pub use applied::{Applied, apply};
-pub use dividing::plan_with;
 pub use laws::{
     law_all_written, law_batch_totals, law_needs, law_needs_example, law_shard_results,
     law_sum_all, law_worker_rows,
 };
 pub use old::{OldRow, old_rows};
-pub use planning::plan;
+pub use planning::{plan, plan_with};
 pub use plans::{Plan, PlanError};
 pub use source_laws::law_sources_within;
 pub use workers::{Gate, Job, PassAll, do_all};

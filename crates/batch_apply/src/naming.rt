@@ -3,10 +3,11 @@
 ghost use Rattle.std.specs.Prelude.{◌≡◌, ◌≤◌, map, IfOk, IfErr, OnOk, All};
 ghost use Rattle.graph_types.specs.Valid.{IsValid};
 ghost use Rattle.edge_block.specs.Batches.{resolved, IsPlaced};
-ghost use Rattle.batch_apply.specs.Plan.{names_all, kinds_all, shown, with_names, Fits, IsInRange, IsUnplanned};
+ghost use Rattle.batch_apply.specs.Plan.{names_all, kinds_all, shown, with_names, AreFound, Fits, IsInRange, IsUnplanned};
 
 use crate::plans::PlanError;
-use crate::resolve::{ResolvedOp, resolve_op};
+use crate::finding::found_at;
+use crate::resolve::{Ends, ResolvedOp, resolve_op};
 use graph_types::NamedOp;
 use std::alloc::Global;
 use vertex_names::NameBook;
@@ -14,17 +15,19 @@ use vertex_names::NameBook;
 /// A batch's operations with the numbers of their names, each by the names at its place; the books then have the names
 /// that the batch leaves, and are within their limits as they were before.
 ///
-/// `NamesFull` comes before `KindsFull`. After an error the books have some of the batch's names.
+/// What was found of the ends of the first operations spares looking these up. `NamesFull` comes before `KindsFull`. After an error the books have some of the batch's names.
 #[tactic(auto, using(crate::proofs::Resolving::placed_in))]
 pub fn resolve_batch(
     alloc: Global,
     names: &mut NameBook,
     kinds: &mut NameBook,
     ops: &[NamedOp],
+    found_before: &[Ends],
 ) -> Result<Vec<ResolvedOp>, PlanError>
     requires limit { kinds.old.limit ≤ 64 }
     requires within { Fits names.old × Fits kinds.old }
     requires valid { All IsValid ops.now }
+    requires found { AreFound names.old.names ops.now found_before.now }
     ensures ops { IfOk result (λ v. map shown v.items ≡ resolved ops.now names.old.names kinds.old.names) }
     ensures changes { IfOk result (λ v. All IsInRange v.items) }
     ensures placed { IfOk result (λ v. All IsPlaced (map shown v.items)) }
@@ -35,7 +38,7 @@ pub fn resolve_batch(
 {
     let mut found = Vec::with_capacity(alloc, ops.len())?;
     for k in 0..ops.len() {
-        let op = resolve_op(names, kinds, &ops[k], &ops[k + 1..])?;
+        let op = resolve_op(names, kinds, &ops[k], &ops[k + 1..], found_at(found_before, k))?;
         let Ok(()) = found.push(op) else {
             return Err(PlanError::OutOfMemory);
         };

@@ -3,17 +3,19 @@
 ghost use Rattle.std.specs.Prelude.{◌<◌, IfOk, IfErr, OnOk};
 ghost use Rattle.graph_version.specs.Versions.{content};
 ghost use Rattle.graph_version.specs.Rows.{row_of};
+ghost use Rattle.batch_apply.specs.OldRows.{AreOldRows, expiry_time};
 ghost use Rattle.batch_apply.specs.Planned.{IsPlan, MeetsNeitherLimit, IsPlanRefusal};
 
-use crate::dividing::plan_with;
-use crate::old::old_rows;
+use crate::dividing::plan_found;
+use crate::finding::look_up;
+use crate::old::{OldRow, old_rows};
 use crate::plans::{Plan, PlanError};
 use graph_types::Batch;
 use graph_version::Version;
 use std::alloc::Global;
+use std::thread::Threads;
 
-/// Plans a batch over a version for so many workers: finds the version's old rows for the batch, and plans with them, as
-/// [`plan_with`] does for who has found them before.
+/// Plans a batch over a version for so many workers: finds the version's old rows for the batch, and plans with them.
 ///
 /// `NamesFull` where the batch would leave more than 65,536 vertex names, else `KindsFull` where it would leave more than 64
 /// kinds, and `OutOfMemory` where a growth was refused.
@@ -35,5 +37,25 @@ pub fn plan(
     ensures refused { IfErr result (λ error. IsPlanRefusal error batch.now (content version.now)) }
 {
     let old = old_rows(alloc, version, batch)?;
-    plan_with(alloc, version, batch, &old, workers)
+    plan_found(alloc, version, batch, &old, &[], workers)
+}
+
+/// Plans a batch as [`plan`] does, for who has found the version's old rows for it. Several workers look the names of its
+/// operations up at once before; what the plan is doesn't depend on it.
+pub fn plan_with<R: Threads + Sync>(
+    rt: &R,
+    alloc: Global,
+    version: &Version,
+    batch: &Batch,
+    old: &[OldRow],
+    workers: usize,
+) -> Result<Plan, PlanError>
+    requires workers { 0 < workers }
+    requires old { AreOldRows (expiry_time batch.now) (row_of version.now.rows) old.now }
+    ensures plan { IfOk result (IsPlan workers batch.now (content version.now) (row_of version.now.rows)) }
+    ensures limits { OnOk result (MeetsNeitherLimit batch.now (content version.now)) }
+    ensures refused { IfErr result (λ error. IsPlanRefusal error batch.now (content version.now)) }
+{
+    let found = look_up(rt, alloc, version.names(), batch.ops(), workers)?;
+    plan_found(alloc, version, batch, old, &found, workers)
 }

@@ -10,7 +10,7 @@ ghost use Rattle.std.specs.Option.{option_map};
 ghost use Rattle.edge_block.specs.Operations.{parts_of, names_after, kinds_after};
 ghost use Rattle.batch_apply.specs.Plan as plan;
 ghost use Rattle.batch_apply.specs.Plan.{known, ends_in, names_all, key_from, key_of, shown, with_names, kind_by};
-ghost use Rattle.batch_apply.specs.Plan.{Fits, IsInRange, IsRefusal, IsUnplanned};
+ghost use Rattle.batch_apply.specs.Plan.{Fits, IsFound, IsInRange, IsRefusal, IsUnplanned};
 
 use crate::plans::PlanError;
 use graph_types::{EdgeChange, KindId, NamedOp};
@@ -83,6 +83,23 @@ fn op_ends(names: &mut NameBook, op: &NamedOp) -> Result<Ends, AddError>
             source: None,
             target: None,
         }),
+    }
+}
+
+/// The numbers of an operation's ends, as `op_ends` gives them. Where both were found before, no name is looked up: a name
+/// keeps its number.
+fn ends_of(names: &mut NameBook, op: &NamedOp, found: Ends) -> Result<Ends, AddError>
+    requires within { Fits names.old }
+    requires names { IsTrue (has_names op.now) }
+    requires found { IsFound names.old.names op.now found }
+    ensures ends { IfOk result (λ e. e ≡ ends_in (names_after op.now names.old.names) op.now) }
+    ensures names { OnOk result (names.new ≡ with_names names.old (names_after op.now names.old.names)) }
+    ensures within { OnOk result (Fits names.new) }
+    ensures refused { IfErr result (λ error. IsRefusal error names.old (names_after op.now names.old.names)) }
+{
+    match (found.source, found.target) {
+        (Some(_), Some(_)) => Ok(found),
+        _ => op_ends(names, op),
     }
 }
 
@@ -216,7 +233,8 @@ fn kinds_refusal(error: AddError, names: &mut NameBook, behind: &[NamedOp]) -> P
     }
 }
 
-/// An operation with the numbers of its names, which are added first, where it makes any. These operations are behind it.
+/// An operation with the numbers of its names, which are added first, where it makes any. These operations are behind it, and
+/// this was found of its ends.
 ///
 /// After an error the books have some of the names.
 pub fn resolve_op(
@@ -224,11 +242,13 @@ pub fn resolve_op(
     kinds: &mut NameBook,
     op: &NamedOp,
     behind: &[NamedOp],
+    found: Ends,
 ) -> Result<ResolvedOp, PlanError>
     requires limit { kinds.old.limit ≤ 64 }
     requires within { Fits names.old × Fits kinds.old }
     requires op { IsValid op.now }
     requires behind { All IsValid behind.now }
+    requires found { IsFound names.old.names op.now found }
     ensures op { IfOk result (λ r. shown r
         ≡ resolve (names_after op.now names.old.names) (kinds_after op.now kinds.old.names) op.now) }
     ensures change { IfOk result IsInRange }
@@ -237,7 +257,7 @@ pub fn resolve_op(
     ensures within { OnOk result (Fits names.new × Fits kinds.new) }
     ensures refused { IfErr result (λ error. IsUnplanned error (op.now ∷ behind.now) names.old kinds.old) }
 {
-    let ends = match op_ends(names, op) {
+    let ends = match ends_of(names, op, found) {
         Ok(ends) => ends,
         Err(error) => return Err(names_refusal(error)),
     };

@@ -48,7 +48,8 @@ fn workers_for(workers: usize, operations: usize, rows: usize) -> usize
 
 /// The plan of a batch after this version, for so many workers, or for one where it is small; what it leaves is the same for
 /// each number.
-pub(crate) fn plan_next(
+pub(crate) fn plan_next<R: Threads + Sync>(
+    rt: &R,
     alloc: Global,
     last: &Version,
     batch: &Batch,
@@ -63,7 +64,7 @@ pub(crate) fn plan_next(
     }
     let old = old_rows(alloc, last, batch)?;
     let workers = workers_for(workers, batch.len(), old.len());
-    match plan_with(alloc, last, batch, &old, workers) {
+    match plan_with(rt, alloc, last, batch, &old, workers) {
         Ok(plan) => Ok(plan),
         Err(PlanError::NamesFull) => Err(ApplyError::NamesFull),
         Err(PlanError::KindsFull) => Err(ApplyError::KindsFull),

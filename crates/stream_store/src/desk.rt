@@ -156,7 +156,7 @@ impl Desk {
         ensures refused { IfErr result (λ e. Refuses self.old.desk.last (count_by is_free self.old.desk.pool) batch e) }
         ensures unchanged { OnErr result (self.new ≡ self.old) }
     {
-        let plan = plan_next(self.alloc, &self.last, &batch, self.workers)?;
+        let plan = plan_next(rt, self.alloc, &self.last, &batch, self.workers)?;
         let number = next_number(&self.last);
         let Grant { numbers, blocks } = grant_blocks(&mut self.pool, &batch, &plan)?;
         let Ok(prepared) = prepare(rt, self.alloc, gate, &self.last, plan, batch, blocks) else {

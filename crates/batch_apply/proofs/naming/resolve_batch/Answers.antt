@@ -1,9 +1,10 @@
-use Rattle.std.proofs.Common.{◌≡◌, ◌∙◌, ◌∷◌, ◌++◌, ◌+◌, ℕ, List, map, drop, drop-cons, rules, sym, ap}
+use Rattle.std.proofs.Common.{◌≡◌, ◌∙◌, ◌∷◌, ◌++◌, ◌+◌, ℕ, List, map, drop, drop-cons, add-one, rules, sym, ap, subst}
 use Rattle.std.proofs.lemmas.List.{Elements.All-push}
 use Rattle.graph_types.specs.declared.batches.NamedOp.{NamedOp}
 use Rattle.edge_block.specs.{Operations.names_after, Operations.kinds_after, Batches.resolved}
 use Rattle.vertex_names.specs.Book.{Book}
-use Rattle.batch_apply.{specs.Plan.{names_all, kinds_all, shown, IsInRange}, proofs.Resolving.{one_more, placed_in, all_resolved}}
+use Rattle.batch_apply.specs.Plan.{names_all, kinds_all, shown, AreFound, IsInRange}
+use Rattle.batch_apply.proofs.{Found.{all_later, rest_found}, Resolving.{one_more, placed_in, all_resolved}}
 use Rattle.batch_apply.proofs.naming.resolve_batch.Goals as goal
 
 pub loop-k-preserved : goal.loop-k-preserved
@@ -28,7 +29,19 @@ loop-k-preserved c =
       limit = ap (λ (b : Book). b.limit) c.in_ok-op.ensures.names ∙ c.loop-k.invariant.limit;
       few = ap (λ (b : Book). b.limit) c.in_ok-op.ensures.kinds ∙ c.loop-k.invariant.few;
       within = c.in_ok-op.ensures.within;
+      before = subst (λ l. AreFound l rest (drop (k + 1) c.args.found_before.now)) (sym more_names)
+          (all_later names op rest (drop (k + 1) c.args.found_before.now) (rest_found names op rest c.args.found_before.now k
+          (subst (λ os. AreFound names os (drop k c.args.found_before.now)) step c.loop-k.invariant.before)));
     }
+
+pub resolve_op-requires-clause-found : goal.resolve_op-requires-clause-found
+resolve_op-requires-clause-found c =
+    let k : ℕ = c.loop-k.k in
+    let step : drop k c.args.ops.now ≡ c.index-ops-k.result ∷ drop (k + 1) c.args.ops.now =
+    rw add-one (drop-cons c.args.ops.now k c.index-ops-k.result c.loop-k-test.true)
+    ∙ ap (λ (o : NamedOp). o ∷ drop (k + 1) c.args.ops.now) (sym c.index-ops-k.is) in
+    c.found_at.ensures c.loop-k.names.names c.index-ops-k.result (drop (k + 1) c.args.ops.now)
+    (subst (λ os. AreFound c.loop-k.names.names os (drop k c.args.found_before.now)) step c.loop-k.invariant.before)
 
 pub returns-clause-placed : goal.returns-clause-placed
 returns-clause-placed c =

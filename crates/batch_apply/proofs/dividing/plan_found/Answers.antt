@@ -9,7 +9,7 @@ use Rattle.batch_apply.specs.{Plan.{shown, names_all, kinds_all, with_names, Fit
 use Rattle.batch_apply.specs.{OldRows.{AreOldRows, expiry_time}, Planned.IsPlanRefusal, declared.resolve.ResolvedOp.ResolvedOp}
 use Rattle.batch_apply.proofs.{Resolving.as_many_shown, Leaving.{names_book, kinds_book, neither_limit, plan_refused}}
 use Rattle.batch_apply.proofs.{Names.err_then, Needs.{same_time, exact_needs, few_old_rows}}
-use Rattle.batch_apply.proofs.dividing.plan_with.Goals as goal
+use Rattle.batch_apply.proofs.dividing.plan_found.Goals as goal
 
 -- the version's books are within their limits
 pub resolve_batch-requires-clause-within : goal.resolve_batch-requires-clause-within

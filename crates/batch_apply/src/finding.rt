@@ -1,0 +1,115 @@
+//! The numbers that a batch's names have before it, looked up by several workers at once.
+
+ghost use Rattle.std.specs.Prelude.{◌≡◌, ◌∷◌, ℕ, List, drop, map, IfOk};
+ghost use Rattle.std.specs.Thread.{IsSync};
+ghost use Rattle.graph_types.specs.declared.batches.NamedOp.{NamedOp};
+ghost use Rattle.batch_apply.specs.Plan.{ends_in, AreFound, IsFound};
+
+use crate::resolve::Ends;
+use graph_types::NamedOp;
+use std::alloc::{AllocError, Global};
+use std::thread::{Threads, join};
+use vertex_names::NameBook;
+
+/// The numbers of an operation's ends, where they have appeared.
+fn find(names: &NameBook, op: &NamedOp) -> Ends
+    ensures { result ≡ ends_in names.now.names op.now }
+{
+    match op {
+        NamedOp::Insert { source, target, .. } => Ends {
+            source: names.number(source.as_str()),
+            target: names.number(target.as_str()),
+        },
+        NamedOp::Incr { source, target, .. } => Ends {
+            source: names.number(source.as_str()),
+            target: names.number(target.as_str()),
+        },
+        NamedOp::Remove { source, target, .. } => Ends {
+            source: names.number(source.as_str()),
+            target: names.number(target.as_str()),
+        },
+        NamedOp::Expire { .. } => Ends {
+            source: None,
+            target: None,
+        },
+    }
+}
+
+/// The numbers of the ends of operations, one after another.
+fn find_each(
+    alloc: Global,
+    names: &NameBook,
+    ops: &[NamedOp],
+) -> Result<Vec<Ends>, AllocError>
+    ensures { IfOk result (λ v. v.items ≡ map (ends_in names.now.names) ops.now) }
+{
+    let mut found = Vec::with_capacity(alloc, ops.len())?;
+    for op in ops {
+        found.push(find(names, op))?;
+    }
+    Ok(found)
+}
+
+/// The numbers of the ends of operations. Half of the workers look up those of the first half in this thread and in others,
+/// while the rest look up those behind them.
+fn find_all<R: Threads + Sync>(
+    rt: &R,
+    alloc: Global,
+    names: &NameBook,
+    ops: &[NamedOp],
+    workers: usize,
+) -> Result<Vec<Ends>, AllocError>
+    ensures { IfOk result (λ v. v.items ≡ map (ends_in names.now.names) ops.now) }
+{
+    if workers < 2 {
+        return find_each(alloc, names, ops);
+    }
+    let half = workers / 2;
+    let rest = workers - half;
+    let (low, high) = ops.split_at(ops.len() / 2);
+    let back = move || -> Result<Vec<Ends>, AllocError>
+        requires { IsSync R.row }
+        ensures { IfOk result (λ v. v.items ≡ map (ends_in names.entry.now.names) high.entry.now) }
+    { find_all(rt, alloc, names, high, half) };
+    let front = move || -> Result<Vec<Ends>, AllocError>
+        requires { IsSync R.row }
+        ensures { IfOk result (λ v. v.items ≡ map (ends_in names.entry.now.names) low.entry.now) }
+    { find_all(rt, alloc, names, low, rest) };
+    let (b, a) = join(rt, back, front);
+    let mut all = a?;
+    let mut behind = b?;
+    all.append(&mut behind)?;
+    Ok(all)
+}
+
+/// What is known of the ends of operations before any is resolved: nothing where there is one worker, who resolves each in
+/// turn, and else the numbers that several look up at once.
+pub fn look_up<R: Threads + Sync>(
+    rt: &R,
+    alloc: Global,
+    names: &NameBook,
+    ops: &[NamedOp],
+    workers: usize,
+) -> Result<Vec<Ends>, AllocError>
+    ensures { IfOk result (λ v. AreFound names.now.names ops.now v.items) }
+{
+    if workers < 2 {
+        return Ok(Vec::new(alloc));
+    }
+    find_all(rt, alloc, names, ops, workers)
+}
+
+/// What was found of the ends of the operation at a place.
+pub fn found_at(found: &[Ends], place: usize) -> Ends
+    ensures { (names : List (List ℕ)) (op : NamedOp) (ops : List NamedOp) → AreFound names (op ∷ ops) (drop place found.now)
+        → IsFound names op result }
+{
+    if place < found.len() {
+        found[place]
+    } else {
+        Ends {
+            source: None,
+            target: None,
+        }
+    }
+}
