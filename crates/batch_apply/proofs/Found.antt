@@ -1,6 +1,6 @@
 -- What was found of the ends of operations, as more names appear.
-use Rattle.std.proofs.Common.{◌≡◌, ◌∙◌, ℕ, ◌+◌, Bool, true, false, if◌then◌else◌, IsTrue, List, [], ◌∷◌, ◌++◌, ◌≤◌, length, map, drop, refl, sym, ap}
-use Rattle.std.proofs.Common.{Option, Some, None, subst}
+use Rattle.std.proofs.Common.{◌≡◌, ◌∙◌, ℕ, ◌+◌, Bool, true, false, if◌then◌else◌, IsTrue, List, [], ◌∷◌, ◌++◌, map, drop, refl, sym, ap}
+use Rattle.std.proofs.Common.{Some, None, subst}
 use Rattle.graph_types.specs.{Step.with_name, Step.makes_names, Step.number_of, Answer.is_listed, declared.batches.NamedOp.NamedOp}
 use Rattle.edge_block.specs.Operations.{Parts, OfEdge, OfAll, parts_of, names_by, names_after}
 use Rattle.batch_apply.specs.{declared.resolve.Ends.Ends, Plan.{known, ends_by, ends_in, IsFound, AreFound}}

@@ -1,4 +1,4 @@
-use Rattle.std.proofs.Common.{◌≡◌, ◌∷◌, ◌+◌, ◌<◌, List, drop, length, slice_index_or, None, rules, drop-cons}
+use Rattle.std.proofs.Common.{◌≡◌, ◌∷◌, ◌+◌, List, drop, slice_index_or, None, rules, drop-cons}
 use Rattle.batch_apply.{specs.declared.resolve.Ends.Ends, proofs.Found.first_found}
 use Rattle.batch_apply.proofs.finding.found_at.Goals as goal
 
