@@ -101,11 +101,14 @@ fn version_on(
     if !are_edges_of(&content, edges.as_slice()) {
         return Ok(None);
     }
+    let batch = batch.clone()?;
+    let blocks = List::of(Vec::from_slice(alloc, blocks)?);
+    let (names, kinds) = content.into_names();
     Ok(Some(Version {
-        batch: batch.clone()?,
-        blocks: List::of(Vec::from_slice(alloc, blocks)?),
-        names: content.names,
-        kinds: content.kinds,
+        batch,
+        blocks,
+        names,
+        kinds,
     }))
 }
 

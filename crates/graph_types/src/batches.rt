@@ -20,7 +20,7 @@ const OPERATION_LIMIT: usize = 4096;
 
 /// One operation on one edge, with names as texts (STINGER's insertion, increment and removal, HPEC 2012), or on all
 /// edges that were last touched before a time.
-#[derive(Debug, Drop, PartialEq, Eq)]
+#[derive(Debug, PartialEq, Eq)]
 pub enum NamedOp {
     /// Adds the edge, or replaces the weight of the one that is there.
     Insert {
@@ -48,6 +48,34 @@ pub enum NamedOp {
     Expire {
         time: u64,
     },
+}
+
+// Written by hand: who lets one go rests on this function, and not on how each part is let go.
+impl Drop for NamedOp {
+    fn drop(self) {
+        match self {
+            NamedOp::Insert {
+                kind: _kind,
+                source: _source,
+                target: _target,
+                weight: _weight,
+                time: _time,
+            } => {}
+            NamedOp::Incr {
+                kind: _kind,
+                source: _source,
+                target: _target,
+                amount: _amount,
+                time: _time,
+            } => {}
+            NamedOp::Remove {
+                kind: _kind,
+                source: _source,
+                target: _target,
+            } => {}
+            NamedOp::Expire { time: _time } => {}
+        }
+    }
 }
 
 impl Clone for NamedOp {

@@ -7,13 +7,24 @@ use std::alloc::AllocError;
 
 /// A graph as plain lists: its vertex names and its kind names in order of first appearance, and its edges in
 /// any order, each key once. Contracts see it as the graph that it is (`graph_of` of `specs/Graph.antt`).
-#[derive(Debug, Drop)]
+#[derive(Debug)]
 pub struct Content {
     /// At most 65,536, all different; a vertex's number is its place.
     pub names: List<Name>,
     /// At most 64, all different; a kind's number is its place.
     pub kinds: List<Name>,
     pub edges: List<Edge>,
+}
+
+// Written by hand: who lets one go rests on this function, and not on how each part is let go.
+impl Drop for Content {
+    fn drop(self) {
+        let Content {
+            names: _names,
+            kinds: _kinds,
+            edges: _edges,
+        } = self;
+    }
 }
 
 impl Clone for Content {
@@ -26,5 +37,23 @@ impl Clone for Content {
             kinds: self.kinds.clone()?,
             edges: self.edges.clone()?,
         })
+    }
+}
+
+impl Content {
+    /// Its vertex names and its kind names, in their orders; the edges are let go. It takes no memory.
+    ///
+    /// ```
+    /// let (names, kinds) = content.into_names();
+    /// ```
+    pub fn into_names(self) -> (List<Name>, List<Name>)
+        ensures { result ≡ (self.names, self.kinds) }
+    {
+        let Content {
+            names,
+            kinds,
+            edges: _edges,
+        } = self;
+        (names, kinds)
     }
 }

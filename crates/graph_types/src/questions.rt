@@ -45,7 +45,10 @@ impl NamedFilter {
     pub fn within(self, lo: u64, hi: u64) -> NamedFilter
         ensures { result ≡ record { kind = self.kind; lo = lo; hi = hi } }
     {
-        NamedFilter { lo, hi, ..self }
+        let mut filter = self;
+        filter.lo = lo;
+        filter.hi = hi;
+        filter
     }
 }
 

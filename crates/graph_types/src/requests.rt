@@ -15,11 +15,22 @@ use thiserror::Error;
 /// let roads = NamedFilter::of_kind(alloc, "road")?;
 /// let new_edges = NamedFilter::all().within(10, 20);
 /// ```
-#[derive(Debug, Drop, PartialEq, Eq)]
+#[derive(Debug, PartialEq, Eq)]
 pub struct NamedFilter {
     pub kind: Option<Name>,
     pub lo: u64,
     pub hi: u64,
+}
+
+// Written by hand: who lets one go rests on this function, and not on how each part is let go.
+impl Drop for NamedFilter {
+    fn drop(self) {
+        let NamedFilter {
+            kind: _kind,
+            lo: _lo,
+            hi: _hi,
+        } = self;
+    }
 }
 
 impl Clone for NamedFilter {
@@ -43,7 +54,7 @@ impl Clone for NamedFilter {
 /// ```
 /// let levels_over_all_edges = Request::levels(alloc, "ann", NamedFilter::all())?;
 /// ```
-#[derive(Debug, Drop, PartialEq, Eq)]
+#[derive(Debug, PartialEq, Eq)]
 pub enum Request {
     /// The level of each vertex from the source over the view of the filter.
     Levels {
@@ -68,6 +79,26 @@ pub enum Request {
         source: Name,
         target: Name,
     },
+}
+
+// Written by hand, as that of a filter.
+impl Drop for Request {
+    fn drop(self) {
+        match self {
+            Request::Levels {
+                source: _source,
+                filter: _filter,
+            } => {}
+            Request::Labels { filter: _filter } => {}
+            Request::Cores { filter: _filter } => {}
+            Request::Degrees { filter: _filter } => {}
+            Request::OneEdge {
+                kind: _kind,
+                source: _source,
+                target: _target,
+            } => {}
+        }
+    }
 }
 
 impl Clone for Request {
