@@ -16,15 +16,9 @@ fn find(names: &NameBook, op: &NamedOp) -> Ends
     ensures { result ≡ ends_in names.now.names op.now }
 {
     match op {
-        NamedOp::Insert { source, target, .. } => Ends {
-            source: names.number(source.as_str()),
-            target: names.number(target.as_str()),
-        },
-        NamedOp::Incr { source, target, .. } => Ends {
-            source: names.number(source.as_str()),
-            target: names.number(target.as_str()),
-        },
-        NamedOp::Remove { source, target, .. } => Ends {
+        NamedOp::Insert { source, target, .. }
+        | NamedOp::Incr { source, target, .. }
+        | NamedOp::Remove { source, target, .. } => Ends {
             source: names.number(source.as_str()),
             target: names.number(target.as_str()),
         },
