@@ -240,7 +240,7 @@ pub returns-clause-workers : goal.returns-clause-workers
 returns-clause-workers g c = ap (λ (s : DeskState). s.workers) c.self.view_is
 
 pub plan_next-requires : goal.plan_next-requires
-plan_next-requires g c = record { workers = c.self.invariant.workers_some }
+plan_next-requires g c = (c.type_bounds.sync-R, c.self.invariant.workers_some)
 
 pub invariant_of-self : goal.invariant_of-self
 invariant_of-self g c =
