@@ -16,7 +16,6 @@ mod refused;
 mod stages;
 mod stories;
 mod texts;
-mod threads;
 mod told;
 mod told_readers;
 mod waits;
