@@ -13,6 +13,7 @@ mod places;
 mod players;
 mod plays;
 mod refused;
+mod sharing;
 mod stages;
 mod stories;
 mod texts;

@@ -8,30 +8,18 @@ ghost use Rattle.stream_store.specs.Stores.{IsOfOpening, IsSeatOf};
 use super::answers::{Edge, edge_told};
 use super::batches::{Op, batch_of};
 use super::checks::check_so;
-use super::gates::Meeting;
-use super::handed::{Handed, feed, learns_of};
+use super::handed::{feed, learns_of};
+use super::sharing::{BATCHES, HELD_AFTER, READERS, Shared};
 use super::stories::{Story, is_told as is_story_told};
-use super::waits::{has_reached, is_set};
 use batch_apply::PassAll;
 use graph_types::Batch;
 use graph_version::Version;
 use std::alloc::{AllocError, Global};
 use std::process::Abort;
+use std::sync::Wait;
 use std::sync::atomic::Ordering::SeqCst;
-use std::sync::atomic::{AtomicBool, AtomicU32, AtomicU64};
-use std::sync::{OnceLock, Wait};
 use std::thread::{Threads, join, map_vec};
 use stream_store::{Collected, Naming, Seat, Session, Store};
-
-/// How many seats read, each in a thread of its own.
-const READERS: u32 = 4;
-
-/// How many batches are fed.
-const BATCHES: u32 = 64;
-
-/// After so many batches all readers hold a version. The workers of the next batch wait until each reader has let its version go
-/// and acquired one anew, which it holds until eight batches were applied and the store was collected.
-const HELD_AFTER: u32 = 32;
 
 const SOURCES: [&str; 4] = ["c", "d", "e", "f"];
 
@@ -43,92 +31,6 @@ fn ops_at(number: u32) -> [Op<'static>; 2] {
         ("a", "a", "b", 1, time),
         ("i", source, "b", i64::from(number), time),
     ]
-}
-
-/// What the threads share beside the store: the receipts that are handed over, how many readers have begun and how many of them
-/// hold a version, the gate of the batch that is held then, whether the store was collected meanwhile, and whether one of them
-/// waited in vain.
-struct Shared<J: Naming> {
-    receipts: Vec<OnceLock<Option<Handed<J>>>>,
-    readers: AtomicU32,
-    holding: AtomicU64,
-    gate: Meeting,
-    is_collected: AtomicBool,
-    is_late: AtomicBool,
-}
-
-// Written by hand: who lets one go rests on this function, and not on how each part is let go.
-impl<J: Naming> Drop for Shared<J> {
-    fn drop(self) {
-        let Shared {
-            receipts: _receipts,
-            readers: _readers,
-            holding: _holding,
-            gate: _gate,
-            is_collected: _is_collected,
-            is_late: _is_late,
-        } = self;
-    }
-}
-
-/// A place for the receipt of each batch.
-fn places<J: Naming>(alloc: Global) -> Result<Vec<OnceLock<Option<Handed<J>>>>, AllocError> {
-    let mut places = Vec::new(alloc);
-    for _ in 0..BATCHES {
-        places.push(OnceLock::new())?;
-    }
-    Ok(places)
-}
-
-impl<J: Naming> Shared<J> {
-    fn new(alloc: Global) -> Result<Shared<J>, AllocError> {
-        Ok(Shared {
-            receipts: places(alloc)?,
-            readers: AtomicU32::new(0),
-            holding: AtomicU64::new(0),
-            gate: Meeting::with(u64::from(READERS)),
-            is_collected: AtomicBool::new(false),
-            is_late: AtomicBool::new(false),
-        })
-    }
-
-    /// Where the receipt of the batch of this number is handed over.
-    fn place(&self, number: u32) -> Option<&OnceLock<Option<Handed<J>>>> {
-        self.receipts.get((number as usize).checked_sub(1)?)
-    }
-
-    /// Notes whether one waited in vain.
-    fn note(&self, is_met: bool) {
-        if !is_met {
-            self.is_late.store(true, SeqCst);
-        }
-    }
-
-    /// Waits until all readers hold a version.
-    fn meet_readers(&self) {
-        self.note(has_reached(&self.holding, u64::from(READERS)));
-    }
-
-    /// A reader that holds a version waits until a worker of the next batch is held.
-    fn meet_worker(&self) {
-        self.holding.fetch_add(1, SeqCst);
-        self.note(self.gate.has_begun());
-    }
-
-    /// A reader that acquired beside that batch lets it go on.
-    fn meet_workers(&self) {
-        self.gate.join();
-    }
-
-    /// A reader waits until the store was collected.
-    fn meet_feeder(&self) {
-        self.note(is_set(&self.is_collected));
-    }
-
-    /// Whether none waited in vain.
-    fn is_in_time(&self) -> bool {
-        !self.is_late.load(SeqCst) && !self.gate.is_in_vain()
-    }
 }
 
 /// Applies the batch of this number, and hands over its receipt. The one behind those after which all readers hold is held.
@@ -178,7 +80,7 @@ fn feed_all<J: Naming, R: Threads + Wait + Sync>(
     }
     shared.meet_readers();
     let beside = feed_group(rt, alloc, store, shared, 4);
-    shared.is_collected.store(true, SeqCst);
+    shared.note_collected();
     for group in 5..8 {
         let _collected = feed_group(rt, alloc, store, shared, group);
     }
