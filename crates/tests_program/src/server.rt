@@ -12,13 +12,12 @@ mod progress;
 mod scripts;
 
 use self::checks::{check_so, check_text};
-use script_server::{Config, ServeFault, Summary, serve};
 use std::io;
 use std::io::{ErrorKind, Read, Write};
 use std::process::Abort;
 use std::sync::Wait;
 use std::thread::Threads;
-use stinger_server::stinger;
+use stinger_server::{Config, ServeFault, Summary, serve, stinger};
 
 const FIRST: &str = "\
 i,knows,ann,bob,5,10
@@ -89,9 +88,11 @@ error 3 BadSlot
 end pending=1
 ";
 
-// A script of levels, labels and core numbers without refusals, and what it prints.
+// A script of levels, labels and core numbers without refusals, and what it prints. `c` has a loop alone: no other vertex reaches
+// it, it is a part of its own, and its core number is 0.
 const TABLES: &str = "\
 i,k,a,b,1,1
+i,k,c,c,1,1
 commit
 open,0
 bfs,0,a,*,0,9
@@ -100,21 +101,23 @@ core,0,*,0,9
 ";
 
 const TABLES_TEXT: &str = "\
-commit v=1 ins=1 upd=0 rem=0 abs=0 ovf=0
+commit v=1 ins=2 upd=0 rem=0 abs=0 ovf=0
 open 0 v=1
 bfs 0 reached=2
 a 0
 b 1
-comp 0 parts=1
+comp 0 parts=2
 a a
 b a
+c c
 core 0 max=1
 a 1
 b 1
+c 0
 ";
 
 // How many bytes of `TABLES_TEXT` stand before each record of `TABLES`, and at its end.
-const TABLES_ENDS: [usize; 7] = [0, 0, 41, 52, 76, 99, 120];
+const TABLES_ENDS: [usize; 8] = [0, 0, 0, 41, 52, 76, 103, 128];
 
 // A run of the script over a store of two seats.
 fn served(

@@ -18,14 +18,11 @@ use std::io::Read;
 use std::sync::Arc;
 use vertex_names::{AddError, NameBook};
 
-fn scans(targets: &[u32], times: &[u64], live: u32) -> (Option<usize>, u32, bool)
-    requires targets { length targets.now ≤ 32 }
-    requires times { length times.now ≤ 32 }
+fn scans(targets: &[u32], live: u32) -> (Option<usize>, bool)
+    requires { length targets.now ≤ 32 }
 {
-    let found = find_target(targets, live, 7);
     (
-        found,
-        window_mask(times, live, 10, 20),
+        find_target(targets, live, 7),
         equal_columns(targets, targets),
     )
 }
@@ -37,10 +34,10 @@ fn sums(weights: &[i64], mask: u32) -> i64
     masked_sum(weights, mask)
 }
 
-fn least_and_greatest(times: &[u64], mask: u32) -> Option<(u64, u64)>
+fn scans_times(times: &[u64], mask: u32) -> (u32, Option<(u64, u64)>)
     requires { length times.now ≤ 32 }
 {
-    bounds(times, mask)
+    (window_mask(times, mask, 10, 20), bounds(times, mask))
 }
 
 fn cleared(number: u32, source: VertexId, kind: KindId) -> (Block, bool) {
@@ -65,27 +62,22 @@ fn reads(block: &Block) -> (usize, bool, Option<(u64, u64)>) {
     (block.len(), block.is_full(), block.time_bounds())
 }
 
-fn finds(block: &Block) -> Option<EdgeRef<'_>> {
-    block.find(7)
+fn lends<'b>(block: &'b Block, filter: &Filter) -> (Option<EdgeRef<'b>>, BlockIter<'b>) {
+    (block.find(7), block.select(filter))
 }
 
-fn selects<'b>(block: &'b Block, filter: &Filter) -> BlockIter<'b> {
-    block.select(filter)
+fn books(alloc: Global, limit: u32) -> NameBook {
+    NameBook::new(alloc, limit)
 }
 
-fn books(alloc: Global, limit: u32, name: &str) -> (usize, Option<u32>, bool) {
-    let book = NameBook::new(alloc, limit);
-    (book.len(), book.number(name), book.name(0).is_some())
+fn finds_names<'b>(book: &'b NameBook, name: &str) -> (usize, Option<u32>, Option<&'b str>) {
+    (book.len(), book.number(name), book.name(0))
 }
 
-fn adds(book: &mut NameBook, name: &str) -> Result<u32, AddError>
+fn adds(book: &mut NameBook, name: &str) -> (Result<u32, AddError>, Result<NameBook, AllocError>)
     requires { IsTrue (is_name name.now) }
 {
-    book.add(name)
-}
-
-fn shares(book: &NameBook) -> Result<NameBook, AllocError> {
-    book.share()
+    (book.add(name), book.share())
 }
 
 fn feeds<R: Read>(alloc: Global, reader: R) -> Feed<R> {
@@ -100,14 +92,12 @@ fn tells(fault: FeedFault) -> (u64, &'static str) {
     (fault.at, fault.word.word())
 }
 
-fn pools(alloc: Global) -> Result<(Pool, u32), AllocError> {
-    let pool = Pool::new(alloc, 16)?;
-    let all = (pool.free(), pool.retired(), pool.used());
-    Ok((pool, all.0))
+fn pools(alloc: Global) -> Result<Pool, AllocError> {
+    Pool::new(alloc, 16)
 }
 
-fn grants(pool: &mut Pool) -> Result<Grant, GrantError> {
-    pool.grant(2)
+fn grants(pool: &mut Pool) -> (u32, u32, u32, Result<Grant, GrantError>) {
+    (pool.free(), pool.retired(), pool.used(), pool.grant(2))
 }
 
 fn gives_back(pool: &mut Pool, number: u32, block: Option<Arc<Block>>)

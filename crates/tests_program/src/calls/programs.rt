@@ -1,20 +1,11 @@
-// The programs over the store.
+// The program that drives a store. Those that serve a script and take arguments are called under the same names by the tests of
+// `server`, which run them.
 
 ghost use Rattle.store_drive.specs.Reports.{IsReaderCount};
 
-use std::io::{Read, Write};
 use std::sync::Wait;
 use std::thread::Threads;
-use stinger_server::{Config, DriveFault, DriveReport, ServeFault, Summary, drive, serve, stinger};
-
-fn serves<A: AllocGlobal + Threads + Wait + Sync, R: Read + Drop, W: Write>(
-    rt: &A,
-    config: Config,
-    reader: R,
-    writer: &mut W,
-) -> Result<Summary, ServeFault> {
-    serve(rt, config, reader, writer)
-}
+use stinger_server::{DriveFault, DriveReport, drive};
 
 fn drives<A: AllocGlobal + Threads + Wait + Sync>(
     rt: &A,
@@ -23,14 +14,4 @@ fn drives<A: AllocGlobal + Threads + Wait + Sync>(
     requires { IsReaderCount readers }
 {
     drive(rt, readers)
-}
-
-fn runs<'a, A: AllocGlobal + Threads + Wait + Sync, R: Read + Drop, W: Write, F: Write>(
-    rt: &A,
-    words: &'a [&'a str],
-    reader: R,
-    writer: &mut W,
-    faults: &mut F,
-) -> u8 {
-    stinger(rt, words, reader, writer, faults)
 }

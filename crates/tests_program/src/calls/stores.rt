@@ -48,64 +48,59 @@ fn learns(reader: &mut ShelfReader, told: &Told) -> Result<(), AllocError>
     reader.learn(told)
 }
 
-fn boards() -> Option<Board> {
-    let seat = SeatNo::new(0)?;
+fn boards(seat: SeatNo) -> Board {
     let mut board = Board::new();
     board.pin(seat);
     board.settle(seat, 1);
     board.unpin(seat);
-    Some(board)
+    board
 }
 
 // The floor comes with a copy of the pins, by which blocks are recycled.
-fn raises(board: &mut Board, pool: &mut Pool) -> u32 {
-    pool.recycle(&board.raise(1))
+fn raises(board: &mut Board, pool: &mut Pool) -> (u32, Option<SeatNo>) {
+    (pool.recycle(&board.raise(1)), SeatNo::new(0))
 }
 
-fn configures() -> Result<Config, BadConfig> {
-    Config::new(4, 16, 2)
+type Parts = Result<(Desk, Board, Vec<Seat>), OpenError>;
+
+fn opens<R: Wait>(rt: &R, alloc: Global, config: Config) -> (Parts, Result<Opened, OpenError>) {
+    (
+        open_parts(rt, alloc, config),
+        Store::open(rt, alloc, config),
+    )
 }
 
-fn opens<R: Wait>(
-    rt: &R,
-    alloc: Global,
-    config: Config,
-) -> Result<(Desk, Board, Vec<Seat>), OpenError> {
-    open_parts(rt, alloc, config)
-}
-
-fn opens_a_store<R: Wait>(rt: &R, alloc: Global, config: Config) -> Result<Opened, OpenError> {
-    Store::open(rt, alloc, config)
-}
-
-fn desks<R: Threads + Wait + Sync>(
-    rt: &R,
-    desk: &mut Desk,
-    batch: Batch,
-) -> Result<Receipt, ApplyError> {
-    desk.apply(rt, &PassAll, batch)
-}
-
-fn tells(desk: &Desk) -> (u64, Stat, &[JournalEntry]) {
-    (desk.last().number(), desk.stat(), desk.journal())
+fn tells(desk: &Desk) -> (u64, Stat, &[JournalEntry], Result<Config, BadConfig>) {
+    (
+        desk.last().number(),
+        desk.stat(),
+        desk.journal(),
+        Config::new(4, 16, 2),
+    )
 }
 
 // What a desk collects by: the pins at its last number.
-fn collects(desk: &mut Desk, board: &mut Board) -> Collected {
+fn desks<R: Threads + Wait + Sync>(
+    rt: &R,
+    desk: &mut Desk,
+    board: &mut Board,
+    batch: Batch,
+) -> (Result<Receipt, ApplyError>, Collected) {
+    let told = desk.apply(rt, &PassAll, batch);
     let copy = board.raise(desk.last().number());
-    desk.collect(&copy)
+    (told, desk.collect(&copy))
 }
 
-fn applies<J: Naming, R: Threads + Wait + Sync>(
+fn stores<J: Naming, R: Threads + Wait + Sync>(
     rt: &R,
     store: &Store<J>,
     batch: Batch,
-) -> Result<Receipt, ApplyError> {
-    store.apply(rt, &PassAll, batch)
-}
-
-fn stores<J: Naming, R: Wait>(rt: &R, store: &Store<J>) -> (Collected, Stat) {
-    (store.collect(rt), store.stat(rt))
+) -> (Result<Receipt, ApplyError>, Collected, Stat) {
+    (
+        store.apply(rt, &PassAll, batch),
+        store.collect(rt),
+        store.stat(rt),
+    )
 }
 
 fn learns_of(seat: &mut Seat, receipt: &Receipt) -> Result<(), AllocError>
@@ -114,15 +109,9 @@ fn learns_of(seat: &mut Seat, receipt: &Receipt) -> Result<(), AllocError>
     seat.learn(receipt)
 }
 
-fn pins<J: Naming, R: Wait>(rt: &R, seat: Seat, store: &Store<J>) -> PinnedSeat {
-    seat.pin(rt, store)
-}
-
-fn acquires<J: Naming, R: Wait>(rt: &R, seat: PinnedSeat, store: &Store<J>) -> Session {
-    seat.enter(rt, store)
-}
-
-fn releases<J: Naming, R: Wait>(rt: &R, session: Session, store: &Store<J>) -> Seat {
+fn moves<J: Naming, R: Wait>(rt: &R, seat: Seat, store: &Store<J>) -> Seat {
+    let pinned: PinnedSeat = seat.pin(rt, store);
+    let session: Session = pinned.enter(rt, store);
     session.release(rt, store)
 }
 
@@ -138,10 +127,6 @@ fn releases_lent(session: Session, board: &mut Board) -> Seat {
     session.release_lent(board)
 }
 
-fn asks(session: &Session, request: &Request) -> Result<Reply, AskError> {
-    session.ask(request)
-}
-
-fn holds(session: &Session) -> &Version {
-    session.version()
+fn asks<'s>(session: &'s Session, request: &Request) -> (Result<Reply, AskError>, &'s Version) {
+    (session.ask(request), session.version())
 }

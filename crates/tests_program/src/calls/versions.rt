@@ -22,9 +22,8 @@ use std::sync::Arc;
 use std::thread::Threads;
 use vertex_names::NameBook;
 
-fn empty(alloc: Global) -> (u64, u64) {
-    let version = Version::empty(alloc);
-    (version.number(), version.edge_count())
+fn begins(alloc: Global, version: &Version) -> (Version, Result<VersionDraft, AllocError>) {
+    (Version::empty(alloc), VersionDraft::over(version))
 }
 
 fn lends<'v>(version: &'v Version, source: VertexId) -> (Option<EdgeRef<'v>>, &'v [Arc<Block>]) {
@@ -34,29 +33,31 @@ fn lends<'v>(version: &'v Version, source: VertexId) -> (Option<EdgeRef<'v>>, &'
     )
 }
 
-fn counts(version: &Version, source: VertexId) -> (usize, usize, bool, bool, bool) {
-    let books = (version.names().len(), version.kinds().len());
-    let batches = version.batches().next().is_none();
-    let row = version.row(source).next().is_none();
+fn counts(version: &Version) -> (u64, u64, usize, usize) {
     (
-        books.0,
-        books.1,
-        batches,
-        row,
+        version.number(),
+        version.edge_count(),
+        version.names().len(),
+        version.kinds().len(),
+    )
+}
+
+fn goes_through(version: &Version, source: VertexId) -> (bool, bool, bool) {
+    (
+        version.batches().next().is_none(),
+        version.row(source).next().is_none(),
         version.blocks().next().is_none(),
     )
 }
 
 fn drafts(
-    version: &Version,
+    draft: VersionDraft,
     names: NameBook,
     kinds: NameBook,
     source: VertexId,
     blocks: Vec<Arc<Block>>,
 ) -> Result<VersionDraft, AllocError> {
-    VersionDraft::over(version)?
-        .set_names(names, kinds)
-        .replace_row(source, blocks)
+    draft.set_names(names, kinds).replace_row(source, blocks)
 }
 
 fn pushes(draft: VersionDraft, batch: Arc<Batch>) -> Result<VersionDraft, AllocError>
@@ -97,49 +98,51 @@ fn applies<R: Threads + Sync>(
     apply(rt, alloc, &PassAll, version, plan, batch, blocks)
 }
 
-fn walks(
-    alloc: Global,
-    version: &Version,
-    filter: &Filter,
-) -> Result<Vec<Option<u32>>, LevelError> {
-    levels(alloc, version, VertexId(0), filter)
+type Walked = (
+    Result<Vec<Option<u32>>, LevelError>,
+    Result<Vec<VertexId>, AllocError>,
+);
+
+fn walks(alloc: Global, version: &Version, filter: &Filter) -> Walked {
+    (
+        levels(alloc, version, VertexId(0), filter),
+        labels(alloc, version, filter),
+    )
 }
 
-fn joins(alloc: Global, version: &Version, filter: &Filter) -> Result<Vec<VertexId>, AllocError> {
-    labels(alloc, version, filter)
-}
+type Counted = (
+    Result<Vec<u32>, AllocError>,
+    Result<Vec<Degree>, AllocError>,
+);
 
-fn peels(alloc: Global, version: &Version, filter: &Filter) -> Result<Vec<u32>, AllocError> {
-    cores(alloc, version, filter)
-}
-
-fn sums(alloc: Global, version: &Version, filter: &Filter) -> Result<Vec<Degree>, AllocError> {
-    degrees(alloc, version, filter)
+fn counts_edges(alloc: Global, version: &Version, filter: &Filter) -> Counted {
+    (
+        cores(alloc, version, filter),
+        degrees(alloc, version, filter),
+    )
 }
 
 fn machines(alloc: Global) -> Result<Core, OutOfMemory> {
+    law_isolation();
+    law_epoch();
     Core::new(alloc, 1, 2)
 }
 
-fn steps(core: &mut Core, event: Event, events: &[Event]) -> Result<(Step, u32), OutOfMemory> {
-    let step = core.step(event)?;
-    Ok((step, run(core, events)?))
+type Stepped = (Result<Step, OutOfMemory>, Result<u32, OutOfMemory>);
+
+fn steps(core: &mut Core, event: Event, events: &[Event]) -> Stepped {
+    (core.step(event), run(core, events))
 }
 
-fn shows(core: &Core) -> u64 {
-    law_isolation();
-    law_epoch();
-    core.floor()
-}
+type Shown<'c> = (u64, Option<u64>, Option<u64>, &'c [Result<Reply, AskError>]);
 
-fn replies(core: &Core, session: usize) -> &[Result<Reply, AskError>]
+fn shows(core: &Core, session: usize) -> Shown<'_>
     requires { session < length core.now.world.sessions }
 {
-    core.replies(session)
-}
-
-fn holds(core: &Core, session: usize) -> (Option<u64>, Option<u64>)
-    requires { session < length core.now.world.sessions }
-{
-    (core.held(session), core.pin_of(session))
+    (
+        core.floor(),
+        core.held(session),
+        core.pin_of(session),
+        core.replies(session),
+    )
 }

@@ -3,11 +3,12 @@
 ghost use Rattle.script_server.specs.Runs.{IsFresh};
 
 use super::checks::{check_at, check_so, check_text};
+use super::feeds::FakeFeed;
 use super::{
     FIRST, FIRST_ENDS, FIRST_TEXT, FakeReader, FakeWriter, HELD, HELD_ENDS, HELD_TEXT, REFUSED,
     REFUSED_TEXT, count_of, is_cut_of, served,
 };
-use feed_csv::Feed;
+use feed_csv::{Feed, FeedWord};
 use script_server::{
     Config, ServeFault, Sink, Summary, Unwritten, law_examples, law_one_text, law_some_text,
     run_script, write_text,
@@ -123,17 +124,27 @@ fn runs_on(
     check_text(rt, writer.text(), text);
 }
 
+// Such a run over this reader; the feed then tells the word at the second record, or the end where there is none.
+fn ends_so(
+    rt: &(impl Abort + AllocGlobal + Threads + Wait + Sync),
+    script: FakeReader<'_>,
+    answer: Result<Summary, ServeFault>,
+    text: &str,
+    word: Option<FeedWord>,
+) {
+    let mut fake = FakeFeed::over(rt.alloc(), script);
+    runs_on(rt, &mut fake.feed, answer, text);
+    check_so(rt, fake.tells_end(2, word), "the feed's end");
+}
+
 // The feed shows afterwards that it met the end of the input, or at which record it stopped.
 #[test]
 fn leaves_the_feed_where_the_run_ended(rt: HostRuntime) {
-    let mut whole = Feed::over(rt.alloc(), FakeReader::whole(REFUSED));
-    runs_on(&rt, &mut whole, Ok(REFUSED_COUNTED), REFUSED_TEXT);
-    check_so(&rt, matches!(whole.next(), Ok(None)), "the end");
-    let mut torn = Feed::over(rt.alloc(), failing(REFUSED, 6));
+    let whole = FakeReader::whole(REFUSED);
+    ends_so(&rt, whole, Ok(REFUSED_COUNTED), REFUSED_TEXT, None);
     let cut = "error 1 BadCommand\nerror 2 Read\n";
-    runs_on(&rt, &mut torn, Err(ServeFault::Read), cut);
-    let stopped = matches!(torn.next(), Err(fault) if fault.at == 2);
-    check_so(&rt, stopped, "the record that was not given");
+    let failed = Err(ServeFault::Read);
+    ends_so(&rt, failing(REFUSED, 6), failed, cut, Some(FeedWord::Read));
 }
 
 // A reader that gives a byte a read and fails after so many reads.

@@ -1,9 +1,12 @@
 // What a feed's calls give that no script of the program shows: readers that fail or pause, refused growths, a fault's text.
 
+ghost use Rattle.script_server.specs.Runs.{IsFresh};
+
 use super::checks::{check_at, check_text, tell_refused};
 use super::{FakeReader, count_of};
 use feed_csv::{Command, Feed, FeedFault, FeedWord};
-use graph_types::{Name, NamedFilter, NamedOp, Request};
+use std::alloc::{AllocError, Global};
+use std::fmt::Debug;
 use std::io::ErrorKind;
 use std::process::Abort;
 use std::test::Fail;
@@ -25,144 +28,144 @@ rebase,3
 y,0123456789,0123456789,0123456789,0123456789,0123456789,0123456789,x,x,x,x,x,x,x,x,x,x,x,x,x,x,x,x,x,x,x,x,x,x,x,x,x
 ";
 
-// Equality of texts is dear to prove, so it stands in one function.
-fn is_named(name: &Name, text: &str) -> bool {
-    name.as_str() == text
+// What each call gives, as it is shown.
+const GIVEN: [&str; 14] = [
+    "Ok(Some(Op(Insert { kind: Name { text: \"k\" }, source: Name { text: \"a\" }, \
+        target: Name { text: \"b\" }, weight: 1, time: 2 })))",
+    "Ok(Some(OpenSlot(3)))",
+    "Err(FeedFault { at: 3, word: BadCommand })",
+    "Ok(Some(Op(Remove { kind: Name { text: \"k\" }, source: Name { text: \"a\" }, \
+        target: Name { text: \"b\" } })))",
+    "Ok(Some(Op(Incr { kind: Name { text: \"k\" }, source: Name { text: \"a\" }, \
+        target: Name { text: \"b\" }, amount: -3, time: 4 })))",
+    "Ok(Some(Query(3, Degrees { filter: \
+        NamedFilter { kind: Some(Name { text: \"k\" }), lo: 5, hi: 6 } })))",
+    "Ok(Some(Query(3, OneEdge { kind: Name { text: \"k\" }, source: Name { text: \"a\" }, \
+        target: Name { text: \"b\" } })))",
+    "Ok(Some(CloseSlot(3)))",
+    "Ok(Some(Query(3, Levels { source: Name { text: \"a\" }, filter: \
+        NamedFilter { kind: Some(Name { text: \"k\" }), lo: 5, hi: 6 } })))",
+    "Ok(Some(Query(3, Labels { filter: \
+        NamedFilter { kind: Some(Name { text: \"k\" }), lo: 5, hi: 6 } })))",
+    "Ok(Some(Query(3, Cores { filter: \
+        NamedFilter { kind: Some(Name { text: \"k\" }), lo: 5, hi: 6 } })))",
+    "Ok(Some(Op(Expire { time: 7 })))",
+    "Ok(Some(Rebase(3)))",
+    "Err(FeedFault { at: 14, word: BadCommand })",
+];
+
+// Appends a value as it is shown.
+fn push_shown<D: Debug + Drop>(text: &mut String, value: D) -> Result<(), AllocError> {
+    write!(text, "{value:?}")
 }
 
-// Whether these are kind `k`, source `a` and target `b`.
-fn is_edge(kind: &Name, source: &Name, target: &Name) -> bool {
-    is_named(kind, "k") && is_named(source, "a") && is_named(target, "b")
-}
-
-fn is_op(call: u64, found: &NamedOp) -> bool {
-    match found {
-        NamedOp::Insert {
-            kind,
-            source,
-            target,
-            weight,
-            time,
-        } => call == 1 && *weight == 1 && *time == 2 && is_edge(kind, source, target),
-        NamedOp::Remove {
-            kind,
-            source,
-            target,
-        } => call == 4 && is_edge(kind, source, target),
-        NamedOp::Incr {
-            kind,
-            source,
-            target,
-            amount,
-            time,
-        } => call == 5 && *amount == -3 && *time == 4 && is_edge(kind, source, target),
-        NamedOp::Expire { time } => call == 12 && *time == 7,
+// Whether a text is what the call of this number gives by `SCRIPT`, or the end behind it.
+fn is_row(call: u64, text: &str) -> bool {
+    match GIVEN.get(call.saturating_sub(1) as usize) {
+        Some(given) => text == *given,
+        None => text == "Ok(None)",
     }
 }
 
-fn is_view(filter: &NamedFilter) -> bool {
-    match &filter.kind {
-        Some(kind) => is_named(kind, "k") && filter.lo == 5 && filter.hi == 6,
-        None => false,
+// Whether an outcome is the end, or its fault; the text is what the outcome is shown as.
+fn told_by(
+    outcome: &Result<Option<Command>, FeedFault>,
+    text: &mut String,
+) -> Result<bool, FeedFault> {
+    text.clear();
+    if push_shown(text, outcome).is_err() {
+        text.clear();
     }
-}
-
-fn is_request(call: u64, request: &Request) -> bool {
-    match request {
-        Request::Degrees { filter } => call == 6 && is_view(filter),
-        Request::Levels { source, filter } => {
-            call == 9 && is_named(source, "a") && is_view(filter)
-        }
-        Request::Labels { filter } => call == 10 && is_view(filter),
-        Request::Cores { filter } => call == 11 && is_view(filter),
-        Request::OneEdge {
-            kind,
-            source,
-            target,
-        } => call == 7 && is_edge(kind, source, target),
-    }
-}
-
-// Whether the call of this number gave what `SCRIPT` says, and `stat` or the end behind it.
-fn is_given(call: u64, outcome: &Result<Option<Command>, FeedFault>) -> bool {
     match outcome {
-        Ok(Some(Command::Op(op))) => is_op(call, op),
-        Ok(Some(Command::OpenSlot(slot))) => call == 2 && *slot == 3,
-        Ok(Some(Command::Query(slot, request))) => *slot == 3 && is_request(call, request),
-        Ok(Some(Command::CloseSlot(slot))) => call == 8 && *slot == 3,
-        Ok(Some(Command::Rebase(slot))) => call == 13 && *slot == 3,
-        Ok(Some(Command::Commit | Command::Collect)) => false,
-        Ok(Some(Command::Stat) | None) => call >= 15,
-        Err(fault) => (call == 3 || call == 14) && is(fault, call, FeedWord::BadCommand),
+        Ok(next) => Ok(next.is_none()),
+        Err(fault) => Err(*fault),
     }
 }
 
-fn is(fault: &FeedFault, at: u64, word: FeedWord) -> bool {
-    fault.at == at && fault.word == word
+// A feed over a fake reader, and what its last call gave, as it is shown.
+pub(super) struct FakeFeed<'a> {
+    pub(super) feed: Feed<FakeReader<'a>>,
+    text: String,
 }
 
-// Whether a call told this fault, or the end where there is none.
-fn is_end(outcome: &Result<Option<Command>, FeedFault>, at: u64, word: Option<FeedWord>) -> bool {
-    match (outcome, word) {
-        (Err(fault), Some(word)) => is(fault, at, word),
-        (Ok(None), None) => true,
-        _ => false,
+// Written by hand: who lets one go rests on this function, and not on how the feed's parts are let go.
+impl Drop for FakeFeed<'_> {
+    fn drop(self) {
+        let FakeFeed {
+            feed: _feed,
+            text: _text,
+        } = self;
     }
 }
 
-fn tells_end(feed: &mut Feed<FakeReader<'_>>, at: u64, word: Option<FeedWord>) -> bool {
-    is_end(&feed.next(), at, word)
+impl<'a> FakeFeed<'a> {
+    pub(super) fn over(alloc: Global, reader: FakeReader<'a>) -> FakeFeed<'a>
+        ensures { IsFresh result.feed }
+    {
+        FakeFeed {
+            feed: Feed::over(alloc, reader),
+            text: String::new(alloc),
+        }
+    }
+
+    // Whether the next call tells the end, or its fault.
+    fn told(&mut self) -> Result<bool, FeedFault> {
+        told_by(&self.feed.next(), &mut self.text)
+    }
+
+    // Whether the next call tells this fault, or the end where there is none.
+    pub(super) fn tells_end(&mut self, at: u64, word: Option<FeedWord>) -> bool {
+        match word {
+            Some(word) => self.told() == Err(FeedFault { at, word }),
+            None => self.told() == Ok(true),
+        }
+    }
+
+    // Whether the call of this number was refused a growth; if not, it gave what `SCRIPT` says.
+    fn is_refused_at(&mut self, rt: &impl Abort, call: u64) -> bool {
+        let is_refused = self.tells_end(call, Some(FeedWord::Memory));
+        check_at(rt, is_refused || is_row(call, self.text.as_str()), call);
+        is_refused
+    }
 }
 
 // Now and later a call tells this.
-fn check_end(rt: &impl Abort, feed: &mut Feed<FakeReader<'_>>, at: u64, word: Option<FeedWord>) {
+fn check_end(rt: &impl Abort, fake: &mut FakeFeed<'_>, at: u64, word: Option<FeedWord>) {
     for _ in 0..3 {
-        check_at(rt, tells_end(feed, at, word), at);
+        check_at(rt, fake.tells_end(at, word), at);
     }
-}
-
-// Whether the call of this number was refused a growth, and whether it gave what `SCRIPT` says.
-fn told_at(call: u64, outcome: &Result<Option<Command>, FeedFault>) -> (bool, bool) {
-    (
-        is_end(outcome, call, Some(FeedWord::Memory)),
-        is_given(call, outcome),
-    )
-}
-
-// Whether the call of this number was refused a growth; if not, it gave what `SCRIPT` says.
-fn is_refused_at(rt: &impl Abort, feed: &mut Feed<FakeReader<'_>>, call: u64) -> bool {
-    let (is_refused, is_given) = told_at(call, &feed.next());
-    check_at(rt, is_refused || is_given, call);
-    is_refused
 }
 
 // Whether a growth was refused to one of so many calls; then later ones tell that reading ended there. If not, those behind them
 // tell the word at the next record, or the end.
 fn meets_refusal(
     rt: &impl Abort,
-    feed: &mut Feed<FakeReader<'_>>,
+    fake: &mut FakeFeed<'_>,
     calls: u64,
     word: Option<FeedWord>,
 ) -> bool {
     for call in 1..=calls {
-        if is_refused_at(rt, feed, call) {
-            check_end(rt, feed, call, Some(FeedWord::Read));
+        if fake.is_refused_at(rt, call) {
+            check_end(rt, fake, call, Some(FeedWord::Read));
             return true;
         }
     }
-    check_end(rt, feed, calls.saturating_add(1), word);
+    check_end(rt, fake, calls.saturating_add(1), word);
     false
 }
 
-// The same over this reader.
+// More bytes than a row of `GIVEN` has.
+const ROOM: usize = 512;
+
+// The same over this reader; or room for what is shown was refused.
 fn is_refused(
     rt: &(impl Abort + AllocGlobal),
     reader: FakeReader<'_>,
     calls: u64,
     word: Option<FeedWord>,
 ) -> bool {
-    let mut feed = Feed::over(rt.alloc(), reader);
-    meets_refusal(rt, &mut feed, calls, word)
+    let mut fake = FakeFeed::over(rt.alloc(), reader);
+    fake.text.reserve(ROOM).is_err() || meets_refusal(rt, &mut fake, calls, word)
 }
 
 #[test]

@@ -1,16 +1,14 @@
-// The lines of records by themselves: a call of each kind, and growths that are refused.
+// The lines of records by themselves, but for answers, which runs show: a call of each kind, and growths that are refused.
 
 use super::checks::{check_so, check_text, tell_refused};
 use feed_csv::FeedWord;
-use graph_types::{List, Outcome, VertexId, is_name};
+use graph_types::Outcome;
 use script_lines::{
-    Word, close_line, collect_line, commit_line, open_line, rebase_line, reply_lines, stat_line,
+    Word, close_line, collect_line, commit_line, open_line, rebase_line, stat_line,
 };
-use std::alloc::{AllocError, Global};
+use std::alloc::AllocError;
 use std::process::Abort;
 use stream_store::{Collected, Stat};
-use version_answers::NumberedReply;
-use vertex_names::NameBook;
 
 // The scripts in `examples/` show the words of all other refusals.
 #[test]
@@ -27,10 +25,6 @@ const EACH_LINE: &str = "close 3\ncommit v=65536 ins=1 upd=2 rem=1 abs=3 ovf=1\n
      collect floor=3 recycled=40 retired=500\n\
      stat v=9 names=80 edges=700 free=6000 retired=50000 used=4\n\
      rebase v=9 names=80 edges=700 used=4\n";
-
-const LEVEL_LINES: &str = "bfs 1 reached=2\nann 1\ncat 0\n";
-
-const LABEL_LINES: &str = "comp 1 parts=2\nann ann\nbob bob\ncat ann\n";
 
 // The lines of two batches with expiries.
 fn append_expiries(lines: &mut String) -> Result<(), AllocError> {
@@ -113,69 +107,6 @@ fn appends_a_line_for_each_record(rt: HostRuntime) {
 #[test]
 fn refused_lines_leave_those_before(rt: HostRuntime) {
     if !appends_each(&rt) {
-        tell_refused(&rt);
-    }
-}
-
-// A book of three names, where there is memory for it.
-fn three_names(alloc: Global) -> Option<NameBook> {
-    let mut book = NameBook::new(alloc, 3);
-    for name in ["ann", "bob", "cat"] {
-        if !is_name(name) || book.add(name).is_err() {
-            return None;
-        }
-    }
-    Some(book)
-}
-
-// The lines of levels in slot 1, where there is memory for the levels.
-fn append_levels(alloc: Global, book: &NameBook, lines: &mut String) -> Result<(), AllocError> {
-    let levels = List::of(vec![in alloc; Some(1), None, Some(0)]?);
-    reply_lines(lines, 1, book, &NumberedReply::Levels(levels))
-}
-
-// The same of labels.
-fn append_labels(alloc: Global, book: &NameBook, lines: &mut String) -> Result<(), AllocError> {
-    let labels = List::of(vec![in alloc; VertexId(0), VertexId(1), VertexId(0)]?);
-    reply_lines(lines, 1, book, &NumberedReply::Labels(labels))
-}
-
-// Whether the lines of levels, else those of labels, were appended; else a growth was refused, and the names are left.
-fn appends_table(rt: &(impl Abort + AllocGlobal), book: &NameBook, of_levels: bool) -> bool {
-    let mut lines = String::new(rt.alloc());
-    let (appended, text) = if of_levels {
-        (append_levels(rt.alloc(), book, &mut lines), LEVEL_LINES)
-    } else {
-        (append_labels(rt.alloc(), book, &mut lines), LABEL_LINES)
-    };
-    check_text(rt, book.name(2).unwrap_or("no name"), "cat");
-    is_whole(rt, appended, lines.as_str(), "", text)
-}
-
-// The same with a book of names, where there is memory for it.
-fn tells_table(rt: &(impl Abort + AllocGlobal), of_levels: bool) -> bool {
-    match three_names(rt.alloc()) {
-        Some(book) => appends_table(rt, &book, of_levels),
-        None => false,
-    }
-}
-
-#[test]
-fn tells_levels_and_labels(rt: HostRuntime) {
-    assert!(rt; tells_table(&rt, true));
-    assert!(rt; tells_table(&rt, false));
-}
-
-#[test]
-fn refused_levels_leave_the_lines_and_the_names(rt: HostRuntime) {
-    if !tells_table(&rt, true) {
-        tell_refused(&rt);
-    }
-}
-
-#[test]
-fn refused_labels_leave_the_lines_and_the_names(rt: HostRuntime) {
-    if !tells_table(&rt, false) {
         tell_refused(&rt);
     }
 }

@@ -6,6 +6,8 @@ use std::cell::Cell;
 use std::io;
 use std::io::{ErrorKind, Read};
 use std::process::Abort;
+use std::sync::Wait;
+use std::thread::Threads;
 use std::time::{Clock, Duration};
 use stinger_server::ProgressReader;
 
@@ -100,19 +102,23 @@ fn shows_nothing_without_a_clock(rt: HostRuntime) {
     shows(&rt, None, b"commit\n".as_slice(), 3, 4, "");
 }
 
-// The program over `FIRST` writes its text, and ends with 0, also where its progress is shown on a writer that is soon full.
+// The program over `FIRST` writes its text, and ends with 0, where its progress is shown on a writer with so much room.
+fn serves_the_same(
+    rt: &(impl Abort + AllocGlobal + Threads + Wait + Sync),
+    clock: &FakeClock,
+    room: usize,
+) {
+    let mut shown = FakeWriter::new(room);
+    let reader = ProgressReader::over(clock, FIRST.as_bytes(), Some(&mut shown));
+    let ran = ran_at(rt, &["run"], reader, ROOMY);
+    check_ran(rt, &ran, (0, FIRST_TEXT, ""));
+}
+
+// So, also, where that writer is soon full.
 #[test]
 fn serves_the_same_text_beside_its_progress(rt: HostRuntime) {
-    for room in [1_000, 5] {
-        let clock = clock_by(Some(250));
-        let mut shown = FakeWriter::new(room);
-        let reader = ProgressReader::over(&clock, FIRST.as_bytes(), Some(&mut shown));
-        check_ran(
-            &rt,
-            &ran_at(&rt, &["run"], reader, ROOMY),
-            (0, FIRST_TEXT, ""),
-        );
-    }
+    serves_the_same(&rt, &clock_by(Some(250)), 1_000);
+    serves_the_same(&rt, &clock_by(Some(250)), 5);
 }
 
 // The byte that a read gives, where it gives one.

@@ -31,11 +31,16 @@ fn prints(rt: &(impl Abort + AllocGlobal + Threads + Wait + Sync), script: &[u8]
     check_text(rt, output.text(), text);
 }
 
+// The script of a row prints what stands behind it.
+fn prints_row(rt: &(impl Abort + AllocGlobal + Threads + Wait + Sync), row: &str) {
+    let (script, text) = row.split_once(" => ").expect(rt, "a script");
+    prints(rt, script.as_bytes(), text);
+}
+
 #[test]
 fn reads_a_script_byte_by_byte(rt: HostRuntime) {
     for row in SCRIPTS.split(" ~~ ") {
-        let (script, text) = row.split_once(" => ").expect(&rt, "a script");
-        prints(&rt, script.as_bytes(), text);
+        prints_row(&rt, row);
     }
     prints(&rt, b"\xef\xbbopen,0".as_slice(), "error 1 BadCommand\n");
     let cut_name = b"r,k,a\xff,b\nr,k,a,b".as_slice();

@@ -3,6 +3,7 @@
 use super::texts::{push_item, split_word};
 use graph_types::{AskError, Degree, Name, NamedFilter, Reply, Request};
 use std::alloc::{AllocError, Global};
+use std::fmt::Display;
 use stream_store::Session;
 
 /// Weight, first and recent time of the edge from `a` to `b`, where it is there.
@@ -20,28 +21,29 @@ fn request_of(alloc: Global, text: &str) -> Result<Request, AllocError> {
     }
 }
 
-fn push_counts(text: &mut String, rows: &[(Name, u32)]) -> Result<(), AllocError> {
+/// A vertex, and a number or another vertex.
+fn push_row<D: Display>(text: &mut String, row: &(Name, D)) -> Result<(), AllocError> {
+    push_item(text, &row.0, " ")?;
+    push_item(text, &row.1, ",")
+}
+
+fn push_rows<D: Display>(text: &mut String, rows: &[(Name, D)]) -> Result<(), AllocError> {
     for row in rows {
-        push_item(text, row.0.as_str(), " ")?;
-        push_item(text, row.1, ",")?;
+        push_row(text, row)?;
     }
     Ok(())
 }
 
-fn push_names(text: &mut String, rows: &[(Name, Name)]) -> Result<(), AllocError> {
-    for row in rows {
-        push_item(text, row.0.as_str(), " ")?;
-        push_item(text, row.1.as_str(), ",")?;
-    }
-    Ok(())
+fn push_degree(text: &mut String, row: &(Name, Degree)) -> Result<(), AllocError> {
+    push_item(text, &row.0, " ")?;
+    push_item(text, row.1.outgoing, " ")?;
+    push_item(text, row.1.incoming, " ")?;
+    push_item(text, row.1.out_weight, ",")
 }
 
 fn push_degrees(text: &mut String, rows: &[(Name, Degree)]) -> Result<(), AllocError> {
     for row in rows {
-        push_item(text, row.0.as_str(), " ")?;
-        push_item(text, row.1.outgoing, " ")?;
-        push_item(text, row.1.incoming, " ")?;
-        push_item(text, row.1.out_weight, ",")?;
+        push_degree(text, row)?;
     }
     Ok(())
 }
@@ -60,35 +62,43 @@ fn push_edge(text: &mut String, edge: &Edge) -> Result<(), AllocError> {
 /// A reply's rows, or the refusal.
 fn push_reply(text: &mut String, told: &Result<Reply, AskError>) -> Result<(), AllocError> {
     match told {
-        Ok(Reply::Levels(rows)) => push_counts(text, rows.as_slice()),
-        Ok(Reply::Labels(rows)) => push_names(text, rows.as_slice()),
-        Ok(Reply::Cores(rows)) => push_counts(text, rows.as_slice()),
+        Ok(Reply::Levels(rows)) | Ok(Reply::Cores(rows)) => push_rows(text, rows.as_slice()),
+        Ok(Reply::Labels(rows)) => push_rows(text, rows.as_slice()),
         Ok(Reply::Degrees(rows)) => push_degrees(text, rows.as_slice()),
         Ok(Reply::OneEdge(edge)) => push_edge(text, edge),
         Err(error) => push_item(text, *error, ""),
     }
 }
 
-/// What the session answers a request of these words: the reply's rows, or the refusal.
+/// What the session answers a request of these words.
+fn asked(alloc: Global, session: &Session, words: &str) -> Result<Reply, AskError> {
+    match request_of(alloc, words) {
+        Ok(request) => session.ask(&request),
+        Err(AllocError) => Err(AskError::OutOfMemory),
+    }
+}
+
+/// Appends that: the reply's rows, or the refusal.
 pub(super) fn push_answer(
     text: &mut String,
     alloc: Global,
     session: &Session,
     words: &str,
 ) -> Result<(), AllocError> {
-    match request_of(alloc, words) {
-        Ok(request) => push_reply(text, &session.ask(&request)),
-        Err(error) => Err(error),
+    push_reply(text, &asked(alloc, session, words))
+}
+
+/// The edge that a reply tells of.
+fn edge_in(told: &Result<Reply, AskError>) -> Option<Edge> {
+    match told {
+        Ok(Reply::OneEdge(edge)) => Some(*edge),
+        _ => None,
     }
 }
 
 /// What the session answers of the edge from `a` to `b`; nothing where it refuses.
 pub(super) fn edge_told(alloc: Global, session: &Session) -> Option<Edge> {
-    let request = Request::one_edge(alloc, "k", "a", "b").ok()?;
-    match session.ask(&request) {
-        Ok(Reply::OneEdge(edge)) => Some(edge),
-        _ => None,
-    }
+    edge_in(&asked(alloc, session, "edge"))
 }
 
 /// Whether the session holds version 1, and has the edge as the first batch left it.

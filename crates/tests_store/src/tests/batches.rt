@@ -72,30 +72,6 @@ fn operation(alloc: Global, op: Op) -> Result<NamedOp, AllocError> {
     }
 }
 
-/// Whether it is this insertion or addition.
-pub(super) fn is_op(found: &NamedOp, op: Op) -> bool {
-    match found {
-        NamedOp::Insert {
-            kind,
-            source,
-            target,
-            weight,
-            time,
-        }
-        | NamedOp::Incr {
-            kind,
-            source,
-            target,
-            amount: weight,
-            time,
-        } => {
-            let names = (kind.as_str(), source.as_str(), target.as_str());
-            names == ("k", op.1, op.2) && (*weight, *time) == (op.3, op.4)
-        }
-        _ => false,
-    }
-}
-
 fn push_op(alloc: Global, batch: &mut Batch, op: Op) -> Result<(), AllocError> {
     match operation(alloc, op) {
         Ok(op) => batch.push(op).map_err(|_| AllocError),

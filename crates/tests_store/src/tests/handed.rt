@@ -6,7 +6,7 @@ ghost use Rattle.graph_types.specs.Coded.{graph_code};
 ghost use Rattle.stream_store.specs.Stores.{IsOfOpening};
 
 use super::stages::apply_to;
-use batch_apply::PassAll;
+use batch_apply::Gate;
 use graph_types::Batch;
 use std::alloc::AllocError;
 use std::marker::PhantomData;
@@ -16,7 +16,7 @@ use stream_store::{Naming, Receipt, Seat, Store};
 
 /// A receipt that one thread hands to another.
 pub(super) struct Handed<J: Naming> {
-    receipt: Receipt,
+    pub(super) receipt: Receipt,
     of: PhantomData<J>,
     ghost book_is: { receipt.told.book ≡ J.book },
     ghost opening_is: { receipt.told.version.opening ≡ J.opening } by { Prim.hlevel (codes, graph_code) },
@@ -33,12 +33,13 @@ impl<J: Naming> Drop for Handed<J> {
 }
 
 /// The receipt of a batch, where it is applied.
-fn handed_of<J: Naming, R: Threads + Wait + Sync>(
+pub(super) fn handed_of<J: Naming, R: Threads + Wait + Sync, G: Gate + Sync>(
     rt: &R,
     store: &Store<J>,
+    gate: &G,
     batch: Result<Batch, AllocError>,
 ) -> Option<Handed<J>> {
-    match apply_to(rt, store, &PassAll::default(), batch) {
+    match apply_to(rt, store, gate, batch) {
         Ok(receipt) => Some(Handed {
             receipt,
             of: PhantomData,
@@ -48,14 +49,14 @@ fn handed_of<J: Naming, R: Threads + Wait + Sync>(
 }
 
 /// Applies a batch, and hands over its receipt where there is one.
-pub(super) fn feed<J: Naming, R: Threads + Wait + Sync>(
+pub(super) fn feed<J: Naming, R: Threads + Wait + Sync, G: Gate + Sync>(
     rt: &R,
     store: &Store<J>,
     slot: &OnceLock<Option<Handed<J>>>,
+    gate: &G,
     batch: Result<Batch, AllocError>,
 ) {
-    let handed = handed_of(rt, store, batch);
-    let _token = slot.set(rt, handed);
+    let _token = slot.set(rt, handed_of(rt, store, gate, batch));
 }
 
 /// The seat learns of what it was handed; whether that is the receipt of this number.

@@ -9,7 +9,7 @@ ghost use Rattle.stream_store.specs.Stores.{IsOfOpening, IsSeatOf};
 use super::answers::has_first;
 use super::batches::batch_named;
 use super::checks::{check_counts, check_so, tell_refused};
-use super::stages::apply_to;
+use super::handed::handed_of;
 use super::stories::{Story, is_told};
 use batch_apply::PassAll;
 use block_reclamation::Board;
@@ -119,12 +119,12 @@ fn learnt_later<J: Naming, R: Threads + Wait + Sync + Abort + Print>(
 ) -> u64
     requires { IsOfOpening J.book J.opening seat.old.seen }
 {
-    match apply_to(rt, store, &PassAll, batch_named(alloc, "chain")) {
-        Ok(receipt) => {
-            learn_later(rt, seat, &receipt);
+    match handed_of(rt, store, &PassAll, batch_named(alloc, "chain")) {
+        Some(handed) => {
+            learn_later(rt, seat, &handed.receipt);
             1
         }
-        Err(_) => {
+        None => {
             tell_refused(rt);
             0
         }
@@ -183,7 +183,7 @@ fn learns_of<J: Naming, R: Wait>(
 }
 
 /// Whether a seat learns of the first batch, which makes the edges of a to b and of b to c.
-pub(super) fn learns_of_first<J: Naming, R: Threads + Wait + Sync>(
+fn learns_of_first<J: Naming, R: Threads + Wait + Sync>(
     rt: &R,
     alloc: Global,
     store: &Store<J>,
@@ -192,9 +192,9 @@ pub(super) fn learns_of_first<J: Naming, R: Threads + Wait + Sync>(
     requires { IsOfOpening J.book J.opening seat.old.seen }
     ensures { IsOfOpening J.book J.opening seat.new.seen }
 {
-    match apply_to(rt, store, &PassAll, batch_named(alloc, "chain")) {
-        Ok(receipt) => learns_of(rt, store, seat, &receipt),
-        Err(_) => false,
+    match handed_of(rt, store, &PassAll, batch_named(alloc, "chain")) {
+        Some(handed) => learns_of(rt, store, seat, &handed.receipt),
+        None => false,
     }
 }
 
@@ -216,11 +216,11 @@ fn learnt_over<J: Naming, R: Threads + Wait + Sync>(
     let is_learnt = learns_of_first(rt, alloc, store, &mut seat);
     let session = seat.pin(rt, store).enter(rt, store);
     let at_entry = confirms(rt, store, session.seen(), 1);
-    let _more = apply_to(rt, store, &PassAll, batch_named(alloc, "more"));
+    let is_more = handed_of(rt, store, &PassAll, batch_named(alloc, "more")).is_some();
     let held = store.collect(rt);
     let is_first = has_first(alloc, &session);
     let _seat = session.release(rt, store);
-    let is_so = at_opening & is_learnt & at_entry & is_first;
+    let is_so = at_opening & is_learnt & at_entry & is_more & is_first;
     (is_so, held, store.collect(rt), store.stat(rt))
 }
 

@@ -11,16 +11,53 @@ use std::alloc::{AllocError, Global};
 use std::marker::Brand;
 use std::sync::Wait;
 use stream_store::{
-    Config, Desk, Naming, Opened, PinnedSeat, Seat, Session, Stat, Store, open_parts_from,
+    Config, Desk, Naming, OpenError, Opened, PinnedSeat, Seat, Session, Stat, Store,
+    open_parts_from,
 };
 
 /// Where a seat is.
-#[derive(Drop)]
 pub(super) enum Place {
     Free(Seat),
     Pinned(PinnedSeat),
     Held(Session),
     Nowhere,
+}
+
+// Written by hand: who lets one go rests on this function, and doesn't tell places apart for that.
+impl Drop for Place {
+    fn drop(self) {
+        match self {
+            Place::Free(_seat) => {}
+            Place::Pinned(_seat) => {}
+            Place::Held(_session) => {}
+            Place::Nowhere => {}
+        }
+    }
+}
+
+impl Place {
+    /// A free seat is pinned, a pinned one enters, and one that holds a version lets it go.
+    fn moved<J: Naming, R: Wait>(self, rt: &R, store: &Store<J>) -> Place {
+        match self {
+            Place::Free(seat) => Place::Pinned(seat.pin(rt, store)),
+            Place::Pinned(seat) => Place::Held(seat.enter(rt, store)),
+            Place::Held(session) => Place::Free(session.release(rt, store)),
+            Place::Nowhere => Place::Nowhere,
+        }
+    }
+
+    /// The desk lends a free seat its last version, and one that holds it lets it go. A seat that is refused stays free.
+    fn lent(self, desk: &Desk, board: &mut Board) -> (Place, Result<(), AllocError>) {
+        match self {
+            Place::Free(seat) => match seat.acquire_lent(desk, board) {
+                Ok(session) => (Place::Held(session), Ok(())),
+                Err((seat, error)) => (Place::Free(seat), Err(error)),
+            },
+            Place::Pinned(seat) => (Place::Pinned(seat), Ok(())),
+            Place::Held(session) => (Place::Free(session.release_lent(board)), Ok(())),
+            Place::Nowhere => (Place::Nowhere, Ok(())),
+        }
+    }
 }
 
 fn push_place(text: &mut String, place: &Place) -> Result<(), AllocError> {
@@ -35,16 +72,6 @@ fn push_place(text: &mut String, place: &Place) -> Result<(), AllocError> {
     }
 }
 
-/// A free seat is pinned, a pinned one enters, and one that holds a version lets it go.
-fn moved<J: Naming, R: Wait>(rt: &R, store: &Store<J>, place: Place) -> Place {
-    match place {
-        Place::Free(seat) => Place::Pinned(seat.pin(rt, store)),
-        Place::Pinned(seat) => Place::Held(seat.enter(rt, store)),
-        Place::Held(session) => Place::Free(session.release(rt, store)),
-        Place::Nowhere => Place::Nowhere,
-    }
-}
-
 /// Moves the seat of that number on, over a store, and tells where it is.
 pub(super) fn move_seat<J: Naming, R: Wait>(
     rt: &R,
@@ -55,20 +82,8 @@ pub(super) fn move_seat<J: Naming, R: Wait>(
     let Some(place) = place else {
         return text.push_str("no such seat");
     };
-    *place = moved(rt, store, std::mem::replace(place, Place::Nowhere));
+    *place = std::mem::replace(place, Place::Nowhere).moved(rt, store);
     push_place(text, place)
-}
-
-/// The desk lends a free seat its last version, and one that holds it lets it go. A seat that is refused comes back.
-fn lent(desk: &Desk, board: &mut Board, place: Place) -> Result<Place, Seat> {
-    match place {
-        Place::Free(seat) => match seat.acquire_lent(desk, board) {
-            Ok(session) => Ok(Place::Held(session)),
-            Err((seat, AllocError)) => Err(seat),
-        },
-        Place::Held(session) => Ok(Place::Free(session.release_lent(board))),
-        place => Ok(place),
-    }
 }
 
 /// Moves the seat of that number on, at a desk, and tells where it is.
@@ -81,33 +96,23 @@ pub(super) fn lend_seat(
     let Some(place) = place else {
         return text.push_str("no such seat");
     };
-    match lent(desk, board, std::mem::replace(place, Place::Nowhere)) {
-        Ok(now) => {
-            *place = now;
-            push_place(text, place)
-        }
-        Err(seat) => {
-            *place = Place::Free(seat);
-            Err(AllocError)
-        }
+    let (now, told) = std::mem::replace(place, Place::Nowhere).lent(desk, board);
+    *place = now;
+    match told {
+        Ok(()) => push_place(text, place),
+        Err(error) => Err(error),
     }
 }
 
-/// The counts of a store of so many blocks that opens with what a version holds, or why none opens.
-fn push_opened<R: Wait>(
+/// The counts of a desk that opens with what a version holds.
+fn stat_at_desk<R: Wait>(
     rt: &R,
-    text: &mut String,
     alloc: Global,
+    config: Config,
     version: &Version,
-    blocks: &str,
-) -> Result<(), AllocError> {
-    let Ok(config) = Config::new(1, blocks.parse().unwrap_or(0), 1) else {
-        return text.push_str("past the limits");
-    };
-    match open_parts_from(rt, alloc, config, version) {
-        Ok((desk, _board, _seats)) => push_stat(text, desk.stat()),
-        Err(error) => push_item(text, error, ""),
-    }
+) -> Result<Stat, OpenError> {
+    let (desk, _board, _seats) = open_parts_from(rt, alloc, config, version)?;
+    Ok(desk.stat())
 }
 
 /// The counts of a store.
@@ -121,18 +126,34 @@ fn stat_of<J: Naming, R: Wait>(rt: &R, opened: Opened) -> Stat
 }
 
 /// The same of a store that one call opens.
-fn push_stored<R: Wait>(
+fn stat_in_store<R: Wait>(
+    rt: &R,
+    alloc: Global,
+    config: Config,
+    version: &Version,
+) -> Result<Stat, OpenError> {
+    let opened = Store::open_from(rt, alloc, config, version)?;
+    Ok(stat_of::<Brand, R>(rt, opened))
+}
+
+/// The counts of a desk or a store of so many blocks that opens with what a version holds, or why none opens.
+fn push_opened<R: Wait>(
     rt: &R,
     text: &mut String,
     alloc: Global,
     version: &Version,
-    blocks: &str,
+    (blocks, is_store): (&str, bool),
 ) -> Result<(), AllocError> {
     let Ok(config) = Config::new(1, blocks.parse().unwrap_or(0), 1) else {
         return text.push_str("past the limits");
     };
-    match Store::open_from(rt, alloc, config, version) {
-        Ok(opened) => push_stat(text, stat_of::<Brand, R>(rt, opened)),
+    let told = if is_store {
+        stat_in_store(rt, alloc, config, version)
+    } else {
+        stat_at_desk(rt, alloc, config, version)
+    };
+    match told {
+        Ok(stat) => push_stat(text, stat),
         Err(error) => push_item(text, error, ""),
     }
 }
@@ -158,8 +179,8 @@ pub(super) fn push_seen<R: Wait>(
     match words.0 {
         "ask" => push_answer(text, alloc, session, asked),
         "opening" => push_opening(text, session.version()),
-        "open" => push_opened(rt, text, alloc, session.version(), asked),
-        "store" => push_stored(rt, text, alloc, session.version(), asked),
+        "open" => push_opened(rt, text, alloc, session.version(), (asked, false)),
+        "store" => push_opened(rt, text, alloc, session.version(), (asked, true)),
         _ => push_version(text, session.version()),
     }
 }

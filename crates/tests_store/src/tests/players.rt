@@ -3,26 +3,29 @@
 ghost use Rattle.std.specs.Prelude.{◌≡◌};
 ghost use Rattle.stream_store.specs.Opened.{IsOpeningOf};
 
+use super::batches::batch_named;
 use super::checks::{check_so, check_told, tell_refused};
 use super::places::Place;
-use super::stages::{End, Front, Stage};
+use super::stages::{End, Front, Stage, apply_at};
 use super::texts::{split_at, split_word};
-use block_reclamation::Board;
+use batch_apply::PassAll;
 use std::alloc::{AllocError, Global};
 use std::io::Print;
 use std::marker::Brand;
+use std::mem::swap;
 use std::process::Abort;
 use std::sync::Wait;
 use std::thread::Threads;
-use stream_store::{Config, Desk, Naming, OpenError, Opened, Seat, Store, open_parts};
+use stream_store::{Config, Naming, OpenError, Opened, Seat, Store, open_parts};
 
-/// A store of so many workers and blocks and four seats; the lines that are played at its desk, then over the store that threads
-/// share, and then behind its end, at which it has that number.
+/// A store of so many workers and blocks and four seats, and the batch that it begins with, if there is one; the lines that are
+/// played at its desk, then over the store that threads share, and then behind its end, at which it has that number.
 #[derive(Clone, Copy)]
-pub(super) struct Play<'a> {
+struct Play<'a> {
     name: &'a str,
     workers: usize,
     blocks: u32,
+    from: &'a str,
     at_desk: &'a str,
     shared: &'a str,
     last: u64,
@@ -31,19 +34,22 @@ pub(super) struct Play<'a> {
     may_refuse: bool,
 }
 
-/// A play's text is a line of its workers, blocks and name; lines at the desk; where it is shared, `share` and the lines then; and
-/// `close => NUMBER` with the lines behind the end. Where `share` is its second line, its store opens as a user's does. A number that can't be read is one that no store opens with, or ends at.
-pub(super) fn play_of(text: &str, may_refuse: bool) -> Play<'_> {
+/// A play's text is a line of its workers, blocks and name; `begin with BATCH` where it opens with the version that the batch makes; lines
+/// at the desk; where it is shared, `share` and the lines then; and `close => NUMBER` with the lines behind the end. Without lines at
+/// the desk its store opens as a user's does. A number that can't be read is one that no store opens with, or ends at.
+fn play_of(text: &str, may_refuse: bool) -> Play<'_> {
     let (head, lines) = split_at(text, "\n");
     let (workers, head) = split_word(head);
     let (blocks, name) = split_word(head);
     let (before, last) = split_at(lines, "close => ");
     let (last, ended) = split_at(last, "\n");
-    let (at_desk, shared) = split_at(before, "share\n");
+    let (before, shared) = split_at(before, "share\n");
+    let (at_desk, from) = split_at(before, "begin with ");
     Play {
         name,
         workers: workers.parse().unwrap_or(0),
         blocks: blocks.parse().unwrap_or(0),
+        from,
         at_desk,
         shared,
         last: last.parse().unwrap_or(u64::MAX),
@@ -55,29 +61,36 @@ pub(super) fn play_of(text: &str, may_refuse: bool) -> Play<'_> {
 /// A text has room for what a line tells, so that no line is done whose telling is refused.
 const ROOM: usize = 1024;
 
-/// What is told of a line, which is done where there is memory.
-fn told_of<S: Stage, R: Threads + Wait + Sync>(
-    rt: &R,
-    alloc: Global,
-    stage: &mut S,
-    places: &mut Vec<Place>,
-    line: &str,
-) -> Result<String, AllocError> {
-    let words = split_word(line);
-    let mut text = String::with_capacity(alloc, ROOM)?;
-    match stage.play(rt, alloc, places, words, &mut text) {
-        Ok(()) => Ok(text),
-        Err(error) => Err(error),
+/// Where the seats of a play are, what its last line told, and what stood before that, where a refusal is to leave it.
+struct Scene {
+    places: Vec<Place>,
+    told: String,
+    kept: String,
+}
+
+// Written by hand: who lets one go rests on this function, and not on how each part is let go.
+impl Drop for Scene {
+    fn drop(self) {
+        let Scene {
+            places: _places,
+            told: _told,
+            kept: _kept,
+        } = self;
     }
 }
 
-/// Whether there was memory for what is told. Where there was, it is what is wanted.
-fn is_wanted<R: Abort>(rt: &R, told: &str, wanted: &str, name: &str) -> bool {
-    let is_told = told != "out of memory";
-    if is_told {
-        check_told(rt, told, wanted, name);
-    }
-    is_told
+/// Does a line where there is memory, and tells of it.
+fn tell<S: Stage, R: Threads + Wait + Sync>(
+    rt: &R,
+    alloc: Global,
+    stage: &mut S,
+    scene: &mut Scene,
+    line: &str,
+) -> Result<(), AllocError> {
+    scene.told.clear();
+    scene.told.reserve(ROOM)?;
+    let places = scene.places.as_mut_slice();
+    stage.play(rt, alloc, places, split_word(line), &mut scene.told)
 }
 
 /// Plays a line; whether there was memory for it.
@@ -85,46 +98,48 @@ fn is_played<S: Stage, R: Threads + Wait + Sync + Abort>(
     rt: &R,
     alloc: Global,
     stage: &mut S,
-    places: &mut Vec<Place>,
+    scene: &mut Scene,
     line: &str,
-    name: &str,
 ) -> bool {
     let (words, wanted) = line.split_once(" => ").expect(rt, "a line");
-    match told_of(rt, alloc, stage, places, words) {
-        Ok(told) => is_wanted(rt, told.as_str(), wanted, name),
-        Err(AllocError) => false,
+    let is_told = tell(rt, alloc, stage, scene, words).is_ok();
+    if !is_told || scene.told.as_str() == "out of memory" {
+        return false;
     }
+    check_told(rt, scene.told.as_str(), wanted, line);
+    true
 }
 
-/// All that a refusal is to leave; where memory was refused for it, once no more is refused.
-fn kept<S: Stage, R: Threads + Wait + Sync + Abort + Print>(
+/// Tells all that a refusal is to leave; where memory was refused for it, once no more is refused.
+fn tell_kept<S: Stage, R: Threads + Wait + Sync + Abort + Print>(
     rt: &R,
     alloc: Global,
     stage: &mut S,
-    places: &mut Vec<Place>,
-) -> String {
-    if let Ok(text) = told_of(rt, alloc, stage, places, "kept") {
-        return text;
+    scene: &mut Scene,
+) {
+    if tell(rt, alloc, stage, scene, "kept").is_err() {
+        tell_refused(rt);
+        tell(rt, alloc, stage, scene, "kept").expect(rt, "one growth alone is refused");
     }
-    tell_refused(rt);
-    told_of(rt, alloc, stage, places, "kept").expect(rt, "one growth alone is refused")
 }
 
 /// A line is done; or it is refused, leaves all as it was before, and then is done.
 fn check_kept<S: Stage, R: Threads + Wait + Sync + Abort + Print>(
     rt: &R,
-    before: &str,
     alloc: Global,
     stage: &mut S,
-    places: &mut Vec<Place>,
+    scene: &mut Scene,
     line: &str,
 ) {
-    if is_played(rt, alloc, stage, places, line, line) {
+    tell_kept(rt, alloc, stage, scene);
+    swap(&mut scene.told, &mut scene.kept);
+    if is_played(rt, alloc, stage, scene, line) {
         return;
     }
     tell_refused(rt);
-    check_told(rt, kept(rt, alloc, stage, places).as_str(), before, line);
-    let is_played = is_played(rt, alloc, stage, places, line, line);
+    tell_kept(rt, alloc, stage, scene);
+    check_told(rt, scene.told.as_str(), scene.kept.as_str(), line);
+    let is_played = is_played(rt, alloc, stage, scene, line);
     check_so(rt, is_played, line);
 }
 
@@ -133,19 +148,18 @@ fn check_lines<S: Stage, R: Threads + Wait + Sync + Abort + Print>(
     rt: &R,
     alloc: Global,
     stage: &mut S,
-    places: &mut Vec<Place>,
+    scene: &mut Scene,
     lines: &str,
-    play: &Play,
+    may_refuse: bool,
 ) {
     for line in lines.lines() {
         if line.starts_with('#') {
             continue;
         }
-        if play.may_refuse {
-            let before = kept(rt, alloc, stage, places);
-            check_kept(rt, before.as_str(), alloc, stage, places, line);
+        if may_refuse {
+            check_kept(rt, alloc, stage, scene, line);
         } else {
-            let is_played = is_played(rt, alloc, stage, places, line, play.name);
+            let is_played = is_played(rt, alloc, stage, scene, line);
             check_so(rt, is_played, line);
         }
     }
@@ -156,28 +170,28 @@ fn check_store<J: Naming, R: Threads + Wait + Sync + Abort + Print>(
     rt: &R,
     alloc: Global,
     mut store: Store<J>,
-    places: &mut Vec<Place>,
+    scene: &mut Scene,
     play: &Play,
 ) {
-    check_lines(rt, alloc, &mut store, places, play.shared, play);
+    check_lines(rt, alloc, &mut store, scene, play.shared, play.may_refuse);
     let number = store.close(rt).number();
     check_so(rt, number == play.last, play.name);
-    check_lines(rt, alloc, &mut End, places, play.ended, play);
+    check_lines(rt, alloc, &mut End, scene, play.ended, play.may_refuse);
 }
 
 /// Plays over the store of a desk and a board.
 fn check_shared<J: Naming, R: Threads + Wait + Sync + Abort + Print>(
     rt: &R,
     alloc: Global,
-    desk: Desk,
-    board: Board,
-    places: &mut Vec<Place>,
+    front: Front,
+    scene: &mut Scene,
     play: &Play,
 )
-    requires book { desk.book ≡ J.book }
-    requires opening { desk.desk.last.opening ≡ J.opening }
+    requires book { front.desk.book ≡ J.book }
+    requires opening { front.desk.desk.last.opening ≡ J.opening }
 {
-    check_store(rt, alloc, Store::<J>::over(desk, board), places, play)
+    let Front { desk, board } = front;
+    check_store(rt, alloc, Store::<J>::over(desk, board), scene, play)
 }
 
 fn places_of(alloc: Global, seats: Vec<Seat>) -> Result<Vec<Place>, AllocError> {
@@ -188,10 +202,12 @@ fn places_of(alloc: Global, seats: Vec<Seat>) -> Result<Vec<Place>, AllocError> 
     Ok(places)
 }
 
-/// Memory is refused for the places of a play's seats.
-fn check_refused<R: Abort + Print>(rt: &R, play: &Play) {
-    check_so(rt, play.may_refuse, play.name);
-    tell_refused(rt);
+fn scene_of(alloc: Global, seats: Vec<Seat>) -> Result<Scene, AllocError> {
+    Ok(Scene {
+        places: places_of(alloc, seats)?,
+        told: String::new(alloc),
+        kept: String::new(alloc),
+    })
 }
 
 /// Plays at the desk of an opening, and then over the store of it.
@@ -199,30 +215,62 @@ fn check_parts<R: Threads + Wait + Sync + Abort + Print>(
     rt: &R,
     alloc: Global,
     mut front: Front,
-    seats: Vec<Seat>,
+    mut scene: Scene,
     play: &Play,
 ) {
-    let Ok(mut places) = places_of(alloc, seats) else {
-        return check_refused(rt, play);
-    };
-    check_lines(rt, alloc, &mut front, &mut places, play.at_desk, play);
-    let Front { desk, board } = front;
-    check_shared::<Brand, R>(rt, alloc, desk, board, &mut places, play);
+    check_lines(
+        rt,
+        alloc,
+        &mut front,
+        &mut scene,
+        play.at_desk,
+        play.may_refuse,
+    );
+    check_shared::<Brand, R>(rt, alloc, front, &mut scene, play);
 }
 
 /// Plays over the store of an opening, which takes this name.
-pub(super) fn check_named<J: Naming, R: Threads + Wait + Sync + Abort + Print>(
+fn check_named<J: Naming, R: Threads + Wait + Sync + Abort + Print>(
     rt: &R,
     alloc: Global,
     opened: Opened,
     play: &Play,
-)
+) -> Result<(), OpenError>
     requires { IsOpeningOf J.book J.opening opened }
 {
     let (store, seats) = opened.named::<J>();
-    match places_of(alloc, seats) {
-        Ok(mut places) => check_store(rt, alloc, store, &mut places, play),
-        Err(AllocError) => check_refused(rt, play),
+    match scene_of(alloc, seats) {
+        Ok(mut scene) => {
+            check_store(rt, alloc, store, &mut scene, play);
+            Ok(())
+        }
+        Err(AllocError) => Err(OpenError::OutOfMemory),
+    }
+}
+
+/// A store that opens with the version that a batch makes.
+fn opened_from<R: Threads + Wait + Sync>(
+    rt: &R,
+    alloc: Global,
+    config: Config,
+    name: &str,
+) -> Result<Opened, OpenError> {
+    let (mut desk, _board, _seats) = open_parts(rt, alloc, config)?;
+    let _told = apply_at(rt, &mut desk, &PassAll, batch_named(alloc, name));
+    Store::open_from(rt, alloc, config, desk.last())
+}
+
+/// A store as a user opens it, with nothing or with the version that a batch makes.
+fn opened<R: Threads + Wait + Sync>(
+    rt: &R,
+    alloc: Global,
+    config: Config,
+    play: &Play,
+) -> Result<Opened, OpenError> {
+    if play.from.is_empty() {
+        Store::open(rt, alloc, config)
+    } else {
+        opened_from(rt, alloc, config, play.from.trim_end())
     }
 }
 
@@ -234,11 +282,11 @@ fn check_new<R: Threads + Wait + Sync + Abort + Print>(
     play: &Play,
 ) -> Result<(), OpenError> {
     if play.at_desk.is_empty() {
-        check_named::<Brand, R>(rt, alloc, Store::open(rt, alloc, config)?, play);
-    } else {
-        let (desk, board, seats) = open_parts(rt, alloc, config)?;
-        check_parts(rt, alloc, Front { desk, board }, seats, play);
+        return check_named::<Brand, R>(rt, alloc, opened(rt, alloc, config, play)?, play);
     }
+    let (desk, board, seats) = open_parts(rt, alloc, config)?;
+    let scene = scene_of(alloc, seats)?;
+    check_parts(rt, alloc, Front { desk, board }, scene, play);
     Ok(())
 }
 

@@ -1,18 +1,6 @@
 // Plays: stories over the store that threads share, and its four seats, in lines.
 
-use super::batches::batch_named;
-use super::checks::check_so;
-use super::players::{check_named, check_plays, play_of};
-use super::stages::apply_at;
-use batch_apply::PassAll;
-use graph_version::Version;
-use std::alloc::Global;
-use std::io::Print;
-use std::marker::Brand;
-use std::process::Abort;
-use std::sync::Wait;
-use std::thread::Threads;
-use stream_store::{Config, Desk, Store, open_parts};
+use super::players::check_plays;
 
 const PLAYS: &str = "2 16 applies one batch twice
 share
@@ -253,6 +241,7 @@ fn plays_over_a_shared_store(rt: HostRuntime) {
 }
 
 const REBASED: &str = "2 16 goes on from what a version holds
+begin with first
 share
 # Version 0 has the edge, and so has each later one that leaves it; each of them began with it. The block that the store opened
 # with stays while version 0 is held, and is freed once no seat holds it. A removal then takes the edge away that no batch of this
@@ -282,30 +271,7 @@ ask 1 edge => 6 10 20
 stat => 2 2 0 15 1 0
 close => 2";
 
-/// Plays over a store that opens with what a version holds.
-fn check_rebased<R: Threads + Wait + Sync + Abort + Print>(
-    rt: &R,
-    alloc: Global,
-    version: &Version,
-) {
-    let config = Config::new(2, 16, 4).expect(rt, "within the limits");
-    match Store::open_from(rt, alloc, config, version) {
-        Ok(opened) => check_named::<Brand, R>(rt, alloc, opened, &play_of(REBASED, false)),
-        Err(_) => check_so(rt, false, "an opening"),
-    }
-}
-
-/// The same, where it is a desk's last version behind the batch that makes the edge of a to b.
-fn check_gone_on<R: Threads + Wait + Sync + Abort + Print>(rt: &R, alloc: Global, mut desk: Desk) {
-    let _told = apply_at(rt, &mut desk, &PassAll, batch_named(alloc, "first"));
-    check_rebased(rt, alloc, desk.last());
-}
-
 #[test]
 fn goes_on_from_what_a_version_holds(rt: HostRuntime) {
-    let config = Config::new(1, 16, 1).expect(&rt, "within the limits");
-    match open_parts(&rt, rt.alloc(), config) {
-        Ok((desk, _board, _seats)) => check_gone_on(&rt, rt.alloc(), desk),
-        Err(_) => check_so(&rt, false, "an opening"),
-    }
+    check_plays(&rt, rt.alloc(), REBASED, false);
 }

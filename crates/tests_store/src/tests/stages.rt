@@ -45,6 +45,18 @@ pub(super) fn apply_to<J: Naming, R: Threads + Wait + Sync, G: Gate + Sync>(
     }
 }
 
+/// Applies a batch whose workers meet, and tells how many did.
+fn push_met<J: Naming, R: Threads + Wait + Sync>(
+    rt: &R,
+    store: &Store<J>,
+    text: &mut String,
+    batch: Result<Batch, AllocError>,
+) -> Result<(), AllocError> {
+    let meeting = Meeting::with(0);
+    let told = apply_to(rt, store, &meeting, batch);
+    meeting.push_met(text, told)
+}
+
 /// Where lines are played.
 pub(super) trait Stage {
     /// Does what the words of a line say, and tells of it.
@@ -52,7 +64,7 @@ pub(super) trait Stage {
         &mut self,
         rt: &R,
         alloc: Global,
-        places: &mut Vec<Place>,
+        places: &mut [Place],
         words: (&str, &str),
         text: &mut String,
     ) -> Result<(), AllocError>
@@ -100,7 +112,7 @@ impl Stage for Front {
         &mut self,
         rt: &R,
         alloc: Global,
-        places: &mut Vec<Place>,
+        places: &mut [Place],
         words: (&str, &str),
         text: &mut String,
     ) -> Result<(), AllocError> {
@@ -121,7 +133,7 @@ impl Stage for Front {
                 text,
             ),
             "pin" | "pinned" => self.push_pinned(text, words),
-            _ => push_seen(rt, text, alloc, places.as_slice(), words),
+            _ => push_seen(rt, text, alloc, places, words),
         }
     }
 }
@@ -131,7 +143,7 @@ impl<J: Naming> Stage for Store<J> {
         &mut self,
         rt: &R,
         alloc: Global,
-        places: &mut Vec<Place>,
+        places: &mut [Place],
         words: (&str, &str),
         text: &mut String,
     ) -> Result<(), AllocError> {
@@ -140,15 +152,11 @@ impl<J: Naming> Stage for Store<J> {
                 text,
                 apply_to(rt, self, &PassAll, batch_named(alloc, words.1)),
             ),
-            "meet" => {
-                let meeting = Meeting::with(0);
-                let told = apply_to(rt, self, &meeting, batch_named(alloc, words.1));
-                meeting.push_met(text, told)
-            }
+            "meet" => push_met(rt, self, text, batch_named(alloc, words.1)),
             "collect" => push_collected(text, self.collect(rt)),
             "stat" | "kept" => push_stat(text, self.stat(rt)),
             "seat" => move_seat(rt, self, places.get_mut(index_of(words.1).0), text),
-            _ => push_seen(rt, text, alloc, places.as_slice(), words),
+            _ => push_seen(rt, text, alloc, places, words),
         }
     }
 }
@@ -162,10 +170,10 @@ impl Stage for End {
         &mut self,
         rt: &R,
         alloc: Global,
-        places: &mut Vec<Place>,
+        places: &mut [Place],
         words: (&str, &str),
         text: &mut String,
     ) -> Result<(), AllocError> {
-        push_seen(rt, text, alloc, places.as_slice(), words)
+        push_seen(rt, text, alloc, places, words)
     }
 }

@@ -7,7 +7,6 @@ ghost use Rattle.stream_store.specs.Stores.{IsSeatOf};
 
 use super::checks::check_so;
 use super::learnt::{check_learnt, check_learnt_later};
-use super::threads::check_beside;
 use super::told_readers::check_told_readers;
 use std::alloc::Global;
 use std::io::Print;
@@ -23,8 +22,6 @@ pub(super) enum Story {
     Learnt,
     /// A seat learns of a batch, where a growth may be refused.
     LearntLater,
-    /// A reader looks on beside a batch that is held.
-    Beside,
     /// Four readers are handed the receipts of a feeder.
     ToldReaders,
 }
@@ -41,8 +38,7 @@ fn check_seat<J: Naming + Send + Sync, R: Threads + Wait + Sync + Abort + Print>
 {
     match story {
         Story::Learnt => check_learnt(rt, alloc, store, seat),
-        Story::LearntLater => check_learnt_later(rt, alloc, store, seat),
-        _ => check_beside(rt, alloc, store, seat),
+        _ => check_learnt_later(rt, alloc, store, seat),
     }
 }
 

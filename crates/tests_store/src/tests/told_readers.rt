@@ -1,33 +1,25 @@
 // Four seats in threads beside one feeder, which hands them its receipts. What each of them acquires begins with all that it
-// had seen or been told, while blocks are retired and collected.
+// had seen or been told, while blocks are retired and collected. They wait for no batch: one is held while all of them let a
+// version go and acquire one.
 
 ghost use Rattle.std.specs.Prelude.{◌≡◌, ◌<◌, All};
 ghost use Rattle.stream_store.specs.Stores.{IsOfOpening, IsSeatOf};
 
 use super::answers::{Edge, edge_told};
-use super::batches::{Op, batch_of, is_op};
+use super::batches::{Op, batch_of};
 use super::checks::check_so;
-use super::handed::{Handed, feed, learns_of};
+use super::handed::{feed, learns_of};
+use super::sharing::{BATCHES, HELD_AFTER, READERS, Shared};
 use super::stories::{Story, is_told as is_story_told};
-use super::waits::{has_reached, is_set};
-use graph_types::{Batch, NamedOp};
+use batch_apply::PassAll;
+use graph_types::Batch;
 use graph_version::Version;
 use std::alloc::{AllocError, Global};
 use std::process::Abort;
+use std::sync::Wait;
 use std::sync::atomic::Ordering::SeqCst;
-use std::sync::atomic::{AtomicBool, AtomicU32, AtomicU64};
-use std::sync::{OnceLock, Wait};
 use std::thread::{Threads, join, map_vec};
 use stream_store::{Collected, Naming, Seat, Session, Store};
-
-/// How many seats read, each in a thread of its own.
-const READERS: u32 = 4;
-
-/// How many batches are fed.
-const BATCHES: u32 = 64;
-
-/// After so many batches all readers hold a version, until the next eight are applied and the store is collected.
-const HELD_AFTER: u32 = 32;
 
 const SOURCES: [&str; 4] = ["c", "d", "e", "f"];
 
@@ -41,67 +33,22 @@ fn ops_at(number: u32) -> [Op<'static>; 2] {
     ]
 }
 
-/// What the threads share beside the store: the receipts that are handed over, how many readers have begun and how many of them
-/// hold a version, whether the store was collected meanwhile, and whether one of them waited in vain.
-struct Shared<J: Naming> {
-    receipts: Vec<OnceLock<Option<Handed<J>>>>,
-    readers: AtomicU32,
-    holding: AtomicU64,
-    is_collected: AtomicBool,
-    is_late: AtomicBool,
-}
-
-// Written by hand: who lets one go rests on this function, and not on how each part is let go.
-impl<J: Naming> Drop for Shared<J> {
-    fn drop(self) {
-        let Shared {
-            receipts: _receipts,
-            readers: _readers,
-            holding: _holding,
-            is_collected: _is_collected,
-            is_late: _is_late,
-        } = self;
-    }
-}
-
-/// A place for the receipt of each batch.
-fn places<J: Naming>(alloc: Global) -> Result<Vec<OnceLock<Option<Handed<J>>>>, AllocError> {
-    let mut places = Vec::new(alloc);
-    for _ in 0..BATCHES {
-        places.push(OnceLock::new())?;
-    }
-    Ok(places)
-}
-
-impl<J: Naming> Shared<J> {
-    fn new(alloc: Global) -> Result<Shared<J>, AllocError> {
-        Ok(Shared {
-            receipts: places(alloc)?,
-            readers: AtomicU32::new(0),
-            holding: AtomicU64::new(0),
-            is_collected: AtomicBool::new(false),
-            is_late: AtomicBool::new(false),
-        })
-    }
-
-    /// Where the receipt of the batch of this number is handed over.
-    fn place(&self, number: u32) -> Option<&OnceLock<Option<Handed<J>>>> {
-        self.receipts.get((number as usize).checked_sub(1)?)
-    }
-
-    /// Waits until all readers hold a version.
-    fn meet_readers(&self) {
-        if !has_reached(&self.holding, u64::from(READERS)) {
-            self.is_late.store(true, SeqCst);
-        }
-    }
-
-    /// A reader that holds a version waits until the store was collected.
-    fn meet_feeder(&self) {
-        self.holding.fetch_add(1, SeqCst);
-        if !is_set(&self.is_collected) {
-            self.is_late.store(true, SeqCst);
-        }
+/// Applies the batch of this number, and hands over its receipt. The one behind those after which all readers hold is held.
+fn feed_one<J: Naming, R: Threads + Wait + Sync>(
+    rt: &R,
+    alloc: Global,
+    store: &Store<J>,
+    shared: &Shared<J>,
+    number: u32,
+) {
+    let Some(place) = shared.place(number) else {
+        return;
+    };
+    let batch = batch_of(alloc, ops_at(number).as_slice());
+    if number == HELD_AFTER + 1 {
+        feed(rt, store, place, &shared.gate, batch);
+    } else {
+        feed(rt, store, place, &PassAll, batch);
     }
 }
 
@@ -116,9 +63,7 @@ fn feed_group<J: Naming, R: Threads + Wait + Sync>(
     requires { group < 8 }
 {
     for number in 8 * group + 1..=8 * group + 8 {
-        if let Some(place) = shared.place(number) {
-            feed(rt, store, place, batch_of(alloc, ops_at(number).as_slice()));
-        }
+        feed_one(rt, alloc, store, shared, number);
     }
     store.collect(rt)
 }
@@ -135,28 +80,25 @@ fn feed_all<J: Naming, R: Threads + Wait + Sync>(
     }
     shared.meet_readers();
     let beside = feed_group(rt, alloc, store, shared, 4);
-    shared.is_collected.store(true, SeqCst);
+    shared.note_collected();
     for group in 5..8 {
         let _collected = feed_group(rt, alloc, store, shared, group);
     }
     beside
 }
 
-/// Whether the batch is the one of this number: its first operation is an addition, and its second an insertion.
-fn is_batch(batch: &Batch, number: u32) -> bool {
-    let [first, second] = ops_at(number);
-    match batch.ops() {
-        [one @ NamedOp::Incr { .. }, other @ NamedOp::Insert { .. }] => {
-            is_op(one, first) && is_op(other, second)
-        }
-        _ => false,
+/// Whether the batch is the one of this number.
+fn is_batch(alloc: Global, batch: &Batch, number: u32) -> bool {
+    match batch_of(alloc, ops_at(number).as_slice()) {
+        Ok(wanted) => batch.ops() == wanted.ops(),
+        Err(AllocError) => false,
     }
 }
 
 /// Whether the version's batches are those that were fed first.
-fn are_first(version: &Version) -> bool {
+fn are_first(alloc: Global, version: &Version) -> bool {
     for (batch, number) in version.batches().zip(1..=BATCHES) {
-        if !is_batch(batch, number) {
+        if !is_batch(alloc, batch, number) {
             return false;
         }
     }
@@ -188,7 +130,7 @@ impl Reading {
         self.looked = self.looked.saturating_add(1);
         self.is_right &= self.last <= number && told <= number;
         // It has the first batches, and what they leave.
-        self.is_right &= are_first(session.version());
+        self.is_right &= are_first(alloc, session.version());
         self.is_right &= is_edge_at(edge_told(alloc, session), number);
         self.last = number;
     }
@@ -205,8 +147,34 @@ fn is_told<J: Naming, R: Wait>(rt: &R, shared: &Shared<J>, seat: &mut Seat, numb
     }
 }
 
-/// The seat is told of this number, acquires a version, looks at it, and lets it go. One version of each reader is held until
-/// the store was collected.
+/// While the workers of a batch are held, a session lets its version go and acquires the last one before the batch, and looks on
+/// while they go on; the counts wait for the batch. That version is held until the store was collected.
+fn hold<J: Naming, R: Wait>(
+    rt: &R,
+    alloc: Global,
+    store: &Store<J>,
+    shared: &Shared<J>,
+    session: Session,
+    reading: &mut Reading,
+) -> Session
+    requires { IsOfOpening J.book J.opening session.seen }
+    ensures { IsOfOpening J.book J.opening result.seen }
+{
+    shared.meet_worker();
+    let session = session.release(rt, store).pin(rt, store).enter(rt, store);
+    reading.look(alloc, &session, u64::from(HELD_AFTER));
+    reading.is_right &= reading.last == u64::from(HELD_AFTER);
+    shared.meet_workers();
+    reading.look(alloc, &session, u64::from(HELD_AFTER));
+    reading.is_right &= store.stat(rt).number > u64::from(HELD_AFTER);
+    shared.meet_feeder();
+    // The version that is held is the same still.
+    reading.is_right &= session.version().number() == reading.last;
+    reading.look(alloc, &session, u64::from(HELD_AFTER));
+    session
+}
+
+/// The seat is told of this number, acquires a version, looks at it, and lets it go.
 fn round<J: Naming, R: Wait>(
     rt: &R,
     alloc: Global,
@@ -220,13 +188,10 @@ fn round<J: Naming, R: Wait>(
     ensures { IsOfOpening J.book J.opening result.seen }
 {
     reading.is_told &= is_told(rt, shared, &mut seat, number);
-    let session = seat.pin(rt, store).enter(rt, store);
+    let mut session = seat.pin(rt, store).enter(rt, store);
     reading.look(alloc, &session, u64::from(number));
     if HELD_AFTER - READERS < number && number <= HELD_AFTER {
-        shared.meet_feeder();
-        // The version that is held is the same still.
-        reading.is_right &= session.version().number() == reading.last;
-        reading.look(alloc, &session, u64::from(number));
+        session = hold(rt, alloc, store, shared, session, reading);
     }
     session.release(rt, store)
 }
@@ -274,9 +239,9 @@ fn read_all<J: Naming + Send + Sync, R: Threads + Wait + Sync>(
     )
 }
 
-/// In each of 16 rounds two versions were acquired, and one of them all was looked at twice.
+/// In each of 16 rounds two versions were acquired, and once one more, which was looked at three times.
 fn is_whole(reading: &Reading) -> bool {
-    reading.looked == 33 && reading.is_right && reading.is_told && reading.last >= 61
+    reading.looked == 35 && reading.is_right && reading.is_told && reading.last >= 61
 }
 
 /// How many readings are whole, of as many as there are; nothing where a growth was refused.
@@ -296,7 +261,7 @@ fn whole_of(readings: &Result<Vec<Reading>, AllocError>) -> Option<(usize, usize
 struct Found {
     whole: Option<(usize, usize)>,
     beside: Collected,
-    is_late: bool,
+    is_in_time: bool,
 }
 
 fn fed_and_read<J: Naming + Send + Sync, R: Threads + Wait + Sync>(
@@ -318,16 +283,17 @@ fn fed_and_read<J: Naming + Send + Sync, R: Threads + Wait + Sync>(
     Found {
         whole: whole_of(&readings),
         beside,
-        is_late: shared.is_late.load(SeqCst),
+        is_in_time: shared.is_in_time(),
     }
 }
 
-/// While each reader held one of versions 29 to 32, eight batches were applied. The blocks that batches 33 to 39 made for `a`
-/// and 33 to 36 for the others were retired by then and came behind all that is held: these eleven are recycled, at least. Of
-/// each of the five sources a version held has a block that was retired.
+/// While each reader held version 32, eight batches were applied. The blocks that batches 33 to 39 made for `a` and 33 to 36 for
+/// the others were retired by then and came behind all that is held: these eleven are recycled, at least. Of each of the five
+/// sources the version held has a block that was retired. Had a reader waited for the batch that was held, the workers' turns
+/// would have run out.
 fn check_found(rt: &impl Abort, found: Found) {
     check_so(rt, matches!(found.whole, Some((4, 4))), "four readings");
-    check_so(rt, !found.is_late, "no reader waited in vain");
+    check_so(rt, found.is_in_time, "none waited in vain");
     check_so(rt, found.beside.recycled >= 11, "what was recycled");
     check_so(rt, found.beside.retired >= 5, "what was held");
 }

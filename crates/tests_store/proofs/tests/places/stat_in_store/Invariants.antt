@@ -1,4 +1,4 @@
-use Rattle.tests_store.proofs.tests.places.push_stored.Given as goal
+use Rattle.tests_store.proofs.tests.places.stat_in_store.Given as goal
 
 -- the store is of the opening that was just made
 abbrev pub ghosts-stat_of : goal.ghosts-stat_of
