@@ -1,2 +1,4 @@
 mod Empty
+mod Held
 mod Openings
+mod Weights

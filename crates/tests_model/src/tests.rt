@@ -1,22 +1,32 @@
-// Each test is a text: lines, each with what it comes to.
+// Tests of the model are texts: lines, each with what it comes to. Of parts of a version there is a module for each kind.
 
+mod batch_lists;
 mod batches;
 mod blocks;
 mod changes;
 mod checks;
+mod collections;
 mod compared;
 mod copies;
+mod edge_blocks;
 mod events;
 mod graph_stories;
 mod graphs;
 mod growths;
+mod lanes;
 mod laws;
 mod machines;
 mod made;
+mod name_books;
 mod names;
 mod opened;
-mod parts;
+mod pin_copies;
+mod pins;
 mod plans;
+mod pools;
+mod row_lists;
 mod rows;
 mod runs;
+mod seats;
 mod texts;
+mod values;

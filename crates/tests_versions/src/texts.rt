@@ -3,8 +3,8 @@
 
 use edge_block::Block;
 use graph_types::{Filter, Outcome};
-use std::alloc::AllocError;
-use std::fmt::Display;
+use std::alloc::{AllocError, Global};
+use std::fmt::{Debug, Display};
 use std::io::Print;
 use std::process::Abort;
 use std::sync::Arc;
@@ -16,6 +16,31 @@ pub(crate) fn push_item<D: Display + Drop>(
     after: &str,
 ) -> Result<(), AllocError> {
     write!(text, "{item}{after}")
+}
+
+// What parts the words of an item that is derived to be shown.
+const MARKS: [char; 8] = [' ', '(', ')', '[', ']', '{', '}', ','];
+
+// Words that only wrap a number there.
+const WRAPPERS: [&str; 5] = ["", "Some", "VertexId", "List", "items:"];
+
+// Whether the words of what is shown, but for those that only wrap a number, are these.
+fn has_words(shown: &str, wanted: &str) -> bool {
+    let mut words = wanted.split_whitespace();
+    for word in shown.split(&MARKS) {
+        if !WRAPPERS.contains(&word) && words.next() != Some(word) {
+            return false;
+        }
+    }
+    words.next().is_none()
+}
+
+/// Whether an item is shown with these words; nothing where memory is refused.
+pub(crate) fn is_shown<D: Debug + Drop>(alloc: Global, item: D, wanted: &str) -> Option<bool> {
+    match format!(in alloc; "{item:?}") {
+        Ok(shown) => Some(has_words(shown.as_str(), wanted)),
+        Err(_) => None,
+    }
 }
 
 // The first letters of outcomes.

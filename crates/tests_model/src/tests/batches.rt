@@ -1,20 +1,15 @@
 // Tests of batches: what they take and what they refuse.
 
-use super::checks::{only_refused, same};
-use super::parts::{LineError, batch, push_op, push_record};
+use super::checks::{same, tell_refused};
+use super::values::{LineError, OpRow, batch, op, push_record};
 use graph_types::{Batch, PushError};
 use std::alloc::Global;
 use std::process::Abort;
-use std::test::Fail;
 
 /// An operation of each kind but an expiry.
 pub(super) const ONE_OF_EACH: &str = "i,knows,ann,bob,-1099511627776,9223372036854775807
 a,knows,ann,bob,1099511627776,0
 r,knows,cat,bob";
-
-fn has_expire(alloc: Global, ops: &str) -> Result<bool, LineError> {
-    Ok(batch(alloc, ops)?.has_expire())
-}
 
 const EXPIRIES: [(&str, bool); 3] = [
     ("", false),
@@ -22,62 +17,61 @@ const EXPIRIES: [(&str, bool); 3] = [
     ("r,knows,ann,bob x,9223372036854775807", true),
 ];
 
-#[test]
-fn a_batch_tells_whether_it_expires_edges(rt: HostRuntime) -> Result<(), Fail> {
-    for (ops, wanted) in EXPIRIES {
-        same(&rt, (ops, has_expire(rt.alloc(), ops)?), (ops, wanted));
-    }
-    Ok(())
+fn check_expiry(rt: &impl Abort, alloc: Global, ops: &str, wanted: bool) {
+    same(rt, batch(alloc, ops).expect(rt, ops).has_expire(), wanted);
 }
 
-// Weights and times past their limits, of which the first refusal is told.
-const BAD_OPERATIONS: [(&str, PushError); 7] = [
-    (
-        "i,*,ann,bob,1099511627777,9223372036854775808",
-        PushError::BadName,
-    ),
-    ("r,knows,,bob", PushError::BadName),
-    (
-        "i,knows,ann,bob,1099511627777,9223372036854775808",
-        PushError::BadWeight,
-    ),
-    ("a,knows,ann,bob,-1099511627777,0", PushError::BadWeight),
-    ("i,knows,ann,bob,0,9223372036854775808", PushError::BadTime),
-    ("a,knows,ann,bob,0,9223372036854775808", PushError::BadTime),
-    ("x,9223372036854775808", PushError::BadTime),
+#[test]
+fn a_batch_tells_whether_it_expires_edges(rt: HostRuntime) {
+    for (ops, wanted) in &EXPIRIES {
+        check_expiry(&rt, rt.alloc(), ops, *wanted);
+    }
+}
+
+// The least weight past the limit, and the least time past it.
+const WEIGHT: i64 = 1_099_511_627_777;
+
+const TIME: u64 = 9_223_372_036_854_775_808;
+
+// Operations with weights and times past their limits, of which the first refusal is told, also with the limits of their types.
+const BAD_NAMES: [OpRow; 4] = [
+    ('i', "*", "ann", WEIGHT, TIME),
+    ('r', "knows", "", 0, 0),
+    ('i', "knows", "", i64::MIN, u64::MAX),
+    ('r', "*", "ann", 0, 0),
 ];
 
-// Of what was made all the same, with the limits of its types.
-const MADE: [(&str, PushError); 4] = [
-    (
-        "i,knows,,bob,-9223372036854775808,18446744073709551615",
-        PushError::BadName,
-    ),
-    (
-        "a,knows,ann,bob,9223372036854775807,18446744073709551615",
-        PushError::BadWeight,
-    ),
-    ("r,*,ann,bob", PushError::BadName),
-    ("x,18446744073709551615", PushError::BadTime),
+const BAD_WEIGHTS: [OpRow; 3] = [
+    ('i', "knows", "ann", WEIGHT, TIME),
+    ('a', "knows", "ann", -WEIGHT, 0),
+    ('a', "knows", "ann", i64::MAX, u64::MAX),
 ];
 
-// Of a batch that is full.
-const TOO_MANY: [(&str, PushError); 2] = [
-    ("r,knows,ann,bob", PushError::BatchFull),
-    ("r,knows,,bob", PushError::BadName),
+const BAD_TIMES: [OpRow; 4] = [
+    ('i', "knows", "ann", 0, TIME),
+    ('a', "knows", "ann", 0, TIME),
+    ('x', "", "", 0, TIME),
+    ('x', "", "", 0, u64::MAX),
 ];
 
-/// The batch refuses each of these operations, and keeps as many as before.
+fn push_op(alloc: Global, batch: &mut Batch, row: OpRow) -> Result<(), PushError> {
+    match op(alloc, row) {
+        Ok(op) => batch.push(op),
+        Err(_) => Err(PushError::OutOfMemory),
+    }
+}
+
+// The batch refuses each of these operations so, and keeps as many as before.
 fn check_refusals(
     rt: &impl Abort,
     alloc: Global,
     batch: &mut Batch,
-    rows: &[(&str, PushError)],
-    len: usize,
+    rows: &[OpRow],
+    refusal: PushError,
 ) {
-    for (op, refusal) in rows {
-        let told = push_op(alloc, batch, op);
-        same(rt, (*op, told), (*op, Err(LineError::Refused(*refusal))));
+    let len = batch.len();
+    for row in rows {
+        same(rt, push_op(alloc, batch, *row), Err(refusal));
     }
     same(rt, (batch.is_empty(), batch.len()), (len == 0, len));
 }
@@ -85,20 +79,15 @@ fn check_refusals(
 #[test]
 fn a_batch_refuses_bad_operations_in_order(rt: HostRuntime) {
     let mut batch = Batch::new(rt.alloc());
-    check_refusals(&rt, rt.alloc(), &mut batch, &BAD_OPERATIONS, 0);
-    check_refusals(&rt, rt.alloc(), &mut batch, &MADE, 0);
-}
-
-fn full(alloc: Global) -> Result<Batch, LineError> {
-    let ops = "i,knows,ann,bob,1,1 ".repeat(alloc, 4096)?;
-    batch(alloc, ops.as_str())
-}
-
-#[test]
-fn a_batch_has_at_most_4096_operations(rt: HostRuntime) -> Result<(), Fail> {
-    let mut batch = full(rt.alloc())?;
-    check_refusals(&rt, rt.alloc(), &mut batch, &TOO_MANY, 4096);
-    Ok(())
+    check_refusals(&rt, rt.alloc(), &mut batch, &BAD_NAMES, PushError::BadName);
+    check_refusals(
+        &rt,
+        rt.alloc(),
+        &mut batch,
+        &BAD_WEIGHTS,
+        PushError::BadWeight,
+    );
+    check_refusals(&rt, rt.alloc(), &mut batch, &BAD_TIMES, PushError::BadTime);
 }
 
 // The batch is asked to take what this record gives, and then has so many operations.
@@ -109,12 +98,8 @@ fn check_record(
     wanted: Result<(), LineError>,
     len: usize,
 ) {
-    let told = push_record(
-        alloc,
-        batch,
-        "a,knows,ann,bob,-1099511627776,9223372036854775807",
-    );
-    same(rt, told, wanted);
+    let record = "a,knows,ann,bob,-1099511627776,9223372036854775807";
+    same(rt, push_record(alloc, batch, record), wanted);
     same(rt, batch.len(), len);
 }
 
@@ -124,41 +109,43 @@ fn a_batch_takes_the_operation_of_a_record(rt: HostRuntime) {
     check_record(&rt, rt.alloc(), &mut batch, Ok(()), 1);
 }
 
-#[test]
-fn a_full_batch_takes_no_operation_of_a_record(rt: HostRuntime) -> Result<(), Fail> {
-    let mut batch = full(rt.alloc())?;
+fn check_full(rt: &impl Abort, alloc: Global, batch: &mut Batch) {
+    let one_more = [('r', "knows", "ann", 0, 0)];
+    check_refusals(rt, alloc, batch, &one_more, PushError::BatchFull);
+    check_refusals(rt, alloc, batch, &BAD_NAMES, PushError::BadName);
     let full = Err(LineError::Refused(PushError::BatchFull));
-    check_record(&rt, rt.alloc(), &mut batch, full, 4096);
-    Ok(())
+    check_record(rt, alloc, batch, full, 4096);
 }
 
-fn check_push(rt: &(impl Abort + Print), alloc: Global, batch: &mut Batch) -> Result<(), Fail> {
-    match push_op(
-        alloc,
-        batch,
-        "i,knows,ann,bob,-1099511627776,9223372036854775807",
-    ) {
-        Ok(()) => {
-            same(rt, batch.len(), 1);
-            Ok(())
-        }
+#[test]
+fn a_batch_has_at_most_4096_operations(rt: HostRuntime) {
+    let ops = "i,knows,ann,bob,1,1 "
+        .repeat(rt.alloc(), 4096)
+        .expect(&rt, "a text");
+    let mut batch = batch(rt.alloc(), ops.as_str()).expect(&rt, "a full batch");
+    check_full(&rt, rt.alloc(), &mut batch);
+}
+
+// The greatest operation, of which the batch has one then, or none where a growth was refused.
+fn check_push(rt: &(impl Abort + Print), alloc: Global, batch: &mut Batch) {
+    match push_op(alloc, batch, ('i', "knows", "ann", 1 - WEIGHT, TIME - 1)) {
+        Ok(()) => same(rt, batch.len(), 1),
         Err(error) => {
-            same(rt, batch.len(), 0);
-            only_refused(rt, error)
+            same(rt, (error, batch.len()), (PushError::OutOfMemory, 0));
+            tell_refused(rt);
         }
     }
 }
 
 #[test]
-fn refused_push_leaves_the_batch(rt: HostRuntime) -> Result<(), Fail> {
-    let mut batch = Batch::new(rt.alloc());
-    check_push(&rt, rt.alloc(), &mut batch)
+fn refused_push_leaves_the_batch(rt: HostRuntime) {
+    check_push(&rt, rt.alloc(), &mut Batch::new(rt.alloc()));
 }
 
 // Where there is no memory for its room, it is an empty batch without, which may still take an operation.
 #[test]
-fn refused_room_leaves_an_empty_batch(rt: HostRuntime) -> Result<(), Fail> {
+fn refused_room_leaves_an_empty_batch(rt: HostRuntime) {
     let mut batch = Batch::with_room(rt.alloc(), 5_000);
     assert!(rt; batch.is_empty());
-    check_push(&rt, rt.alloc(), &mut batch)
+    check_push(&rt, rt.alloc(), &mut batch);
 }

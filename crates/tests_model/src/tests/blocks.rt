@@ -2,15 +2,14 @@
 
 ghost use Rattle.std.specs.Prelude.{◌≡◌, IfOk, length};
 
-use super::checks::{check_told, only_refused, refused, same};
-use super::parts::{LineError, edges, push};
-use super::texts::push_shown;
+use super::checks::{only_refused, same, tell_refused};
+use super::texts::check_shown;
+use super::values::{LineError, edges};
 use block_reclamation::{BlockStatus, PinCopy};
 use epoch_core::{Step, edges_at, fill_block, recycle_block, take_block};
 use graph_types::{Edge, KindId, List, VertexId};
 use std::alloc::Global;
 use std::process::Abort;
-use std::test::Fail;
 
 const STATUSES: [BlockStatus; 5] = [
     BlockStatus::Free,
@@ -27,21 +26,21 @@ const STATUSES: [BlockStatus; 5] = [
 ];
 
 // A pin is settled at 3. It needs the block that was born with version 2 and retired by version 4, and not the one that version
-// 3 retired. There is no block 5. Behind the colon stand all blocks.
+// 3 retired. There is no block 5. Behind the step stand all blocks, where they are told.
 const STEPS: &str = "recycle 0 => Skipped
 recycle 1 => Skipped
 recycle 2 => Skipped
 take 3 => Skipped
-recycle 3 => Done: [Free, Granted, Used { birth: 1 }, Free, Retired { birth: 2, retirement: 4 }]
+recycle 3 => Done Free Granted Used birth: 1 Free Retired birth: 2 retirement: 4
 recycle 3 => Skipped
 recycle 4 => Skipped
-recycle 5 => Skipped: [Free, Granted, Used { birth: 1 }, Free, Retired { birth: 2, retirement: 4 }]
-take 0 => Done: [Granted, Granted, Used { birth: 1 }, Free, Retired { birth: 2, retirement: 4 }]
+recycle 5 => Skipped Free Granted Used birth: 1 Free Retired birth: 2 retirement: 4
+take 0 => Done Granted Granted Used birth: 1 Free Retired birth: 2 retirement: 4
 take 0 => Skipped
 take 1 => Skipped
 take 2 => Skipped
 take 4 => Skipped
-take 5 => Skipped: [Granted, Granted, Used { birth: 1 }, Free, Retired { birth: 2, retirement: 4 }]";
+take 5 => Skipped Granted Granted Used birth: 1 Free Retired birth: 2 retirement: 4";
 
 fn pinned_at_3() -> PinCopy {
     let mut copy = PinCopy {
@@ -52,60 +51,32 @@ fn pinned_at_3() -> PinCopy {
     copy
 }
 
-fn step(status: &mut Vec<BlockStatus>, line: &str) -> Result<Step, LineError> {
-    let (verb, block) = line.split_once(' ').ok_or(LineError::Wrong)?;
-    let block = block.parse()?;
+fn step(rt: &impl Abort, status: &mut Vec<BlockStatus>, line: &str) -> Step {
+    let (verb, block) = line.split_once(' ').expect(rt, line);
+    let block = block.parse().expect(rt, line);
     if verb == "take" {
-        return Ok(take_block(status, block));
+        take_block(status, block)
+    } else {
+        recycle_block(status, &pinned_at_3(), block)
     }
-    Ok(recycle_block(status, &pinned_at_3(), block))
 }
 
-fn push_step(
-    text: &mut String,
-    status: &mut Vec<BlockStatus>,
-    line: &str,
-) -> Result<(), LineError> {
-    push_shown(text, "", step(status, line)?)?;
-    Ok(push_shown(text, ": ", status.as_slice())?)
-}
-
-fn stepped(alloc: Global, status: &mut Vec<BlockStatus>, line: &str) -> Result<String, LineError> {
-    let mut text = String::new(alloc);
-    push_step(&mut text, status, line)?;
-    Ok(text)
-}
-
-fn check_step(
-    rt: &impl Abort,
-    alloc: Global,
-    status: &mut Vec<BlockStatus>,
-    line: &str,
-) -> Result<(), LineError> {
-    let (text, wanted) = line.split_once(" => ").ok_or(LineError::Wrong)?;
-    check_told(rt, line, stepped(alloc, status, text)?.as_str(), wanted);
-    Ok(())
-}
-
-fn check_steps(
-    rt: &impl Abort,
-    alloc: Global,
-    status: &mut Vec<BlockStatus>,
-) -> Result<(), LineError> {
-    for line in STEPS.lines() {
-        check_step(rt, alloc, status, line)?;
+fn check_step(rt: &impl Abort, alloc: Global, status: &mut Vec<BlockStatus>, line: &str) {
+    let (text, wanted) = line.split_once(" => ").expect(rt, line);
+    let step = step(rt, status, text);
+    if wanted.contains(' ') {
+        check_shown(rt, alloc, (step, status.as_slice()), wanted, line).expect(rt, line);
+    } else {
+        check_shown(rt, alloc, step, wanted, line).expect(rt, line);
     }
-    Ok(())
 }
 
 #[test]
-fn takes_a_free_block_and_recycles_what_no_pin_needs(rt: HostRuntime) -> Result<(), Fail> {
-    check_steps(
-        &rt,
-        rt.alloc(),
-        &mut Vec::from_slice(rt.alloc(), &STATUSES)?,
-    )?;
-    Ok(())
+fn takes_a_free_block_and_recycles_what_no_pin_needs(rt: HostRuntime) {
+    let mut status = Vec::from_slice(rt.alloc(), &STATUSES).expect(&rt, "blocks");
+    for line in STEPS.lines() {
+        check_step(&rt, rt.alloc(), &mut status, line);
+    }
 }
 
 /// A granted block and a free one.
@@ -116,8 +87,8 @@ pub(super) fn two_blocks(alloc: Global, listed: &str) -> Result<Vec<List<Edge>>,
     ensures { IfOk result (λ heap. length heap.items ≡ 2) }
 {
     let mut heap = Vec::new(alloc);
-    push(&mut heap, edges(alloc, listed)?)?;
-    push(&mut heap, List::of(Vec::new(alloc)))?;
+    heap.push(edges(alloc, listed)?)?;
+    heap.push(List::of(Vec::new(alloc)))?;
     Ok(heap)
 }
 
@@ -153,28 +124,22 @@ fn check_fill(
     heap: &mut Vec<List<Edge>>,
     block: usize,
     wanted: (Step, Edge),
-) -> Result<(), Fail>
+)
     requires { length heap.old.items ≡ 2 }
 {
     match fill_block(alloc, &GRANTED_AND_FREE, heap, block, &[BACK]) {
         Ok(step) => {
             same(rt, step, wanted.0);
             check_edges(rt, heap.as_slice(), wanted.1);
-            Ok(())
         }
         Err(_) => {
             check_edges(rt, heap.as_slice(), EDGE);
-            refused(rt)
+            tell_refused(rt);
         }
     }
 }
 
-fn check_new_fill(
-    rt: &(impl Abort + Print),
-    alloc: Global,
-    block: usize,
-    wanted: (Step, Edge),
-) -> Result<(), Fail> {
+fn check_new_fill(rt: &(impl Abort + Print), alloc: Global, block: usize, wanted: (Step, Edge)) {
     match two_blocks(alloc, "0,0,1,5,10,11") {
         Ok(mut heap) => check_fill(rt, alloc, &mut heap, block, wanted),
         Err(error) => only_refused(rt, error),
@@ -183,8 +148,8 @@ fn check_new_fill(
 
 // A granted block alone is filled.
 #[test]
-fn refused_fill_leaves_the_blocks(rt: HostRuntime) -> Result<(), Fail> {
-    check_new_fill(&rt, rt.alloc(), 0, (Step::Done, BACK))?;
-    check_new_fill(&rt, rt.alloc(), 1, (Step::Skipped, EDGE))?;
-    check_new_fill(&rt, rt.alloc(), 2, (Step::Skipped, EDGE))
+fn refused_fill_leaves_the_blocks(rt: HostRuntime) {
+    check_new_fill(&rt, rt.alloc(), 0, (Step::Done, BACK));
+    check_new_fill(&rt, rt.alloc(), 1, (Step::Skipped, EDGE));
+    check_new_fill(&rt, rt.alloc(), 2, (Step::Skipped, EDGE));
 }

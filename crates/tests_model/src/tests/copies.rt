@@ -1,15 +1,14 @@
 // Tests of copies, of batches, requests, contents and lists.
 
 use super::batches::ONE_OF_EACH;
-use super::checks::{only_refused, refused, same};
+use super::checks::{only_refused, same, tell_refused};
 use super::graphs::content_of;
-use super::parts::{batch, request};
-use super::texts::push_shown;
+use super::texts::is_shown;
+use super::values::{batch, request};
 use graph_types::{Batch, List};
 use std::alloc::{AllocError, Global};
 use std::fmt::Debug;
 use std::process::Abort;
-use std::test::Fail;
 
 const SHOWN: &str = "Batch { ops: [\
     Insert { kind: Name { text: \"knows\" }, source: Name { text: \"ann\" }, target: Name { text: \"bob\" }, \
@@ -18,21 +17,13 @@ const SHOWN: &str = "Batch { ops: [\
     amount: 1099511627776, time: 0 }, \
     Remove { kind: Name { text: \"knows\" }, source: Name { text: \"cat\" }, target: Name { text: \"bob\" } }] }";
 
-// The copy, and right behind it what it is a copy of.
-fn push_twice<T: Clone + Debug + Drop>(text: &mut String, item: &T) -> Result<(), AllocError> {
-    push_shown(text, "", item.clone()?)?;
-    push_shown(text, "", item)
-}
-
 // Whether the copy is shown so, and the item behind it, too.
 fn is_shown_twice<T: Clone + Debug + Drop>(
     alloc: Global,
     item: &T,
     shown: &str,
 ) -> Result<bool, AllocError> {
-    let mut text = String::new(alloc);
-    push_twice(&mut text, item)?;
-    Ok(text.as_str().strip_prefix(shown) == Some(shown))
+    Ok(is_shown(alloc, item.clone()?, shown)? && is_shown(alloc, item, shown)?)
 }
 
 // Where the copy's growth was refused, the item stands, and a copy that is made then is whole.
@@ -41,31 +32,24 @@ fn check_copies<T: Clone + Debug + Drop>(
     alloc: Global,
     item: &T,
     shown: &str,
-) -> Result<(), Fail> {
-    match is_shown_twice(alloc, item, shown) {
-        Ok(is_shown) => {
-            assert!(rt; is_shown);
-            Ok(())
-        }
-        Err(AllocError) => {
-            assert!(rt; is_shown_twice(alloc, item, shown)?);
-            refused(rt)
-        }
+) {
+    let mut told = is_shown_twice(alloc, item, shown);
+    if told.is_err() {
+        tell_refused(rt);
+        told = is_shown_twice(alloc, item, shown);
     }
+    same(rt, told, Ok(true));
 }
 
-fn check_kept(rt: &(impl Abort + Print), alloc: Global, batch: &Batch) -> Result<(), Fail> {
-    same(
-        rt,
-        (batch.is_empty(), batch.len(), batch.ops().len()),
-        (false, 3, 3),
-    );
-    check_copies(rt, alloc, batch, SHOWN)
+fn check_kept(rt: &(impl Abort + Print), alloc: Global, batch: &Batch) {
+    let sizes = (batch.is_empty(), batch.len(), batch.ops().len());
+    same(rt, sizes, (false, 3, 3));
+    check_copies(rt, alloc, batch, SHOWN);
 }
 
 // It keeps its operations in order.
 #[test]
-fn refused_copies_leave_the_batch(rt: HostRuntime) -> Result<(), Fail> {
+fn refused_copies_leave_the_batch(rt: HostRuntime) {
     match batch(rt.alloc(), ONE_OF_EACH) {
         Ok(batch) => check_kept(&rt, rt.alloc(), &batch),
         Err(error) => only_refused(&rt, error),
@@ -76,7 +60,7 @@ const REQUEST: &str =
     "Degrees { filter: NamedFilter { kind: Some(Name { text: \"knows\" }), lo: 3, hi: 7 } }";
 
 #[test]
-fn refused_copies_leave_the_request(rt: HostRuntime) -> Result<(), Fail> {
+fn refused_copies_leave_the_request(rt: HostRuntime) {
     match request(rt.alloc(), "deg,0,knows,3,7") {
         Ok(request) => check_copies(&rt, rt.alloc(), &request, REQUEST),
         Err(error) => only_refused(&rt, error),
@@ -94,7 +78,7 @@ const CONTENT: &str =
     weight: -2, first: 4, recent: 3 }] } }";
 
 #[test]
-fn refused_copies_leave_the_content(rt: HostRuntime) -> Result<(), Fail> {
+fn refused_copies_leave_the_content(rt: HostRuntime) {
     match content_of(rt.alloc(), BACK_IN_TIME) {
         Ok(content) => check_copies(&rt, rt.alloc(), &content, CONTENT),
         Err(error) => only_refused(&rt, error),
@@ -106,9 +90,9 @@ fn list(alloc: Global) -> Result<List<i32>, AllocError> {
 }
 
 #[test]
-fn refused_copies_leave_the_list(rt: HostRuntime) -> Result<(), Fail> {
+fn refused_copies_leave_the_list(rt: HostRuntime) {
     match list(rt.alloc()) {
         Ok(list) => check_copies(&rt, rt.alloc(), &list, "List { items: [4, 9] }"),
-        Err(_) => refused(&rt),
+        Err(_) => tell_refused(&rt),
     }
 }

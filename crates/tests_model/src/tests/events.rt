@@ -1,6 +1,6 @@
 // Events from text.
 
-use super::parts::{LineError, batch, edges, numbers, push, request};
+use super::values::{LineError, batch, edges, numbers, request};
 use epoch_core::Event;
 use std::alloc::Global;
 
@@ -13,15 +13,13 @@ fn post(alloc: Global, text: &str) -> Result<Event, LineError> {
 // A block, and edges.
 fn fill(alloc: Global, text: &str) -> Result<Event, LineError> {
     let (block, listed) = text.split_once(' ').unwrap_or((text, ""));
-    let block = block.parse()?;
-    Ok(Event::Fill(block, edges(alloc, listed)?))
+    Ok(Event::Fill(block.parse()?, edges(alloc, listed)?))
 }
 
 // A session, and a request.
 fn ask(alloc: Global, text: &str) -> Result<Event, LineError> {
     let (session, asked) = text.split_once(' ').ok_or(LineError::Wrong)?;
-    let session = session.parse()?;
-    Ok(Event::Ask(session, request(alloc, asked)?))
+    Ok(Event::Ask(session.parse()?, request(alloc, asked)?))
 }
 
 // The event of a verb and a number: that of a block or a session.
@@ -51,23 +49,11 @@ pub(super) fn event(alloc: Global, line: &str) -> Result<Event, LineError> {
     }
 }
 
-fn push_event(alloc: Global, events: &mut Vec<Event>, line: &str) -> Result<(), LineError> {
-    push(events, event(alloc, line)?)?;
-    Ok(())
-}
-
-fn push_events(alloc: Global, events: &mut Vec<Event>, lines: &str) -> Result<(), LineError> {
-    for line in lines.lines() {
-        push_event(alloc, events, line)?;
-    }
-    Ok(())
-}
-
 /// The events of these lines.
 pub(super) fn events(alloc: Global, lines: &str) -> Result<Vec<Event>, LineError> {
     let mut events = Vec::new(alloc);
-    match push_events(alloc, &mut events, lines) {
-        Ok(()) => Ok(events),
-        Err(error) => Err(error),
+    for line in lines.lines() {
+        events.push(event(alloc, line)?)?;
     }
+    Ok(events)
 }

@@ -1,86 +1,97 @@
 // Stories of graphs, with what they come to written from the definitions by hand.
 
-/// Each by itself.
-pub(super) const STORIES: [&str; 20] = [
-    // answers_outcomes_in_order
-    "apply i,knows,a,b,1,10 a,knows,b,c,2,11 r,knows,z,a i,knows,a,b,3,12 => \
-        [Inserted, Inserted, Absent, Updated]; a b c; knows; 2
-edge,0,knows,a,b => edge 3 10 12
-edge,0,knows,b,c => edge 2 11 11",
-    // inserts_anew_after_a_removal
-    "apply i,knows,a,b,5,10 r,knows,a,b i,knows,a,b,7,12 => [Inserted, Removed, Inserted]; a b; knows; 1
-edge,0,knows,a,b => edge 7 12 12",
-    // expires_what_was_touched_before_a_time
-    "apply x,0 x,9223372036854775807 => [Expired(0), Expired(0)];;; 0",
-    "apply i,k,a,b,1,10 i,k,a,c,2,20 i,k,b,a,3,15 x,15 => [Inserted, Inserted, Inserted, Expired(1)]; a b c; k; 2
-edge,0,k,a,c => edge 2 20 20
-edge,0,k,b,a => edge 3 15 15",
-    // by the recent time, and not the first
-    "apply i,k,a,b,1,10 a,k,a,b,1,30 i,k,b,a,3,40 a,k,b,a,1,5 x,30 x,30 => [Inserted, Updated, Inserted, Updated, Expired(1), \
-        Expired(0)]; a b; k; 1
-edge,0,k,a,b => edge 2 10 30",
-    // one that went is inserted anew
-    "apply i,k,a,b,1,1 x,2 a,k,a,b,4,7 => [Inserted, Expired(1), Inserted]; a b; k; 1
-edge,0,k,a,b => edge 4 7 7",
-    // overflow_changes_nothing: the second operation would take the weight past the limit
-    "apply i,knows,a,b,1099511627776,10 a,knows,a,b,1,99 a,knows,a,b,-1,20 => [Inserted, Overflow, Updated]; a b; knows; 1
-edge,0,knows,a,b => edge 1099511627775 10 20",
-    "apply i,knows,a,b,-1099511627776,10 a,knows,a,b,-1,99 a,knows,a,b,1,20 => [Inserted, Overflow, Updated]; a b; knows; 1
-edge,0,knows,a,b => edge -1099511627775 10 20",
-    "apply i,knows,a,b,1,10 a,knows,a,b,1099511627776,99 a,knows,a,b,-1099511627776,20 => \
-        [Inserted, Overflow, Updated]; \
-        a b; knows; 1
-edge,0,knows,a,b => edge -1099511627775 10 20",
-    // removals_make_no_names
-    "apply r,knows,b,a => [Absent];;; 0
-apply i,knows,a,b,1,1 => [Inserted]; a b; knows; 1",
-    // a_window_has_both_its_ends
-    "i,k,a,b,1,9 i,k,a,c,2,10 i,k,a,d,3,20 i,k,a,e,4,21
-deg,0,k,10,20 => deg a 2 0 5 b 0 0 0 c 0 1 0 d 0 1 0 e 0 0 0",
-    // a_loop_counts_once_each_way_and_kinds_apart
-    "i,k,a,a,1,1 i,k,a,b,1,1 i,m,a,b,1,1
-deg,0,*,0,9 => deg a 3 1 3 b 0 2 0
-deg,0,m,0,9 => deg a 1 0 1 b 0 1 0",
-    // one_edge_has_a_weight_and_two_times
-    "i,knows,ann,bob,5,10 i,knows,bob,cat,2,11 i,knows,bob,cat,3,7
-edge,0,knows,ann,bob => edge 5 10 10
-edge,0,knows,bob,cat => edge 3 11 7
-edge,0,knows,bob,ann => edge none
+/// Each by itself, behind an empty line. Outcomes in order; an edge inserted anew after its removal.
+///
+/// Expiries of what was touched before a time: of none; then by the recent time, and not the first; then one that went is inserted
+/// anew. An overflow changes nothing: the second operation would take the weight past the limit. Removals make no names.
+///
+/// A window has both its ends; a loop counts once each way, and kinds apart; one edge has a weight and two times. A triangle with
+/// a tail; loops and kinds make no neighbors; a window and a kind cut levels, parts and cores; an empty graph has empty tables.
+///
+/// The last one is a karate club (Zachary, An information flow model for conflict and fission in small groups, 1977): as the
+/// literature has it, ten of its 34 members are in its 4-core, and none in a 5-core.
+pub(super) const STORIES: &str = "\
+apply i,knows,a,b,1,10 a,knows,b,c,2,11 r,knows,z,a i,knows,a,b,3,12 => \
+        Inserted Inserted Absent Updated names a b c kinds knows edges 2
+edge,0,knows,a,b => OneEdge 3 10 12
+edge,0,knows,b,c => OneEdge 2 11 11
+
+apply i,knows,a,b,5,10 r,knows,a,b i,knows,a,b,7,12 => Inserted Removed Inserted names a b kinds knows edges 1
+edge,0,knows,a,b => OneEdge 7 12 12
+
+apply x,0 x,9223372036854775807 => Expired 0 Expired 0 names kinds edges 0
+
+apply i,k,a,b,1,10 i,k,a,c,2,20 i,k,b,a,3,15 x,15 => Inserted Inserted Inserted Expired 1 names a b c kinds k edges 2
+edge,0,k,a,c => OneEdge 2 20 20
+edge,0,k,b,a => OneEdge 3 15 15
+
+apply i,k,a,b,1,10 a,k,a,b,1,30 i,k,b,a,3,40 a,k,b,a,1,5 x,30 x,30 => \
+        Inserted Updated Inserted Updated Expired 1 Expired 0 names a b kinds k edges 1
+edge,0,k,a,b => OneEdge 2 10 30
+
+apply i,k,a,b,1,1 x,2 a,k,a,b,4,7 => Inserted Expired 1 Inserted names a b kinds k edges 1
+edge,0,k,a,b => OneEdge 4 7 7
+
+apply i,knows,a,b,1099511627776,10 a,knows,a,b,1,99 a,knows,a,b,-1,20 => \
+        Inserted Overflow Updated names a b kinds knows edges 1
+edge,0,knows,a,b => OneEdge 1099511627775 10 20
+
+apply i,knows,a,b,-1099511627776,10 a,knows,a,b,-1,99 a,knows,a,b,1,20 => \
+        Inserted Overflow Updated names a b kinds knows edges 1
+edge,0,knows,a,b => OneEdge -1099511627775 10 20
+
+apply i,knows,a,b,1,10 a,knows,a,b,1099511627776,99 a,knows,a,b,-1099511627776,20 => \
+        Inserted Overflow Updated names a b kinds knows edges 1
+edge,0,knows,a,b => OneEdge -1099511627775 10 20
+
+apply r,knows,b,a => Absent names kinds edges 0
+apply i,knows,a,b,1,1 => Inserted names a b kinds knows edges 1
+
+i,k,a,b,1,9 i,k,a,c,2,10 i,k,a,d,3,20 i,k,a,e,4,21
+deg,0,k,10,20 => Degrees a 2 0 5 b 0 0 0 c 0 1 0 d 0 1 0 e 0 0 0
+
+i,k,a,a,1,1 i,k,a,b,1,1 i,m,a,b,1,1
+deg,0,*,0,9 => Degrees a 3 1 3 b 0 2 0
+deg,0,m,0,9 => Degrees a 1 0 1 b 0 1 0
+
+i,knows,ann,bob,5,10 i,knows,bob,cat,2,11 i,knows,bob,cat,3,7
+edge,0,knows,ann,bob => OneEdge 5 10 10
+edge,0,knows,bob,cat => OneEdge 3 11 7
+edge,0,knows,bob,ann => OneEdge None
 edge,0,knows,dan,ann => NoVertex
 edge,0,knows,ann,dan => NoVertex
-edge,0,likes,dan,ann => NoKind",
-    // a_triangle_with_a_tail
-    "i,k,a,b,1,1 i,k,b,c,1,1 i,k,c,a,1,1 i,k,c,d,1,1
-core,0,*,0,9 => core a 2 b 2 c 2 d 1
-bfs,0,a,*,0,9 => bfs a 0 b 1 c 2 d 3
-bfs,0,b,k,0,9 => bfs a 2 b 0 c 1 d 2
-bfs,0,d,*,0,9 => bfs d 0
-comp,0,*,0,9 => comp a a b a c a d a",
-    // loops_and_kinds_make_no_neighbors
-    "i,k,a,a,1,1 i,k,a,b,1,1 i,m,a,b,1,1
-core,0,*,0,9 => core a 1 b 1
-core,0,m,0,9 => core a 1 b 1",
-    // a_window_and_a_kind_cut_levels
-    "i,k,a,b,1,1 i,m,b,c,1,5 i,k,d,c,1,5
-bfs,0,a,*,0,5 => bfs a 0 b 1 c 2
-bfs,0,a,*,0,4 => bfs a 0 b 1
-bfs,0,a,k,0,5 => bfs a 0 b 1",
-    // a_window_and_a_kind_cut_parts
-    "i,k,a,b,1,1 i,m,b,c,1,5 i,k,d,c,1,5
-comp,0,*,0,5 => comp a a b a c a d a
-comp,0,*,2,5 => comp a a b b c b d b
-comp,0,k,0,5 => comp a a b a c c d c",
-    // a_window_cuts_cores
-    "i,k,a,b,1,1 i,m,b,c,1,5 i,k,d,c,1,5
-core,0,*,0,4 => core a 1 b 1 c 0 d 0
-core,0,*,5,9 => core a 0 b 1 c 1 d 1
-core,0,*,6,9 => core a 0 b 0 c 0 d 0",
-    // an_empty_graph_has_empty_tables
-    "core,0,*,0,9 => core
-comp,0,*,0,9 => comp",
-    // ten_of_the_karate_club_are_in_its_core (Zachary, An information flow model for conflict and fission in small groups, 1977):
-    // as the literature has it, ten of the 34 members are in its 4-core, and none in a 5-core
-    "i,friends,m01,m02,1,1 i,friends,m01,m03,1,1 i,friends,m01,m04,1,1 i,friends,m01,m05,1,1 i,friends,m01,m06,1,1 \
+edge,0,likes,dan,ann => NoKind
+
+i,k,a,b,1,1 i,k,b,c,1,1 i,k,c,a,1,1 i,k,c,d,1,1
+core,0,*,0,9 => Cores a 2 b 2 c 2 d 1
+bfs,0,a,*,0,9 => Levels a 0 b 1 c 2 d 3
+bfs,0,b,k,0,9 => Levels a 2 b 0 c 1 d 2
+bfs,0,d,*,0,9 => Levels d 0
+comp,0,*,0,9 => Labels a a b a c a d a
+
+i,k,a,a,1,1 i,k,a,b,1,1 i,m,a,b,1,1
+core,0,*,0,9 => Cores a 1 b 1
+core,0,m,0,9 => Cores a 1 b 1
+
+i,k,a,b,1,1 i,m,b,c,1,5 i,k,d,c,1,5
+bfs,0,a,*,0,5 => Levels a 0 b 1 c 2
+bfs,0,a,*,0,4 => Levels a 0 b 1
+bfs,0,a,k,0,5 => Levels a 0 b 1
+
+i,k,a,b,1,1 i,m,b,c,1,5 i,k,d,c,1,5
+comp,0,*,0,5 => Labels a a b a c a d a
+comp,0,*,2,5 => Labels a a b b c b d b
+comp,0,k,0,5 => Labels a a b a c c d c
+
+i,k,a,b,1,1 i,m,b,c,1,5 i,k,d,c,1,5
+core,0,*,0,4 => Cores a 1 b 1 c 0 d 0
+core,0,*,5,9 => Cores a 0 b 1 c 1 d 1
+core,0,*,6,9 => Cores a 0 b 0 c 0 d 0
+
+core,0,*,0,9 => Cores
+comp,0,*,0,9 => Labels
+
+i,friends,m01,m02,1,1 i,friends,m01,m03,1,1 i,friends,m01,m04,1,1 i,friends,m01,m05,1,1 i,friends,m01,m06,1,1 \
     i,friends,m01,m07,1,1 i,friends,m01,m08,1,1 i,friends,m01,m09,1,1 i,friends,m01,m11,1,1 i,friends,m01,m12,1,1 \
     i,friends,m01,m13,1,1 i,friends,m01,m14,1,1 i,friends,m01,m18,1,1 i,friends,m01,m20,1,1 i,friends,m01,m22,1,1 \
     i,friends,m01,m32,1,1 i,friends,m02,m03,1,1 i,friends,m02,m04,1,1 i,friends,m02,m08,1,1 i,friends,m02,m14,1,1 \
@@ -96,18 +107,16 @@ comp,0,*,0,9 => comp",
     i,friends,m26,m32,1,1 i,friends,m27,m30,1,1 i,friends,m27,m34,1,1 i,friends,m28,m34,1,1 i,friends,m29,m32,1,1 \
     i,friends,m29,m34,1,1 i,friends,m30,m33,1,1 i,friends,m30,m34,1,1 i,friends,m31,m33,1,1 i,friends,m31,m34,1,1 \
     i,friends,m32,m33,1,1 i,friends,m32,m34,1,1 i,friends,m33,m34,1,1
-core,0,friends,0,9 => core \
+core,0,friends,0,9 => Cores \
     m01 4 m02 4 m03 4 m04 4 m05 3 m06 3 m07 3 m08 4 m09 4 m11 3 m12 1 m13 2 m14 4 m18 2 m20 3 m22 2 m32 3 m31 \
-    4 m10 2 m28 3 m29 3 m33 4 m17 2 m34 4 m15 2 m16 2 m19 2 m21 2 m23 2 m24 3 m26 3 m30 3 m25 3 m27 2",
-];
+    4 m10 2 m28 3 m29 3 m33 4 m17 2 m34 4 m15 2 m16 2 m19 2 m21 2 m23 2 m24 3 m26 3 m30 3 m25 3 m27 2";
 
-/// A growth of each may be refused.
-pub(super) const REFUSED_STORIES: [&str; 3] = [
-    // batches
-    "i,knows,a,b,5,10 i,knows,b,c,6,11
-deg,0,*,0,99 => deg a 1 0 5 b 1 1 6 c 0 1 0",
-    // analyses
-    "i,k,a,b,1,1 i,k,b,c,1,1 i,k,c,a,1,1 i,k,c,d,1,1
+/// A growth of each may be refused: of batches, of analyses and of degrees.
+pub(super) const REFUSED_STORIES: &str = "\
+i,knows,a,b,5,10 i,knows,b,c,6,11
+deg,0,*,0,99 => Degrees a 1 0 5 b 1 1 6 c 0 1 0
+
+i,k,a,b,1,1 i,k,b,c,1,1 i,k,c,a,1,1 i,k,c,d,1,1
 bfs,0,z,q,5,4 => BadWindow
 bfs,0,z,q,0,9 => NoKind
 bfs,0,z,k,0,9 => NoVertex
@@ -115,16 +124,15 @@ comp,0,q,5,4 => BadWindow
 comp,0,q,0,9 => NoKind
 core,0,q,5,4 => BadWindow
 core,0,q,0,9 => NoKind
-bfs,0,a,*,0,9 => bfs a 0 b 1 c 2 d 3
-comp,0,*,0,9 => comp a a b a c a d a
-core,0,*,0,9 => core a 2 b 2 c 2 d 1",
-    // degrees
-    "i,knows,ann,bob,5,10 i,knows,bob,cat,2,11 i,knows,bob,cat,3,7
+bfs,0,a,*,0,9 => Levels a 0 b 1 c 2 d 3
+comp,0,*,0,9 => Labels a a b a c a d a
+core,0,*,0,9 => Cores a 2 b 2 c 2 d 1
+
+i,knows,ann,bob,5,10 i,knows,bob,cat,2,11 i,knows,bob,cat,3,7
 deg,0,*,5,4 => BadWindow
 deg,0,likes,5,4 => BadWindow
 deg,0,likes,0,9 => NoKind
-deg,0,*,0,100 => deg ann 1 0 5 bob 1 1 3 cat 0 1 0",
-];
+deg,0,*,0,100 => Degrees ann 1 0 5 bob 1 1 3 cat 0 1 0";
 
 /// Insertions between one pair of vertices, of 63 kinds.
 pub(super) const KINDS: &str =
@@ -143,7 +151,7 @@ pub(super) const KINDS: &str =
 /// `KINDS` stands for the above. The second insertion behind them is too many. A removal makes no kind, and the first insertion
 /// makes the last one that there is room for: there are 64 edges from a to b, each of another kind.
 pub(super) const TOO_MANY_KINDS: &str =
-    "apply KINDS r,knows,a,b i,knows,a,b,1,1 i,kind64,a,b,1,1 => KindsFull;;; 0
+    "apply KINDS r,knows,a,b i,knows,a,b,1,1 i,kind64,a,b,1,1 => KindsFull names kinds edges 0
 KINDS r,knows,a,b i,knows,a,b,1,1
-edge,0,knows,a,b => edge 1 1 1
-deg,0,*,0,9 => deg a 64 0 64 b 0 64 0";
+edge,0,knows,a,b => OneEdge 1 1 1
+deg,0,*,0,9 => Degrees a 64 0 64 b 0 64 0";

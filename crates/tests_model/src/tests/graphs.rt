@@ -1,19 +1,18 @@
-// Batches and requests over a content, by the slow functions. A line `BATCH` applies operations. `apply BATCH => TOLD` also
-// compares what they come to, the names, the kinds and how many edges they leave, and `REQUEST => REPLY` asks.
+// Batches and requests over a content, by the slow functions. A line `BATCH` applies operations. `apply BATCH => WORDS` also
+// compares what they come to, the names, the kinds and how many edges they leave, and `REQUEST => WORDS` asks.
 
 ghost use Rattle.std.specs.Prelude.{◌≡◌, IfOk};
 ghost use Rattle.graph_types.specs.Graph.{IsContent};
 ghost use Rattle.epoch_core.specs.Worlds.{empty_opening};
 
-use super::checks::{check_told, refused, same};
+use super::checks::{same, tell_refused};
 use super::graph_stories::{KINDS, REFUSED_STORIES, STORIES, TOO_MANY_KINDS};
-use super::parts::{LineError, batch, request};
-use super::texts::{push_item, push_names, push_reply, push_shown};
+use super::texts::check_shown;
+use super::values::{LineError, batch, request};
 use graph_model::{PlainError, plain_apply, plain_reply};
-use graph_types::{Batch, Content, List, Request};
-use std::alloc::{AllocError, Global};
+use graph_types::{AskError, Batch, Content, List, Outcome, Reply, Request};
+use std::alloc::Global;
 use std::process::Abort;
-use std::test::Fail;
 
 /// A content without names, kinds and edges.
 #[tactic(auto, using(graph_types::proofs::Empty::empty_content))]
@@ -28,7 +27,7 @@ pub(super) fn empty(alloc: Global) -> Content
     }
 }
 
-fn apply_batch(alloc: Global, content: &mut Content, batch: &Batch) -> Result<(), LineError>
+fn apply(alloc: Global, content: &mut Content, batch: &Batch) -> Result<(), LineError>
     requires { IsContent content.old }
     ensures { IsContent content.new }
 {
@@ -39,109 +38,95 @@ fn apply_batch(alloc: Global, content: &mut Content, batch: &Batch) -> Result<()
     }
 }
 
-fn apply(alloc: Global, content: &mut Content, ops: &str) -> Result<(), LineError>
-    requires { IsContent content.old }
-    ensures { IsContent content.new }
+fn content_with(alloc: Global, batch: &Batch) -> Result<Content, LineError>
+    ensures { IfOk result IsContent }
 {
-    apply_batch(alloc, content, &batch(alloc, ops)?)
+    let mut content = empty(alloc);
+    match apply(alloc, &mut content, batch) {
+        Ok(()) => Ok(content),
+        Err(error) => Err(error),
+    }
 }
 
 /// What these operations leave of nothing.
 pub(super) fn content_of(alloc: Global, ops: &str) -> Result<Content, LineError>
     ensures { IfOk result IsContent }
 {
-    let mut content = empty(alloc);
-    match apply(alloc, &mut content, ops) {
-        Ok(()) => Ok(content),
-        Err(error) => Err(error),
-    }
+    content_with(alloc, &batch(alloc, ops)?)
 }
 
-/// How many names, kinds and edges the content has.
-fn sizes(content: &Content) -> (usize, usize, usize) {
-    (
-        content.names.as_slice().len(),
-        content.kinds.as_slice().len(),
-        content.edges.as_slice().len(),
+// What was told of a batch, and the content that it left.
+fn check_left(
+    rt: &impl Abort,
+    alloc: Global,
+    told: &Result<Vec<Outcome>, PlainError>,
+    content: &Content,
+    wanted: &str,
+) -> Result<(), LineError> {
+    if matches!(told, Err(PlainError::OutOfMemory)) {
+        return Err(LineError::OutOfMemory);
+    }
+    let (names, kinds, edges) = (&content.names, &content.kinds, content.edges.len());
+    let all = (told, "names", names, "kinds", kinds, "edges", edges);
+    Ok(check_shown(rt, alloc, all, wanted, wanted)?)
+}
+
+fn check_batch(
+    rt: &impl Abort,
+    alloc: Global,
+    content: &mut Content,
+    batch: &Batch,
+    wanted: &str,
+) -> Result<(), LineError>
+    requires { IsContent content.old }
+    ensures { IsContent content.new }
+{
+    check_left(
+        rt,
+        alloc,
+        &plain_apply(alloc, content, batch),
+        content,
+        wanted,
     )
 }
 
-// The names and the kinds, and how many edges there are.
-fn push_content(text: &mut String, content: &Content) -> Result<(), AllocError> {
-    text.push_str(";")?;
-    push_names(text, content.names.as_slice(), ";")?;
-    push_names(text, content.kinds.as_slice(), ";")?;
-    push_item(text, " ", content.edges.as_slice().len())
-}
-
-// What a batch is told.
-fn push_outcomes(
+fn check_reply(
+    rt: &impl Abort,
     alloc: Global,
-    text: &mut String,
-    content: &mut Content,
-    batch: &Batch,
-) -> Result<(), LineError>
-    requires { IsContent content.old }
-    ensures { IsContent content.new }
-{
-    match plain_apply(alloc, content, batch) {
-        Ok(outcomes) => Ok(push_shown(text, "", outcomes.as_slice())?),
-        Err(PlainError::OutOfMemory) => Err(LineError::OutOfMemory),
-        Err(error) => Ok(push_shown(text, "", error)?),
+    told: &Result<Reply, AskError>,
+    wanted: &str,
+) -> Result<(), LineError> {
+    if matches!(told, Err(AskError::OutOfMemory)) {
+        return Err(LineError::OutOfMemory);
     }
+    Ok(check_shown(rt, alloc, told, wanted, wanted)?)
 }
 
-// What is told of the batch, and then the content.
-fn push_both(
+fn check_request(
+    rt: &impl Abort,
     alloc: Global,
-    text: &mut String,
-    content: &mut Content,
-    batch: &Batch,
-) -> Result<(), LineError>
-    requires { IsContent content.old }
-    ensures { IsContent content.new }
-{
-    push_outcomes(alloc, text, content, batch)?;
-    Ok(push_content(text, content)?)
-}
-
-// What is told of these operations, and then the content.
-fn push_applied(
-    alloc: Global,
-    text: &mut String,
-    content: &mut Content,
-    ops: &str,
-) -> Result<(), LineError>
-    requires { IsContent content.old }
-    ensures { IsContent content.new }
-{
-    push_both(alloc, text, content, &batch(alloc, ops)?)
-}
-
-fn push_answer(
-    alloc: Global,
-    text: &mut String,
     content: &Content,
     request: &Request,
+    wanted: &str,
 ) -> Result<(), LineError>
     requires { IsContent content.now }
 {
-    push_reply(text, &plain_reply(alloc, content, request))
+    check_reply(rt, alloc, &plain_reply(alloc, content, request), wanted)
 }
 
-// What a line comes to.
-fn push_told(
+fn check_told(
+    rt: &impl Abort,
     alloc: Global,
-    text: &mut String,
     content: &mut Content,
-    line: &str,
+    text: &str,
+    wanted: &str,
 ) -> Result<(), LineError>
     requires { IsContent content.old }
     ensures { IsContent content.new }
 {
-    match line.strip_prefix("apply ") {
-        Some(ops) => push_applied(alloc, text, content, ops),
-        None => push_answer(alloc, text, content, &request(alloc, line)?),
+    match text.strip_prefix("apply ") {
+        Some(ops) => check_batch(rt, alloc, content, &batch(alloc, ops)?, wanted),
+        None => check_request(rt, alloc, content, &request(alloc, text)?, wanted),
     }
 }
 
@@ -155,80 +140,75 @@ fn check_line(
     ensures { IsContent content.new }
 {
     match line.split_once(" => ") {
-        Some((text, wanted)) => {
-            let mut told = String::new(alloc);
-            push_told(alloc, &mut told, content, text)?;
-            check_told(rt, line, told.as_str(), wanted);
-            Ok(())
-        }
-        None => apply(alloc, content, line),
+        Some((text, wanted)) => check_told(rt, alloc, content, text, wanted),
+        None => apply(alloc, content, &batch(alloc, line)?),
     }
 }
 
-/// Does what a line says, and tells whether a growth was refused: then the content is as large as before.
-fn is_refused(
-    rt: &impl Abort,
-    alloc: Global,
-    content: &mut Content,
-    line: &str,
-) -> Result<bool, LineError>
+// How many names, kinds and edges the content has.
+fn sizes(content: &Content) -> (usize, usize, usize) {
+    (
+        content.names.len(),
+        content.kinds.len(),
+        content.edges.len(),
+    )
+}
+
+// Does what a line says, and tells whether a growth was refused: then the content is as large as before.
+fn is_refused(rt: &impl Abort, alloc: Global, content: &mut Content, line: &str) -> bool
     requires { IsContent content.old }
     ensures { IsContent content.new }
 {
     let before = sizes(content);
-    match check_line(rt, alloc, content, line) {
-        Ok(()) => Ok(false),
-        Err(LineError::OutOfMemory) => {
-            same(rt, (line, sizes(content)), (line, before));
-            Ok(true)
-        }
-        Err(error) => Err(error),
+    let told = check_line(rt, alloc, content, line);
+    if told == Ok(()) {
+        return false;
     }
+    same(rt, (line, told), (line, Err(LineError::OutOfMemory)));
+    same(rt, (line, sizes(content)), (line, before));
+    true
 }
 
-fn is_table_refused(
-    rt: &impl Abort,
-    alloc: Global,
-    content: &mut Content,
-    table: &str,
-) -> Result<bool, LineError>
+fn is_table_refused(rt: &impl Abort, alloc: Global, content: &mut Content, table: &str) -> bool
     requires { IsContent content.old }
 {
     for line in table.lines() {
-        if is_refused(rt, alloc, content, line)? {
-            return Ok(true);
+        if is_refused(rt, alloc, content, line) {
+            return true;
         }
     }
-    Ok(false)
+    false
 }
 
-/// Does what the lines of a story say, over an empty content, and tells whether a growth was refused.
-fn is_story_refused(rt: &impl Abort, alloc: Global, story: &str) -> Result<bool, LineError> {
-    let mut content = empty(alloc);
-    is_table_refused(rt, alloc, &mut content, story)
+// Does what the lines of a story say, over an empty content, and tells whether a growth was refused.
+fn is_story_refused(rt: &impl Abort, alloc: Global, story: &str) -> bool {
+    is_table_refused(rt, alloc, &mut empty(alloc), story)
+}
+
+fn check_story(rt: &impl Abort, alloc: Global, story: &str) {
+    assert!(rt; !is_story_refused(rt, alloc, story));
 }
 
 #[test]
-fn graphs_come_to_what_their_stories_say(rt: HostRuntime) -> Result<(), Fail> {
-    for story in STORIES {
-        assert!(rt; !is_story_refused(&rt, rt.alloc(), story)?);
+fn graphs_come_to_what_their_stories_say(rt: HostRuntime) {
+    for story in STORIES.split("\n\n") {
+        check_story(&rt, rt.alloc(), story);
     }
-    Ok(())
 }
 
 #[test]
-fn refuses_a_kind_too_many(rt: HostRuntime) -> Result<(), Fail> {
-    let story = TOO_MANY_KINDS.replace(rt.alloc(), "KINDS", KINDS)?;
-    assert!(rt; !is_story_refused(&rt, rt.alloc(), story.as_str())?);
-    Ok(())
+fn refuses_a_kind_too_many(rt: HostRuntime) {
+    let story = TOO_MANY_KINDS
+        .replace(rt.alloc(), "KINDS", KINDS)
+        .expect(&rt, "a story");
+    check_story(&rt, rt.alloc(), story.as_str());
 }
 
 #[test]
-fn refused_growth_leaves_the_content(rt: HostRuntime) -> Result<(), Fail> {
-    for story in REFUSED_STORIES {
-        if is_story_refused(&rt, rt.alloc(), story)? {
-            return refused(&rt);
+fn refused_growth_leaves_the_content(rt: HostRuntime) {
+    for story in REFUSED_STORIES.split("\n\n") {
+        if is_story_refused(&rt, rt.alloc(), story) {
+            return tell_refused(&rt);
         }
     }
-    Ok(())
 }

@@ -3,29 +3,14 @@
 
 ghost use Rattle.std.specs.Prelude.{◌≡◌, ◌<◌, length};
 
-use super::checks::{only_refused, refused, same};
+use super::checks::{only_refused, same, tell_refused};
 use super::events::events;
-use super::machines::step;
-use super::parts::LineError;
+use super::machines::{Seen, seen, step};
+use super::values::LineError;
 use epoch_core::{Core, Event, Step, run};
-use graph_types::Reply;
+use graph_types::{AskError, Reply};
 use std::alloc::Global;
 use std::process::Abort;
-use std::test::Fail;
-
-/// What is seen of session 0 and of the floor: the floor, the version that it holds, its pin, and how many replies it has.
-pub(super) type Shown = (u64, Option<u64>, Option<u64>, usize);
-
-pub(super) fn shown(core: &Core) -> Shown
-    requires { 0 < length core.now.world.sessions }
-{
-    (
-        core.floor(),
-        core.held(0),
-        core.pin_of(0),
-        core.replies(0).len(),
-    )
-}
 
 /// Does the event of a line, where there was memory for it: it is done, or a growth was refused and all that is seen
 /// stands as before.
@@ -33,7 +18,7 @@ fn is_done(rt: &impl Abort, alloc: Global, core: &mut Core, line: &str) -> bool
     requires { 0 < length core.old.world.sessions }
     ensures { length core.new.world.sessions ≡ length core.old.world.sessions }
 {
-    let before = shown(core);
+    let before = seen(core, 0);
     match step(alloc, core, line) {
         Ok(step) => {
             same(rt, (line, step), (line, Step::Done));
@@ -41,7 +26,7 @@ fn is_done(rt: &impl Abort, alloc: Global, core: &mut Core, line: &str) -> bool
         }
         Err(error) => {
             same(rt, (line, error), (line, LineError::OutOfMemory));
-            same(rt, (line, shown(core)), (line, before));
+            same(rt, (line, seen(core, 0)), (line, before));
             false
         }
     }
@@ -70,42 +55,45 @@ ask 0 edge,0,k,a,b
 read 0
 reply 0";
 
-fn check_answered(rt: &(impl Abort + Print), alloc: Global, core: &mut Core) -> Result<(), Fail>
+fn is_edge(reply: &Result<Reply, AskError>) -> bool {
+    matches!(reply, Ok(Reply::OneEdge(Some((1, 1, 1)))))
+}
+
+fn check_answered(rt: &(impl Abort + Print), alloc: Global, core: &mut Core)
     requires { 0 < length core.old.world.sessions }
 {
-    same(rt, shown(core), (0, None, None, 0));
+    same(rt, seen(core, 0), (0, None, None, 0));
     if !are_done(rt, alloc, core, ANSWERED) {
-        return refused(rt);
+        return tell_refused(rt);
     }
-    same(rt, shown(core), (0, Some(1), Some(0), 1));
-    assert!(rt; matches!(core.replies(0), [Ok(Reply::OneEdge(Some((1, 1, 1))))]));
-    Ok(())
+    same(rt, seen(core, 0), (0, Some(0), Some(1), 1));
+    assert!(rt; is_edge(core.replies(0).first().expect(rt, "a reply")));
 }
 
 // A start, a post and a reply.
 #[test]
-fn refused_events(rt: HostRuntime) -> Result<(), Fail> {
-    let alloc = rt.alloc();
-    match Core::new(alloc, 2, 3) {
-        Ok(mut core) => check_answered(&rt, alloc, &mut core),
-        Err(_) => refused(&rt),
+fn refused_events(rt: HostRuntime) {
+    match Core::new(rt.alloc(), 2, 3) {
+        Ok(mut core) => check_answered(&rt, rt.alloc(), &mut core),
+        Err(_) => tell_refused(&rt),
     }
 }
 
 /// What is seen of a new machine after the events.
-fn shown_after(alloc: Global, events: &[Event]) -> Result<Shown, Fail> {
-    let mut core = Core::new(alloc, 1, 1)?;
-    run(&mut core, events)?;
-    Ok(shown(&core))
+fn seen_after(rt: &impl Abort, alloc: Global, events: &[Event]) -> Seen {
+    let mut core = Core::new(alloc, 1, 1).expect(rt, "one growth alone is refused");
+    run(&mut core, events).expect(rt, "one growth alone is refused");
+    seen(&core, 0)
 }
 
 /// What is seen is what is seen after some of the events, from the first one on.
-fn is_after_some(alloc: Global, seen: Shown, events: &[Event]) -> Result<bool, Fail> {
-    let mut is_after = false;
+fn is_after_some(rt: &impl Abort, alloc: Global, seen: Seen, events: &[Event]) -> bool {
     for count in 0..events.len() {
-        is_after = is_after || shown_after(alloc, &events[..count])? == seen;
+        if seen_after(rt, alloc, &events[..count]) == seen {
+            return true;
+        }
     }
-    Ok(is_after)
+    false
 }
 
 /// Runs through the events, of which so many are done, and this is seen then. Where a growth was refused, what is seen is what
@@ -115,40 +103,27 @@ fn check_run(
     alloc: Global,
     core: &mut Core,
     events: &[Event],
-    wanted: (u32, Shown),
-) -> Result<(), Fail>
+    wanted: (u32, Seen),
+)
     requires { 0 < length core.old.world.sessions }
 {
     match run(core, events) {
-        Ok(done) => {
-            same(rt, (done, shown(core)), wanted);
-            Ok(())
-        }
+        Ok(done) => same(rt, (done, seen(core, 0)), wanted),
         Err(_) => {
-            assert!(rt; is_after_some(alloc, shown(core), events)?);
-            refused(rt)
+            assert!(rt; is_after_some(rt, alloc, seen(core, 0), events));
+            tell_refused(rt);
         }
     }
 }
 
-fn check_new_run(
-    rt: &(impl Abort + Print),
-    alloc: Global,
-    events: &[Event],
-    wanted: (u32, Shown),
-) -> Result<(), Fail> {
+fn check_new_run(rt: &(impl Abort + Print), alloc: Global, events: &[Event], wanted: (u32, Seen)) {
     match Core::new(alloc, 1, 1) {
         Ok(mut core) => check_run(rt, alloc, &mut core, events, wanted),
-        Err(_) => refused(rt),
+        Err(_) => tell_refused(rt),
     }
 }
 
-fn check_lines(
-    rt: &(impl Abort + Print),
-    alloc: Global,
-    lines: &str,
-    wanted: (u32, Shown),
-) -> Result<(), Fail> {
+fn check_lines(rt: &(impl Abort + Print), alloc: Global, lines: &str, wanted: (u32, Seen)) {
     match events(alloc, lines) {
         Ok(events) => check_new_run(rt, alloc, events.as_slice(), wanted),
         Err(error) => only_refused(rt, error),
@@ -182,11 +157,11 @@ floor
 recycle 0";
 
 #[test]
-fn refused_run_stands_after_the_events_before(rt: HostRuntime) -> Result<(), Fail> {
-    check_lines(&rt, rt.alloc(), ENTERING, (5, (0, Some(1), Some(0), 0)))
+fn refused_run_stands_after_the_events_before(rt: HostRuntime) {
+    check_lines(&rt, rt.alloc(), ENTERING, (5, (0, Some(0), Some(1), 0)));
 }
 
 #[test]
-fn refused_run_through_hostile_events(rt: HostRuntime) -> Result<(), Fail> {
-    check_lines(&rt, rt.alloc(), HOSTILE, (9, (2, None, None, 0)))
+fn refused_run_through_hostile_events(rt: HostRuntime) {
+    check_lines(&rt, rt.alloc(), HOSTILE, (9, (2, None, None, 0)));
 }

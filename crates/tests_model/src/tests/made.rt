@@ -1,29 +1,15 @@
 // Tests of names, operations and requests that are made of texts.
 
-use super::checks::{refused, same};
-use super::parts::{LineError, op};
-use super::texts::push_shown;
+use super::checks::{same, tell_refused};
+use super::texts::is_shown;
+use super::values::{OpRow, op};
 use graph_types::{NamedFilter, NamedOp, Request};
 use std::alloc::{AllocError, Global};
 use std::fmt::Debug;
 use std::process::Abort;
-use std::test::Fail;
 
-// Whether what was made is shown so.
-fn is_shown<T: Debug + Drop>(alloc: Global, made: T, shown: &str) -> Result<bool, AllocError> {
-    let mut text = String::new(alloc);
-    push_shown(&mut text, "", made)?;
-    Ok(text.as_str() == shown)
-}
-
-fn check_shown<T: Debug + Drop>(
-    rt: &impl Abort,
-    alloc: Global,
-    made: T,
-    shown: &str,
-) -> Result<(), AllocError> {
-    same(rt, is_shown(alloc, made, shown)?, true);
-    Ok(())
+fn check_made<T: Debug + Drop>(rt: &impl Abort, alloc: Global, made: T, wanted: &str) {
+    assert!(rt; is_shown(alloc, made, wanted) == Ok(true), "{wanted}");
 }
 
 const INSERT: &str = "Insert { kind: Name { text: \"knows\" }, source: Name { text: \"ann\" }, \
@@ -35,25 +21,24 @@ const INCR: &str = "Incr { kind: Name { text: \"knows\" }, source: Name { text: 
 const REMOVE: &str = "Remove { kind: Name { text: \"knows\" }, source: Name { text: \"ann\" }, \
     target: Name { text: \"bob\" } }";
 
-// Operations as text, and how each is shown.
-const OPERATIONS: [(&str, &str); 4] = [
-    ("i,knows,ann,bob,-5,10", INSERT),
-    ("a,knows,ann,bob,-5,10", INCR),
-    ("r,knows,ann,bob", REMOVE),
-    ("x,10", "Expire { time: 10 }"),
+// Operations, and how each is shown.
+const OPERATIONS: [(OpRow, &str); 4] = [
+    (('i', "knows", "ann", -5, 10), INSERT),
+    (('a', "knows", "ann", -5, 10), INCR),
+    (('r', "knows", "ann", 0, 0), REMOVE),
+    (('x', "", "", 0, 10), "Expire { time: 10 }"),
 ];
 
-fn check_made(rt: &impl Abort, alloc: Global, text: &str, shown: &str) -> Result<(), LineError> {
-    check_shown(rt, alloc, op(alloc, text)?, shown)?;
-    Ok(())
-}
-
 #[test]
-fn operations_are_made_of_texts(rt: HostRuntime) -> Result<(), Fail> {
-    for (text, shown) in OPERATIONS {
-        check_made(&rt, rt.alloc(), text, shown)?;
+fn operations_are_made_of_texts(rt: HostRuntime) {
+    for (row, shown) in &OPERATIONS {
+        check_made(
+            &rt,
+            rt.alloc(),
+            op(rt.alloc(), *row).expect(&rt, shown),
+            shown,
+        );
     }
-    Ok(())
 }
 
 const LEVELS: &str = "Levels { source: Name { text: \"ann\" }, \
@@ -84,11 +69,15 @@ fn made_at(alloc: Global, place: usize) -> Result<Request, AllocError> {
 }
 
 #[test]
-fn requests_are_made_of_texts(rt: HostRuntime) -> Result<(), Fail> {
+fn requests_are_made_of_texts(rt: HostRuntime) {
     for (place, shown) in SHOWN.iter().enumerate() {
-        check_shown(&rt, rt.alloc(), made_at(rt.alloc(), place)?, shown)?;
+        check_made(
+            &rt,
+            rt.alloc(),
+            made_at(rt.alloc(), place).expect(&rt, shown),
+            shown,
+        );
     }
-    Ok(())
 }
 
 // Whether this adds a weight of 1 at the time 2, from `ann` to `bob`.
@@ -106,13 +95,10 @@ fn is_insertion(op: &NamedOp) -> bool {
 }
 
 #[test]
-fn refused_growths_make_no_operation(rt: HostRuntime) -> Result<(), Fail> {
+fn refused_growths_make_no_operation(rt: HostRuntime) {
     match NamedOp::insert(rt.alloc(), "knows", "ann", "bob", 1, 2) {
-        Ok(op) => {
-            same(&rt, is_insertion(&op), true);
-            Ok(())
-        }
-        Err(AllocError) => refused(&rt),
+        Ok(op) => same(&rt, is_insertion(&op), true),
+        Err(AllocError) => tell_refused(&rt),
     }
 }
 
@@ -125,12 +111,9 @@ fn is_question(request: &Request) -> bool {
 }
 
 #[test]
-fn refused_growths_make_no_request(rt: HostRuntime) -> Result<(), Fail> {
+fn refused_growths_make_no_request(rt: HostRuntime) {
     match Request::one_edge(rt.alloc(), "knows", "ann", "bob") {
-        Ok(request) => {
-            same(&rt, is_question(&request), true);
-            Ok(())
-        }
-        Err(AllocError) => refused(&rt),
+        Ok(request) => same(&rt, is_question(&request), true),
+        Err(AllocError) => tell_refused(&rt),
     }
 }

@@ -3,7 +3,6 @@
 use super::checks::same;
 use graph_types::{Name, is_kind_name, is_kind_name_bytes, is_name, is_name_bytes};
 use std::process::Abort;
-use std::test::Fail;
 
 // Names that a kind may have, a line each. The last one has 64 bytes.
 const NAMES: &str = "ann
@@ -41,9 +40,9 @@ fn names_are_short_printable_texts(rt: HostRuntime) {
 }
 
 #[test]
-fn a_name_gives_back_its_text(rt: HostRuntime) -> Result<(), Fail> {
-    let name = Name::from_str(rt.alloc(), "ann")?;
+fn a_name_gives_back_its_text(rt: HostRuntime) {
+    let name = Name::from_str(rt.alloc(), "ann").expect(&rt, "a name");
     same(&rt, name.into_string().as_str(), "ann");
-    same(&rt, Name::from_str(rt.alloc(), "")?.as_str(), "");
-    Ok(())
+    let empty = Name::from_str(rt.alloc(), "").expect(&rt, "a name");
+    same(&rt, empty.as_str(), "");
 }

@@ -3,16 +3,13 @@
 ghost use Rattle.std.specs.Prelude.{◌≡◌, ◌<◌, ◌≤◌, IfOk, length};
 ghost use Rattle.graph_types.specs.Graph.{IsContent};
 
-use super::checks::{only_refused, refused, same};
+use super::checks::{only_refused, same, tell_refused};
 use super::graphs::content_of;
-use super::growths::shown;
-use super::machines::check_table;
-use super::parts::LineError;
+use super::machines::{check_table, seen};
 use epoch_core::{Core, OutOfMemory};
 use graph_types::{Content, List};
 use std::alloc::Global;
 use std::process::Abort;
-use std::test::Fail;
 
 // One session over two blocks, of which block 1 has the edges of the content.
 #[tactic(auto, using(crate::proofs::Openings::in_one))]
@@ -24,16 +21,11 @@ fn opened(alloc: Global, content: &Content) -> Result<Core, OutOfMemory>
     Core::opened(alloc, 1, 2, content, &[(1, List::of(edges))])
 }
 
-fn check_opened(
-    rt: &impl Abort,
-    alloc: Global,
-    content: &Content,
-    table: &str,
-) -> Result<(), LineError>
+fn check_opened(rt: &impl Abort, alloc: Global, content: &Content, table: &str)
     requires { IsContent content.now }
 {
-    let mut core = opened(alloc, content)?;
-    check_table(rt, alloc, &mut core, 1, table)
+    let mut core = opened(alloc, content).expect(rt, "a machine");
+    check_table(rt, alloc, &mut core, 1, table);
 }
 
 const ONE_EDGE: &str = "i,k,a,b,5,10";
@@ -41,55 +33,49 @@ const ONE_EDGE: &str = "i,k,a,b,5,10";
 // The block of version 0 isn't free, and answers; once it is retired and no pin needs it, it is recycled.
 const IN_ONE_BLOCK: &str = "take 1 => Skipped
 fill 1 => Skipped
-pin 0 => Done: 0 0 - 0
-enter 0 => Done: 0 0 0 0
+pin 0 => Done 0 0 None 0
+enter 0 => Done 0 0 0 0
 ask 0 edge,0,k,a,b => Done
 read 0 => Done
-reply 0 => Done: 0 0 0 1
-said 0 0 => edge 5 10 10
+reply 0 => Done 0 0 0 1
+said 0 0 => OneEdge 5 10 10
 take 0 => Done
 fill 0 0,0,1,6,10,30 => Done
 post a,k,a,b,1,30 | 0 => Done
-floor => Done: 0 0 0 1
+floor => Done 0 0 0 1
 recycle 1 => Skipped
 ask 0 edge,0,k,a,b => Done
 read 0 => Done
-reply 0 => Done: 0 0 0 2
-said 0 1 => edge 5 10 10
-release 0 => Done: 0 - - 2
-floor => Done: 1 - - 2
+reply 0 => Done 0 0 0 2
+said 0 1 => OneEdge 5 10 10
+release 0 => Done 0 None None 2
+floor => Done 1 None None 2
 recycle 1 => Done
-pin 0 => Done: 1 1 - 2
-enter 0 => Done: 1 1 1 2
+pin 0 => Done 1 1 None 2
+enter 0 => Done 1 1 1 2
 ask 0 edge,0,k,a,b => Done
 read 0 => Done
-reply 0 => Done: 1 1 1 3
-said 0 2 => edge 6 10 30";
-
-fn check_opened_with(rt: &impl Abort, alloc: Global, ops: &str) -> Result<(), LineError> {
-    let content = content_of(alloc, ops)?;
-    check_opened(rt, alloc, &content, IN_ONE_BLOCK)
-}
+reply 0 => Done 1 1 1 3
+said 0 2 => OneEdge 6 10 30";
 
 #[test]
-fn opens_with_an_edge_in_a_block(rt: HostRuntime) -> Result<(), Fail> {
-    check_opened_with(&rt, rt.alloc(), ONE_EDGE)?;
-    Ok(())
+fn opens_with_an_edge_in_a_block(rt: HostRuntime) {
+    let content = content_of(rt.alloc(), ONE_EDGE).expect(&rt, "an edge");
+    check_opened(&rt, rt.alloc(), &content, IN_ONE_BLOCK);
 }
 
 // The machine at its start, where there was memory for it.
-fn check_refused(rt: &(impl Abort + Print), alloc: Global, content: &Content) -> Result<(), Fail>
+fn check_refused(rt: &(impl Abort + Print), alloc: Global, content: &Content)
     requires { IsContent content.now }
 {
     match opened(alloc, content) {
-        Ok(core) => same(rt, shown(&core), (0, None, None, 0)),
-        Err(_) => return refused(rt),
+        Ok(core) => same(rt, seen(&core, 0), (0, None, None, 0)),
+        Err(_) => tell_refused(rt),
     }
-    Ok(())
 }
 
 #[test]
-fn refused_opening(rt: HostRuntime) -> Result<(), Fail> {
+fn refused_opening(rt: HostRuntime) {
     match content_of(rt.alloc(), ONE_EDGE) {
         Ok(content) => check_refused(&rt, rt.alloc(), &content),
         Err(error) => only_refused(&rt, error),

@@ -3,33 +3,31 @@
 use super::checks::same;
 use super::graph_stories::KINDS;
 use super::machines::{check_new, check_replaced, step};
-use super::parts::LineError;
 use epoch_core::{Core, Step};
-use std::alloc::{AllocError, Global};
+use std::alloc::Global;
 use std::process::Abort;
-use std::test::Fail;
 
 // A session pinned before the second version was posted; it holds that one, settles, and the first one's block is
 // recycled before it reads.
 pub(super) const TWO_VERSIONS: &str = "take 0 => Done
 fill 0 0,0,1,1,1,1 => Done
 post i,k,a,b,1,1 | 0 => Done
-pin 0 => Done: 0 0 - 0
+pin 0 => Done 0 0 None 0
 take 1 => Done
 fill 1 0,0,1,2,1,2 => Done
 post i,k,a,b,2,2 | 1 => Done
-floor => Done: 0 0 - 0
+floor => Done 0 0 None 0
 recycle 0 => Skipped
-enter 0 => Done: 0 0 2 0
-settle 0 => Done: 0 2 2 0
-floor => Done: 2 2 2 0
+enter 0 => Done 0 0 2 0
+settle 0 => Done 0 2 2 0
+floor => Done 2 2 2 0
 recycle 0 => Done
 ask 0 edge,0,k,a,b => Done
 read 0 => Done
-reply 0 => Done: 2 2 2 1
-release 0 => Done: 2 - - 1
-release 0 => Skipped: 2 - - 1
-said 0 0 => edge 2 1 2";
+reply 0 => Done 2 2 2 1
+release 0 => Done 2 None None 1
+release 0 => Skipped 2 None None 1
+said 0 0 => OneEdge 2 1 2";
 
 // Posts whose blocks have other edges, none, an edge twice, or stand twice; the last one is right.
 const BAD_POSTS: &str = "take 0 => Done
@@ -47,42 +45,42 @@ post i,k,a,b,1,1 | 0 1 => Done";
 // Version 1 has the edge in block 0, and session 0 holds it; versions 2 and 3 replace it in blocks 1 and 2. Block 1, born with
 // version 2 and retired by version 3, goes although the floor stays at 1, and block 0 stays. Session 1 pins the floor. While its
 // pin isn't settled block 2 stays, which version 4 retired; once it is settled at 4 that goes, too.
-const BETWEEN_PINS: &str = "copied => last 0; settled; unsettled
+const BETWEEN_PINS: &str = "copied => 0
 take 0 => Done
 fill 0 0,0,1,1,1,1 => Done
 post i,k,a,b,1,1 | 0 => Done
 pin 0 => Done
 enter 0 => Done
-settle 0 => Done: 0 1 1 0
+settle 0 => Done 0 1 1 0
 take 1 => Done
 fill 1 0,0,1,2,1,2 => Done
 post i,k,a,b,2,2 | 1 => Done
 take 2 => Done
 fill 2 0,0,1,3,1,3 => Done
 post i,k,a,b,3,3 | 2 => Done
-floor => Done: 1 1 1 0
-copied => last 3; settled 0:1; unsettled
+floor => Done 1 1 1 0
+copied => 3 0:1
 recycle 1 => Done
 recycle 0 => Skipped
 pin 1 => Done
-seen 1 => 1 1 - 0
+seen 1 => 1 1 None 0
 take 1 => Done
 fill 1 0,0,1,4,1,4 => Done
 post i,k,a,b,4,4 | 1 => Done
-floor => Done: 1 1 1 0
-copied => last 4; settled 0:1; unsettled 1:1
+floor => Done 1 1 1 0
+copied => 4 0:1 1?1
 recycle 2 => Skipped
 enter 1 => Done
 seen 1 => 1 1 4 0
 settle 1 => Done
 seen 1 => 1 4 4 0
-floor => Done: 1 1 1 0
-copied => last 4; settled 0:1 1:4; unsettled
+floor => Done 1 1 1 0
+copied => 4 0:1 1:4
 recycle 2 => Done
 release 0 => Done
 release 1 => Done
-floor => Done: 4 - - 0
-copied => last 4; settled; unsettled
+floor => Done 4 None None 0
+copied => 4
 recycle 0 => Done";
 
 // Block 1 has the edge of version 4, and the other two are free: none is retired.
@@ -113,7 +111,7 @@ post r,k,a,b | => Done
 pin 0 => Done
 enter 0 => Done
 ask 0 edge,0,k,a,b => Done
-reply 0 => Done: 0 0 2 4";
+reply 0 => Done 0 0 2 4";
 
 // In the large one it holds version 3, whose edge got its weight by an increment, while session 1 holds version 2 and
 // session 2 version 0; then version 4 is posted, the other sessions let go, and the block of version 2 is filled anew.
@@ -129,7 +127,7 @@ pin 0 => Done
 take 3 => Done
 fill 3 0,0,1,3,1,1 => Done
 post a,k,a,b,-4,1 | 3 => Done
-enter 0 => Done: 0 0 3 0
+enter 0 => Done 0 0 3 0
 ask 0 edge,0,k,a,b => Done
 read 0 => Done
 reply 0 => Done
@@ -141,10 +139,10 @@ settle 0 => Done
 release 2 => Done
 read 1 => Done
 reply 1 => Done
-floor => Done: 0 3 3 1
+floor => Done 0 3 3 1
 recycle 4 => Skipped
 release 1 => Done
-floor => Done: 3 3 3 1
+floor => Done 3 3 3 1
 recycle 4 => Done
 recycle 3 => Skipped
 take 4 => Done
@@ -160,26 +158,31 @@ post r,k,b,a | => Done
 pin 0 => Done
 enter 0 => Done
 ask 0 edge,0,k,a,b => Done
-reply 0 => Done: 3 3 5 4";
+reply 0 => Done 3 3 5 4";
 
-const ALIKE: &str = "said 0 0 => edge 3 1 1
-said 0 1 => deg a 1 0 3 b 0 1 0
+const ALIKE: &str = "said 0 0 => OneEdge 3 1 1
+said 0 1 => Degrees a 1 0 3 b 0 1 0
 said 0 2 => NoKind
-said 0 3 => edge none";
+said 0 3 => OneEdge None";
 
 #[test]
-fn machines_come_to_what_their_stories_say(rt: HostRuntime) -> Result<(), Fail> {
+fn machines_come_to_what_their_stories_say(rt: HostRuntime) {
     let alloc = rt.alloc();
     // recycles_a_block_that_no_pin_needs
-    check_new(&rt, alloc, 1, 2, &[TWO_VERSIONS])?;
+    check_new(&rt, alloc, 1, 2, &[TWO_VERSIONS]);
     // posts_only_what_the_batch_leaves
-    check_new(&rt, alloc, 1, 3, &[BAD_POSTS])?;
+    check_new(&rt, alloc, 1, 3, &[BAD_POSTS]);
     // keeps_what_a_settled_pin_needs
-    check_new(&rt, alloc, 2, 3, &[BETWEEN_PINS, NONE_RETIRED])?;
+    check_new(&rt, alloc, 2, 3, &[BETWEEN_PINS, NONE_RETIRED]);
     // a_session_is_answered_alike_in_two_worlds
-    check_new(&rt, alloc, 1, 1, &[SMALL, ALIKE])?;
-    check_new(&rt, alloc, 3, 5, &[LARGE, ALIKE, "said 1 0 => edge 7 1 1"])?;
-    Ok(())
+    check_new(&rt, alloc, 1, 1, &[SMALL, ALIKE]);
+    check_new(
+        &rt,
+        alloc,
+        3,
+        5,
+        &[LARGE, ALIKE, "said 1 0 => OneEdge 7 1 1"],
+    );
 }
 
 // Session 0 holds the version of three edges, which are in two blocks: a to b and a loop at c of kind k, and b to c of
@@ -193,24 +196,24 @@ pin 0 => Done
 enter 0 => Done";
 
 // Each of these is asked, and answered so once both blocks are read.
-const REQUESTS: &str = "deg,0,*,0,100 => deg a 1 0 5 b 1 1 2 c 1 2 -3
-deg,0,*,10,11 => deg a 1 0 5 b 1 1 2 c 0 1 0
-deg,0,k,11,12 => deg a 0 0 0 b 0 0 0 c 1 1 -3
+const REQUESTS: &str = "deg,0,*,0,100 => Degrees a 1 0 5 b 1 1 2 c 1 2 -3
+deg,0,*,10,11 => Degrees a 1 0 5 b 1 1 2 c 0 1 0
+deg,0,k,11,12 => Degrees a 0 0 0 b 0 0 0 c 1 1 -3
 deg,0,x,5,4 => BadWindow
 deg,0,x,4,5 => NoKind
 edge,0,x,z,b => NoKind
 edge,0,k,z,b => NoVertex
 edge,0,k,a,z => NoVertex
-edge,0,k,b,a => edge none
-edge,0,m,b,c => edge 2 11 11
-bfs,0,a,*,0,100 => bfs a 0 b 1 c 2
-bfs,0,c,*,0,100 => bfs c 0
-bfs,0,a,k,0,100 => bfs a 0 b 1
+edge,0,k,b,a => OneEdge None
+edge,0,m,b,c => OneEdge 2 11 11
+bfs,0,a,*,0,100 => Levels a 0 b 1 c 2
+bfs,0,c,*,0,100 => Levels c 0
+bfs,0,a,k,0,100 => Levels a 0 b 1
 bfs,0,z,*,0,9 => NoVertex
 bfs,0,z,x,5,4 => BadWindow
-comp,0,k,0,100 => comp a a b a c c
-core,0,*,0,100 => core a 1 b 1 c 1
-core,0,k,11,12 => core a 0 b 0 c 0";
+comp,0,k,0,100 => Labels a a b a c c
+core,0,*,0,100 => Cores a 1 b 1 c 1
+core,0,k,11,12 => Cores a 0 b 0 c 0";
 
 // Session 0 asks one of these of a version of two blocks.
 const ASKING: &str = "ask 0 REQUEST => Done
@@ -221,23 +224,18 @@ read 0 => Skipped
 reply 0 => Done
 said 0 0 => REPLY";
 
-fn asking(alloc: Global, request: &str, reply: &str) -> Result<String, AllocError> {
-    let asked = ASKING.replace(alloc, "REQUEST", request)?;
-    asked.replace(alloc, "REPLY", reply)
-}
-
-fn check_request(rt: &impl Abort, alloc: Global, row: &str) -> Result<(), LineError> {
-    let (request, reply) = row.split_once(" => ").ok_or(LineError::Wrong)?;
-    let asked = asking(alloc, request, reply)?;
-    check_new(rt, alloc, 1, 2, &[THREE_EDGES, asked.as_str()])
+fn check_request(rt: &impl Abort, alloc: Global, row: &str) {
+    let (request, reply) = row.split_once(" => ").expect(rt, row);
+    let asked = ASKING.replace(alloc, "REQUEST", request).expect(rt, row);
+    let story = asked.replace(alloc, "REPLY", reply).expect(rt, row);
+    check_new(rt, alloc, 1, 2, &[THREE_EDGES, story.as_str()]);
 }
 
 #[test]
-fn answers_once_all_blocks_are_read(rt: HostRuntime) -> Result<(), Fail> {
+fn answers_once_all_blocks_are_read(rt: HostRuntime) {
     for row in REQUESTS.lines() {
-        check_request(&rt, rt.alloc(), row)?;
+        check_request(&rt, rt.alloc(), row);
     }
-    Ok(())
 }
 
 // Block 0 has an edge from a to b of each of 64 kinds, and block 1 one of a kind more. `KINDS` stands for the insertions of the
@@ -260,21 +258,19 @@ post KINDS i,kind63,a,b,1,1 i,kind64,a,b,1,1 | 0 1 => Skipped
 post KINDS i,kind63,a,b,1,1 | 0 => Done";
 
 #[test]
-fn posts_at_most_64_kinds(rt: HostRuntime) -> Result<(), Fail> {
-    check_replaced(&rt, rt.alloc(), KIND_STORY, ("KINDS", KINDS))?;
-    Ok(())
+fn posts_at_most_64_kinds(rt: HostRuntime) {
+    check_replaced(&rt, rt.alloc(), KIND_STORY, ("KINDS", KINDS));
 }
 
-fn check_batches(rt: &impl Abort, alloc: Global, core: &mut Core) -> Result<(), LineError> {
-    for _ in 0..65_536u32 {
-        same(rt, step(alloc, core, "post |")?, Step::Done);
-    }
-    same(rt, step(alloc, core, "post |")?, Step::Skipped);
-    Ok(())
+fn check_post(rt: &impl Abort, alloc: Global, core: &mut Core, wanted: Step) {
+    same(rt, step(alloc, core, "post |"), Ok(wanted));
 }
 
 #[test]
-fn posts_at_most_65536_batches(rt: HostRuntime) -> Result<(), Fail> {
-    check_batches(&rt, rt.alloc(), &mut Core::new(rt.alloc(), 1, 1)?)?;
-    Ok(())
+fn posts_at_most_65536_batches(rt: HostRuntime) {
+    let mut core = Core::new(rt.alloc(), 1, 1).expect(&rt, "a machine");
+    for _ in 0..65_536u32 {
+        check_post(&rt, rt.alloc(), &mut core, Step::Done);
+    }
+    check_post(&rt, rt.alloc(), &mut core, Step::Skipped);
 }

@@ -1,10 +1,12 @@
 // A version against the content that the plain application leaves.
 
 use crate::texts::write_blocks;
+use edge_block::Block;
 use graph_types::{Content, Edge, Name, VertexId};
 use graph_version::Version;
 use std::alloc::{AllocError, Global};
 use std::process::Abort;
+use std::sync::Arc;
 use vertex_names::NameBook;
 
 // Whether a book has a name with this number.
@@ -56,35 +58,38 @@ fn edges_lent(version: &Version, source: VertexId) -> usize {
     edges
 }
 
-// How many edges a vertex's row lends: as many as its blocks have, of which each has an edge and the vertex as its
-// source.
-fn check_row(rt: &impl Abort, version: &Version, source: VertexId) -> usize {
+// Whether a block has an edge, and the vertex as its source.
+fn is_of(block: &Block, source: VertexId) -> bool {
+    !block.is_empty() && block.source() == source
+}
+
+// How many edges the blocks of a vertex have. Each block has an edge, and the vertex as its source.
+fn edges_in(rt: &impl Abort, blocks: &[Arc<Block>], source: VertexId) -> usize {
     let mut edges = 0_usize;
-    for block in version.row_blocks(source) {
-        assert!(rt; !block.is_empty());
-        assert_eq!(rt; block.source(), source);
+    for block in blocks {
+        assert!(rt; is_of(block, source));
         edges = edges.saturating_add(block.len());
     }
-    assert_eq!(rt; edges_lent(version, source), edges);
     edges
 }
 
-// How many edges all rows lend.
-fn edges_in_rows(rt: &impl Abort, version: &Version) -> usize {
+// How many edges a vertex's row lends: as many as its blocks have.
+fn check_row(rt: &impl Abort, version: &Version, source: VertexId) -> usize {
+    let edges = edges_in(rt, version.row_blocks(source), source);
+    assert!(rt; edges_lent(version, source) == edges);
+    edges
+}
+
+// How many edges all rows lend, and how many blocks they have.
+fn check_rows(rt: &impl Abort, version: &Version) -> (usize, usize) {
     let mut edges = 0_usize;
-    for source in 0..version.names().len() {
-        edges = edges.saturating_add(check_row(rt, version, VertexId(source as u32)));
-    }
-    edges
-}
-
-// How many blocks all rows have.
-fn blocks_in_rows(version: &Version) -> usize {
     let mut blocks = 0_usize;
-    for source in 0..version.names().len() {
-        blocks = blocks.saturating_add(version.row_blocks(VertexId(source as u32)).len());
+    for number in 0..version.names().len() {
+        let source = VertexId(number as u32);
+        edges = edges.saturating_add(check_row(rt, version, source));
+        blocks = blocks.saturating_add(version.row_blocks(source).len());
     }
-    blocks
+    (edges, blocks)
 }
 
 // How many of the version's blocks have this number.
@@ -98,27 +103,31 @@ fn times_numbered(version: &Version, number: u32) -> usize {
     times
 }
 
-// The block numbers of the version are as many as its rows' blocks, and each stands once.
-fn check_blocks(rt: &impl Abort, version: &Version) {
+// How many blocks the version has. Each number stands once.
+fn check_blocks(rt: &impl Abort, version: &Version) -> usize {
     let mut blocks = 0_usize;
     for number in version.blocks() {
-        assert_eq!(rt; times_numbered(version, number), 1);
+        assert!(rt; times_numbered(version, number) == 1);
         blocks = blocks.saturating_add(1);
     }
-    assert_eq!(rt; blocks, blocks_in_rows(version));
+    blocks
+}
+
+// The version has these edges.
+fn check_edges(rt: &impl Abort, version: &Version, edges: &[Edge]) {
+    assert!(rt; version.edge_count() == edges.len() as u64);
+    for edge in edges {
+        assert!(rt; has_edge(version, edge));
+    }
 }
 
 /// The version has the content's names, kinds and edges, and no others.
 pub(super) fn check_same(rt: &impl Abort, version: &Version, content: &Content) {
     assert!(rt; has_names(version.names(), content.names.as_slice()));
     assert!(rt; has_names(version.kinds(), content.kinds.as_slice()));
-    let edges = content.edges.as_slice();
-    assert_eq!(rt; version.edge_count(), edges.len() as u64);
-    for edge in edges {
-        assert!(rt; has_edge(version, edge));
-    }
-    assert_eq!(rt; edges_in_rows(rt, version), edges.len());
-    check_blocks(rt, version);
+    check_edges(rt, version, content.edges.as_slice());
+    let sizes = (content.edges.len(), check_blocks(rt, version));
+    assert!(rt; check_rows(rt, version) == sizes);
 }
 
 /// The blocks of a row, in row order.

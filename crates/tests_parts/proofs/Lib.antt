@@ -1,2 +1,0 @@
-mod Held
-mod Weights
