@@ -1,7 +1,7 @@
 -- Lists of distinct numbers, and how many of a list pass a test.
 use Rattle.std.proofs.Common.{◌≡◌, ◌≢◌, ℕ, zero, suc, ◌+◌, ◌<◌, ◌≤◌, arith, refl, sym, ap, ◌∙◌, ◌⊎◌, inl, inr, List, [], ◌∷◌}
 use Rattle.std.proofs.Common.{length, cond, true, false, Bool, not}
-use Rattle.std.proofs.lemmas.{Bool.ne_eqb, Bool.Decides.Decides-eqb, List.Sums.sum_by-cons, List.Sums.length-filter}
+use Rattle.std.proofs.lemmas.{Bool.ne_eqb, Bool.Decides.Decides-eqb, List.Sums.{sum_by-cons, length-filter, count_by-le-length}}
 use Rattle.std.specs.{Prelude.◌==◌, Prelude.AllPairs, Prelude.count_by, Prelude.filter, List.Contains}
 
 module _ {X : Type 0} where
@@ -60,11 +60,7 @@ abbrev others : ℕ → List ℕ → List ℕ
 others x ys = filter (λ y. not (y == x)) ys
 
 kept_others : (x : ℕ) (ys : List ℕ) → length (others x ys) ≤ length ys
-kept_others x [] = omega arith
-kept_others x (y ∷ ys) = elim (y == x) as (λ b. length (cond (not b) (y ∷ others x ys) (others x ys)) ≤ suc (length ys)) [
-  | true ↦ let r = kept_others x ys in omega arith
-  | false ↦ let r = kept_others x ys in omega arith
-]
+kept_others x ys = omega (arith, length-filter (λ y. not (y == x)) ys, count_by-le-length (λ y. not (y == x)) ys)
 
 -- leaving out a number that is listed makes a list shorter
 fewer_others : (x : ℕ) (ys : List ℕ) → Contains ys x → length (others x ys) < length ys

@@ -77,43 +77,31 @@ passes_once passes key es once same =
     (λ e. one_where _ _ (same e)) in
     omega (arith, fewer, count_key key es once)
 
-leaves_key : (f : Filter) (v k t : ℕ) (e : Edge) → ((leaves f v (entry_of e) && eqb e.kind.0 k) && eqb e.target.0 t) ≡ true
-    → is_key_of (record { kind = k; source = v; target = t }) e ≡ true
-leaves_key f v k t e passes =
-    let (left, target) = and_parts (leaves f v (entry_of e) && eqb e.kind.0 k) (eqb e.target.0 t) passes in
-    let (leaving, kind) = and_parts (leaves f v (entry_of e)) (eqb e.kind.0 k) left in
-    let source = (and_parts (in_view f (entry_of e)) (eqb e.source.0 v) leaving).1 in
-    is_key_of_at _ e
-    (λ i. record {
-      kind = sym (eqb-true e.kind.0 k kind) i;
-      source = sym (eqb-true e.source.0 v source) i;
-      target = sym (eqb-true e.target.0 t target) i;
-    })
+-- what an edge that passes four tests passes
+last_three : (a b c d : Bool) → (((a && b) && c) && d) ≡ true → (b ≡ true) × (c ≡ true) × (d ≡ true)
+last_three a b c d passes =
+    let (three, last) = and_parts ((a && b) && c) d passes in
+    let (two, third) = and_parts (a && b) c three in ((and_parts a b two).1, third, last)
+
+has_key : (k s t : ℕ) (e : Edge) → eqb e.kind.0 k ≡ true → eqb e.source.0 s ≡ true → eqb e.target.0 t ≡ true
+    → is_key_of (record { kind = k; source = s; target = t }) e ≡ true
+has_key k s t e kind source target =
+    let kinds = sym (eqb-true e.kind.0 k kind) in
+    let sources = sym (eqb-true e.source.0 s source) in
+    let targets = sym (eqb-true e.target.0 t target) in
+    is_key_of_at _ e (λ i. record { kind = kinds i; source = sources i; target = targets i })
 
 leaves_once : (f : Filter) (v : ℕ) (es : List Edge) → HasKeysOnce es → (k t : ℕ)
     → count_by (λ e. (leaves f v (entry_of e) && eqb e.kind.0 k) && eqb e.target.0 t) es ≤ 1
 leaves_once f v es once k t =
-    passes_once (λ e. (leaves f v (entry_of e) && eqb e.kind.0 k) && eqb e.target.0 t) (record { kind = k; source = v; target = t }) es
-    once (leaves_key f v k t)
-
-enters_key : (f : Filter) (v k s : ℕ) (e : Edge) → ((enters f v (entry_of e) && eqb e.kind.0 k) && eqb e.source.0 s) ≡ true
-    → is_key_of (record { kind = k; source = s; target = v }) e ≡ true
-enters_key f v k s e passes =
-    let (left, source) = and_parts (enters f v (entry_of e) && eqb e.kind.0 k) (eqb e.source.0 s) passes in
-    let (entering, kind) = and_parts (enters f v (entry_of e)) (eqb e.kind.0 k) left in
-    let target = (and_parts (in_view f (entry_of e)) (eqb e.target.0 v) entering).1 in
-    is_key_of_at _ e
-    (λ i. record {
-      kind = sym (eqb-true e.kind.0 k kind) i;
-      source = sym (eqb-true e.source.0 s source) i;
-      target = sym (eqb-true e.target.0 v target) i;
-    })
+    passes_once (λ e. (leaves f v (entry_of e) && eqb e.kind.0 k) && eqb e.target.0 t) _ es once (λ e passes.
+    let (source, kind, target) = last_three (in_view f (entry_of e)) _ _ _ passes in has_key k v t e kind source target)
 
 enters_once : (f : Filter) (v : ℕ) (es : List Edge) → HasKeysOnce es → (k s : ℕ)
     → count_by (λ e. (enters f v (entry_of e) && eqb e.kind.0 k) && eqb e.source.0 s) es ≤ 1
 enters_once f v es once k s =
-    passes_once (λ e. (enters f v (entry_of e) && eqb e.kind.0 k) && eqb e.source.0 s) (record { kind = k; source = s; target = v }) es
-    once (enters_key f v k s)
+    passes_once (λ e. (enters f v (entry_of e) && eqb e.kind.0 k) && eqb e.source.0 s) _ es once (λ e passes.
+    let (target, kind, source) = last_three (in_view f (entry_of e)) _ _ _ passes in has_key k s v e kind source target)
 
 -- the size of a whole number, as two bounds and back
 pub abs_bounds : (z : ℤ) (n : ℕ) → nat_abs z ≤ n → (neg_ℤ (pos n) ≤ℤ z) × (z ≤ℤ pos n)

@@ -1,8 +1,8 @@
 -- Lists of names in order of first appearance, as operations make them.
 use Rattle.std.proofs.Common.{◌≡◌, ◌≢◌, ℕ, ◌+◌, ◌<◌, ◌≤◌, List, [], ◌∷◌, ◌++◌, true, false, cond, not, ◌||◌, length, get_or}
-use Rattle.std.proofs.{Common.{AllPairs, bytes_eq, Option, Some, suc, refl, sym, ap, ◌∙◌, arith}, lemmas.Bool.false≢true}
+use Rattle.std.proofs.{Common.{Bool, ltb, AllPairs, bytes_eq, Option, Some, suc, refl, sym, ap, ◌∙◌, arith}, lemmas.Bool.{false≢true, ltb-true, Decides.nat_tests}}
 use Rattle.std.proofs.lemmas.{Slice.Eq.bytes_eq-Decides, List.{length-append, Folds.{list_any-append, list_any_at}}}
-use Rattle.std.{proofs.lemmas.List.Quantifiers.all_pairs_push, specs.List.list_any}
+use Rattle.std.{proofs.lemmas.List.Quantifiers.all_pairs_push, specs.List.{list_any, position_or_len}}
 use Rattle.graph_types.specs.Step.{with_name, number_of, makes_names, names_made, kinds_made, stamp_after, changed_key, after}
 use Rattle.graph_types.specs.{Step.after_all, Graph.{Graph, Key, Stamp}, declared.batches.NamedOp.{NamedOp, TheVariants.Insert}}
 use Rattle.graph_types.specs.declared.{batches.NamedOp.TheVariants.{Incr, Remove, Expire}, changes.EdgeChange.EdgeChange}
@@ -55,16 +55,22 @@ length-after_all-kinds (op ∷ ops) g = omega (arith, length-after-kinds op g, l
 pub same_bytes : (name : List ℕ) → bytes_eq name name ≡ true
 same_bytes name = (bytes_eq-Decides name name).1 refl
 
+-- an element that fits is in a list where its place is before the end
+pub any_before_end : {X : Type 0} (p : X → Bool) (xs : List X) → list_any p xs ≡ ltb (position_or_len p xs) (length xs)
+any_before_end p [] = grind (arith, nat_tests)
+any_before_end p (x ∷ xs) =
+    elim (p x) as (λ b. (b || list_any p xs) ≡ ltb (cond (not b) (1 + position_or_len p xs) 0) (suc (length xs))) [
+      | true ↦ grind (arith, nat_tests)
+      | false ↦ any_before_end p xs ∙ later (position_or_len p xs) (length xs)
+    ]
+  where
+    later : (m n : ℕ) → ltb m n ≡ ltb (1 + m) (suc n)
+    later m n = grind (arith, nat_tests)
+
 -- a name that has appeared has a number below the count of names
 pub number_of-lt : (names : List (List ℕ)) (name : List ℕ) → list_any (bytes_eq name) names ≡ true
     → number_of names name < length names
-number_of-lt [] name h = absurd (false≢true h)
-number_of-lt (x ∷ xs) name h =
-    elim (bytes_eq name x) as (λ b. (b || list_any (bytes_eq name) xs) ≡ true
-    → cond (not b) (1 + number_of xs name) 0 < suc (length xs)) [
-      | true ↦ λ _. omega arith
-      | false ↦ λ rest. omega (arith, number_of-lt xs name rest)
-    ] h
+number_of-lt names name h = ltb-true _ _ (sym (any_before_end (bytes_eq name) names) ∙ h)
 
 -- a name appears where it is added, and stays
 pub appears-with_name : (names : List (List ℕ)) (name : List ℕ) → list_any (bytes_eq name) (with_name names name) ≡ true
@@ -116,7 +122,7 @@ pub record IsNamed (n m : ℕ) (key : Key) : Type 0 where
   pub source : key.source < n
   pub target : key.target < n
 
-named : (names kinds : List (List ℕ)) (kind source target : List ℕ) →
+pub named : (names kinds : List (List ℕ)) (kind source target : List ℕ) →
     let all = with_name (with_name names source) target in
     IsNamed (length all) (length (with_name kinds kind))
     (record { kind = number_of (with_name kinds kind) kind; source = number_of all source; target = number_of all target })

@@ -12,12 +12,12 @@ use Rattle.graph_types.proofs.{NameLists.number_of-lt, OneTable.one_table, SomeT
 pub one_reply : (request : Request) (g : Graph) (x y : Reply) → IsReply request g x → IsReply request g y → x ≡ y
 one_reply (AskLevels source filter) g x y a b =
     a.2 ∙ ap (λ levels. Levels (reached g.names levels))
-    ((one_table (resolved g filter) g).levels (number_of g.names source) a.0 b.0 a.1 b.1) ∙ sym b.2
+    (one_table.levels (resolved g filter) g (number_of g.names source) a.0 b.0 a.1 b.1) ∙ sym b.2
 one_reply (AskLabels filter) g x y a b =
-    a.2 ∙ ap (λ labels. Labels (zip g.names (names_of g.names labels))) ((one_table (resolved g filter) g).labels a.0 b.0 a.1 b.1)
+    a.2 ∙ ap (λ labels. Labels (zip g.names (names_of g.names labels))) (one_table.labels (resolved g filter) g a.0 b.0 a.1 b.1)
     ∙ sym b.2
 one_reply (AskCores filter) g x y a b =
-    a.2 ∙ ap (λ numbers. Cores (zip g.names numbers)) ((one_table (resolved g filter) g).cores a.0 b.0 a.1 b.1) ∙ sym b.2
+    a.2 ∙ ap (λ numbers. Cores (zip g.names numbers)) (one_table.cores (resolved g filter) g a.0 b.0 a.1 b.1) ∙ sym b.2
 one_reply (AskDegrees filter) g x y a b = a ∙ sym b
 one_reply (AskOneEdge kind source target) g x y a b = a ∙ sym b
 
@@ -29,10 +29,8 @@ one_answer request g (Err x) (Ok y) a b = cc (a, b.0)
 one_answer request g (Err x) (Err y) a b = cc
 
 vertex_listed : (window kind vertex : Bool) → first_refusal window kind vertex ≡ None → vertex ≡ true
-vertex_listed false kind vertex none = cc
-vertex_listed true false vertex none = cc
-vertex_listed true true false none = cc
 vertex_listed true true true none = refl
+vertex_listed _ kind vertex none = cc
 
 pub some_reply : (request : Request) (c : Content) → IsContent c → refusal request (graph_of c) ≡ None
     → (reply : Reply) × IsReply request (graph_of c) reply
@@ -40,15 +38,15 @@ some_reply (AskLevels source filter) c is none =
     let g = graph_of c in
     let listed = vertex_listed (not (nat_lt filter.hi filter.lo)) (is_kind_listed g.kinds filter.kind)
     (is_listed g.names source) none in
-    let r = (some_table (resolved g filter) c is).levels (number_of g.names source) (number_of-lt g.names source listed) in
+    let r = some_table.levels (resolved g filter) c is (number_of g.names source) (number_of-lt g.names source listed) in
     (Levels (reached g.names r.0), (r.0, r.1, refl))
 some_reply (AskLabels filter) c is none =
     let g = graph_of c in
-    let r = (some_table (resolved g filter) c is).labels in
+    let r = some_table.labels (resolved g filter) c is in
     (Labels (zip g.names (names_of g.names r.0)), (r.0, r.1, refl))
 some_reply (AskCores filter) c is none =
     let g = graph_of c in
-    let r = (some_table (resolved g filter) c is).cores in
+    let r = some_table.cores (resolved g filter) c is in
     (Cores (zip g.names r.0), (r.0, r.1, refl))
 some_reply (AskDegrees filter) c is none = let g =
     graph_of c in (Degrees (zip g.names (degree_table (resolved g filter) g)), refl)
