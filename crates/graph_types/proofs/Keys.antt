@@ -4,7 +4,7 @@ use Rattle.std.proofs.{Common.{refl, sym, ap, ◌∙◌, arith, inl, inr}, lemma
 use Rattle.std.proofs.lemmas.List.{Sums.{sum_by-cons, get_or-le-sum_by}, Sorted.{Contains-permutation, sum_by-IsPermutation}}
 use Rattle.std.proofs.lemmas.{Bool.cases_Bool, List.{Kept.AllPairs-cons, Sorted.IsPermutation-sym}}
 use Rattle.std.specs.{Prelude.{count_by, is_some, AllPairs, All, Contains, IsPermutation}, declared.cmp.Ordering.Ordering}
-use Rattle.std.specs.declared.{cmp.Ordering.TheVariants.{Less, Equal, Greater}, option.Option.{Option, TheVariants.{None, Some}}}
+use Rattle.std.specs.declared.{cmp.Ordering.TheVariants.Equal, option.Option.{Option, TheVariants.{None, Some}}}
 use Rattle.std.specs.{Ordering.{nat_cmp, ordering_then, is_eq, eq_by_cmp}, Cmp.IsTotalOrder, FinMap.IsAntisymmetric}
 use Rattle.std.specs.FinMap.{nat_cmp-IsAntisymmetric, find, get, len, get-insert, get-from_entries, len-empty, len-insert}
 use Rattle.std.specs.FinMap.{same_map}

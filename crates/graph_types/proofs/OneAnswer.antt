@@ -1,5 +1,5 @@
 -- Over a graph a request has one answer, and over that of a content it has one.
-use Rattle.std.proofs.Common.{◌≡◌, Some, None, Bool, true, false, not, refl, sym, ap, ◌∙◌}
+use Rattle.std.proofs.Common.{◌≡◌, Some, None, Bool, true, not, refl, sym, ap, ◌∙◌}
 use Rattle.std.specs.{Prelude.Result, Prelude.Ok, Prelude.Err, Prelude.zip, Prelude.nat_lt, Option.option_map, FinMap.get}
 use Rattle.graph_types.specs.{Graph.{Graph, graph_of, IsContent}, Step.{key_in, number_of}, Answer.{IsAnswer, IsReply, refusal}}
 use Rattle.graph_types.specs.Answer.{first_refusal, resolved, degree_table, shown, reached, names_of, is_listed, is_kind_listed}

@@ -1,7 +1,7 @@
 -- Each content has levels, labels and core numbers.
 use Rattle.std.{proofs.{Common.{length, map}, lemmas.List.FromFn.length-range_with_len}, specs.List.range_with_len}
-use Rattle.graph_types.specs.{Graph.{graph_of, IsContent}, Tables.HaveSomeTable, Arcs.{arcs_of, two_way, level_start}}
-use Rattle.graph_types.specs.{Arcs.level_of, declared.{contents.Content.Content, ids.Filter.Filter}}
+use Rattle.graph_types.specs.{Graph.graph_of, Tables.HaveSomeTable, Arcs.{arcs_of, two_way, level_start}}
+use Rattle.graph_types.specs.Arcs.{level_of}
 use Rattle.graph_types.proofs.Arcs.{arc_leads, leads_arc, arcs_within, arc_joins, joins_arc, two_way_within}
 use Rattle.graph_types.proofs.{Cores.cores_by_arcs, Settling.{some_settled, settled_levels, settled_labels, level_start_long}}
 
