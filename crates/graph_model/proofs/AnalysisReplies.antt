@@ -1,6 +1,6 @@
 -- Names put in, and refusals that stay what they are where a vertex is asked for as well.
 use Rattle.std.proofs.Common.{◌≡◌, ℕ, ◌+◌, ◌<◌, Bool, true, false, List, [], ◌∷◌, ◌++◌, length, get_or, take, Option, Some, None}
-use Rattle.std.proofs.{Common.{not, subst, refl, sym, ap, ◌∙◌, arith}, lemmas.List.{get_or-map, length-map, get_or_default}}
+use Rattle.std.proofs.{Common.{not, refl, sym, ap, ◌∙◌, arith}, lemmas.List.{get_or-map, length-map, get_or_default}}
 use Rattle.std.proofs.lemmas.{List.Elements.filter_map-append, Option.slice_get-get_or}
 use Rattle.std.specs.{Prelude.{All, zip, Ok, position, bytes_eq, nat_lt}, List.filter_map, Option.option_to_list}
 use Rattle.graph_types.specs.{Graph.Graph, Graph.graph_of, Analyses.AreLevels, Analyses.AreLabels, Analyses.AreCoreNumbers}
@@ -47,9 +47,8 @@ refused_so true true vertex error is = cc
 -- and where it is not, the vertex decides
 pub vertex_refused : (window kind vertex : Bool) → first_refusal window kind true ≡ None → vertex ≡ false
     → first_refusal window kind vertex ≡ Some NoVertex
-vertex_refused false kind vertex none absent = cc
-vertex_refused true false vertex none absent = cc
 vertex_refused true true vertex none absent = ap (first_refusal true true) absent
+vertex_refused _ kind vertex none absent = cc
 
 pub vertex_listed : (window kind vertex : Bool) → first_refusal window kind true ≡ None → vertex ≡ true
     → first_refusal window kind vertex ≡ None
@@ -80,8 +79,7 @@ module _ (c : Content) (named : NamedFilter) (f : Filter) (found : f ≡ resolve
         vertex_listed (not (nat_lt named.hi named.lo)) (is_kind_listed c.kinds named.kind) (is_listed c.names source) fine listed,
         (
           levels,
-          subst (λ v. AreLevels (resolved (graph_of c) named) (graph_of c) v levels) number
-              (subst (λ x. AreLevels x (graph_of c) place levels) found table),
+          rw (← number, ← found) table,
           ap (λ r. Levels r) is,
         ),
       )
@@ -89,9 +87,9 @@ module _ (c : Content) (named : NamedFilter) (f : Filter) (found : f ≡ resolve
   pub labels_answer : (labels : List ℕ) (rows : List (List ℕ × List ℕ)) → AreLabels f (graph_of c) labels
       → rows ≡ zip c.names (names_of c.names labels) → IsAnswer (AskLabels named) (graph_of c) (Ok (Labels rows))
   labels_answer labels rows table is =
-      (fine, (labels, subst (λ x. AreLabels x (graph_of c) labels) found table, ap (λ r. Labels r) is))
+      (fine, (labels, rw (← found) table, ap (λ r. Labels r) is))
 
   pub cores_answer : (numbers : List ℕ) (rows : List (List ℕ × ℕ)) → AreCoreNumbers f (graph_of c) numbers
       → rows ≡ zip c.names numbers → IsAnswer (AskCores named) (graph_of c) (Ok (Cores rows))
   cores_answer numbers rows table is =
-      (fine, (numbers, subst (λ x. AreCoreNumbers x (graph_of c) numbers) found table, ap (λ r. Cores r) is))
+      (fine, (numbers, rw (← found) table, ap (λ r. Cores r) is))

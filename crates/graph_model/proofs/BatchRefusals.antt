@@ -2,7 +2,7 @@
 use Rattle.std.proofs.Common.{◌≡◌, ℕ, ◌<◌, ◌≤◌, List, [], ◌∷◌, length, get_or, zero, suc, drop, inl, inr, refl, sym, ap, subst}
 use Rattle.std.proofs.Common.{arith}
 use Rattle.graph_types.specs.{Limits.name_limit, Graph.Graph, Step.after, Step.after_all, declared.batches.NamedOp.NamedOp}
-use Rattle.graph_types.specs.declared.batches.NamedOp.TheVariants.{Insert, Incr, Remove, Expire}
+use Rattle.graph_types.specs.declared.batches.NamedOp.TheVariants.{Insert}
 use Rattle.graph_types.proofs.NameLists.{length-after-names, length-after_all-names, length-after_all-kinds}
 use Rattle.graph_model.specs.{Drafts.names_after, Drafts.names_left, declared.apply.PlainError.PlainError}
 use Rattle.graph_model.specs.Refusals.{Refuses, Exceeds, IsNamesRefusal}
@@ -17,9 +17,7 @@ length-names_left (op ∷ ops) names = omega (arith, length-names_after op names
 
 names_of-after : (op : NamedOp) (g : Graph) → (after op g).names ≡ names_after op g.names
 names_of-after (Insert kind source target weight time) g = refl
-names_of-after (Incr kind source target amount time) g = refl
-names_of-after (Remove kind source target) g = refl
-names_of-after (Expire time) g = refl
+names_of-after _ g = refl
 
 -- what stays of a graph's names doesn't depend on its edges
 names_of-after_all : (ops : List NamedOp) (g : Graph) → (after_all ops g).names ≡ names_left ops g.names

@@ -1,9 +1,9 @@
 -- A table of degrees, one edge after another, and what it is at the end.
 use Rattle.std.proofs.Common.{◌≡◌, ℕ, ◌+◌, ◌<◌, ◌≤◌, Bool, true, false, cond, List, [], ◌∷◌, ◌++◌, length, get_or, take}
-use Rattle.std.proofs.{Common.{replicate, map, pos, ◌+ℤ◌, refl, sym, ap, subst, ◌∙◌, arith}, lemmas.{Int.ints, List.map-append}}
+use Rattle.std.proofs.{Common.{replicate, map, pos, ◌+ℤ◌, refl, sym, ap, ◌∙◌, arith}, lemmas.{Int.ints, List.map-append}}
 use Rattle.std.proofs.lemmas.List.{get_or-replicate, length-replicate, get_or-take, length-take, take_more, take_all}
 use Rattle.std.proofs.lemmas.List.{FromFn.fill_by_all, Elements.{filter-append, All-take}, Sums.{sum_by_push, fold-append}}
-use Rattle.std.specs.Prelude.{filter, fold, All}
+use Rattle.std.specs.Prelude.{filter, fold}
 use Rattle.graph_types.specs.Graph.{graph_of, key_of, entry_of, IsContent, IsEdgeWithin}
 use Rattle.graph_types.specs.{View.in_view, View.leaves, View.enters, Answer.degree_at, Answer.degree_table}
 use Rattle.graph_types.specs.Degrees.{listed_degree, with_edge, IsTally, CountsEdge, IsWithinLimits}
@@ -79,7 +79,7 @@ pub tally_within : (f : Filter) (c : Content) → IsContent c → (edges : List 
     → IsTally f (take k edges) (length c.names) table → (v : ℕ) (d : Degree) → v < length table
     → IsWithinLimits (get_or table v d)
 tally_within f c is edges k table listed tally v d h =
-    let all_once : HasKeysOnce edges = subst HasKeysOnce (sym listed) is.keys_distinct in
+    let all_once : HasKeysOnce edges = rw listed is.keys_distinct in
     let once : HasKeysOnce (take k edges) = λ i j x low high.
     let short = length-take k edges in
     let first = get_or-take k edges i x (omega arith) in
@@ -87,8 +87,8 @@ tally_within f c is edges k table listed tally v d h =
     λ same. all_once i j x low (omega arith) (ap key_of (sym first) ∙ same ∙ ap key_of second)
     in
     let within = All-take (IsEdgeWithin (length c.names) (length c.kinds)) k edges
-    (subst (All (IsEdgeWithin (length c.names) (length c.kinds))) (sym listed) is.edges_within) in
-    subst IsWithinLimits (sym (tally.at v d (omega (arith, tally.size))))
+    (rw listed is.edges_within) in
+    rw (tally.at v d (omega (arith, tally.size)))
     (degree_within f (take k edges) (length c.names) (length c.kinds) v is.names_few is.kinds_few once within)
 
 -- the table after all edges

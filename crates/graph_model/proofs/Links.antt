@@ -1,5 +1,5 @@
 -- Links as lists of neighbors, and the rounds that lower numbers by want of support.
-use Rattle.std.proofs.Common.{◌≡◌, ◌≢◌, ℕ, zero, suc, ◌+◌, ◌<◌, ◌≤◌, arith, refl, sym, ap, ◌∙◌, subst, ◌⊎◌, inl, inr, List, []}
+use Rattle.std.proofs.Common.{◌≡◌, ◌≢◌, ℕ, suc, ◌+◌, ◌<◌, ◌≤◌, arith, refl, sym, ap, ◌∙◌, subst, ◌⊎◌, inl, inr, List, []}
 use Rattle.std.proofs.Common.{◌∷◌, length, get_or, map, cond, true, false, Bool, ◌&&◌, not}
 use Rattle.std.proofs.lemmas.Cmp.{then_total, on_total, nat_cmp_total, tied_itself, and_equiv, on_equiv, nat_eq_equiv}
 use Rattle.std.proofs.lemmas.{Option.slice_get-get_or, List.FromFn.length-range_with_len, List.FromFn.get_or-range_with_len}
@@ -69,9 +69,8 @@ count_ends numbers v (e ∷ links) =
     ] refl
 
 zero_at : (n v : ℕ) → at (replicate n 0) v ≡ 0
-zero_at zero v = refl
-zero_at (suc n) zero = refl
 zero_at (suc n) (suc v) = zero_at n v
+zero_at _ v = refl
 
 -- where all numbers are 0 each neighbor has enough
 all_zero : (n : ℕ) (zeros : List ℕ) → zeros ≡ replicate n 0 → (v : ℕ) (xs : List ℕ)
@@ -180,20 +179,19 @@ module _ (f : Filter) (c : Content) (is : IsContent c) (both kept sorted links :
     (moved : IsPermutation kept sorted) (order : IsSorted pair_cmp sorted) (once : links ≡ dedup pair_eq sorted) where
   from_links : (v w : ℕ) → Contains links (v, w) → Arc (two_way (arcs_of f c.edges)) v w × (is_proper (v, w) ≡ true)
   from_links v w l =
-      let s = Contains-from_dedup pair_eq sorted (v, w) (subst (λ xs. Contains xs (v, w)) once l) in
+      let s = Contains-from_dedup pair_eq sorted (v, w) (rw once at l) in
       let k = Contains-permutation sorted kept (v, w) (IsPermutation-sym kept sorted moved) s in
-      let r = filter_contains is_proper both (v, w) (subst (λ xs. Contains xs (v, w)) proper k) in
-      (subst (λ xs. Contains xs (v, w)) arcs r.0, r.1)
+      let r = filter_contains is_proper both (v, w) (rw proper at k) in (rw arcs at r.0, r.1)
 
   to_links : (v w : ℕ) → Arc (two_way (arcs_of f c.edges)) v w → is_proper (v, w) ≡ true → Contains links (v, w)
   to_links v w a p =
-      let k = contains_filter is_proper both (v, w) p (subst (λ xs. Contains xs (v, w)) (sym arcs) a) in
-      let s = Contains-permutation kept sorted (v, w) moved (subst (λ xs. Contains xs (v, w)) (sym proper) k) in
-      subst (λ xs. Contains xs (v, w)) (sym once) (Contains-dedup pairs_equiv pair_same sorted (v, w) s)
+      let k = contains_filter is_proper both (v, w) p (rw arcs a) in
+      let s = Contains-permutation kept sorted (v, w) moved (rw proper k) in
+      rw once (Contains-dedup pairs_equiv pair_same sorted (v, w) s)
 
-  pub links_made : AreLinks f (graph_of c) links
+  links_made : AreLinks f (graph_of c) links
   links_made = record {
-    apart = subst (AllPairs (λ a b. a ≢ b)) (sym once)
+    apart = rw once
         (sorted_apart (dedup pair_eq sorted) (IsStrictlySortedBy-dedup pairs_total pair_ties sorted order));
     exact = λ v w. (
       (λ l.
@@ -206,9 +204,12 @@ module _ (f : Filter) (c : Content) (is : IsContent c) (both kept sorted links :
     );
   }
 
-  pub links_within : AreWithin (length c.names) links
+  links_within : AreWithin (length c.names) links
   links_within k d h =
       let link = get_or links k d in
       let r = from_links link.0 link.1 (Contains-get_or links k d h) in
       All-contains (λ (e : ℕ × ℕ). (e.0 < length c.names) × (e.1 < length c.names)) (two_way (arcs_of f c.edges)) link
       (two_way_within f c is) r.0
+
+  pub links_done : AreLinks f (graph_of c) links × AreWithin (length c.names) links
+  links_done = (links_made, links_within)

@@ -1,6 +1,6 @@
 -- A change that is applied to plain lists does to the graph that they show what its definition says.
 use Rattle.std.proofs.Common.{◌≡◌, ◌≢◌, ℕ, ◌≤◌, List, [], ◌∷◌, ◌++◌, true, false, cond, not, length, get_or, All, AllPairs}
-use Rattle.std.proofs.Common.{Option, Some, None, option_map, option_to_list, IfSome, refl, sym, ap, subst, ◌∙◌, arith}
+use Rattle.std.proofs.Common.{Option, Some, None, option_map, option_to_list, IfSome, refl, sym, ap, ◌∙◌, arith}
 use Rattle.std.proofs.lemmas.{Bool.false≢true, List.append-nil, List.Kept.AllPairs-filter, List.Quantifiers.all_pairs_push}
 use Rattle.std.proofs.lemmas.List.Elements.{All-head, All-tail, All-filter, All-weaker, All-push, All-get_or, filter_passes}
 use Rattle.std.specs.{List.find, FinMap.get}
@@ -48,7 +48,7 @@ marks_in_range (Some m) range = record { weight = range.weight; first = range.fi
 pub AreMarks-found : (c : Content) (key : Key) (before : Option EdgeMarks) → IsContent c
     → option_stamp before ≡ get (map_of c.edges) key → IfSome before AreMarks
 AreMarks-found c key before content is =
-    marks_in_range before (subst (λ o. IfSome o IsInRange) (sym (is ∙ get-map_of key c.edges))
+    marks_in_range before (rw (is, get-map_of key c.edges)
     (found (length c.names) (length c.kinds) key c.edges content.edges_within))
 
 -- an edge with the key bears the marks that it was made with
@@ -78,7 +78,7 @@ keys_apart : (key : Key) (edges : List Edge) (put : Option Edge) → IfSome put 
     → AllPairs (λ a b. key_of a ≢ key_of b) edges
     → AllPairs (λ a b. key_of a ≢ key_of b) (without key edges ++ option_to_list put)
 keys_apart key edges None at apart =
-    subst (λ es. AllPairs (λ a b. key_of a ≢ key_of b) es) (sym (append-nil (without key edges)))
+    rw (append-nil (without key edges))
     (AllPairs-filter (λ a b. key_of a ≢ key_of b) (λ e. not (has_key key e)) edges apart)
 keys_apart key edges (Some e) at apart =
     all_pairs_push (λ a b. key_of a ≢ key_of b) (without key edges) e
@@ -105,14 +105,13 @@ within_more n m n' m' e names kinds is =
 
 within_at : (n m : ℕ) (key : Key) (e : Edge) → IsNamed n m key → IsAt key e → IsEdgeWithin n m e
 within_at n m key e named at =
-    let is : IsNamed n m (key_of e) = subst (IsNamed n m) (sym at.key_is) named in
+    let is : IsNamed n m (key_of e) = rw at.key_is named in
     record { kind = is.kind; source = is.source; target = is.target; weight = at.weight; first = at.first; recent = at.recent }
 
 all_within : (n m : ℕ) (key : Key) (edges : List Edge) (put : Option Edge) → IfSome put (λ _. IsNamed n m key)
     → IfSome put (IsAt key) → All (IsEdgeWithin n m) edges → All (IsEdgeWithin n m) (without key edges ++ option_to_list put)
 all_within n m key edges None named at within =
-    subst (All (IsEdgeWithin n m)) (sym (append-nil (without key edges)))
-    (All-filter (λ e. not (has_key key e)) (IsEdgeWithin n m) edges within)
+    rw (append-nil (without key edges)) (All-filter (λ e. not (has_key key e)) (IsEdgeWithin n m) edges within)
 all_within n m key edges (Some e) named at within =
     All-push (IsEdgeWithin n m) (without key edges) e (All-filter (λ x. not (has_key key x)) (IsEdgeWithin n m) edges within)
     (within_at n m key e named at)
@@ -131,28 +130,18 @@ pub IsContent-applied : (change : EdgeChange) (kind source target : List ℕ) (o
 IsContent-applied change kind source target old new key put step content names_few kinds_few =
     let n = length new.names in
     let m = length new.kinds in
-    let names_more : length old.names ≤ n = subst (λ xs. length old.names ≤ length xs) (sym step.names)
-    (length-names_made change source target old.names) in
-    let kinds_more : length old.kinds ≤ m = subst (λ xs. length old.kinds ≤ length xs) (sym step.kinds)
-    (length-kinds_made change kind old.kinds) in
-    let named_here : IfSome put (λ _. IsNamed n m key) =
-    subst (λ k. IfSome put (λ _. IsNamed n m k)) (sym step.key_is)
-    (subst (λ xs. IfSome put (λ _. IsNamed (length xs) m (changed_key change kind source target (graph_of old)))) (sym step.names)
-    (subst
-    (λ xs. IfSome put (λ _. IsNamed (length (names_made change source target old.names)) (length xs)
-    (changed_key change kind source target (graph_of old)))) (sym step.kinds)
-    (named_put change kind source target (graph_of old) (get (map_of old.edges) key) put step.stamp))) in
+    let names_more : length old.names ≤ length new.names = rw step.names (length-names_made change source target old.names) in
+    let kinds_more : length old.kinds ≤ length new.kinds = rw step.kinds (length-kinds_made change kind old.kinds) in
+    let named_here : IfSome put (λ _. IsNamed (length new.names) (length new.kinds) key) =
+    rw (step.key_is, step.names, step.kinds)
+    (named_put change kind source target (graph_of old) (get (map_of old.edges) key) put step.stamp) in
     record {
-      names_distinct = subst (AllPairs (λ a b. a ≢ b)) (sym step.names)
-          (AllPairs-names_made change source target old.names content.names_distinct);
-      kinds_distinct = subst (AllPairs (λ a b. a ≢ b)) (sym step.kinds)
-          (AllPairs-kinds_made change kind old.kinds content.kinds_distinct);
+      names_distinct = rw step.names (AllPairs-names_made change source target old.names content.names_distinct);
+      kinds_distinct = rw step.kinds (AllPairs-kinds_made change kind old.kinds content.kinds_distinct);
       names_few = names_few;
       kinds_few = kinds_few;
-      keys_distinct = subst (AllPairs (λ a b. key_of a ≢ key_of b)) (sym step.edges)
-          (keys_apart key old.edges put step.at content.keys_distinct);
-      edges_within =
-          subst (All (IsEdgeWithin n m)) (sym step.edges)
+      keys_distinct = rw step.edges (keys_apart key old.edges put step.at content.keys_distinct);
+      edges_within = rw step.edges
           (all_within n m key old.edges put named_here step.at
           (All-weaker (IsEdgeWithin (length old.names) (length old.kinds)) (IsEdgeWithin n m)
           (λ e. within_more _ _ _ _ e names_more kinds_more) old.edges content.edges_within));
