@@ -2,11 +2,11 @@
 use Rattle.std.proofs.Common.{◌≡◌, ◌≢◌, ℕ, zero, suc, ◌+◌, ◌<◌, ◌≤◌, Bool, true, false, cond, List, [], ◌∷◌, length, get_or, map}
 use Rattle.std.proofs.{Common.{refl, sym, ap, ◌∙◌, arith, inl, inr}, lemmas.Cmp.{then_total, on_total, nat_cmp_total, tied_itself}}
 use Rattle.std.proofs.lemmas.List.{Sums.{sum_by-cons, get_or-le-sum_by}, Sorted.{Contains-permutation, sum_by-IsPermutation}}
-use Rattle.std.proofs.lemmas.{Bool.cases_Bool, List.{Kept.AllPairs-cons, Sorted.IsPermutation-sym}}
+use Rattle.std.proofs.lemmas.{Bool.cases_Bool, List.{Kept.AllPairs-cons, Sorted.IsPermutation-sym}, Grind.common_steps}
 use Rattle.std.specs.{Prelude.{count_by, is_some, AllPairs, All, Contains, IsPermutation}, declared.cmp.Ordering.Ordering}
 use Rattle.std.specs.declared.{cmp.Ordering.TheVariants.Equal, option.Option.{Option, TheVariants.{None, Some}}}
-use Rattle.std.specs.{Ordering.{nat_cmp, ordering_then, is_eq, eq_by_cmp}, Cmp.IsTotalOrder, FinMap.IsAntisymmetric}
-use Rattle.std.specs.FinMap.{nat_cmp-IsAntisymmetric, find, get, len, get-insert, get-from_entries, len-empty, len-insert}
+use Rattle.std.specs.{Ordering.{is_eq, eq_by_cmp}, Cmp.IsTotalOrder, FinMap.IsAntisymmetric}
+use Rattle.std.specs.FinMap.{find, get, len, get-insert, get-from_entries, len-empty, len-insert}
 use Rattle.std.specs.FinMap.{same_map}
 use Rattle.graph_types.specs.{Graph.{Key, Stamp, key_cmp, key_of, stamp_of, entry_of, map_of}, declared.ids.Edge.Edge}
 use Rattle.graph_types.proofs.Counts.{count_yes, count_no}
@@ -16,27 +16,16 @@ keys_total =
     then_total (on_total (λ (k : Key). k.kind) nat_cmp_total)
     (then_total (on_total (λ (k : Key). k.source) nat_cmp_total) (on_total (λ (k : Key). k.target) nat_cmp_total))
 
-both_equal : (a b : Ordering) → ordering_then a b ≡ Equal → (a ≡ Equal) × (b ≡ Equal)
-both_equal Equal b e = (refl, e)
-both_equal _ b e = cc
-
 -- only equal keys tie
 pub exact_keys : IsAntisymmetric key_cmp
-exact_keys x y e =
-    let kinds = both_equal (nat_cmp x.kind y.kind) _ e in
-    let ends = both_equal (nat_cmp x.source y.source) _ kinds.1 in
-    let kind = nat_cmp-IsAntisymmetric x.kind y.kind kinds.0 in
-    let source = nat_cmp-IsAntisymmetric x.source y.source ends.0 in
-    let target = nat_cmp-IsAntisymmetric x.target y.target ends.1 in
-    λ i. record { kind = kind i; source = source i; target = target i }
+exact_keys x y e = grind (arith, common_steps)
 
 -- whether an edge's key ties with this one in the order of keys, as a map looks it up; EdgeLookup shows that it then has the key
 abbrev pub is_key_of : Key → Edge → Bool
 is_key_of key e = eq_by_cmp key_cmp key (key_of e)
 
 tied_equal : (o : Ordering) → is_eq o ≡ true → o ≡ Equal
-tied_equal Equal e = refl
-tied_equal _ e = cc
+tied_equal h0 e = grind (arith, common_steps)
 
 pub is_key_of-true : (key : Key) (e : Edge) → is_key_of key e ≡ true → key ≡ key_of e
 is_key_of-true key e t = exact_keys key (key_of e) (tied_equal _ t)
@@ -45,8 +34,7 @@ pub is_key_of_at : (key : Key) (e : Edge) → key ≡ key_of e → is_key_of key
 is_key_of_at key e same = ap (λ k. eq_by_cmp key_cmp key k) (sym same) ∙ ap is_eq (tied_itself keys_total key)
 
 pub is_key_of-false : (key : Key) (e : Edge) → key ≢ key_of e → is_key_of key e ≡ false
-is_key_of-false key e apart = elim (is_key_of key e) as (λ b. is_key_of key e ≡ b
-    → is_key_of key e ≡ false) [ true ↦ λ t. absurd (apart (is_key_of-true key e t)) | false ↦ λ t. t ] refl
+is_key_of-false key e apart = grind (arith, common_steps)
 
 -- each key stands once
 abbrev pub HasKeysOnce : List Edge → Type 0

@@ -1,8 +1,8 @@
 -- A name's place in a list, and whether it is listed.
-use Rattle.std.proofs.Common.{◌≡◌, ℕ, suc, ◌+◌, ◌<◌, ◌≤◌, true, false, cond, not, ltb, List, [], ◌∷◌, length, Option, Some, None}
-use Rattle.std.proofs.{Common.{refl, sym, subst, ◌∙◌, arith}, lemmas.Bool.ltb-false}
-use Rattle.std.specs.{Prelude.bytes_eq, Prelude.position, Prelude.is_some, Prelude.IfSome, List.list_any, List.position_or_len}
-use Rattle.graph_types.{specs.{Answer.is_listed, Step.number_of}, proofs.NameLists.{any_before_end, number_of-lt}}
+use Rattle.std.proofs.Common.{◌≡◌, ℕ, suc, ◌+◌, ◌<◌, ◌≤◌, true, false, cond, not, List, [], ◌∷◌, length, Option, Some, None}
+use Rattle.std.proofs.{Common.{sym, ◌∙◌, arith}, lemmas.Bool.ltb-false, lemmas.Grind.common_steps}
+use Rattle.std.specs.{Prelude.bytes_eq, Prelude.position, Prelude.is_some, Prelude.IfSome}
+use Rattle.graph_types.{specs.{Answer.is_listed, Step.number_of}, proofs.NameLists.any_before_end}
 
 -- what the first place that fits says
 pub record IsPlace (names : List (List ℕ)) (name : List ℕ) (place : Option ℕ) : Type 0 where
@@ -11,14 +11,7 @@ pub record IsPlace (names : List (List ℕ)) (name : List ℕ) (place : Option �
 
 pub place_is : (names : List (List ℕ)) (name : List ℕ) (place : Option ℕ) → place ≡ position (bytes_eq name) names
     → IsPlace names name place
-place_is names name place is =
-    let p = bytes_eq name in
-    subst (IsPlace names name) (sym is) (
-    elim (ltb (position_or_len p names) (length names)) as (λ b. list_any p names ≡ b
-    → IsPlace names name (cond b (Some (position_or_len p names)) None)) [
-      | true ↦ λ t. record { listed = sym t; number = refl }
-      | false ↦ λ t. record { listed = sym t; number = tt }
-    ] (any_before_end p names))
+place_is names name place is = grind (arith, common_steps, any_before_end)
 
 pub place_none : (names : List (List ℕ)) (name : List ℕ) → None ≡ position (bytes_eq name) names → is_listed names name ≡ false
 place_none names name is = sym (place_is names name None is).listed
@@ -33,8 +26,7 @@ place_number names name place is = (place_is names name (Some place) is).number
 
 pub place_within : (names : List (List ℕ)) (name : List ℕ) (place : ℕ) → Some place ≡ position (bytes_eq name) names
     → place < length names
-place_within names name place is = subst (λ k. k < length names) (sym (place_number names name place is))
-    (number_of-lt names name (place_some names name place is))
+place_within names name place is = grind (arith, common_steps)
 
 pub number_at_most : (names : List (List ℕ)) (name : List ℕ) → number_of names name ≤ length names
 number_at_most [] name = omega arith

@@ -1,6 +1,7 @@
 -- Over a graph a request has one answer, and over that of a content it has one.
-use Rattle.std.proofs.Common.{◌≡◌, Some, None, Bool, true, not, refl, sym, ap, ◌∙◌}
+use Rattle.std.proofs.Common.{◌≡◌, Some, None, Bool, true, not, refl, sym, ap, ◌∙◌, arith}
 use Rattle.std.specs.{Prelude.Result, Prelude.Ok, Prelude.Err, Prelude.zip, Prelude.nat_lt, Option.option_map, FinMap.get}
+use Rattle.std.proofs.lemmas.Grind.{common_steps}
 use Rattle.graph_types.specs.{Graph.{Graph, graph_of, IsContent}, Step.{key_in, number_of}, Answer.{IsAnswer, IsReply, refusal}}
 use Rattle.graph_types.specs.Answer.{first_refusal, resolved, degree_table, shown, reached, names_of, is_listed, is_kind_listed}
 use Rattle.graph_types.specs.declared.{contents.Content.Content, requests.Request.{Request, TheVariants.Levels as AskLevels}}
@@ -23,14 +24,10 @@ one_reply (AskOneEdge kind source target) g x y a b = a ∙ sym b
 
 pub one_answer : (request : Request) (g : Graph) (x y : Result Reply AskError) → IsAnswer request g x → IsAnswer request g y
     → x ≡ y
-one_answer request g (Ok x) (Ok y) a b = ap (λ reply. Ok reply) (one_reply request g x y a.1 b.1)
-one_answer request g (Ok x) (Err y) a b = cc (a.0, b)
-one_answer request g (Err x) (Ok y) a b = cc (a, b.0)
-one_answer request g (Err x) (Err y) a b = cc
+one_answer request g h2 h3 a b = grind (arith, common_steps, one_reply)
 
 vertex_listed : (window kind vertex : Bool) → first_refusal window kind vertex ≡ None → vertex ≡ true
-vertex_listed true true true none = refl
-vertex_listed _ kind vertex none = cc
+vertex_listed h0 kind vertex none = grind (arith, common_steps)
 
 pub some_reply : (request : Request) (c : Content) → IsContent c → refusal request (graph_of c) ≡ None
     → (reply : Reply) × IsReply request (graph_of c) reply

@@ -1,6 +1,6 @@
 -- At most one table of levels, of labels and of core numbers.
-use Rattle.std.proofs.Common.{◌≡◌, ℕ, List, length, get_or, Option, Some, None, refl, sym, ap, ◌∙◌, arith}
-use Rattle.std.proofs.lemmas.{Option.slice_get-get_or, List.same_lists}
+use Rattle.std.proofs.Common.{◌≡◌, ℕ, List, length, get_or, Option, sym, ◌∙◌, arith}
+use Rattle.std.proofs.lemmas.{Option.slice_get-get_or, List.same_lists, Grind.common_steps}
 use Rattle.graph_types.specs.{Graph.Graph, Analyses.IsLevel, Analyses.IsLabel, Analyses.IsCoreNumber, Analyses.IsTable}
 use Rattle.graph_types.specs.{Tables.HaveOneTable, declared.ids.Filter.Filter}
 
@@ -12,10 +12,7 @@ same_table Is one n a b p q = same_lists a b (p.one_each ∙ sym q.one_each) (λ
     (q.each k (get_or b k d) (slice_get-get_or b k d (omega (arith, p.one_each, q.one_each)))))
 
 one_level : (f : Filter) (g : Graph) (source v : ℕ) (x y : Option ℕ) → IsLevel f g source v x → IsLevel f g source v y → x ≡ y
-one_level f g source v None None p q = refl
-one_level f g source v None (Some k) p q = absurd (p k q.0)
-one_level f g source v (Some k) None p q = absurd (q k p.0)
-one_level f g source v (Some j) (Some k) p q = let e : j ≡ k = omega (arith, p.1 k q.0, q.1 j p.0) in ap (λ i. Some i) e
+one_level f g source v h4 h5 p q = grind (arith, common_steps)
 
 one_label : (f : Filter) (g : Graph) (v x y : ℕ) → IsLabel f g v x → IsLabel f g v y → x ≡ y
 one_label f g v x y p q = omega (arith, p.1 y q.0, q.1 x p.0)
