@@ -1,10 +1,10 @@
 -- Rounds that lower numbers, one step after another.
 use Rattle.std.proofs.Common.{◌≡◌, ℕ, suc, ◌+◌, ◌-◌, ◌<◌, ◌≤◌, arith, refl, sym, ap, ◌∙◌, subst, ◌⊎◌, inl, inr, List, [], length}
-use Rattle.std.proofs.{Common.{get_or, set, take, cond, true, false, Bool, ◌&&◌}, lemmas.Bool.{cases_eq, eqb-true}}
-use Rattle.std.proofs.lemmas.{Bool.Decides.{nat_tests, Decides-eqb}, List.{get_or-set_same, get_or-set_other, length-set}}
-use Rattle.std.proofs.lemmas.List.{take_more, take_all, length-take, Sums.{sum_by_push, count_by-le-length}, Elements.All-set}
+use Rattle.std.proofs.{Common.{get_or, set, take, true, false, Bool, ◌&&◌}, lemmas.Bool.cases_eq, Math.Bool.and-false}
+use Rattle.std.proofs.lemmas.{Bool.Decides.{nat_tests, eqb_tells}, List.{get_or-set_same, get_or-set_other, length-set}}
+use Rattle.std.proofs.lemmas.List.{take_all, length-take, Sums.{count_by_more_yes, count_by_more_no, count_by-le-length}, Elements.All-set}
 use Rattle.std.proofs.lemmas.List.Elements.{All-nil, All-more, Contains-get_or}
-use Rattle.std.specs.Prelude.{All, sum, count_by, ◌==◌, nat_le}
+use Rattle.std.specs.{Prelude.{All, sum, count_by, ◌==◌, nat_le}, Cmp.Derive.both_true}
 use Rattle.graph_types.{specs.Arcs.{AreWithin, at, IsLowered, IsClosed}, proofs.Settling.{lowered_more, sum_falls}}
 use Rattle.graph_model.specs.Links.{supports}
 
@@ -139,16 +139,6 @@ pub record IsCount (links : List (ℕ × ℕ)) (numbers counts : List ℕ) (i : 
   pub size : length counts ≡ length numbers
   pub each : (v : ℕ) → at counts v ≡ count_by (supports numbers v) (take i links)
 
-count_more : (numbers : List ℕ) (v : ℕ) (links : List (ℕ × ℕ)) (i : ℕ) (x : ℕ × ℕ) → i < length links
-    → count_by (supports numbers v) (take (i + 1) links) ≡ count_by (supports numbers v) (take i links)
-    + cond (supports numbers v (get_or links i x)) 1 0
-count_more numbers v links i x h =
-    ap (count_by (supports numbers v)) (take_more links i x h)
-    ∙ sum_by_push (λ link. cond (supports numbers v link) 1 0) (take i links) (get_or links i x)
-
-one_where : (a b v : ℕ) (t : Bool) → cond {A = ℕ} ((a == v) && t) 1 0 ≡ cond (a == v) (cond t 1 0) 0
-one_where a b v t = elim (a == v) as (λ s. cond {A = ℕ} (s && t) 1 0 ≡ cond s (cond t 1 0) 0) [ true ↦ refl | false ↦ refl ]
-
 pub count_kept : (links : List (ℕ × ℕ)) (numbers counts : List ℕ) (i : ℕ) (x : ℕ × ℕ) → IsCount links numbers counts i
     → i < length links
     → at numbers (get_or links i x).1 < at numbers (get_or links i x).0 → IsCount links numbers counts (i + 1)
@@ -157,14 +147,8 @@ count_kept links numbers counts i x r h less =
     let off : nat_le (at numbers link.0) (at numbers link.1) ≡ false = grind (arith, nat_tests) in
     record {
       size = r.size;
-      each = λ v.
-          let more = count_more numbers v links i x h in
-          let none : cond {A = ℕ} (supports numbers v link) 1 0 ≡ 0 =
-          one_where link.0 link.1 v (nat_le (at numbers link.0) (at numbers link.1))
-          ∙ ap (λ t. cond {A = ℕ} (link.0 == v) (cond t 1 0) 0) off ∙
-          elim (link.0 == v) as (λ s. cond {A = ℕ} s 0 0 ≡ 0) [ true ↦ refl | false ↦ refl ] in
-          let e = r.each v in
-          omega arith;
+      each = λ v. r.each v ∙ sym (count_by_more_no (supports numbers v) links i x h
+          (ap (λ t. (link.0 == v) && t) off ∙ and-false (link.0 == v)));
     }
 
 pub count_counted : (links : List (ℕ × ℕ)) (numbers counts : List ℕ) (i : ℕ) (x : ℕ × ℕ) → AreWithin (length numbers) links
@@ -173,35 +157,20 @@ pub count_counted : (links : List (ℕ × ℕ)) (numbers counts : List ℕ) (i :
     → IsCount links numbers (set counts (get_or links i x).0 (at counts (get_or links i x).0 + 1)) (i + 1)
 count_counted links numbers counts i x within r h le =
     let link = get_or links i x in
-    let on : nat_le (at numbers link.0) (at numbers link.1) ≡ true = grind (arith, nat_tests) in
     let long = r.size in
     let inside : link.0 < length counts = (let w = (within i x h).0 in omega arith) in
+    let on : nat_le (at numbers link.0) (at numbers link.1) ≡ true = grind (arith, nat_tests) in
     record {
       size = length-set counts link.0 (at counts link.0 + 1) ∙ r.size;
-      each = λ v.
-          let more = count_more numbers v links i x h in
-          let some : cond {A = ℕ} (supports numbers v link) 1 0 ≡ cond (link.0 == v) 1 0 =
-          one_where link.0 link.1 v (nat_le (at numbers link.0) (at numbers link.1))
-          ∙ ap (λ t. cond {A = ℕ} (link.0 == v) (cond t 1 0) 0) on in
-          let e = r.each v in
-          elim (cases_eq v link.0) [
-            | inl same ↦
-                let yes : cond {A = ℕ} (link.0 == v) 1 0 ≡ 1 =
-                ap (λ s. cond {A = ℕ} s 1 0) ((Decides-eqb link.0 v).1 (sym same)) in
-                let new : at (set counts link.0 (at counts link.0 + 1)) v ≡ at counts link.0 + 1 =
-                ap (at (set counts link.0 (at counts link.0 + 1))) same
-                ∙ get_or-set_same counts link.0 (at counts link.0 + 1) 0 inside in
-                let old : at counts v ≡ at counts link.0 = ap (at counts) same in
-                omega arith
-            | inr ne ↦
-                let no : cond {A = ℕ} (link.0 == v) 1 0 ≡ 0 =
-                elim (link.0 == v) as (λ s. (link.0 == v) ≡ s → cond {A = ℕ} s 1 0 ≡ 0) [
-                  | true ↦ λ t. absurd (ne (sym (eqb-true link.0 v t)))
-                  | false ↦ λ t. refl
-                ] refl in
-                let new = get_or-set_other counts link.0 v (at counts link.0 + 1) 0 ne in
-                omega arith
-          ];
+      each = λ v. elim (eqb_tells link.0 v) [
+        | inl here ↦
+            rw here.1 (get_or-set_same counts v (at counts v + 1) 0 (omega (arith, here.1, inside)) ∙ ap (λ n. n + 1) (r.each v)
+            ∙ sym (count_by_more_yes (supports numbers v) links i x h (both_true here.0 on)))
+        | inr off ↦
+            get_or-set_other counts link.0 v (at counts link.0 + 1) 0 (λ e. off.1 (sym e)) ∙ r.each v
+            ∙ sym (count_by_more_no (supports numbers v) links i x h
+            (ap (λ s. s && nat_le (at numbers link.0) (at numbers link.1)) off.0))
+      ];
     }
 
 pub count_room : (links : List (ℕ × ℕ)) (numbers counts : List ℕ) (i v : ℕ) → IsCount links numbers counts i → at counts v ≤ i
