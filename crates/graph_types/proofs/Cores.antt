@@ -130,13 +130,9 @@ module _ (f : Filter) (g : Graph) (n : ℕ) (neighbors : ℕ → List ℕ) (are 
     | inr ne ↦ inl (get_or-set_other numbers v w less 0 ne)
   ])
 
-  settle_from : (m : ℕ) (numbers : List ℕ) → sum numbers ≤ m → length numbers ≡ n → AreUpper f g n numbers
+  settle_from : (m : ℕ) (numbers : List ℕ) → sum numbers < m → length numbers ≡ n → AreUpper f g n numbers
       → (r : List ℕ) × IsTable n (IsCoreNumber f g) r
-  settle_from zero numbers few long upper = elim (look numbers n) [
-    | inl enough ↦ (numbers, settled_cores numbers long upper enough)
-    | inr r ↦ let h = r.1 in let falls = r.2 in let s =
-        sum_falls numbers r.0 0 (omega arith) (omega arith) in absurd (omega arith)
-  ]
+  settle_from zero numbers few long upper = absurd (omega arith)
   settle_from (suc m) numbers few long upper = elim (look numbers n) [
     | inl enough ↦ (numbers, settled_cores numbers long upper enough)
     | inr r ↦
@@ -156,7 +152,7 @@ module _ (f : Filter) (g : Graph) (n : ℕ) (neighbors : ℕ → List ℕ) (are 
   some_cores : (r : List ℕ) × IsTable n (IsCoreNumber f g) r
   some_cores =
       let first = map (λ v. length (neighbors v)) (range_with_len 0 n) in
-      settle_from (sum first) first (omega arith) (length-map-range_with_len (λ v. length (neighbors v)) 0 n)
+      settle_from (suc (sum first)) first (omega arith) (length-map-range_with_len (λ v. length (neighbors v)) 0 n)
       (upper_first first (λ v h. get_or-map-range_with_len (λ v. length (neighbors v)) 0 n v v 0 h (omega arith)))
 
 -- The neighbors by a list of arcs both ways: the vertices below n to which one leads, but v itself.
