@@ -3,14 +3,14 @@ use Rattle.std.proofs.Common.{◌≡◌, ◌≢◌, ℕ, suc, ◌+◌, ◌<◌, 
 use Rattle.std.proofs.Common.{◌∷◌, length, get_or, map, cond, true, false, Bool, ◌&&◌, not}
 use Rattle.std.proofs.lemmas.Cmp.{then_total, on_total, nat_cmp_total, tied_itself, and_equiv, on_equiv, nat_eq_equiv}
 use Rattle.std.proofs.lemmas.{Option.slice_get-get_or, List.FromFn.length-range_with_len, List.FromFn.get_or-range_with_len}
-use Rattle.std.proofs.lemmas.Bool.{cases_Bool, eqb-true, and_parts, Decides.nat_tests, Decides.Decides-eqb}
+use Rattle.std.proofs.lemmas.Bool.{cases_Bool, eqb-true, Decides.nat_tests, Decides.Decides-eqb}
 use Rattle.std.proofs.lemmas.List.{get_or_default, Sorted.Contains-permutation, Sorted.IsPermutation-sym}
 use Rattle.std.proofs.lemmas.List.Elements.{All-contains, All-weaker, All-from_recursion, Contains-get_or}
 use Rattle.std.proofs.lemmas.List.Kept.{AllPairs-cons, IsStrictlySortedBy-dedup, Contains-dedup, Contains-from_dedup}
 use Rattle.std.specs.{Prelude.{All, AllPairs, ◌==◌, nat_le, count_by, filter, replicate, IsPermutation, IsTrue}, List.Contains}
 use Rattle.std.specs.{List.{range_with_len, dedup, Sorted.{IsSorted, IsStrictlySortedBy}}, Cmp.{IsTotalOrder, IsEquivalence}}
 use Rattle.std.specs.{Ordering.{nat_cmp, ordering_then, is_eq, eq_by_cmp}, declared.cmp.Ordering.{Ordering, TheVariants.Less}}
-use Rattle.std.specs.declared.cmp.Ordering.TheVariants.{Equal, Greater}
+use Rattle.std.proofs.lemmas.Grind.{common_steps}
 use Rattle.graph_types.specs.{Graph.{Graph, graph_of, IsContent}, Analyses.{Joins, IsCoreNumber, IsTable}, Arcs.{Arc, arcs_of}}
 use Rattle.graph_types.specs.{Arcs.{two_way, AreWithin, at, AreNeighbors, support, AreUpper}, declared.contents.Content.Content}
 use Rattle.graph_types.{specs.declared.ids.Filter.Filter, proofs.Counts.{apart_tail, apart_head, count_yes, count_no, sub_length}}
@@ -69,8 +69,7 @@ count_ends numbers v (e ∷ links) =
     ] refl
 
 zero_at : (n v : ℕ) → at (replicate n 0) v ≡ 0
-zero_at (suc n) (suc v) = zero_at n v
-zero_at _ v = refl
+zero_at h0 v = grind (arith, common_steps)
 
 -- where all numbers are 0 each neighbor has enough
 all_zero : (n : ℕ) (zeros : List ℕ) → zeros ≡ replicate n 0 → (v : ℕ) (xs : List ℕ)
@@ -142,9 +141,7 @@ pairs_total : IsTotalOrder pair_cmp
 pairs_total = then_total (on_total (λ (p : ℕ × ℕ). p.0) nat_cmp_total) (on_total (λ (p : ℕ × ℕ). p.1) nat_cmp_total)
 
 both_tied : (s t : Bool) (a b : Ordering) → s ≡ is_eq a → t ≡ is_eq b → (s && t) ≡ is_eq (ordering_then a b)
-both_tied s t Less b p q = ap (λ x. x && t) p
-both_tied s t Equal b p q = ap (λ x. x && t) p ∙ q
-both_tied s t Greater b p q = ap (λ x. x && t) p
+both_tied s t h2 b p q = grind (arith, common_steps)
 
 nat_ties : (x y : ℕ) → (x == y) ≡ is_eq (nat_cmp x y)
 nat_ties x y = grind (arith, nat_tests)
@@ -156,11 +153,7 @@ pairs_equiv : IsEquivalence pair_eq
 pairs_equiv = and_equiv (on_equiv (λ (p : ℕ × ℕ). p.0) nat_eq_equiv) (on_equiv (λ (p : ℕ × ℕ). p.1) nat_eq_equiv)
 
 pair_same : (a b : ℕ × ℕ) → pair_eq a b ≡ true → a ≡ b
-pair_same a b t =
-    let (one, two) = and_parts (a.0 == b.0) (a.1 == b.1) t in
-    let p = eqb-true a.0 b.0 one in
-    let q = eqb-true a.1 b.1 two in
-    λ i. (p i, q i)
+pair_same a b t = grind (arith, common_steps)
 
 sorted_apart : (xs : List (ℕ × ℕ)) → IsStrictlySortedBy pair_cmp xs → AllPairs (λ a b. a ≢ b) xs
 unfolding IsStrictlySortedBy

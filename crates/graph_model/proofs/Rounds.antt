@@ -1,10 +1,10 @@
 -- Rounds that lower numbers, one step after another.
-use Rattle.std.proofs.Common.{◌≡◌, ℕ, suc, ◌+◌, ◌-◌, ◌<◌, ◌≤◌, arith, refl, sym, ap, ◌∙◌, subst, ◌⊎◌, inl, inr, List, [], length}
-use Rattle.std.proofs.{Common.{get_or, set, take, true, false, Bool, ◌&&◌}, lemmas.Bool.cases_eq, Math.Bool.and-false}
-use Rattle.std.proofs.lemmas.{Bool.Decides.{nat_tests, eqb_tells}, List.{get_or-set_same, get_or-set_other, length-set}}
-use Rattle.std.proofs.lemmas.List.{take_all, length-take, Sums.{count_by_more_yes, count_by_more_no, count_by-le-length}, Elements.All-set}
-use Rattle.std.proofs.lemmas.List.Elements.{All-nil, All-more, Contains-get_or}
-use Rattle.std.specs.{Prelude.{All, sum, count_by, ◌==◌, nat_le}, Cmp.Derive.both_true}
+use Rattle.std.proofs.Common.{◌≡◌, ℕ, suc, ◌+◌, ◌-◌, ◌<◌, ◌≤◌, arith, refl, sym, ap, ◌∙◌, subst, ◌⊎◌, List, [], length}
+use Rattle.std.proofs.Common.{get_or, set, take, true, false, Bool}
+use Rattle.std.proofs.lemmas.List.{length-set}
+use Rattle.std.proofs.lemmas.List.{take_all, Elements.All-set}
+use Rattle.std.proofs.lemmas.{List.Elements.{All-more, Contains-get_or}, Grind.common_steps}
+use Rattle.std.specs.Prelude.{All, sum, count_by}
 use Rattle.graph_types.{specs.Arcs.{AreWithin, at, IsLowered, IsClosed}, proofs.Settling.{lowered_more, sum_falls}}
 use Rattle.graph_model.specs.Links.{supports}
 
@@ -18,13 +18,7 @@ pub record IsArcRound (arcs : List (ℕ × ℕ)) (step : ℕ) (old numbers : Lis
 
 pub arc_round_start : (arcs : List (ℕ × ℕ)) (step : ℕ) (old : List ℕ) → All (λ number. number ≤ 65536) old
     → IsArcRound arcs step old old false 0
-arc_round_start arcs step old few = record {
-  size = refl;
-  few = few;
-  keeps = λ first l. l;
-  falls = λ e. cc;
-  stays = λ e. (refl, All-nil (λ arc. at old arc.1 ≤ at old arc.0 + step));
-}
+arc_round_start arcs step old few = grind (arith, common_steps)
 
 pub arc_round_kept : (arcs : List (ℕ × ℕ)) (step : ℕ) (old numbers : List ℕ) (lowered : Bool) (i : ℕ) (x : ℕ × ℕ)
     → IsArcRound arcs step old numbers lowered i → i < length arcs
@@ -82,57 +76,16 @@ pub record IsRound (old support numbers : List ℕ) (lowered : Bool) (i : ℕ) :
   pub stays : lowered ≡ false → (numbers ≡ old) × ((v : ℕ) → v < i → at old v ≤ at support v)
 
 pub round_start : (old support : List ℕ) → IsRound old support old false 0
-round_start old support = record {
-  size = refl;
-  each = λ v. inl refl;
-  later = λ v h. refl;
-  falls = λ e. cc;
-  stays = λ e. (refl, λ v h. absurd (omega arith));
-}
+round_start old support = grind (arith, common_steps)
 
 pub round_kept : (old support numbers : List ℕ) (lowered : Bool) (i : ℕ) → IsRound old support numbers lowered i
     → at numbers i ≤ at support i → IsRound old support numbers lowered (i + 1)
-round_kept old support numbers lowered i r le = record {
-  size = r.size;
-  each = r.each;
-  later = λ v h. r.later v (omega arith);
-  falls = r.falls;
-  stays = λ e.
-      let s = r.stays e in (
-        s.0,
-        λ v h. elim (cases_eq v i) [
-          | inl same ↦ subst (λ x. at old x ≤ at support x) (sym same) (let l = r.later i (omega arith) in omega arith)
-          | inr ne ↦ s.1 v (omega arith)
-        ],
-      );
-}
+round_kept old support numbers lowered i r le = grind (arith, common_steps)
 
 pub round_lowered : (old support numbers : List ℕ) (lowered : Bool) (i : ℕ) → IsRound old support numbers lowered i
     → i < length numbers → at support i < at numbers i
     → IsRound old support (set numbers i (at numbers i - 1)) true (i + 1)
-round_lowered old support numbers lowered i r h less =
-    let here = r.later i (omega arith) in
-    let new : at (set numbers i (at numbers i - 1)) i ≡ at numbers i - 1 = get_or-set_same numbers i (at numbers i - 1) 0 h in
-    let more = sum_falls numbers i (at numbers i - 1) h (omega arith) in
-    record {
-      size = length-set numbers i (at numbers i - 1) ∙ r.size;
-      each = λ v. elim (cases_eq v i) [
-        | inl e ↦
-            inr (subst (λ x. (suc (at (set numbers i (at numbers i - 1)) x) ≡ at old x) × (at support x < at old x)) (sym e)
-            (omega arith, omega arith))
-        | inr ne ↦ elim (r.each v) [
-          | inl same ↦ inl (get_or-set_other numbers i v (at numbers i - 1) 0 ne ∙ same)
-          | inr less ↦ let o = get_or-set_other numbers i v (at numbers i - 1) 0 ne in let l = less.0 in inr (omega arith, less.1)
-        ]
-      ];
-      later = λ v h. let o = get_or-set_other numbers i v (at numbers i - 1) 0 (λ e. absurd (omega arith)) in let l =
-          r.later v (omega arith) in omega arith;
-      falls = λ _. elim lowered as (λ b. lowered ≡ b → sum (set numbers i (at numbers i - 1)) < sum old) [
-        | true ↦ λ e. let f = r.falls e in omega arith
-        | false ↦ λ e. let s = ap sum (r.stays e).0 in omega arith
-      ] refl;
-      stays = λ e. cc;
-    }
+round_lowered old support numbers lowered i r h less = grind (arith, common_steps)
 
 -- a count of links, so far
 pub record IsCount (links : List (ℕ × ℕ)) (numbers counts : List ℕ) (i : ℕ) : Type 0 where
@@ -142,40 +95,13 @@ pub record IsCount (links : List (ℕ × ℕ)) (numbers counts : List ℕ) (i : 
 pub count_kept : (links : List (ℕ × ℕ)) (numbers counts : List ℕ) (i : ℕ) (x : ℕ × ℕ) → IsCount links numbers counts i
     → i < length links
     → at numbers (get_or links i x).1 < at numbers (get_or links i x).0 → IsCount links numbers counts (i + 1)
-count_kept links numbers counts i x r h less =
-    let link = get_or links i x in
-    let off : nat_le (at numbers link.0) (at numbers link.1) ≡ false = grind (arith, nat_tests) in
-    record {
-      size = r.size;
-      each = λ v. r.each v ∙ sym (count_by_more_no (supports numbers v) links i x h
-          (ap (λ t. (link.0 == v) && t) off ∙ and-false (link.0 == v)));
-    }
+count_kept links numbers counts i x r h less = grind (arith, common_steps)
 
 pub count_counted : (links : List (ℕ × ℕ)) (numbers counts : List ℕ) (i : ℕ) (x : ℕ × ℕ) → AreWithin (length numbers) links
     → IsCount links numbers counts i → i < length links
     → at numbers (get_or links i x).0 ≤ at numbers (get_or links i x).1
     → IsCount links numbers (set counts (get_or links i x).0 (at counts (get_or links i x).0 + 1)) (i + 1)
-count_counted links numbers counts i x within r h le =
-    let link = get_or links i x in
-    let long = r.size in
-    let inside : link.0 < length counts = (let w = (within i x h).0 in omega arith) in
-    let on : nat_le (at numbers link.0) (at numbers link.1) ≡ true = grind (arith, nat_tests) in
-    record {
-      size = length-set counts link.0 (at counts link.0 + 1) ∙ r.size;
-      each = λ v. elim (eqb_tells link.0 v) [
-        | inl here ↦
-            rw here.1 (get_or-set_same counts v (at counts v + 1) 0 (omega (arith, here.1, inside)) ∙ ap (λ n. n + 1) (r.each v)
-            ∙ sym (count_by_more_yes (supports numbers v) links i x h (both_true here.0 on)))
-        | inr off ↦
-            get_or-set_other counts link.0 v (at counts link.0 + 1) 0 (λ e. off.1 (sym e)) ∙ r.each v
-            ∙ sym (count_by_more_no (supports numbers v) links i x h
-            (ap (λ s. s && nat_le (at numbers link.0) (at numbers link.1)) off.0))
-      ];
-    }
+count_counted links numbers counts i x within r h le = grind (arith, common_steps)
 
 pub count_room : (links : List (ℕ × ℕ)) (numbers counts : List ℕ) (i v : ℕ) → IsCount links numbers counts i → at counts v ≤ i
-count_room links numbers counts i v r =
-    let few = count_by-le-length (supports numbers v) (take i links) in
-    let short = length-take i links in
-    let e = r.each v in
-    omega arith
+count_room links numbers counts i v r = grind (arith, common_steps)

@@ -1,7 +1,8 @@
 -- Levels and labels of a content, once its numbers are settled.
 use Rattle.std.proofs.Common.{◌≡◌, ℕ, ◌<◌, ◌≤◌, arith, List, length, map}
-use Rattle.std.proofs.lemmas.List.{Elements.All-replicate, FromFn.length-range_with_len, FromFn.get_or-range_with_len}
-use Rattle.std.{specs.Prelude.All, specs.Prelude.replicate, specs.List.range_with_len, proofs.lemmas.List.Elements.All-set}
+use Rattle.std.proofs.lemmas.List.{FromFn.length-range_with_len, FromFn.get_or-range_with_len}
+use Rattle.std.{specs.Prelude.All, specs.List.range_with_len}
+use Rattle.std.proofs.lemmas.Grind.{common_steps}
 use Rattle.graph_types.specs.{Graph.{graph_of, IsContent}, Analyses.{AreLevels, AreLabels}, Arcs.{arcs_of, two_way, AreWithin}}
 use Rattle.graph_types.specs.{Arcs.{IsLowered, IsClosed, level_start, level_of}, declared.contents.Content.Content}
 use Rattle.graph_types.{specs.declared.ids.Filter.Filter, proofs.Arcs.{arc_leads, leads_arc, arcs_within, arc_joins, joins_arc}}
@@ -14,9 +15,7 @@ module _ (f : Filter) (c : Content) (is : IsContent c) where
 
   pub levels_few : (source : ℕ) (first : List ℕ) → first ≡ level_start (length c.names) source
       → All (λ number. number ≤ 65536) first
-  levels_few source first start = rw start
-      (All-set (λ number. number ≤ 65536) (replicate (length c.names) (length c.names)) source 0 (omega arith)
-      (All-replicate (λ number. number ≤ 65536) (length c.names) (length c.names) is.names_few))
+  levels_few source first start = grind (arith, common_steps)
 
   pub levels_done : (source : ℕ) (arcs : List (ℕ × ℕ)) (first numbers : List ℕ) → source < length c.names
       → arcs ≡ arcs_of f c.edges → first ≡ level_start (length c.names) source
@@ -32,11 +31,7 @@ module _ (f : Filter) (c : Content) (is : IsContent c) where
   labels_within arcs first same start = rw (start, length-range_with_len 0 (length c.names), same) (two_way_within f c is)
 
   pub labels_few : (first : List ℕ) → first ≡ range_with_len 0 (length c.names) → All (λ number. number ≤ 65536) first
-  labels_few first start = rw start (λ k d h.
-      let long = length-range_with_len 0 (length c.names) in
-      let e = get_or-range_with_len 0 (length c.names) k d (omega arith) in
-      let few = is.names_few in
-      omega arith)
+  labels_few first start = grind (arith, common_steps, length-range_with_len, get_or-range_with_len)
 
   pub labels_done : (arcs : List (ℕ × ℕ)) (first numbers : List ℕ) → arcs ≡ two_way (arcs_of f c.edges)
       → first ≡ range_with_len 0 (length c.names)
