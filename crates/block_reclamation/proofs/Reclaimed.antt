@@ -1,5 +1,5 @@
 -- The laws of status, floor and need.
-use Rattle.std.proofs.Common.{◌≡◌, ℕ, ◌+◌, ◌<◌, ◌≤◌, Bool, true, false, ◌||◌, List, [], ◌∷◌, count_by, cond, Option, Some, None}
+use Rattle.std.proofs.Common.{◌≡◌, ℕ, ◌+◌, ◌≤◌, Bool, true, false, ◌||◌, List, [], ◌∷◌, count_by, cond, Option, Some, None}
 use Rattle.std.proofs.{Common.{refl, ap, ◌∙◌, arith, ltb}, lemmas.{Bool.Decides.nat_tests, List.Sums.sum_by-cons}}
 use Rattle.std.specs.List.{list_any}
 use Rattle.block_reclamation.specs.declared.status.BlockStatus.{BlockStatus, TheVariants.{Free, Granted, Used, Retired}}
