@@ -1,7 +1,7 @@
 -- What rows are at a batch's end, and the laws of a batch and of an expiry.
 use Rattle.std.proofs.Common.{◌≡◌, ℕ, ◌<◌, ◌==◌, List, [], ◌∷◌, length, map, filter, Bool, true, false, cond, not, ◌&&◌, ◌≤◌}
 use Rattle.std.proofs.{Common.{refl, sym, ap, ◌∙◌, Option, Some, None, is_some, All}, lemmas.Bool.{true≢false, false≢true}}
-use Rattle.std.proofs.lemmas.{Bool.and_parts, List.Elements.{All-head, All-tail, All-cons, All-nil}}
+use Rattle.std.proofs.lemmas.{Bool.and_parts, List.Elements.{All-map, All-filter}}
 use Rattle.std.specs.{List.list_all, List.range_with_len, Option.option_or, FinMap.FinMap, FinMap.get}
 use Rattle.graph_types.specs.{Graph.{Graph, Key, Stamp, key_cmp}, Step.{after_all, outcomes, expired, count_before}}
 use Rattle.graph_types.specs.declared.batches.{NamedOp.NamedOp, Outcome.TheVariants.Expired}
@@ -45,13 +45,10 @@ opened_at [] q = refl
 opened_at (b ∷ row) q = ap (option_or (block_at b q)) (opened_at row q)
 
 opened_row : (row : List Shape) → IsRow row → IsOpenRow (map untouched row)
-opened_row row u = record { within = within row u.within; between = between row u.between } where
-  within : (row : List Shape) → All (λ b. AreDistinct b.slots) row → All (λ b. AreDistinct b.shape.slots) (map untouched row)
-  within [] a = All-nil (λ b. AreDistinct b.shape.slots)
-  within (b ∷ row) a =
-      All-cons (λ b. AreDistinct b.shape.slots) (untouched b) (map untouched row) (All-head (λ b. AreDistinct b.slots) b row a)
-      (within row (All-tail (λ b. AreDistinct b.slots) b row a))
-
+opened_row row u = record {
+  within = All-map (λ b. AreDistinct b.shape.slots) untouched row u.within;
+  between = between row u.between;
+} where
   between : (row : List Shape) → NoKeyTwice block_at row → NoKeyTwice open_at (map untouched row)
   between [] u = tt
   between (b ∷ row) u = (λ q i. opened_at row q ∙ u.0 q i, between row u.1)
@@ -65,13 +62,8 @@ end_unique (h ∷ row) u =
     ]
 
 end_within : (row : List OpenBlock) → All (λ h. AreDistinct h.shape.slots) row → All (λ h. AreDistinct h.slots) (row_end row)
-end_within [] a = All-nil (λ h. AreDistinct h.slots)
-end_within (h ∷ row) a =
-    let rest = end_within row (All-tail (λ h. AreDistinct h.shape.slots) h row a) in
-    elim (is_kept h) as (λ b. All (λ h. AreDistinct h.slots) (shapes (cond b (h ∷ filter is_kept row) (filter is_kept row)))) [
-      | true ↦ All-cons (λ h. AreDistinct h.slots) h.shape (row_end row) (All-head (λ h. AreDistinct h.shape.slots) h row a) rest
-      | false ↦ rest
-    ]
+end_within row a = All-map (λ h. AreDistinct h.slots) (λ h. h.shape) (filter is_kept row)
+    (All-filter is_kept (λ h. AreDistinct h.shape.slots) row a)
 
 -- what open rows are at a batch's end is a layout of the edges that they have
 ended_layout : (rows : ℕ → List OpenBlock) (edges : FinMap key_cmp Stamp) → AreOpenRows rows → Shows rows edges

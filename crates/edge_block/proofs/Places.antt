@@ -1,6 +1,6 @@
 -- The slots that columns make, place by place.
 use Rattle.std.proofs.Common.{◌≡◌, ◌≢◌, ◌⊎◌, ℕ, ◌+◌, ◌-◌, ◌*◌, ◌%◌, ◌^◌, ◌<◌, ◌≤◌, ℤ, pos, true, false, not, List, length, get_or}
-use Rattle.std.proofs.{Common.{set, sym, ap, ◌∙◌, inl, inr, arith}, lemmas.Bool.{eq-eqb, ne_eqb, cases_eq, cases_lt, true≢false}}
+use Rattle.std.proofs.{Common.{replicate, set, sym, ap, ◌∙◌, inl, inr, arith}, lemmas.Bool.{eq-eqb, ne_eqb, cases_eq, cases_lt, true≢false}}
 use Rattle.std.proofs.lemmas.List.{ext_get_or, length-set, get_or-set_same, get_or-set_other, get_or-replicate, get_or_past}
 use Rattle.std.proofs.lemmas.List.{FromFn.{length-map-range_with_len, get_or-map-range_with_len}, Elements.All-from_get_or}
 use Rattle.std.proofs.lemmas.{List.Folds.{list_any_none, list_any_at}, Nat.Bits.{bit_at_set_same, bit_at_set_other}}
@@ -9,7 +9,7 @@ use Rattle.std.specs.{Prelude.{◌==◌, slice_index}, List.list_any, Int.{bit_a
 use Rattle.std.specs.{Int.RustNames.bit_and, declared.option.Option.{Option, TheVariants.{None, Some}}}
 use Rattle.lane_scan.specs.Masks.{InMask, IsPlaceOf}
 use Rattle.edge_block.specs.Slots.{Slot, edge_slot, at_first, holds, is_free, slot_at, put_slot, take_slot, has_room_for}
-use Rattle.edge_block.specs.{Slots.stamp_at, Slots.empty_slots, Columns.slots_of, Columns.slot_from, Columns.column_slot}
+use Rattle.edge_block.specs.{Slots.stamp_at, Columns.slots_of, Columns.slot_from, Columns.column_slot}
 use Rattle.edge_block.proofs.{Firsts.at_first-set, Firsts.first_some_at, Firsts.none_by_test, SlotLaws.target_of_edge}
 
 pub length-slots_of : (live : ℕ) (ts : List ℕ) (ws : List ℤ) (fs rs : List ℕ) → length (slots_of live ts ws fs rs) ≡ 32
@@ -35,9 +35,9 @@ pub lives_or_not : (live i : ℕ) → InMask live i ⊎ (InMask live i → ⊥)
 lives_or_not live i = cases_eq (bit_at live i) 1
 
 -- no place is live
-pub slots_of-none : (ts : List ℕ) (ws : List ℤ) (fs rs : List ℕ) → slots_of 0 ts ws fs rs ≡ empty_slots
+pub slots_of-none : (ts : List ℕ) (ws : List ℤ) (fs rs : List ℕ) → slots_of 0 ts ws fs rs ≡ replicate 32 None
 slots_of-none ts ws fs rs =
-    ext_get_or None (slots_of 0 ts ws fs rs) empty_slots (length-slots_of 0 ts ws fs rs) (λ i within.
+    ext_get_or None (slots_of 0 ts ws fs rs) (replicate 32 None) (length-slots_of 0 ts ws fs rs) (λ i within.
     let few : i < 32 = omega (arith, length-slots_of 0 ts ws fs rs) in
     slot_dead 0 ts ws fs rs i None few (λ set. omega (arith, bit_at-zero i)) ∙ sym (get_or-replicate 32 i None None few))
 
