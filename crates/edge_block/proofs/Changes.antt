@@ -129,10 +129,7 @@ module _ {A K B : Type 0} (at : A → K → Option B) (same : K → K → Bool) 
   -- an element at the end, where no element has the key
   pub set_last : (xs : List A) (y : A) → chain xs k ≡ None → ((q : K) → at y q ≡ cond (same q k) o None) → (q : K)
       → chain (xs ++ y ∷ []) q ≡ cond (same q k) o (chain xs q)
-  set_last xs y none is q =
-      first_append (λ x. at x q) xs y ∙ ap (option_or (chain xs q)) (is q)
-      ∙ or_skip (same q k) (chain xs q) None (chain_key q xs none)
-      ∙ ap (cond (same q k) o) (or_none (chain xs q))
+  set_last xs y none is q = grind (arith, common_steps, first_append, or_skip, chain_key, or_none)
 
   pub unique_last : (xs : List A) (y : A) → chain xs k ≡ None → ((q : K) → at y q ≡ cond (same q k) o None) → NoKeyTwice at xs
       → NoKeyTwice at (xs ++ y ∷ [])

@@ -45,10 +45,7 @@ pub columns_copied : (live : ℕ) (ts : List ℕ) (ws ws' : List ℤ) (fs fs' rs
     ((k : ℕ) → k < 32 → InMask live k → get_or fs' k 0 ≡ get_or fs k 0) →
     ((k : ℕ) → k < 32 → InMask live k → get_or rs' k 0 ≡ get_or rs k 0) →
     AreColumns live ts ws fs rs → AreColumns live ts ws' fs' rs'
-columns_copied live ts ws ws' fs fs' rs rs' same_ws same_fs same_rs h =
-    let same : slots_of live ts ws' fs' rs' ≡ slots_of live ts ws fs rs =
-    slots_copied live ts ws ws' fs fs' rs rs' same_ws same_fs same_rs in
-    record { distinct = rw same h.distinct; stamped = rw same h.stamped; cleared = h.cleared }
+columns_copied live ts ws ws' fs fs' rs rs' same_ws same_fs same_rs h = grind (arith, common_steps, slots_copied)
 
 -- the same bounds
 pub times_copied : (live : ℕ) (rs rs' : List ℕ) (times : ℕ × ℕ) → length rs ≡ 32 → length rs' ≡ 32 →

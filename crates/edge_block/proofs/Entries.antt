@@ -150,9 +150,4 @@ entry_stands b distinct key stamp (k, within, is) =
     })
 
 pub standing_entry : (b : BlockView) (key : Key) (stamp : Stamp) → StandsIn b key stamp → Contains (entries_of b) (key, stamp)
-standing_entry b key stamp h =
-    let edge : Slot = record { target = key.target; stamp = stamp } in
-    let same : entry_in b edge ≡ (key, stamp) =
-    λ i. (record { kind = sym h.of_kind i; source = sym h.of_source i; target = key.target }, stamp) in
-    subst (Contains (entries_of b)) same (contains_map (entry_in b) (edges_in b.slots) edge
-    (found_edge b.slots key.target stamp h.stands))
+standing_entry b key stamp h = grind (arith, common_steps, contains_map, found_edge)

@@ -1,11 +1,11 @@
 -- What an expiry changes in slots, in blocks and in a source's row.
-use Rattle.std.proofs.Common.{◌≡◌, ℕ, ◌==◌, List, [], ◌∷◌, Bool, true, false, cond, ◌||◌, refl, sym, ap, ◌∙◌, map, All, Option}
+use Rattle.std.proofs.Common.{◌≡◌, ℕ, List, [], ◌∷◌, Bool, true, false, cond, ◌||◌, refl, sym, ap, ◌∙◌, map, All, Option}
 use Rattle.std.proofs.{Common.{arith, Some, None, is_some, get_or}, lemmas.{Bool.true≢false, List.Elements.{All-head, All-tail}}}
 use Rattle.std.{proofs.lemmas.List.Elements.{All-map, All-weaker}, specs.Option.option_or}
 use Rattle.std.proofs.lemmas.Grind.{common_steps}
 use Rattle.graph_types.specs.{Graph.Stamp, Step.is_before, Step.stays_from}
 use Rattle.edge_block.specs.Slots.{Slot, slot_at, stamp_at, AreDistinct, NoKeyTwice, first_some, slot_since, slots_since}
-use Rattle.edge_block.specs.{Slots.has_before, Rows.{OpenBlock, open_at, edge_at, touch, has_old, expire_block, expire_row}}
+use Rattle.edge_block.specs.{Slots.has_before, Rows.{OpenBlock, open_at, edge_at, expire_block, expire_row}}
 use Rattle.edge_block.proofs.RowLaws.{IsOpenRow, Within}
 
 -- what stays is there before
@@ -72,21 +72,13 @@ within_kind : (time : ℕ) (b : Bool) (o : Option Stamp)
 within_kind time h1 o = grind (arith, common_steps)
 
 expired_slots : (time : ℕ) (b : OpenBlock) → (expire_block time b).shape.slots ≡ slots_since time b.shape.slots
-expired_slots time b =
-    elim (has_old time b) as (λ t. has_old time b ≡ t
-    → (cond t (touch (slots_since time) b) b).shape.slots ≡ slots_since time b.shape.slots) [
-      | true ↦ λ t. refl
-      | false ↦ λ t. sym (slots_kept time b.shape.slots t)
-    ] refl
+expired_slots time b = grind (arith, common_steps, slots_kept)
 
 expired_kind : (time : ℕ) (b : OpenBlock) → (expire_block time b).shape.kind ≡ b.shape.kind
 expired_kind time b = grind (arith, common_steps)
 
 block_stays : (time : ℕ) (b : OpenBlock) → AreDistinct b.shape.slots → Stays open_at (expire_block time) time b
-block_stays time b u q =
-    (λ i. cond (q.0 == expired_kind time b i) (stamp_at (expired_slots time b i) q.1) None)
-    ∙ ap (λ o. cond (q.0 == b.shape.kind) o None) (slots_stay time b.shape.slots u q.1)
-    ∙ within_kind time (q.0 == b.shape.kind) (stamp_at b.shape.slots q.1)
+block_stays time b u q = grind (arith, common_steps, expired_kind, expired_slots, slots_stay, within_kind)
 
 every_block : (time : ℕ) (row : List OpenBlock) → All Within row → All (Stays open_at (expire_block time) time) row
 every_block time row all = All-weaker Within (Stays open_at (expire_block time) time) (block_stays time) row all

@@ -1,12 +1,13 @@
 -- What rows are at a batch's end, and the laws of a batch and of an expiry.
-use Rattle.std.proofs.Common.{◌≡◌, ℕ, ◌<◌, ◌==◌, List, [], ◌∷◌, length, map, filter, Bool, true, false, cond, not, ◌&&◌, ◌≤◌}
+use Rattle.std.proofs.Common.{◌≡◌, ℕ, ◌<◌, List, [], ◌∷◌, length, map, filter, true, false, cond, ◌≤◌}
 use Rattle.std.proofs.{Common.{refl, sym, ap, ◌∙◌, Option, Some, None, is_some, All}, lemmas.Bool.{true≢false, false≢true}}
 use Rattle.std.proofs.lemmas.{Bool.and_parts, List.Elements.{All-map, All-filter}}
 use Rattle.std.specs.{List.list_all, List.range_with_len, Option.option_or, FinMap.FinMap, FinMap.get}
+use Rattle.std.proofs.{Common.arith, lemmas.Grind.common_steps}
 use Rattle.graph_types.specs.{Graph.{Graph, Key, Stamp, key_cmp}, Step.{after_all, outcomes, expired, count_before}}
 use Rattle.graph_types.specs.declared.batches.{NamedOp.NamedOp, Outcome.TheVariants.Expired}
 use Rattle.edge_block.specs.{Slots.{Slot, NoKeyTwice, stamp_at, is_free, AreDistinct}, Rows.{Shape, OpenBlock, block_at, row_at}}
-use Rattle.edge_block.specs.Rows.{open_at, edge_at, IsRow, has_none, is_kept, row_end, shapes, untouched, expire_row}
+use Rattle.edge_block.specs.Rows.{open_at, edge_at, IsRow, is_kept, row_end, shapes, untouched, expire_row}
 use Rattle.edge_block.specs.Batches.{InAll, resolved, rows_step, IsWithin, rows_all, outcome_in, outcomes_all, IsLayoutOf, opened}
 use Rattle.edge_block.specs.Batches.{layout_after}
 use Rattle.edge_block.proofs.{RowLaws.IsOpenRow, OperationLaws.{Shows, AreOpenRows, expiry_shows, all_shows}}
@@ -18,17 +19,7 @@ all_free (None ∷ slots) h q = all_free slots h q
 all_free (Some e ∷ slots) h q = absurd (false≢true h)
 
 not_kept : (h : OpenBlock) → is_kept h ≡ false → (q : ℕ × ℕ) → open_at h q ≡ None
-not_kept h out q =
-    let free : list_all is_free h.shape.slots ≡ true =
-    (and_parts h.touched (has_none h.shape) (flip (h.touched && has_none h.shape) out)).1 in
-    ap (λ x. cond (q.0 == h.shape.kind) x None) (all_free h.shape.slots free q.1) ∙ blank (q.0 == h.shape.kind) where
-      flip : (b : Bool) → not b ≡ false → b ≡ true
-      flip true h = refl
-      flip false h = absurd (true≢false h)
-
-      blank : (b : Bool) → (let nothing : Option Stamp = None in cond b nothing None ≡ nothing)
-      blank true = refl
-      blank false = refl
+not_kept h out q = grind (arith, common_steps, and_parts, all_free, true≢false)
 
 -- what stays at the batch's end has the row's edges
 pub end_at : (row : List OpenBlock) (q : ℕ × ℕ) → row_at (row_end row) q ≡ edge_at row q
@@ -68,10 +59,7 @@ end_within row a = All-map (λ h. AreDistinct h.slots) (λ h. h.shape) (filter i
 -- what open rows are at a batch's end is a layout of the edges that they have
 ended_layout : (rows : ℕ → List OpenBlock) (edges : FinMap key_cmp Stamp) → AreOpenRows rows → Shows rows edges
     → IsLayoutOf (λ source. row_end (rows source)) edges
-ended_layout rows edges u s = record {
-  distinct = λ source. record { within = end_within _ (u source).within; between = end_unique _ (u source).between };
-  shows = λ k. end_at _ (k.kind, k.target) ∙ s k;
-}
+ended_layout rows edges u s = grind (arith, common_steps, end_within, end_unique, end_at)
 
 -- a batch leaves a layout of the graph that it leaves, and the rows' outcomes are the operation rule's
 pub batch_layout : (ops : List NamedOp) (g : Graph) (layout : ℕ → List Shape) (n : ℕ) → IsWithin g → IsLayoutOf layout g.edges

@@ -1,12 +1,12 @@
 -- The rows that operations leave have the edges that the operation rule leaves, and the outcomes are the rule's.
 use Rattle.std.proofs.Common.{◌≡◌, ℕ, ◌<◌, ◌==◌, List, [], ◌∷◌, length, Bool, true, false, cond, ◌&&◌, ◌≤◌, arith}
-use Rattle.std.proofs.Common.{refl, sym, ap, ◌∙◌, subst, Option, Some, None, is_some, bytes_eq}
+use Rattle.std.proofs.Common.{refl, sym, ap, ◌∙◌, subst, Option, Some, None, is_some}
 use Rattle.std.proofs.lemmas.{Bool.{true≢false, false≢true, eqb-true, lt-ltb}, List.Elements.All-map, Grind.common_steps}
 use Rattle.std.specs.{List.range_with_len, Option.option_or, Ordering.eq_by_cmp}
 use Rattle.std.specs.{Cmp.Equal-is, FinMap.FinMap, FinMap.get, FinMap.get-insert, FinMap.get-remove}
 use Rattle.graph_types.specs.{Graph.{Graph, Key, Stamp, key_cmp}, Step.{after_all, set_at, stamp_after, outcome_at, changed}}
-use Rattle.graph_types.specs.Step.{changed_key, change_outcome, after, outcome, outcomes, number_of, with_name, names_made}
-use Rattle.graph_types.specs.{Step.{kinds_made, stays_from, expired, count_before}, Answer.is_listed}
+use Rattle.graph_types.specs.Step.{changed_key, change_outcome, after, outcome, outcomes, with_name, names_made}
+use Rattle.graph_types.specs.{Step.{kinds_made, expired, count_before}, Answer.is_listed}
 use Rattle.graph_types.specs.declared.batches.{NamedOp.NamedOp, Outcome.Outcome}
 use Rattle.graph_types.specs.declared.{batches.Outcome.TheVariants.{Absent, Expired}, changes.EdgeChange.EdgeChange}
 use Rattle.graph_types.specs.declared.changes.EdgeChange.TheVariants.{Insert as ToInsert, Incr as ToIncr, Remove as ToRemove}
@@ -55,27 +55,11 @@ shows_key : (change : EdgeChange) (k : Key) (rows : ℕ → List OpenBlock) (edg
     → Shows rows edges
     → (q : Key) → edge_at (cond (q.source == k.source) (change_row change (k.kind, k.target) (rows q.source)) (rows q.source))
     (q.kind, q.target) ≡ get (set_at edges k (stamp_after change (get edges k))) q
-shows_key change k rows edges u s q =
-    elim (q.source == k.source) as (λ b. q.source == k.source ≡ b
-    → edge_at (cond b (change_row change (k.kind, k.target) (rows q.source)) (rows q.source)) (q.kind, q.target)
-    ≡ cond (tests q k b) (stamp_after change (get edges k)) (get edges q)) [
-      | true ↦ λ t.
-          let there : edge_at (rows q.source) (k.kind, k.target) ≡ get edges k =
-          ap (λ n. edge_at (rows n) (k.kind, k.target)) (eqb-true q.source k.source t) ∙ s k in
-          (change_sets (k.kind, k.target) (rows q.source) (u q.source) change).0 (q.kind, q.target)
-          ∙ (λ i. cond (tests q k true) (stamp_after change (there i)) (s q i))
-      | false ↦ λ t. s q ∙ never (q.kind == k.kind) (stamp_after change (get edges k)) (get edges q)
-    ] refl
-    ∙ sym (set_at_get edges k (stamp_after change (get edges k)) q
-    ∙ ap (λ b. cond b (stamp_after change (get edges k)) (get edges q)) (tied q k))
+shows_key change k rows edges u s q = grind (arith, common_steps, tests, eqb-true, change_sets, never, set_at_get, tied)
 
 rows_key : (change : EdgeChange) (k : Key) (rows : ℕ → List OpenBlock) → AreOpenRows rows → (source : ℕ)
     → IsOpenRow (cond (source == k.source) (change_row change (k.kind, k.target) (rows source)) (rows source))
-rows_key change k rows u source =
-    elim (source == k.source) as (λ b. IsOpenRow (cond b (change_row change (k.kind, k.target) (rows source)) (rows source))) [
-      | true ↦ (change_sets (k.kind, k.target) (rows source) (u source) change).1
-      | false ↦ u source
-    ]
+rows_key change k rows u source = grind (arith, common_steps, IsOpenRow, change_sets)
 
 all_known : (a b c : Bool) → a ≡ true → b ≡ true → c ≡ true → (a && (b && c)) ≡ false → ⊥
 all_known a b c p q r h = true≢false ((λ i. sym p i && (sym q i && sym r i)) ∙ h)
@@ -98,24 +82,7 @@ unknown_none : (change : EdgeChange) (kind source target : List ℕ) (g : Graph)
     → knows change kind source target g ≡ false
     → (get g.edges (changed_key change kind source target g) ≡ None) × (stamp_after change None ≡ None)
     × (outcome_at change None ≡ Absent)
-unknown_none (ToInsert weight time) kind source target g w h =
-    absurd (all_appear g.names g.kinds kind source target h)
-unknown_none (ToIncr amount time) kind source target g w h =
-    absurd (all_appear g.names g.kinds kind source target h)
-unknown_none ToRemove kind source target g w h =
-    let key : Key = changed_key ToRemove kind source target g in (
-      none_is (get g.edges key) (
-          elim (is_some (get g.edges key)) as (λ b. is_some (get g.edges key) ≡ b → b ≡ false) [
-            | true ↦ λ t.
-                let in' = w key t in
-                let known : (names : List (List ℕ)) (name : List ℕ) → number_of names name < length names
-                → is_listed names name ≡ true = λ names name lt. any_before_end (bytes_eq name) names ∙ lt-ltb _ _ lt in
-                absurd (all_known _ _ _ (known g.kinds kind in'.0) (known g.names source in'.1) (known g.names target in'.2) h)
-            | false ↦ λ t. refl
-          ] refl),
-      refl,
-      refl,
-    )
+unknown_none h0 kind source target g w h = grind (arith, common_steps, all_appear, none_is, any_before_end, lt-ltb, all_known)
 
 set_none : (m : FinMap key_cmp Stamp) (k : Key) → get m k ≡ None → (q : Key) → get m q ≡ get (set_at m k None) q
 set_none m k none q =
@@ -202,22 +169,15 @@ shapes_row row u = record { within = All-map (λ b. AreDistinct b.slots) (λ b. 
 
 shapes_layout : (rows : ℕ → List OpenBlock) (edges : FinMap key_cmp Stamp) → AreOpenRows rows → Shows rows edges
     → IsLayoutOf (λ source. shapes (rows source)) edges
-shapes_layout rows edges u s = record {
-  distinct = λ source. shapes_row (rows source) (u source);
-  shows = λ k. shapes_at (rows k.source) (k.kind, k.target) ∙ s k;
-}
+shapes_layout rows edges u s = grind (arith, common_steps, shapes_row, shapes_at)
 
 -- an expiry, counted over so many sources that each edge is of one of them
 pub expiry_shows : (time : ℕ) (edges : FinMap key_cmp Stamp) (rows : ℕ → List OpenBlock) (n : ℕ) → AreOpenRows rows
     → Shows rows edges → ((k : Key) → is_some (get edges k) ≡ true → k.source < n)
     → Shows (rows_step (InAll time) rows) (expired time edges) × AreOpenRows (rows_step (InAll time) rows)
     × (outcome_in (range_with_len 0 n) (InAll time) rows ≡ Expired (count_before time edges))
-expiry_shows time edges rows n u s below = (
-  λ q. expire_stays time (rows q.source) (u q.source) (q.kind, q.target) ∙ ap (stays_from time) (s q)
-      ∙ sym (get-expired time edges q),
-  λ source. expire_open time (rows source) (u source),
-  ap (λ count. Expired count) (count_shown time edges rows n (shapes_layout rows edges u s) below),
-)
+expiry_shows time edges rows n u s below =
+    grind (arith, common_steps, expire_stays, get-expired, expire_open, count_shown, shapes_layout)
 
 -- one operation
 pub step_shows : (op : Parts) (g : Graph) (rows : ℕ → List OpenBlock) (n : ℕ) → IsWithin g → AreOpenRows rows

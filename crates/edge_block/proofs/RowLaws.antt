@@ -120,21 +120,7 @@ module _ (place : ℕ × ℕ) (row : List OpenBlock) (u : IsOpenRow row) where
     )
 
     pub put_sets : Sets place (Some stamp) row (put_edge place.0 e row)
-    put_sets =
-        let room : OpenBlock → Bool = λ x. has_room place.0 x.shape in
-        let way : Bool → Bool → List OpenBlock = λ b c.
-        cond b (at_first (has_edge place) (touch (put_slot e)) row)
-        (cond c (at_first room (touch (put_slot e)) row) (row ++ new_block place.0 e ∷ [])) in
-        elim (list_any (has_edge place) row) as (λ b. list_any (has_edge place) row ≡ b
-        → Sets place (Some stamp) row (way b (list_any room row))) [
-          | true ↦ λ t. put_over t
-          | false ↦ λ t.
-              let none : edge_at row place ≡ None = none_is (edge_at row place) (sym (any_at place None row) ∙ t) in
-              elim (list_any room row) as (λ c. list_any room row ≡ c → Sets place (Some stamp) row (way false c)) [
-                | true ↦ λ s. put_into none s
-                | false ↦ λ s. put_last none
-              ] refl
-        ] refl
+    put_sets = grind (arith, common_steps, put_over, none_is, any_at, put_into, put_last)
 
   none_sets : edge_at row place ≡ None → Sets place None row row
   none_sets none = grind (arith, common_steps)
@@ -172,10 +158,4 @@ module _ (place : ℕ × ℕ) (row : List OpenBlock) (u : IsOpenRow row) where
 
   -- one change puts at its place what the operation rule says, and changes nothing else; a row stays a row
   pub change_sets : (change : EdgeChange) → Sets place (stamp_after change (edge_at row place)) row (change_row change place row)
-  change_sets change =
-      let before : Option Stamp = edge_at row place in
-      elim (touches (outcome_at change before)) as (λ b. touches (outcome_at change before) ≡ b
-      → Sets place (stamp_after change before) row (cond b (set_edge place (stamp_after change before) row) row)) [
-        | true ↦ λ t. set_sets (stamp_after change before)
-        | false ↦ λ t. same_sets (stamp_after change before) (sym (unmoved change before t))
-      ] refl
+  change_sets change = grind (arith, common_steps, set_sets, same_sets, unmoved)

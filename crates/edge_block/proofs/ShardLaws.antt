@@ -1,13 +1,12 @@
 -- The operations of some sources alone leave those sources' rows, and their outcomes, as all operations do.
-use Rattle.std.proofs.{Common.{◌∙◌, Option, Some, None, All, filter, get_or}, Common.{◌≡◌, ℕ, ◌+◌, ◌%◌, ◌==◌, List, [], ◌∷◌, ◌++◌}}
+use Rattle.std.proofs.{Common.{◌∙◌, Some, None, All, filter, get_or}, Common.{◌≡◌, ℕ, ◌+◌, ◌%◌, ◌==◌, List, [], ◌∷◌, ◌++◌}}
 use Rattle.std.proofs.Common.{Bool, true, false, cond, refl, sym, ap}
 use Rattle.std.proofs.lemmas.{Bool.eq-eqb, List.{Elements.{All-head, All-tail, All-nil, All-cons}, Sums.sum_by-cons}}
 use Rattle.std.specs.List.{sum_by}
 use Rattle.std.proofs.{Common.arith, lemmas.Grind.common_steps}
-use Rattle.graph_types.specs.{Graph.Key, Graph.Stamp, Step.outcome_at}
-use Rattle.graph_types.specs.{declared.batches.NamedOp.NamedOp, declared.batches.Outcome.Outcome}
+use Rattle.graph_types.specs.Graph.{Key}
+use Rattle.graph_types.specs.declared.batches.NamedOp.{NamedOp}
 use Rattle.graph_types.specs.declared.batches.Outcome.TheVariants.{Expired}
-use Rattle.graph_types.specs.declared.changes.EdgeChange.{EdgeChange}
 use Rattle.edge_block.specs.{Operations.{Parts, parts_of, names_after, kinds_after}, Rows.OpenBlock}
 use Rattle.edge_block.specs.{Rows.old_in_row, Batches.{Resolved, AtKey, InAll, key_is_of, acts_on, row_step}}
 use Rattle.edge_block.specs.Batches.{key_outcome, outcome_in, rows_step, rows_all, outcomes_all, picked, together, joined}

@@ -1,6 +1,6 @@
 -- The edges of a view, one after another.
 use Rattle.std.proofs.Common.{◌≡◌, ◌≢◌, ℕ, zero, suc, ◌+◌, ◌*◌, ◌%◌, ◌^◌, ◌<◌, ◌≤◌, ℤ, Bool, true, false, List, [], ◌∷◌, length}
-use Rattle.std.proofs.Common.{get_or, map, refl, sym, ap, ◌∙◌, inl, inr, arith, cond}
+use Rattle.std.proofs.Common.{get_or, map, refl, sym, ap, ◌∙◌, arith, cond}
 use Rattle.std.proofs.lemmas.{Bool.{eq-eqb, ne_eqb}, Grind.common_steps}
 use Rattle.std.proofs.lemmas.Nat.Bits.{bit_at-zero, bit_at-lt, bit_at_and, bit_at-trailing_zeros, bit_at_clear_same}
 use Rattle.std.proofs.lemmas.{Nat.Bits.bit_at_clear_other, List.length-map, List.Sums.length-filter, List.Sums.count_by-le-length}
@@ -71,16 +71,7 @@ edges_agree mask mask' place (s ∷ slots) same =
 edge_lives : (live : ℕ) (ts : List ℕ) (ws : List ℤ) (fs rs : List ℕ) (i : ℕ) (e : Slot) → i < 32
     → get_or (slots_of live ts ws fs rs) i None ≡ Some e →
     InMask live i × (e ≡ column_slot ts ws fs rs i)
-edge_lives live ts ws fs rs i e few is =
-    elim (lives_or_not live i) [
-      | inl lives ↦ (
-        lives,
-        (let same : (let x : Option Slot = Some e in x) ≡ Some (column_slot ts ws fs rs i) = sym is
-            ∙ slot_live live ts ws fs rs i None few lives in cc),
-      )
-      | inr dead ↦ (let same : (let x : Option Slot = Some e in x) ≡ None = sym is ∙ slot_dead live ts ws fs rs i None few dead in
-          cc)
-    ]
+edge_lives live ts ws fs rs i e few is = grind (arith, common_steps, lives_or_not, slot_live, slot_dead)
 
 -- of the places in a mask the live ones alone count
 pub edges_due : (mask live : ℕ) (ts : List ℕ) (ws : List ℤ) (fs rs : List ℕ) →
@@ -140,17 +131,7 @@ in_window mask live lo hi n time rs says within lives e = grind (arith, common_s
 
 -- a view lends no more edges than there are slots
 pub lent_few : (b : BlockView) (f : Filter) → length b.slots ≡ 32 → length (map lent_of (filter (in_view f) (entries_of b))) ≤ 32
-lent_few b f places =
-    omega (
-      arith,
-      places,
-      edges_few b.slots,
-      length-map (filter (in_view f) (entries_of b)) lent_of,
-      length-filter (in_view f)
-          (entries_of b),
-      count_by-le-length (in_view f) (entries_of b),
-      length-map (edges_in b.slots) (entry_in b),
-    )
+lent_few b f places = grind (arith, common_steps, edges_few, length-map, length-filter, count_by-le-length)
 
 -- what is lent by the mask of a window, of a kind that the filter takes
 pub lent_within : (number source kind live : ℕ) (ts : List ℕ) (ws : List ℤ) (fs rs : List ℕ) (f : Filter) (mask : ℕ)
