@@ -4,7 +4,7 @@ use Rattle.std.proofs.Common.{Option, Some, None, arith, append_assoc, ◌∙◌
 use Rattle.std.proofs.lemmas.List.{Elements.All-nil, Elements.All-cons, length-map, map-append, append-nil, drop_all}
 use Rattle.graph_types.specs.{Graph.Key, Step.number_of, Step.key_in, declared.batches.NamedOp.NamedOp}
 use Rattle.edge_block.specs.Operations.{Parts, OfEdge, OfAll, parts_of, names_after, kinds_after}
-use Rattle.edge_block.specs.Batches.{Resolved, AtKey, IsPlaced, is_known, resolve, resolve_parts, resolved}
+use Rattle.edge_block.specs.Batches.{Resolved, AtKey, IsPlaced, is_known, resolve_parts, resolved}
 use Rattle.batch_apply.specs.{declared.resolve.ResolvedOp.ResolvedOp, Plan.{known, shown, ends_by, key_from, with_kind}}
 
 key_cases : (a b c : Bool) (k s t : ℕ)
@@ -57,12 +57,12 @@ placed_in rs [] names kinds e = subst (λ ss. All IsPlaced ss) (sym e) (All-nil 
 placed_in rs (op ∷ ops) names kinds e =
     let names' : List (List ℕ) = names_after op names in
     let kinds' : List (List ℕ) = kinds_after op kinds in
-    subst (λ ss. All IsPlaced ss) (sym e) (All-cons IsPlaced (resolve names' kinds' op) (resolved ops names' kinds')
+    subst (λ ss. All IsPlaced ss) (sym e) (All-cons IsPlaced (resolve_parts names' kinds' (parts_of op)) (resolved ops names' kinds')
     (one_placed names' kinds' (parts_of op)) (placed_in (resolved ops names' kinds') ops names' kinds' refl))
 
 -- one more operation is resolved
 pub one_more : (ops rest : List NamedOp) (op : NamedOp) (found : List ResolvedOp) (r : ResolvedOp) (names kinds : List (List ℕ))
-    (all : List Resolved) → ops ≡ op ∷ rest → shown r ≡ resolve (names_after op names) (kinds_after op kinds) op
+    (all : List Resolved) → ops ≡ op ∷ rest → shown r ≡ resolve_parts (names_after op names) (kinds_after op kinds) (parts_of op)
     → map shown found ++ resolved ops names kinds ≡ all
     → map shown (found ++ r ∷ []) ++ resolved rest (names_after op names) (kinds_after op kinds) ≡ all
 one_more ops rest op found r names kinds all ops_are same so_far =

@@ -2,7 +2,7 @@
 
 ghost use Rattle.std.specs.Prelude.{◌≡◌, ◌≤◌, ◌<◌, ◌∷◌, ℕ, List, [], length, IfOk, IfErr, OnOk, IsTrue, All};
 ghost use Rattle.graph_types.specs.Step.{with_name};
-ghost use Rattle.edge_block.specs.Batches.{AtKey, resolve};
+ghost use Rattle.edge_block.specs.Batches.{AtKey, resolve_parts};
 ghost use Rattle.vertex_names.specs.Book.{Book};
 ghost use Rattle.graph_types.specs.declared.batches.NamedOp.{NamedOp};
 ghost use Rattle.graph_types.specs.Valid.{is_name, is_kind_name, has_names, IsValid};
@@ -250,7 +250,7 @@ pub fn resolve_op(
     requires behind { All IsValid behind.now }
     requires found { IsFound names.old.names op.now found }
     ensures op { IfOk result (λ r. shown r
-        ≡ resolve (names_after op.now names.old.names) (kinds_after op.now kinds.old.names) op.now) }
+        ≡ resolve_parts (names_after op.now names.old.names) (kinds_after op.now kinds.old.names) (parts_of op.now)) }
     ensures change { IfOk result IsInRange }
     ensures names { OnOk result (names.new ≡ with_names names.old (names_after op.now names.old.names)) }
     ensures kinds { OnOk result (kinds.new ≡ with_names kinds.old (kinds_after op.now kinds.old.names)) }

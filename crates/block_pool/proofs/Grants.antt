@@ -1,12 +1,12 @@
 -- The numbers that a grant takes.
 use Rattle.std.proofs.Common.{◌≡◌, ℕ, zero, suc, ◌+◌, ◌-◌, ◌<◌, ◌≤◌, ◌==◌, List, [], ◌∷◌, ◌++◌, length, get_or, set, count_by}
 use Rattle.std.proofs.{Common.{take, Bool, true, false, cond, ◌&&◌, refl, sym, ap, ◌∙◌, arith, length-take}, lemmas.Bool.eqb-true}
-use Rattle.std.proofs.lemmas.{Bool.{eqb-false, and_parts}, List.{get_or-take, get_or-set_same, get_or-set_other, get_or_read}}
-use Rattle.std.proofs.{lemmas.List.take_more_set, Math.{ListN.length-set, Seq.take-set-lt}}
+use Rattle.std.proofs.lemmas.{Bool.and_parts, List.{get_or-take, get_or_read}}
+use Rattle.std.proofs.{lemmas.List.take_more_set, Math.{ListN.length-set, Seq.take-set-lt}, lemmas.Grind.common_steps}
 use Rattle.block_pool.specs.{Pools.{marked, AreFree}, Kept.{IsNumbers, statuses, status_of, tally, Lists, popped}}
 use Rattle.block_pool.specs.declared.numbers.Numbers.{Numbers}
 use Rattle.block_reclamation.specs.{declared.status.BlockStatus.BlockStatus, Status.is_free}
-use Rattle.block_pool.proofs.Tallies.{count_last, count_here, count_at, listed_at, listed_count, same_number, passes_at}
+use Rattle.block_pool.proofs.Tallies.{count_last, count_here, count_at, listed_at, listed_count, lists_room, same_number, passes_at}
 use Rattle.edge_block.proofs.Counts.{count_more}
 
 -- the free numbers are as many as the list has, and each that the list has is one of the pool's
@@ -15,23 +15,27 @@ free_listed n kept =
     let listed = listed_count is_free (statuses n) (take n.free_len n.free.items) kept.free_are in
     omega (arith, length-take n.free_len n.free.items, kept.free_in, kept.free_room, listed)
 
+-- where a number is not free, there is room for one more
+pub free_places : (n : Numbers) → IsNumbers n → (number : ℕ) → number < length (statuses n) → is_free (status_of (statuses n) number) ≡ false
+    → n.free_len < length n.free.items
+free_places n kept number within taken =
+    let room = lists_room is_free (statuses n) (take n.free_len n.free.items) kept.free_are number within taken in
+    omega (arith, length-take n.free_len n.free.items, kept.free_in, kept.free_room, room)
+
 pub free_read : (n : Numbers) → IsNumbers n → (at number : ℕ) → at < n.free_len → number ≡ get_or n.free.items at number
-    → (number ≡ get_or n.free.items at 0) × (number < length n.statuses.items)
+    → (number ≡ get_or n.free.items at 0) × (number < length n.statuses.items) × (is_free (status_of (statuses n) number) ≡ true)
 free_read n kept at number lt is =
     let in_room : n.free_len ≤ length n.free.items = omega (arith, kept.free_in, kept.free_room) in
     let here = listed_at is_free (statuses n) n.free_len n.free.items kept.free_are in_room at lt in
     let same : number ≡ get_or n.free.items at 0 = get_or_read n.free.items at number (omega arith) is 0 in
-    (same, omega (arith, here.0, same))
+    (same, omega (arith, here.0, same), ap (λ j. is_free (status_of (statuses n) j)) same ∙ here.1)
 
 pub popped_more : (room : List ℕ) (len k : ℕ) → 0 < k
     → popped room len k ≡ get_or room (len - 1) 0 ∷ popped room (len - 1) (k - 1)
-popped_more room len zero lt = absurd (omega arith)
-popped_more room len (suc k) lt = let z : k ≡ suc k - 1 =
-    omega arith in ap (λ j. get_or room (len - 1) 0 ∷ popped room (len - 1) j) z
+popped_more room len h2 lt = grind (arith, common_steps)
 
 pub popped_none : (room : List ℕ) (len k : ℕ) → k ≤ 0 → popped room len k ≡ []
-popped_none room len zero le = refl
-popped_none room len (suc k) le = absurd (omega arith)
+popped_none room len h2 le = grind (arith, common_steps)
 
 pub length-popped : (room : List ℕ) (len k : ℕ) → length (popped room len k) ≡ k
 length-popped room len zero = refl
@@ -55,19 +59,17 @@ popped_last room len (suc k) lt =
 
 twice : (xs : List ℕ) (a b d : ℕ) → a < b → b < length xs → get_or xs a d ≡ get_or xs b d
     → 2 ≤ count_by (λ x. x == get_or xs b d) xs
-twice [] a b d lt within e = absurd (omega arith)
-twice (x ∷ xs) zero zero d lt within e = absurd (omega arith)
 twice (x ∷ xs) zero (suc b) d lt within e =
     let m = count_more (λ y. y == get_or xs b d) x xs in
     let one : (let k : ℕ = cond (x == get_or xs b d) 1 0 in k) ≡ 1 =
     ap (λ y. cond (y == get_or xs b d) 1 0) e ∙ ap (λ b. cond b 1 0) (same_number (get_or xs b d)) in
     let more = count_at (λ y. y == get_or xs b d) xs b d (omega arith) (same_number (get_or xs b d)) in
     omega arith
-twice (x ∷ xs) (suc a) zero d lt within e = absurd (omega arith)
 twice (x ∷ xs) (suc a) (suc b) d lt within e =
     let m = count_more (λ y. y == get_or xs b d) x xs in
     let more = twice xs a b d (omega arith) (omega arith) e in
     omega arith
+twice _ a b d lt within e = absurd (omega arith)
 
 tally_later : (p : BlockStatus → Bool) (m i : ℕ) (pool : List BlockStatus) → m < i → tally p (λ n. n == m) i pool ≡ 0
 tally_later p m i [] lt = refl
@@ -123,14 +125,7 @@ length-marked (n ∷ ns) x xs = length-marked ns x (set xs n x) ∙ length-set x
 -- a place of the room, where the last one behind the first len has what stood there
 after_copy : (room : List ℕ) (len place : ℕ) → len < length room → get_or (set room len (get_or room place 0)) place 0
     ≡ get_or room place 0
-after_copy room len place lt =
-    elim (place == len) as (λ b. place == len ≡ b → get_or (set room len (get_or room place 0)) place 0 ≡ get_or room place 0) [
-      | true ↦ λ t.
-          let e : place ≡ len = eqb-true place len t in
-          ap (λ i. get_or (set room len (get_or room place 0)) i 0) e
-          ∙ get_or-set_same room len (get_or room place 0) 0 lt
-      | false ↦ λ f. get_or-set_other room len place (get_or room place 0) 0 (eqb-false place len f)
-    ] refl
+after_copy room len place lt = grind (arith, common_steps)
 
 -- a number put at a place of the first len, of which the one that stood there goes behind them
 pub placed : (room : List ℕ) (len place n : ℕ) → place ≤ len → len < length room → (q : ℕ → Bool)

@@ -1,8 +1,8 @@
 -- Links that are changed.
-use Rattle.std.proofs.Common.{◌≡◌, ◌≢◌, ℕ, zero, suc, ◌+◌, ◌-◌, ◌<◌, ◌==◌, inl, inr, List, [], ◌∷◌, length, get_or, set, false}
+use Rattle.std.proofs.Common.{◌≡◌, ◌≢◌, ℕ, zero, suc, ◌+◌, ◌-◌, ◌<◌, ◌==◌, List, [], ◌∷◌, length, get_or, set, false}
 use Rattle.std.proofs.{Common.{refl, sym, ap, ap₂, subst, ◌∙◌, arith, map, replicate}, lemmas.Bool.{cases_eq, eq-eqb, true≢false}}
-use Rattle.std.proofs.lemmas.{Bool.or_parts, List.{get_or-set_same, get_or-set_other, get_or-map, map-set, length-map}}
-use Rattle.std.proofs.{lemmas.List.length-replicate, Math.ListN.length-set}
+use Rattle.std.proofs.lemmas.{Bool.or_parts, List.{get_or-set_same, get_or-set_other, get_or-map, map-set}}
+use Rattle.std.proofs.{Math.ListN.length-set, lemmas.Grind.common_steps}
 use Rattle.block_pool.specs.{declared.stacks.Stack.Stack, Chains.chain, Chains.chain_of, Chains.AreBelow, Chains.AreWithin}
 use Rattle.block_pool.specs.Chains.{Stacks, stack_of, below_top, AreAbsent}
 use Rattle.block_reclamation.specs.Status.{is_listed}
@@ -37,16 +37,12 @@ map_same f g (s ∷ stacks) each =
 -- a link of a number that no stack has changes no stack
 pub links_else : (below : List ℕ) (stacks : List Stack) (n v : ℕ) → AreAbsent n (map (chain_of below) stacks)
     → map (chain_of (set below n v)) stacks ≡ map (chain_of below) stacks
-links_else below stacks n v absent =
-    map_same (chain_of (set below n v)) (chain_of below) stacks (λ k d lt.
-    let s : Stack = get_or stacks k d in
-    chain_else below s.top s.height n v (ap (is_listed n) (sym (seen below stacks k d lt)) ∙ absent k))
+links_else below stacks n v absent = grind (arith, common_steps, map_same, chain_else, seen)
 
 -- a chain that isn't empty: its top, and what is below
 pub chain_top : (below : List ℕ) (top height : ℕ) → 0 < height
     → chain below top height ≡ top ∷ below_top (chain below top height)
-chain_top below top zero lt = absurd (omega arith)
-chain_top below top (suc height) lt = refl
+chain_top below top h2 lt = grind (arith, common_steps)
 
 pub chain_rest : (below : List ℕ) (top height : ℕ) → 0 < height
     → chain below (get_or below top 0) (height - 1) ≡ below_top (chain below top height)
@@ -57,11 +53,7 @@ chain_rest below top (suc height) lt =
 -- a chain with one number more
 pub chain_more : (below : List ℕ) (top height n : ℕ) → n < length below → is_listed n (chain below top height) ≡ false
     → chain (set below n top) n (height + 1) ≡ n ∷ chain below top height
-chain_more below top height n lt none =
-    let more : height + 1 ≡ suc height = omega arith in
-    let link : get_or (set below n top) n 0 ≡ top = get_or-set_same below n top 0 lt in
-    ap (chain (set below n top) n) more
-    ∙ ap (λ ns. n ∷ ns) (ap (λ t. chain (set below n top) t height) link ∙ chain_else below top height n top none)
+chain_more below top height n lt none = grind (arith, common_steps, get_or-set_same, chain_else)
 
 -- what callers see
 abbrev pub view_of : List ℕ → List Stack → Stacks
@@ -70,13 +62,7 @@ view_of below stacks = record { bound = length below; lists = map (chain_of belo
 module _ (below : List ℕ) (stacks : List Stack) where
   pub shown : (view : Stacks) → view_of below stacks ≡ view → (k : ℕ) (d : Stack) → k < length view.lists
       → (k < length stacks) × (stack_of view.lists k ≡ chain_of below (get_or stacks k d))
-  shown view e k d lt =
-      subst (λ (v : Stacks). k < length v.lists
-      → (k < length stacks) × (stack_of v.lists k ≡ chain_of below (get_or stacks k d))) e
-      (λ low.
-      let long = length-map stacks (chain_of below) in
-      let within : k < length stacks = omega arith in
-      (within, seen below stacks k d within)) lt
+  shown view e k d lt = grind (arith, common_steps)
 
   pub pushed : (view : Stacks) → view_of below stacks ≡ view → (k n : ℕ) (s : Stack) → s ≡ get_or stacks k s
       → k < length view.lists → n < view.bound → AreAbsent n view.lists
@@ -105,22 +91,7 @@ module _ (below : List ℕ) (stacks : List Stack) where
       → k < length view.lists → 0 < s.height → t ≡ get_or below s.top 0
       → view_of below (set stacks k (record { top = t; height = s.height - 1 }))
       ≡ record { bound = view.bound; lists = set view.lists k (below_top (stack_of view.lists k)) }
-  popped view e k s t here low some link =
-      subst (λ (v : Stacks). k < length v.lists
-      → view_of below (set stacks k (record { top = t; height = s.height - 1 }))
-      ≡ record { bound = v.bound; lists = set v.lists k (below_top (stack_of v.lists k)) }) e
-      (λ low.
-      let after : Stack = record { top = t; height = s.height - 1 } in
-      let is = shown (view_of below stacks) refl k s low in
-      let this : stack_of (map (chain_of below) stacks) k ≡ chain below s.top s.height =
-      is.1 ∙ ap (chain_of below) (sym here) in
-      let rest : chain below t (s.height - 1) ≡ below_top (stack_of (map (chain_of below) stacks) k) =
-      ap (λ j. chain below j (s.height - 1)) link ∙ chain_rest below s.top s.height some ∙ ap below_top (sym this) in
-      ap (λ (ls : List (List ℕ)). the_stacks (length below) ls)
-      (map-set (chain_of below) stacks k after ∙ ap (set (map (chain_of below) stacks) k) rest)) low
-    where
-      the_stacks : ℕ → List (List ℕ) → Stacks
-      the_stacks b ls = record { bound = b; lists = ls }
+  popped view e k s t here low some link = grind (arith, common_steps, shown, chain_rest, map-set)
 
   -- the links stay within the room
   module _ (are : AreWithin below stacks) where
@@ -136,67 +107,17 @@ module _ (below : List ℕ) (stacks : List Stack) where
         → AreBelow (length below) (chain_of (set below n s.top)
         (get_or (set stacks k (record { top = n; height = s.height + 1 })) j d))
     within_push k n s here lt low absent j d within =
-        let after : Stack = record { top = n; height = s.height + 1 } in
-        elim (cases_eq j k) [
-          | inl e ↦
-              let it : get_or (set stacks k after) j d ≡ after =
-              ap (λ i. get_or (set stacks k after) i d) e ∙ get_or-set_same stacks k after d lt in
-              let this : stack_of (map (chain_of below) stacks) k ≡ chain below s.top s.height =
-              seen below stacks k s lt ∙ ap (chain_of below) (sym here) in
-              let more = chain_more below s.top s.height n low (ap (is_listed n) (sym this) ∙ absent k) in
-              subst (λ (r : Stack). AreBelow (length below) (chain_of (set below n s.top) r)) (sym it)
-              (subst (AreBelow (length below)) (sym more)
-              (low, subst (λ (r : Stack). AreBelow (length below) (chain_of below r)) (sym here) (are.each k s lt)))
-          | inr ne ↦
-              let it : get_or (set stacks k after) j d ≡ get_or stacks j d = get_or-set_other stacks k j after d ne in
-              let r : Stack = get_or stacks j d in
-              let same = chain_else below r.top r.height n s.top (ap (is_listed n) (sym (seen below stacks j d within)) ∙ absent j) in
-              subst (λ (r : Stack). AreBelow (length below) (chain_of (set below n s.top) r)) (sym it)
-              (subst (AreBelow (length below)) (sym same) (are.each j d within))
-        ]
+        grind (arith, common_steps, cases_eq, get_or-set_same, seen, chain_more, get_or-set_other, chain_else)
 
     pub pushed_within : (k n : ℕ) (s : Stack) → s ≡ get_or stacks k s → k < length stacks → n < length below
         → AreAbsent n (map (chain_of below) stacks)
         → AreWithin (set below n s.top) (set stacks k (record { top = n; height = s.height + 1 }))
-    pushed_within k n s here lt low absent =
-        let after : Stack = record { top = n; height = s.height + 1 } in
-        let long = length-set below n s.top in
-        let many = length-set stacks k after in
-        record {
-          few = omega (arith, are.few, long);
-          each = λ j d within.
-              subst (λ (m : ℕ). AreBelow m (chain_of (set below n s.top) (get_or (set stacks k after) j d))) (sym long)
-              (within_push k n s here lt low absent j d (omega (arith, many, within)));
-        }
+    pushed_within k n s here lt low absent = grind (arith, common_steps, length-set, within_push)
 
     pub popped_within : (k : ℕ) (s : Stack) (t : ℕ) → s ≡ get_or stacks k s → k < length stacks → 0 < s.height
         → t ≡ get_or below s.top 0 → AreWithin below (set stacks k (record { top = t; height = s.height - 1 }))
     popped_within k s t here lt some link =
-        let after : Stack = record { top = t; height = s.height - 1 } in
-        let many = length-set stacks k after in
-        record {
-          few = are.few;
-          each = λ j d within.
-              elim (cases_eq j k) [
-                | inl e ↦
-                    let it : get_or (set stacks k after) j d ≡ after =
-                    ap (λ i. get_or (set stacks k after) i d) e ∙ get_or-set_same stacks k after d lt in
-                    let old : AreBelow (length below) (chain below s.top s.height) =
-                    subst (λ (r : Stack). AreBelow (length below) (chain_of below r)) (sym here) (are.each k s lt) in
-                    subst (λ (r : Stack). AreBelow (length below) (chain_of below r)) (sym it)
-                    (subst (λ (i : ℕ). AreBelow (length below) (chain below i (s.height - 1))) (sym link)
-                    (subst (AreBelow (length below)) (sym (chain_rest below s.top s.height some))
-                    (rest_below (chain below s.top s.height) old)))
-                | inr ne ↦
-                    let low : j < length stacks = omega (arith, many, within) in
-                    subst (λ (r : Stack). AreBelow (length below) (chain_of below r))
-                    (sym (get_or-set_other stacks k j after d ne)) (are.each j d low)
-              ];
-        }
-      where
-        rest_below : (ns : List ℕ) → AreBelow (length below) ns → AreBelow (length below) (below_top ns)
-        rest_below [] each = each
-        rest_below (n ∷ ns) each = each.1
+        grind (arith, common_steps, length-set, cases_eq, get_or-set_same, chain_rest, get_or-set_other)
 
 -- empty stacks
 pub map_empty : (below : List ℕ) (k : ℕ) (t : ℕ)
@@ -204,18 +125,6 @@ pub map_empty : (below : List ℕ) (k : ℕ) (t : ℕ)
 map_empty below zero t = refl
 map_empty below (suc k) t = ap (λ ls. [] ∷ ls) (map_empty below k t)
 
-same_stack : (s : Stack) (k j : ℕ) (d : Stack) → j < k → get_or (replicate k s) j d ≡ s
-same_stack s zero j d lt = absurd (omega arith)
-same_stack s (suc k) zero d lt = refl
-same_stack s (suc k) (suc j) d lt = same_stack s k j d (omega arith)
-
 pub empty_within : (below : List ℕ) (k : ℕ) (t : ℕ) → length below < 4294967296
     → AreWithin below (replicate k (record { top = t; height = 0 }))
-empty_within below k t few =
-    let empty : Stack = record { top = t; height = 0 } in
-    record {
-      few = few;
-      each = λ j d within.
-          subst (λ (r : Stack). AreBelow (length below) (chain_of below r))
-          (sym (same_stack empty k j d (omega (arith, within, length-replicate k empty)))) tt;
-    }
+empty_within below k t few = grind (arith, common_steps)

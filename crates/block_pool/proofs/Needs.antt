@@ -1,25 +1,19 @@
 -- What a copy needs, by one seat's pin and by what it reaches.
-use Rattle.std.proofs.Common.{◌≡◌, ℕ, ◌<◌, Bool, true, false, ◌||◌, not, List, get_or, Option, Some, None, refl, ap, ltb}
-use Rattle.std.{proofs.lemmas.Bool.false≢true, specs.List.list_any}
+use Rattle.std.proofs.Common.{◌≡◌, ℕ, ◌<◌, true, false, not, List, get_or, Option, None, ap, arith}
+use Rattle.std.specs.List.{list_any}
+use Rattle.std.proofs.lemmas.Grind.{common_steps}
 use Rattle.block_reclamation.specs.{declared.{copies.PinCopy.PinCopy, status.BlockStatus.TheVariants.Retired}, Copies.reach_of}
-use Rattle.block_reclamation.specs.{Copies.{is_between, is_before, needs}, Status.is_reclaimable}
-use Rattle.block_reclamation.proofs.Least.{any_at, reach_needed}
-
-or_middle : (a b c : Bool) → b ≡ true → (a || (b || c)) ≡ true
-or_middle true b c is = refl
-or_middle false b c is = ap (λ t. t || c) is
+use Rattle.block_reclamation.specs.{Copies.{is_between, needs}, Status.is_reclaimable}
+use Rattle.block_reclamation.proofs.Least.{reach_needed}
 
 any_between : (birth retirement seat : ℕ) (pins : List (Option ℕ)) (pin : Option ℕ) → get_or pins seat None ≡ pin
     → is_between birth retirement pin ≡ true → list_any (is_between birth retirement) pins ≡ true
-any_between birth retirement seat pins None at is = absurd (false≢true is)
-any_between birth retirement seat pins (Some p) at is = any_at (is_between birth retirement) pins seat p at is
+any_between birth retirement seat pins h4 at is = grind (arith, common_steps)
 
 -- a seat's settled pin keeps what lies round it
 pub pinned : (copy : PinCopy) (birth retirement seat : ℕ) (pin : Option ℕ) → get_or copy.settled seat None ≡ pin
     → is_between birth retirement pin ≡ true → is_reclaimable copy (Retired birth retirement) ≡ false
-pinned copy birth retirement seat pin at is =
-    ap not (or_middle (ltb copy.last retirement) _ (list_any (is_before retirement) copy.unsettled)
-    (any_between birth retirement seat copy.settled pin at is))
+pinned copy birth retirement seat pin at is = grind (arith, common_steps)
 
 -- what a copy doesn't reach isn't due
 pub later : (birth retirement : ℕ) (copy : PinCopy) → reach_of copy < retirement → is_reclaimable copy (Retired birth retirement) ≡ false

@@ -1,17 +1,17 @@
 -- Lists of the numbers that have a status.
 use Rattle.std.proofs.Common.{◌≡◌, ℕ, zero, suc, ◌+◌, ◌-◌, ◌<◌, ◌≤◌, ◌==◌, List, [], ◌∷◌, ◌++◌, length, get_or, set, map}
 use Rattle.std.proofs.Common.{subst, replicate, count_by, take, Bool, true, false, cond, ◌&&◌, refl, sym, ap, ap₂, ◌∙◌, arith}
-use Rattle.std.proofs.lemmas.Bool.{true≢false, false≢true, eqb-true, eqb-false, and_parts, true_from_ne_false}
-use Rattle.std.{specs.Prelude.slice_get, proofs.lemmas.List.Sums.sum_by-cons, proofs.lemmas.List.Sums.sum_by-append}
+use Rattle.std.proofs.lemmas.Bool.{false≢true, eqb-true, eqb-false, and_parts, true_from_ne_false}
+use Rattle.std.specs.Prelude.{slice_get}
+use Rattle.std.proofs.lemmas.Grind.{common_steps}
 use Rattle.block_reclamation.specs.declared.{copies.PinCopy.PinCopy, status.BlockStatus.{BlockStatus, TheVariants.Free}}
-use Rattle.block_reclamation.specs.{declared.status.BlockStatus.TheVariants.{Granted, Used, Retired}, Status.{is_free, is_in_use}}
+use Rattle.block_reclamation.specs.{declared.status.BlockStatus.TheVariants.{Granted, Used}, Status.{is_free, is_in_use}}
 use Rattle.block_reclamation.specs.Status.{is_used, is_retired, is_reclaimable, recycled, is_at}
 use Rattle.block_pool.specs.Kept.{status_of, tally, Lists}
 use Rattle.edge_block.proofs.Counts.{count_more}
 
 pub count_last : {A : Type 0} (p : A → Bool) (xs : List A) (x : A) → count_by p (xs ++ x ∷ []) ≡ count_by p xs + cond (p x) 1 0
-count_last p xs x = sum_by-append (λ x. cond (p x) 1 0) xs (x ∷ [])
-    ∙ ap (λ n. count_by p xs + n) (sum_by-cons (λ x. cond (p x) 1 0) x [] ∙ Rattle.std.proofs.Common.add-zero (cond (p x) 1 0))
+count_last p xs x = grind (arith, common_steps)
 
 pub count_true : {A : Type 0} (xs : List A) → count_by (λ _. true) xs ≡ length xs
 count_true [] = refl
@@ -83,9 +83,7 @@ count_here p pool k s d lt = Rattle.std.proofs.lemmas.List.Sums.sum_by-set (λ s
 
 pub count_kept : (p : BlockStatus → Bool) (pool : List BlockStatus) (k : ℕ) (s : BlockStatus) → k < length pool
     → p (status_of pool k) ≡ p s → count_by p (set pool k s) ≡ count_by p pool
-count_kept p pool k s lt same =
-    let c = rw same at (count_here p pool k s Granted lt) in
-    omega arith
+count_kept p pool k s lt same = grind (arith, common_steps)
 
 module _ (p : BlockStatus → Bool) (pool : List BlockStatus) (ns : List ℕ) (are : Lists p pool ns) where
   pub listed_count : length ns ≡ count_by p pool
@@ -93,38 +91,21 @@ module _ (p : BlockStatus → Bool) (pool : List BlockStatus) (ns : List ℕ) (a
 
   module _ (k : ℕ) (s : BlockStatus) (lt : k < length pool) where
     pub lists_more : p (status_of pool k) ≡ false → p s ≡ true → Lists p (set pool k s) (ns ++ k ∷ [])
-    lists_more a b q =
-        let old = are q in
-        let c = count_last q ns k in
-        let t : tally p q 0 (set pool k s) + cond (false && q k) 1 0 ≡ tally p q 0 pool + cond (true && q k) 1 0 =
-        rw b at (rw a at (tally_here p q pool k s lt)) in
-        omega arith
+    lists_more a b q = grind (arith, common_steps, count_last, tally_here)
 
     pub lists_same : p (status_of pool k) ≡ p s → Lists p (set pool k s) ns
-    lists_same e q =
-        let old = are q in
-        let t : tally p q 0 (set pool k s) + cond (p s && q k) 1 0 ≡ tally p q 0 pool + cond (p s && q k) 1 0 =
-        rw e at (tally_here p q pool k s lt) in
-        omega arith
+    lists_same e q = grind (arith, common_steps, tally_here)
 
     pub lists_less : (ms : List ℕ) → ((q : ℕ → Bool) → count_by q ns ≡ count_by q ms + cond (q k) 1 0)
         → p (status_of pool k) ≡ true → p s ≡ false → Lists p (set pool k s) ms
-    lists_less ms cut a b q =
-        let old = are q in
-        let c = cut q in
-        let t : tally p q 0 (set pool k s) + cond (true && q k) 1 0 ≡ tally p q 0 pool + cond (false && q k) 1 0 =
-        rw b at (rw a at (tally_here p q pool k s lt)) in
-        omega arith
+    lists_less ms cut a b q = grind (arith, common_steps, tally_here)
 
-    pub lists_room : p (status_of pool k) ≡ false → length ns < length pool
-    lists_room a = let c = count_lt p pool k Granted lt a in let l = listed_count in omega arith
+  pub lists_room : (k : ℕ) → k < length pool → p (status_of pool k) ≡ false → length ns < length pool
+  lists_room k lt out = let c = count_lt p pool k Granted lt out in let l = listed_count in omega arith
 
 pub count_at : {A : Type 0} (p : A → Bool) (xs : List A) (i : ℕ) (d : A) → i < length xs → p (get_or xs i d) ≡ true
     → 1 ≤ count_by p xs
-count_at p [] i d lt e = absurd (omega arith)
-count_at p (x ∷ xs) zero d lt e = let m = count_more p x xs in let one : (let k : ℕ = cond (p x) 1 0 in k) ≡ 1 =
-    ap (λ b. cond b 1 0) e in omega arith
-count_at p (x ∷ xs) (suc i) d lt e = let m = count_more p x xs in let rest = count_at p xs i d (omega arith) e in omega arith
+count_at p xs i d lt e = grind (arith, common_steps)
 
 pub same_number : (a : ℕ) → (a == a) ≡ true
 same_number a = true_from_ne_false (a == a) (λ e. eqb-false a a e refl)
@@ -160,16 +141,10 @@ pub tally_has_one : (p : BlockStatus → Bool) (k : ℕ) (pool : List BlockStatu
 tally_has_one p k pool lt e = let z : 0 + k ≡ k = omega arith in rw z at (tally_has p k 0 pool lt e)
 
 pub retired_not_free : (s : BlockStatus) → is_retired s ≡ true → is_free s ≡ false
-retired_not_free Free e = absurd (false≢true e)
-retired_not_free Granted e = refl
-retired_not_free (Used birth) e = refl
-retired_not_free (Retired birth retirement) e = refl
+retired_not_free h0 e = grind (arith, common_steps)
 
 pub past_retired : (copy : PinCopy) (s : BlockStatus) → is_retired s ≡ false → is_reclaimable copy s ≡ false
-past_retired copy Free e = refl
-past_retired copy Granted e = refl
-past_retired copy (Used birth) e = refl
-past_retired copy (Retired birth retirement) e = absurd (true≢false e)
+past_retired copy h1 e = grind (arith, common_steps)
 
 -- recycling, one number at a time
 module _ (copy : PinCopy) where
@@ -183,10 +158,7 @@ module _ (copy : PinCopy) where
 
   pub past_set : (pool : List BlockStatus) (k : ℕ) → k < length pool → is_reclaimable copy (status_of pool k) ≡ true
       → count_by (is_reclaimable copy) (set pool k Free) + 1 ≡ count_by (is_reclaimable copy) pool
-  past_set pool k lt e =
-      let s = Rattle.std.proofs.lemmas.List.Sums.sum_by-set (λ s. cond (is_reclaimable copy s) 1 0) pool k Free Granted lt in
-      let one : (let x : ℕ = cond (is_reclaimable copy (status_of pool k)) 1 0 in x) ≡ 1 = ap (λ b. cond b 1 0) e in
-      omega arith
+  past_set pool k lt e = grind (arith, common_steps)
 
   pub none_past : (pool : List BlockStatus) → ((k : ℕ) → k < length pool → is_reclaimable copy (status_of pool k) ≡ false)
       → (map (recycled copy) pool ≡ pool) × (count_by (is_reclaimable copy) pool ≡ 0)
@@ -200,10 +172,7 @@ module _ (copy : PinCopy) where
       (ap₂ (λ x xs. x ∷ xs) (ap (λ b. cond b Free s) here) rest.0, omega arith)
 
 pub free_not_retired : (s : BlockStatus) → is_free s ≡ true → is_retired s ≡ false
-free_not_retired Free e = refl
-free_not_retired Granted e = absurd (false≢true e)
-free_not_retired (Used birth) e = absurd (false≢true e)
-free_not_retired (Retired birth retirement) e = absurd (false≢true e)
+free_not_retired h0 e = grind (arith, common_steps)
 
 -- a number whose status passes is one of the pool's
 pub within_pool : (p : BlockStatus → Bool) (pool : List BlockStatus) (n : ℕ) → is_at p (slice_get pool n) ≡ true
@@ -220,16 +189,10 @@ passes_at p (s ∷ pool) (suc n) lt e = passes_at p pool n (omega arith) e
 
 -- a used status is neither free nor retired
 pub used_not_free : (s : BlockStatus) → is_in_use s ≡ true → is_free s ≡ false
-used_not_free Free e = absurd (false≢true e)
-used_not_free Granted e = refl
-used_not_free (Used birth) e = refl
-used_not_free (Retired birth retirement) e = absurd (false≢true e)
+used_not_free h0 e = grind (arith, common_steps)
 
 pub used_not_retired : (s : BlockStatus) → is_in_use s ≡ true → is_retired s ≡ false
-used_not_retired Free e = absurd (false≢true e)
-used_not_retired Granted e = refl
-used_not_retired (Used birth) e = refl
-used_not_retired (Retired birth retirement) e = absurd (false≢true e)
+used_not_retired h0 e = grind (arith, common_steps)
 
 pub record IsUsedAt (pool : List BlockStatus) (n : ℕ) : Type 0 where
   pub within : n < length pool
@@ -237,17 +200,10 @@ pub record IsUsedAt (pool : List BlockStatus) (n : ℕ) : Type 0 where
   pub not_retired : is_retired (status_of pool n) ≡ false
 
 pub used_at : (pool : List BlockStatus) (n : ℕ) → is_at is_in_use (slice_get pool n) ≡ true → IsUsedAt pool n
-used_at pool n e = let at = within_pool is_in_use pool n e in record {
-  within = at.0;
-  not_free = used_not_free (status_of pool n) at.1;
-  not_retired = used_not_retired (status_of pool n) at.1;
-}
+used_at pool n e = grind (arith, common_steps, within_pool, used_not_free, used_not_retired)
 
 born_is : (s : BlockStatus) → is_used s ≡ true → (birth : ℕ) × (s ≡ Used birth)
-born_is Free e = absurd (false≢true e)
-born_is Granted e = absurd (false≢true e)
-born_is (Used birth) e = (birth, refl)
-born_is (Retired birth retirement) e = absurd (false≢true e)
+born_is h0 e = grind (arith, common_steps)
 
 pub born_at : (pool : List BlockStatus) (n : ℕ) → is_at is_used (slice_get pool n) ≡ true
     → (n < length pool) × ((birth : ℕ) × (status_of pool n ≡ Used birth))
@@ -265,16 +221,7 @@ tally_last p q i (t ∷ pool) s =
 -- one free number more, at the end
 pub free_more : (k : ℕ) (ns : List ℕ) → Lists is_free (replicate k Free) ns
     → Lists is_free (replicate (k + 1) Free) (ns ++ k ∷ [])
-free_more k ns are q =
-    let more : replicate (k + 1) Free ≡ replicate k Free ++ Free ∷ [] =
-    sym (Rattle.std.proofs.lemmas.List.replicate-append-replicate k 1 Free) in
-    let t = tally_last is_free q 0 (replicate k Free) Free in
-    let long : 0 + length (replicate k Free) ≡ k = omega (arith, Rattle.std.proofs.lemmas.List.length-replicate k Free) in
-    let last = rw long at t in
-    let c = count_last q ns k in
-    let old = are q in
-    let e = ap (tally is_free q 0) more in
-    omega arith
+free_more k ns are q = grind (arith, common_steps, tally_last, count_last)
 
 -- of free numbers alone, none is retired
 pub none_retired : (q : ℕ → Bool) (i k : ℕ) → tally is_retired q i (replicate k Free) ≡ 0

@@ -1,7 +1,7 @@
 -- A pool: what each of its block numbers is by now. Free, in use and retired part the numbers, since each number has one status.
 use Rattle.std.specs.Prelude.{◌≡◌, ◌≢◌, ℕ, List, [], ◌∷◌, slice_get, slice_index_or, slice_set, All, AllPairs, Bool, true, ◌<◌}
 use Rattle.std.specs.{Prelude.{length, Option, None, IfSome}, Arc.arc_value, declared.{sync.Arc.Arc, alloc.Global.Global}}
-use Rattle.block_reclamation.specs.declared.status.BlockStatus.{BlockStatus, TheVariants.{Free, Granted, Used, Retired}}
+use Rattle.block_reclamation.specs.declared.status.BlockStatus.{BlockStatus, TheVariants.{Granted, Used, Retired}}
 use Rattle.block_reclamation.specs.Status.{is_at, is_free, is_in_use, is_used}
 use Rattle.edge_block.specs.declared.blocks.Block.{Block}
 
@@ -17,10 +17,8 @@ is_used_at pool number = is_at is_used (slice_get pool number)
 
 -- what retiring with a version's number makes of a status
 abbrev pub retired : ℕ → BlockStatus → BlockStatus
-retired version Free = Free
-retired version Granted = Granted
 retired version (Used birth) = Retired birth version
-retired version (Retired birth retirement) = Retired birth retirement
+retired version status = status
 
 -- the list with that element at each of these places
 abbrev pub marked : {A : Type 0} → List ℕ → A → List A → List A

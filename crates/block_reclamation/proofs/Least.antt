@@ -1,6 +1,6 @@
 -- The least of a number and of pins; and what a copy needs.
 use Rattle.std.proofs.Common.{◌≡◌, ℕ, zero, suc, ◌<◌, ◌≤◌, ◌⊎◌, inl, inr, min, Bool, true, false, ◌||◌, List, [], ◌∷◌, get_or}
-use Rattle.std.proofs.{Common.{Option, Some, None, refl, sym, ap, ◌∙◌, arith, ltb}, lemmas.Bool.{cases_lt, Decides.nat_tests}}
+use Rattle.std.proofs.{Common.{Option, Some, None, refl, sym, ap, ◌∙◌, arith, ltb}, lemmas.Bool.{cases_lt, or_left, or_right, Decides.nat_tests}}
 use Rattle.std.specs.List.{list_any}
 use Rattle.block_reclamation.specs.declared.copies.PinCopy.{PinCopy}
 use Rattle.block_reclamation.specs.Copies.{lesser, least_of, reach_of, is_between, is_before, needs}
@@ -52,13 +52,6 @@ any_at p (x ∷ xs) (suc s) n at holds =
       | true ↦ refl
       | false ↦ any_at p xs s n at holds
     ]
-
-or_left : (a b : Bool) → a ≡ true → (a || b) ≡ true
-or_left a b e = ap (λ t. t || b) e
-
-or_right : (a b : Bool) → b ≡ true → (a || b) ≡ true
-or_right true b e = refl
-or_right false b e = e
 
 -- what was retired after the last number, what a settled pin lies between, and what an unsettled pin lies below
 pub late_needed : (copy : PinCopy) (birth retirement : ℕ) → copy.last < retirement → needs copy birth retirement ≡ true

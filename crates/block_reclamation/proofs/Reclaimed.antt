@@ -1,5 +1,5 @@
 -- The laws of status, floor and need.
-use Rattle.std.proofs.Common.{◌≡◌, ℕ, ◌+◌, ◌<◌, ◌≤◌, Bool, true, false, ◌||◌, List, [], ◌∷◌, count_by, cond, Option, Some, None}
+use Rattle.std.proofs.Common.{◌≡◌, ℕ, ◌+◌, ◌≤◌, Bool, true, false, ◌||◌, List, [], ◌∷◌, count_by, cond, Option, Some, None}
 use Rattle.std.proofs.{Common.{refl, ap, ◌∙◌, arith, ltb}, lemmas.{Bool.Decides.nat_tests, List.Sums.sum_by-cons}}
 use Rattle.std.specs.List.{list_any}
 use Rattle.block_reclamation.specs.declared.status.BlockStatus.{BlockStatus, TheVariants.{Free, Granted, Used, Retired}}
@@ -9,9 +9,7 @@ use Rattle.block_reclamation.proofs.Least.{least_below, least_each}
 
 pub one_of_four : (status : BlockStatus) → IsOneOfFour status
 one_of_four Free = refl
-one_of_four Granted = refl
-one_of_four (Used birth) = refl
-one_of_four (Retired birth retirement) = refl
+one_of_four _ = refl
 
 count_more : (p : BlockStatus → Bool) (s : BlockStatus) (ss : List BlockStatus) → count_by p (s ∷ ss) ≡ cond (p s) 1 0 + count_by p ss
 count_more p s ss = sum_by-cons (λ x. cond (p x) 1 0) s ss
@@ -52,10 +50,7 @@ none_passes p floor never high n (Some m ∷ pins) low =
     ∙ none_passes p floor never high (lesser n (Some m)) pins low
 
 none_of_three : (a b c : Bool) → a ≡ false → b ≡ false → c ≡ false → (a || (b || c)) ≡ false
-none_of_three false false false _ _ _ = refl
-none_of_three true b c x _ _ = x
-none_of_three false true c _ x _ = x
-none_of_three false false true _ _ x = x
+none_of_three a b c x y z = rw (x, y, z) refl
 
 pub floor_spares : FloorSpares
 floor_spares copy birth retirement low =
@@ -85,11 +80,9 @@ any_weaker p q (pin ∷ pins) weaker found =
 some_of_three : (a b c x y z : Bool) → (a ≡ true → x ≡ true) → (b ≡ true → y ≡ true) → (c ≡ true → z ≡ true)
     → (a || (b || c)) ≡ true → (x || (y || z)) ≡ true
 some_of_three true b c x y z f g h is = ap (λ t. t || (y || z)) (f refl)
-some_of_three false true c true y z f g h is = refl
 some_of_three false true c false y z f g h is = ap (λ t. t || z) (g refl)
-some_of_three false false c true y z f g h is = refl
-some_of_three false false c false true z f g h is = refl
 some_of_three false false c false false z f g h is = h is
+some_of_three _ b c x y z f g h is = refl
 
 wider : (birth retirement earlier later : ℕ) (pin : Option ℕ) → earlier ≤ birth → retirement ≤ later
     → is_between birth retirement pin ≡ true → is_between earlier later pin ≡ true

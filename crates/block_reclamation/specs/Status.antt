@@ -40,17 +40,15 @@ is_listed b blocks = list_any (λ c. c == b) blocks
 
 -- a block was born at latest with this version, and retired after its birth and at latest with this version
 abbrev pub IsDated : ℕ → BlockStatus → Type 0
-IsDated last Free = Unit {0}
-IsDated last Granted = Unit {0}
 IsDated last (Used birth) = birth ≤ last
 IsDated last (Retired birth retirement) = (birth < retirement) × (retirement ≤ last)
+IsDated last _ = Unit {0}
 
 -- a block is kept for the holders of version n: it was born at latest with it, and not retired or only after it
 abbrev pub IsKept : ℕ → BlockStatus → Type 0
-IsKept n Free = ⊥
-IsKept n Granted = ⊥
 IsKept n (Used birth) = birth ≤ n
 IsKept n (Retired birth retirement) = (birth ≤ n) × (n < retirement)
+IsKept n _ = ⊥
 
 -- Reclamation
 

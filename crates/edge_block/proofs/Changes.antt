@@ -1,16 +1,15 @@
 -- A list whose elements have something at keys, and one change to the first element that passes a test.
 use Rattle.std.proofs.Common.{◌≡◌, List, [], ◌∷◌, ◌++◌, Bool, true, false, cond, ◌||◌, refl, sym, ap, ◌∙◌, subst, Option, Some}
-use Rattle.std.proofs.{Common.{None, is_some, ◌⊎◌, inl, inr, All}, lemmas.{Bool.{true≢false, false≢true}, List.Elements.All-head}}
+use Rattle.std.proofs.{Common.{None, is_some, ◌⊎◌, inl, inr, All}, lemmas.{Bool.false≢true, List.Elements.All-head}}
 use Rattle.std.{proofs.lemmas.List.Elements.All-tail, specs.{List.list_any, Option.option_or}}
+use Rattle.std.proofs.{Common.arith, lemmas.Grind.common_steps}
 use Rattle.edge_block.specs.Slots.{first_some, NoKeyTwice, at_first}
 
 pub or_none : {B : Type 0} (o : Option B) → option_or o None ≡ o
-or_none None = refl
-or_none (Some x) = refl
+or_none h0 = grind (arith, common_steps)
 
 pub none_is : {B : Type 0} (o : Option B) → is_some o ≡ false → o ≡ None
-none_is None h = refl
-none_is (Some x) h = absurd (true≢false h)
+none_is h0 h = grind (arith, common_steps)
 
 pub some_not_none : {B : Type 0} (o : Option B) → is_some o ≡ true → o ≡ None → ⊥
 some_not_none o h e = false≢true (sym (ap is_some e) ∙ h)
@@ -31,12 +30,10 @@ module _ {A K B : Type 0} (at : A → K → Option B) (same : K → K → Bool) 
   chain xs q = first_some (λ y. at y q) xs
 
   or_same : (c : Bool) (x y : Option B) → (c ≡ true → y ≡ None) → option_or (cond c o x) y ≡ cond c o (option_or x y)
-  or_same true x y h = ap (option_or o) (h refl) ∙ or_none o
-  or_same false x y h = refl
+  or_same h0 x y h = grind (arith, common_steps)
 
   or_skip : (c : Bool) (x y : Option B) → (c ≡ true → x ≡ None) → option_or x (cond c o y) ≡ cond c o (option_or x y)
-  or_skip true x y h = ap (λ z. option_or z o) (h refl)
-  or_skip false x y h = refl
+  or_skip h0 x y h = grind (arith, common_steps)
 
   at_key : (q : K) (x : A) → at x k ≡ None → same q k ≡ true → at x q ≡ None
   at_key q x h e = ap (at x) (sound q k e) ∙ h
@@ -107,8 +104,7 @@ module _ {A K B : Type 0} (at : A → K → Option B) (same : K → K → Bool) 
       ] refl h
 
   first_of_two : (x y : Option B) → option_or x y ≡ None → (x ≡ None) × (y ≡ None)
-  first_of_two None y h = (refl, h)
-  first_of_two (Some x) y h = absurd (some_not_none (Some x) refl h)
+  first_of_two h0 y h = grind (arith, common_steps)
 
   -- an element that passes another test is changed, where no element has the key
   pub fits_room : (p : A → Bool) (f : A → A) (xs : List A) → list_any p xs ≡ true → chain xs k ≡ None
@@ -133,10 +129,7 @@ module _ {A K B : Type 0} (at : A → K → Option B) (same : K → K → Bool) 
   -- an element at the end, where no element has the key
   pub set_last : (xs : List A) (y : A) → chain xs k ≡ None → ((q : K) → at y q ≡ cond (same q k) o None) → (q : K)
       → chain (xs ++ y ∷ []) q ≡ cond (same q k) o (chain xs q)
-  set_last xs y none is q =
-      first_append (λ x. at x q) xs y ∙ ap (option_or (chain xs q)) (is q)
-      ∙ or_skip (same q k) (chain xs q) None (chain_key q xs none)
-      ∙ ap (cond (same q k) o) (or_none (chain xs q))
+  set_last xs y none is q = grind (arith, common_steps, first_append, or_skip, chain_key, or_none)
 
   pub unique_last : (xs : List A) (y : A) → chain xs k ≡ None → ((q : K) → at y q ≡ cond (same q k) o None) → NoKeyTwice at xs
       → NoKeyTwice at (xs ++ y ∷ [])

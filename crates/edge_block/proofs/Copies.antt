@@ -1,7 +1,7 @@
 -- Columns that were copied up to the highest live place.
-use Rattle.std.proofs.Common.{◌≡◌, ℕ, ◌<◌, ◌≤◌, ℤ, pos, List, ◌++◌, length, get_or, take, drop, sym, ap, ◌∙◌, inl, inr, arith}
-use Rattle.std.proofs.lemmas.List.{ext_get_or, length-append, length-take, length-drop, get_or-take, get_or_append_left}
-use Rattle.std.proofs.lemmas.Bool.{cases_lt}
+use Rattle.std.proofs.Common.{◌≡◌, ℕ, ◌<◌, ◌≤◌, ℤ, pos, List, ◌++◌, length, get_or, take, drop, sym, ◌∙◌, inl, inr, arith}
+use Rattle.std.proofs.lemmas.List.{ext_get_or}
+use Rattle.std.proofs.lemmas.{Bool.cases_lt, Grind.common_steps}
 use Rattle.std.specs.{Prelude.slice_index, declared.option.Option.{Option, TheVariants.{None, Some}}}
 use Rattle.lane_scan.specs.Masks.{InMask, selected}
 use Rattle.edge_block.specs.{Slots.Slot, Slots.BlockView, Slots.edge_slot, Columns.slots_of, Columns.AreColumns, Columns.AreTimes}
@@ -14,14 +14,11 @@ below_used live n k past lives = elim (cases_lt k n) [ inl below ↦ below | inr
 -- an item of the copied part
 pub copied_at : {X : Type 0} (xs new rest : List X) (n k : ℕ) (d : X) → new ≡ take n xs → n ≤ length xs → k < n
     → get_or (new ++ rest) k d ≡ get_or xs k d
-copied_at xs new rest n k d is few below =
-    get_or_append_left new rest d k (omega (arith, ap length is, length-take n xs)) ∙ ap (λ ys. get_or ys k d) is
-    ∙ get_or-take n xs k d below
+copied_at xs new rest n k d is few below = grind (arith, common_steps)
 
 pub length-copied : {X : Type 0} (xs ys new : List X) (n : ℕ) → new ≡ take n xs → length xs ≡ 32 → length ys ≡ 32 → n ≤ 32
     → length (new ++ drop n ys) ≡ 32
-length-copied xs ys new n is long long' few =
-    omega (arith, length-append new (drop n ys), ap length is, length-take n xs, length-drop n ys)
+length-copied xs ys new n is long long' few = grind (arith, common_steps)
 
 -- the same slots
 pub slots_copied : (live : ℕ) (ts : List ℕ) (ws ws' : List ℤ) (fs fs' rs rs' : List ℕ) →
@@ -48,10 +45,7 @@ pub columns_copied : (live : ℕ) (ts : List ℕ) (ws ws' : List ℤ) (fs fs' rs
     ((k : ℕ) → k < 32 → InMask live k → get_or fs' k 0 ≡ get_or fs k 0) →
     ((k : ℕ) → k < 32 → InMask live k → get_or rs' k 0 ≡ get_or rs k 0) →
     AreColumns live ts ws fs rs → AreColumns live ts ws' fs' rs'
-columns_copied live ts ws ws' fs fs' rs rs' same_ws same_fs same_rs h =
-    let same : slots_of live ts ws' fs' rs' ≡ slots_of live ts ws fs rs =
-    slots_copied live ts ws ws' fs fs' rs rs' same_ws same_fs same_rs in
-    record { distinct = rw same h.distinct; stamped = rw same h.stamped; cleared = h.cleared }
+columns_copied live ts ws ws' fs fs' rs rs' same_ws same_fs same_rs h = grind (arith, common_steps, slots_copied)
 
 -- the same bounds
 pub times_copied : (live : ℕ) (rs rs' : List ℕ) (times : ℕ × ℕ) → length rs ≡ 32 → length rs' ≡ 32 →
@@ -67,5 +61,4 @@ pub copied_block : (number : ℕ) (slots : List (Option Slot)) (seen old other :
     → slots ≡ seen.slots → seen ≡ other →
     (let b : BlockView = record { number = number; source = seen.source; kind = seen.kind; slots = slots } in b)
     ≡ record { number = old.number; source = other.source; kind = other.kind; slots = other.slots }
-copied_block number slots seen old other e f g =
-    λ i. record { number = e i; source = (g i).source; kind = (g i).kind; slots = (f ∙ ap (λ b. b.slots) g) i }
+copied_block number slots seen old other e f g = grind (arith, common_steps)

@@ -1,48 +1,32 @@
 -- What a search for a target finds: after a put, after a take, and among a block's entries.
-use Rattle.std.proofs.Common.{◌≡◌, ℕ, zero, suc, ◌<◌, ◌==◌, ◌↔◌, List, [], ◌∷◌, length, get_or, map, Bool, true, false, cond}
-use Rattle.std.proofs.{Common.{refl, sym, ap, ◌∙◌, subst, arith, ◌⊎◌, inl, inr}, lemmas.Bool.{false≢true, eqb-true, eq-eqb}}
-use Rattle.std.proofs.lemmas.{Bool.{ne_eqb, cases_eq}, List.{length-map, get_or-map, Elements.Contains-get_or}}
+use Rattle.std.proofs.Common.{◌≡◌, ℕ, ◌<◌, ◌==◌, ◌↔◌, List, [], ◌∷◌, length, get_or, Bool, true, false, cond}
+use Rattle.std.proofs.{Common.{refl, sym, ap, ◌∙◌, subst, arith, inl, inr}, lemmas.Bool.{eqb-true, eq-eqb}}
+use Rattle.std.proofs.lemmas.{Bool.{ne_eqb, cases_eq, cases_Bool}, List.{length-map, get_or-map, Elements.Contains-get_or}}
 use Rattle.std.specs.{Prelude.◌||◌, Prelude.Contains, List.list_any, Option.is_some, Option.option_or}
 use Rattle.std.specs.declared.option.Option.{Option, TheVariants.None, TheVariants.Some}
-use Rattle.graph_types.specs.Graph.{Key, Stamp}
+use Rattle.std.proofs.lemmas.Grind.{common_steps}
+use Rattle.graph_types.{specs.Graph.{Key, Stamp}, proofs.{Arcs.contains_map, Counts.{Contains-cons, Contains-cons_cases}}}
 use Rattle.edge_block.specs.Slots.{Slot, BlockView, at_first, slot_at, stamp_at, holds, is_free, has_room_for, AreDistinct}
 use Rattle.edge_block.specs.{Slots.put_slot, Slots.take_slot, Slots.edges_in, Slots.entry_in, Slots.entries_of, Laws.StandsIn}
-use Rattle.edge_block.proofs.{Firsts.at_first-none, Changes.{set_first, Fits, Puts, fits_key, fits_room, any_key, none_is}}
+use Rattle.edge_block.proofs.{Firsts.at_first-none, Changes.{set_first, set_unique, Fits, Puts, fits_key, fits_room, any_key, none_is}}
 
 twice : {A : Type 0} (b : Bool) (x y z : A) → cond b x (cond b y z) ≡ cond b x z
-twice true x y z = refl
-twice false x y z = refl
+twice h0 x y z = grind (arith, common_steps)
 
 -- a slot with an edge, in place of another to the same target
 over : (e : Slot) (s : Option Slot) → holds e.target s ≡ true → Puts slot_at ◌==◌ eqb-true e.target (Some e.stamp) (Some e) s
-over e None h q = absurd (false≢true h)
-over e (Some d) h q =
-    elim (e.target == d.target) as (λ b. e.target == d.target ≡ b → is_some (cond b (Some d.stamp) None) ≡ true
-    → slot_at (Some e) q ≡ cond (q == e.target) (Some e.stamp) (slot_at (Some d) q)) [
-      | true ↦ λ t i. sym (twice (q == e.target) (Some e.stamp) (Some d.stamp) None)
-          ∙ ap (λ n. cond (q == e.target) (Some e.stamp) (cond (q == n) (Some d.stamp) None)) (eqb-true e.target d.target t)
-      | false ↦ λ t i. absurd (false≢true i)
-    ] refl h
+over e h1 h q = grind (arith, common_steps)
 
 -- a slot with an edge, in place of a free one
 into : (e : Slot) (s : Option Slot) → is_free s ≡ true → Puts slot_at ◌==◌ eqb-true e.target (Some e.stamp) (Some e) s
-into e None h q = refl
-into e (Some d) h q = absurd (false≢true h)
+into e h1 h q = grind (arith, common_steps)
 
 none_there : (b : Bool) (x : Option Stamp) → None ≡ cond b None (cond b x None)
-none_there true x = refl
-none_there false x = refl
+none_there h0 x = grind (arith, common_steps)
 
 -- a free slot, in place of one with an edge to the target
 out_of : (target : ℕ) (s : Option Slot) → holds target s ≡ true → Puts slot_at ◌==◌ eqb-true target None None s
-out_of target None h q = absurd (false≢true h)
-out_of target (Some d) h q =
-    elim (target == d.target) as (λ b. target == d.target ≡ b → is_some (cond b (Some d.stamp) None) ≡ true
-    → None ≡ cond (q == target) None (slot_at (Some d) q)) [
-      | true ↦ λ t i. none_there (q == target) (Some d.stamp)
-          ∙ ap (λ n. cond (q == target) None (cond (q == n) (Some d.stamp) None)) (eqb-true target d.target t)
-      | false ↦ λ t i. absurd (false≢true i)
-    ] refl h
+out_of target h1 h q = grind (arith, common_steps)
 
 -- a slot holds a target where a search finds it
 pub list_any-holds : (target : ℕ) (slots : List (Option Slot)) → list_any (holds target) slots ≡ is_some (stamp_at slots target)
@@ -83,16 +67,25 @@ module _ (e : Slot) (slots : List (Option Slot)) (distinct : AreDistinct slots) 
             (fits_free t free) q
       ] refl room
 
+  pub AreDistinct-put_slot : AreDistinct (put_slot e slots)
+  AreDistinct-put_slot =
+      elim (list_any (holds e.target) slots) as (λ b. list_any (holds e.target) slots ≡ b
+      → AreDistinct (cond b (at_first (holds e.target) (λ _. Some e) slots) (at_first is_free (λ _. Some e) slots))) [
+        | true ↦ λ t. set_unique slot_at ◌==◌ eqb-true e.target (Some e.stamp) (holds e.target) (λ _. Some e) slots
+            (fits_held t) distinct
+        | false ↦ λ t. elim (cases_Bool (list_any is_free slots)) [
+          | inl free ↦ set_unique slot_at ◌==◌ eqb-true e.target (Some e.stamp) is_free (λ _. Some e) slots
+              (fits_free t free) distinct
+          | inr full ↦ rw (at_first-none is_free (λ _. Some e) slots full) distinct
+        ]
+      ] refl
+
 module _ (target : ℕ) (slots : List (Option Slot)) (distinct : AreDistinct slots) where
   fits_taken : list_any (holds target) slots ≡ true → Fits slot_at ◌==◌ eqb-true target None (holds target) (λ _. None) slots
   fits_taken h = fits_key slot_at ◌==◌ eqb-true target None (λ _. None) slots h distinct (λ k d within. out_of target _)
 
   gone : (q : ℕ) → stamp_at slots target ≡ None → stamp_at slots q ≡ cond (q == target) None (stamp_at slots q)
-  gone q none =
-      elim (q == target) as (λ b. q == target ≡ b → stamp_at slots q ≡ cond b None (stamp_at slots q)) [
-        | true ↦ λ t. ap (stamp_at slots) (eqb-true q target t) ∙ none
-        | false ↦ λ t. refl
-      ] refl
+  gone q none = grind (arith, common_steps)
 
   -- after a take the target has nothing, and every other target has what it had
   pub stamp_at-take_slot : (q : ℕ) → stamp_at (take_slot target slots) q ≡ cond (q == target) None (stamp_at slots q)
@@ -104,16 +97,11 @@ module _ (target : ℕ) (slots : List (Option Slot)) (distinct : AreDistinct slo
             ∙ gone q (stamp_at-absent target slots t)
       ] refl
 
--- members of a list with one more element, and of a mapped list
-contains_cases : {X : Type 0} (y : X) (ys : List X) (x : X) → Contains (y ∷ ys) x → (y ≡ x) ⊎ Contains ys x
-contains_cases y ys x (zero, within, is) = inl is
-contains_cases y ys x (suc k, within, is) = inr (k, omega arith, is)
-
-contains_later : {X : Type 0} (y : X) (ys : List X) (x : X) → Contains ys x → Contains (y ∷ ys) x
-contains_later y ys x (k, within, is) = (suc k, omega arith, is)
-
-contains_mapped : {X Y : Type 0} (f : X → Y) (xs : List X) (x : X) → Contains xs x → Contains (map f xs) (f x)
-contains_mapped f xs x (k, within, is) = (k, omega (arith, length-map xs f), get_or-map f xs k x (f x) within ∙ ap f is)
+  pub AreDistinct-take_slot : AreDistinct (take_slot target slots)
+  AreDistinct-take_slot = elim (cases_Bool (list_any (holds target) slots)) [
+    | inl held ↦ set_unique slot_at ◌==◌ eqb-true target None (holds target) (λ _. None) slots (fits_taken held) distinct
+    | inr none ↦ rw (at_first-none (holds target) (λ _. None) slots none) distinct
+  ]
 
 -- an edge of the slots is found at its target, and what is found is an edge of the slots
 edge_found : (slots : List (Option Slot)) → AreDistinct slots → (x : Slot) → Contains (edges_in slots) x
@@ -121,7 +109,7 @@ edge_found : (slots : List (Option Slot)) → AreDistinct slots → (x : Slot) �
 edge_found [] distinct x (k, within, is) = absurd (omega arith)
 edge_found (None ∷ slots) distinct x there = edge_found slots distinct.1 x there
 edge_found (Some e ∷ slots) distinct x there =
-    elim (contains_cases e (edges_in slots) x there) [
+    elim (Contains-cons_cases e (edges_in slots) x there) [
       | inl same ↦ subst (λ (y : Slot). option_or (slot_at (Some y) x.target) (stamp_at slots x.target) ≡ Some x.stamp) (sym same)
           (rw (eq-eqb x.target x.target refl) refl)
       | inr later ↦
@@ -143,7 +131,7 @@ found_edge (Some e ∷ slots) target stamp found =
           let is : (let x : Option Stamp = Some e.stamp in x) ≡ Some stamp = rw (eq-eqb target e.target here) at found in
           let same : e.stamp ≡ stamp = cc in
           (0, omega arith, (λ i. record { target = sym here i; stamp = same i }))
-      | inr ne ↦ contains_later e (edges_in slots) _ (found_edge slots target stamp (rw (ne_eqb target e.target ne) at found))
+      | inr ne ↦ Contains-cons e (edges_in slots) _ (found_edge slots target stamp (rw (ne_eqb target e.target ne) at found))
     ]
 
 -- a block's entries are what stands in it
@@ -162,9 +150,4 @@ entry_stands b distinct key stamp (k, within, is) =
     })
 
 pub standing_entry : (b : BlockView) (key : Key) (stamp : Stamp) → StandsIn b key stamp → Contains (entries_of b) (key, stamp)
-standing_entry b key stamp h =
-    let edge : Slot = record { target = key.target; stamp = stamp } in
-    let same : entry_in b edge ≡ (key, stamp) =
-    λ i. (record { kind = sym h.of_kind i; source = sym h.of_source i; target = key.target }, stamp) in
-    subst (Contains (entries_of b)) same (contains_mapped (entry_in b) (edges_in b.slots) edge
-    (found_edge b.slots key.target stamp h.stands))
+standing_entry b key stamp h = grind (arith, common_steps, contains_map, found_edge)

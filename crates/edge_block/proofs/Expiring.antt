@@ -1,8 +1,9 @@
 -- What taking an old edge leaves of the old ones.
 use Rattle.std.proofs.Common.{◌≡◌, ℕ, ◌+◌, ◌-◌, ◌≤◌, ◌==◌, ◌&&◌, ◌||◌, List, [], ◌∷◌, Bool, true, false, cond, map, filter}
 use Rattle.std.proofs.{Common.{length, refl, sym, ap, ◌∙◌, arith, Option, Some, None, is_some}, lemmas.Bool.{false≢true, eq-eqb}}
-use Rattle.std.proofs.lemmas.{Bool.Decides.nat_tests, List.{Sums.sum_by-cons, Folds.{list_any_at, list_any_none}}}
+use Rattle.std.proofs.lemmas.{Bool.Decides.nat_tests, Option.same_Some, List.{Sums.sum_by-cons, Folds.{list_any_at, list_any_none}}}
 use Rattle.std.specs.{Option.option_or, Prelude.nat_le, Prelude.nat_lt, List.list_any}
+use Rattle.std.proofs.lemmas.Grind.{common_steps}
 use Rattle.lane_scan.specs.Masks.{IsLeastOf}
 use Rattle.graph_types.specs.{Graph.Key, Graph.Stamp, Step.is_before, View.in_view, declared.ids.Filter.Filter}
 use Rattle.edge_block.specs.Slots.{Slot, stamp_at, take_slot, edges_in, AreDistinct, BlockView, entry_in, slots_since, old_in}
@@ -15,9 +16,6 @@ module _ (time : ℕ) where
   old_cons : (e : Slot) (slots : List (Option Slot)) → old_in time (Some e ∷ slots) ≡ cond (old e) 1 0 + old_in time slots
   old_cons e slots = sum_by-cons (λ (x : Slot). cond {A = ℕ} (old x) 1 0) e (edges_in slots)
 
-  same_stamp : (a b : Stamp) → Some a ≡ Some b → a ≡ b
-  same_stamp a b e = cc
-
   -- the old edge to a target that is taken goes anyway
   pub kept_taken : (target : ℕ) (s : Stamp) (slots : List (Option Slot)) → is_before time s ≡ true
       → stamp_at slots target ≡ Some s → slots_since time (take_slot target slots) ≡ slots_since time slots
@@ -28,7 +26,7 @@ module _ (time : ℕ) where
       → slots_since time (cond (is_some (cond b (Some e.stamp) None)) (None ∷ slots) (Some e ∷ take_slot target slots))
       ≡ cond (old e) None (Some e) ∷ slots_since time slots) [
         | true ↦ λ h.
-            let here : old e ≡ true = ap (is_before time) (same_stamp e.stamp s h) ∙ was in
+            let here : old e ≡ true = ap (is_before time) (same_Some e.stamp s h) ∙ was in
             ap (λ b. cond b None (Some e) ∷ slots_since time slots) (sym here)
         | false ↦ λ h. ap (λ xs. cond (old e) None (Some e) ∷ xs) (kept_taken target s slots was h)
       ] at
@@ -42,7 +40,7 @@ module _ (time : ℕ) where
       → old_in time (cond (is_some (cond b (Some e.stamp) None)) (None ∷ slots) (Some e ∷ take_slot target slots)) + 1
       ≡ old_in time (Some e ∷ slots)) [
         | true ↦ λ h.
-            let here : old e ≡ true = ap (is_before time) (same_stamp e.stamp s h) ∙ was in
+            let here : old e ≡ true = ap (is_before time) (same_Some e.stamp s h) ∙ was in
             let all = old_cons e slots ∙ ap (λ (b : Bool). cond {A = ℕ} b 1 0 + old_in time slots) here in omega arith
         | false ↦ λ h.
             let all = old_cons e slots in
@@ -51,8 +49,7 @@ module _ (time : ℕ) where
       ] at
 
   no_less : (b : Bool) (n : ℕ) → cond b 1 0 + n ≡ 0 → (b ≡ false) × (n ≡ 0)
-  no_less true n h = absurd (omega arith)
-  no_less false n h = (refl, omega arith)
+  no_less h0 n h = grind (arith, common_steps)
 
   pub none_old : (slots : List (Option Slot)) → old_in time slots ≡ 0 → slots_since time slots ≡ slots
   none_old [] none = refl

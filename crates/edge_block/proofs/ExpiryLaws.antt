@@ -1,22 +1,20 @@
 -- What an expiry changes in slots, in blocks and in a source's row.
-use Rattle.std.proofs.Common.{◌≡◌, ℕ, ◌==◌, List, [], ◌∷◌, Bool, true, false, cond, ◌||◌, refl, sym, ap, ◌∙◌, map, All, Option}
-use Rattle.std.proofs.{Common.{Some, None, is_some, subst}, lemmas.{Bool.true≢false, List.Elements.{All-head, All-tail}}}
-use Rattle.std.{proofs.lemmas.List.Elements.{All-cons, All-nil}, specs.Option.option_or}
+use Rattle.std.proofs.Common.{◌≡◌, ℕ, List, [], ◌∷◌, Bool, true, false, cond, ◌||◌, refl, sym, ap, ◌∙◌, map, All, Option}
+use Rattle.std.proofs.{Common.{arith, Some, None, is_some, get_or}, lemmas.{Bool.true≢false, List.Elements.{All-head, All-tail}}}
+use Rattle.std.{proofs.lemmas.List.Elements.{All-map, All-weaker}, specs.Option.option_or}
+use Rattle.std.proofs.lemmas.Grind.{common_steps}
 use Rattle.graph_types.specs.{Graph.Stamp, Step.is_before, Step.stays_from}
 use Rattle.edge_block.specs.Slots.{Slot, slot_at, stamp_at, AreDistinct, NoKeyTwice, first_some, slot_since, slots_since}
-use Rattle.edge_block.specs.{Slots.has_before, Rows.{OpenBlock, open_at, edge_at, touch, has_old, expire_block, expire_row}}
-use Rattle.edge_block.proofs.{Changes.or_none, RowLaws.{IsOpenRow, Within}}
+use Rattle.edge_block.specs.{Slots.has_before, Rows.{OpenBlock, open_at, edge_at, expire_block, expire_row}}
+use Rattle.edge_block.proofs.RowLaws.{IsOpenRow, Within}
 
 -- what stays is there before
 pub was_there : (time : ℕ) (o : Option Stamp) → is_some (stays_from time o) ≡ true → is_some o ≡ true
-was_there time None is = is
-was_there time (Some s) is = refl
+was_there time h1 is = grind (arith, common_steps)
 
 stays_or : (time : ℕ) (a b : Option Stamp) → (is_some a ≡ true → b ≡ None)
     → option_or (stays_from time a) (stays_from time b) ≡ stays_from time (option_or a b)
-stays_or time None b alone = refl
-stays_or time (Some s) b alone =
-    ap (λ o. option_or (stays_from time (Some s)) (stays_from time o)) (alone refl) ∙ or_none (stays_from time (Some s))
+stays_or time h1 b alone = grind (arith, common_steps)
 
 -- elements of which each has what stays of what it had
 module _ {A K : Type 0} (at : A → K → Option Stamp) (f : A → A) (time : ℕ) where
@@ -43,23 +41,10 @@ module _ {A K : Type 0} (at : A → K → Option Stamp) (f : A → A) (time : �
 -- Slots
 
 slot_stays : (time : ℕ) (s : Option Slot) (q : ℕ) → slot_at (slot_since time s) q ≡ stays_from time (slot_at s q)
-slot_stays time None q = refl
-slot_stays time (Some e) q =
-    elim (is_before time e.stamp) as (λ b. is_before time e.stamp ≡ b
-    → slot_at (cond b None (Some e)) q ≡ stays_from time (cond (q == e.target) (Some e.stamp) None)) [
-      | true ↦ λ t. elim (q == e.target) as (λ c. None ≡ stays_from time (cond c (Some e.stamp) None)) [
-        | true ↦ sym (ap (λ b. cond b None (Some e.stamp)) t)
-        | false ↦ refl
-      ]
-      | false ↦ λ t. elim (q == e.target) as (λ c. cond c (Some e.stamp) None ≡ stays_from time (cond c (Some e.stamp) None)) [
-        | true ↦ sym (ap (λ b. cond b None (Some e.stamp)) t)
-        | false ↦ refl
-      ]
-    ] refl
+slot_stays time h1 q = grind (arith, common_steps)
 
 every_slot : (time : ℕ) (slots : List (Option Slot)) → All (Stays slot_at (slot_since time) time) slots
-every_slot time [] = All-nil (Stays slot_at (slot_since time) time)
-every_slot time (s ∷ slots) = All-cons (Stays slot_at (slot_since time) time) s slots (slot_stays time s) (every_slot time slots)
+every_slot time slots k d h = slot_stays time (get_or slots k d)
 
 pub slots_stay : (time : ℕ) (slots : List (Option Slot)) → AreDistinct slots → (q : ℕ)
     → stamp_at (slots_since time slots) q ≡ stays_from time (stamp_at slots q)
@@ -84,41 +69,24 @@ slots_kept time (Some e ∷ slots) none =
 
 within_kind : (time : ℕ) (b : Bool) (o : Option Stamp)
     → cond b (stays_from time o) None ≡ stays_from time (cond b o None)
-within_kind time true o = refl
-within_kind time false o = refl
+within_kind time h1 o = grind (arith, common_steps)
 
 expired_slots : (time : ℕ) (b : OpenBlock) → (expire_block time b).shape.slots ≡ slots_since time b.shape.slots
-expired_slots time b =
-    elim (has_old time b) as (λ t. has_old time b ≡ t
-    → (cond t (touch (slots_since time) b) b).shape.slots ≡ slots_since time b.shape.slots) [
-      | true ↦ λ t. refl
-      | false ↦ λ t. sym (slots_kept time b.shape.slots t)
-    ] refl
+expired_slots time b = grind (arith, common_steps, slots_kept)
 
 expired_kind : (time : ℕ) (b : OpenBlock) → (expire_block time b).shape.kind ≡ b.shape.kind
-expired_kind time b = elim (has_old time b) as (λ t. (cond t (touch (slots_since time) b) b).shape.kind ≡ b.shape.kind) [
-  | true ↦ refl
-  | false ↦ refl
-]
+expired_kind time b = grind (arith, common_steps)
 
 block_stays : (time : ℕ) (b : OpenBlock) → AreDistinct b.shape.slots → Stays open_at (expire_block time) time b
-block_stays time b u q =
-    (λ i. cond (q.0 == expired_kind time b i) (stamp_at (expired_slots time b i) q.1) None)
-    ∙ ap (λ o. cond (q.0 == b.shape.kind) o None) (slots_stay time b.shape.slots u q.1)
-    ∙ within_kind time (q.0 == b.shape.kind) (stamp_at b.shape.slots q.1)
+block_stays time b u q = grind (arith, common_steps, expired_kind, expired_slots, slots_stay, within_kind)
 
 every_block : (time : ℕ) (row : List OpenBlock) → All Within row → All (Stays open_at (expire_block time) time) row
-every_block time [] all = All-nil (Stays open_at (expire_block time) time)
-every_block time (b ∷ row) all =
-    All-cons (Stays open_at (expire_block time) time) b row (block_stays time b (All-head Within b row all))
-    (every_block time row (All-tail Within b row all))
+every_block time row all = All-weaker Within (Stays open_at (expire_block time) time) (block_stays time) row all
 
 every_within : (time : ℕ) (row : List OpenBlock) → All Within row → All Within (expire_row time row)
-every_within time [] all = All-nil Within
-every_within time (b ∷ row) all =
-    All-cons Within (expire_block time b) (expire_row time row)
-    (subst AreDistinct (sym (expired_slots time b)) (slots_distinct time b.shape.slots (All-head Within b row all)))
-    (every_within time row (All-tail Within b row all))
+every_within time row all =
+    All-map Within (expire_block time) row (All-weaker Within (λ b. Within (expire_block time b))
+    (λ b u. rw (expired_slots time b) (slots_distinct time b.shape.slots u)) row all)
 
 -- a row has afterwards what stays of what it had, and stays a row
 pub expire_stays : (time : ℕ) (row : List OpenBlock) → IsOpenRow row → (q : ℕ × ℕ)

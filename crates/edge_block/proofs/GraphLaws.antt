@@ -1,12 +1,13 @@
 -- What rows are at a batch's end, and the laws of a batch and of an expiry.
-use Rattle.std.proofs.Common.{◌≡◌, ℕ, ◌<◌, ◌==◌, List, [], ◌∷◌, length, map, filter, Bool, true, false, cond, not, ◌&&◌, ◌≤◌}
+use Rattle.std.proofs.Common.{◌≡◌, ℕ, ◌<◌, List, [], ◌∷◌, length, map, filter, true, false, cond, ◌≤◌}
 use Rattle.std.proofs.{Common.{refl, sym, ap, ◌∙◌, Option, Some, None, is_some, All}, lemmas.Bool.{true≢false, false≢true}}
-use Rattle.std.proofs.lemmas.{Bool.and_parts, List.Elements.{All-head, All-tail, All-cons, All-nil}}
+use Rattle.std.proofs.lemmas.{Bool.and_parts, List.Elements.{All-map, All-filter}}
 use Rattle.std.specs.{List.list_all, List.range_with_len, Option.option_or, FinMap.FinMap, FinMap.get}
+use Rattle.std.proofs.{Common.arith, lemmas.Grind.common_steps}
 use Rattle.graph_types.specs.{Graph.{Graph, Key, Stamp, key_cmp}, Step.{after_all, outcomes, expired, count_before}}
 use Rattle.graph_types.specs.declared.batches.{NamedOp.NamedOp, Outcome.TheVariants.Expired}
 use Rattle.edge_block.specs.{Slots.{Slot, NoKeyTwice, stamp_at, is_free, AreDistinct}, Rows.{Shape, OpenBlock, block_at, row_at}}
-use Rattle.edge_block.specs.Rows.{open_at, edge_at, IsRow, has_none, is_kept, row_end, shapes, untouched, expire_row}
+use Rattle.edge_block.specs.Rows.{open_at, edge_at, IsRow, is_kept, row_end, shapes, untouched, expire_row}
 use Rattle.edge_block.specs.Batches.{InAll, resolved, rows_step, IsWithin, rows_all, outcome_in, outcomes_all, IsLayoutOf, opened}
 use Rattle.edge_block.specs.Batches.{layout_after}
 use Rattle.edge_block.proofs.{RowLaws.IsOpenRow, OperationLaws.{Shows, AreOpenRows, expiry_shows, all_shows}}
@@ -18,17 +19,7 @@ all_free (None ∷ slots) h q = all_free slots h q
 all_free (Some e ∷ slots) h q = absurd (false≢true h)
 
 not_kept : (h : OpenBlock) → is_kept h ≡ false → (q : ℕ × ℕ) → open_at h q ≡ None
-not_kept h out q =
-    let free : list_all is_free h.shape.slots ≡ true =
-    (and_parts h.touched (has_none h.shape) (flip (h.touched && has_none h.shape) out)).1 in
-    ap (λ x. cond (q.0 == h.shape.kind) x None) (all_free h.shape.slots free q.1) ∙ blank (q.0 == h.shape.kind) where
-      flip : (b : Bool) → not b ≡ false → b ≡ true
-      flip true h = refl
-      flip false h = absurd (true≢false h)
-
-      blank : (b : Bool) → (let nothing : Option Stamp = None in cond b nothing None ≡ nothing)
-      blank true = refl
-      blank false = refl
+not_kept h out q = grind (arith, common_steps, and_parts, all_free, true≢false)
 
 -- what stays at the batch's end has the row's edges
 pub end_at : (row : List OpenBlock) (q : ℕ × ℕ) → row_at (row_end row) q ≡ edge_at row q
@@ -45,13 +36,10 @@ opened_at [] q = refl
 opened_at (b ∷ row) q = ap (option_or (block_at b q)) (opened_at row q)
 
 opened_row : (row : List Shape) → IsRow row → IsOpenRow (map untouched row)
-opened_row row u = record { within = within row u.within; between = between row u.between } where
-  within : (row : List Shape) → All (λ b. AreDistinct b.slots) row → All (λ b. AreDistinct b.shape.slots) (map untouched row)
-  within [] a = All-nil (λ b. AreDistinct b.shape.slots)
-  within (b ∷ row) a =
-      All-cons (λ b. AreDistinct b.shape.slots) (untouched b) (map untouched row) (All-head (λ b. AreDistinct b.slots) b row a)
-      (within row (All-tail (λ b. AreDistinct b.slots) b row a))
-
+opened_row row u = record {
+  within = All-map (λ b. AreDistinct b.shape.slots) untouched row u.within;
+  between = between row u.between;
+} where
   between : (row : List Shape) → NoKeyTwice block_at row → NoKeyTwice open_at (map untouched row)
   between [] u = tt
   between (b ∷ row) u = (λ q i. opened_at row q ∙ u.0 q i, between row u.1)
@@ -65,21 +53,13 @@ end_unique (h ∷ row) u =
     ]
 
 end_within : (row : List OpenBlock) → All (λ h. AreDistinct h.shape.slots) row → All (λ h. AreDistinct h.slots) (row_end row)
-end_within [] a = All-nil (λ h. AreDistinct h.slots)
-end_within (h ∷ row) a =
-    let rest = end_within row (All-tail (λ h. AreDistinct h.shape.slots) h row a) in
-    elim (is_kept h) as (λ b. All (λ h. AreDistinct h.slots) (shapes (cond b (h ∷ filter is_kept row) (filter is_kept row)))) [
-      | true ↦ All-cons (λ h. AreDistinct h.slots) h.shape (row_end row) (All-head (λ h. AreDistinct h.shape.slots) h row a) rest
-      | false ↦ rest
-    ]
+end_within row a = All-map (λ h. AreDistinct h.slots) (λ h. h.shape) (filter is_kept row)
+    (All-filter is_kept (λ h. AreDistinct h.shape.slots) row a)
 
 -- what open rows are at a batch's end is a layout of the edges that they have
 ended_layout : (rows : ℕ → List OpenBlock) (edges : FinMap key_cmp Stamp) → AreOpenRows rows → Shows rows edges
     → IsLayoutOf (λ source. row_end (rows source)) edges
-ended_layout rows edges u s = record {
-  distinct = λ source. record { within = end_within _ (u source).within; between = end_unique _ (u source).between };
-  shows = λ k. end_at _ (k.kind, k.target) ∙ s k;
-}
+ended_layout rows edges u s = grind (arith, common_steps, end_within, end_unique, end_at)
 
 -- a batch leaves a layout of the graph that it leaves, and the rows' outcomes are the operation rule's
 pub batch_layout : (ops : List NamedOp) (g : Graph) (layout : ℕ → List Shape) (n : ℕ) → IsWithin g → IsLayoutOf layout g.edges

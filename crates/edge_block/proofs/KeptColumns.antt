@@ -7,7 +7,7 @@ use Rattle.std.specs.{Int.{w32, bit_not, RustNames.{bit_or, bit_and}}, declared.
 use Rattle.lane_scan.specs.Masks.{IsPlaceOf}
 use Rattle.edge_block.specs.Slots.{Slot, edge_slot, AreDistinct, IsSlot, IsBlock, BlockView, put_slot, take_slot}
 use Rattle.edge_block.specs.Columns.{slots_of, AreColumns}
-use Rattle.edge_block.proofs.SlotLaws.{AreDistinct-put_slot, AreDistinct-take_slot, All-put_slot, All-take_slot}
+use Rattle.edge_block.proofs.{Entries.{AreDistinct-put_slot, AreDistinct-take_slot}, SlotLaws.{All-put_slot, All-take_slot}}
 use Rattle.edge_block.proofs.Places.{slots_of-none, slots_of-put, slots_of-take, take_at, length-slots_of}
 
 -- two blocks that differ in nothing

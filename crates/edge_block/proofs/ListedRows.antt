@@ -1,16 +1,17 @@
 -- Rows that have a map's edges by look-up list each of them once, and so as many old ones as the map has.
 use Rattle.std.proofs.Common.{◌≡◌, ◌≢◌, ◌⊎◌, inl, inr, ℕ, zero, suc, ◌+◌, ◌<◌, ◌≤◌, ◌==◌, Bool, true, false, cond, ◌&&◌, List, []}
-use Rattle.std.proofs.Common.{◌∷◌, ◌++◌, map, append_assoc, refl, sym, ap, ◌∙◌, subst, arith, All, Option, None, Some}
-use Rattle.std.proofs.lemmas.{Bool.{eq-eqb, eqb-true, true≢false, Decides.{eqb_tells, leb_tells}}, List.map-append}
-use Rattle.std.{proofs.lemmas.List.{Elements.{All-head, All-tail}, Sums.{sum_by-cons, sum_by-append}}, specs.Prelude.count_by}
-use Rattle.std.specs.{List.{sum_by, range_with_len}, Option.{is_some, option_or}, Ordering.{nat_cmp, ordering_then, eq_by_cmp}}
-use Rattle.std.specs.{Ordering.is_eq, Cmp.{unsigned_tied, tied_then}, FinMap.{FinMap, get, same_map, get-empty}}
+use Rattle.std.proofs.Common.{◌∷◌, ◌++◌, map, refl, sym, ap, ◌∙◌, subst, arith, All, Option, None, Some}
+use Rattle.std.proofs.lemmas.Bool.{eq-eqb, true≢false, Decides.{eqb_tells, leb_tells}}
+use Rattle.std.proofs.lemmas.List.{Elements.{All-cons, All-head, All-tail}, Folds.fold-map, Sums.{sum_by-cons, sum_by-append}}
+use Rattle.std.specs.{Prelude.count_by, List.{sum_by, range_with_len}, Option.{is_some, option_or}, Ordering.eq_by_cmp}
+use Rattle.std.specs.FinMap.{FinMap, get, same_map, get-empty}
+use Rattle.std.proofs.lemmas.Grind.{common_steps}
 use Rattle.graph_types.specs.{Graph.{Key, Stamp, key_cmp, key_of, stamp_of, map_of}, Step.{is_before, was_before, count_before}}
 use Rattle.graph_types.{specs.declared.ids.Edge.Edge, proofs.Keys.{keys_total, exact_keys, is_key_of, is_key_of_at, HasKeysOnce}}
 use Rattle.graph_types.proofs.{Keys.{once_none, once_cons, get_cons}, Expiry.count_before-map_of}
 use Rattle.edge_block.specs.{Slots.{Slot, slot_at, stamp_at, edges_in, old_in, AreDistinct, NoKeyTwice}, Rows.{Shape, OpenBlock}}
 use Rattle.edge_block.specs.{Rows.{block_at, row_at, row_entries, shapes, old_in_row, IsRow}, Batches.IsLayoutOf}
-use Rattle.edge_block.{specs.Listed.{edge_from, edges_in_row, edges_in_rows, edges_below, AreListedOnce}, proofs.Changes.or_none}
+use Rattle.edge_block.{specs.Listed.{edge_from, edges_in_row, edges_in_rows, edges_below, AreListedOnce}, proofs.{Changes.or_none, Firsts.none_by_test}}
 
 -- Tests of keys
 
@@ -19,12 +20,7 @@ tests q k same = (q.kind == k.kind) && (same && (q.target == k.target))
 
 -- keys tie where their three numbers are equal
 pub tied : (q k : Key) → eq_by_cmp key_cmp q k ≡ tests q k (q.source == k.source)
-tied q k =
-    let a = nat_cmp q.kind k.kind in
-    let b = nat_cmp q.source k.source in
-    let c = nat_cmp q.target k.target in
-    sym (tied_then a (ordering_then b c)) ∙ ap (λ t. is_eq a && t) (sym (tied_then b c))
-    ∙ (λ i. unsigned_tied q.kind k.kind i && (unsigned_tied q.source k.source i && unsigned_tied q.target k.target i))
+tied q k = grind (arith, common_steps)
 
 -- Look-up
 
@@ -46,18 +42,12 @@ abbrev slot_edges : ℕ → ℕ → List (Option Slot) → List Edge
 slot_edges source kind slots = map edge_from (map (slot_entry source kind) (edges_in slots))
 
 nothing : (s t : Bool) (y : Option Stamp) → y ≡ option_or (cond s (cond t None None) None) y
-nothing true true y = refl
-nothing true false y = refl
-nothing false t y = refl
+nothing h0 t y = grind (arith, common_steps)
 
 pick : (kind source target : Bool) (x : Stamp) (r y : Option Stamp)
     → cond (kind && (source && target)) (Some x) (option_or (cond source (cond kind r None) None) y)
     ≡ option_or (cond source (cond kind (option_or (cond target (Some x) None) r) None) None) y
-pick true true true x r y = refl
-pick true true false x r y = refl
-pick true false t x r y = refl
-pick false true t x r y = refl
-pick false false t x r y = refl
+pick h0 h1 t x r y = grind (arith, common_steps)
 
 -- the map of some slots' edges and more
 get_slots : (source kind : ℕ) (slots : List (Option Slot)) (rest : List Edge) (k : Key)
@@ -76,19 +66,14 @@ get_slots source kind (Some e ∷ slots) rest k =
 -- a row's edges are those of its first block's slots, and the others
 block_first : (source : ℕ) (b : Shape) (row : List Shape) (rest : List Edge)
     → edges_in_row source (b ∷ row) ++ rest ≡ slot_edges source b.kind b.slots ++ (edges_in_row source row ++ rest)
-block_first source b row rest =
-    ap (λ es. es ++ rest) (map-append edge_from (map (slot_entry source b.kind) (edges_in b.slots)) (row_entries source row))
-    ∙ append_assoc (slot_edges source b.kind b.slots) (edges_in_row source row) rest
+block_first source b row rest = grind (arith, common_steps)
 
 join : (s : Bool) (a c y : Option Stamp) → option_or (cond s a None) (option_or (cond s c None) y)
     ≡ option_or (cond s (option_or a c) None) y
-join true None c y = refl
-join true (Some x) c y = refl
-join false a c y = refl
+join h0 a c y = grind (arith, common_steps)
 
 none_here : (s : Bool) (y : Option Stamp) → y ≡ option_or (cond s None None) y
-none_here true y = refl
-none_here false y = refl
+none_here h0 y = grind (arith, common_steps)
 
 -- the map of a row's edges and more
 get_row : (source : ℕ) (row : List Shape) (rest : List Edge) (k : Key)
@@ -138,11 +123,6 @@ module _ (layout : ℕ → List Shape) where
 
 -- Each key once
 
-absent_cons : (key : Key) (e : Edge) (es : List Edge) → key ≢ key_of e → All (λ x. key ≢ key_of x) es
-    → All (λ x. key ≢ key_of x) (e ∷ es)
-absent_cons key e es apart rest zero d h = apart
-absent_cons key e es apart rest (suc k) d h = rest k d (omega arith)
-
 -- a key at which the map has nothing is listed nowhere
 not_there : (es : List Edge) (key : Key) → get (map_of es) key ≡ None → All (λ x. key ≢ key_of x) es
 not_there [] key none = λ k d h. absurd (omega arith)
@@ -150,22 +130,16 @@ not_there (e ∷ es) key none =
     elim (is_key_of key e) as (λ t. is_key_of key e ≡ t → cond t (Some (stamp_of e)) (get (map_of es) key) ≡ None
     → All (λ x. key ≢ key_of x) (e ∷ es)) [
       | true ↦ λ t is. cc
-      | false ↦ λ t is. absent_cons key e es (λ same. true≢false (sym (is_key_of_at key e same) ∙ t)) (not_there es key is)
+      | false ↦ λ t is. All-cons (λ x. key ≢ key_of x) e es (λ same. true≢false (sym (is_key_of_at key e same) ∙ t)) (not_there es key is)
     ] refl (sym (get_cons e es key) ∙ none)
 
 -- an edge in a slot stands at its key, and is some of what the slots have there
 at_itself : (source kind : ℕ) (r : Option Stamp) → stands source source (cond (kind == kind) r None) ≡ r
-at_itself source kind r =
-    let sources : (source == source) ≡ true = eq-eqb source source refl in
-    let kinds : (kind == kind) ≡ true = eq-eqb kind kind refl in
-    λ i. cond (sources i) (cond (kinds i) r None) None
+at_itself source kind r = grind (arith, common_steps)
 
 more_some : (s t : Bool) (a r : Option Stamp) → is_some (cond s (cond t r None) None) ≡ true
     → is_some (cond s (cond t (option_or a r) None) None) ≡ true
-more_some true true None r is = is
-more_some true true (Some x) r is = refl
-more_some true false a r is = is
-more_some false t a r is = is
+more_some h0 h1 h2 r is = grind (arith, common_steps)
 
 -- slots with different targets, before edges that have none of their keys
 once_slots : (source kind : ℕ) (slots : List (Option Slot)) (rest : List Edge) → AreDistinct slots → HasKeysOnce rest
@@ -192,14 +166,10 @@ once_slots source kind (Some e ∷ slots) rest distinct once apart =
 
 apart_here : (s : Bool) (a c y : Option Stamp) → is_some (cond s a None) ≡ true → (is_some a ≡ true → c ≡ None)
     → (is_some (cond s (option_or a c) None) ≡ true → y ≡ None) → option_or (cond s c None) y ≡ None
-apart_here true None c y is none rest = cc
-apart_here true (Some x) c y is none rest = ap (λ o. option_or o y) (none refl) ∙ rest refl
-apart_here false a c y is none rest = cc
+apart_here h0 a c y is none rest = grind (arith, common_steps)
 
 later_some : (s : Bool) (a c : Option Stamp) → is_some (cond s c None) ≡ true → is_some (cond s (option_or a c) None) ≡ true
-later_some true None c is = is
-later_some true (Some x) c is = refl
-later_some false a c is = is
+later_some h0 a c is = grind (arith, common_steps)
 
 -- a row of which no two slots have edges of one key, before edges that have none of its keys
 once_row : (source : ℕ) (row : List Shape) (rest : List Edge) → All (λ b. AreDistinct b.slots) row → NoKeyTwice block_at row
@@ -219,10 +189,7 @@ once_row source (b ∷ row) rest within between once apart =
     (between.0 (k.kind, k.target)) (apart k)))
 
 source_if : (source at : ℕ) (o : Option Stamp) → is_some (stands source at o) ≡ true → at ≡ source
-source_if source at o is = elim (at == source) as (λ t. at == source ≡ t → is_some (cond t o None) ≡ true → at ≡ source) [
-  | true ↦ λ t some. eqb-true at source t
-  | false ↦ λ t some. cc
-] refl is
+source_if source at o is = grind (arith, common_steps)
 
 once_rows : (layout : ℕ → List Shape) (first count : ℕ) → ((source : ℕ) → IsRow (layout source))
     → HasKeysOnce (edges_in_rows first count layout)
@@ -232,10 +199,6 @@ once_rows layout first (suc count) rows =
     (once_rows layout (first + 1) count rows)
     (λ k is. let here = source_if first k.source (in_row (layout first) k) is in
     rows_out layout (first + 1) count k (inl (omega arith)))
-
-none_past : (o : Option Stamp) → (is_some o ≡ true → ⊥) → None ≡ o
-none_past None h = refl
-none_past (Some s) h = absurd (h refl)
 
 -- rows that have a map's edges by look-up, all of sources below n, list each of them once
 pub listed_once : (layout : ℕ → List Shape) (edges : FinMap key_cmp Stamp) (n : ℕ) → IsLayoutOf layout edges
@@ -247,16 +210,14 @@ listed_once layout edges n is below = record {
   at : (k : Key) → get (map_of (edges_below n layout)) k ≡ get edges k
   at k = elim (leb_tells n k.source) [
     | inl past ↦ rows_out layout 0 n k (inr (let le = past.1 in omega arith))
-        ∙ none_past (get edges k) (λ some. let lt = below k some in let le = past.1 in absurd (omega arith))
+        ∙ sym (none_by_test (get edges k) (λ some. let lt = below k some in let le = past.1 in omega arith))
     | inr lt ↦ rows_in layout 0 n k (omega arith) (let to = lt.1 in omega arith) ∙ is.shows k
   ]
 
 -- Counts
 
 sum_map : {A B : Type 0} (f : B → ℕ) (g : A → B) (xs : List A) → sum_by f (map g xs) ≡ sum_by (λ x. f (g x)) xs
-sum_map f g [] = refl
-sum_map f g (x ∷ xs) =
-    sum_by-cons f (g x) (map g xs) ∙ ap (λ n. f (g x) + n) (sum_map f g xs) ∙ sym (sum_by-cons (λ x. f (g x)) x xs)
+sum_map f g xs = fold-map (λ n x. n + f x) g 0 xs
 
 abbrev one_if : Bool → ℕ
 one_if b = cond b 1 0

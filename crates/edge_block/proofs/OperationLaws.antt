@@ -1,13 +1,13 @@
 -- The rows that operations leave have the edges that the operation rule leaves, and the outcomes are the rule's.
-use Rattle.std.proofs.Common.{◌≡◌, ℕ, ◌<◌, ◌==◌, List, [], ◌∷◌, length, Bool, true, false, cond, not, ◌&&◌, ◌||◌, ◌+◌, ◌≤◌, arith}
-use Rattle.std.proofs.Common.{refl, sym, ap, ◌∙◌, subst, Option, Some, None, is_some, All, bytes_eq, suc}
-use Rattle.std.proofs.lemmas.{Bool.{true≢false, false≢true, eqb-true}, List.Elements.{All-head, All-tail, All-cons, All-nil}}
-use Rattle.std.specs.{List.list_any, List.position_or_len, List.range_with_len, Option.option_or, Ordering.eq_by_cmp}
+use Rattle.std.proofs.Common.{◌≡◌, ℕ, ◌<◌, ◌==◌, List, [], ◌∷◌, length, Bool, true, false, cond, ◌&&◌, ◌≤◌, arith}
+use Rattle.std.proofs.Common.{refl, sym, ap, ◌∙◌, subst, Option, Some, None, is_some}
+use Rattle.std.proofs.lemmas.{Bool.{true≢false, false≢true, eqb-true, lt-ltb}, List.Elements.All-map, Grind.common_steps}
+use Rattle.std.specs.{List.range_with_len, Option.option_or, Ordering.eq_by_cmp}
 use Rattle.std.specs.{Cmp.Equal-is, FinMap.FinMap, FinMap.get, FinMap.get-insert, FinMap.get-remove}
 use Rattle.graph_types.specs.{Graph.{Graph, Key, Stamp, key_cmp}, Step.{after_all, set_at, stamp_after, outcome_at, changed}}
-use Rattle.graph_types.specs.Step.{changed_key, change_outcome, after, outcome, outcomes, number_of, with_name, names_made}
-use Rattle.graph_types.specs.{Step.{kinds_made, stays_from, expired, count_before}, Answer.is_listed}
-use Rattle.graph_types.specs.declared.batches.{NamedOp.{NamedOp, TheVariants.{Insert, Incr, Remove, Expire}}, Outcome.Outcome}
+use Rattle.graph_types.specs.Step.{changed_key, change_outcome, after, outcome, outcomes, with_name, names_made}
+use Rattle.graph_types.specs.{Step.{kinds_made, expired, count_before}, Answer.is_listed}
+use Rattle.graph_types.specs.declared.batches.{NamedOp.NamedOp, Outcome.Outcome}
 use Rattle.graph_types.specs.declared.{batches.Outcome.TheVariants.{Absent, Expired}, changes.EdgeChange.EdgeChange}
 use Rattle.graph_types.specs.declared.changes.EdgeChange.TheVariants.{Insert as ToInsert, Incr as ToIncr, Remove as ToRemove}
 use Rattle.edge_block.specs.Operations.{Parts, OfEdge, OfAll, parts_of, names_by, kinds_by, names_after, kinds_after}
@@ -15,7 +15,7 @@ use Rattle.edge_block.specs.{Slots.{NoKeyTwice, AreDistinct}, Rows.{OpenBlock, b
 use Rattle.edge_block.specs.{Rows.{change_row, shapes}, Batches.{Resolved, InAll, resolve_parts, resolved, key_is_of, key_step}}
 use Rattle.edge_block.specs.Batches.{rows_step, IsWithin, rows_all, key_outcome, outcome_in, outcomes_all, IsLayoutOf}
 use Rattle.graph_types.proofs.{Keys.keys_total, Keys.exact_keys, NameLists.length-after_all-names, Expiry.get-expired}
-use Rattle.graph_types.proofs.NameLists.{appears-with_name, stays-with_name, number_of-lt, length-names_made, length-kinds_made}
+use Rattle.graph_types.proofs.NameLists.{any_before_end, appears-with_name, stays-with_name, named, length-names_made, length-kinds_made}
 use Rattle.edge_block.proofs.{RowLaws.{IsOpenRow, change_sets}, ListedRows.{tests, tied, count_shown}, ExpiryLaws.expire_stays}
 use Rattle.edge_block.proofs.{ExpiryLaws.{expire_open, was_there}, Changes.none_is}
 
@@ -42,59 +42,24 @@ outcome_parts (OfEdge change kind source target) g = change_outcome change kind 
 outcome_parts (OfAll time) g = Expired (count_before time g.edges)
 
 after_is : (op : NamedOp) (g : Graph) → after op g ≡ after_parts (parts_of op) g
-after_is (Insert kind source target weight time) g = refl
-after_is (Incr kind source target amount time) g = refl
-after_is (Remove kind source target) g = refl
-after_is (Expire time) g = refl
+after_is h0 g = grind (arith, common_steps)
 
 outcome_is : (op : NamedOp) (g : Graph) → outcome op g ≡ outcome_parts (parts_of op) g
-outcome_is (Insert kind source target weight time) g = refl
-outcome_is (Incr kind source target amount time) g = refl
-outcome_is (Remove kind source target) g = refl
-outcome_is (Expire time) g = refl
+outcome_is h0 g = grind (arith, common_steps)
 
 never : {A : Type 0} (a : Bool) (x y : A) → y ≡ cond (a && false) x y
-never true x y = refl
-never false x y = refl
+never h0 x y = grind (arith, common_steps)
 
 -- a change at a key, on rows that have the map's edges
 shows_key : (change : EdgeChange) (k : Key) (rows : ℕ → List OpenBlock) (edges : FinMap key_cmp Stamp) → AreOpenRows rows
     → Shows rows edges
     → (q : Key) → edge_at (cond (q.source == k.source) (change_row change (k.kind, k.target) (rows q.source)) (rows q.source))
     (q.kind, q.target) ≡ get (set_at edges k (stamp_after change (get edges k))) q
-shows_key change k rows edges u s q =
-    elim (q.source == k.source) as (λ b. q.source == k.source ≡ b
-    → edge_at (cond b (change_row change (k.kind, k.target) (rows q.source)) (rows q.source)) (q.kind, q.target)
-    ≡ cond (tests q k b) (stamp_after change (get edges k)) (get edges q)) [
-      | true ↦ λ t.
-          let there : edge_at (rows q.source) (k.kind, k.target) ≡ get edges k =
-          ap (λ n. edge_at (rows n) (k.kind, k.target)) (eqb-true q.source k.source t) ∙ s k in
-          (change_sets (k.kind, k.target) (rows q.source) (u q.source) change).0 (q.kind, q.target)
-          ∙ (λ i. cond (tests q k true) (stamp_after change (there i)) (s q i))
-      | false ↦ λ t. s q ∙ never (q.kind == k.kind) (stamp_after change (get edges k)) (get edges q)
-    ] refl
-    ∙ sym (set_at_get edges k (stamp_after change (get edges k)) q
-    ∙ ap (λ b. cond b (stamp_after change (get edges k)) (get edges q)) (tied q k))
+shows_key change k rows edges u s q = grind (arith, common_steps, tests, eqb-true, change_sets, never, set_at_get, tied)
 
 rows_key : (change : EdgeChange) (k : Key) (rows : ℕ → List OpenBlock) → AreOpenRows rows → (source : ℕ)
     → IsOpenRow (cond (source == k.source) (change_row change (k.kind, k.target) (rows source)) (rows source))
-rows_key change k rows u source =
-    elim (source == k.source) as (λ b. IsOpenRow (cond b (change_row change (k.kind, k.target) (rows source)) (rows source))) [
-      | true ↦ (change_sets (k.kind, k.target) (rows source) (u source) change).1
-      | false ↦ u source
-    ]
-
-abbrev prefix_at : {X : Type 0} → Bool → (X → Bool) → List X → ℕ
-prefix_at b p xs = cond (not b) (1 + position_or_len p xs) 0
-
--- an unknown name has the number after the last
-unknown : {A : Type 0} (p : A → Bool) (xs : List A) → list_any p xs ≡ false → position_or_len p xs ≡ length xs
-unknown p [] h = refl
-unknown p (x ∷ xs) h =
-    elim (p x) as (λ b. (b || list_any p xs) ≡ false → prefix_at b p xs ≡ suc (length xs)) [
-      | true ↦ λ n. absurd (true≢false n)
-      | false ↦ λ n. let rest = unknown p xs n in omega arith
-    ] h
+rows_key change k rows u source = grind (arith, common_steps, IsOpenRow, change_sets)
 
 all_known : (a b c : Bool) → a ≡ true → b ≡ true → c ≡ true → (a && (b && c)) ≡ false → ⊥
 all_known a b c p q r h = true≢false ((λ i. sym p i && (sym q i && sym r i)) ∙ h)
@@ -104,37 +69,20 @@ knows change kind source target g =
     is_listed (kinds_made change kind g.kinds) kind
     && (is_listed (names_made change source target g.names) source && is_listed (names_made change source target g.names) target)
 
+-- the names that an operation makes are known
+all_appear : (names kinds : List (List ℕ)) (kind source target : List ℕ) →
+    let all = with_name (with_name names source) target in
+    (is_listed (with_name kinds kind) kind && (is_listed all source && is_listed all target)) ≡ false → ⊥
+all_appear names kinds kind source target =
+    all_known _ _ _ (appears-with_name kinds kind) (stays-with_name _ target source (appears-with_name names source))
+    (appears-with_name _ target)
+
 -- an operation with an unknown name is a removal, and nothing is at its key
 unknown_none : (change : EdgeChange) (kind source target : List ℕ) (g : Graph) → IsWithin g
     → knows change kind source target g ≡ false
     → (get g.edges (changed_key change kind source target g) ≡ None) × (stamp_after change None ≡ None)
     × (outcome_at change None ≡ Absent)
-unknown_none (ToInsert weight time) kind source target g w h =
-    absurd (all_known _ _ _ (appears-with_name g.kinds kind)
-    (stays-with_name (with_name g.names source) target source (appears-with_name g.names source))
-    (appears-with_name (with_name g.names source) target) h)
-unknown_none (ToIncr amount time) kind source target g w h =
-    absurd (all_known _ _ _ (appears-with_name g.kinds kind)
-    (stays-with_name (with_name g.names source) target source (appears-with_name g.names source))
-    (appears-with_name (with_name g.names source) target) h)
-unknown_none ToRemove kind source target g w h =
-    let key : Key = changed_key ToRemove kind source target g in (
-      none_is (get g.edges key) (
-          elim (is_some (get g.edges key)) as (λ b. is_some (get g.edges key) ≡ b → b ≡ false) [
-            | true ↦ λ t.
-                let in' = w key t in
-                let known : (names : List (List ℕ)) (name : List ℕ) → number_of names name < length names
-                → is_listed names name ≡ true = λ names name lt.
-                elim (is_listed names name) as (λ b. is_listed names name ≡ b → b ≡ true) [
-                  | true ↦ λ _. refl
-                  | false ↦ λ e. let past = unknown (bytes_eq name) names e in absurd (omega arith)
-                ] refl in
-                absurd (all_known _ _ _ (known g.kinds kind in'.0) (known g.names source in'.1) (known g.names target in'.2) h)
-            | false ↦ λ t. refl
-          ] refl),
-      refl,
-      refl,
-    )
+unknown_none h0 kind source target g w h = grind (arith, common_steps, all_appear, none_is, any_before_end, lt-ltb, all_known)
 
 set_none : (m : FinMap key_cmp Stamp) (k : Key) → get m k ≡ None → (q : Key) → get m q ≡ get (set_at m k None) q
 set_none m k none q =
@@ -182,16 +130,10 @@ lies : (change : EdgeChange) (kind source target : List ℕ) (g : Graph) (before
     → is_some (stamp_after change before) ≡ true
     → let k = changed_key change kind source target g in (k.kind < length (kinds_made change kind g.kinds))
     × (k.source < length (names_made change source target g.names)) × (k.target < length (names_made change source target g.names))
-lies (ToInsert weight time) kind source target g before is = (
-  number_of-lt _ kind (appears-with_name g.kinds kind),
-  number_of-lt _ source (stays-with_name (with_name g.names source) target source (appears-with_name g.names source)),
-  number_of-lt _ target (appears-with_name (with_name g.names source) target),
-)
-lies (ToIncr amount time) kind source target g before is = (
-  number_of-lt _ kind (appears-with_name g.kinds kind),
-  number_of-lt _ source (stays-with_name (with_name g.names source) target source (appears-with_name g.names source)),
-  number_of-lt _ target (appears-with_name (with_name g.names source) target),
-)
+lies (ToInsert weight time) kind source target g before is =
+    let n = named g.names g.kinds kind source target in (n.kind, n.source, n.target)
+lies (ToIncr amount time) kind source target g before is =
+    let n = named g.names g.kinds kind source target in (n.kind, n.source, n.target)
 lies ToRemove kind source target g before is = absurd (false≢true is)
 
 pub step_within : (op : Parts) (g : Graph) → IsWithin g → IsWithin (after_parts op g)
@@ -220,35 +162,22 @@ shapes_at [] q = refl
 shapes_at (b ∷ row) q = ap (option_or (open_at b q)) (shapes_at row q)
 
 shapes_row : (row : List OpenBlock) → IsOpenRow row → IsRow (shapes row)
-shapes_row row u = record { within = within row u.within; between = between row u.between } where
-  within : (row : List OpenBlock) → All (λ b. AreDistinct b.shape.slots) row → All (λ b. AreDistinct b.slots) (shapes row)
-  within [] a = All-nil (λ b. AreDistinct b.slots)
-  within (b ∷ row) a =
-      All-cons (λ b. AreDistinct b.slots) b.shape (shapes row) (All-head (λ b. AreDistinct b.shape.slots) b row a)
-      (within row (All-tail (λ b. AreDistinct b.shape.slots) b row a))
-
+shapes_row row u = record { within = All-map (λ b. AreDistinct b.slots) (λ b. b.shape) row u.within; between = between row u.between } where
   between : (row : List OpenBlock) → NoKeyTwice open_at row → NoKeyTwice block_at (shapes row)
   between [] u = tt
   between (b ∷ row) u = (λ q is. shapes_at row q ∙ u.0 q is, between row u.1)
 
 shapes_layout : (rows : ℕ → List OpenBlock) (edges : FinMap key_cmp Stamp) → AreOpenRows rows → Shows rows edges
     → IsLayoutOf (λ source. shapes (rows source)) edges
-shapes_layout rows edges u s = record {
-  distinct = λ source. shapes_row (rows source) (u source);
-  shows = λ k. shapes_at (rows k.source) (k.kind, k.target) ∙ s k;
-}
+shapes_layout rows edges u s = grind (arith, common_steps, shapes_row, shapes_at)
 
 -- an expiry, counted over so many sources that each edge is of one of them
 pub expiry_shows : (time : ℕ) (edges : FinMap key_cmp Stamp) (rows : ℕ → List OpenBlock) (n : ℕ) → AreOpenRows rows
     → Shows rows edges → ((k : Key) → is_some (get edges k) ≡ true → k.source < n)
     → Shows (rows_step (InAll time) rows) (expired time edges) × AreOpenRows (rows_step (InAll time) rows)
     × (outcome_in (range_with_len 0 n) (InAll time) rows ≡ Expired (count_before time edges))
-expiry_shows time edges rows n u s below = (
-  λ q. expire_stays time (rows q.source) (u q.source) (q.kind, q.target) ∙ ap (stays_from time) (s q)
-      ∙ sym (get-expired time edges q),
-  λ source. expire_open time (rows source) (u source),
-  ap (λ count. Expired count) (count_shown time edges rows n (shapes_layout rows edges u s) below),
-)
+expiry_shows time edges rows n u s below =
+    grind (arith, common_steps, expire_stays, get-expired, expire_open, count_shown, shapes_layout)
 
 -- one operation
 pub step_shows : (op : Parts) (g : Graph) (rows : ℕ → List OpenBlock) (n : ℕ) → IsWithin g → AreOpenRows rows
@@ -265,12 +194,10 @@ abbrev by_left : NamedOp → Graph → Resolved
 by_left op g = resolve_parts (names_after op g.names) (kinds_after op g.kinds) (parts_of op)
 
 names_left : (parts : Parts) (g : Graph) → (after_parts parts g).names ≡ names_by parts g.names
-names_left (OfEdge change kind source target) g = refl
-names_left (OfAll time) g = refl
+names_left h0 g = grind (arith, common_steps)
 
 kinds_left : (parts : Parts) (g : Graph) → (after_parts parts g).kinds ≡ kinds_by parts g.kinds
-kinds_left (OfEdge change kind source target) g = refl
-kinds_left (OfAll time) g = refl
+kinds_left h0 g = grind (arith, common_steps)
 
 -- a batch's operations, one after another
 pub all_shows : (ops : List NamedOp) (g : Graph) (rows : ℕ → List OpenBlock) (n : ℕ) → IsWithin g → AreOpenRows rows

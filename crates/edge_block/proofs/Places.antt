@@ -1,15 +1,16 @@
 -- The slots that columns make, place by place.
 use Rattle.std.proofs.Common.{◌≡◌, ◌≢◌, ◌⊎◌, ℕ, ◌+◌, ◌-◌, ◌*◌, ◌%◌, ◌^◌, ◌<◌, ◌≤◌, ℤ, pos, true, false, not, List, length, get_or}
-use Rattle.std.proofs.{Common.{set, sym, ap, ◌∙◌, inl, inr, arith}, lemmas.Bool.{eq-eqb, ne_eqb, cases_eq, cases_lt, true≢false}}
+use Rattle.std.proofs.{Common.{replicate, set, sym, ap, ◌∙◌, inl, inr, arith}, lemmas.Bool.{eq-eqb, ne_eqb, cases_eq, cases_lt, true≢false}}
 use Rattle.std.proofs.lemmas.List.{ext_get_or, length-set, get_or-set_same, get_or-set_other, get_or-replicate, get_or_past}
 use Rattle.std.proofs.lemmas.List.{FromFn.{length-map-range_with_len, get_or-map-range_with_len}, Elements.All-from_get_or}
 use Rattle.std.proofs.lemmas.{List.Folds.{list_any_none, list_any_at}, Nat.Bits.{bit_at_set_same, bit_at_set_other}}
 use Rattle.std.proofs.lemmas.Nat.Bits.{bit_at_clear_same, bit_at_clear_other, bit_at-zero, bit_at-trailing_ones, bit_at_ones}
-use Rattle.std.specs.{Prelude.{◌==◌, slice_index}, List.list_any, Int.{bit_at, w32, bit_not, trailing_ones, RustNames.bit_or}}
+use Rattle.std.specs.{Prelude.◌==◌, List.list_any, Int.{bit_at, w32, bit_not, trailing_ones, RustNames.bit_or}}
 use Rattle.std.specs.{Int.RustNames.bit_and, declared.option.Option.{Option, TheVariants.{None, Some}}}
+use Rattle.std.proofs.lemmas.Grind.{common_steps}
 use Rattle.lane_scan.specs.Masks.{InMask, IsPlaceOf}
 use Rattle.edge_block.specs.Slots.{Slot, edge_slot, at_first, holds, is_free, slot_at, put_slot, take_slot, has_room_for}
-use Rattle.edge_block.specs.{Slots.stamp_at, Slots.empty_slots, Columns.slots_of, Columns.slot_from, Columns.column_slot}
+use Rattle.edge_block.specs.{Slots.stamp_at, Columns.slots_of, Columns.slot_from, Columns.column_slot}
 use Rattle.edge_block.proofs.{Firsts.at_first-set, Firsts.first_some_at, Firsts.none_by_test, SlotLaws.target_of_edge}
 
 pub length-slots_of : (live : ℕ) (ts : List ℕ) (ws : List ℤ) (fs rs : List ℕ) → length (slots_of live ts ws fs rs) ≡ 32
@@ -35,9 +36,9 @@ pub lives_or_not : (live i : ℕ) → InMask live i ⊎ (InMask live i → ⊥)
 lives_or_not live i = cases_eq (bit_at live i) 1
 
 -- no place is live
-pub slots_of-none : (ts : List ℕ) (ws : List ℤ) (fs rs : List ℕ) → slots_of 0 ts ws fs rs ≡ empty_slots
+pub slots_of-none : (ts : List ℕ) (ws : List ℤ) (fs rs : List ℕ) → slots_of 0 ts ws fs rs ≡ replicate 32 None
 slots_of-none ts ws fs rs =
-    ext_get_or None (slots_of 0 ts ws fs rs) empty_slots (length-slots_of 0 ts ws fs rs) (λ i within.
+    ext_get_or None (slots_of 0 ts ws fs rs) (replicate 32 None) (length-slots_of 0 ts ws fs rs) (λ i within.
     let few : i < 32 = omega (arith, length-slots_of 0 ts ws fs rs) in
     slot_dead 0 ts ws fs rs i None few (λ set. omega (arith, bit_at-zero i)) ∙ sym (get_or-replicate 32 i None None few))
 
@@ -101,23 +102,12 @@ slots_of-take live ts ws fs rs i t few =
 pub holds_at : (live : ℕ) (ts : List ℕ) (ws : List ℤ) (fs rs : List ℕ) (target i : ℕ) → length ts ≡ 32
     → IsPlaceOf ts live target i →
     holds target (get_or (slots_of live ts ws fs rs) i None) ≡ true
-holds_at live ts ws fs rs target i lt at =
-    let within : i < length ts = at.within in
-    let few : i < 32 = omega arith in
-    let same : target ≡ slice_index ts i = sym at.holds in
-    rw (slot_live live ts ws fs rs i None few at.lives, eq-eqb target (slice_index ts i) same)
+holds_at live ts ws fs rs target i lt at = grind (arith, common_steps, slot_live, eq-eqb)
 
 pub not_holds_at : (live : ℕ) (ts : List ℕ) (ws : List ℤ) (fs rs : List ℕ) (target i : ℕ) → length ts ≡ 32 → i < 32
     → (IsPlaceOf ts live target i → ⊥) →
     holds target (get_or (slots_of live ts ws fs rs) i None) ≡ false
-not_holds_at live ts ws fs rs target i lt few not_at =
-    elim (lives_or_not live i) [
-      | inl lives ↦
-          let other : target ≡ slice_index ts i → ⊥ =
-          λ same. not_at (record { within = omega arith; lives = lives; holds = sym same }) in
-          rw (slot_live live ts ws fs rs i None few lives, ne_eqb target (slice_index ts i) other)
-      | inr dead ↦ rw (slot_dead live ts ws fs rs i None few dead)
-    ]
+not_holds_at live ts ws fs rs target i lt few not_at = grind (arith, common_steps, lives_or_not, slot_live, ne_eqb, slot_dead)
 
 -- an edge to the target is put over the first slot that has one
 pub put_over : (live : ℕ) (ts : List ℕ) (ws : List ℤ) (fs rs : List ℕ) (target i : ℕ) → length ts ≡ 32
@@ -205,20 +195,7 @@ is_free-full live ts ws fs rs fits =
 pub live_at : (live : ℕ) (ts : List ℕ) (ws : List ℤ) (fs rs : List ℕ) (i : ℕ)
     → is_free (get_or (slots_of live ts ws fs rs) i None) ≡ false → (i < 32) × InMask live i
 live_at live ts ws fs rs i taken =
-    elim (cases_lt i 32) [
-      | inl few ↦ (
-        few,
-        elim (lives_or_not live i) [
-          | inl lives ↦ lives
-          | inr dead ↦ absurd (true≢false (sym (ap is_free (slot_dead live ts ws fs rs i None few dead)) ∙ taken))
-        ],
-      )
-      | inr past ↦
-          absurd
-          (true≢false
-          (sym (ap is_free (get_or_past (slots_of live ts ws fs rs) i None (omega (arith, length-slots_of live ts ws fs rs))))
-          ∙ taken))
-    ]
+    grind (arith, common_steps, cases_lt, lives_or_not, true≢false, slot_dead, get_or_past, length-slots_of)
 
 -- what the first slot that holds a target bears
 pub stamp_found : (slots : List (Option Slot)) (target i : ℕ) (e : Slot) → i < length slots → get_or slots i None ≡ Some e →

@@ -3,6 +3,7 @@ use Rattle.std.proofs.Common.{◌≡◌, ℕ, suc, ◌+◌, ◌-◌, ◌^◌, �
 use Rattle.std.proofs.{Common.{◌∙◌, inl, inr, arith}, Math.Seq.take-nil, lemmas.Bool.{eq-eqb, ne_eqb, cases_lt}}
 use Rattle.std.{proofs.lemmas.Nat.Bits.{bit_at_ones, bit_at_ones_above}, specs.Int.{bit_at, RustNames.bit_and}}
 use Rattle.std.specs.{Option.option_map, declared.option.Option.{Option, TheVariants.{None, Some}}}
+use Rattle.std.proofs.lemmas.Grind.{common_steps}
 use Rattle.graph_types.specs.Graph.{Key, Stamp}
 use Rattle.lane_scan.specs.Masks.{InMask, selected_from, selected}
 use Rattle.edge_block.specs.{Slots.{Slot, BlockView, edges_in}, Columns.slots_of, Lending.{LentEdge, lent_in, lent_of}}
@@ -13,15 +14,12 @@ more_targets : (s : Option Slot) (t n : ℕ) (chosen : List (Option Slot)) (ts :
     → option_map (λ (e : Slot). e.target) s ≡ Some t
     → map (λ (e : Slot). e.target) (edges_in chosen) ≡ take n ts
     → map (λ (e : Slot). e.target) (edges_in (s ∷ chosen)) ≡ take (suc n) (t ∷ ts)
-more_targets None t n chosen ts is rest = cc
-more_targets (Some e) t n chosen ts is rest = cc
+more_targets h0 t n chosen ts is rest = grind (arith, common_steps)
 
 first_targets : (used place : ℕ) (slots : List (Option Slot)) (ts : List ℕ) → length slots ≡ length ts
     → ((k : ℕ) → k < length ts → place + k < used → option_map (λ (e : Slot). e.target) (get_or slots k None) ≡ Some (get_or ts k 0))
     → map (λ (e : Slot). e.target) (edges_in (selected_from (2 ^ used - 1) place slots)) ≡ take (used - place) ts
 first_targets used place [] [] long at = sym (take-nil (used - place))
-first_targets used place [] (t ∷ ts) long at = absurd (omega arith)
-first_targets used place (s ∷ slots) [] long at = absurd (omega arith)
 first_targets used place (s ∷ slots) (t ∷ ts) long at =
     let rest = first_targets used (place + 1) slots ts (omega arith) (λ k within below. at (suc k) (omega arith) (omega arith)) in
     elim (cases_lt place used) [
@@ -35,6 +33,7 @@ first_targets used place (s ∷ slots) (t ∷ ts) long at =
           rw (ne_eqb (bit_at (2 ^ used - 1) place) 1 (λ set. omega (arith, bit_at_ones_above used place past)), none)
           (rw none' at rest)
     ]
+first_targets used place _ _ long at = absurd (omega arith)
 
 -- the targets of a view's edges, which stand at the first places that are due
 pub run_targets : (mask used live : ℕ) (ts : List ℕ) (ws : List ℤ) (fs rs : List ℕ) → length ts ≡ 32 → used ≤ 32

@@ -5,6 +5,7 @@ use Rattle.std.proofs.lemmas.{Simd.{mask_l-lt, bit_mask_l, ones-mask_l}, List.{n
 use Rattle.std.proofs.lemmas.{List.Sums.{sum_by-cons, count_by-le-length}, Nat.{zero_from_ones, Bits.same_from_bits_below}}
 use Rattle.std.{proofs.lemmas.Nat.Bits.bit_at-lt, specs.{Prelude.{◌==◌, if◌then◌else◌, filter, count_by}, Int.bit_at}}
 use Rattle.std.specs.{Int.RustNames.count_ones, Option.option_map, declared.option.Option.{Option, TheVariants.{None, Some}}}
+use Rattle.std.proofs.lemmas.Grind.{common_steps}
 use lib.Lanes.{mask_l}
 use Rattle.lane_scan.specs.Masks.{selected_from, selected}
 use Rattle.edge_block.specs.{Slots.Slot, Slots.is_free, Slots.edges_in, Columns.slots_of}
@@ -55,10 +56,7 @@ edges_by_ones live ts ws fs rs fits =
 shown_after : {X : Type 0} (h : Slot → X) (b : Bool) (s : Option Slot) (x : X) (slots : List (Option Slot)) (xs : List X) →
     option_map h s ≡ (if b then Some x else None) → xs ≡ map h (edges_in slots)
     → (if b then x ∷ xs else xs) ≡ map h (edges_in (s ∷ slots))
-shown_after h true None x slots xs is rest = cc
-shown_after h true (Some e) x slots xs is rest = (let same : h e ≡ x = cc in rw (rest, same))
-shown_after h false None x slots xs is rest = rest
-shown_after h false (Some e) x slots xs is rest = cc
+shown_after h h1 h2 x slots xs is rest = grind (arith, common_steps)
 
 -- the items of a column at the places in a mask are those of the edges, where the mask is that of the slots taken
 pub selected_from_edges : {X : Type 0} (h : Slot → X) (mask place : ℕ) (xs : List X) (slots : List (Option Slot)) (d : X)
@@ -67,11 +65,10 @@ pub selected_from_edges : {X : Type 0} (h : Slot → X) (mask place : ℕ) (xs :
     → option_map h (get_or slots k None) ≡ (if bit_at mask n == 1 then Some (get_or xs k d) else None)) →
     selected_from mask place xs ≡ map h (edges_in slots)
 selected_from_edges h mask place [] [] d long is = refl
-selected_from_edges h mask place [] (s ∷ slots) d long is = absurd (omega arith)
-selected_from_edges h mask place (x ∷ xs) [] d long is = absurd (omega arith)
 selected_from_edges h mask place (x ∷ xs) (s ∷ slots) d long is =
     shown_after h (bit_at mask place == 1) s x slots (selected_from mask (place + 1) xs) (is 0 place (omega arith) (omega arith))
     (selected_from_edges h mask (place + 1) xs slots d (omega arith) (λ k n within e. is (suc k) n (omega arith) (omega arith)))
+selected_from_edges h mask place _ _ d long is = absurd (omega arith)
 
 -- the recent times at the live places
 pub selected_recents : (live : ℕ) (ts : List ℕ) (ws : List ℤ) (fs rs : List ℕ) → length rs ≡ 32 →
@@ -90,10 +87,7 @@ selected_recents live ts ws fs rs long =
 kept_after : (p : Slot → Bool) (b : Bool) (s : Option Slot) (chosen slots : List (Option Slot)) →
     ((e : Slot) → s ≡ Some e → b ≡ p e) → edges_in chosen ≡ filter p (edges_in slots) →
     edges_in (if b then s ∷ chosen else chosen) ≡ filter p (edges_in (s ∷ slots))
-kept_after p true None chosen slots agrees rest = rest
-kept_after p false None chosen slots agrees rest = rest
-kept_after p true (Some e) chosen slots agrees rest = (let yes : p e ≡ true = sym (agrees e refl) in rw (yes, rest))
-kept_after p false (Some e) chosen slots agrees rest = (let no : p e ≡ false = sym (agrees e refl) in rw (no, rest))
+kept_after p h1 h2 chosen slots agrees rest = grind (arith, common_steps)
 
 -- the edges at the places in a mask are those that pass a test, where the mask has the places of these
 pub edges_filtered : (p : Slot → Bool) (mask place : ℕ) (slots : List (Option Slot)) →

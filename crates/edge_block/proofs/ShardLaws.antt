@@ -1,16 +1,16 @@
 -- The operations of some sources alone leave those sources' rows, and their outcomes, as all operations do.
-use Rattle.std.proofs.{Common.{◌∙◌, Option, Some, None, All, filter}, Common.{◌≡◌, ℕ, ◌+◌, ◌+ℤ◌, ◌%◌, ◌==◌, List, [], ◌∷◌, ◌++◌}}
-use Rattle.std.proofs.{Common.{Bool, true, false, cond, ◌&&◌, refl, sym, ap}, lemmas.Bool.{true≢false, false≢true, eqb-true}}
-use Rattle.std.proofs.lemmas.{Bool.eq-eqb, List.{Elements.{All-head, All-tail, All-nil, All-cons, All-weaker}, Sums.sum_by-cons}}
-use Rattle.std.{proofs.lemmas.List.Sums.sum_by-append, specs.List.sum_by}
-use Rattle.graph_types.specs.{Graph.Key, Graph.Stamp, Limits.is_weight, Step.number_of, Step.key_in, Step.outcome_at}
-use Rattle.graph_types.specs.{declared.batches.NamedOp.NamedOp, declared.batches.Outcome.Outcome, Answer.is_listed}
-use Rattle.graph_types.specs.declared.batches.Outcome.TheVariants.{Inserted, Updated, Removed, Absent, Overflow, Expired}
-use Rattle.graph_types.specs.declared.changes.EdgeChange.{EdgeChange, TheVariants.Insert, TheVariants.Incr, TheVariants.Remove}
-use Rattle.edge_block.specs.{Operations.{Parts, OfEdge, OfAll, parts_of, names_after, kinds_after}, Rows.{OpenBlock, edge_at}}
-use Rattle.edge_block.specs.{Rows.old_in_row, Batches.{Resolved, AtKey, InAll, key_is_of, acts_on, key_step, row_step}}
+use Rattle.std.proofs.{Common.{◌∙◌, Some, None, All, filter, get_or}, Common.{◌≡◌, ℕ, ◌+◌, ◌%◌, ◌==◌, List, [], ◌∷◌, ◌++◌}}
+use Rattle.std.proofs.Common.{Bool, true, false, cond, refl, sym, ap}
+use Rattle.std.proofs.lemmas.{Bool.eq-eqb, List.{Elements.{All-head, All-tail, All-nil, All-cons}, Sums.sum_by-cons}}
+use Rattle.std.specs.List.{sum_by}
+use Rattle.std.proofs.{Common.arith, lemmas.Grind.common_steps}
+use Rattle.graph_types.specs.Graph.{Key}
+use Rattle.graph_types.specs.declared.batches.NamedOp.{NamedOp}
+use Rattle.graph_types.specs.declared.batches.Outcome.TheVariants.{Expired}
+use Rattle.edge_block.specs.{Operations.{Parts, parts_of, names_after, kinds_after}, Rows.OpenBlock}
+use Rattle.edge_block.specs.{Rows.old_in_row, Batches.{Resolved, AtKey, InAll, key_is_of, acts_on, row_step}}
 use Rattle.edge_block.specs.Batches.{key_outcome, outcome_in, rows_step, rows_all, outcomes_all, picked, together, joined}
-use Rattle.edge_block.specs.Batches.{IsPlaced, shard_of, is_in_shard, shard_ops, resolve_parts, resolved}
+use Rattle.edge_block.specs.Batches.{IsPlaced, is_in_shard, shard_ops, resolve_parts, resolved}
 
 sum_same : (own : ℕ → Bool) (f g : ℕ → ℕ) → ((s : ℕ) → own s ≡ true → f s ≡ g s) → (xs : List ℕ)
     → All (λ s. own s ≡ true) xs → sum_by f xs ≡ sum_by g xs
@@ -29,14 +29,7 @@ module _ (p : Resolved → Bool) (own : ℕ → Bool) where
   -- an operation that is not taken leaves the rows of own sources alone
   passed_by : (r : Resolved) → Follows r → p r ≡ false → (rows : ℕ → List OpenBlock) (source : ℕ) → own source ≡ true
       → rows_step r rows source ≡ rows source
-  passed_by (InAll time) h out rows source is = absurd (false≢true (sym out ∙ h))
-  passed_by (AtKey of None change) h out rows source is = refl
-  passed_by (AtKey of (Some k) change) h out rows source is =
-      elim (source == k.source) as (λ b. source == k.source ≡ b
-      → cond b (key_step change (Some k) (rows source)) (rows source) ≡ rows source) [
-        | true ↦ λ t. absurd (false≢true (sym out ∙ h k refl ∙ ap own (sym (eqb-true source k.source t)) ∙ is))
-        | false ↦ λ t. refl
-      ] refl
+  passed_by h0 h out rows source is = grind (arith, common_steps)
 
   abbrev pub Agree : (ℕ → List OpenBlock) → (ℕ → List OpenBlock) → Type 0
   Agree rows others = (source : ℕ) → own source ≡ true → rows source ≡ others source
@@ -81,31 +74,15 @@ module _ (p : Resolved → Bool) (own : ℕ → Bool) where
 -- a source's row changes by the operations on that source alone
 pub source_row : (rs : List Resolved) (rows : ℕ → List OpenBlock) (source : ℕ)
     → rows_all (filter (acts_on source) rs) rows source ≡ rows_all rs rows source
-source_row rs rows source = own_rows (acts_on source) (λ other. source == other) rs (every rs) rows rows
+source_row rs rows source = own_rows (acts_on source) (λ other. source == other) rs
+    (λ k d h. follows (get_or rs k d)) rows rows
     (λ other is. refl) source (eq-eqb source source refl) where
       follows : (r : Resolved) → Follows (acts_on source) (λ other. source == other) r
       follows (AtKey of key change) = λ k e. ap (key_is_of source) e
       follows (InAll time) = refl
 
-      every : (rs : List Resolved) → All (Follows (acts_on source) (λ other. source == other)) rs
-      every [] = All-nil (Follows (acts_on source) (λ other. source == other))
-      every (r ∷ rs) = All-cons (Follows (acts_on source) (λ other. source == other)) r rs (follows r) (every rs)
-
 placed : (names kinds : List (List ℕ)) (op : Parts) → IsPlaced (resolve_parts names kinds op)
-placed names kinds (OfAll time) = tt
-placed names kinds (OfEdge change kind source target) = λ k.
-    let at : Bool → Bool → Bool → Type 0 = λ a b c. cond (a && (b && c)) (Some (key_in names kinds kind source target)) None
-    ≡ Some k → cond b (Some (number_of names source)) None ≡ Some k.source in
-    elim (is_listed kinds kind) as (λ a. at a (is_listed names source) (is_listed names target)) [
-      | false ↦ λ e. cc
-      | true ↦ elim (is_listed names source) as (λ b. at true b (is_listed names target)) [
-        | false ↦ λ e. cc
-        | true ↦ elim (is_listed names target) as (λ c. at true true c) [
-          | false ↦ λ e. cc
-          | true ↦ λ e. let same : key_in names kinds kind source target ≡ k = cc in ap Some (ap (λ (q : Key). q.source) same)
-        ]
-      ]
-    ]
+placed names kinds h2 = grind (arith, common_steps)
 
 all_placed : (ops : List NamedOp) (names kinds : List (List ℕ)) → All IsPlaced (resolved ops names kinds)
 all_placed [] names kinds = All-nil IsPlaced
@@ -115,14 +92,9 @@ all_placed (op ∷ ops) names kinds = All-cons IsPlaced _ _ (placed (names_after
 abbrev own_source : ℕ → ℕ → ℕ → Bool
 own_source workers w source = source % workers == w
 
-shard_follows : (workers w : ℕ) (r : Resolved) → IsPlaced r → Follows (is_in_shard workers w) (own_source workers w) r
-shard_follows workers w (AtKey of key change) h = λ k e. ap (λ o. shard_of workers o == w) (h k e)
-shard_follows workers w (InAll time) h = refl
-
 all_follow : (workers w : ℕ) (rs : List Resolved) → All IsPlaced rs
     → All (Follows (is_in_shard workers w) (own_source workers w)) rs
-all_follow workers w rs h = All-weaker IsPlaced (Follows (is_in_shard workers w) (own_source workers w))
-    (shard_follows workers w) rs h
+all_follow workers w rs h = grind (arith, common_steps)
 
 module _ (workers w : ℕ) (ops : List NamedOp) (names kinds : List (List ℕ)) (rows : ℕ → List OpenBlock) where
   -- a shard alone leaves the rows of its sources as the batch leaves them
@@ -139,40 +111,9 @@ module _ (workers w : ℕ) (ops : List NamedOp) (names kinds : List (List ℕ)) 
       (all_follow workers w _ (all_placed ops names kinds)) rows rows (λ source is. refl)
 
 -- A change tells no count, so outcomes over two lists of sources are put together place by place
-
-abbrev is_count : Outcome → Bool
-is_count Inserted = false
-is_count Updated = false
-is_count Removed = false
-is_count Absent = false
-is_count Overflow = false
-is_count (Expired n) = true
-
-change_tells_none : (change : EdgeChange) (before : Option Stamp) → is_count (outcome_at change before) ≡ false
-change_tells_none (Insert weight time) None = refl
-change_tells_none (Insert weight time) (Some e) = refl
-change_tells_none (Incr amount time) None = refl
-change_tells_none (Incr amount time) (Some e) =
-    elim (is_weight (e.weight +ℤ amount)) as (λ b. is_count (cond b Updated Overflow) ≡ false) [ true ↦ refl | false ↦ refl ]
-change_tells_none Remove None = refl
-change_tells_none Remove (Some e) = refl
-
-tells_none : (change : EdgeChange) (key : Option Key) (rows : ℕ → List OpenBlock) → is_count (key_outcome change key rows) ≡ false
-tells_none change None rows = refl
-tells_none change (Some k) rows = change_tells_none change (edge_at (rows k.source) (k.kind, k.target))
-
-pub together_itself : (o : Outcome) → is_count o ≡ false → o ≡ together o o
-together_itself Inserted none = refl
-together_itself Updated none = refl
-together_itself Removed none = refl
-together_itself Absent none = refl
-together_itself Overflow none = refl
-together_itself (Expired n) none = absurd (true≢false none)
-
 one_together : (xs ys : List ℕ) (r : Resolved) (rows : ℕ → List OpenBlock)
     → outcome_in (xs ++ ys) r rows ≡ together (outcome_in xs r rows) (outcome_in ys r rows)
-one_together xs ys (AtKey of key change) rows = together_itself (key_outcome change key rows) (tells_none change key rows)
-one_together xs ys (InAll time) rows = ap (λ n. Expired n) (sum_by-append (λ s. old_in_row time (rows s)) xs ys)
+one_together xs ys h2 rows = grind (arith, common_steps)
 
 pub all_together : (xs ys : List ℕ) (rs : List Resolved) (rows : ℕ → List OpenBlock)
     → outcomes_all (xs ++ ys) rs rows ≡ joined (outcomes_all xs rs rows) (outcomes_all ys rs rows)

@@ -1,16 +1,17 @@
 -- The least and the greatest of the times at the places in a mask.
-use Rattle.std.proofs.Common.{◌≡◌, ◌≢◌, ℕ, zero, suc, ◌+◌, ◌*◌, ◌%◌, ◌^◌, ◌<◌, ◌≤◌, List, [], ◌∷◌, ◌++◌, length, get_or, set}
+use Rattle.std.proofs.Common.{◌≡◌, ◌≢◌, ℕ, suc, ◌+◌, ◌*◌, ◌%◌, ◌^◌, ◌<◌, ◌≤◌, List, [], ◌∷◌, ◌++◌, length, get_or, set}
 use Rattle.std.proofs.{Common.{refl, sym, ap, ◌∙◌, subst, ◌⊎◌, inl, inr, arith}, lemmas.Bool.{eq-eqb, ne_eqb, cases_eq, cases_lt}}
 use Rattle.std.proofs.lemmas.List.{length-set, get_or-set_same, get_or-set_other, Elements.{Contains-append_left, All-contains}}
-use Rattle.std.proofs.lemmas.{List.Elements.{Contains-get_or, Contains-push, Contains-push_cases}, Nat.Bits.bit_at-zero}
+use Rattle.std.proofs.lemmas.List.Elements.{Contains-get_or, Contains-push, Contains-push_cases}
 use Rattle.std.proofs.lemmas.Nat.Bits.{bit_at_set_same, bit_at_set_other, bit_at_clear_same, bit_at_clear_other, bit_at_above}
-use Rattle.std.proofs.lemmas.Nat.Bits.{bit_at-trailing_zeros}
+use Rattle.std.proofs.lemmas.{Nat.Bits.bit_at-trailing_zeros, Grind.common_steps}
 use Rattle.std.specs.{Option.unwrap_or, Prelude.{slice_index, Contains}, Int.{bit_at, bit_not, w32, trailing_zeros}}
 use Rattle.std.specs.{Int.RustNames.bit_or, declared.option.Option.{Option, TheVariants.{None, Some}}}
 use lib.Bits.{and_le_l}
 use Rattle.lane_scan.specs.Masks.{InMask, IsPlaceWithin, AreBoundsOf, selected_from, selected}
 use Rattle.lane_scan.proofs.Selected.{selected_from_contains}
-use Rattle.edge_block.specs.Columns.{AreTimes, cleared_at}
+use Rattle.graph_types.proofs.Counts.{Contains-cons_cases}
+use Rattle.edge_block.{specs.Columns.{AreTimes, cleared_at}, proofs.Views.selected_none}
 
 -- a place in a mask that has a time
 pub record HasAt (mask : ℕ) (xs : List ℕ) (time place : ℕ) : Type 0 where
@@ -31,17 +32,13 @@ selected_stands : (mask n : ℕ) (xs : List ℕ) (time : ℕ) → Contains (sele
 selected_stands mask n [] time (k, within, is) = absurd (omega arith)
 selected_stands mask n (x ∷ xs) time there =
     elim (cases_eq (bit_at mask n) 1) [
-      | inl set ↦ elim (contains_cases x (selected_from mask (n + 1) xs) time (rw (eq-eqb (bit_at mask n) 1 set) at there)) [
+      | inl set ↦ elim (Contains-cons_cases x (selected_from mask (n + 1) xs) time (rw (eq-eqb (bit_at mask n) 1 set) at there)) [
         | inl same ↦ (0, omega arith, (let e : n + 0 ≡ n = omega arith in rw e set), same)
         | inr later ↦ has_later mask xs time x 0 n (selected_stands mask (n + 1) xs time later)
       ]
       | inr clear ↦ has_later mask xs time x 0 n
           (selected_stands mask (n + 1) xs time (rw (ne_eqb (bit_at mask n) 1 clear) at there))
     ]
-  where
-    contains_cases : (y : ℕ) (ys : List ℕ) (x : ℕ) → Contains (y ∷ ys) x → (y ≡ x) ⊎ Contains ys x
-    contains_cases y ys x (zero, within, is) = inl is
-    contains_cases y ys x (suc k, within, is) = inr (k, omega arith, is)
 
 pub place_selected : (mask : ℕ) (xs : List ℕ) (time : ℕ) → Contains (selected mask xs) time
     → (place : ℕ) × HasAt mask xs time place
@@ -85,10 +82,7 @@ bounded_at mask xs times place h within lives =
 
 -- a word with a bit is not 0
 pub some_live : (live place : ℕ) → InMask live place → 0 < live
-some_live live place lives = elim (cases_eq live 0) [
-  | inl none ↦ absurd (let set : InMask 0 place = rw none at lives in omega (arith, bit_at-zero place))
-  | inr some ↦ omega arith
-]
+some_live live place lives = grind (arith, common_steps)
 
 -- a window that misses the bounds, and one that covers them
 pub window_misses : (live : ℕ) (rs : List ℕ) (times : ℕ × ℕ) (lo hi place : ℕ) → AreTimes live rs times
@@ -124,19 +118,11 @@ not_cleared live i place few lives same =
     omega arith
 
 pub live_with_others : (live i : ℕ) → (cleared_at live i ≡ 0 → ⊥) → 0 < live
-live_with_others live i some = elim (cases_eq (cleared_at live i) 0) [
-  | inl none ↦ absurd (some none)
-  | inr others ↦ omega (arith, and_le_l live (bit_not w32 (1 * 2 ^ i % 2 ^ 32)))
-]
+live_with_others live i some = grind (arith, common_steps)
 
 -- no other place
 pub bounds_alone : (rs : List ℕ) (others : ℕ) → others ≡ 0 → selected others rs ≡ []
-bounds_alone rs others none = rw none (go 0 rs) where
-  go : (n : ℕ) (xs : List ℕ) → selected_from 0 n xs ≡ []
-  go n [] = refl
-  go n (x ∷ xs) =
-      let clear : bit_at 0 n ≡ 1 → ⊥ = λ set. omega (arith, bit_at-zero n) in
-      rw (ne_eqb (bit_at 0 n) 1 clear) (go (n + 1) xs)
+bounds_alone rs others none = rw none (selected_none 0 rs)
 
 -- the place has neither bound
 pub bounds_inside : (live : ℕ) (rs : List ℕ) (times : ℕ × ℕ) (i : ℕ) → i < 32 → length rs ≡ 32
@@ -251,8 +237,6 @@ pub selected_agree : {X : Type 0} (mask n : ℕ) (xs ys : List X) (d : X) → le
     → ((k m : ℕ) → k < length xs → n + k ≡ m → InMask mask m → get_or xs k d ≡ get_or ys k d) →
     selected_from mask n xs ≡ selected_from mask n ys
 selected_agree mask n [] [] d long same = refl
-selected_agree mask n [] (y ∷ ys) d long same = absurd (omega arith)
-selected_agree mask n (x ∷ xs) [] d long same = absurd (omega arith)
 selected_agree mask n (x ∷ xs) (y ∷ ys) d long same =
     let rest : selected_from mask (n + 1) xs ≡ selected_from mask (n + 1) ys =
     selected_agree mask (n + 1) xs ys d (omega arith) (λ k m within e set. same (suc k) m (omega arith) (omega arith) set) in
@@ -260,3 +244,4 @@ selected_agree mask n (x ∷ xs) (y ∷ ys) d long same =
       | inl set ↦ (let here : x ≡ y = same 0 n (omega arith) (omega arith) set in rw (eq-eqb (bit_at mask n) 1 set, here, rest))
       | inr clear ↦ rw (ne_eqb (bit_at mask n) 1 clear, rest)
     ]
+selected_agree mask n _ _ d long same = absurd (omega arith)

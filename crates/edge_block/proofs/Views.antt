@@ -1,7 +1,7 @@
 -- The edges of a view, one after another.
 use Rattle.std.proofs.Common.{◌≡◌, ◌≢◌, ℕ, zero, suc, ◌+◌, ◌*◌, ◌%◌, ◌^◌, ◌<◌, ◌≤◌, ℤ, Bool, true, false, List, [], ◌∷◌, length}
-use Rattle.std.proofs.Common.{get_or, map, refl, sym, ap, ◌∙◌, inl, inr, arith, cond}
-use Rattle.std.proofs.lemmas.Bool.{eq-eqb, ne_eqb, le-leb, lt-leb, cases_lt, true≢false}
+use Rattle.std.proofs.Common.{get_or, map, refl, sym, ap, ◌∙◌, arith, cond}
+use Rattle.std.proofs.lemmas.{Bool.{eq-eqb, ne_eqb}, Grind.common_steps}
 use Rattle.std.proofs.lemmas.Nat.Bits.{bit_at-zero, bit_at-lt, bit_at_and, bit_at-trailing_zeros, bit_at_clear_same}
 use Rattle.std.proofs.lemmas.{Nat.Bits.bit_at_clear_other, List.length-map, List.Sums.length-filter, List.Sums.count_by-le-length}
 use Rattle.std.specs.{Prelude.{◌==◌, ◌&&◌, nat_le, if◌then◌else◌, filter, slice_index, ◌↔◌}, Int.{bit_at, w32, bit_not}}
@@ -55,14 +55,7 @@ selected_next mask mask' place (x ∷ xs) (suc i) n d within e set first clear o
 edges_after : (b b' : Bool) (s : Option Slot) (xs ys : List (Option Slot)) → ((e : Slot) → s ≡ Some e → b ≡ b')
     → edges_in xs ≡ edges_in ys →
     edges_in (if b then s ∷ xs else xs) ≡ edges_in (if b' then s ∷ ys else ys)
-edges_after true true None xs ys same rest = rest
-edges_after true false None xs ys same rest = rest
-edges_after false true None xs ys same rest = rest
-edges_after false false None xs ys same rest = rest
-edges_after true true (Some e) xs ys same rest = ap (λ es. e ∷ es) rest
-edges_after true false (Some e) xs ys same rest = absurd (true≢false (same e refl))
-edges_after false true (Some e) xs ys same rest = absurd (true≢false (sym (same e refl)))
-edges_after false false (Some e) xs ys same rest = rest
+edges_after h0 h1 h2 xs ys same rest = grind (arith, common_steps)
 
 edges_agree : (mask mask' place : ℕ) (slots : List (Option Slot)) →
     ((k n : ℕ) (e : Slot) → k < length slots → place + k ≡ n → get_or slots k None ≡ Some e → bit_at mask n ≡ bit_at mask' n) →
@@ -78,16 +71,7 @@ edges_agree mask mask' place (s ∷ slots) same =
 edge_lives : (live : ℕ) (ts : List ℕ) (ws : List ℤ) (fs rs : List ℕ) (i : ℕ) (e : Slot) → i < 32
     → get_or (slots_of live ts ws fs rs) i None ≡ Some e →
     InMask live i × (e ≡ column_slot ts ws fs rs i)
-edge_lives live ts ws fs rs i e few is =
-    elim (lives_or_not live i) [
-      | inl lives ↦ (
-        lives,
-        (let same : (let x : Option Slot = Some e in x) ≡ Some (column_slot ts ws fs rs i) = sym is
-            ∙ slot_live live ts ws fs rs i None few lives in cc),
-      )
-      | inr dead ↦ (let same : (let x : Option Slot = Some e in x) ≡ None = sym is ∙ slot_dead live ts ws fs rs i None few dead in
-          cc)
-    ]
+edge_lives live ts ws fs rs i e few is = grind (arith, common_steps, lives_or_not, slot_live, slot_dead)
 
 -- of the places in a mask the live ones alone count
 pub edges_due : (mask live : ℕ) (ts : List ℕ) (ws : List ℤ) (fs rs : List ℕ) →
@@ -130,8 +114,7 @@ edges_next mask live ts ws fs rs i e fits some at is =
 lent_one : (b : BlockView) (e : Slot) (passes : Bool) (es : List Slot) (entries : List (Key × Stamp))
     → map (lent_in b) es ≡ map lent_of entries →
     map (lent_in b) (cond passes (e ∷ es) es) ≡ map lent_of (cond passes (entry_in b e ∷ entries) entries)
-lent_one b e true es entries rest = ap (λ ls. lent_in b e ∷ ls) rest
-lent_one b e false es entries rest = rest
+lent_one b e h2 es entries rest = grind (arith, common_steps)
 
 lent_view : (b : BlockView) (f : Filter) (es : List Slot) →
     map (lent_in b) (filter (λ e. in_view f (entry_in b e)) es) ≡ map lent_of (filter (in_view f) (map (entry_in b) es))
@@ -144,35 +127,11 @@ lent_view b f (e ∷ es) =
 in_window : (mask live lo hi n time : ℕ) (rs : List ℕ) → (InMask mask n ↔ IsPlaceWithin rs live lo hi n) → n < length rs
     → InMask live n → time ≡ slice_index rs n →
     (bit_at mask n == 1) ≡ (nat_le lo time && nat_le time hi)
-in_window mask live lo hi n time rs says within lives e =
-    elim (cases_lt time lo) [
-      | inl low ↦
-          let out : InMask mask n → ⊥ = λ set. absurd (let h : lo ≤ slice_index rs n = (says.0 set).from_lo in omega arith) in
-          rw (ne_eqb (bit_at mask n) 1 out, lt-leb lo time low)
-      | inr from ↦ elim (cases_lt hi time) [
-        | inl high ↦
-            let out : InMask mask n → ⊥ = λ set. absurd (let h : slice_index rs n ≤ hi = (says.0 set).to_hi in omega arith) in
-            rw (ne_eqb (bit_at mask n) 1 out, le-leb lo time from, lt-leb time hi high)
-        | inr to ↦
-            let set : InMask mask n =
-            says.1 (record { within = within; lives = lives; from_lo = omega arith; to_hi = omega arith }) in
-            rw (eq-eqb (bit_at mask n) 1 set, le-leb lo time from, le-leb time hi to)
-      ]
-    ]
+in_window mask live lo hi n time rs says within lives e = grind (arith, common_steps)
 
 -- a view lends no more edges than there are slots
 pub lent_few : (b : BlockView) (f : Filter) → length b.slots ≡ 32 → length (map lent_of (filter (in_view f) (entries_of b))) ≤ 32
-lent_few b f places =
-    omega (
-      arith,
-      places,
-      edges_few b.slots,
-      length-map (filter (in_view f) (entries_of b)) lent_of,
-      length-filter (in_view f)
-          (entries_of b),
-      count_by-le-length (in_view f) (entries_of b),
-      length-map (edges_in b.slots) (entry_in b),
-    )
+lent_few b f places = grind (arith, common_steps, edges_few, length-map, length-filter, count_by-le-length)
 
 -- what is lent by the mask of a window, of a kind that the filter takes
 pub lent_within : (number source kind live : ℕ) (ts : List ℕ) (ws : List ℤ) (fs rs : List ℕ) (f : Filter) (mask : ℕ)

@@ -25,16 +25,13 @@ resolve_parts names kinds (OfEdge change kind source target) =
     change
 resolve_parts names kinds (OfAll time) = InAll time
 
-abbrev pub resolve : List (List ℕ) → List (List ℕ) → NamedOp → Resolved
-resolve names kinds op = resolve_parts names kinds (parts_of op)
-
 -- a batch's operations, each by the names at its place
 abbrev pub resolved : List NamedOp → List (List ℕ) → List (List ℕ) → List Resolved
 resolved [] names kinds = []
 resolved (op ∷ ops) names kinds =
     let names' = names_after op names in
     let kinds' = kinds_after op kinds in
-    resolve names' kinds' op ∷ resolved ops names' kinds'
+    resolve_parts names' kinds' (parts_of op) ∷ resolved ops names' kinds'
 
 -- whether the operation acts on the row of a source
 abbrev pub key_is_of : ℕ → Option Key → Bool

@@ -78,12 +78,9 @@ put_edge kind e row =
     else (if list_any (λ b. has_room kind b.shape) row then at_first (λ b. has_room kind b.shape) (touch (put_slot e)) row
     else row ++ new_block kind e ∷ [])
 
-abbrev pub take_edge : ℕ × ℕ → List OpenBlock → List OpenBlock
-take_edge place row = at_first (has_edge place) (touch (take_slot place.1)) row
-
 -- the row with this at a kind and a target
 abbrev pub set_edge : ℕ × ℕ → Option Stamp → List OpenBlock → List OpenBlock
-set_edge place None row = take_edge place row
+set_edge place None row = at_first (has_edge place) (touch (take_slot place.1)) row
 set_edge place (Some stamp) row = put_edge place.0 (record { target = place.1; stamp = stamp }) row
 
 -- an outcome of a change that touches a block; a change has none of an expiry

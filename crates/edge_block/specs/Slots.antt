@@ -111,10 +111,6 @@ abbrev pub IsSlot : Option Slot → Type 0
 IsSlot None = Unit {0}
 IsSlot (Some e) = IsStamp e.stamp
 
--- 32 slots, all of them empty
-abbrev pub empty_slots : List (Option Slot)
-empty_slots = replicate 32 None
-
 -- a block as callers see it: its number, its source and kind, and its slots
 pub record BlockView : Type 0 where
   pub number : ℕ
@@ -122,9 +118,9 @@ pub record BlockView : Type 0 where
   pub kind : ℕ
   pub slots : List (Option Slot)
 
--- a block without edges
+-- a block without edges: 32 empty slots
 abbrev pub empty_block : ℕ → ℕ → ℕ → BlockView
-empty_block number source kind = record { number = number; source = source; kind = kind; slots = empty_slots }
+empty_block number source kind = record { number = number; source = source; kind = kind; slots = replicate 32 None }
 
 -- a block with its slots changed
 abbrev pub with_slots : BlockView → List (Option Slot) → BlockView

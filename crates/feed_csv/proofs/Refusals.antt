@@ -2,10 +2,13 @@
 use Rattle.std.proofs.Common.{◌≡◌, ◌≢◌, ℕ, ◌+◌, ◌≤◌, ℤ, pos, neg_ℤ, Bool, true, false, cond, codes, List, Option, Some, None}
 use Rattle.std.proofs.Common.{Result, Ok, Err, IsTrue, length, nat_eq, IfOk, IfSome, option_map, drop, refl, subst, arith, rules}
 use Rattle.std.{proofs.lemmas.Grind.common_steps, specs.Str.bytes_eq}
-use Rattle.graph_types.specs.{Limits.is_time, Limits.is_weight, Valid.are_names, Valid.is_kind_name, Valid.is_name}
-use Rattle.feed_csv.specs.Commands.{HasValidOp, Refuses, close_of, commit_of, cores_of, degrees_of, edge_of, edge_fields}
-use Rattle.feed_csv.specs.Commands.{expire_of, filter_at, filter_fields, incr_of, names_at, collect_of, insert_of, item_of}
-use Rattle.feed_csv.specs.{Commands.{labels_of, levels_of, open_of, rebase_of, remove_of, stat_of}, Fields.{◌>>=◌, any_kind_at}}
+use Rattle.graph_types.specs.{Limits.is_time, Limits.is_weight, Valid.{IsValid, are_names, is_kind_name, is_name}}
+use Rattle.graph_types.specs.declared.batches.NamedOp.{NamedOp, TheVariants.{Insert, Incr}}
+use Rattle.graph_types.specs.declared.requests.{NamedFilter.NamedFilter, Request.{Request, TheVariants.{Labels, Cores, Degrees}}}
+use Rattle.feed_csv.specs.declared.command.Command.TheVariants.{Commit, OpenSlot, CloseSlot, Stat, Collect, Rebase}
+use Rattle.feed_csv.specs.Commands.{HasValidOp, Refuses, bare_command, edge_command, edge_fields, edge_of, expire_of, filter_at}
+use Rattle.feed_csv.specs.Commands.{filter_command, filter_fields, item_of, levels_of, names_at, remove_of, slot_command}
+use Rattle.feed_csv.specs.Fields.{◌>>=◌, any_kind_at}
 use Rattle.feed_csv.specs.{Fields.{field, kind_at, name_at, of_length, required, slot_at, time_at, weight_at}, Number.at_most}
 use Rattle.feed_csv.specs.{Number.{has_minus, number_of, slot_of, time_of, weight_of}, Records.Row, Script.{FaultStep, NextStep}}
 use Rattle.feed_csv.specs.{Script.{Script, TakesRow}, declared.command.{Command.Command, FeedFault.FeedFault, FeedWord.FeedWord}}
@@ -83,6 +86,10 @@ unfolding of_length
 of_length-judges count row =
     tested (nat_eq (length row) count) (Ok row) (Err BadFields) (λ _. given row tt) (refused BadFields tt)
 
+sized : {A : Type 0} {Good : A → Type 0} (count : ℕ) (row : Row) (next : Row → Result A FeedWord)
+    → ((fit : Row) → Judges Good (next fit)) → Judges Good (of_length count row >>= next)
+sized count row next there = then (of_length count row) next (of_length-judges count row) (λ fit _. there fit)
+
 name_at-judges : (row : Row) (place : ℕ) → Judges (λ name. IsTrue (is_name name)) (name_at row place)
 unfolding name_at
 name_at-judges row place =
@@ -125,48 +132,38 @@ edge_fields-judges : (row : Row) → Judges (λ e. IsTrue (are_names e.names.kin
     × IsTrue (is_weight e.amount) × IsTrue (is_time e.time)) (edge_fields row)
 unfolding edge_fields
 edge_fields-judges row =
-    then (of_length 6 row) _ (of_length-judges 6 row) (λ r _. then (names_at r 1) _ (names_at-judges r 1) (λ v0 names.
+    sized 6 row _ (λ r. then (names_at r 1) _ (names_at-judges r 1) (λ v0 names.
     then (weight_at r 4) _ (weight_at-judges r 4) (λ v1 weight. then (time_at r 5) _ (time_at-judges r 5) (λ v2 time.
     given _ (names, weight, time)))))
 
-insert_of-judges : (row : Row) → Judges HasValidOp (insert_of row)
-unfolding insert_of
-insert_of-judges row =
-    then (edge_fields row) _ (edge_fields-judges row) (λ _ is. given _ (record { names = is.0; weight = is.1; time = is.2 }))
-
-incr_of-judges : (row : Row) → Judges HasValidOp (incr_of row)
-unfolding incr_of
-incr_of-judges row =
-    then (edge_fields row) _ (edge_fields-judges row) (λ _ is. given _ (record { names = is.0; weight = is.1; time = is.2 }))
+edge_command-judges : (op : List ℕ → List ℕ → List ℕ → ℤ → ℕ → NamedOp) (row : Row)
+    → ((kind source target : List ℕ) (weight : ℤ) (time : ℕ) → IsTrue (are_names kind source target)
+    × IsTrue (is_weight weight) × IsTrue (is_time time) → IsValid (op kind source target weight time))
+    → Judges HasValidOp (edge_command op row)
+unfolding edge_command
+edge_command-judges op row valid = then (edge_fields row) _ (edge_fields-judges row) (λ e is. given _ (valid _ _ _ _ _ is))
 
 remove_of-judges : (row : Row) → Judges HasValidOp (remove_of row)
 unfolding remove_of
 remove_of-judges row =
-    then (of_length 4 row) _ (of_length-judges 4 row) (λ r _. then (names_at r 1) _ (names_at-judges r 1) (λ v0 names.
+    sized 4 row _ (λ r. then (names_at r 1) _ (names_at-judges r 1) (λ v0 names.
     given _ (record { names = names; weight = refl; time = refl })))
 
 expire_of-judges : (row : Row) → Judges HasValidOp (expire_of row)
 unfolding expire_of
 expire_of-judges row =
-    then (of_length 2 row) _ (of_length-judges 2 row) (λ r _. then (time_at r 1) _ (time_at-judges r 1) (λ v0 time.
+    sized 2 row _ (λ r. then (time_at r 1) _ (time_at-judges r 1) (λ v0 time.
     given _ (record { names = refl; weight = refl; time = time })))
 
-commit_of-judges : (row : Row) → Judges HasValidOp (commit_of row)
-unfolding commit_of
-commit_of-judges row =
-    then (of_length 1 row) _ (of_length-judges 1 row) (λ r _. given _ tt)
+bare_command-judges : (command : Command) (row : Row) → HasValidOp command → Judges HasValidOp (bare_command command row)
+unfolding bare_command
+bare_command-judges command row valid = sized 1 row _ (λ r. given _ valid)
 
-open_of-judges : (row : Row) → Judges HasValidOp (open_of row)
-unfolding open_of
-open_of-judges row =
-    then (of_length 2 row) _ (of_length-judges 2 row) (λ r _. then (slot_at r 1) _ (slot_at-judges r 1) (λ v0 _.
-    given _ tt))
-
-close_of-judges : (row : Row) → Judges HasValidOp (close_of row)
-unfolding close_of
-close_of-judges row =
-    then (of_length 2 row) _ (of_length-judges 2 row) (λ r _. then (slot_at r 1) _ (slot_at-judges r 1) (λ v0 _.
-    given _ tt))
+slot_command-judges : (command : ℕ → Command) (row : Row) → ((slot : ℕ) → HasValidOp (command slot))
+    → Judges HasValidOp (slot_command command row)
+unfolding slot_command
+slot_command-judges command row valid =
+    sized 2 row _ (λ r. then (slot_at r 1) _ (slot_at-judges r 1) (λ slot _. given _ (valid slot)))
 
 filter_at-judges : (row : Row) (place : ℕ) → Judges Any (filter_at row place)
 unfolding filter_at
@@ -178,63 +175,46 @@ filter_at-judges row place =
 filter_fields-judges : (row : Row) → Judges Any (filter_fields row)
 unfolding filter_fields
 filter_fields-judges row =
-    then (of_length 5 row) _ (of_length-judges 5 row) (λ r _. then (filter_at r 2) _ (filter_at-judges r 2) (λ v0 _.
+    sized 5 row _ (λ r. then (filter_at r 2) _ (filter_at-judges r 2) (λ v0 _.
     then (slot_at r 1) _ (slot_at-judges r 1) (λ v1 _. given _ tt)))
 
 levels_of-judges : (row : Row) → Judges HasValidOp (levels_of row)
 unfolding levels_of
 levels_of-judges row =
-    then (of_length 6 row) _ (of_length-judges 6 row) (λ r _. then (name_at r 2) _ (name_at-judges r 2) (λ v0 _.
+    sized 6 row _ (λ r. then (name_at r 2) _ (name_at-judges r 2) (λ v0 _.
     then (filter_at r 3) _ (filter_at-judges r 3) (λ v1 _. then (slot_at r 1) _ (slot_at-judges r 1) (λ v2 _. given _ tt))))
 
-labels_of-judges : (row : Row) → Judges HasValidOp (labels_of row)
-unfolding labels_of
-labels_of-judges row = then (filter_fields row) _ (filter_fields-judges row) (λ _ _. given _ tt)
-
-cores_of-judges : (row : Row) → Judges HasValidOp (cores_of row)
-unfolding cores_of
-cores_of-judges row = then (filter_fields row) _ (filter_fields-judges row) (λ _ _. given _ tt)
-
-degrees_of-judges : (row : Row) → Judges HasValidOp (degrees_of row)
-unfolding degrees_of
-degrees_of-judges row = then (filter_fields row) _ (filter_fields-judges row) (λ _ _. given _ tt)
+filter_command-judges : (request : NamedFilter → Request) (row : Row) → Judges HasValidOp (filter_command request row)
+unfolding filter_command
+filter_command-judges request row = then (filter_fields row) _ (filter_fields-judges row) (λ _ _. given _ tt)
 
 edge_of-judges : (row : Row) → Judges HasValidOp (edge_of row)
 unfolding edge_of
 edge_of-judges row =
-    then (of_length 5 row) _ (of_length-judges 5 row) (λ r _. then (names_at r 2) _ (names_at-judges r 2) (λ v0 _.
+    sized 5 row _ (λ r. then (names_at r 2) _ (names_at-judges r 2) (λ v0 _.
     then (slot_at r 1) _ (slot_at-judges r 1) (λ v1 _. given _ tt)))
-
-stat_of-judges : (row : Row) → Judges HasValidOp (stat_of row)
-unfolding stat_of
-stat_of-judges row =
-    then (of_length 1 row) _ (of_length-judges 1 row) (λ r _. given _ tt)
-
-collect_of-judges : (row : Row) → Judges HasValidOp (collect_of row)
-unfolding collect_of
-collect_of-judges row =
-    then (of_length 1 row) _ (of_length-judges 1 row) (λ r _. given _ tt)
-
-rebase_of-judges : (row : Row) → Judges HasValidOp (rebase_of row)
-unfolding rebase_of
-rebase_of-judges row =
-    then (of_length 2 row) _ (of_length-judges 2 row) (λ r _. then (slot_at r 1) _ (slot_at-judges r 1) (λ v0 _.
-    given _ tt))
 
 -- no record is refused for Read or Memory, and each operation is valid
 pub item_of-judges : (row : Row) → Judges HasValidOp (item_of row)
 unfolding item_of
 item_of-judges row =
     let is = λ (text : List ℕ). bytes_eq (field row 0) text in
-    tested (is (codes "i")) _ _ (λ _. insert_of-judges row) (tested (is (codes "a")) _ _ (λ _. incr_of-judges row)
+    tested (is (codes "i")) _ _
+    (λ _. edge_command-judges Insert row (λ _ _ _ _ _ edge. record { names = edge.0; weight = edge.1; time = edge.2 }))
+    (tested (is (codes "a")) _ _
+    (λ _. edge_command-judges Incr row (λ _ _ _ _ _ edge. record { names = edge.0; weight = edge.1; time = edge.2 }))
     (tested (is (codes "r")) _ _ (λ _. remove_of-judges row) (tested (is (codes "x")) _ _ (λ _. expire_of-judges row)
-    (tested (is (codes "commit")) _ _ (λ _. commit_of-judges row)
-    (tested (is (codes "open")) _ _ (λ _. open_of-judges row) (tested (is (codes "close")) _ _ (λ _. close_of-judges row)
-    (tested (is (codes "bfs")) _ _ (λ _. levels_of-judges row) (tested (is (codes "comp")) _ _ (λ _. labels_of-judges row)
-    (tested (is (codes "core")) _ _ (λ _. cores_of-judges row) (tested (is (codes "deg")) _ _ (λ _. degrees_of-judges row)
+    (tested (is (codes "commit")) _ _ (λ _. bare_command-judges Commit row tt)
+    (tested (is (codes "open")) _ _ (λ _. slot_command-judges OpenSlot row (λ _. tt))
+    (tested (is (codes "close")) _ _ (λ _. slot_command-judges CloseSlot row (λ _. tt))
+    (tested (is (codes "bfs")) _ _ (λ _. levels_of-judges row)
+    (tested (is (codes "comp")) _ _ (λ _. filter_command-judges Labels row)
+    (tested (is (codes "core")) _ _ (λ _. filter_command-judges Cores row)
+    (tested (is (codes "deg")) _ _ (λ _. filter_command-judges Degrees row)
     (tested (is (codes "edge")) _ _ (λ _. edge_of-judges row)
-    (tested (is (codes "stat")) _ _ (λ _. stat_of-judges row) (tested (is (codes "collect")) _ _ (λ _. collect_of-judges row)
-    (tested (is (codes "rebase")) _ _ (λ _. rebase_of-judges row) (refused BadCommand tt)))))))))))))))
+    (tested (is (codes "stat")) _ _ (λ _. bare_command-judges Stat row tt)
+    (tested (is (codes "collect")) _ _ (λ _. bare_command-judges Collect row tt)
+    (tested (is (codes "rebase")) _ _ (λ _. slot_command-judges Rebase row (λ _. tt)) (refused BadCommand tt)))))))))))))))
 
 -- a record that was taken and refused is a step of the feed
 pub refused_step : (word : FeedWord) (row : Row) (old new : Script) → word ≢ Memory → Refuses word (item_of row)
@@ -247,5 +227,4 @@ refused_step _ row old new other same takes = (row, same, takes)
 pub step_valid : (result : Result (Option Command) FeedFault) (old new : Script) → NextStep old result new
     → IfOk result (λ found. IfSome found HasValidOp)
 step_valid (Ok (Some command)) old new step = (item_of-judges step.0).gives command step.1
-step_valid (Ok None) old new step = tt
-step_valid (Err fault) old new step = tt
+step_valid _ old new step = tt

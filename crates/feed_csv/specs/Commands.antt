@@ -1,9 +1,9 @@
 -- The command of a record, or the word of its refusal: one rule for each command. A rule takes the fields in the
 -- order of refusals: how many there are, names and kinds, the weight, times, the slot.
-use Rattle.std.specs.Prelude.{◌≡◌, ℕ, ◌+◌, bytes_eq, codes, List, if◌then◌else◌, Result, Ok, Err}
-use Rattle.graph_types.specs.{Valid.IsValid, declared.batches.NamedOp.TheVariants.{Insert, Incr, Remove, Expire}}
-use Rattle.graph_types.specs.declared.requests.{NamedFilter.NamedFilter, Request.TheVariants.{Levels, Labels, Cores, Degrees}}
-use Rattle.graph_types.specs.declared.requests.Request.TheVariants.{OneEdge}
+use Rattle.std.specs.Prelude.{◌≡◌, ℕ, ℤ, ◌+◌, bytes_eq, codes, List, if◌then◌else◌, Result, Ok, Err}
+use Rattle.graph_types.specs.{Valid.IsValid, declared.batches.NamedOp.{NamedOp, TheVariants.{Insert, Incr, Remove, Expire}}}
+use Rattle.graph_types.specs.declared.requests.{NamedFilter.NamedFilter, Request.{Request, TheVariants.{Levels, Labels, Cores}}}
+use Rattle.graph_types.specs.declared.requests.Request.TheVariants.{Degrees, OneEdge}
 use Rattle.feed_csv.specs.Fields.{◌>>=◌, any_kind_at, field, kind_at, name_at, of_length, slot_at, time_at, weight_at}
 use Rattle.feed_csv.specs.{Records.Row, declared.command.Command.{Command, TheVariants.{Op, Commit, OpenSlot, CloseSlot, Query}}}
 use Rattle.feed_csv.specs.declared.command.{Command.TheVariants.{Stat, Collect, Rebase}, FeedWord.{FeedWord, TheVariants.Read}}
@@ -29,17 +29,11 @@ edge_fields record_fields = do
   time ← time_at row 5
   Ok (record { names = names; amount = amount; time = time })
 
--- i,kind,source,target,weight,time
-unfoldable pub insert_of : Row → Result Command FeedWord
-insert_of row = do
+-- i or a, and what an edge has
+unfoldable pub edge_command : (List ℕ → List ℕ → List ℕ → ℤ → ℕ → NamedOp) → Row → Result Command FeedWord
+edge_command op row = do
   edge ← edge_fields row
-  Ok (Op (Insert edge.names.kind edge.names.source edge.names.target edge.amount edge.time))
-
--- a,kind,source,target,amount,time
-unfoldable pub incr_of : Row → Result Command FeedWord
-incr_of row = do
-  edge ← edge_fields row
-  Ok (Op (Incr edge.names.kind edge.names.source edge.names.target edge.amount edge.time))
+  Ok (Op (op edge.names.kind edge.names.source edge.names.target edge.amount edge.time))
 
 -- r,kind,source,target
 unfoldable pub remove_of : Row → Result Command FeedWord
@@ -55,25 +49,18 @@ expire_of record_fields = do
   time ← time_at row 1
   Ok (Op (Expire time))
 
--- commit
-unfoldable pub commit_of : Row → Result Command FeedWord
-commit_of record_fields = do
+-- commit, stat or collect, alone
+unfoldable pub bare_command : Command → Row → Result Command FeedWord
+bare_command command record_fields = do
   row ← of_length 1 record_fields
-  Ok Commit
+  Ok command
 
--- open,slot
-unfoldable pub open_of : Row → Result Command FeedWord
-open_of record_fields = do
+-- open, close or rebase, and a slot
+unfoldable pub slot_command : (ℕ → Command) → Row → Result Command FeedWord
+slot_command command record_fields = do
   row ← of_length 2 record_fields
   slot ← slot_at row 1
-  Ok (OpenSlot slot)
-
--- close,slot
-unfoldable pub close_of : Row → Result Command FeedWord
-close_of record_fields = do
-  row ← of_length 2 record_fields
-  slot ← slot_at row 1
-  Ok (CloseSlot slot)
+  Ok (command slot)
 
 -- kind or *,lo,hi from a place on
 unfoldable pub filter_at : Row → ℕ → Result NamedFilter FeedWord
@@ -100,23 +87,11 @@ levels_of record_fields = do
   slot ← slot_at row 1
   Ok (Query slot (Levels source filter))
 
--- comp,slot,kind or *,lo,hi
-unfoldable pub labels_of : Row → Result Command FeedWord
-labels_of row = do
-  request ← filter_fields row
-  Ok (Query request.0 (Labels request.1))
-
--- core,slot,kind or *,lo,hi
-unfoldable pub cores_of : Row → Result Command FeedWord
-cores_of row = do
-  request ← filter_fields row
-  Ok (Query request.0 (Cores request.1))
-
--- deg,slot,kind or *,lo,hi
-unfoldable pub degrees_of : Row → Result Command FeedWord
-degrees_of row = do
-  request ← filter_fields row
-  Ok (Query request.0 (Degrees request.1))
+-- comp, core or deg, a slot and a filter
+unfoldable pub filter_command : (NamedFilter → Request) → Row → Result Command FeedWord
+filter_command request row = do
+  fields ← filter_fields row
+  Ok (Query fields.0 (request fields.1))
 
 -- edge,slot,kind,source,target
 unfoldable pub edge_of : Row → Result Command FeedWord
@@ -126,44 +101,25 @@ edge_of record_fields = do
   slot ← slot_at row 1
   Ok (Query slot (OneEdge names.kind names.source names.target))
 
--- stat
-unfoldable pub stat_of : Row → Result Command FeedWord
-stat_of record_fields = do
-  row ← of_length 1 record_fields
-  Ok Stat
-
--- collect
-unfoldable pub collect_of : Row → Result Command FeedWord
-collect_of record_fields = do
-  row ← of_length 1 record_fields
-  Ok Collect
-
--- rebase,slot
-unfoldable pub rebase_of : Row → Result Command FeedWord
-rebase_of record_fields = do
-  row ← of_length 2 record_fields
-  slot ← slot_at row 1
-  Ok (Rebase slot)
-
 -- the first field says which command it is
 unfoldable pub item_of : Row → Result Command FeedWord
 item_of row =
     let word = field row 0 in
-    if bytes_eq word (codes "i") then insert_of row
-    else (if bytes_eq word (codes "a") then incr_of row
+    if bytes_eq word (codes "i") then edge_command Insert row
+    else (if bytes_eq word (codes "a") then edge_command Incr row
     else (if bytes_eq word (codes "r") then remove_of row
     else (if bytes_eq word (codes "x") then expire_of row
-    else (if bytes_eq word (codes "commit") then commit_of row
-    else (if bytes_eq word (codes "open") then open_of row
-    else (if bytes_eq word (codes "close") then close_of row
+    else (if bytes_eq word (codes "commit") then bare_command Commit row
+    else (if bytes_eq word (codes "open") then slot_command OpenSlot row
+    else (if bytes_eq word (codes "close") then slot_command CloseSlot row
     else (if bytes_eq word (codes "bfs") then levels_of row
-    else (if bytes_eq word (codes "comp") then labels_of row
-    else (if bytes_eq word (codes "core") then cores_of row
-    else (if bytes_eq word (codes "deg") then degrees_of row
+    else (if bytes_eq word (codes "comp") then filter_command Labels row
+    else (if bytes_eq word (codes "core") then filter_command Cores row
+    else (if bytes_eq word (codes "deg") then filter_command Degrees row
     else (if bytes_eq word (codes "edge") then edge_of row
-    else (if bytes_eq word (codes "stat") then stat_of row
-    else (if bytes_eq word (codes "collect") then collect_of row
-    else (if bytes_eq word (codes "rebase") then rebase_of row
+    else (if bytes_eq word (codes "stat") then bare_command Stat row
+    else (if bytes_eq word (codes "collect") then bare_command Collect row
+    else (if bytes_eq word (codes "rebase") then slot_command Rebase row
     else Err BadCommand))))))))))))))
 
 -- an operation that a command adds is valid

@@ -4,6 +4,9 @@ ghost use Rattle.std.specs.Prelude.{◌≡◌, ◌<◌, MatchResult, Ok, Err, If
 ghost use Rattle.csv.specs.Records.{fields_of};
 ghost use Rattle.feed_csv.specs.Commands as spec;
 ghost use Rattle.feed_csv.specs.Fields.{of_length};
+ghost use Rattle.feed_csv.specs.declared.command.Command.TheVariants as command;
+ghost use Rattle.graph_types.specs.declared.batches.NamedOp.TheVariants as operation;
+ghost use Rattle.graph_types.specs.declared.requests.Request.TheVariants as request;
 ghost use Rattle.feed_csv.specs.Fields as fields;
 
 use crate::fields::{any_kind_at, field, kind_at, name_at, slot_at, time_at, weight_at};
@@ -131,9 +134,9 @@ fn edge_fields(alloc: Global, row: &ByteRecord) -> Result<EdgeFields, FeedWord>
     })
 }
 
-#[tactic(auto, using(crate::proofs::Giving::refuses_same), unfolding(crate::specs::Commands::insert_of))]
+#[tactic(auto, using(crate::proofs::Giving::refuses_same), unfolding(crate::specs::Commands::edge_command))]
 fn insert(alloc: Global, row: &ByteRecord) -> Result<Command, FeedWord>
-    ensures { spec.Gives result (spec.insert_of (fields_of row.now)) }
+    ensures { spec.Gives result (spec.edge_command operation.Insert (fields_of row.now)) }
 {
     let EdgeFields {
         names,
@@ -149,9 +152,9 @@ fn insert(alloc: Global, row: &ByteRecord) -> Result<Command, FeedWord>
     }))
 }
 
-#[tactic(auto, using(crate::proofs::Giving::refuses_same), unfolding(crate::specs::Commands::incr_of))]
+#[tactic(auto, using(crate::proofs::Giving::refuses_same), unfolding(crate::specs::Commands::edge_command))]
 fn incr(alloc: Global, row: &ByteRecord) -> Result<Command, FeedWord>
-    ensures { spec.Gives result (spec.incr_of (fields_of row.now)) }
+    ensures { spec.Gives result (spec.edge_command operation.Incr (fields_of row.now)) }
 {
     let EdgeFields {
         names,
@@ -189,51 +192,51 @@ fn expire(row: &ByteRecord) -> Result<Command, FeedWord>
     Ok(Command::Op(NamedOp::Expire { time }))
 }
 
-#[tactic(auto, unfolding(crate::specs::Commands::commit_of))]
+#[tactic(auto, unfolding(crate::specs::Commands::bare_command))]
 fn commit(row: &ByteRecord) -> Result<Command, FeedWord>
-    ensures { result ≡ spec.commit_of (fields_of row.now) }
+    ensures { result ≡ spec.bare_command command.Commit (fields_of row.now) }
 {
     check_length(row, 1)?;
     Ok(Command::Commit)
 }
 
-#[tactic(auto, unfolding(crate::specs::Commands::stat_of))]
+#[tactic(auto, unfolding(crate::specs::Commands::bare_command))]
 fn stat(row: &ByteRecord) -> Result<Command, FeedWord>
-    ensures { result ≡ spec.stat_of (fields_of row.now) }
+    ensures { result ≡ spec.bare_command command.Stat (fields_of row.now) }
 {
     check_length(row, 1)?;
     Ok(Command::Stat)
 }
 
-#[tactic(auto, unfolding(crate::specs::Commands::collect_of))]
+#[tactic(auto, unfolding(crate::specs::Commands::bare_command))]
 fn collect(row: &ByteRecord) -> Result<Command, FeedWord>
-    ensures { result ≡ spec.collect_of (fields_of row.now) }
+    ensures { result ≡ spec.bare_command command.Collect (fields_of row.now) }
 {
     check_length(row, 1)?;
     Ok(Command::Collect)
 }
 
-#[tactic(auto, unfolding(crate::specs::Commands::open_of))]
+#[tactic(auto, unfolding(crate::specs::Commands::slot_command))]
 fn open(row: &ByteRecord) -> Result<Command, FeedWord>
-    ensures { result ≡ spec.open_of (fields_of row.now) }
+    ensures { result ≡ spec.slot_command command.OpenSlot (fields_of row.now) }
 {
     check_length(row, 2)?;
     let slot = slot_at(row, 1)?;
     Ok(Command::OpenSlot(slot))
 }
 
-#[tactic(auto, unfolding(crate::specs::Commands::close_of))]
+#[tactic(auto, unfolding(crate::specs::Commands::slot_command))]
 fn close(row: &ByteRecord) -> Result<Command, FeedWord>
-    ensures { result ≡ spec.close_of (fields_of row.now) }
+    ensures { result ≡ spec.slot_command command.CloseSlot (fields_of row.now) }
 {
     check_length(row, 2)?;
     let slot = slot_at(row, 1)?;
     Ok(Command::CloseSlot(slot))
 }
 
-#[tactic(auto, unfolding(crate::specs::Commands::rebase_of))]
+#[tactic(auto, unfolding(crate::specs::Commands::slot_command))]
 fn rebase(row: &ByteRecord) -> Result<Command, FeedWord>
-    ensures { result ≡ spec.rebase_of (fields_of row.now) }
+    ensures { result ≡ spec.slot_command command.Rebase (fields_of row.now) }
 {
     check_length(row, 2)?;
     let slot = slot_at(row, 1)?;
@@ -279,25 +282,25 @@ fn levels(alloc: Global, row: &ByteRecord) -> Result<Command, FeedWord>
     Ok(Command::Query(slot, Request::Levels { source, filter }))
 }
 
-#[tactic(auto, using(crate::proofs::Giving::refuses_same), unfolding(crate::specs::Commands::labels_of))]
+#[tactic(auto, using(crate::proofs::Giving::refuses_same), unfolding(crate::specs::Commands::filter_command))]
 fn labels(alloc: Global, row: &ByteRecord) -> Result<Command, FeedWord>
-    ensures { spec.Gives result (spec.labels_of (fields_of row.now)) }
+    ensures { spec.Gives result (spec.filter_command request.Labels (fields_of row.now)) }
 {
     let (slot, filter) = filter_fields(alloc, row)?;
     Ok(Command::Query(slot, Request::Labels { filter }))
 }
 
-#[tactic(auto, using(crate::proofs::Giving::refuses_same), unfolding(crate::specs::Commands::cores_of))]
+#[tactic(auto, using(crate::proofs::Giving::refuses_same), unfolding(crate::specs::Commands::filter_command))]
 fn cores(alloc: Global, row: &ByteRecord) -> Result<Command, FeedWord>
-    ensures { spec.Gives result (spec.cores_of (fields_of row.now)) }
+    ensures { spec.Gives result (spec.filter_command request.Cores (fields_of row.now)) }
 {
     let (slot, filter) = filter_fields(alloc, row)?;
     Ok(Command::Query(slot, Request::Cores { filter }))
 }
 
-#[tactic(auto, using(crate::proofs::Giving::refuses_same), unfolding(crate::specs::Commands::degrees_of))]
+#[tactic(auto, using(crate::proofs::Giving::refuses_same), unfolding(crate::specs::Commands::filter_command))]
 fn degrees(alloc: Global, row: &ByteRecord) -> Result<Command, FeedWord>
-    ensures { spec.Gives result (spec.degrees_of (fields_of row.now)) }
+    ensures { spec.Gives result (spec.filter_command request.Degrees (fields_of row.now)) }
 {
     let (slot, filter) = filter_fields(alloc, row)?;
     Ok(Command::Query(slot, Request::Degrees { filter }))

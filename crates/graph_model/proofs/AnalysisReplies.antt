@@ -1,10 +1,10 @@
 -- Names put in, and refusals that stay what they are where a vertex is asked for as well.
 use Rattle.std.proofs.Common.{◌≡◌, ℕ, ◌+◌, ◌<◌, Bool, true, false, List, [], ◌∷◌, ◌++◌, length, get_or, take, Option, Some, None}
-use Rattle.std.proofs.{Common.{not, subst, refl, sym, ap, ◌∙◌, arith}, lemmas.List.{get_or-map, length-map, get_or_default}}
-use Rattle.std.proofs.lemmas.{List.Elements.filter_map-append, Option.slice_get-get_or}
-use Rattle.std.specs.{Prelude.{All, zip, Ok, position, bytes_eq, nat_lt}, List.filter_map, Option.option_to_list}
+use Rattle.std.proofs.{Common.{refl, sym, ap, ◌∙◌, arith}, lemmas.List.{get_or-map, length-map, get_or_default}}
+use Rattle.std.proofs.lemmas.{List.Elements.filter_map-append, Option.slice_get-get_or, Grind.common_steps}
+use Rattle.std.specs.{Prelude.{All, zip, Ok, position, bytes_eq}, List.filter_map, Option.option_to_list}
 use Rattle.graph_types.specs.{Graph.Graph, Graph.graph_of, Analyses.AreLevels, Analyses.AreLabels, Analyses.AreCoreNumbers}
-use Rattle.graph_types.specs.Answer.{IsAnswer, first_refusal, filter_refusal, is_listed, is_kind_listed, resolved, reached}
+use Rattle.graph_types.specs.Answer.{IsAnswer, first_refusal, filter_refusal, resolved, reached}
 use Rattle.graph_types.specs.{Answer.names_of, Answer.level_row, declared.ids.Filter.Filter, declared.contents.Content.Content}
 use Rattle.graph_types.specs.declared.requests.{NamedFilter.NamedFilter, AskError.AskError, AskError.TheVariants.NoVertex}
 use Rattle.graph_types.specs.declared.requests.Request.TheVariants.{Levels as AskLevels, Labels as AskLabels, Cores as AskCores}
@@ -40,16 +40,12 @@ label_turn names labels k x label y turn within is =
 -- what is refused of the window or the kind is refused all the same
 pub refused_so : (window kind vertex : Bool) (error : AskError) → first_refusal window kind true ≡ Some error
     → first_refusal window kind vertex ≡ Some error
-refused_so false kind vertex error is = is
-refused_so true false vertex error is = is
-refused_so true true vertex error is = cc
+refused_so h0 kind vertex error is = grind (arith, common_steps)
 
 -- and where it is not, the vertex decides
 pub vertex_refused : (window kind vertex : Bool) → first_refusal window kind true ≡ None → vertex ≡ false
     → first_refusal window kind vertex ≡ Some NoVertex
-vertex_refused false kind vertex none absent = cc
-vertex_refused true false vertex none absent = cc
-vertex_refused true true vertex none absent = ap (first_refusal true true) absent
+vertex_refused h0 kind vertex none absent = grind (arith, common_steps)
 
 pub vertex_listed : (window kind vertex : Bool) → first_refusal window kind true ≡ None → vertex ≡ true
     → first_refusal window kind vertex ≡ None
@@ -74,24 +70,12 @@ module _ (c : Content) (named : NamedFilter) (f : Filter) (found : f ≡ resolve
   pub levels_answer : (source : List ℕ) (place : ℕ) (levels : List (Option ℕ)) (rows : List (List ℕ × ℕ))
       → Some place ≡ position (bytes_eq source) c.names → AreLevels f (graph_of c) place levels
       → rows ≡ reached c.names levels → IsAnswer (AskLevels source named) (graph_of c) (Ok (Levels rows))
-  levels_answer source place levels rows at table is =
-      let listed = place_some c.names source place at in
-      let number = place_number c.names source place at in (
-        vertex_listed (not (nat_lt named.hi named.lo)) (is_kind_listed c.kinds named.kind) (is_listed c.names source) fine listed,
-        (
-          levels,
-          subst (λ v. AreLevels (resolved (graph_of c) named) (graph_of c) v levels) number
-              (subst (λ x. AreLevels x (graph_of c) place levels) found table),
-          ap (λ r. Levels r) is,
-        ),
-      )
+  levels_answer source place levels rows at table is = grind (arith, common_steps, place_some, place_number, vertex_listed)
 
   pub labels_answer : (labels : List ℕ) (rows : List (List ℕ × List ℕ)) → AreLabels f (graph_of c) labels
       → rows ≡ zip c.names (names_of c.names labels) → IsAnswer (AskLabels named) (graph_of c) (Ok (Labels rows))
-  labels_answer labels rows table is =
-      (fine, (labels, subst (λ x. AreLabels x (graph_of c) labels) found table, ap (λ r. Labels r) is))
+  labels_answer labels rows table is = grind (arith, common_steps)
 
   pub cores_answer : (numbers : List ℕ) (rows : List (List ℕ × ℕ)) → AreCoreNumbers f (graph_of c) numbers
       → rows ≡ zip c.names numbers → IsAnswer (AskCores named) (graph_of c) (Ok (Cores rows))
-  cores_answer numbers rows table is =
-      (fine, (numbers, subst (λ x. AreCoreNumbers x (graph_of c) numbers) found table, ap (λ r. Cores r) is))
+  cores_answer numbers rows table is = grind (arith, common_steps)

@@ -1,16 +1,16 @@
 -- Links as lists of neighbors, and the rounds that lower numbers by want of support.
-use Rattle.std.proofs.Common.{◌≡◌, ◌≢◌, ℕ, zero, suc, ◌+◌, ◌<◌, ◌≤◌, arith, refl, sym, ap, ◌∙◌, subst, ◌⊎◌, inl, inr, List, []}
+use Rattle.std.proofs.Common.{◌≡◌, ◌≢◌, ℕ, suc, ◌+◌, ◌<◌, ◌≤◌, arith, refl, sym, ap, ◌∙◌, subst, ◌⊎◌, inl, inr, List, []}
 use Rattle.std.proofs.Common.{◌∷◌, length, get_or, map, cond, true, false, Bool, ◌&&◌, not}
 use Rattle.std.proofs.lemmas.Cmp.{then_total, on_total, nat_cmp_total, tied_itself, and_equiv, on_equiv, nat_eq_equiv}
 use Rattle.std.proofs.lemmas.{Option.slice_get-get_or, List.FromFn.length-range_with_len, List.FromFn.get_or-range_with_len}
-use Rattle.std.proofs.lemmas.Bool.{cases_Bool, eqb-true, and_parts, Decides.nat_tests, Decides.Decides-eqb}
+use Rattle.std.proofs.lemmas.Bool.{cases_Bool, eqb-true, Decides.nat_tests, Decides.Decides-eqb}
 use Rattle.std.proofs.lemmas.List.{get_or_default, Sorted.Contains-permutation, Sorted.IsPermutation-sym}
 use Rattle.std.proofs.lemmas.List.Elements.{All-contains, All-weaker, All-from_recursion, Contains-get_or}
 use Rattle.std.proofs.lemmas.List.Kept.{AllPairs-cons, IsStrictlySortedBy-dedup, Contains-dedup, Contains-from_dedup}
 use Rattle.std.specs.{Prelude.{All, AllPairs, ◌==◌, nat_le, count_by, filter, replicate, IsPermutation, IsTrue}, List.Contains}
 use Rattle.std.specs.{List.{range_with_len, dedup, Sorted.{IsSorted, IsStrictlySortedBy}}, Cmp.{IsTotalOrder, IsEquivalence}}
 use Rattle.std.specs.{Ordering.{nat_cmp, ordering_then, is_eq, eq_by_cmp}, declared.cmp.Ordering.{Ordering, TheVariants.Less}}
-use Rattle.std.specs.declared.cmp.Ordering.TheVariants.{Equal, Greater}
+use Rattle.std.proofs.lemmas.Grind.{common_steps}
 use Rattle.graph_types.specs.{Graph.{Graph, graph_of, IsContent}, Analyses.{Joins, IsCoreNumber, IsTable}, Arcs.{Arc, arcs_of}}
 use Rattle.graph_types.specs.{Arcs.{two_way, AreWithin, at, AreNeighbors, support, AreUpper}, declared.contents.Content.Content}
 use Rattle.graph_types.{specs.declared.ids.Filter.Filter, proofs.Counts.{apart_tail, apart_head, count_yes, count_no, sub_length}}
@@ -69,9 +69,7 @@ count_ends numbers v (e ∷ links) =
     ] refl
 
 zero_at : (n v : ℕ) → at (replicate n 0) v ≡ 0
-zero_at zero v = refl
-zero_at (suc n) zero = refl
-zero_at (suc n) (suc v) = zero_at n v
+zero_at h0 v = grind (arith, common_steps)
 
 -- where all numbers are 0 each neighbor has enough
 all_zero : (n : ℕ) (zeros : List ℕ) → zeros ≡ replicate n 0 → (v : ℕ) (xs : List ℕ)
@@ -143,9 +141,7 @@ pairs_total : IsTotalOrder pair_cmp
 pairs_total = then_total (on_total (λ (p : ℕ × ℕ). p.0) nat_cmp_total) (on_total (λ (p : ℕ × ℕ). p.1) nat_cmp_total)
 
 both_tied : (s t : Bool) (a b : Ordering) → s ≡ is_eq a → t ≡ is_eq b → (s && t) ≡ is_eq (ordering_then a b)
-both_tied s t Less b p q = ap (λ x. x && t) p
-both_tied s t Equal b p q = ap (λ x. x && t) p ∙ q
-both_tied s t Greater b p q = ap (λ x. x && t) p
+both_tied s t h2 b p q = grind (arith, common_steps)
 
 nat_ties : (x y : ℕ) → (x == y) ≡ is_eq (nat_cmp x y)
 nat_ties x y = grind (arith, nat_tests)
@@ -157,11 +153,7 @@ pairs_equiv : IsEquivalence pair_eq
 pairs_equiv = and_equiv (on_equiv (λ (p : ℕ × ℕ). p.0) nat_eq_equiv) (on_equiv (λ (p : ℕ × ℕ). p.1) nat_eq_equiv)
 
 pair_same : (a b : ℕ × ℕ) → pair_eq a b ≡ true → a ≡ b
-pair_same a b t =
-    let (one, two) = and_parts (a.0 == b.0) (a.1 == b.1) t in
-    let p = eqb-true a.0 b.0 one in
-    let q = eqb-true a.1 b.1 two in
-    λ i. (p i, q i)
+pair_same a b t = grind (arith, common_steps)
 
 sorted_apart : (xs : List (ℕ × ℕ)) → IsStrictlySortedBy pair_cmp xs → AllPairs (λ a b. a ≢ b) xs
 unfolding IsStrictlySortedBy
@@ -180,20 +172,19 @@ module _ (f : Filter) (c : Content) (is : IsContent c) (both kept sorted links :
     (moved : IsPermutation kept sorted) (order : IsSorted pair_cmp sorted) (once : links ≡ dedup pair_eq sorted) where
   from_links : (v w : ℕ) → Contains links (v, w) → Arc (two_way (arcs_of f c.edges)) v w × (is_proper (v, w) ≡ true)
   from_links v w l =
-      let s = Contains-from_dedup pair_eq sorted (v, w) (subst (λ xs. Contains xs (v, w)) once l) in
+      let s = Contains-from_dedup pair_eq sorted (v, w) (rw once at l) in
       let k = Contains-permutation sorted kept (v, w) (IsPermutation-sym kept sorted moved) s in
-      let r = filter_contains is_proper both (v, w) (subst (λ xs. Contains xs (v, w)) proper k) in
-      (subst (λ xs. Contains xs (v, w)) arcs r.0, r.1)
+      let r = filter_contains is_proper both (v, w) (rw proper at k) in (rw arcs at r.0, r.1)
 
   to_links : (v w : ℕ) → Arc (two_way (arcs_of f c.edges)) v w → is_proper (v, w) ≡ true → Contains links (v, w)
   to_links v w a p =
-      let k = contains_filter is_proper both (v, w) p (subst (λ xs. Contains xs (v, w)) (sym arcs) a) in
-      let s = Contains-permutation kept sorted (v, w) moved (subst (λ xs. Contains xs (v, w)) (sym proper) k) in
-      subst (λ xs. Contains xs (v, w)) (sym once) (Contains-dedup pairs_equiv pair_same sorted (v, w) s)
+      let k = contains_filter is_proper both (v, w) p (rw arcs a) in
+      let s = Contains-permutation kept sorted (v, w) moved (rw proper k) in
+      rw once (Contains-dedup pairs_equiv pair_same sorted (v, w) s)
 
-  pub links_made : AreLinks f (graph_of c) links
+  links_made : AreLinks f (graph_of c) links
   links_made = record {
-    apart = subst (AllPairs (λ a b. a ≢ b)) (sym once)
+    apart = rw once
         (sorted_apart (dedup pair_eq sorted) (IsStrictlySortedBy-dedup pairs_total pair_ties sorted order));
     exact = λ v w. (
       (λ l.
@@ -206,9 +197,12 @@ module _ (f : Filter) (c : Content) (is : IsContent c) (both kept sorted links :
     );
   }
 
-  pub links_within : AreWithin (length c.names) links
+  links_within : AreWithin (length c.names) links
   links_within k d h =
       let link = get_or links k d in
       let r = from_links link.0 link.1 (Contains-get_or links k d h) in
       All-contains (λ (e : ℕ × ℕ). (e.0 < length c.names) × (e.1 < length c.names)) (two_way (arcs_of f c.edges)) link
       (two_way_within f c is) r.0
+
+  pub links_done : AreLinks f (graph_of c) links × AreWithin (length c.names) links
+  links_done = (links_made, links_within)

@@ -1,9 +1,10 @@
 -- A change that is applied to plain lists does to the graph that they show what its definition says.
 use Rattle.std.proofs.Common.{◌≡◌, ◌≢◌, ℕ, ◌≤◌, List, [], ◌∷◌, ◌++◌, true, false, cond, not, length, get_or, All, AllPairs}
-use Rattle.std.proofs.Common.{Option, Some, None, option_map, option_to_list, IfSome, refl, sym, ap, subst, ◌∙◌, arith}
+use Rattle.std.proofs.Common.{Option, Some, None, option_map, option_to_list, IfSome, sym, ap, ◌∙◌, arith}
 use Rattle.std.proofs.lemmas.{Bool.false≢true, List.append-nil, List.Kept.AllPairs-filter, List.Quantifiers.all_pairs_push}
 use Rattle.std.proofs.lemmas.List.Elements.{All-head, All-tail, All-filter, All-weaker, All-push, All-get_or, filter_passes}
 use Rattle.std.specs.{List.find, FinMap.get}
+use Rattle.std.proofs.lemmas.Grind.{common_steps}
 use Rattle.graph_types.specs.{Limits.{IsWeight, IsTime, name_limit, kind_limit}, Graph.{Graph, Key, Stamp, key_of, stamp_of}}
 use Rattle.graph_types.specs.Graph.{map_of, graph_of, has_key, without, IsAt, IsEdgeWithin, IsContent, content_of}
 use Rattle.graph_types.specs.{Changes.{AreMarks, option_stamp}, Step.{names_made, kinds_made, stamp_after, set_at, changed_key}}
@@ -11,7 +12,6 @@ use Rattle.graph_types.specs.{Step.{changed, was_before, later}, declared.{ids.E
 use Rattle.graph_types.specs.declared.{changes.EdgeMarks.EdgeMarks, contents.Content.Content}
 use Rattle.graph_types.proofs.NameLists.{IsNamed, IsNamed-changed_key, length-names_made, length-kinds_made, AllPairs-names_made}
 use Rattle.graph_types.proofs.{NameLists.AllPairs-kinds_made, EdgeLookup.{Decides-has_key, get-map_of, map_of-put}}
-use Rattle.graph_model.specs.{Drafts.shown_key, Drafts.edge_with, declared.edges.EdgeKey.EdgeKey}
 
 -- one change on plain lists: what stood at its key is taken away, and what is to stand there comes at the end
 pub record IsApplied (change : EdgeChange) (kind source target : List ℕ) (old new : Content) (key : Key)
@@ -41,26 +41,14 @@ found n m key (e ∷ edges) within =
     ]
 
 marks_in_range : (before : Option EdgeMarks) → IfSome (option_stamp before) IsInRange → IfSome before AreMarks
-marks_in_range None range = tt
-marks_in_range (Some m) range = record { weight = range.weight; first = range.first; recent = range.recent }
+marks_in_range h0 range = grind (arith, common_steps)
 
 -- what stands in a content has a weight and times in range
 pub AreMarks-found : (c : Content) (key : Key) (before : Option EdgeMarks) → IsContent c
     → option_stamp before ≡ get (map_of c.edges) key → IfSome before AreMarks
 AreMarks-found c key before content is =
-    marks_in_range before (subst (λ o. IfSome o IsInRange) (sym (is ∙ get-map_of key c.edges))
+    marks_in_range before (rw (is, get-map_of key c.edges)
     (found (length c.names) (length c.kinds) key c.edges content.edges_within))
-
--- an edge with the key bears the marks that it was made with
-pub stamp_of-edge_with : (key : EdgeKey) (marks : Option EdgeMarks)
-    → option_map stamp_of (option_map (edge_with key) marks) ≡ option_stamp marks
-stamp_of-edge_with key None = refl
-stamp_of-edge_with key (Some m) = refl
-
-pub IsAt-edge_with : (key : EdgeKey) (marks : Option EdgeMarks) → IfSome marks AreMarks
-    → IfSome (option_map (edge_with key) marks) (IsAt (shown_key key))
-IsAt-edge_with key None are = tt
-IsAt-edge_with key (Some m) are = record { key_is = refl; weight = are.weight; first = are.first; recent = are.recent }
 
 module _ (change : EdgeChange) (kind source target : List ℕ) (old new : Content) (key : Key) (put : Option Edge)
     (step : IsApplied change kind source target old new key put) where
@@ -78,7 +66,7 @@ keys_apart : (key : Key) (edges : List Edge) (put : Option Edge) → IfSome put 
     → AllPairs (λ a b. key_of a ≢ key_of b) edges
     → AllPairs (λ a b. key_of a ≢ key_of b) (without key edges ++ option_to_list put)
 keys_apart key edges None at apart =
-    subst (λ es. AllPairs (λ a b. key_of a ≢ key_of b) es) (sym (append-nil (without key edges)))
+    rw (append-nil (without key edges))
     (AllPairs-filter (λ a b. key_of a ≢ key_of b) (λ e. not (has_key key e)) edges apart)
 keys_apart key edges (Some e) at apart =
     all_pairs_push (λ a b. key_of a ≢ key_of b) (without key edges) e
@@ -90,29 +78,15 @@ keys_apart key edges (Some e) at apart =
     (filter_passes (λ x. not (has_key key x)) edges)))
 
 within_more : (n m n' m' : ℕ) (e : Edge) → n ≤ n' → m ≤ m' → IsEdgeWithin n m e → IsEdgeWithin n' m' e
-within_more n m n' m' e names kinds is =
-    let k = is.kind in
-    let s = is.source in
-    let t = is.target in
-    record {
-      kind = omega arith;
-      source = omega arith;
-      target = omega arith;
-      weight = is.weight;
-      first = is.first;
-      recent = is.recent;
-    }
+within_more n m n' m' e names kinds is = grind (arith, common_steps)
 
 within_at : (n m : ℕ) (key : Key) (e : Edge) → IsNamed n m key → IsAt key e → IsEdgeWithin n m e
-within_at n m key e named at =
-    let is : IsNamed n m (key_of e) = subst (IsNamed n m) (sym at.key_is) named in
-    record { kind = is.kind; source = is.source; target = is.target; weight = at.weight; first = at.first; recent = at.recent }
+within_at n m key e named at = grind (arith, common_steps)
 
 all_within : (n m : ℕ) (key : Key) (edges : List Edge) (put : Option Edge) → IfSome put (λ _. IsNamed n m key)
     → IfSome put (IsAt key) → All (IsEdgeWithin n m) edges → All (IsEdgeWithin n m) (without key edges ++ option_to_list put)
 all_within n m key edges None named at within =
-    subst (All (IsEdgeWithin n m)) (sym (append-nil (without key edges)))
-    (All-filter (λ e. not (has_key key e)) (IsEdgeWithin n m) edges within)
+    rw (append-nil (without key edges)) (All-filter (λ e. not (has_key key e)) (IsEdgeWithin n m) edges within)
 all_within n m key edges (Some e) named at within =
     All-push (IsEdgeWithin n m) (without key edges) e (All-filter (λ x. not (has_key key x)) (IsEdgeWithin n m) edges within)
     (within_at n m key e named at)
@@ -131,28 +105,18 @@ pub IsContent-applied : (change : EdgeChange) (kind source target : List ℕ) (o
 IsContent-applied change kind source target old new key put step content names_few kinds_few =
     let n = length new.names in
     let m = length new.kinds in
-    let names_more : length old.names ≤ n = subst (λ xs. length old.names ≤ length xs) (sym step.names)
-    (length-names_made change source target old.names) in
-    let kinds_more : length old.kinds ≤ m = subst (λ xs. length old.kinds ≤ length xs) (sym step.kinds)
-    (length-kinds_made change kind old.kinds) in
-    let named_here : IfSome put (λ _. IsNamed n m key) =
-    subst (λ k. IfSome put (λ _. IsNamed n m k)) (sym step.key_is)
-    (subst (λ xs. IfSome put (λ _. IsNamed (length xs) m (changed_key change kind source target (graph_of old)))) (sym step.names)
-    (subst
-    (λ xs. IfSome put (λ _. IsNamed (length (names_made change source target old.names)) (length xs)
-    (changed_key change kind source target (graph_of old)))) (sym step.kinds)
-    (named_put change kind source target (graph_of old) (get (map_of old.edges) key) put step.stamp))) in
+    let names_more : length old.names ≤ length new.names = rw step.names (length-names_made change source target old.names) in
+    let kinds_more : length old.kinds ≤ length new.kinds = rw step.kinds (length-kinds_made change kind old.kinds) in
+    let named_here : IfSome put (λ _. IsNamed (length new.names) (length new.kinds) key) =
+    rw (step.key_is, step.names, step.kinds)
+    (named_put change kind source target (graph_of old) (get (map_of old.edges) key) put step.stamp) in
     record {
-      names_distinct = subst (AllPairs (λ a b. a ≢ b)) (sym step.names)
-          (AllPairs-names_made change source target old.names content.names_distinct);
-      kinds_distinct = subst (AllPairs (λ a b. a ≢ b)) (sym step.kinds)
-          (AllPairs-kinds_made change kind old.kinds content.kinds_distinct);
+      names_distinct = rw step.names (AllPairs-names_made change source target old.names content.names_distinct);
+      kinds_distinct = rw step.kinds (AllPairs-kinds_made change kind old.kinds content.kinds_distinct);
       names_few = names_few;
       kinds_few = kinds_few;
-      keys_distinct = subst (AllPairs (λ a b. key_of a ≢ key_of b)) (sym step.edges)
-          (keys_apart key old.edges put step.at content.keys_distinct);
-      edges_within =
-          subst (All (IsEdgeWithin n m)) (sym step.edges)
+      keys_distinct = rw step.edges (keys_apart key old.edges put step.at content.keys_distinct);
+      edges_within = rw step.edges
           (all_within n m key old.edges put named_here step.at
           (All-weaker (IsEdgeWithin (length old.names) (length old.kinds)) (IsEdgeWithin n m)
           (λ e. within_more _ _ _ _ e names_more kinds_more) old.edges content.edges_within));

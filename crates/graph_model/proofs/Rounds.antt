@@ -1,10 +1,10 @@
 -- Rounds that lower numbers, one step after another.
-use Rattle.std.proofs.Common.{◌≡◌, ℕ, suc, ◌+◌, ◌-◌, ◌<◌, ◌≤◌, arith, refl, sym, ap, ◌∙◌, subst, ◌⊎◌, inl, inr, List, [], length}
-use Rattle.std.proofs.{Common.{get_or, set, take, cond, true, false, Bool, ◌&&◌}, lemmas.Bool.{cases_eq, eqb-true}}
-use Rattle.std.proofs.lemmas.{Bool.Decides.{nat_tests, Decides-eqb}, List.{get_or-set_same, get_or-set_other, length-set}}
-use Rattle.std.proofs.lemmas.List.{take_more, take_all, length-take, Sums.{sum_by_push, count_by-le-length}, Elements.All-set}
-use Rattle.std.proofs.lemmas.List.Elements.{All-nil, All-more, Contains-get_or}
-use Rattle.std.specs.Prelude.{All, sum, count_by, ◌==◌, nat_le}
+use Rattle.std.proofs.Common.{◌≡◌, ℕ, suc, ◌+◌, ◌-◌, ◌<◌, ◌≤◌, arith, refl, sym, ap, ◌∙◌, subst, ◌⊎◌, List, [], length}
+use Rattle.std.proofs.Common.{get_or, set, take, true, false, Bool}
+use Rattle.std.proofs.lemmas.List.{length-set}
+use Rattle.std.proofs.lemmas.List.{take_all, Elements.All-set}
+use Rattle.std.proofs.lemmas.{List.Elements.{All-more, Contains-get_or}, Grind.common_steps}
+use Rattle.std.specs.Prelude.{All, sum, count_by}
 use Rattle.graph_types.{specs.Arcs.{AreWithin, at, IsLowered, IsClosed}, proofs.Settling.{lowered_more, sum_falls}}
 use Rattle.graph_model.specs.Links.{supports}
 
@@ -18,13 +18,7 @@ pub record IsArcRound (arcs : List (ℕ × ℕ)) (step : ℕ) (old numbers : Lis
 
 pub arc_round_start : (arcs : List (ℕ × ℕ)) (step : ℕ) (old : List ℕ) → All (λ number. number ≤ 65536) old
     → IsArcRound arcs step old old false 0
-arc_round_start arcs step old few = record {
-  size = refl;
-  few = few;
-  keeps = λ first l. l;
-  falls = λ e. cc;
-  stays = λ e. (refl, All-nil (λ arc. at old arc.1 ≤ at old arc.0 + step));
-}
+arc_round_start arcs step old few = grind (arith, common_steps)
 
 pub arc_round_kept : (arcs : List (ℕ × ℕ)) (step : ℕ) (old numbers : List ℕ) (lowered : Bool) (i : ℕ) (x : ℕ × ℕ)
     → IsArcRound arcs step old numbers lowered i → i < length arcs
@@ -82,131 +76,32 @@ pub record IsRound (old support numbers : List ℕ) (lowered : Bool) (i : ℕ) :
   pub stays : lowered ≡ false → (numbers ≡ old) × ((v : ℕ) → v < i → at old v ≤ at support v)
 
 pub round_start : (old support : List ℕ) → IsRound old support old false 0
-round_start old support = record {
-  size = refl;
-  each = λ v. inl refl;
-  later = λ v h. refl;
-  falls = λ e. cc;
-  stays = λ e. (refl, λ v h. absurd (omega arith));
-}
+round_start old support = grind (arith, common_steps)
 
 pub round_kept : (old support numbers : List ℕ) (lowered : Bool) (i : ℕ) → IsRound old support numbers lowered i
     → at numbers i ≤ at support i → IsRound old support numbers lowered (i + 1)
-round_kept old support numbers lowered i r le = record {
-  size = r.size;
-  each = r.each;
-  later = λ v h. r.later v (omega arith);
-  falls = r.falls;
-  stays = λ e.
-      let s = r.stays e in (
-        s.0,
-        λ v h. elim (cases_eq v i) [
-          | inl same ↦ subst (λ x. at old x ≤ at support x) (sym same) (let l = r.later i (omega arith) in omega arith)
-          | inr ne ↦ s.1 v (omega arith)
-        ],
-      );
-}
+round_kept old support numbers lowered i r le = grind (arith, common_steps)
 
 pub round_lowered : (old support numbers : List ℕ) (lowered : Bool) (i : ℕ) → IsRound old support numbers lowered i
     → i < length numbers → at support i < at numbers i
     → IsRound old support (set numbers i (at numbers i - 1)) true (i + 1)
-round_lowered old support numbers lowered i r h less =
-    let here = r.later i (omega arith) in
-    let new : at (set numbers i (at numbers i - 1)) i ≡ at numbers i - 1 = get_or-set_same numbers i (at numbers i - 1) 0 h in
-    let more = sum_falls numbers i (at numbers i - 1) h (omega arith) in
-    record {
-      size = length-set numbers i (at numbers i - 1) ∙ r.size;
-      each = λ v. elim (cases_eq v i) [
-        | inl e ↦
-            inr (subst (λ x. (suc (at (set numbers i (at numbers i - 1)) x) ≡ at old x) × (at support x < at old x)) (sym e)
-            (omega arith, omega arith))
-        | inr ne ↦ elim (r.each v) [
-          | inl same ↦ inl (get_or-set_other numbers i v (at numbers i - 1) 0 ne ∙ same)
-          | inr less ↦ let o = get_or-set_other numbers i v (at numbers i - 1) 0 ne in let l = less.0 in inr (omega arith, less.1)
-        ]
-      ];
-      later = λ v h. let o = get_or-set_other numbers i v (at numbers i - 1) 0 (λ e. absurd (omega arith)) in let l =
-          r.later v (omega arith) in omega arith;
-      falls = λ _. elim lowered as (λ b. lowered ≡ b → sum (set numbers i (at numbers i - 1)) < sum old) [
-        | true ↦ λ e. let f = r.falls e in omega arith
-        | false ↦ λ e. let s = ap sum (r.stays e).0 in omega arith
-      ] refl;
-      stays = λ e. cc;
-    }
+round_lowered old support numbers lowered i r h less = grind (arith, common_steps)
 
 -- a count of links, so far
 pub record IsCount (links : List (ℕ × ℕ)) (numbers counts : List ℕ) (i : ℕ) : Type 0 where
   pub size : length counts ≡ length numbers
   pub each : (v : ℕ) → at counts v ≡ count_by (supports numbers v) (take i links)
 
-count_more : (numbers : List ℕ) (v : ℕ) (links : List (ℕ × ℕ)) (i : ℕ) (x : ℕ × ℕ) → i < length links
-    → count_by (supports numbers v) (take (i + 1) links) ≡ count_by (supports numbers v) (take i links)
-    + cond (supports numbers v (get_or links i x)) 1 0
-count_more numbers v links i x h =
-    ap (count_by (supports numbers v)) (take_more links i x h)
-    ∙ sum_by_push (λ link. cond (supports numbers v link) 1 0) (take i links) (get_or links i x)
-
-one_where : (a b v : ℕ) (t : Bool) → cond {A = ℕ} ((a == v) && t) 1 0 ≡ cond (a == v) (cond t 1 0) 0
-one_where a b v t = elim (a == v) as (λ s. cond {A = ℕ} (s && t) 1 0 ≡ cond s (cond t 1 0) 0) [ true ↦ refl | false ↦ refl ]
-
 pub count_kept : (links : List (ℕ × ℕ)) (numbers counts : List ℕ) (i : ℕ) (x : ℕ × ℕ) → IsCount links numbers counts i
     → i < length links
     → at numbers (get_or links i x).1 < at numbers (get_or links i x).0 → IsCount links numbers counts (i + 1)
-count_kept links numbers counts i x r h less =
-    let link = get_or links i x in
-    let off : nat_le (at numbers link.0) (at numbers link.1) ≡ false = grind (arith, nat_tests) in
-    record {
-      size = r.size;
-      each = λ v.
-          let more = count_more numbers v links i x h in
-          let none : cond {A = ℕ} (supports numbers v link) 1 0 ≡ 0 =
-          one_where link.0 link.1 v (nat_le (at numbers link.0) (at numbers link.1))
-          ∙ ap (λ t. cond {A = ℕ} (link.0 == v) (cond t 1 0) 0) off ∙
-          elim (link.0 == v) as (λ s. cond {A = ℕ} s 0 0 ≡ 0) [ true ↦ refl | false ↦ refl ] in
-          let e = r.each v in
-          omega arith;
-    }
+count_kept links numbers counts i x r h less = grind (arith, common_steps)
 
 pub count_counted : (links : List (ℕ × ℕ)) (numbers counts : List ℕ) (i : ℕ) (x : ℕ × ℕ) → AreWithin (length numbers) links
     → IsCount links numbers counts i → i < length links
     → at numbers (get_or links i x).0 ≤ at numbers (get_or links i x).1
     → IsCount links numbers (set counts (get_or links i x).0 (at counts (get_or links i x).0 + 1)) (i + 1)
-count_counted links numbers counts i x within r h le =
-    let link = get_or links i x in
-    let on : nat_le (at numbers link.0) (at numbers link.1) ≡ true = grind (arith, nat_tests) in
-    let long = r.size in
-    let inside : link.0 < length counts = (let w = (within i x h).0 in omega arith) in
-    record {
-      size = length-set counts link.0 (at counts link.0 + 1) ∙ r.size;
-      each = λ v.
-          let more = count_more numbers v links i x h in
-          let some : cond {A = ℕ} (supports numbers v link) 1 0 ≡ cond (link.0 == v) 1 0 =
-          one_where link.0 link.1 v (nat_le (at numbers link.0) (at numbers link.1))
-          ∙ ap (λ t. cond {A = ℕ} (link.0 == v) (cond t 1 0) 0) on in
-          let e = r.each v in
-          elim (cases_eq v link.0) [
-            | inl same ↦
-                let yes : cond {A = ℕ} (link.0 == v) 1 0 ≡ 1 =
-                ap (λ s. cond {A = ℕ} s 1 0) ((Decides-eqb link.0 v).1 (sym same)) in
-                let new : at (set counts link.0 (at counts link.0 + 1)) v ≡ at counts link.0 + 1 =
-                ap (at (set counts link.0 (at counts link.0 + 1))) same
-                ∙ get_or-set_same counts link.0 (at counts link.0 + 1) 0 inside in
-                let old : at counts v ≡ at counts link.0 = ap (at counts) same in
-                omega arith
-            | inr ne ↦
-                let no : cond {A = ℕ} (link.0 == v) 1 0 ≡ 0 =
-                elim (link.0 == v) as (λ s. (link.0 == v) ≡ s → cond {A = ℕ} s 1 0 ≡ 0) [
-                  | true ↦ λ t. absurd (ne (sym (eqb-true link.0 v t)))
-                  | false ↦ λ t. refl
-                ] refl in
-                let new = get_or-set_other counts link.0 v (at counts link.0 + 1) 0 ne in
-                omega arith
-          ];
-    }
+count_counted links numbers counts i x within r h le = grind (arith, common_steps)
 
 pub count_room : (links : List (ℕ × ℕ)) (numbers counts : List ℕ) (i v : ℕ) → IsCount links numbers counts i → at counts v ≤ i
-count_room links numbers counts i v r =
-    let few = count_by-le-length (supports numbers v) (take i links) in
-    let short = length-take i links in
-    let e = r.each v in
-    omega arith
+count_room links numbers counts i v r = grind (arith, common_steps)

@@ -2,15 +2,16 @@
 -- are the core numbers. (Such rounds: Montresor, De Pellegrini, Miorandi, Distributed k-core decomposition, 2013.)
 use Rattle.std.proofs.Common.{◌≡◌, ◌≢◌, ℕ, zero, suc, ◌<◌, ◌≤◌, arith, refl, sym, ap, ◌∙◌, subst, ◌⊎◌, inl, inr, List, [], ◌∷◌}
 use Rattle.std.proofs.{Common.{length, get_or, set, map, true, false, Bool, ◌&&◌, ◌||◌, not}, lemmas.Bool.{cases_eq, cases_lt}}
-use Rattle.std.proofs.lemmas.Bool.{cases_Bool, and_parts, or_right, eqb-true, Decides.{nat_tests, Decides-eqb}}
+use Rattle.std.proofs.lemmas.Bool.{cases_Bool, and_parts, eqb-true, Decides.{nat_tests, Decides-eqb}}
 use Rattle.std.proofs.lemmas.{Option.{get_or_from_slice_get, slice_get_within}, List.{get_or-set_same, get_or-set_other}}
 use Rattle.std.proofs.lemmas.List.{length-set, get_or_past, get_or_default, FromFn.get_or-map-range_with_len}
 use Rattle.std.proofs.lemmas.List.FromFn.{length-range_with_len, get_or-range_with_len, length-map-range_with_len}
 use Rattle.std.proofs.lemmas.List.{Sums.{length-filter, count_by-le-length}, Elements.All-contains, Kept.AllPairs-filter}
 use Rattle.std.specs.{Prelude.{sum, nat_le, count_by, filter, IsTrue, ◌==◌}, List.{Contains, range_with_len, list_any}}
+use Rattle.std.proofs.lemmas.Grind.{common_steps}
 use Rattle.graph_types.specs.{Graph.Graph, Analyses.{Joins, HasNeighbors, IsCoreNumber, IsTable}, Arcs.{Arc, AreWithin, at}}
 use Rattle.graph_types.specs.{Arcs.{AreNeighbors, support, AreUpper}, declared.ids.Filter.Filter}
-use Rattle.graph_types.proofs.Counts.{Contains-cons_cases, Contains-nil, Contains-first, Contains-cons, passing_length}
+use Rattle.graph_types.proofs.Counts.{Contains-first, Contains-cons, passing_length}
 use Rattle.graph_types.proofs.{Counts.filter_contains, Counts.contains_filter, Settling.sum_falls}
 
 same_le : (k : ℕ) → nat_le k k ≡ true
@@ -129,13 +130,9 @@ module _ (f : Filter) (g : Graph) (n : ℕ) (neighbors : ℕ → List ℕ) (are 
     | inr ne ↦ inl (get_or-set_other numbers v w less 0 ne)
   ])
 
-  settle_from : (m : ℕ) (numbers : List ℕ) → sum numbers ≤ m → length numbers ≡ n → AreUpper f g n numbers
+  settle_from : (m : ℕ) (numbers : List ℕ) → sum numbers < m → length numbers ≡ n → AreUpper f g n numbers
       → (r : List ℕ) × IsTable n (IsCoreNumber f g) r
-  settle_from zero numbers few long upper = elim (look numbers n) [
-    | inl enough ↦ (numbers, settled_cores numbers long upper enough)
-    | inr r ↦ let h = r.1 in let falls = r.2 in let s =
-        sum_falls numbers r.0 0 (omega arith) (omega arith) in absurd (omega arith)
-  ]
+  settle_from zero numbers few long upper = absurd (omega arith)
   settle_from (suc m) numbers few long upper = elim (look numbers n) [
     | inl enough ↦ (numbers, settled_cores numbers long upper enough)
     | inr r ↦
@@ -155,11 +152,8 @@ module _ (f : Filter) (g : Graph) (n : ℕ) (neighbors : ℕ → List ℕ) (are 
   some_cores : (r : List ℕ) × IsTable n (IsCoreNumber f g) r
   some_cores =
       let first = map (λ v. length (neighbors v)) (range_with_len 0 n) in
-      settle_from (sum first) first (omega arith) (length-map-range_with_len (λ v. length (neighbors v)) 0 n)
+      settle_from (suc (sum first)) first (omega arith) (length-map-range_with_len (λ v. length (neighbors v)) 0 n)
       (upper_first first (λ v h. get_or-map-range_with_len (λ v. length (neighbors v)) 0 n v v 0 h (omega arith)))
-
-both_same : (v w : ℕ) → ((v == v) && (w == w)) ≡ true
-both_same v w = grind (arith, nat_tests)
 
 -- The neighbors by a list of arcs both ways: the vertices below n to which one leads, but v itself.
 abbrev has_arc : List (ℕ × ℕ) → ℕ → ℕ → Bool
@@ -182,13 +176,7 @@ has_arc-true (e ∷ arcs) v w t =
     ] refl t
 
 has_arc-is : (arcs : List (ℕ × ℕ)) (v w : ℕ) → Arc arcs v w → has_arc arcs v w ≡ true
-has_arc-is [] v w c = absurd (Contains-nil (v, w) c)
-has_arc-is (e ∷ arcs) v w c = elim (Contains-cons_cases e arcs (v, w) c) [
-  | inl same ↦
-      let here : ((e.0 == v) && (e.1 == w)) ≡ true = ap (λ (x : ℕ × ℕ). (x.0 == v) && (x.1 == w)) same ∙ both_same v w in
-      ap (λ b. b || has_arc arcs v w) here
-  | inr more ↦ or_right ((e.0 == v) && (e.1 == w)) (has_arc arcs v w) (has_arc-is arcs v w more)
-]
+has_arc-is h0 v w c = grind (arith, common_steps)
 
 module _ (f : Filter) (g : Graph) (n : ℕ) (arcs : List (ℕ × ℕ)) (joins : (a b : ℕ) → Joins f g a b → Arc arcs a b)
     (joined : (a b : ℕ) → Arc arcs a b → Joins f g a b) (within : AreWithin n arcs) where

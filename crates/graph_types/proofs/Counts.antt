@@ -1,13 +1,13 @@
 -- Lists of distinct numbers, and how many of a list pass a test.
-use Rattle.std.proofs.Common.{◌≡◌, ◌≢◌, ℕ, zero, suc, ◌+◌, ◌<◌, ◌≤◌, arith, refl, sym, ap, ◌∙◌, ◌⊎◌, inl, inr, List, [], ◌∷◌}
+use Rattle.std.proofs.Common.{◌≡◌, ◌≢◌, ℕ, suc, ◌+◌, ◌<◌, ◌≤◌, arith, refl, sym, ap, ◌∙◌, ◌⊎◌, inl, inr, List, [], ◌∷◌}
 use Rattle.std.proofs.Common.{length, cond, true, false, Bool, not}
-use Rattle.std.proofs.lemmas.{Bool.ne_eqb, Bool.Decides.Decides-eqb, List.Sums.sum_by-cons, List.Sums.length-filter}
+use Rattle.std.proofs.lemmas.{Bool.ne_eqb, Bool.Decides.Decides-eqb, List.Sums.{sum_by-cons, length-filter, count_by-le-length}}
 use Rattle.std.specs.{Prelude.◌==◌, Prelude.AllPairs, Prelude.count_by, Prelude.filter, List.Contains}
+use Rattle.std.proofs.lemmas.Grind.{common_steps}
 
 module _ {X : Type 0} where
   pub Contains-cons_cases : (x : X) (xs : List X) (y : X) → Contains (x ∷ xs) y → (x ≡ y) ⊎ Contains xs y
-  Contains-cons_cases x xs y (zero, lt, e) = inl e
-  Contains-cons_cases x xs y (suc k, lt, e) = inr (k, omega arith, e)
+  Contains-cons_cases x xs y h3 = grind (arith, common_steps)
 
   pub Contains-nil : (y : X) → Contains [] y → ⊥
   Contains-nil y c = let lt = c.1 in omega arith
@@ -28,8 +28,7 @@ module _ {X : Type 0} where
   count_yes p x xs h = sum_by-cons (λ y. cond (p y) 1 0) x xs ∙ ap (λ b. cond b 1 0 + count_by p xs) h
 
   pub count_no : (p : X → Bool) (x : X) (xs : List X) → p x ≡ false → count_by p (x ∷ xs) ≡ count_by p xs
-  count_no p x xs h = let e : count_by p (x ∷ xs) ≡ 0 + count_by p xs =
-      sum_by-cons (λ y. cond (p y) 1 0) x xs ∙ ap (λ b. cond b 1 0 + count_by p xs) h in omega arith
+  count_no p x xs h = grind (arith, common_steps)
 
   pub contains_filter : (p : X → Bool) (xs : List X) (x : X) → p x ≡ true → Contains xs x → Contains (filter p xs) x
   contains_filter p [] x on c = absurd (Contains-nil x c)
@@ -60,11 +59,7 @@ abbrev others : ℕ → List ℕ → List ℕ
 others x ys = filter (λ y. not (y == x)) ys
 
 kept_others : (x : ℕ) (ys : List ℕ) → length (others x ys) ≤ length ys
-kept_others x [] = omega arith
-kept_others x (y ∷ ys) = elim (y == x) as (λ b. length (cond (not b) (y ∷ others x ys) (others x ys)) ≤ suc (length ys)) [
-  | true ↦ let r = kept_others x ys in omega arith
-  | false ↦ let r = kept_others x ys in omega arith
-]
+kept_others x ys = omega (arith, length-filter (λ y. not (y == x)) ys, count_by-le-length (λ y. not (y == x)) ys)
 
 -- leaving out a number that is listed makes a list shorter
 fewer_others : (x : ℕ) (ys : List ℕ) → Contains ys x → length (others x ys) < length ys

@@ -1,24 +1,22 @@
 -- How many edges a vertex can have: where each key stands once, at most one for each kind and each other end,
 -- so 2 ^ 22 with 64 kinds and 65,536 vertices. And how large the sum of their weights can be.
 use Rattle.std.proofs.Common.{◌≡◌, ℕ, zero, suc, ◌+◌, ◌*◌, ◌^◌, ◌<◌, ◌≤◌, Bool, true, false, cond, ◌&&◌, eqb, ltb, List, [], ◌∷◌}
-use Rattle.std.proofs.{Common.{get_or, map, ℤ, pos, negsuc, neg_ℤ, ◌+ℤ◌, ◌≤ℤ◌, nat_abs, refl, sym, subst, arith}, lemmas.Int.ints}
-use Rattle.std.proofs.lemmas.{Bool.{and_parts, eqb-true, Decides.nat_tests}, List.Sums.{sum_by-cons, sum_by-le-sum_by, sum_by-le}}
+use Rattle.std.proofs.{Common.{get_or, map, ℤ, pos, ◌+ℤ◌, nat_abs, refl, sym, subst, arith}, lemmas.Int.ints}
+use Rattle.std.proofs.lemmas.List.Sums.{sum_by-cons, sum_by-le-sum_by, sum_by-le}
 use Rattle.std.{proofs.lemmas.List.Elements.All-tail, specs.Prelude.{count_by, sum_by, filter, fold, All}}
+use Rattle.std.proofs.lemmas.Grind.{common_steps}
 use Rattle.graph_types.specs.{Graph.{Key, entry_of, IsEdgeWithin}, Limits.IsWeight, View.{in_view, leaves, enters}}
 use Rattle.graph_types.specs.{Degrees.{listed_degree, IsWithinLimits}, declared.ids.{Edge.Edge, Filter.Filter}}
-use Rattle.graph_types.proofs.{Keys.HasKeysOnce, Keys.is_key_of, Keys.is_key_of_at, Keys.count_key, Folds.fold_from}
+use Rattle.graph_types.proofs.{Keys.HasKeysOnce, Keys.is_key_of, Keys.count_key, Folds.fold_from}
 
 step_up : (b : Bool) (c k : ℕ) → cond (b && ltb c (suc k)) 1 0 ≤ cond (b && ltb c k) 1 0 + cond (b && eqb c k) 1 0
-step_up true c k = grind (arith, nat_tests)
-step_up false c k = omega arith
+step_up h0 c k = grind (arith, common_steps)
 
 none_below : (b : Bool) (c : ℕ) → cond (b && ltb c 0) 1 0 ≤ 0
-none_below true c = grind (arith, nat_tests)
-none_below false c = omega arith
+none_below h0 c = grind (arith, common_steps)
 
 one_within : (b : Bool) (c n : ℕ) → c < n → cond b 1 0 ≤ cond (b && ltb c n) 1 0
-one_within true c n h = grind (arith, nat_tests)
-one_within false c n h = omega arith
+one_within h0 c n h = grind (arith, common_steps)
 
 module _ {X : Type 0} where
   sum_by-add : (f g : X → ℕ) (xs : List X) → sum_by (λ x. f x + g x) xs ≡ sum_by f xs + sum_by g xs
@@ -66,8 +64,7 @@ crowd_of_edges p other es few kinds others =
     omega (arith, crowd p (λ e. e.kind.0) 65536 64 es of_kind kinds)
 
 pub one_where : (a b : Bool) → (a ≡ true → b ≡ true) → cond a 1 0 ≤ cond b 1 0
-one_where true b then = let e = then refl in subst (λ c. 1 ≤ cond c 1 0) (sym e) (omega arith)
-one_where false b then = omega arith
+one_where h0 b then = grind (arith, common_steps)
 
 -- at most one edge passes where each that does has the same key
 passes_once : (passes : Edge → Bool) (key : Key) (es : List Edge) → HasKeysOnce es
@@ -77,58 +74,28 @@ passes_once passes key es once same =
     (λ e. one_where _ _ (same e)) in
     omega (arith, fewer, count_key key es once)
 
-leaves_key : (f : Filter) (v k t : ℕ) (e : Edge) → ((leaves f v (entry_of e) && eqb e.kind.0 k) && eqb e.target.0 t) ≡ true
-    → is_key_of (record { kind = k; source = v; target = t }) e ≡ true
-leaves_key f v k t e passes =
-    let (left, target) = and_parts (leaves f v (entry_of e) && eqb e.kind.0 k) (eqb e.target.0 t) passes in
-    let (leaving, kind) = and_parts (leaves f v (entry_of e)) (eqb e.kind.0 k) left in
-    let source = (and_parts (in_view f (entry_of e)) (eqb e.source.0 v) leaving).1 in
-    is_key_of_at _ e
-    (λ i. record {
-      kind = sym (eqb-true e.kind.0 k kind) i;
-      source = sym (eqb-true e.source.0 v source) i;
-      target = sym (eqb-true e.target.0 t target) i;
-    })
+-- what an edge that passes four tests passes
+last_three : (a b c d : Bool) → (((a && b) && c) && d) ≡ true → (b ≡ true) × (c ≡ true) × (d ≡ true)
+last_three a b c d passes = grind (arith, common_steps)
+
+has_key : (k s t : ℕ) (e : Edge) → eqb e.kind.0 k ≡ true → eqb e.source.0 s ≡ true → eqb e.target.0 t ≡ true
+    → is_key_of (record { kind = k; source = s; target = t }) e ≡ true
+has_key k s t e kind source target = grind (arith, common_steps)
 
 leaves_once : (f : Filter) (v : ℕ) (es : List Edge) → HasKeysOnce es → (k t : ℕ)
     → count_by (λ e. (leaves f v (entry_of e) && eqb e.kind.0 k) && eqb e.target.0 t) es ≤ 1
 leaves_once f v es once k t =
-    passes_once (λ e. (leaves f v (entry_of e) && eqb e.kind.0 k) && eqb e.target.0 t) (record { kind = k; source = v; target = t }) es
-    once (leaves_key f v k t)
-
-enters_key : (f : Filter) (v k s : ℕ) (e : Edge) → ((enters f v (entry_of e) && eqb e.kind.0 k) && eqb e.source.0 s) ≡ true
-    → is_key_of (record { kind = k; source = s; target = v }) e ≡ true
-enters_key f v k s e passes =
-    let (left, source) = and_parts (enters f v (entry_of e) && eqb e.kind.0 k) (eqb e.source.0 s) passes in
-    let (entering, kind) = and_parts (enters f v (entry_of e)) (eqb e.kind.0 k) left in
-    let target = (and_parts (in_view f (entry_of e)) (eqb e.target.0 v) entering).1 in
-    is_key_of_at _ e
-    (λ i. record {
-      kind = sym (eqb-true e.kind.0 k kind) i;
-      source = sym (eqb-true e.source.0 s source) i;
-      target = sym (eqb-true e.target.0 v target) i;
-    })
+    passes_once (λ e. (leaves f v (entry_of e) && eqb e.kind.0 k) && eqb e.target.0 t) _ es once (λ e passes.
+    let (source, kind, target) = last_three (in_view f (entry_of e)) _ _ _ passes in has_key k v t e kind source target)
 
 enters_once : (f : Filter) (v : ℕ) (es : List Edge) → HasKeysOnce es → (k s : ℕ)
     → count_by (λ e. (enters f v (entry_of e) && eqb e.kind.0 k) && eqb e.source.0 s) es ≤ 1
 enters_once f v es once k s =
-    passes_once (λ e. (enters f v (entry_of e) && eqb e.kind.0 k) && eqb e.source.0 s) (record { kind = k; source = s; target = v }) es
-    once (enters_key f v k s)
-
--- the size of a whole number, as two bounds and back
-pub abs_bounds : (z : ℤ) (n : ℕ) → nat_abs z ≤ n → (neg_ℤ (pos n) ≤ℤ z) × (z ≤ℤ pos n)
-abs_bounds (pos a) n h = (omega (arith, ints), omega (arith, ints))
-abs_bounds (negsuc a) n h = (omega (arith, ints), omega (arith, ints))
-
-pub abs_within : (z : ℤ) (n : ℕ) → neg_ℤ (pos n) ≤ℤ z → z ≤ℤ pos n → nat_abs z ≤ n
-abs_within (pos a) n low high = omega (arith, ints)
-abs_within (negsuc a) n low high = omega (arith, ints)
+    passes_once (λ e. (enters f v (entry_of e) && eqb e.kind.0 k) && eqb e.source.0 s) _ es once (λ e passes.
+    let (target, kind, source) = last_three (in_view f (entry_of e)) _ _ _ passes in has_key k s v e kind source target)
 
 abs_add : (a b : ℤ) → nat_abs (a +ℤ b) ≤ nat_abs a + nat_abs b
-abs_add a b =
-    let p = abs_bounds a (nat_abs a) (omega arith) in
-    let q = abs_bounds b (nat_abs b) (omega arith) in
-    abs_within (a +ℤ b) (nat_abs a + nat_abs b) (omega (arith, ints, p.0, q.0)) (omega (arith, ints, p.1, q.1))
+abs_add a b = grind (arith, common_steps)
 
 sum_within : (p : Edge → Bool) (es : List Edge) → All (λ e. IsWeight e.weight) es
     → nat_abs (fold ◌+ℤ◌ (pos 0) (map (λ e. e.weight) (filter p es))) ≤ count_by p es * 2 ^ 40

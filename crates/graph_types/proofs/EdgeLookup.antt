@@ -1,9 +1,9 @@
 -- Edges at their keys: what it is to the map that a list of edges shows, to find an edge in the list, to take it
 -- away and to add one.
-use Rattle.std.proofs.Common.{◌≡◌, List, [], ◌∷◌, ◌++◌, Bool, true, false, cond, not, map, Option, Some, None, Decides}
-use Rattle.std.proofs.Common.{option_map, option_to_list, IfSome, refl, sym, ap, subst, ◌∙◌}
-use Rattle.std.proofs.lemmas.Bool.Decides.{same_from_decides, Decides-and, Decides-eqb, Decides-like}
-use Rattle.std.proofs.lemmas.{Cmp.eq_by_cmp_equiv, List.append-nil, List.map-append, Map.Views.tells_apart}
+use Rattle.std.proofs.Common.{◌≡◌, List, [], ◌∷◌, ◌++◌, Bool, true, false, cond, not, map, Option, Some, None, Decides, arith}
+use Rattle.std.proofs.Common.{option_map, option_to_list, IfSome, refl, sym, ap, ◌∙◌}
+use Rattle.std.proofs.lemmas.{Bool.Decides.same_from_decides, Grind.common_steps}
+use Rattle.std.proofs.lemmas.{Cmp.eq_by_cmp_equiv, List.append-nil, List.map-append}
 use Rattle.std.specs.{List.find, Ordering.eq_by_cmp, FinMap.{get, insert, remove, from_entries, get-from_entries, get-insert}}
 use Rattle.std.specs.FinMap.{get-remove, same_map, from_entries_push, Entries.{find as look_up, where_key, find-where_key}}
 use Rattle.graph_types.specs.Graph.{Key, Stamp, key_cmp, key_of, stamp_of, entry_of, map_of, has_key, without, IsAt}
@@ -13,15 +13,10 @@ tied_itself : (key : Key) → eq_by_cmp key_cmp key key ≡ true
 tied_itself key = (eq_by_cmp_equiv keys_total).refl key
 
 Decides-tie : (a b : Key) → Decides (eq_by_cmp key_cmp a b) (b ≡ a)
-Decides-tie a b =
-    (λ t. sym (tells_apart exact_keys a b t), λ e. subst (λ k. eq_by_cmp key_cmp a k ≡ true) (sym e) (tied_itself a))
+Decides-tie a b = grind (arith, common_steps)
 
 pub Decides-has_key : (key : Key) (e : Edge) → Decides (has_key key e) (key_of e ≡ key)
-Decides-has_key key e =
-    Decides-like _ (λ p i. record { kind = p.0.0 i; source = p.0.1 i; target = p.1 i })
-    (λ q. ((ap (λ k. k.kind) q, ap (λ k. k.source) q), ap (λ k. k.target) q))
-    (Decides-and _ _ (Decides-and _ _ (Decides-eqb e.kind.0 key.kind) (Decides-eqb e.source.0 key.source))
-    (Decides-eqb e.target.0 key.target))
+Decides-has_key key e = grind (arith, common_steps)
 
 has_key-tie : (key : Key) (e : Edge) → has_key key e ≡ eq_by_cmp key_cmp key (key_of e)
 has_key-tie key e = same_from_decides _ _ (Decides-has_key key e) (Decides-tie key (key_of e))
@@ -65,8 +60,7 @@ entries_of-without key (e ∷ edges) =
     ]
 
 turned : {A : Type 0} (b : Bool) (x y : A) → cond (not b) x y ≡ cond b y x
-turned true x y = refl
-turned false x y = refl
+turned h0 x y = grind (arith, common_steps)
 
 get-map_of-without : (key q : Key) (edges : List Edge)
     → get (map_of (without key edges)) q ≡ cond (eq_by_cmp key_cmp q key) None (get (map_of edges) q)
@@ -84,8 +78,7 @@ map_of-without key edges = same_map keys_total exact_keys _ _
     (λ q. get-map_of-without key q edges ∙ sym (get-remove keys_total (map_of edges) key q))
 
 covered : {A : Type 0} (b : Bool) (x y z : A) → cond b x (cond b y z) ≡ cond b x z
-covered true x y z = refl
-covered false x y z = refl
+covered h0 x y z = grind (arith, common_steps)
 
 put_anew : (edges : List Edge) (e : Edge)
     → map_of (without (key_of e) edges ++ e ∷ []) ≡ insert (map_of edges) (key_of e) (stamp_of e)
@@ -106,6 +99,4 @@ put_anew edges e =
 -- an insertion, a change and a removal alike: what has the key goes, and what is to stand there comes
 pub map_of-put : (key : Key) (edges : List Edge) (new : Option Edge) → IfSome new (IsAt key)
     → map_of (without key edges ++ option_to_list new) ≡ set_at (map_of edges) key (option_map stamp_of new)
-map_of-put key edges None at = ap map_of (append-nil (without key edges)) ∙ map_of-without key edges
-map_of-put key edges (Some e) at =
-    subst (λ k. map_of (without k edges ++ e ∷ []) ≡ insert (map_of edges) k (stamp_of e)) at.key_is (put_anew edges e)
+map_of-put key edges h2 at = grind (arith, common_steps, append-nil, map_of-without, put_anew)

@@ -1,9 +1,9 @@
 -- Edges that expire: what stays at each key, in the map and in a list of edges.
 use Rattle.std.proofs.Common.{◌≡◌, ◌≢◌, ℕ, ◌+◌, Bool, true, false, cond, not, ◌&&◌, List, [], ◌∷◌, Option, Some, None, is_some}
 use Rattle.std.proofs.{Common.{map, length, refl, sym, ap, ◌∙◌, subst, arith}, lemmas.{Cmp.tied_itself, List.Elements.All-cons}}
-use Rattle.std.proofs.lemmas.List.{Elements.All-nil, Sums.sum_by-cons, Kept.AllPairs-filter}
-use Rattle.std.specs.{Prelude.{count_by, All, T}, Ordering.is_lt, declared.cmp.Ordering.{Ordering, TheVariants.{Less, Equal}}}
-use Rattle.std.specs.{declared.cmp.Ordering.TheVariants.Greater, FinMap.{FinMap, get, len, entries, entries_sorted, find}}
+use Rattle.std.proofs.lemmas.{List.{Elements.All-nil, Sums.sum_by-cons, Kept.AllPairs-filter}, Grind.common_steps}
+use Rattle.std.specs.{Prelude.{count_by, All, T}, Ordering.is_lt, declared.cmp.Ordering.{Ordering, TheVariants.Equal}}
+use Rattle.std.specs.FinMap.{FinMap, get, len, entries, entries_sorted, find}
 use Rattle.std.specs.FinMap.{get-entries, get-retain_keys, same_map, Entries.{is_sorted, below_all}}
 use Rattle.graph_types.specs.{Graph.{Key, Stamp, key_cmp, key_of, stamp_of, entry_of, map_of}, Step.{is_before, stays_from}}
 use Rattle.graph_types.specs.{Step.{expired, count_before, was_before, later}, Laws.Expires, declared.ids.Edge.Edge}
@@ -11,12 +11,7 @@ use Rattle.graph_types.proofs.Keys.{keys_total, exact_keys, HasKeysOnce, once_he
 use Rattle.graph_types.proofs.{Keys.{get_is, get_cons, is_key_of, is_key_of-true, len_once}, Folds.count_entries}
 
 kept_some : (time : ℕ) (o : Option Stamp) → cond (is_some (stays_from time o)) o None ≡ stays_from time o
-kept_some time None = refl
-kept_some time (Some s) =
-    elim (is_before time s) as (λ b. cond (is_some (cond b None (Some s))) (Some s) None ≡ cond b None (Some s)) [
-      | true ↦ refl
-      | false ↦ refl
-    ]
+kept_some time h1 = grind (arith, common_steps)
 
 -- what stands at a key afterwards
 pub get-expired : (time : ℕ) (edges : FinMap key_cmp Stamp) (key : Key)
@@ -109,13 +104,10 @@ entries-listed [] = refl
 entries-listed (e ∷ es) = ap (λ xs. e ∷ xs) (entries-listed es)
 
 parts : (a b : Bool) → T (a && b) → T a × T b
-parts true b h = (tt, h)
-parts false b h = absurd h
+parts h0 b h = grind (arith, common_steps)
 
 less_apart : (o : Ordering) → T (is_lt o) → o ≡ Equal → ⊥
-less_apart Less h e = cc
-less_apart Equal h e = h
-less_apart Greater h e = h
+less_apart h0 h e = grind (arith, common_steps)
 
 below_apart : (k : Key) (es : List (Key × Stamp)) → T (below_all key_cmp k es) → All (λ x. k ≢ key_of x) (listed es)
 below_apart k [] h = All-nil (λ x. k ≢ key_of x)

@@ -1,43 +1,31 @@
 -- Keys in order, and lists of edges that list each key once.
 use Rattle.std.proofs.Common.{◌≡◌, ◌≢◌, ℕ, zero, suc, ◌+◌, ◌<◌, ◌≤◌, Bool, true, false, cond, List, [], ◌∷◌, length, get_or, map}
-use Rattle.std.proofs.{Common.{refl, sym, ap, subst, ◌∙◌, arith}, lemmas.Cmp.{then_total, on_total, nat_cmp_total, tied_itself}}
+use Rattle.std.proofs.{Common.{refl, sym, ap, ◌∙◌, arith, inl, inr}, lemmas.Cmp.{then_total, on_total, nat_cmp_total, tied_itself}}
 use Rattle.std.proofs.lemmas.List.{Sums.{sum_by-cons, get_or-le-sum_by}, Sorted.{Contains-permutation, sum_by-IsPermutation}}
-use Rattle.std.proofs.lemmas.List.Sorted.{IsPermutation-sym}
+use Rattle.std.proofs.lemmas.{Bool.cases_Bool, List.{Kept.AllPairs-cons, Sorted.IsPermutation-sym}, Grind.common_steps}
 use Rattle.std.specs.{Prelude.{count_by, is_some, AllPairs, All, Contains, IsPermutation}, declared.cmp.Ordering.Ordering}
-use Rattle.std.specs.declared.{cmp.Ordering.TheVariants.{Less, Equal, Greater}, option.Option.{Option, TheVariants.{None, Some}}}
-use Rattle.std.specs.{Ordering.{nat_cmp, ordering_then, is_eq, eq_by_cmp}, Cmp.IsTotalOrder, FinMap.IsAntisymmetric}
-use Rattle.std.specs.FinMap.{nat_cmp-IsAntisymmetric, find, get, len, get-insert, get-from_entries, len-empty, len-insert}
+use Rattle.std.specs.declared.{cmp.Ordering.TheVariants.Equal, option.Option.{Option, TheVariants.{None, Some}}}
+use Rattle.std.specs.{Ordering.{is_eq, eq_by_cmp}, Cmp.IsTotalOrder, FinMap.IsAntisymmetric}
+use Rattle.std.specs.FinMap.{find, get, len, get-insert, get-from_entries, len-empty, len-insert}
 use Rattle.std.specs.FinMap.{same_map}
 use Rattle.graph_types.specs.{Graph.{Key, Stamp, key_cmp, key_of, stamp_of, entry_of, map_of}, declared.ids.Edge.Edge}
+use Rattle.graph_types.proofs.Counts.{count_yes, count_no}
 
 pub keys_total : IsTotalOrder key_cmp
 keys_total =
     then_total (on_total (λ (k : Key). k.kind) nat_cmp_total)
     (then_total (on_total (λ (k : Key). k.source) nat_cmp_total) (on_total (λ (k : Key). k.target) nat_cmp_total))
 
-both_equal : (a b : Ordering) → ordering_then a b ≡ Equal → (a ≡ Equal) × (b ≡ Equal)
-both_equal Less b e = cc
-both_equal Equal b e = (refl, e)
-both_equal Greater b e = cc
-
 -- only equal keys tie
 pub exact_keys : IsAntisymmetric key_cmp
-exact_keys x y e =
-    let kinds = both_equal (nat_cmp x.kind y.kind) _ e in
-    let ends = both_equal (nat_cmp x.source y.source) _ kinds.1 in
-    let kind = nat_cmp-IsAntisymmetric x.kind y.kind kinds.0 in
-    let source = nat_cmp-IsAntisymmetric x.source y.source ends.0 in
-    let target = nat_cmp-IsAntisymmetric x.target y.target ends.1 in
-    λ i. record { kind = kind i; source = source i; target = target i }
+exact_keys x y e = grind (arith, common_steps)
 
 -- whether an edge's key ties with this one in the order of keys, as a map looks it up; EdgeLookup shows that it then has the key
 abbrev pub is_key_of : Key → Edge → Bool
 is_key_of key e = eq_by_cmp key_cmp key (key_of e)
 
 tied_equal : (o : Ordering) → is_eq o ≡ true → o ≡ Equal
-tied_equal Less e = cc
-tied_equal Equal e = refl
-tied_equal Greater e = cc
+tied_equal h0 e = grind (arith, common_steps)
 
 pub is_key_of-true : (key : Key) (e : Edge) → is_key_of key e ≡ true → key ≡ key_of e
 is_key_of-true key e t = exact_keys key (key_of e) (tied_equal _ t)
@@ -46,8 +34,7 @@ pub is_key_of_at : (key : Key) (e : Edge) → key ≡ key_of e → is_key_of key
 is_key_of_at key e same = ap (λ k. eq_by_cmp key_cmp key k) (sym same) ∙ ap is_eq (tied_itself keys_total key)
 
 pub is_key_of-false : (key : Key) (e : Edge) → key ≢ key_of e → is_key_of key e ≡ false
-is_key_of-false key e apart = elim (is_key_of key e) as (λ b. is_key_of key e ≡ b
-    → is_key_of key e ≡ false) [ true ↦ λ t. absurd (apart (is_key_of-true key e t)) | false ↦ λ t. t ] refl
+is_key_of-false key e apart = grind (arith, common_steps)
 
 -- each key stands once
 abbrev pub HasKeysOnce : List Edge → Type 0
@@ -71,26 +58,19 @@ get_is key edges = get-from_entries keys_total (map entry_of edges) key
 
 no_key : (key : Key) (es : List Edge) → All (λ x. key ≢ key_of x) es → count_by (is_key_of key) es ≡ 0
 no_key key [] absent = refl
-no_key key (e ∷ es) absent =
-    let none = no_key key es (λ k d h. absent (suc k) d (omega arith)) in
-    sum_by-cons (λ x. cond (is_key_of key x) 1 0) e es
-    ∙ ap (λ b. cond b 1 0 + count_by (is_key_of key) es) (is_key_of-false key e (absent 0 e (omega arith))) ∙ omega arith
+no_key key (e ∷ es) absent = count_no (is_key_of key) e es (is_key_of-false key e (absent 0 e (omega arith)))
+    ∙ no_key key es (λ k d h. absent (suc k) d (omega arith))
 
 -- a key stands at most once, as a count
 pub count_key : (key : Key) (es : List Edge) → HasKeysOnce es → count_by (is_key_of key) es ≤ 1
 count_key key [] once = omega arith
 count_key key (e ∷ es) once =
-    let rest = count_key key es (once_tail e es once) in
-    let whole = sum_by-cons (λ x. cond (is_key_of key x) 1 0) e es in
-    elim (is_key_of key e) as (λ b. is_key_of key e ≡ b → count_by (is_key_of key) (e ∷ es) ≡ cond b 1 0
-    + count_by (is_key_of key) es
-    → count_by (is_key_of key) (e ∷ es) ≤ 1) [
-      | true ↦ λ t w.
-          let same = is_key_of-true key e t in
-          let none = no_key key es (λ k d h. subst (λ q. q ≢ key_of (get_or es k d)) (sym same) (once_head e es once k d h)) in
-          omega arith
-      | false ↦ λ t w. omega arith
-    ] refl whole
+    elim (cases_Bool (is_key_of key e)) [
+      | inl t ↦
+          let none = no_key key es (λ k d h. rw (is_key_of-true key e t) (once_head e es once k d h)) in
+          omega (arith, count_yes (is_key_of key) e es t, none)
+      | inr f ↦ omega (arith, count_no (is_key_of key) e es f, count_key key es (once_tail e es once))
+    ]
 
 -- what a look-up finds is listed
 pub find_listed : (key : Key) (es : List Edge) (s : Stamp) → find key_cmp key (map entry_of es) ≡ Some s
@@ -147,10 +127,7 @@ pub once_none : HasKeysOnce []
 once_none i j d h g = absurd (omega arith)
 
 pub once_cons : (e : Edge) (es : List Edge) → All (λ x. key_of e ≢ key_of x) es → HasKeysOnce es → HasKeysOnce (e ∷ es)
-once_cons e es apart once zero zero d h g = absurd (omega arith)
-once_cons e es apart once zero (suc j) d h g = apart j d (omega arith)
-once_cons e es apart once (suc i) zero d h g = absurd (omega arith)
-once_cons e es apart once (suc i) (suc j) d h g = once i j d (omega arith) (omega arith)
+once_cons e es apart once = AllPairs-cons (λ a b. key_of a ≢ key_of b) e es apart once
 
 -- what stands in the map at a key, once an edge is listed before
 pub get_cons : (e : Edge) (es : List Edge) (key : Key)

@@ -10,7 +10,6 @@ pub mod Folds
 pub mod Expiry
 pub mod DegreeBounds
 pub mod ListedDegrees
-pub mod TwoOrders
 pub mod OneTable
 pub mod Walks
 pub mod Counts

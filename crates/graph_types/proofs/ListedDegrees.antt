@@ -1,6 +1,7 @@
 -- The degrees that a content shows are those that its list of edges shows.
-use Rattle.std.{proofs.Common.{◌≡◌, ℕ, ◌+◌, ◌&&◌, ◌+ℤ◌, Bool, cond, eqb, length, map, pos, sym, ap}, specs.List.range_with_len}
-use Rattle.graph_types.specs.{Graph.{graph_of, IsContent}, View.{leaves, enters}, Answer.{degree_at, degree_table}}
+use Rattle.std.proofs.Common.{◌≡◌, ℕ, ◌+◌, ◌&&◌, ◌+ℤ◌, Bool, cond, eqb, pos, arith}
+use Rattle.std.proofs.lemmas.Grind.{common_steps}
+use Rattle.graph_types.specs.{Graph.{graph_of, IsContent}, Answer.degree_at}
 use Rattle.graph_types.specs.{Degrees.listed_degree, declared.{contents.Content.Content, ids.{Degree.Degree, Edge.Edge}}}
 use Rattle.graph_types.{specs.declared.ids.Filter.Filter, proofs.Folds.{count_entries, weight_entries}}
 
@@ -14,14 +15,4 @@ with_shown b e v d = record {
 
 -- the degrees over the list are those over the graph
 pub listed_at : (f : Filter) (c : Content) (v : ℕ) → IsContent c → listed_degree f c.edges v ≡ degree_at f (graph_of c) v
-listed_at f c v is =
-    let outgoing = sym (count_entries (leaves f v) c.edges is.keys_distinct) in
-    let incoming = sym (count_entries (enters f v) c.edges is.keys_distinct) in
-    let weights = sym (weight_entries (leaves f v) c.edges is.keys_distinct) in
-    λ i. record { outgoing = outgoing i; incoming = incoming i; out_weight = weights i }
-
--- the table of degrees, by the list of edges
-pub degree_table_is : (f : Filter) (c : Content) → IsContent c
-    → degree_table f (graph_of c) ≡ map (listed_degree f c.edges) (range_with_len 0 (length c.names))
-degree_table_is f c is = ap (λ (degree : ℕ → Degree). map degree (range_with_len 0 (length c.names)))
-    (λ i v. sym (listed_at f c v is) i)
+listed_at f c v is = grind (arith, common_steps, count_entries, weight_entries)

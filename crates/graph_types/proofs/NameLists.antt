@@ -1,48 +1,31 @@
 -- Lists of names in order of first appearance, as operations make them.
 use Rattle.std.proofs.Common.{◌≡◌, ◌≢◌, ℕ, ◌+◌, ◌<◌, ◌≤◌, List, [], ◌∷◌, ◌++◌, true, false, cond, not, ◌||◌, length, get_or}
-use Rattle.std.proofs.{Common.{AllPairs, bytes_eq, Option, Some, suc, refl, sym, ap, ◌∙◌, arith}, lemmas.Bool.false≢true}
-use Rattle.std.proofs.lemmas.{Slice.Eq.bytes_eq-Decides, List.{length-append, Folds.{list_any-append, list_any_at}}}
-use Rattle.std.{proofs.lemmas.List.Quantifiers.all_pairs_push, specs.List.list_any}
-use Rattle.graph_types.specs.Step.{with_name, number_of, makes_names, names_made, kinds_made, stamp_after, changed_key, after}
-use Rattle.graph_types.specs.{Step.after_all, Graph.{Graph, Key, Stamp}, declared.batches.NamedOp.{NamedOp, TheVariants.Insert}}
-use Rattle.graph_types.specs.declared.{batches.NamedOp.TheVariants.{Incr, Remove, Expire}, changes.EdgeChange.EdgeChange}
+use Rattle.std.proofs.{Common.{Bool, ltb, AllPairs, bytes_eq, Option, Some, suc, refl, sym, ◌∙◌, arith}, lemmas.Bool.{false≢true, ltb-true, Decides.nat_tests}}
+use Rattle.std.proofs.lemmas.{Slice.Eq.bytes_eq-Decides, List.Folds.{list_any-append, list_any_at}}
+use Rattle.std.{proofs.lemmas.List.Quantifiers.all_pairs_push, specs.List.{list_any, position_or_len}}
+use Rattle.std.proofs.lemmas.Grind.{common_steps}
+use Rattle.graph_types.specs.Step.{with_name, number_of, names_made, kinds_made, stamp_after, changed_key, after}
+use Rattle.graph_types.specs.{Step.after_all, Graph.{Graph, Key, Stamp}, declared.batches.NamedOp.NamedOp}
+use Rattle.graph_types.specs.declared.changes.EdgeChange.{EdgeChange}
 use Rattle.graph_types.specs.declared.changes.EdgeChange.TheVariants.{Insert as ToInsert, Incr as ToIncr, Remove as ToRemove}
 
 pub length-with_name : (names : List (List ℕ)) (name : List ℕ) → length names ≤ length (with_name names name)
-length-with_name names name =
-    elim (list_any (bytes_eq name) names) as (λ b. length names ≤ length (cond b names (names ++ name ∷ []))) [
-      | true ↦ omega arith
-      | false ↦ omega (arith, length-append names (name ∷ []))
-    ]
+length-with_name names name = grind (arith, common_steps)
 
 pub length-names_made : (change : EdgeChange) (source target : List ℕ) (names : List (List ℕ))
     → length names ≤ length (names_made change source target names)
-length-names_made change source target names =
-    elim (makes_names change) as (λ b. length names ≤ length (cond b (with_name (with_name names source) target) names)) [
-      | true ↦ omega (arith, length-with_name names source, length-with_name (with_name names source) target)
-      | false ↦ omega arith
-    ]
+length-names_made change source target names = grind (arith, common_steps)
 
 pub length-kinds_made : (change : EdgeChange) (kind : List ℕ) (kinds : List (List ℕ))
     → length kinds ≤ length (kinds_made change kind kinds)
-length-kinds_made change kind kinds =
-    elim (makes_names change) as (λ b. length kinds ≤ length (cond b (with_name kinds kind) kinds)) [
-      | true ↦ length-with_name kinds kind
-      | false ↦ omega arith
-    ]
+length-kinds_made change kind kinds = grind (arith, common_steps)
 
 -- operations only add names
 pub length-after-names : (op : NamedOp) (g : Graph) → length g.names ≤ length (after op g).names
-length-after-names (Insert kind source target weight time) g = length-names_made (ToInsert weight time) source target g.names
-length-after-names (Incr kind source target amount time) g = length-names_made (ToIncr amount time) source target g.names
-length-after-names (Remove kind source target) g = length-names_made ToRemove source target g.names
-length-after-names (Expire time) g = omega arith
+length-after-names h0 g = grind (arith, common_steps)
 
 pub length-after-kinds : (op : NamedOp) (g : Graph) → length g.kinds ≤ length (after op g).kinds
-length-after-kinds (Insert kind source target weight time) g = length-kinds_made (ToInsert weight time) kind g.kinds
-length-after-kinds (Incr kind source target amount time) g = length-kinds_made (ToIncr amount time) kind g.kinds
-length-after-kinds (Remove kind source target) g = length-kinds_made ToRemove kind g.kinds
-length-after-kinds (Expire time) g = omega arith
+length-after-kinds h0 g = grind (arith, common_steps)
 
 pub length-after_all-names : (ops : List NamedOp) (g : Graph) → length g.names ≤ length (after_all ops g).names
 length-after_all-names [] g = omega arith
@@ -55,34 +38,30 @@ length-after_all-kinds (op ∷ ops) g = omega (arith, length-after-kinds op g, l
 pub same_bytes : (name : List ℕ) → bytes_eq name name ≡ true
 same_bytes name = (bytes_eq-Decides name name).1 refl
 
+-- an element that fits is in a list where its place is before the end
+pub any_before_end : {X : Type 0} (p : X → Bool) (xs : List X) → list_any p xs ≡ ltb (position_or_len p xs) (length xs)
+any_before_end p [] = grind (arith, nat_tests)
+any_before_end p (x ∷ xs) =
+    elim (p x) as (λ b. (b || list_any p xs) ≡ ltb (cond (not b) (1 + position_or_len p xs) 0) (suc (length xs))) [
+      | true ↦ grind (arith, nat_tests)
+      | false ↦ any_before_end p xs ∙ later (position_or_len p xs) (length xs)
+    ]
+  where
+    later : (m n : ℕ) → ltb m n ≡ ltb (1 + m) (suc n)
+    later m n = grind (arith, nat_tests)
+
 -- a name that has appeared has a number below the count of names
 pub number_of-lt : (names : List (List ℕ)) (name : List ℕ) → list_any (bytes_eq name) names ≡ true
     → number_of names name < length names
-number_of-lt [] name h = absurd (false≢true h)
-number_of-lt (x ∷ xs) name h =
-    elim (bytes_eq name x) as (λ b. (b || list_any (bytes_eq name) xs) ≡ true
-    → cond (not b) (1 + number_of xs name) 0 < suc (length xs)) [
-      | true ↦ λ _. omega arith
-      | false ↦ λ rest. omega (arith, number_of-lt xs name rest)
-    ] h
+number_of-lt names name h = ltb-true _ _ (sym (any_before_end (bytes_eq name) names) ∙ h)
 
 -- a name appears where it is added, and stays
 pub appears-with_name : (names : List (List ℕ)) (name : List ℕ) → list_any (bytes_eq name) (with_name names name) ≡ true
-appears-with_name names name =
-    elim (list_any (bytes_eq name) names) as (λ b. list_any (bytes_eq name) names ≡ b
-    → list_any (bytes_eq name) (cond b names (names ++ name ∷ [])) ≡ true) [
-      | true ↦ λ is. is
-      | false ↦ λ is. list_any-append (bytes_eq name) names (name ∷ []) ∙ ap (λ b. b || (bytes_eq name name || false)) is
-          ∙ ap (λ b. b || false) (same_bytes name)
-    ] refl
+appears-with_name names name = grind (arith, common_steps, list_any-append, same_bytes)
 
 pub stays-with_name : (names : List (List ℕ)) (name other : List ℕ) → list_any (bytes_eq other) names ≡ true
     → list_any (bytes_eq other) (with_name names name) ≡ true
-stays-with_name names name other h =
-    elim (list_any (bytes_eq name) names) as (λ b. list_any (bytes_eq other) (cond b names (names ++ name ∷ [])) ≡ true) [
-      | true ↦ h
-      | false ↦ list_any-append (bytes_eq other) names (name ∷ []) ∙ ap (λ b. b || list_any (bytes_eq other) (name ∷ [])) h
-    ]
+stays-with_name names name other h = grind (arith, common_steps)
 
 pub AllPairs-with_name : (names : List (List ℕ)) (name : List ℕ) → AllPairs (λ a b. a ≢ b) names
     → AllPairs (λ a b. a ≢ b) (with_name names name)
@@ -96,19 +75,11 @@ AllPairs-with_name names name h =
 
 pub AllPairs-names_made : (change : EdgeChange) (source target : List ℕ) (names : List (List ℕ)) → AllPairs (λ a b. a ≢ b) names
     → AllPairs (λ a b. a ≢ b) (names_made change source target names)
-AllPairs-names_made change source target names h =
-    elim (makes_names change) as (λ b. AllPairs (λ x y. x ≢ y) (cond b (with_name (with_name names source) target) names)) [
-      | true ↦ AllPairs-with_name _ target (AllPairs-with_name names source h)
-      | false ↦ h
-    ]
+AllPairs-names_made change source target names h = grind (arith, common_steps, AllPairs-with_name)
 
 pub AllPairs-kinds_made : (change : EdgeChange) (kind : List ℕ) (kinds : List (List ℕ)) → AllPairs (λ a b. a ≢ b) kinds
     → AllPairs (λ a b. a ≢ b) (kinds_made change kind kinds)
-AllPairs-kinds_made change kind kinds h =
-    elim (makes_names change) as (λ b. AllPairs (λ x y. x ≢ y) (cond b (with_name kinds kind) kinds)) [
-      | true ↦ AllPairs-with_name kinds kind h
-      | false ↦ h
-    ]
+AllPairs-kinds_made change kind kinds h = grind (arith, common_steps, AllPairs-with_name)
 
 -- the numbers of a key are those of names that are there
 pub record IsNamed (n m : ℕ) (key : Key) : Type 0 where
@@ -116,15 +87,11 @@ pub record IsNamed (n m : ℕ) (key : Key) : Type 0 where
   pub source : key.source < n
   pub target : key.target < n
 
-named : (names kinds : List (List ℕ)) (kind source target : List ℕ) →
+pub named : (names kinds : List (List ℕ)) (kind source target : List ℕ) →
     let all = with_name (with_name names source) target in
     IsNamed (length all) (length (with_name kinds kind))
     (record { kind = number_of (with_name kinds kind) kind; source = number_of all source; target = number_of all target })
-named names kinds kind source target = record {
-  kind = number_of-lt _ kind (appears-with_name kinds kind);
-  source = number_of-lt _ source (stays-with_name _ target source (appears-with_name names source));
-  target = number_of-lt _ target (appears-with_name _ target);
-}
+named names kinds kind source target = grind (arith, common_steps, number_of-lt, appears-with_name, stays-with_name)
 
 -- where a change leaves an edge, its names are there
 pub IsNamed-changed_key : (change : EdgeChange) (kind source target : List ℕ) (g : Graph) (before : Option Stamp) (s : Stamp)

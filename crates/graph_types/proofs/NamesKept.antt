@@ -1,6 +1,7 @@
 -- Valid operations leave names where there were names.
-use Rattle.std.proofs.{Common.{ℕ, List, [], ◌∷◌, ◌++◌, true, false, cond, bytes_eq}, lemmas.Bool.and_parts}
-use Rattle.std.{proofs.lemmas.List.Elements.{All-head, All-tail, All-push}, specs.{Prelude.{All, IsTrue, ◌&&◌}, List.list_any}}
+use Rattle.std.proofs.{Common.{ℕ, List, [], ◌∷◌, true, false, cond, arith}, lemmas.Bool.and_parts}
+use Rattle.std.{proofs.lemmas.List.Elements.{All-head, All-tail}, specs.Prelude.{All, IsTrue, ◌&&◌}}
+use Rattle.std.proofs.lemmas.Grind.{common_steps}
 use Rattle.graph_types.specs.{Graph.Graph, Laws.HasNames, Step.{with_name, makes_names, changed, after, after_all, left_by}}
 use Rattle.graph_types.specs.{Valid.{is_name, is_kind_name, are_names, IsValid, IsBatch}, declared.batches.NamedOp.NamedOp}
 use Rattle.graph_types.specs.declared.{batches.NamedOp.TheVariants.{Insert, Incr, Remove, Expire}, changes.EdgeChange.EdgeChange}
@@ -8,11 +9,7 @@ use Rattle.graph_types.specs.declared.changes.EdgeChange.TheVariants.{Insert as 
 
 All-with_name : (P : List ℕ → Type 0) (names : List (List ℕ)) (name : List ℕ) → All P names → P name
     → All P (with_name names name)
-All-with_name P names name all p =
-    elim (list_any (bytes_eq name) names) as (λ b. All P (cond b names (names ++ name ∷ []))) [
-      | true ↦ all
-      | false ↦ All-push P names name all p
-    ]
+All-with_name h0 names name all p = grind (arith, common_steps)
 
 HasNames-changed : (change : EdgeChange) (kind source target : List ℕ) (g : Graph) → IsTrue (are_names kind source target)
     → HasNames g → HasNames (changed change kind source target g)

@@ -1,6 +1,7 @@
 -- Over a graph a request has one answer, and over that of a content it has one.
-use Rattle.std.proofs.Common.{◌≡◌, Some, None, Bool, true, false, not, refl, sym, ap, ◌∙◌}
+use Rattle.std.proofs.Common.{◌≡◌, Some, None, Bool, true, not, refl, sym, ap, ◌∙◌, arith}
 use Rattle.std.specs.{Prelude.Result, Prelude.Ok, Prelude.Err, Prelude.zip, Prelude.nat_lt, Option.option_map, FinMap.get}
+use Rattle.std.proofs.lemmas.Grind.{common_steps}
 use Rattle.graph_types.specs.{Graph.{Graph, graph_of, IsContent}, Step.{key_in, number_of}, Answer.{IsAnswer, IsReply, refusal}}
 use Rattle.graph_types.specs.Answer.{first_refusal, resolved, degree_table, shown, reached, names_of, is_listed, is_kind_listed}
 use Rattle.graph_types.specs.declared.{contents.Content.Content, requests.Request.{Request, TheVariants.Levels as AskLevels}}
@@ -12,27 +13,21 @@ use Rattle.graph_types.proofs.{NameLists.number_of-lt, OneTable.one_table, SomeT
 pub one_reply : (request : Request) (g : Graph) (x y : Reply) → IsReply request g x → IsReply request g y → x ≡ y
 one_reply (AskLevels source filter) g x y a b =
     a.2 ∙ ap (λ levels. Levels (reached g.names levels))
-    ((one_table (resolved g filter) g).levels (number_of g.names source) a.0 b.0 a.1 b.1) ∙ sym b.2
+    (one_table.levels (resolved g filter) g (number_of g.names source) a.0 b.0 a.1 b.1) ∙ sym b.2
 one_reply (AskLabels filter) g x y a b =
-    a.2 ∙ ap (λ labels. Labels (zip g.names (names_of g.names labels))) ((one_table (resolved g filter) g).labels a.0 b.0 a.1 b.1)
+    a.2 ∙ ap (λ labels. Labels (zip g.names (names_of g.names labels))) (one_table.labels (resolved g filter) g a.0 b.0 a.1 b.1)
     ∙ sym b.2
 one_reply (AskCores filter) g x y a b =
-    a.2 ∙ ap (λ numbers. Cores (zip g.names numbers)) ((one_table (resolved g filter) g).cores a.0 b.0 a.1 b.1) ∙ sym b.2
+    a.2 ∙ ap (λ numbers. Cores (zip g.names numbers)) (one_table.cores (resolved g filter) g a.0 b.0 a.1 b.1) ∙ sym b.2
 one_reply (AskDegrees filter) g x y a b = a ∙ sym b
 one_reply (AskOneEdge kind source target) g x y a b = a ∙ sym b
 
 pub one_answer : (request : Request) (g : Graph) (x y : Result Reply AskError) → IsAnswer request g x → IsAnswer request g y
     → x ≡ y
-one_answer request g (Ok x) (Ok y) a b = ap (λ reply. Ok reply) (one_reply request g x y a.1 b.1)
-one_answer request g (Ok x) (Err y) a b = cc (a.0, b)
-one_answer request g (Err x) (Ok y) a b = cc (a, b.0)
-one_answer request g (Err x) (Err y) a b = cc
+one_answer request g h2 h3 a b = grind (arith, common_steps, one_reply)
 
 vertex_listed : (window kind vertex : Bool) → first_refusal window kind vertex ≡ None → vertex ≡ true
-vertex_listed false kind vertex none = cc
-vertex_listed true false vertex none = cc
-vertex_listed true true false none = cc
-vertex_listed true true true none = refl
+vertex_listed h0 kind vertex none = grind (arith, common_steps)
 
 pub some_reply : (request : Request) (c : Content) → IsContent c → refusal request (graph_of c) ≡ None
     → (reply : Reply) × IsReply request (graph_of c) reply
@@ -40,15 +35,15 @@ some_reply (AskLevels source filter) c is none =
     let g = graph_of c in
     let listed = vertex_listed (not (nat_lt filter.hi filter.lo)) (is_kind_listed g.kinds filter.kind)
     (is_listed g.names source) none in
-    let r = (some_table (resolved g filter) c is).levels (number_of g.names source) (number_of-lt g.names source listed) in
+    let r = some_table.levels (resolved g filter) c is (number_of g.names source) (number_of-lt g.names source listed) in
     (Levels (reached g.names r.0), (r.0, r.1, refl))
 some_reply (AskLabels filter) c is none =
     let g = graph_of c in
-    let r = (some_table (resolved g filter) c is).labels in
+    let r = some_table.labels (resolved g filter) c is in
     (Labels (zip g.names (names_of g.names r.0)), (r.0, r.1, refl))
 some_reply (AskCores filter) c is none =
     let g = graph_of c in
-    let r = (some_table (resolved g filter) c is).cores in
+    let r = some_table.cores (resolved g filter) c is in
     (Cores (zip g.names r.0), (r.0, r.1, refl))
 some_reply (AskDegrees filter) c is none = let g =
     graph_of c in (Degrees (zip g.names (degree_table (resolved g filter) g)), refl)

@@ -1,11 +1,11 @@
 -- Numbers that are lowered along arcs until none is left to lower: what they are then, and that they come to it.
 use Rattle.std.proofs.Common.{◌≡◌, ◌≢◌, ℕ, zero, suc, ◌+◌, ◌*◌, ◌<◌, ◌≤◌, arith, refl, sym, ap, ◌∙◌, subst, ◌⊎◌, inl, inr, List}
-use Rattle.std.proofs.{Common.{[], ◌∷◌, length, set, Some, None, cond, true, false}, lemmas.Bool.{cases_eq, cases_lt}}
+use Rattle.std.proofs.{Common.{[], ◌∷◌, length, set, Some}, lemmas.Bool.{cases_eq, cases_lt}}
 use Rattle.std.proofs.lemmas.{Bool.Decides.nat_tests, Option.{get_or_from_slice_get, slice_get_within}, List.get_or-set_same}
 use Rattle.std.proofs.lemmas.List.{get_or-set_other, length-set, get_or-map, length-map, length-replicate, get_or-replicate}
-use Rattle.std.proofs.lemmas.List.{get_or_past, get_or_default, Sums.sum_by-set, Elements.{All-cons, All-nil, All-contains}}
-use Rattle.std.proofs.lemmas.List.FromFn.{length-range_with_len, get_or-range_with_len}
-use Rattle.std.specs.{Prelude.{AllPairs, sum, replicate, nat_lt, map}, List.{Contains, range_with_len}}
+use Rattle.std.proofs.lemmas.List.{get_or_past, get_or_default, Elements.{All-cons, All-nil, All-contains}}
+use Rattle.std.proofs.lemmas.{List.FromFn.{length-range_with_len, get_or-range_with_len}, Grind.common_steps}
+use Rattle.std.specs.{Prelude.{AllPairs, sum, replicate, map}, List.{Contains, range_with_len}}
 use Rattle.graph_types.specs.{Graph.Graph, declared.ids.Filter.Filter, Analyses.{LeadsTo, Joins, Walk, IsLevel, IsLabel, IsTable}}
 use Rattle.graph_types.specs.Arcs.{Arc, AreWithin, at, IsLowered, IsClosed, level_start, level_of}
 use Rattle.graph_types.proofs.{Walks.walk_map, Counts.Contains-first, Counts.Contains-cons, Counts.sub_length}
@@ -60,8 +60,7 @@ lowered_more arcs step first numbers a b within l arc less =
 -- and their sum falls
 pub sum_falls : (numbers : List ℕ) (b less : ℕ) → b < length numbers → less < at numbers b
     → sum (set numbers b less) < sum numbers
-sum_falls numbers b less h lt = let e : sum (set numbers b less) + at numbers b ≡ sum numbers + less =
-    sum_by-set (λ x. x) numbers b less 0 h in omega arith
+sum_falls numbers b less h lt = grind (arith, common_steps)
 
 -- no number is left to lower, or one is
 look : (arcs : List (ℕ × ℕ)) (step : ℕ) (numbers : List ℕ)
@@ -76,16 +75,9 @@ look (e ∷ arcs) step numbers = elim (cases_lt (at numbers e.0 + step) (at numb
 ]
 
 settle_from : (arcs : List (ℕ × ℕ)) (step : ℕ) (first : List ℕ) → AreWithin (length first) arcs → (k : ℕ) (numbers : List ℕ)
-    → sum numbers ≤ k → IsLowered arcs step first numbers
+    → sum numbers < k → IsLowered arcs step first numbers
     → (r : List ℕ) × IsLowered arcs step first r × IsClosed arcs step r
-settle_from arcs step first within zero numbers few l = elim (look arcs step numbers) [
-  | inl closed ↦ (numbers, l, closed)
-  | inr r ↦
-      let ends = All-contains (λ (e : ℕ × ℕ). (e.0 < length first) × (e.1 < length first)) arcs (r.0, r.1) within r.2 in
-      let long = l.size in
-      let falls = sum_falls numbers r.1 (at numbers r.0 + step) (let e = ends.1 in omega arith) r.3 in
-      absurd (omega arith)
-]
+settle_from arcs step first within zero numbers few l = absurd (omega arith)
 settle_from arcs step first within (suc k) numbers few l = elim (look arcs step numbers) [
   | inl closed ↦ (numbers, l, closed)
   | inr r ↦
@@ -99,7 +91,7 @@ settle_from arcs step first within (suc k) numbers few l = elim (look arcs step 
 -- from any numbers at the vertices there is an end of it
 pub some_settled : (arcs : List (ℕ × ℕ)) (step : ℕ) (first : List ℕ) → AreWithin (length first) arcs
     → (r : List ℕ) × IsLowered arcs step first r × IsClosed arcs step r
-some_settled arcs step first within = settle_from arcs step first within (sum first) first (omega arith)
+some_settled arcs step first within = settle_from arcs step first within (suc (sum first)) first (omega arith)
     (lowered_start arcs step first)
 
 -- a walk takes a number up by a step for each arc at most
@@ -187,11 +179,7 @@ module _ (f : Filter) (g : Graph) (source : ℕ) (arcs : List (ℕ × ℕ)) (n :
       ]
 
   level_at : (v : ℕ) → v < n → IsLevel f g source v (level_of n (at numbers v))
-  level_at v lt = elim (nat_lt (at numbers v) n) as (λ b. nat_lt (at numbers v) n ≡ b
-      → IsLevel f g source v (cond b (Some (at numbers v)) None)) [
-        | true ↦ λ e. near v lt (grind (arith, nat_tests))
-        | false ↦ λ e. far v (grind (arith, nat_tests))
-      ] refl
+  level_at v lt = grind (arith, common_steps, near, nat_tests, far)
 
   pub settled_levels : IsTable n (IsLevel f g source) (map (level_of n) numbers)
   settled_levels =
@@ -214,10 +202,7 @@ module _ (f : Filter) (g : Graph) (arcs : List (ℕ × ℕ)) (n : ℕ) (numbers 
   own u lt = let e = get_or-range_with_len 0 n u 0 lt in omega arith
 
   own_most : (u : ℕ) → at (range_with_len 0 n) u ≤ u
-  own_most u = elim (cases_lt u n) [
-    | inl lt ↦ let e = own u lt in omega arith
-    | inr ge ↦ let e = get_or_past (range_with_len 0 n) u 0 (let long = length-range_with_len 0 n in omega arith) in omega arith
-  ]
+  own_most u = grind (arith, common_steps, cases_lt, own, get_or_past, length-range_with_len)
 
   label_at : (v : ℕ) → v < n → IsLabel f g v (at numbers v)
   label_at v lt =

@@ -46,9 +46,8 @@ set_at edges key (Some stamp) = insert edges key stamp
 
 -- whether a change makes the names of its edge: a removal makes none
 abbrev pub makes_names : EdgeChange → Bool
-makes_names (ToInsert weight time) = true
-makes_names (ToIncr amount time) = true
 makes_names ToRemove = false
+makes_names _ = true
 
 abbrev pub names_made : EdgeChange → List ℕ → List ℕ → List (List ℕ) → List (List ℕ)
 names_made change source target names = if makes_names change then with_name (with_name names source) target else names
@@ -104,10 +103,8 @@ later time edges = filter (λ e. not (was_before time e)) edges
 -- Operations
 
 abbrev pub is_expire : NamedOp → Bool
-is_expire (Insert kind source target weight time) = false
-is_expire (Incr kind source target amount time) = false
-is_expire (Remove kind source target) = false
 is_expire (Expire time) = true
+is_expire _ = false
 
 -- one operation
 abbrev pub after : NamedOp → Graph → Graph

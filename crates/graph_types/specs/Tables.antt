@@ -4,19 +4,14 @@ use Rattle.graph_types.specs.{Graph.{Graph, graph_of, IsContent}, Analyses.{AreL
 use Rattle.graph_types.specs.declared.{contents.Content.Content, ids.Filter.Filter}
 
 -- a graph has at most one table of each
-pub record HasOneTable (f : Filter) (g : Graph) : Type 0 where
-  pub levels : (source : ℕ) (a b : List (Option ℕ)) → AreLevels f g source a → AreLevels f g source b → a ≡ b
-  pub labels : (a b : List ℕ) → AreLabels f g a → AreLabels f g b → a ≡ b
-  pub cores : (a b : List ℕ) → AreCoreNumbers f g a → AreCoreNumbers f g b → a ≡ b
+pub record HaveOneTable : Type 0 where
+  pub levels : (f : Filter) (g : Graph) (source : ℕ) (a b : List (Option ℕ)) → AreLevels f g source a → AreLevels f g source b → a ≡ b
+  pub labels : (f : Filter) (g : Graph) (a b : List ℕ) → AreLabels f g a → AreLabels f g b → a ≡ b
+  pub cores : (f : Filter) (g : Graph) (a b : List ℕ) → AreCoreNumbers f g a → AreCoreNumbers f g b → a ≡ b
 
--- and at least one: levels from each of its vertices, labels, and core numbers
-pub record HasSomeTable (f : Filter) (g : Graph) : Type 0 where
-  pub levels : (source : ℕ) → source < length g.names → (levels : List (Option ℕ)) × AreLevels f g source levels
-  pub labels : (labels : List ℕ) × AreLabels f g labels
-  pub cores : (numbers : List ℕ) × AreCoreNumbers f g numbers
-
-abbrev pub HaveOneTable : Type 0
-HaveOneTable = (f : Filter) (g : Graph) → HasOneTable f g
-
-abbrev pub HaveSomeTable : Type 0
-HaveSomeTable = (f : Filter) (c : Content) → IsContent c → HasSomeTable f (graph_of c)
+-- and that of a content at least one: levels from each of its vertices, labels, and core numbers
+pub record HaveSomeTable : Type 0 where
+  pub levels : (f : Filter) (c : Content) → IsContent c → (source : ℕ) → source < length (graph_of c).names
+      → (levels : List (Option ℕ)) × AreLevels f (graph_of c) source levels
+  pub labels : (f : Filter) (c : Content) → IsContent c → (labels : List ℕ) × AreLabels f (graph_of c) labels
+  pub cores : (f : Filter) (c : Content) → IsContent c → (numbers : List ℕ) × AreCoreNumbers f (graph_of c) numbers

@@ -30,8 +30,7 @@ has_names (Expire time) = true
 abbrev pub has_weight : NamedOp → Bool
 has_weight (Insert kind source target weight time) = is_weight weight
 has_weight (Incr kind source target amount time) = is_weight amount
-has_weight (Remove kind source target) = true
-has_weight (Expire time) = true
+has_weight _ = true
 
 abbrev pub has_time : NamedOp → Bool
 has_time (Insert kind source target weight time) = is_time time

@@ -140,11 +140,10 @@ rest_none false rest none = omega arith
 -- where no lanes differ, the lists are equal, and the other way round
 same_lists : (xs ys : List ℕ) → length xs ≡ length ys → mask_l (zip2 differs xs ys) ≡ 0 → xs ≡ ys
 same_lists [] [] e none = refl
-same_lists [] (y ∷ ys) e none = absurd (omega arith)
-same_lists (x ∷ xs) [] e none = absurd (omega arith)
 same_lists (x ∷ xs) (y ∷ ys) e none =
     ap (λ zs. x ∷ zs) (same_lists xs ys (omega arith) (rest_none (differs x y) (mask_l (zip2 differs xs ys)) none))
     ∙ ap (λ z. z ∷ ys) (head_same x y (mask_l (zip2 differs xs ys)) (eqb x y) refl none)
+same_lists _ _ e none = absurd (omega arith)
 
 no_difference : (xs : List ℕ) → mask_l (zip2 differs xs xs) ≡ 0
 no_difference [] = refl

@@ -35,14 +35,13 @@ used_at mask xs used place h within = ap (λ ys. get_or ys place 0) h.part ∙ g
 selected_from_take : {X : Type 0} (mask place n : ℕ) (xs : List X)
     → ((k m : ℕ) → n ≤ k → k < length xs → place + k ≡ m → InMask mask m → ⊥) →
     selected_from mask place (take n xs) ≡ selected_from mask place xs
-selected_from_take mask place zero [] past = refl
 selected_from_take mask place zero (x ∷ xs) past =
     rw (ne_eqb (bit_at mask place) 1 (past 0 place (omega arith) (omega arith) (omega arith)))
     (selected_from_take mask (place + 1) zero xs (λ k m above within e. past (suc k) m (omega arith) (omega arith) (omega arith)))
-selected_from_take mask place (suc n) [] past = refl
 selected_from_take mask place (suc n) (x ∷ xs) past =
     same_after _ x _ _ (selected_from_take mask (place + 1) n xs
     (λ k m above within e. past (suc k) m (omega arith) (omega arith) (omega arith)))
+selected_from_take mask place _ _ past = refl
 
 pub selected_used : {X : Type 0} (mask : ℕ) (xs used : List X) → IsUsedPart mask xs used → selected mask used ≡ selected mask xs
 selected_used mask xs used h =

@@ -8,9 +8,8 @@ use Rattle.std.{proofs.Math.ListN.get_or-eq_default, specs.List.AllZip}
 use Rattle.list_pieces.specs.Pieces.{AreFull}
 
 default_only : {A : Type 0} (d : A) (m s : ℕ) → get_or (replicate m d) s d ≡ d
-default_only d zero s = refl
-default_only d (suc m) zero = refl
 default_only d (suc m) (suc s) = default_only d m s
+default_only d _ s = refl
 
 -- defaults past the end are not seen by look-up
 past_end : {A : Type 0} (xs : List A) (d : A) (m s : ℕ) → get_or (xs ++ replicate m d) s d ≡ get_or xs s d
@@ -87,11 +86,10 @@ module _ {X A : Type 0} (n : ℕ) (f : X → List A) where
 
   pub zipped_full : (xs ys : List X) → AllZip (λ x y. f y ≡ f x) xs ys → AreFull n f xs → AreFull n f ys
   zipped_full [] [] same are = are
-  zipped_full [] (y ∷ ys) same are = absurd same
-  zipped_full (x ∷ xs) [] same are = absurd same
   zipped_full (x ∷ xs) (y ∷ ys) same are =
       All-cons (λ x. length (f x) ≡ n) y ys (ap length same.0 ∙ All-head (λ x. length (f x) ≡ n) x xs are)
       (zipped_full xs ys same.1 (All-tail (λ x. length (f x) ≡ n) x xs are))
+  zipped_full _ _ same are = absurd same
 
   -- one more piece, of m times the default, is not seen by look-up
   pub blank_pushed : (xs : List X) (y : X) (d : A) (m s : ℕ) → f y ≡ replicate m d

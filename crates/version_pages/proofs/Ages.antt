@@ -1,7 +1,7 @@
 -- Rows by when their edges were last touched: earlier times, rows in pieces, and bounds of the times.
 use Rattle.std.proofs.{Common.{flat_map, map, refl, sym, ap, ap₂, ◌∙◌, arith, subst, All, ltb, replicate}, Common.{◌≡◌, ℕ, ◌+◌}}
 use Rattle.std.proofs.Common.{◌-◌, ◌*◌, ◌<◌, ◌≤◌, ◌||◌, Bool, true, false, List, [], ◌∷◌, length, get_or, take, set}
-use Rattle.std.proofs.lemmas.{Bool.{true≢false, le-ltb, ltb-true, ltb-false, or_from}, List.{take_more, Folds.list_any_none}}
+use Rattle.std.proofs.lemmas.{Bool.{le-ltb, ltb-true, ltb-false, or_from, or_parts}, List.{take_more, Folds.list_any_none}}
 use Rattle.std.proofs.lemmas.List.Elements.{All-nil, All-push, All-append, All-head, All-tail, All-weaker, All-set, All-replicate}
 use Rattle.std.{proofs.Math.{ListN.get_or-eq_default, Nat.mul-le-mul_right}, specs.List.list_any}
 use Rattle.graph_types.specs.Step.{is_before}
@@ -9,15 +9,11 @@ use Rattle.edge_block.specs.Slots.{BlockView, Slot, edges_in, has_before}
 use Rattle.list_pieces.{specs.Pieces.AreFull, proofs.Full.{long, at_piece}}
 use Rattle.version_pages.specs.{Ages.is_old_row, Ages.AreSince, Ages.AreYoung, Rows.row_of}
 
-neither : (a b : Bool) → (a || b) ≡ false → (a ≡ false) × (b ≡ false)
-neither true b e = absurd (true≢false e)
-neither false b e = (refl, e)
-
 any_fewer : {X : Type 0} (p q : X → Bool) → ((x : X) → q x ≡ false → p x ≡ false) → (xs : List X)
     → list_any q xs ≡ false → list_any p xs ≡ false
 any_fewer p q fewer [] none = refl
 any_fewer p q fewer (x ∷ xs) none =
-    let both = neither (q x) (list_any q xs) none in
+    let both = or_parts (q x) (list_any q xs) none in
     ap₂ (λ a b. a || b) (fewer x both.0) (any_fewer p q fewer xs both.1)
 
 -- what is not from before a time is from before no earlier one

@@ -6,20 +6,8 @@ pub eight : {A B : Type 0} (f : A → B) (xs : List A) (d0 d1 d2 d3 d4 d5 d6 d7 
     → r0 ≡ f (get_or xs 0 d0) → r1 ≡ f (get_or xs 1 d1) → r2 ≡ f (get_or xs 2 d2) → r3 ≡ f (get_or xs 3 d3)
     → r4 ≡ f (get_or xs 4 d4) → r5 ≡ f (get_or xs 5 d5) → r6 ≡ f (get_or xs 6 d6) → r7 ≡ f (get_or xs 7 d7)
     → r0 ∷ r1 ∷ r2 ∷ r3 ∷ r4 ∷ r5 ∷ r6 ∷ r7 ∷ [] ≡ map f xs
-eight f [] d0 d1 d2 d3 d4 d5 d6 d7 r0 r1 r2 r3 r4 r5 r6 r7 long e0 e1 e2 e3 e4 e5 e6 e7 = absurd (omega arith)
-eight f (a ∷ []) d0 d1 d2 d3 d4 d5 d6 d7 r0 r1 r2 r3 r4 r5 r6 r7 long e0 e1 e2 e3 e4 e5 e6 e7 = absurd (omega arith)
-eight f (a ∷ b ∷ []) d0 d1 d2 d3 d4 d5 d6 d7 r0 r1 r2 r3 r4 r5 r6 r7 long e0 e1 e2 e3 e4 e5 e6 e7 = absurd (omega arith)
-eight f (a ∷ b ∷ c ∷ []) d0 d1 d2 d3 d4 d5 d6 d7 r0 r1 r2 r3 r4 r5 r6 r7 long e0 e1 e2 e3 e4 e5 e6 e7 = absurd (omega arith)
-eight f (a ∷ b ∷ c ∷ d ∷ []) d0 d1 d2 d3 d4 d5 d6 d7 r0 r1 r2 r3 r4 r5 r6 r7 long e0 e1 e2 e3 e4 e5 e6 e7 = absurd (omega arith)
-eight f (a ∷ b ∷ c ∷ d ∷ e ∷ []) d0 d1 d2 d3 d4 d5 d6 d7 r0 r1 r2 r3 r4 r5 r6 r7 long e0 e1 e2 e3 e4 e5 e6 e7 =
-    absurd (omega arith)
-eight f (a ∷ b ∷ c ∷ d ∷ e ∷ g ∷ []) d0 d1 d2 d3 d4 d5 d6 d7 r0 r1 r2 r3 r4 r5 r6 r7 long e0 e1 e2 e3 e4 e5 e6 e7 =
-    absurd (omega arith)
-eight f (a ∷ b ∷ c ∷ d ∷ e ∷ g ∷ h ∷ []) d0 d1 d2 d3 d4 d5 d6 d7 r0 r1 r2 r3 r4 r5 r6 r7 long e0 e1 e2 e3 e4 e5 e6 e7 =
-    absurd (omega arith)
 eight f (a ∷ b ∷ c ∷ d ∷ e ∷ g ∷ h ∷ i ∷ []) d0 d1 d2 d3 d4 d5 d6 d7 r0 r1 r2 r3 r4 r5 r6 r7 long e0 e1 e2 e3 e4 e5 e6 e7 = cc
-eight f (a ∷ b ∷ c ∷ d ∷ e ∷ g ∷ h ∷ i ∷ j ∷ xs) d0 d1 d2 d3 d4 d5 d6 d7 r0 r1 r2 r3 r4 r5 r6 r7 long e0 e1 e2 e3 e4 e5 e6 e7 =
-    absurd (omega arith)
+eight f _ d0 d1 d2 d3 d4 d5 d6 d7 r0 r1 r2 r3 r4 r5 r6 r7 long e0 e1 e2 e3 e4 e5 e6 e7 = absurd (omega arith)
 
 -- eight elements that pass
 pub all_eight : {X : Type 0} (P : X → Type 0) (a b c d e g h i : X) → P a → P b → P c → P d → P e → P g → P h → P i

@@ -10,22 +10,19 @@ drop_past (x ∷ xs) zero none = cc
 drop_past (x ∷ xs) (suc i) none = drop_past xs i none
 
 pub drop_next : {X : Type 0} (xs : List X) (i : ℕ) (x : X) → slice_get xs i ≡ Some x → drop i xs ≡ x ∷ drop (i + 1) xs
-drop_next [] zero x at = cc
-drop_next [] (suc i) x at = cc
 drop_next (y ∷ xs) zero x at = let same : y ≡ x = cc in ap (λ z. z ∷ xs) same
 drop_next (y ∷ xs) (suc i) x at =
     let further : suc (i + 1) ≡ suc i + 1 = omega arith in
     drop_next xs i x at ∙ ap (λ n. x ∷ drop n (y ∷ xs)) further
+drop_next _ _ x at = cc
 
 last_some : {X : Type 0} (xs : List X) (i : ℕ) → suc i ≡ length xs → (x : X)
     × ((slice_get xs i ≡ Some x) × ((others : List X) × (xs ≡ others ++ x ∷ [])))
-last_some [] i last = absurd (omega arith)
 last_some (x ∷ []) zero last = (x, (refl, ([], refl)))
-last_some (x ∷ y ∷ xs) zero last = absurd (omega arith)
-last_some (x ∷ []) (suc i) last = absurd (omega arith)
 last_some (x ∷ y ∷ xs) (suc i) last =
     let rest = last_some (y ∷ xs) i (omega arith) in
     (rest.0, (rest.1.0, (x ∷ rest.1.1.0, ap (λ l. x ∷ l) rest.1.1.1)))
+last_some _ i last = absurd (omega arith)
 
 -- what a look at the last place finds: the last element, behind the others
 pub last_of : {X : Type 0} (xs : List X) (i : ℕ) (result : Option X) → result ≡ slice_get xs i → suc i ≡ length xs

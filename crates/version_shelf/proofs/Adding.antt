@@ -113,5 +113,3 @@ adds_moves v e old cs log kept pre away =
     let all = all_added cs log kept (length v) (prefix_length v log pre) (away refl) in
     let is : cs ≡ cells_of (length log) (suc all.1.0) = kept.words ∙ ap (cells_of (length log)) all.1.1 in
     subst P (sym is) (omega arith, refl, adds_goes log v e old all.1.0 pre all.0)
-
--- Nothing is added.

@@ -18,12 +18,11 @@ length_rights (suc used) left = let rest = length_rights used left in omega arit
 -- a right that is left stands behind all that were used up, and where no right before it is left it is the first
 pub first_left : (used left place : ℕ) → place ≤ used → place < used + left → (cell (rights used left) place).1 ≡ false
     → (used ≡ place) × ((rest : ℕ) × (left ≡ suc rest))
-first_left zero zero zero low high is = absurd (omega arith)
 first_left zero (suc left) zero low high is = (refl, (left, refl))
-first_left zero left (suc place) low high is = absurd (omega arith)
 first_left (suc used) left zero low high is = absurd (true≢false is)
 first_left (suc used) left (suc place) low high is =
     let rest = first_left used left place (omega arith) (omega arith) is in (ap suc rest.0, rest.1)
+first_left _ left _ low high is = absurd (omega arith)
 
 -- the first that is left is used up
 pub use_up : (used left : ℕ) → set (rights used (suc left)) used used_up ≡ rights (suc used) left

@@ -1,7 +1,7 @@
 -- The steps of the shelf keep its rule.
 use Rattle.graph_types.specs.declared.batches.NamedOp.{NamedOp}
 use Rattle.std.proofs.Common.{◌≡◌, ℕ, ◌≢◌, ◌⊎◌, Bool, true, false, MatchBool, List, [], ◌∷◌, ◌++◌, set, refl, sym, ap, subst, ◌∙◌}
-use Rattle.std.{proofs.Common.{⊎_elim, Option, Some, None, IfSome, IfOk, Result, Ok, Err}, specs.Result.result_ok}
+use Rattle.std.{proofs.{Common.{⊎_elim, Option, Some, None, IfSome, IfOk, Result, Ok, Err}, lemmas.Option.same_Some}, specs.Result.result_ok}
 use mathlib.Core.Option.{some}
 use mathlib.Core.List.{IsPrefix}
 use lib.ListN.{get_elem?}
@@ -9,9 +9,6 @@ use Rattle.left_right.specs.Register.{Admits, TurnsAt, Forks, Merges}
 use Rattle.atomic_table.proofs.Lists.{at_set, at_snoc, set_again}
 use Rattle.version_shelf.specs.{Histories.HistoryView, Shelves.{ToldView, Begins, IsOfOneShelf, IsShowing, Keeps, Sees}}
 use Rattle.version_shelf.proofs.Beginnings.{prefix_self, prefix_trans, same_last}
-
-some_same : (x u : ToldView) → Some x ≡ Some u → x ≡ u
-some_same x u e = cc e
 
 none_not : {P : Type 0} (u : ToldView) → None ≡ Some u → P
 none_not u e = absurd (cc e)
@@ -37,7 +34,7 @@ admits x views h place u at = ⊎_elim (h place u) (λ (e : None ≡ Some u). no
 pub turns : (place : ℕ) (v : Option ToldView) (x y : ToldView) → Begins x y → TurnsAt Keeps place v x y Sees
 turns place v x y up views h at = (
   Some y,
-  (λ j u e. ⊎_elim (λ (t : (j ≡ place) × (Some y ≡ Some u)). subst (λ z. Begins z y) (some_same y u t.1) (begins_self y))
+  (λ j u e. ⊎_elim (λ (t : (j ≡ place) × (Some y ≡ Some u)). subst (λ z. Begins z y) (same_Some y u t.1) (begins_self y))
       (λ (t : (j ≢ place) × (get_elem? views j ≡ some (Some u))). begins_trans u x y (h j u t.1) up)
       (at_set views place j (Some y) (Some u) e)),
   ((λ u e. h place u (at ∙ ap some e)), refl),

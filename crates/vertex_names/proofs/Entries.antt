@@ -1,10 +1,10 @@
 -- What stands at a hash among pairs whose hashes rise, and what an edit of the pairs does to it.
-use Rattle.std.proofs.Common.{◌≡◌, ◌≢◌, ℕ, zero, suc, ◌+◌, ◌<◌, ◌≤◌, List, [], ◌∷◌, length, get_or, set, take, drop}
+use Rattle.std.proofs.Common.{◌≡◌, ◌≢◌, ℕ, zero, suc, ◌+◌, ◌<◌, ◌≤◌, List, [], ◌∷◌, length, get_or, set, map, take, drop}
 use Rattle.std.proofs.{Common.{if◌then◌else◌, ◌-◌, Some, None, refl, sym, ap, ◌∙◌, arith, nat_eq, inl, inr}, lemmas.Bool.cases_lt}
 use Rattle.std.proofs.lemmas.{Bool.Decides.nat_tests, List.{length-map, get_or-map, get_or-take, get_or-drop, length-take}}
 use Rattle.std.{proofs.{lemmas.List.length-drop, Math.Seq.map-set_same}, specs.{List.insert, Map.lookup}}
-use Rattle.vertex_names.specs.Order.{firsts, IsRising, IsFoundAt, IsGap, last_place}
-use Rattle.vertex_names.proofs.Places.{rising-tail, rising_gap, above_place, up_to_place}
+use Rattle.vertex_names.specs.Order.{Bounds, firsts, IsRising, IsFoundAt, IsGap, last_place}
+use Rattle.vertex_names.proofs.Places.{rising-tail, rising_gap, above_place, up_to_place, place_up, place_down}
 
 abbrev pub Pairs : Type 0
 Pairs = List (ℕ × ℕ)
@@ -49,20 +49,21 @@ lookup-insert [] h v (suc i) none q = grind (arith, nat_tests)
 lookup-insert (x ∷ es) h v (suc i) none q =
     grind (arith, nat_tests, none 0 (omega arith), lookup-insert es h v i (tail-none x es h i none) q)
 
+pub map-insert : {X Y : Type 0} (f : X → Y) (xs : List X) (i : ℕ) (x : X) → map f (insert xs i x) ≡ insert (map f xs) i (f x)
+map-insert f xs zero x = refl
+map-insert f [] (suc i) x = refl
+map-insert f (y ∷ xs) (suc i) x = ap (λ l. f y ∷ l) (map-insert f xs i x)
+
 pub firsts-insert : {X : Type 0} (es : List (ℕ × X)) (i : ℕ) (x : ℕ × X) → firsts (insert es i x) ≡ insert (firsts es) i x.0
-firsts-insert es zero x = refl
-firsts-insert [] (suc i) x = refl
-firsts-insert (e ∷ es) (suc i) x = ap (λ l. e.0 ∷ l) (firsts-insert es i x)
+firsts-insert es i x = map-insert (λ e. e.0) es i x
 
 pub firsts-take : {X : Type 0} (n : ℕ) (es : List (ℕ × X)) → firsts (take n es) ≡ take n (firsts es)
-firsts-take zero es = refl
-firsts-take (suc n) [] = refl
 firsts-take (suc n) (e ∷ es) = ap (λ l. e.0 ∷ l) (firsts-take n es)
+firsts-take _ es = refl
 
 pub firsts-drop : {X : Type 0} (n : ℕ) (es : List (ℕ × X)) → firsts (drop n es) ≡ drop n (firsts es)
-firsts-drop zero es = refl
-firsts-drop (suc n) [] = refl
 firsts-drop (suc n) (e ∷ es) = firsts-drop n es
+firsts-drop _ es = refl
 
 rising_take : (ns : List ℕ) (n : ℕ) → IsRising ns → IsRising (take n ns)
 rising_take ns n rising i j lt in_range =
@@ -119,17 +120,29 @@ pub first_read : {X : Type 0} (xs : List (ℕ × X)) (i : ℕ) (x : ℕ × X) �
 first_read {X} xs i x lt is =
     get_or-map (λ (p : ℕ × X). p.0) xs i x 0 lt ∙ ap (λ (p : ℕ × X). p.0) (sym is)
 
-pub take_whole : (es : Pairs) (n : ℕ) → n ≡ length es → take n es ≡ es
-take_whole [] zero is = refl
-take_whole [] (suc n) is = absurd (omega (arith, is))
-take_whole (e ∷ es) zero is = absurd (omega (arith, is))
-take_whole (e ∷ es) (suc n) is = ap (λ l. e ∷ l) (take_whole es n (omega (arith, is)))
-
-pub take_rest : (es : Pairs) (n : ℕ) → take (length es - n) (drop n es) ≡ drop n es
-take_rest es n = let long = length-drop n es in take_whole (drop n es) (length es - n) (omega (arith, long))
-
 pub first_at : {X : Type 0} (xs : List (ℕ × X)) (i : ℕ) (x : ℕ × X) → i < length xs → get_or (firsts xs) i 0 ≡ (get_or xs i x).0
 first_at {X} xs i x lt = get_or-map (λ (p : ℕ × X). p.0) xs i x 0 lt
+
+-- bounds of a hash's place are narrowed by a pair between them
+module _ {X : Type 0} (pairs : List (ℕ × X)) (q low high m : ℕ) (x : ℕ × X) (bounds : Bounds (firsts pairs) q low high)
+    (within : high ≤ length pairs) (less : m < high) where
+  pub bounds-up : IsRising (firsts pairs) → (get_or pairs m x).0 ≤ q → Bounds (firsts pairs) q m high
+  bounds-up rising le =
+      let long = firsts_long pairs in
+      let read = first_at pairs m x (omega arith) in
+      record { from = place_up (firsts pairs) q m rising (omega arith) (omega arith); before = bounds.before; order = omega arith }
+
+  pub bounds-down : low < m → q < (get_or pairs m x).0 → Bounds (firsts pairs) q low m
+  bounds-down more above =
+      let long = firsts_long pairs in
+      let read = first_at pairs m x (omega arith) in
+      let is : suc (m - 1) ≡ m = omega arith in
+      let there = ap (λ k. get_or (firsts pairs) k 0) is in
+      record {
+        from = bounds.from;
+        before = place_down (firsts pairs) q (m - 1) (omega arith) (omega arith);
+        order = omega arith;
+      }
 
 -- where the search of a hash ends
 module _ (es : Pairs) (rising : IsRising (firsts es)) (q i : ℕ) where

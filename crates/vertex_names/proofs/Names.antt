@@ -4,7 +4,7 @@ use Rattle.std.proofs.Common.{◌++◌, length, get_or, IsTrue, Option, Some, No
 use Rattle.std.proofs.{Common.true≢false, Common.if◌then◌else◌, Common.All, Common.AllPairs, Math.Seq.get_or-append_seam}
 use Rattle.std.proofs.lemmas.{Bool.false_from_ne_true, Bool.Decides.eqb_tells, Slice.Eq.bytes_eq-Decides}
 use Rattle.std.proofs.lemmas.List.{Folds.list_any_at, Elements.All-push, Quantifiers.all_pairs_push, get_or_append_left}
-use Rattle.std.proofs.lemmas.Option.{slice_get_within, get_or_from_slice_get}
+use Rattle.std.proofs.lemmas.Option.{same_Some, none-some, slice_get_within, get_or_from_slice_get}
 use Rattle.std.specs.{Option.SomeIff, Option.IfSome, Option.IfNone, Option.is_some, List.slice_get, Str.bytes_eq}
 use Rattle.graph_types.specs.{Step.number_of, Answer.is_listed, Valid.is_name}
 use Rattle.vertex_names.specs.{Index.text_hash, Index.found_at, Index.Stands, Index.IsIndexed, Book.Book, Book.IsBook}
@@ -76,18 +76,12 @@ stands names parts others name indexed listed =
     (get_or_from_slice_get names (number_of names name) name [] there)
     (indexed (number_of names name) (slice_get_within names (number_of names name) name there))
 
-None≢Some : {X : Type 0} (x : X) → ¬ (None ≡ Some x)
-None≢Some x same = true≢false (sym (ap (λ o. is_some o) same))
-
-Some-same : {X : Type 0} (x y : X) → Some x ≡ Some y → x ≡ y
-Some-same x y same = cc
-
 -- where nothing stands at a name's hash, it is not listed
 pub none_listed : (names : List (List ℕ)) (parts : List (List (ℕ × List (ℕ × ℕ)))) (others : List ℕ) (name : List ℕ)
     → IsIndexed names parts others → found_at parts (text_hash name) ≡ None → ¬ IsTrue (is_listed names name)
 none_listed names parts others name indexed none listed =
     elim (stands names parts others name indexed listed) [
-      | inl at ↦ None≢Some (number_of names name) (sym none ∙ at)
+      | inl at ↦ none-some (number_of names name) (sym none ∙ at)
       | inr among ↦ among.0 none
     ]
 
@@ -98,7 +92,7 @@ pub not_among : (names : List (List ℕ)) (parts : List (List (ℕ × List (ℕ 
 not_among names parts others name first indexed found other none listed =
     elim (stands names parts others name indexed listed) [
       | inl at ↦
-          let same : first ≡ number_of names name = Some-same _ _ (sym found ∙ at) in
+          let same : first ≡ number_of names name = same_Some _ _ (sym found ∙ at) in
           other (ap (λ n. slice_get names n) same ∙ at_number names name listed)
       | inr among ↦
           none among.1.0 (number_of names name) among.1.1.0

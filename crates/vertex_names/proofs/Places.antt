@@ -16,18 +16,15 @@ place-no x y ns n is = ap (λ b. if b then suc (last_place (y ∷ ns) n) else 0)
 
 -- the place is there, where one is
 pub place_within : (ns : List ℕ) (n : ℕ) → last_place ns n ≤ length ns - 1
-place_within [] n = omega arith
-place_within (x ∷ []) n = omega arith
 place_within (x ∷ y ∷ ns) n = elim (leb_tells y n) [
   | inl low ↦ let e = place-yes x y ns n low.0 in let l = place_within (y ∷ ns) n in omega (arith, e, l)
   | inr high ↦ let e = place-no x y ns n high.0 in omega (arith, e)
 ]
+place_within _ n = omega arith
 
 -- it isn't before a number that isn't above n
 pub place_up : (ns : List ℕ) (n m : ℕ) → IsRising ns → m < length ns → get_or ns m 0 ≤ n → m ≤ last_place ns n
 place_up ns n zero rising lt le = omega arith
-place_up [] n (suc m) rising lt le = absurd (omega arith)
-place_up (x ∷ []) n (suc m) rising lt le = absurd (omega arith)
 place_up (x ∷ y ∷ ns) n (suc zero) rising lt le = elim (leb_tells y n) [
   | inl low ↦ let e = place-yes x y ns n low.0 in omega (arith, e)
   | inr high ↦ let above : n < y = high.1 in absurd (omega (arith, above))
@@ -41,6 +38,7 @@ place_up (x ∷ y ∷ ns) n (suc (suc m)) rising lt le = elim (leb_tells y n) [
       let up : y < get_or (x ∷ y ∷ ns) (suc (suc m)) 0 = rising 1 (suc (suc m)) (omega arith) lt in
       absurd (omega (arith, above, up, le))
 ]
+place_up ns n _ rising lt le = absurd (omega arith)
 
 -- it is before each number above n but the first
 pub place_down : (ns : List ℕ) (n m : ℕ) → suc m < length ns → n < get_or ns (suc m) 0 → last_place ns n ≤ m
@@ -57,24 +55,10 @@ place_down (x ∷ y ∷ ns) n (suc m) lt above = elim (leb_tells y n) [
   | inr high ↦ let e = place-no x y ns n high.0 in omega (arith, e)
 ]
 
--- a number between bounds of the place narrows them
+-- bounds of the place, at first
 pub bounds-all : (ns : List ℕ) (n high : ℕ) → high ≡ length ns → Bounds ns n 0 high
 bounds-all ns n high is =
     let w = place_within ns n in record { from = omega arith; before = omega (arith, w, is); order = omega arith }
-
-pub bounds-up : (ns : List ℕ) (n low high m : ℕ) → IsRising ns → Bounds ns n low high → high ≤ length ns → m < high
-    → get_or ns m 0 ≤ n → Bounds ns n m high
-bounds-up ns n low high m rising bounds within less le =
-    let up = place_up ns n m rising (omega (arith, within, less)) le in
-    record { from = up; before = bounds.before; order = omega (arith, less) }
-
-pub bounds-down : (ns : List ℕ) (n low high m : ℕ) → Bounds ns n low high → high ≤ length ns → low < m → m < high
-    → n < get_or ns m 0 → Bounds ns n low m
-bounds-down ns n low high m bounds within more less above =
-    let is : suc (m - 1) ≡ m = omega (arith, more) in
-    let there = ap (λ k. get_or ns k 0) is in
-    let down = place_down ns n (m - 1) (omega (arith, is, within, less)) (omega (arith, there, above)) in
-    record { from = bounds.from; before = down; order = omega (arith, more) }
 
 -- numbers behind the place are above n
 pub above_place : (ns : List ℕ) (n m : ℕ) → IsRising ns → m < length ns → last_place ns n < m → n < get_or ns m 0

@@ -1,13 +1,13 @@
 -- Pieces of a part: what a changed piece leaves, and what a split does.
-use Rattle.std.proofs.Common.{◌≡◌, ◌≢◌, ℕ, zero, suc, ◌+◌, ◌<◌, ◌≤◌, List, [], ◌∷◌, length, get_or, set, map, if◌then◌else◌}
-use Rattle.std.proofs.Common.{Some, refl, sym, ap, ◌∙◌, arith, nat_eq, subst, inl, inr, false}
-use Rattle.std.proofs.{lemmas.Bool.cases_lt, lemmas.Bool.ne_eqb, lemmas.Bool.Decides.eqb_tells, Math.Seq.map-set_same}
+use Rattle.std.proofs.Common.{◌≡◌, ◌≢◌, ℕ, zero, suc, ◌+◌, ◌<◌, ◌≤◌, List, [], ◌∷◌, length, get_or, set, map, Option}
+use Rattle.std.proofs.Common.{refl, sym, ap, ◌∙◌, arith, nat_eq, subst, inl, inr}
+use Rattle.std.proofs.{lemmas.Bool.cases_lt, lemmas.Bool.Decides.eqb_tells, Math.Seq.map-set_same}
 use Rattle.std.proofs.lemmas.List.{length-map, get_or-map, map-set, get_or-set_same, get_or-set_other, get_or_default}
 use Rattle.std.proofs.lemmas.List.Edits.{length-insert, get_or-insert_below, get_or-insert_at, get_or-insert_above}
 use Rattle.std.specs.{List.insert, List.AllZip, Map.lookup, declared.sync.Arc.Arc, declared.alloc.Global.Global}
 use Rattle.vertex_names.specs.{declared.piece.Piece.Piece, Order.{firsts, IsRising, last_place, found_in}, Pieces.entries_of}
 use Rattle.vertex_names.{specs.Pieces.pieces_of, proofs.Places.{rising-insert, place-before, place-lower, place-upper}}
-use Rattle.vertex_names.proofs.{Places.place-behind, Entries.{Pairs, firsts-insert, first_read}}
+use Rattle.vertex_names.proofs.{Places.place-behind, Entries.{Pairs, firsts-insert, first_read, map-insert}}
 
 abbrev pub Spans : Type 0
 Spans = List (ℕ × Pairs)
@@ -40,22 +40,13 @@ module _ (vs : Spans) (p : ℕ) (y : Pairs) (lt : p < length vs) where
       found_by changed q (last_place (firsts vs) q) (ap (λ ns. last_place ns q) same_lows)
       ∙ ap (λ (v : ℕ × Pairs). lookup (nat_eq q) v.1) (get_or-set_other vs p (last_place (firsts vs) q) (low, y) (0, []) other)
 
-  pub piece_put : (h v : ℕ) → last_place (firsts vs) h ≡ p
-      → ((q : ℕ) → lookup (nat_eq q) y ≡ (if nat_eq h q then Some v else lookup (nat_eq q) old))
-      → (q : ℕ) → found_in changed q ≡ (if nat_eq h q then Some v else found_in vs q)
-  piece_put h v at put q = elim (eqb_tells (last_place (firsts vs) q) p) [
-    | inl is ↦
-        changed_here q is.1 ∙ put q
-        ∙ ap (λ r. if nat_eq h q then Some v else r) (sym (found_by vs q p is.1))
-    | inr other ↦
-        let apart : nat_eq h q ≡ false = ne_eqb h q (λ same. other.1 (ap (λ n. last_place (firsts vs) n) (sym same) ∙ at)) in
-        changed_there q other.1 ∙ ap (λ b. if b then Some v else found_in vs q) (sym apart)
-  ]
-
-  pub piece_same : y ≡ old → (q : ℕ) → found_in changed q ≡ found_in vs q
-  piece_same same q = elim (eqb_tells (last_place (firsts vs) q) p) [
-    | inl is ↦ changed_here q is.1 ∙ ap (λ es. lookup (nat_eq q) es) same ∙ sym (found_by vs q p is.1)
-    | inr other ↦ changed_there q other.1
+  pub piece_changed : (change : ℕ → Option ℕ → Option ℕ)
+      → ((q : ℕ) → lookup (nat_eq q) y ≡ change q (lookup (nat_eq q) old))
+      → ((q : ℕ) (o : Option ℕ) → last_place (firsts vs) q ≢ p → change q o ≡ o)
+      → (q : ℕ) → found_in changed q ≡ change q (found_in vs q)
+  piece_changed change here elsewhere q = elim (eqb_tells (last_place (firsts vs) q) p) [
+    | inl is ↦ changed_here q is.1 ∙ here q ∙ ap (change q) (sym (found_by vs q p is.1))
+    | inr other ↦ changed_there q other.1 ∙ sym (elsewhere q (found_in vs q) other.1)
   ]
 
 -- a piece that was split where its hashes pass a number
@@ -78,11 +69,11 @@ module _ (vs : Spans) (p m : ℕ) (lower upper : Pairs) (rising : IsRising (firs
   here : get_or more p (0, []) ≡ get_or vs p (0, [])
   here = get_or-insert_below vs (suc p) (m, upper) (0, []) p (omega arith) (omega (arith, lt))
 
-  pub split_lows : firsts split ≡ insert (firsts vs) (suc p) m
+  split_lows : firsts split ≡ insert (firsts vs) (suc p) m
   split_lows = map-set_same (λ (v : ℕ × Pairs). v.0) more p ((get_or vs p (0, [])).0, lower) (0, [])
       (ap (λ (v : ℕ × Pairs). v.0) (sym here)) ∙ firsts-insert vs (suc p) (m, upper)
 
-  pub split_rising : IsRising (firsts split)
+  split_rising : IsRising (firsts split)
   split_rising = rw split_lows (rising-insert (firsts vs) p m rising within over is)
 
   at : (q k : ℕ) → last_place (insert (firsts vs) (suc p) m) q ≡ k
@@ -95,7 +86,7 @@ module _ (vs : Spans) (p m : ℕ) (lower upper : Pairs) (rising : IsRising (firs
   from : (q : ℕ) (a b : ℕ × Pairs) → a ≡ b → lookup (nat_eq q) a.1 ≡ lookup (nat_eq q) b.1
   from q a b same = ap (λ (v : ℕ × Pairs). lookup (nat_eq q) v.1) same
 
-  pub split_same : (q : ℕ) → found_in split q ≡ found_in vs q
+  split_same : (q : ℕ) → found_in split q ≡ found_in vs q
   split_same q =
       let k = last_place (firsts vs) q in
       elim (cases_lt k p) [
@@ -125,17 +116,19 @@ module _ (vs : Spans) (p m : ℕ) (lower upper : Pairs) (rising : IsRising (firs
         ]
       ]
 
+  pub split_here : IsRising (firsts split) × ((q : ℕ) → found_in split q ≡ found_in vs q)
+  split_here = (split_rising, split_same)
+
 -- copies of pieces
 pub spans_same : (xs ys : List (ℕ × Arc Piece Global)) → AllZip (λ x y. (y.0 ≡ x.0) × (entries_of y.1 ≡ entries_of x.1)) xs ys
     → pieces_of ys ≡ pieces_of xs
 spans_same [] [] same = refl
-spans_same [] (y ∷ ys) same = absurd same
-spans_same (x ∷ xs) [] same = absurd same
 spans_same (x ∷ xs) (y ∷ ys) same =
     let tail : pieces_of ys ≡ pieces_of xs = spans_same xs ys same.1 in
     let one : y.0 ≡ x.0 = same.0.0 in let two : entries_of y.1 ≡ entries_of x.1 = same.0.1 in
     ap (λ n. (n, entries_of y.1) ∷ pieces_of ys) one ∙ ap (λ es. (x.0, es) ∷ pieces_of ys) two
     ∙ ap (λ l. (x.0, entries_of x.1) ∷ l) tail
+spans_same _ _ same = absurd same
 
 -- pieces as they are shown
 pub shown_lows : (ps : List (ℕ × Arc Piece Global)) → firsts (pieces_of ps) ≡ firsts ps
@@ -144,11 +137,6 @@ shown_lows (p ∷ ps) = ap (λ l. p.0 ∷ l) (shown_lows ps)
 
 pub lows_same : (xs ys : List (ℕ × Arc Piece Global)) → pieces_of ys ≡ pieces_of xs → firsts ys ≡ firsts xs
 lows_same xs ys same = sym (shown_lows ys) ∙ ap (λ (l : Spans). firsts l) same ∙ shown_lows xs
-
-pub map-insert : {X Y : Type 0} (f : X → Y) (xs : List X) (i : ℕ) (x : X) → map f (insert xs i x) ≡ insert (map f xs) i (f x)
-map-insert f xs zero x = refl
-map-insert f [] (suc i) x = refl
-map-insert f (y ∷ xs) (suc i) x = ap (λ l. f y ∷ l) (map-insert f xs i x)
 
 abbrev shown : ℕ × Arc Piece Global → ℕ × Pairs
 shown p = (p.0, entries_of p.1)
@@ -178,20 +166,15 @@ module _ (ps : List (ℕ × Arc Piece Global)) (p : ℕ) (x : ℕ × Arc Piece G
   pub set_lows : firsts (set ps p (x.0, b)) ≡ firsts ps
   set_lows = map-set_same (λ (v : ℕ × Arc Piece Global). v.0) ps p (x.0, b) x (ap (λ (v : ℕ × Arc Piece Global). v.0) is)
 
-  pub set_put : (h v : ℕ) → last_place (firsts ps) h ≡ p
-      → ((q : ℕ) → lookup (nat_eq q) (entries_of b) ≡ (if nat_eq h q then Some v else lookup (nat_eq q) (entries_of x.1)))
-      → (q : ℕ) → found_in (pieces_of (set ps p (x.0, b))) q ≡ (if nat_eq h q then Some v else found_in (pieces_of ps) q)
-  set_put h v at put q =
+  pub set_changed : (change : ℕ → Option ℕ → Option ℕ)
+      → ((q : ℕ) → lookup (nat_eq q) (entries_of b) ≡ change q (lookup (nat_eq q) (entries_of x.1)))
+      → ((q : ℕ) (o : Option ℕ) → last_place (firsts ps) q ≢ p → change q o ≡ o)
+      → (q : ℕ) → found_in (pieces_of (set ps p (x.0, b))) q ≡ change q (found_in (pieces_of ps) q)
+  set_changed change here elsewhere q =
       ap (λ (vs : Spans). found_in vs q) set_shown
-      ∙ piece_put (pieces_of ps) p (entries_of b) long_shown h v (ap (λ ns. last_place ns h) (shown_lows ps) ∙ at)
-      (λ r. put r
-      ∙ ap (λ (s : ℕ × Pairs). if nat_eq h r then Some v else lookup (nat_eq r) s.1) (sym (read_shown ps p x lt is))) q
-
-  pub set_kept : entries_of b ≡ entries_of x.1 → (q : ℕ) → found_in (pieces_of (set ps p (x.0, b))) q ≡ found_in (pieces_of ps) q
-  set_kept same q =
-      ap (λ (vs : Spans). found_in vs q) set_shown
-      ∙ piece_same (pieces_of ps) p (entries_of b) long_shown
-      (same ∙ ap (λ (s : ℕ × Pairs). s.1) (sym (read_shown ps p x lt is))) q
+      ∙ piece_changed (pieces_of ps) p (entries_of b) long_shown change
+      (λ r. here r ∙ ap (λ (s : ℕ × Pairs). change r (lookup (nat_eq r) s.1)) (sym (read_shown ps p x lt is)))
+      (λ r o other. elsewhere r o (λ at. other (ap (λ ns. last_place ns r) (shown_lows ps) ∙ at))) q
 
 -- two pieces in the place of one
 module _ (ps : List (ℕ × Arc Piece Global)) (p m : ℕ) (h x : ℕ × Arc Piece Global) (lower upper : Arc Piece Global)
@@ -242,17 +225,10 @@ module _ (ps : List (ℕ × Arc Piece Global)) (p m : ℕ) (h x : ℕ × Arc Pie
       ∙ ap (λ (k : ℕ). insert (pieces_of ps) k (m, entries_of upper)) next)
       ∙ ap (λ (n : ℕ). set (insert (pieces_of ps) (suc p) (m, entries_of upper)) p (n, entries_of lower)) x_low
 
-  pub two_rising : IsRising (firsts two)
-  two_rising =
-      let r = split_rising (pieces_of ps) p m (entries_of lower) (entries_of upper) rising_shown within_shown over_shown is_shown
-      left_shown right_shown in
-      let e : firsts two ≡ firsts (set (insert (pieces_of ps) (suc p) (m, entries_of upper)) p
-      ((get_or (pieces_of ps) p (0, [])).0, entries_of lower)) =
-      sym (shown_lows two) ∙ ap (λ (vs : Spans). firsts vs) two_shown in
-      rw e r
-
-  pub two_same : (q : ℕ) → found_in (pieces_of two) q ≡ found_in (pieces_of ps) q
-  two_same q =
-      ap (λ (vs : Spans). found_in vs q) two_shown
-      ∙ split_same (pieces_of ps) p m (entries_of lower) (entries_of upper) rising_shown within_shown over_shown is_shown
-      left_shown right_shown q
+  pub split_in_two : IsRising (firsts two) × ((q : ℕ) → found_in (pieces_of two) q ≡ found_in (pieces_of ps) q)
+  split_in_two =
+      let (rises, same) = split_here (pieces_of ps) p m (entries_of lower) (entries_of upper) rising_shown within_shown over_shown
+      is_shown left_shown right_shown in (
+        rw (sym (shown_lows two) ∙ ap (λ (vs : Spans). firsts vs) two_shown) rises,
+        λ q. ap (λ (vs : Spans). found_in vs q) two_shown ∙ same q,
+      )

@@ -11,9 +11,8 @@ IsRising ns = (i j : ℕ) → i < j → j < length ns → get_or ns i 0 < get_or
 
 -- the place of the last number that isn't above n; the first place also where all are
 abbrev pub last_place : List ℕ → ℕ → ℕ
-last_place [] n = 0
-last_place (x ∷ []) n = 0
 last_place (x ∷ y ∷ rest) n = if leb y n then suc (last_place (y ∷ rest) n) else 0
+last_place _ n = 0
 
 -- bounds of that place: it is at the first or behind it, and before the second, where there is any
 pub record Bounds (ns : List ℕ) (n low high : ℕ) : Type 0 where

@@ -1,48 +1,36 @@
-use Rattle.std.proofs.{Common.{◌≡◌, ◌∙◌, ◌∷◌, ◌/◌, ◌%◌, [], ap, inl, inr, length, rules, arith}, lemmas.Result.IfErr-at_err}
+use Rattle.std.proofs.{Common.{◌≡◌, ◌∙◌, ◌/◌, ap, inl, inr, rules, arith}, lemmas.Result.IfErr-at_err}
 use Rattle.std.specs.{Result.IsOk, declared.sync.Arc.Arc, declared.alloc.Global.Global}
 use Rattle.vertex_names.specs.{Texts.names_in, declared.texts.Chunk.Chunk}
-use Rattle.list_pieces.proofs.{Pieces.last_place, Pieces.push_piece, Pieces.pushed_last, Pieces.same_last, Shown.always-OnErr}
+use Rattle.list_pieces.proofs.{Pieces.{begun_piece, last_there, same_last, pushed_last}, Shown.always-OnErr}
 use Rattle.vertex_names.proofs.texts.add_text.Goals as goal
 
 pub returns-then-len-eq0-clause-chunks : goal.returns-then-len-eq0-clause-chunks
 returns-then-len-eq0-clause-chunks c =
-    let chunk : names_in c.in_ok-chunk.chunk ≡ c.args.name ∷ [] = c.in_ok-chunk.ensures.ok ∙ c.in_ok-of.ensures in
-    let one : length (names_in c.in_ok-chunk.chunk) ≡ 1 = ap length chunk in
     rw c.in_ok-push.ensures.items
-    (push_piece 256 names_in c.args.chunks.now.items (c.args.len / 256) c.in_ok-chunk.chunk c.requires.chunks
-    (omega (arith, c.requires.len, c.if-len-eq0.true)) (omega arith) (omega arith))
+    (begun_piece 256 names_in c.args.chunks.now.items c.args.len (c.args.len / 256) c.in_ok-chunk.chunk c.args.name c.requires.chunks
+    c.requires.len (omega (arith, c.if-len-eq0.true)) (omega arith) (c.in_ok-chunk.ensures.ok ∙ c.in_ok-of.ensures))
 
 pub index_mut-requires : goal.index_mut-requires
 index_mut-requires c =
-    let last = last_place 256 names_in c.args.chunks.now.items (c.args.len / 256) (c.args.len % 256) c.requires.chunks
-    (omega (arith, c.requires.len)) (omega (arith, c.if-len-eq0.false)) (omega arith) in omega arith
+    let last = last_there 256 names_in c.args.chunks.now.items c.args.len c.requires.chunks c.requires.len (omega arith)
+    (omega (arith, c.if-len-eq0.false)) in omega arith
 
-pub returns-in_err-chunks-clause-unchanged : goal.returns-in_err-chunks-clause-unchanged
-returns-in_err-chunks-clause-unchanged c =
+pub returns-in_err-chunks : goal.returns-in_err-chunks
+returns-in_err-chunks c =
     let kept : names_in c.make_mut.follows.lender-at-none ≡ names_in c.index_mut.result.now =
     elim (IfErr-at_err _ c.in_err-chunks.was c.make_mut.follows.holds-at-none) [ inl e ↦ e | inr e ↦ e ] in
-    let last = same_last 256 names_in c.args.chunks.now.items (c.args.len / 256) (c.args.len % 256) c.make_mut.follows.lender-at-none
-    c.index_mut.result.now c.requires.chunks (omega (arith, c.requires.len)) (omega (arith, c.if-len-eq0.false)) (omega arith)
+    let last = same_last 256 names_in c.args.chunks.now.items c.args.len c.requires.chunks c.requires.len (omega arith)
+    (omega (arith, c.if-len-eq0.false)) c.make_mut.follows.lender-at-none c.index_mut.result.now
     (kept ∙ ap names_in c.index_mut.ensures.value) in
-    always-OnErr _ last.0
-
-pub returns-in_err-chunks-clause-chunks : goal.returns-in_err-chunks-clause-chunks
-returns-in_err-chunks-clause-chunks c =
-    let kept : names_in c.make_mut.follows.lender-at-none ≡ names_in c.index_mut.result.now =
-    elim (IfErr-at_err _ c.in_err-chunks.was c.make_mut.follows.holds-at-none) [ inl e ↦ e | inr e ↦ e ] in
-    let last = same_last 256 names_in c.args.chunks.now.items (c.args.len / 256) (c.args.len % 256) c.make_mut.follows.lender-at-none
-    c.index_mut.result.now c.requires.chunks (omega (arith, c.requires.len)) (omega (arith, c.if-len-eq0.false)) (omega arith)
-    (kept ∙ ap names_in c.index_mut.ensures.value) in
-    last.1
+    record { added = search rules; unchanged = always-OnErr _ last.0; chunks = last.1 }
 
 pub returns : goal.returns
 returns c =
     let h : Arc Chunk Global = c.index_mut.result.now in
     let same : c.in_ok-chunks.field-0.now ≡ names_in h = elim c.in_ok-chunks.ensures.value [ inl e ↦ e | inr e ↦ e ] in
     let ok : IsOk c.make_mut.result = search rules in
-    let last = pushed_last 256 names_in c.push-2.result c.args.chunks.now.items (c.args.len / 256) (c.args.len % 256)
-    (c.make_mut.follows.lender c.push-2.new.self) h c.push-2.new.self c.in_ok-chunks.field-0.now c.args.name
-    c.requires.chunks (omega (arith, c.requires.len)) (omega (arith, c.if-len-eq0.false)) (omega arith)
-    (c.make_mut.follows.holds c.push-2.new.self ok) (same ∙ ap names_in c.index_mut.ensures.value)
+    let last = pushed_last 256 names_in c.args.chunks.now.items c.args.len c.requires.chunks c.requires.len (omega arith)
+    (omega (arith, c.if-len-eq0.false)) c.push-2.result (c.make_mut.follows.lender c.push-2.new.self) h c.push-2.new.self
+    c.in_ok-chunks.field-0.now c.args.name (c.make_mut.follows.holds c.push-2.new.self ok) (same ∙ ap names_in c.index_mut.ensures.value)
     c.push-2.ensures.pushed c.push-2.ensures.unchanged in
     record { added = last.0; unchanged = last.1; chunks = last.2 }

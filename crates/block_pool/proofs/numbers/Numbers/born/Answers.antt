@@ -19,7 +19,7 @@ returns-clause-kept c =
           at.not_free;
       retired_in = k.retired_in
           ∙ sym (count_kept is_retired (statuses n) c.args.number (Used c.args.version) at.within at.not_retired);
-      sorted = sorted_set (statuses n) n.pins n.least n.retired.lists k.sorted c.args.number (Used c.args.version) at.within
+      sorted = sorted_set k.sorted c.args.number (Used c.args.version) at.within
           at.not_retired refl (λ _. refl);
     }
 

@@ -1,28 +1,22 @@
-use Rattle.std.proofs.Common.{◌∙◌, ◌+◌, ◌<◌, length, set, sym, subst, refl, take, arith, length-take}
+use Rattle.std.proofs.Common.{◌∙◌, set, sym, subst, refl, take, arith}
 use Rattle.std.proofs.{Math.ListN.length-set, lemmas.List.take_more_set}
 use Rattle.block_reclamation.specs.{declared.status.BlockStatus.TheVariants.Free, Status.{is_free, is_retired}}
 use Rattle.block_pool.specs.Kept.{statuses, Lists}
-use Rattle.block_pool.proofs.{Tallies.lists_more, Tallies.lists_room, Tallies.used_at, Tallies.count_kept, Stacking.sorted_set}
+use Rattle.block_pool.proofs.{Tallies.lists_more, Tallies.used_at, Tallies.count_kept, Grants.free_places, Stacking.sorted_set}
 use Rattle.block_pool.proofs.numbers.Numbers.give_back.Goals as goal
 
 pub index_mut-requires-2 : goal.index_mut-requires-2
 index_mut-requires-2 c =
     let n = c.args.self.now in
-    let k = c.requires.kept in
     let at = used_at (statuses n) c.args.number c.requires.used in
-    let room = lists_room is_free (statuses n) (take n.free_len n.free.items) k.free_are c.args.number Free at.within
-    at.not_free in
-    omega (arith, length-take n.free_len n.free.items, k.free_in, k.free_room, room)
+    omega (arith, free_places n c.requires.kept c.args.number at.within at.not_free)
 
 pub returns-clause-kept : goal.returns-clause-kept
 returns-clause-kept c =
     let n = c.args.self.now in
     let k = c.requires.kept in
     let at = used_at (statuses n) c.args.number c.requires.used in
-    let room = lists_room is_free (statuses n) (take n.free_len n.free.items) k.free_are c.args.number Free at.within
-    at.not_free in
-    let lt : n.free_len < length n.free.items =
-    omega (arith, length-take n.free_len n.free.items, k.free_in, k.free_room, room) in
+    let lt = free_places n k c.args.number at.within at.not_free in
     let long_after = length-set n.statuses.items c.args.number Free in
     let free = length-set n.free.items n.free_len c.args.number in
     record {
@@ -37,7 +31,7 @@ returns-clause-kept c =
           at.not_free refl);
       retired_in = k.retired_in
           ∙ sym (count_kept is_retired (statuses n) c.args.number Free at.within at.not_retired);
-      sorted = sorted_set (statuses n) n.pins n.least n.retired.lists k.sorted c.args.number Free at.within at.not_retired refl
+      sorted = sorted_set k.sorted c.args.number Free at.within at.not_retired refl
           (λ _. refl);
     }
 

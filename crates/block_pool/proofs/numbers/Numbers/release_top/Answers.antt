@@ -1,10 +1,10 @@
-use Rattle.std.proofs.Common.{◌≡◌, ◌∙◌, ◌+◌, ◌<◌, ℕ, length, get_or, set, count_by, sym, ap, subst, refl, take, arith}
-use Rattle.std.proofs.{Common.{length-take, true}, Math.ListN.length-set, lemmas.List.get_or_read}
+use Rattle.std.proofs.Common.{◌≡◌, ◌∙◌, ◌+◌, ◌<◌, ℕ, length, get_or, set, count_by, sym, ap, refl, take, arith}
+use Rattle.std.proofs.{Common.true, Math.ListN.length-set, lemmas.List.get_or_read}
 use Rattle.block_pool.specs.{Chains.{Stacks, stack_of}, declared.numbers.{Numbers.Numbers, TheConstants.LOOSE}, Kept.statuses}
-use Rattle.block_pool.specs.Kept.{status_of, IsNumbers, IsSorted, top_of, taken_off}
+use Rattle.block_pool.specs.Kept.{status_of, IsNumbers, top_of}
 use Rattle.block_reclamation.specs.{declared.status.BlockStatus.TheVariants.{Free, Granted}, Status.{is_free, is_retired}}
-use Rattle.block_pool.proofs.Tallies.{lists_more, lists_room, count_at, count_here, retired_not_free}
-use Rattle.block_pool.proofs.{Grants.placed, Stacking.top_listed, Stacking.sorted_freed}
+use Rattle.block_pool.proofs.Tallies.{lists_more, count_at, count_here, retired_not_free}
+use Rattle.block_pool.proofs.{Grants.placed, Grants.free_places, Stacking.top_listed, Stacking.sorted_freed}
 use Rattle.block_pool.proofs.numbers.Numbers.release_top.Goals as goal
 
 pub top-number-requires : goal.top-number-requires
@@ -17,7 +17,7 @@ pub overflow_sub-self : goal.overflow_sub-self
 overflow_sub-self c =
     let n = c.args.self.now in
     let k = c.requires.kept in
-    let is = top_listed (statuses n) n.pins n.least n.retired.lists k.sorted LOOSE (omega arith) c.requires.some in
+    let is = top_listed k.sorted LOOSE (omega arith) c.requires.some in
     let one = count_at is_retired (statuses n) (top_of (stack_of n.retired.lists LOOSE)) Granted is.0 is.1 in
     omega (arith, one, k.retired_in)
 
@@ -25,18 +25,14 @@ pub index_mut-requires : goal.index_mut-requires
 index_mut-requires c =
     let n = c.args.self.now in
     let k = c.requires.kept in
-    let is = top_listed (statuses n) n.pins n.least n.retired.lists k.sorted LOOSE (omega arith) c.requires.some in
+    let is = top_listed k.sorted LOOSE (omega arith) c.requires.some in
     let num : c.top-number.result ≡ top_of (stack_of n.retired.lists LOOSE) = sym (ap top_of c.top-number.ensures) in
     omega (arith, is.0, num)
 
 -- there is room for one more free number
 room_left : (n : Numbers) → IsNumbers n → 0 < length (stack_of n.retired.lists LOOSE) → n.free_len < length n.free.items
 room_left n k some =
-    let r : ℕ = top_of (stack_of n.retired.lists LOOSE) in
-    let is = top_listed (statuses n) n.pins n.least n.retired.lists k.sorted LOOSE (omega arith) some in
-    let room = lists_room is_free (statuses n) (take n.free_len n.free.items) k.free_are r Free is.0
-    (retired_not_free (status_of (statuses n) r) is.1) in
-    omega (arith, length-take n.free_len n.free.items, k.free_in, k.free_room, room)
+    let is = top_listed k.sorted LOOSE (omega arith) some in free_places n k _ is.0 (retired_not_free _ is.1)
 
 pub index-next-requires : goal.index-next-requires
 index-next-requires c = omega (arith, c.requires.place, room_left c.args.self.now c.requires.kept c.requires.some)
@@ -61,7 +57,7 @@ returns-clause-kept c =
     let r : ℕ = top_of (stack_of n.retired.lists LOOSE) in
     let num : ℕ = c.top-number.result in
     let same : num ≡ r = sym (ap top_of c.top-number.ensures) in
-    let is = top_listed (statuses n) n.pins n.least n.retired.lists k.sorted LOOSE (omega arith) c.requires.some in
+    let is = top_listed k.sorted LOOSE (omega arith) c.requires.some in
     let within : num < length (statuses n) = omega (arith, is.0, same) in
     let st : is_retired (status_of (statuses n) num) ≡ true = ap (λ j. is_retired (status_of (statuses n) j)) same ∙ is.1 in
     let lt : n.free_len < length n.free.items = room_left n k c.requires.some in
@@ -84,9 +80,7 @@ returns-clause-kept c =
           ∙ lists_more is_free (statuses n) (take n.free_len n.free.items) k.free_are num Free within
           (retired_not_free (status_of (statuses n) num) st) refl q;
       retired_in = omega (arith, k.retired_in);
-      sorted = subst (IsSorted (set (statuses n) num Free) n.pins n.least) (sym (ap (λ (s : Stacks). s.lists) c.pop.ensures))
-          (subst (λ (j : ℕ). IsSorted (set (statuses n) j Free) n.pins n.least (taken_off LOOSE n.retired.lists)) (sym same)
-          (sorted_freed (statuses n) n.pins n.least n.retired.lists k.sorted c.requires.some));
+      sorted = rw (ap (λ (s : Stacks). s.lists) c.pop.ensures, same) (sorted_freed k.sorted c.requires.some);
     }
 
 pub returns-clause-lists : goal.returns-clause-lists

@@ -1,21 +1,13 @@
-use Rattle.std.proofs.{Common.◌∙◌, Common.set, Common.ap, Math.ListN.length-set}
-use Rattle.block_pool.{specs.Kept.statuses, proofs.Stacking.sorted_pin}
+use Rattle.std.proofs.{Common.{◌∙◌, set, ap, refl}, Math.ListN.length-set}
+use Rattle.block_pool.proofs.Stacking.{restacked, sorted_pin}
 use Rattle.block_pool.proofs.numbers.Numbers.repin.Goals as goal
 
 pub returns-clause-kept : goal.returns-clause-kept
 returns-clause-kept c =
     let n = c.loosen.new.self in
     let k = c.loosen.ensures.kept in
-    record {
-      few = k.few;
-      free_room = k.free_room;
-      bound = k.bound;
-      seats = length-set n.pins c.args.seat c.args.pin ∙ k.seats;
-      free_in = k.free_in;
-      free_are = k.free_are;
-      retired_in = k.retired_in;
-      sorted = sorted_pin (statuses n) n.pins n.least n.retired.lists k.sorted c.args.seat c.args.pin c.loosen.ensures.empty;
-    }
+    restacked n k n.retired _ n.least refl (length-set n.pins c.args.seat c.args.pin ∙ k.seats)
+    (sorted_pin k.sorted c.args.seat c.args.pin c.loosen.ensures.empty)
 
 pub returns-clause-statuses : goal.returns-clause-statuses
 returns-clause-statuses c = c.loosen.ensures.same.same

@@ -1,9 +1,9 @@
-use Rattle.std.proofs.Common.{◌≡◌, ◌∙◌, count_by, ◌<◌, length, set, sym, ap, subst, refl, take, arith, false}
+use Rattle.std.proofs.Common.{◌≡◌, ◌∙◌, count_by, set, sym, ap, refl, take, arith, false}
 use Rattle.std.proofs.Math.ListN.{length-set}
-use Rattle.block_pool.specs.{declared.numbers.TheConstants.LOOSE, Pools.retired, Kept.{statuses, status_of, Lists}}
+use Rattle.block_pool.specs.{declared.numbers.TheConstants.LOOSE, Pools.retired, Kept.{statuses, status_of}}
 use Rattle.block_reclamation.specs.{declared.status.BlockStatus.{BlockStatus, TheVariants.{Granted, Retired}}, Status.is_free}
 use Rattle.block_reclamation.specs.Status.{is_retired}
-use Rattle.block_pool.{specs.Kept.IsSorted, proofs.Tallies.lists_same, proofs.Tallies.born_at, proofs.Tallies.count_here}
+use Rattle.block_pool.{proofs.Tallies.lists_same, proofs.Tallies.born_at, proofs.Tallies.count_here}
 use Rattle.block_pool.proofs.{Stacking.{absent, room, sorted_retired}, StatusReads.status_read}
 use Rattle.block_pool.proofs.numbers.Numbers.retire.Goals as goal
 
@@ -13,11 +13,11 @@ push-requires c =
     let k = c.requires.kept in
     let at = born_at (statuses n) c.args.number c.requires.born in
     let not : is_retired (status_of (statuses n) c.args.number) ≡ false = ap is_retired at.1.1 in
-    let here = room (statuses n) n.pins n.least n.retired.lists k.sorted c.args.number LOOSE at.0 not in
+    let here = room k.sorted c.args.number LOOSE at.0 not in
     record {
       stack = omega (arith, k.sorted.many);
       number = omega (arith, k.bound, at.0);
-      absent = absent (statuses n) n.pins n.least n.retired.lists k.sorted c.args.number not;
+      absent = absent k.sorted c.args.number not;
       room = omega (arith, k.bound, here);
     }
 
@@ -43,10 +43,8 @@ returns-clause-kept c =
       seats = k.seats;
       free_in = omega (arith, k.free_in);
       retired_in = omega (arith, k.retired_in, count, told);
-      sorted = subst (λ pool. IsSorted pool n.pins n.least c.push.new.self.lists) (sym after)
-          (subst (IsSorted (set (statuses n) c.args.number dated) n.pins n.least) (sym (ap (λ s. s.lists) c.push.ensures))
-          (sorted_retired (statuses n) n.pins n.least n.retired.lists k.sorted c.args.number dated at.0 not refl));
-      free_are = subst (λ pool. Lists is_free pool (take n.free_len n.free.items)) (sym after)
+      sorted = rw (after, ap (λ s. s.lists) c.push.ensures) (sorted_retired k.sorted c.args.number dated at.0 not refl);
+      free_are = rw after
           (lists_same is_free (statuses n) (take n.free_len n.free.items) k.free_are c.args.number dated at.0
           (ap is_free at.1.1));
     }

@@ -1,6 +1,6 @@
-use Rattle.std.proofs.{Common.{◌∙◌, sym, subst, refl, arith}, lemmas.List.Sums.count_by-le-length}
+use Rattle.std.proofs.{Common.{◌≡◌, ◌∙◌, count_by, map, sym, subst, refl, arith}, lemmas.List.Sums.count_by-le-length}
 use Rattle.block_pool.specs.{Chains.stack_of, declared.numbers.TheConstants.LOOSE, Kept.{statuses, HasPins}}
-use Rattle.block_reclamation.specs.Status.{is_reclaimable}
+use Rattle.block_reclamation.specs.Status.{is_reclaimable, recycled}
 use Rattle.block_pool.proofs.{Tallies.none_past, Stacking.all_sorted, Stacking.no_number}
 use Rattle.block_pool.proofs.numbers.Numbers.sort.Goals as goal
 
@@ -38,21 +38,16 @@ sort-preserved c = record {
   free = omega (arith, c.sort.invariant.free, c.sort_top-count.ensures.free);
 }
 
+-- at last no number is due
+none_due : (c : goal.After-sort) → (map (recycled c.args.copy.now) (statuses c.sort.self) ≡ statuses c.sort.self)
+    × (count_by (is_reclaimable c.args.copy.now) (statuses c.sort.self) ≡ 0)
+none_due c =
+    let empty = no_number (stack_of c.sort.self.retired.lists LOOSE) (omega (arith, c.height.ensures, c.sort-test.false)) in
+    none_past c.args.copy.now (statuses c.sort.self)
+    (all_sorted c.sort.invariant.kept.sorted c.args.copy.now c.sort.invariant.pins c.sort.invariant.late empty)
+
 pub returns-clause-statuses : goal.returns-clause-statuses
-returns-clause-statuses c =
-    let n = c.sort.self in
-    let empty = no_number (stack_of n.retired.lists LOOSE) (omega (arith, c.height.ensures, c.sort-test.false)) in
-    let none = none_past c.args.copy.now (statuses n)
-    (all_sorted (statuses n) n.pins n.least n.retired.lists c.sort.invariant.kept.sorted c.args.copy.now c.sort.invariant.pins
-    c.sort.invariant.late empty) in
-    sym none.0 ∙ c.sort.invariant.after
+returns-clause-statuses c = sym (none_due c).0 ∙ c.sort.invariant.after
 
 pub returns-clause-count : goal.returns-clause-count
-returns-clause-count c =
-    let n = c.sort.self in
-    let empty = no_number (stack_of n.retired.lists LOOSE) (omega (arith, c.height.ensures, c.sort-test.false)) in
-    let none = none_past c.args.copy.now (statuses n)
-    (all_sorted (statuses n) n.pins n.least n.retired.lists c.sort.invariant.kept.sorted c.args.copy.now c.sort.invariant.pins
-    c.sort.invariant.late empty) in
-    let z = none.1 in
-    omega (arith, z, c.sort.invariant.counted)
+returns-clause-count c = let none = (none_due c).1 in omega (arith, none, c.sort.invariant.counted)

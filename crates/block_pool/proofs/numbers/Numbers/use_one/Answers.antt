@@ -1,21 +1,17 @@
-use Rattle.std.proofs.Common.{◌≡◌, ◌∙◌, ◌+◌, ◌<◌, ℕ, length, get_or, set, count_by, cond, ◌-◌, sym, ap, refl, take, arith, true}
-use Rattle.std.proofs.{Math.ListN.length-set, lemmas.List.{get_or_read, take_more}}
+use Rattle.std.proofs.Common.{◌≡◌, ◌∙◌, ◌+◌, ◌<◌, ℕ, length, get_or, set, count_by, cond, ◌-◌, sym, ap, refl, take, arith}
+use Rattle.std.proofs.{Math.ListN.length-set, lemmas.List.take_more}
 use Rattle.block_pool.specs.Kept.{statuses, status_of}
 use Rattle.block_reclamation.specs.{declared.status.BlockStatus.TheVariants.Granted, Status.{is_free, is_retired}}
-use Rattle.block_pool.proofs.{Tallies.{lists_less, listed_at, count_last, free_not_retired, count_kept}, Stacking.sorted_set}
+use Rattle.block_pool.proofs.{Grants.free_read, Tallies.{lists_less, count_last, free_not_retired, count_kept}}
+use Rattle.block_pool.proofs.Stacking.{sorted_set}
 use Rattle.block_pool.proofs.numbers.Numbers.use_one.Goals as goal
 
 pub index_mut-requires : goal.index_mut-requires
 index_mut-requires c =
     let n = c.args.self.now in
-    let k = c.requires.kept in
-    let m : ℕ = n.free_len - 1 in
-    let at = listed_at is_free (statuses n) n.free_len n.free.items k.free_are (omega (arith, k.free_in, k.free_room)) m
-    (omega (arith, c.requires.some)) in
-    let same : c.index-number.result.now ≡ get_or n.free.items m 0 =
-    get_or_read n.free.items m c.index-number.result.now
-    (omega (arith, c.requires.some, k.free_in, k.free_room)) c.index-number.ensures 0 in
-    omega (arith, at.0, same)
+    let is = free_read n c.requires.kept (n.free_len - 1) c.index-number.result.now (omega (arith, c.requires.some))
+    c.index-number.ensures in
+    omega (arith, is.1)
 
 pub returns-clause-kept : goal.returns-clause-kept
 returns-clause-kept c =
@@ -25,11 +21,7 @@ returns-clause-kept c =
     let m : ℕ = n.free_len - 1 in
     let more : m + 1 ≡ n.free_len = omega (arith, c.requires.some) in
     let ml : m < length n.free.items = omega (arith, c.requires.some, k.free_in, k.free_room) in
-    let same : num ≡ get_or n.free.items m 0 = get_or_read n.free.items m num ml c.index-number.ensures 0 in
-    let at = listed_at is_free (statuses n) n.free_len n.free.items k.free_are (omega (arith, k.free_in, k.free_room)) m
-    (omega (arith, c.requires.some)) in
-    let within : num < length (statuses n) = omega (arith, at.0, same) in
-    let st : is_free (status_of (statuses n) num) ≡ true = ap (λ j. is_free (status_of (statuses n) j)) same ∙ at.1 in
+    let (same, within, st) = free_read n k m num (omega (arith, c.requires.some)) c.index-number.ensures in
     let long_after = length-set n.statuses.items num Granted in
     record {
       few = omega (arith, k.few);
@@ -44,16 +36,11 @@ returns-clause-kept c =
           st refl;
       retired_in = k.retired_in
           ∙ sym (count_kept is_retired (statuses n) num Granted within (free_not_retired (status_of (statuses n) num) st));
-      sorted = sorted_set (statuses n) n.pins n.least n.retired.lists k.sorted num Granted within
-          (free_not_retired (status_of (statuses n) num) st) refl (λ _. refl);
+      sorted = sorted_set k.sorted num Granted within (free_not_retired (status_of (statuses n) num) st) refl (λ _. refl);
     }
 
 pub returns-clause-statuses : goal.returns-clause-statuses
 returns-clause-statuses c =
     let n = c.args.self.now in
-    let k = c.requires.kept in
-    let m : ℕ = n.free_len - 1 in
-    let same : c.index-number.result.now ≡ get_or n.free.items m 0 =
-    get_or_read n.free.items m c.index-number.result.now
-    (omega (arith, c.requires.some, k.free_in, k.free_room)) c.index-number.ensures 0 in
-    ap (λ j. set (statuses n) j Granted) same
+    ap (λ j. set (statuses n) j Granted)
+    (free_read n c.requires.kept (n.free_len - 1) c.index-number.result.now (omega (arith, c.requires.some)) c.index-number.ensures).0

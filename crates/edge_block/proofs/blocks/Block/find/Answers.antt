@@ -15,9 +15,8 @@ returns-in_err-place-clause-edge c =
     c.args.target c.self.told.0 absent))
 
 pub returns-in_err-place-clause-block : goal.returns-in_err-place-clause-block
-returns-in_err-place-clause-block c = rw (← c.self.view_is)
-    (block_of_columns _ _ _ c.self.inside.live c.self.inside.targets c.self.inside.weights c.self.inside.firsts
-    c.self.inside.recents c.self.invariant.0)
+returns-in_err-place-clause-block c =
+    rw (← c.self.view_is) (block_of_columns _ _ _ _ _ _ _ _ c.self.invariant.0)
 
 pub edge_at-requires-clause-has_edge : goal.edge_at-requires-clause-has_edge
 edge_at-requires-clause-has_edge c =
@@ -57,6 +56,5 @@ returns-clause-in_range c =
     (rw (← c.self.view_is) at c.edge_at.ensures.edge)
 
 pub returns-clause-block : goal.returns-clause-block
-returns-clause-block c = rw (← c.self.view_is)
-    (block_of_columns _ _ _ c.self.inside.live c.self.inside.targets c.self.inside.weights c.self.inside.firsts
-    c.self.inside.recents c.self.invariant.0)
+returns-clause-block c =
+    rw (← c.self.view_is) (block_of_columns _ _ _ _ _ _ _ _ c.self.invariant.0)

@@ -8,6 +8,5 @@ returns-clause-count c = rw (← c.self.view_is)
     (omega arith))
 
 pub returns-clause-block : goal.returns-clause-block
-returns-clause-block c = rw (← c.self.view_is)
-    (block_of_columns _ _ _ c.self.inside.live c.self.inside.targets c.self.inside.weights c.self.inside.firsts
-    c.self.inside.recents c.self.invariant.0)
+returns-clause-block c =
+    rw (← c.self.view_is) (block_of_columns _ _ _ _ _ _ _ _ c.self.invariant.0)

@@ -38,12 +38,8 @@ returns-else-takes-clause-in_range c =
 
 pub returns-then-takes-clause-block : goal.returns-then-takes-clause-block
 returns-then-takes-clause-block c =
-    rw (← c.self.view_is)
-    (block_of_columns _ _ _ c.self.inside.live c.self.inside.targets c.self.inside.weights c.self.inside.firsts
-    c.self.inside.recents c.self.invariant.0)
+    rw (← c.self.view_is) (block_of_columns _ _ _ _ _ _ _ _ c.self.invariant.0)
 
 pub returns-else-takes-clause-block : goal.returns-else-takes-clause-block
 returns-else-takes-clause-block c =
-    rw (← c.self.view_is)
-    (block_of_columns _ _ _ c.self.inside.live c.self.inside.targets c.self.inside.weights c.self.inside.firsts
-    c.self.inside.recents c.self.invariant.0)
+    rw (← c.self.view_is) (block_of_columns _ _ _ _ _ _ _ _ c.self.invariant.0)

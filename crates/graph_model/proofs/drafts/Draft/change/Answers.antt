@@ -1,40 +1,30 @@
 -- The steps of the body are those of a change on plain lists.
-use Rattle.std.{proofs.Common.{◌≡◌, ◌∙◌, length, ap, arith}, specs.{Option.option_map, FinMap.get}}
-use Rattle.graph_types.specs.{Graph.{Key, graph_of, map_of}, Step.{number_of, changed_key, stamp_after}, Changes.option_stamp}
+use Rattle.std.{proofs.Common.{◌≡◌, ◌≤◌, ◌∙◌, ℕ, List, length, ap, arith}, specs.{Option.option_map, FinMap.get}}
+use Rattle.std.proofs.lemmas.Grind.{common_steps}
+use Rattle.graph_types.specs.{Graph.{graph_of, map_of}, Step.{number_of, changed_key}, Changes.option_stamp}
 use Rattle.graph_types.proofs.NameNumbers.{number_at_most}
 use Rattle.graph_model.{specs.Drafts.{shown_by, shown_key, edge_with}, proofs.OneOperation.{IsApplied, AreMarks-found}}
-use Rattle.graph_model.proofs.OneOperation.{stamp_of-edge_with, IsAt-edge_with, graph_of-applied, IsContent-applied}
+use Rattle.graph_model.proofs.OneOperation.{graph_of-applied, IsContent-applied}
 use Rattle.graph_model.proofs.drafts.Draft.change.Goals as goal
+
+at_most : (read names : List (List ℕ)) (name : List ℕ) (number : ℕ) → number ≡ number_of read name → read ≡ names
+    → number ≤ length names
+at_most read names name number is same = omega (arith, is, number_at_most read name, ap length same)
 
 pub of-key-requires-clause-kind : goal.of-key-requires-clause-kind
 of-key-requires-clause-kind c =
-    omega (
-      arith,
-      c.number_of.ensures,
-      number_at_most c.as_slice.result.now c.args.kind.now,
-      ap length c.as_slice.ensures.value,
-      c.in_ok-make_kind.ensures.few c.requires.content.kinds_few,
-    )
+    let place = at_most _ _ _ _ c.number_of.ensures c.as_slice.ensures.value in
+    omega (arith, place, c.in_ok-make_kind.ensures.few c.requires.content.kinds_few)
 
 pub of-key-requires-clause-source : goal.of-key-requires-clause-source
 of-key-requires-clause-source c =
-    omega (
-      arith,
-      c.number_of-2.ensures,
-      number_at_most c.as_slice-2.result.now c.args.source.now,
-      ap length c.as_slice-2.ensures.value,
-      c.in_ok-make_names.ensures.few c.requires.content.names_few,
-    )
+    let place = at_most _ _ _ _ c.number_of-2.ensures c.as_slice-2.ensures.value in
+    omega (arith, place, c.in_ok-make_names.ensures.few c.requires.content.names_few)
 
 pub of-key-requires-clause-target : goal.of-key-requires-clause-target
 of-key-requires-clause-target c =
-    omega (
-      arith,
-      c.number_of-3.ensures,
-      number_at_most c.as_slice-3.result.now c.args.target.now,
-      ap length c.as_slice-3.ensures.value,
-      c.in_ok-make_names.ensures.few c.requires.content.names_few,
-    )
+    let place = at_most _ _ _ _ c.number_of-3.ensures c.as_slice-3.ensures.value in
+    omega (arith, place, c.in_ok-make_names.ensures.few c.requires.content.names_few)
 
 pub change_edge-outcome-requires-clause-before : goal.change_edge-outcome-requires-clause-before
 change_edge-outcome-requires-clause-before c =
@@ -47,28 +37,13 @@ stood c = c.marks_at-before.ensures ∙ ap (λ edges. get (map_of edges) (shown_
 
 numbers : (c : goal.In_ok-put_at) → shown_key c.of-key.result
     ≡ changed_key c.args.change c.args.kind.now c.args.source.now c.args.target.now (graph_of (shown_by c.args.self.now))
-numbers c =
-    let kind = c.number_of.ensures ∙ ap (λ xs. number_of xs c.args.kind.now)
-    (c.as_slice.ensures.value ∙ c.in_ok-make_kind.ensures.made) in
-    let source = c.number_of-2.ensures ∙ ap (λ xs. number_of xs c.args.source.now)
-    (c.as_slice-2.ensures.value ∙ c.in_ok-make_names.ensures.made) in
-    let target = c.number_of-3.ensures ∙ ap (λ xs. number_of xs c.args.target.now)
-    (c.as_slice-3.ensures.value ∙ c.in_ok-make_names.ensures.made) in
-    c.of-key.ensures ∙ (λ i. let key : Key = record { kind = kind i; source = source i; target = target i } in key)
+numbers c = grind (arith, common_steps)
 
 applied : (c : goal.In_ok-put_at)
     → IsApplied c.args.change c.args.kind.now c.args.source.now c.args.target.now (shown_by c.args.self.now)
     (shown_by (record { names = c.make_names.new.names; kinds = c.make_kind.new.kinds; edges = c.put_at.new.edges }))
     (shown_key c.of-key.result) (option_map (edge_with c.of-key.result) c.change_edge-outcome.result.1)
-applied c = record {
-  names = c.in_ok-make_names.ensures.made;
-  kinds = c.in_ok-make_kind.ensures.made;
-  key_is = numbers c;
-  stamp = stamp_of-edge_with c.of-key.result c.change_edge-outcome.result.1 ∙ c.change_edge-outcome.ensures.stamp
-      ∙ ap (stamp_after c.args.change) (stood c);
-  at = IsAt-edge_with c.of-key.result c.change_edge-outcome.result.1 c.change_edge-outcome.ensures.marks;
-  edges = c.in_ok-put_at.ensures;
-}
+applied c = grind (arith, common_steps)
 
 pub returns-clause-graph : goal.returns-clause-graph
 returns-clause-graph c = graph_of-applied _ _ _ _ _ _ _ _ (applied c)

@@ -1,5 +1,5 @@
-use Rattle.std.proofs.Common.{◌<◌, length}
-use Rattle.vertex_names.proofs.Entries.{rising-drop, lookup-drop, take_rest}
+use Rattle.std.proofs.{Common.{◌<◌, length}, lemmas.List.take_rest}
+use Rattle.vertex_names.proofs.Entries.{rising-drop, lookup-drop}
 use Rattle.vertex_names.proofs.piece.Piece.from.Goals as goal
 
 pub invariant_of-result : goal.invariant_of-result
