@@ -1,8 +1,8 @@
 -- What all shards leave is what the batch leaves of the version.
 use Rattle.std.proofs.Common.{◌≡◌, ◌≢◌, ℕ, ◌+◌, ◌<◌, ◌≤◌, ◌==◌, Bool, true, false, List, [], ◌∷◌, ◌++◌, length, length-append}
-use Rattle.std.proofs.Common.{map, flat_map, zip, count_by, replicate, refl, sym, ap, ◌∙◌, arith, subst, All, AllPairs, ltb}
+use Rattle.std.proofs.Common.{map, flat_map, zip, count_by, replicate, refl, sym, ap, ◌∙◌, arith, subst, All, AllPairs}
 use Rattle.std.proofs.lemmas.{Bool.{ltb-true, ltb-false}, List.{length-map, FromFn.length-range_with_len, Concat.length-flat_map}}
-use Rattle.std.{proofs.lemmas.Slice.Zip.AllZip-long, specs.{List.{range_with_len, AllZip}, FinMap.len}}
+use Rattle.std.{proofs.lemmas.{Slice.Zip.AllZip-long, Grind.common_steps}, specs.{List.{range_with_len, AllZip}, FinMap.len}}
 use Rattle.graph_types.specs.{Graph.Graph, Limits.{name_limit, kind_limit, batch_limit, operation_limit}, Step.after_all}
 use Rattle.graph_types.specs.{Step.outcomes, declared.batches.{NamedOp.NamedOp, Outcome.TheVariants.Absent}}
 use Rattle.graph_types.proofs.More.{left_more}
@@ -33,11 +33,7 @@ all_shards [] = refl
 all_shards (s ∷ shards) = ap (λ l. sources_in s ++ l) (all_shards shards)
 
 no_more : (limit n : ℕ) → (limit < n → ⊥) → n ≤ limit
-no_more limit n never =
-    elim (ltb limit n) as (λ b. ltb limit n ≡ b → n ≤ limit) [
-      | true ↦ λ t. absurd (never (ltb-true limit n t))
-      | false ↦ λ t. let ge = ltb-false limit n t in omega (arith, ge)
-    ] refl
+no_more limit n never = grind (arith, common_steps, ltb-true, ltb-false)
 
 -- The next version
 
@@ -225,8 +221,7 @@ module _ (v : VersionView) (ops : List NamedOp) (workers : ℕ) (shards : List S
   with_fresh = shards_in jobs
 
   planned_jobs : ArePlanned workers ops (content v) (layout_of v.rows) with_fresh
-  planned_jobs = dealt_planned workers (resolved ops (content v).names (content v).kinds) (layout_of v.rows) (row_of v.rows) 0
-      workers shards needs jobs needs_are planned dealt
+  planned_jobs = grind (arith, common_steps, dealt_planned)
 
   handed_jobs : (q : ℕ → Bool) → count_by q (fresh_all with_fresh) + count_by q rest ≡ count_by q numbers
   handed_jobs q = ap (λ ns. count_by q ns + count_by q rest) (sym (fresh_in jobs)) ∙ handed q
@@ -267,17 +262,11 @@ module _ (v : VersionView) (ops : List NamedOp) (names kinds : Book) (values : L
       e1)
 
   pub edges_left : edge_total d3.version ≡ len (after_all ops (content v)).edges
-  edges_left = ap (λ (d : DraftView). edge_total d.version) draft_is
-      ∙ ap (λ (h : Graph). len h.edges) (left_more v.batches ops v.opening)
+  edges_left = grind (arith, common_steps, draft_is, left_more)
 
   pub draft_among : (s : ℕ) → row_of d2.version.rows s ≡ row_among values s (row_of v.rows s)
   draft_among s = e2.rows_are s ∙ ap (λ (d : DraftView). row_among values s (row_of d.version.rows s)) e1
 
   pub draft_whole : names ≡ vertex_book (after_all ops (content v)).names → kinds ≡ kind_book (after_all ops (content v)).kinds
       → IsVersion (record { opening = v.opening; batches = v.batches ++ ops ∷ []; rows = d2.version.rows }) → IsWhole d3
-  draft_whole n k is =
-      subst IsWhole (sym draft_is) (record {
-        names_are = n ∙ ap (λ (h : Graph). vertex_book h.names) (sym (left_more v.batches ops v.opening));
-        kinds_are = k ∙ ap (λ (h : Graph). kind_book h.kinds) (sym (left_more v.batches ops v.opening));
-        version = is;
-      })
+  draft_whole n k is = grind (arith, common_steps, draft_is, left_more)

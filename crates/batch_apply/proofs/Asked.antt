@@ -1,10 +1,10 @@
 -- What the shards of a plan may take is within what the batch asks for: a block for each operation, and, where an operation
 -- expires edges, as many more as the version has.
-use Rattle.std.proofs.Common.{◌≡◌, ℕ, zero, suc, ◌+◌, ◌<◌, ◌≤◌, ◌==◌, ◌||◌, Bool, true, false, cond, not}
-use Rattle.std.proofs.Common.{List, [], ◌∷◌, length, map, flat_map, count_by, max, refl, sym, ap, ap₂, ◌∙◌, arith, Option, All}
-use Rattle.std.proofs.lemmas.{Bool.eqb-true, Bool.ne_eqb, Bool.true≢false, Bool.le-ltb, List.Elements.All-nil}
-use Rattle.std.proofs.lemmas.List.{Elements.All-cons, Sums.sum_by-cons, Sums.sum_by-append, Sums.count_by-le-length}
-use Rattle.std.specs.List.{sum_by, range_with_len, AllZip, list_any}
+use Rattle.std.proofs.Common.{◌≡◌, ℕ, zero, suc, ◌+◌, ◌<◌, ◌≤◌, ◌==◌, ◌||◌, Bool, true, false, cond, not, List, [], ◌∷◌, length}
+use Rattle.std.proofs.{Common.{flat_map, count_by, max, refl, sym, ap, ap₂, ◌∙◌, arith, Option, All}, lemmas.Bool.eqb-true}
+use Rattle.std.proofs.lemmas.{Bool.{ne_eqb, true≢false, le-ltb}, List.{Elements.{All-nil, All-cons}, Sums.sum_by-cons}}
+use Rattle.std.{proofs.lemmas.List.Sums.{sum_by-append, count_by-le-length, sum-map}, specs.List.{sum_by, range_with_len, AllZip}}
+use Rattle.std.{specs.List.list_any, proofs.lemmas.Grind.common_steps}
 use Rattle.graph_types.specs.{Graph.{Graph, Key}, Step.{is_before, is_expire}, declared.batches.NamedOp.NamedOp}
 use Rattle.graph_types.specs.declared.{batches.NamedOp.TheVariants.{Insert, Incr, Remove, Expire}, changes.EdgeChange.EdgeChange}
 use Rattle.edge_block.specs.{Slots.{BlockView, Slot, edges_in, has_before}, Operations.{names_after, kinds_after}}
@@ -27,26 +27,19 @@ abbrev on_edges : List Resolved → ℕ
 on_edges rs = count_by is_on_edge rs
 
 one_act : (r : Resolved) → is_on_edge (unsourced r) ≡ is_on_edge r
-one_act (AtKey own key change) = refl
-one_act (InAll time) = refl
+one_act r = grind (arith, common_steps)
 
 edges_acts : (rs : List Resolved) → on_edges (acts rs) ≡ on_edges rs
 edges_acts [] = refl
-edges_acts (r ∷ rs) =
-    count_more is_on_edge (unsourced r) (acts rs) ∙ ap₂ (λ (b : Bool) (n : ℕ). cond b 1 0 + n) (one_act r) (edges_acts rs)
-    ∙ sym (count_more is_on_edge r rs)
+edges_acts (r ∷ rs) = grind (arith, common_steps, count_more, one_act)
 
 one_step : (sources : List ℕ) (a : Act) → not (is_expiry a) ≡ is_on_edge (resolved_at sources a)
-one_step sources (act.Edge place change) = refl
-one_step sources (act.Expire time) = refl
+one_step sources a = grind (arith, common_steps)
 
 edges_steps : (sources : List ℕ) (steps : List Step)
     → count_by (λ s. not (is_expiry s.act)) steps ≡ on_edges (resolved_in sources steps)
 edges_steps sources [] = refl
-edges_steps sources (s ∷ steps) =
-    count_more (λ (s : Step). not (is_expiry s.act)) s steps
-    ∙ ap₂ (λ (b : Bool) (n : ℕ). cond b 1 0 + n) (one_step sources s.act) (edges_steps sources steps)
-    ∙ sym (count_more is_on_edge (resolved_at sources s.act) (resolved_in sources steps))
+edges_steps sources (s ∷ steps) = grind (arith, common_steps, count_more, one_step)
 
 abbrev hits : ℕ → ℕ → ℕ → ℕ
 hits m a k = sum_by (λ w. cond (m == w) 1 0) (range_with_len a k)
@@ -73,36 +66,16 @@ module _ (workers : ℕ) where
   edge_here : (own : Option ℕ) (key : Option Key) (change : EdgeChange) (rs : List Resolved) (w : ℕ)
       → on_edges (shard_ops workers w (AtKey own key change ∷ rs))
       ≡ cond (shard_of workers own == w) 1 0 + on_edges (shard_ops workers w rs)
-  edge_here own key change rs w =
-      let ss : List Resolved = shard_ops workers w rs in
-      elim (shard_of workers own == w) as (λ b. on_edges (cond b (AtKey own key change ∷ ss) ss) ≡ cond b 1 0 + on_edges ss) [
-        | true ↦ count_more is_on_edge (AtKey own key change) ss
-        | false ↦ omega arith
-      ]
+  edge_here own key change rs w = grind (arith, common_steps, count_more)
 
   edge_more : (own : Option ℕ) (key : Option Key) (change : EdgeChange) (rs : List Resolved) (a k : ℕ)
       → in_shards (AtKey own key change ∷ rs) a k ≡ hits (shard_of workers own) a k + in_shards rs a k
   edge_more own key change rs a zero = refl
-  edge_more own key change rs a (suc k) =
-      omega (
-        arith,
-        sum_by-cons (λ w. on_edges (shard_ops workers w (AtKey own key change ∷ rs))) a (range_with_len (a + 1) k),
-        sum_by-cons (λ w. on_edges (shard_ops workers w rs)) a (range_with_len (a + 1) k),
-        sum_by-cons (λ w. cond {A = ℕ} (shard_of workers own == w) 1 0) a (range_with_len (a + 1) k),
-        edge_here own key change rs a,
-        edge_more own key change rs (a + 1) k,
-      )
+  edge_more own key change rs a (suc k) = grind (arith, common_steps, edge_more own key change rs (a + 1) k)
 
   expiry_more : (time : ℕ) (rs : List Resolved) (a k : ℕ) → in_shards (InAll time ∷ rs) a k ≡ in_shards rs a k
   expiry_more time rs a zero = refl
-  expiry_more time rs a (suc k) =
-      omega (
-        arith,
-        sum_by-cons (λ w. on_edges (shard_ops workers w (InAll time ∷ rs))) a (range_with_len (a + 1) k),
-        sum_by-cons (λ w. on_edges (shard_ops workers w rs)) a (range_with_len (a + 1) k),
-        count_more is_on_edge (InAll time) (shard_ops workers a rs),
-        expiry_more time rs (a + 1) k,
-      )
+  expiry_more time rs a (suc k) = grind (arith, common_steps, expiry_more time rs (a + 1) k)
 
   none_in : (a k : ℕ) → in_shards [] a k ≡ 0
   none_in a zero = refl
@@ -149,9 +122,7 @@ sum_zero f zeros (x ∷ xs) = omega (arith, sum_by-cons f x xs, zeros x, sum_zer
 
 below_sum : (n : ℕ) (xs : List ℕ) → sum_by (λ x. x) xs < n → All (λ x. x < n) xs
 below_sum n [] lt = All-nil (λ x. x < n)
-below_sum n (x ∷ xs) lt =
-    let c = sum_by-cons (λ (x : ℕ). x) x xs in
-    All-cons (λ x. x < n) x xs (omega (arith, c, lt)) (below_sum n xs (omega (arith, c, lt)))
+below_sum n (x ∷ xs) lt = grind (arith, common_steps, sum_by-cons, All-cons)
 
 -- different sources have no more old blocks than there are blocks
 few_old : (time : ℕ) (rows : List (List BlockView)) (xs : List ℕ) → ((m : ℕ) → times m xs ≤ 1)
@@ -167,10 +138,6 @@ few_old time rows xs once =
     )
 
 -- All shards together
-
-sum_map : {A : Type 0} (f : A → ℕ) (xs : List A) → sum_by (λ n. n) (map f xs) ≡ sum_by f xs
-sum_map f [] = refl
-sum_map f (x ∷ xs) = sum_by-cons (λ (n : ℕ). n) (f x) (map f xs) ∙ ap (λ k. f x + k) (sum_map f xs) ∙ sym (sum_by-cons f x xs)
 
 module _ (workers : ℕ) (ops : List NamedOp) (g : Graph) (rows : List (List BlockView)) where
   abbrev rs : List Resolved
@@ -195,21 +162,14 @@ module _ (workers : ℕ) (ops : List NamedOp) (g : Graph) (rows : List (List Blo
   sum_needs a zero (s ∷ shards) z = absurd z
   sum_needs a (suc k) [] z = absurd z
   sum_needs a (suc k) (s ∷ shards) z =
-      omega (
-        arith,
-        sum_by-cons (needs_of (row_of rows)) s shards,
-        sum_by-cons (λ w. on_edges (shard_ops workers w rs)) a (range_with_len (a + 1) k),
-        sum_by-append old (sources_in s) (flat_map sources_in shards),
-        shard_needs a s z.0,
-        sum_needs (a + 1) k shards z.1,
-      )
+      grind (arith, common_steps, sum_by-cons, needs_of, sum_by-append, shard_needs, sum_needs (a + 1) k shards z.1)
 
   pub needs_within : (plan : Plan) → IsPlan workers ops g (row_of rows) plan
       → sum_by (λ n. n) plan.needs.items ≤ length ops + cond (list_any is_expire ops) (length (blocks_of rows)) 0
   needs_within plan is =
       let shards : List Shard = plan.shards.items in
       let all : sum_by (λ n. n) plan.needs.items ≡ in_shards workers rs 0 workers + sum_by old (flat_map sources_in shards) =
-      ap (sum_by (λ n. n)) is.needs ∙ sum_map (needs_of (row_of rows)) shards ∙ sum_needs 0 workers shards is.shards in
+      ap (sum_by (λ n. n)) is.needs ∙ sum-map (needs_of (row_of rows)) shards ∙ sum_needs 0 workers shards is.shards in
       let edges : in_shards workers rs 0 workers ≤ length ops =
       omega (arith, few_edges workers rs 0 workers, as_many_resolved ops g.names g.kinds) in
       elim (list_any is_expire ops) as (λ b. list_any is_expire ops ≡ b

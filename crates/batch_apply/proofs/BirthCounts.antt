@@ -1,7 +1,7 @@
 -- Births over lists of blocks, and how many births of dropped blocks pass a test.
-use Rattle.std.proofs.Common.{◌≡◌, ℕ, zero, suc, ◌+◌, ◌==◌, Bool, true, false, ◌||◌, List, [], ◌∷◌, ◌++◌, All, map, flat_map}
-use Rattle.std.proofs.{Common.{count_by, refl, sym, ap, ap₂, ◌∙◌}, lemmas.List.{map-append, Sums.sum_by-cons, Elements.All-head}}
-use Rattle.std.{proofs.lemmas.List.Elements.All-tail, specs.List.sum_by}
+use Rattle.std.proofs.Common.{◌≡◌, ℕ, zero, suc, ◌+◌, Bool, true, List, [], ◌∷◌, ◌++◌, All, map, flat_map, count_by, refl, sym}
+use Rattle.std.proofs.{Common.{ap, ap₂, ◌∙◌, arith}, lemmas.List.{map-append, Sums.sum_by-cons, Elements.{All-head, All-tail}}}
+use Rattle.std.{specs.List.sum_by, proofs.lemmas.Grind.common_steps}
 use Rattle.graph_types.specs.{Graph.Graph, declared.batches.NamedOp.NamedOp}
 use Rattle.edge_block.specs.{Slots.BlockView, Rows.{Shape, shape_of, untouched}, Batches.sum_below}
 use Rattle.batch_shards.specs.Births.{births_end, births_dropped, later_births, open_row, dropped_births}
@@ -12,17 +12,11 @@ use Rattle.graph_version.specs.Versions.{is_in}
 
 pub in_left : (m : ℕ) (xs ys : List ℕ) → is_in m xs ≡ true → is_in m (xs ++ ys) ≡ true
 in_left m [] ys is = cc
-in_left m (x ∷ xs) ys is = elim (x == m) as (λ t. (t || is_in m xs) ≡ true → (t || is_in m (xs ++ ys)) ≡ true) [
-  | true ↦ λ _. refl
-  | false ↦ λ rest. in_left m xs ys rest
-] is
+in_left m (x ∷ xs) ys is = grind (arith, common_steps)
 
 pub in_right : (m : ℕ) (xs ys : List ℕ) → is_in m ys ≡ true → is_in m (xs ++ ys) ≡ true
 in_right m [] ys is = is
-in_right m (x ∷ xs) ys is = elim (x == m) as (λ t. (t || is_in m (xs ++ ys)) ≡ true) [
-  | true ↦ refl
-  | false ↦ in_right m xs ys is
-]
+in_right m (x ∷ xs) ys is = grind (arith, common_steps, in_right m xs ys is)
 
 pub map_same : (h f : BlockView → ℕ) (bs : List BlockView) → All (λ b. h b ≡ f b) bs → map h bs ≡ map f bs
 map_same h f [] same = refl

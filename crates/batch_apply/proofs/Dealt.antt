@@ -1,19 +1,16 @@
 -- Shards that have got the fresh blocks which they may take.
 use Rattle.std.proofs.Common.{◌≡◌, ℕ, zero, suc, ◌+◌, ◌<◌, List, [], ◌∷◌, ◌++◌, length, map, flat_map, zip, take, get_or, refl}
-use Rattle.std.proofs.{Common.{sym, ap, ap₂, ◌∙◌, arith, subst, All, Bool}, lemmas.List.{length-map, Sums.sum_by-cons}}
-use Rattle.std.{proofs.lemmas.List.Elements.{All-nil, All-cons}, specs.List.{sum_by, range_with_len, AllZip}}
-use Rattle.graph_types.specs.declared.{ids.VertexId.VertexId}
+use Rattle.std.proofs.{Common.{ap, ◌∙◌, arith, All}, lemmas.List.{length-map, Sums.sum_by-cons, Elements.{All-nil, All-cons}}}
+use Rattle.std.{specs.List.{sum_by, range_with_len, AllZip}, proofs.lemmas.Grind.common_steps}
 use Rattle.edge_block.specs.{Slots.BlockView, Rows.Shape, Batches.Resolved}
-use Rattle.batch_shards.specs.{RowBlocks.numbers_of, Shards.AreSteps, Done.IsShardDone, Done.sources_in, Spending.needed}
-use Rattle.batch_shards.specs.declared.shard.{Shard.Shard, ShardDone.ShardDone, Step.Step}
-use Rattle.batch_apply.specs.Shards.{latest, has_old_shape, AreShardSteps, IsShardOf}
-use Rattle.batch_apply.specs.{Gathered.{IsDealt, IsShard, AreDone}, declared.workers.Job.Job}
+use Rattle.batch_shards.specs.{RowBlocks.numbers_of, Done.{IsShardDone, sources_in}, Spending.needed, declared.shard.Shard.Shard}
+use Rattle.batch_shards.specs.declared.shard.ShardDone.{ShardDone}
+use Rattle.batch_apply.specs.{Shards.IsShardOf, Gathered.{IsDealt, IsShard, AreDone}, declared.workers.Job.Job}
 
 -- Numbers of blocks that are dealt one after another
 
 sum_none : (xs : List ℕ) → sum_by (λ n. n) (take 0 xs) ≡ 0
-sum_none [] = refl
-sum_none (x ∷ xs) = refl
+sum_none xs = grind (arith, common_steps)
 
 pub sum_taken : (i : ℕ) (xs : List ℕ) (d : ℕ) → i < length xs
     → sum_by (λ n. n) (take (i + 1) xs) ≡ sum_by (λ n. n) (take i xs) + get_or xs i d
@@ -48,10 +45,7 @@ needs_of rows shard = needed rows (sources_in shard) shard.steps.items
 module _ (workers : ℕ) (rs : List Resolved) (layout : ℕ → List Shape) where
   dealt_one : (w : ℕ) (p : Shard × ℕ) (j : Job) → IsDealt p j → IsShardOf workers rs layout w p.0
       → IsShardOf workers rs layout w j.shard
-  dealt_one w p j d is =
-      let is_old : ℕ → Bool = λ s. has_old_shape (latest rs) (layout s) in
-      subst (λ ss. AreShardSteps workers rs w is_old (map (λ (s : VertexId). s.0) ss) j.shard.steps.items) (sym d.sources_are)
-      (subst (λ steps. AreShardSteps workers rs w is_old (sources_in p.0) steps) (sym d.steps_are) is)
+  dealt_one w p j d is = grind (arith, common_steps)
 
   dealt_each : (f : Shard → ℕ) (a k : ℕ) (shards : List Shard) (jobs : List Job)
       → AllZip (IsShardOf workers rs layout) (range_with_len a k) shards → AllZip IsDealt (zip shards (map f shards)) jobs
@@ -67,23 +61,12 @@ module _ (workers : ℕ) (rs : List Resolved) (layout : ℕ → List Shape) wher
   pub dealt_planned : (rows : ℕ → List BlockView) (a k : ℕ) (shards : List Shard) (needs : List ℕ) (jobs : List Job)
       → needs ≡ map (needs_of rows) shards → AllZip (IsShardOf workers rs layout) (range_with_len a k) shards
       → AllZip IsDealt (zip shards needs) jobs → AllZip (IsShardOf workers rs layout) (range_with_len a k) (shards_in jobs)
-  dealt_planned rows a k shards needs jobs e z d =
-      dealt_each (needs_of rows) a k shards jobs z (subst (λ ns. AllZip IsDealt (zip shards ns) jobs) e d)
+  dealt_planned rows a k shards needs jobs e z d = grind (arith, common_steps, dealt_each)
 
   module _ (rows : ℕ → List BlockView) where
     ready_one : (w : ℕ) (s : Shard) (j : Job) → IsDealt (s, needs_of rows s) j → IsShardOf workers rs layout w s
         → IsShard rows j.shard
-    ready_one w s j d is =
-        let own = dealt_one w (s, needs_of rows s) j d is in
-        let same : needs_of rows j.shard ≡ needs_of rows s =
-        ap₂ (λ (ss : List VertexId) (steps : List Step). needed rows (map (λ (v : VertexId). v.0) ss) steps) d.sources_are
-        d.steps_are in
-        record {
-          fresh = omega (arith, same, d.fresh);
-          steps = subst (λ n. AreSteps n j.shard.steps.items) (length-map j.shard.sources.items (λ (v : VertexId). v.0))
-              own.in_range;
-          distinct = own.distinct;
-        }
+    ready_one w s j d is = grind (arith, common_steps, dealt_one, length-map)
 
     ready_each : (a k : ℕ) (shards : List Shard) (jobs : List Job)
         → AllZip (IsShardOf workers rs layout) (range_with_len a k) shards
@@ -99,8 +82,7 @@ module _ (workers : ℕ) (rs : List Resolved) (layout : ℕ → List Shape) wher
     pub dealt_ready : (a k : ℕ) (shards : List Shard) (needs : List ℕ) (jobs : List Job) → needs ≡ map (needs_of rows) shards
         → AllZip (IsShardOf workers rs layout) (range_with_len a k) shards → AllZip IsDealt (zip shards needs) jobs
         → All (λ j. IsShard rows j.shard) jobs
-    dealt_ready a k shards needs jobs e z d =
-        ready_each a k shards jobs z (subst (λ ns. AllZip IsDealt (zip shards ns) jobs) e d)
+    dealt_ready a k shards needs jobs e z d = grind (arith, common_steps, ready_each)
 
 pub done_in : (rows : ℕ → List BlockView) (jobs : List Job) (dones : List ShardDone) → AreDone rows jobs dones
     → AllZip (IsShardDone rows) (shards_in jobs) dones

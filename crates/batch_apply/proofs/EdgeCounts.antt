@@ -1,13 +1,12 @@
 -- How many edges operations leave: as many as before, with one more for each that was inserted and one less for each that
 -- was removed or has expired.
-use Rattle.std.proofs.Common.{◌≡◌, ℕ, zero, suc, ◌+◌, ◌-◌, ◌<◌, true, false, cond, List, [], ◌∷◌, refl, sym, ap, ◌∙◌, arith}
-use Rattle.std.{proofs.lemmas.{Bool.true≢false, List.Sums.sum_by-cons}, specs.Prelude.{◌+ℤ◌, count_by, if◌then◌else◌}}
-use Rattle.std.specs.{List.sum_by, Option.is_some, declared.option.Option.{Option, TheVariants.{None, Some}}, FinMap.FinMap}
-use Rattle.std.specs.FinMap.{get, insert, remove, len, len-insert, len-remove, empty_of_len, get-empty}
-use Rattle.graph_types.specs.{Limits.is_weight, Graph.{Graph, Key, Stamp, key_cmp}, Step.{change_outcome, after, outcome}}
-use Rattle.graph_types.specs.Step.{after_all, outcomes, stamp_after, outcome_at, set_at, changed, changed_key}
-use Rattle.graph_types.specs.declared.batches.{NamedOp.{NamedOp, TheVariants.{Insert, Incr, Remove, Expire}}, Outcome.Outcome}
-use Rattle.graph_types.specs.declared.{batches.Outcome.TheVariants.{Updated, Overflow}, changes.EdgeChange.EdgeChange}
+use Rattle.std.proofs.Common.{◌≡◌, ℕ, zero, suc, ◌+◌, ◌-◌, ◌<◌, true, cond, List, [], ◌∷◌, refl, sym, ap, ◌∙◌, arith}
+use Rattle.std.{proofs.lemmas.{Bool.true≢false, List.Sums.sum_by-cons}, specs.{Prelude.count_by, List.sum_by, Option.is_some}}
+use Rattle.std.specs.{declared.option.Option.{Option, TheVariants.{None, Some}}, FinMap.{FinMap, get, insert, remove, len}}
+use Rattle.std.{specs.FinMap.{len-insert, len-remove, empty_of_len, get-empty}, proofs.lemmas.Grind.common_steps}
+use Rattle.graph_types.specs.{Graph.{Graph, Key, Stamp, key_cmp}, Step.{change_outcome, after, outcome, after_all, outcomes}}
+use Rattle.graph_types.specs.{Step.{stamp_after, outcome_at, set_at, changed}, declared.batches.NamedOp.NamedOp}
+use Rattle.graph_types.specs.declared.{batches.NamedOp.TheVariants.{Insert, Incr, Remove, Expire}, changes.EdgeChange.EdgeChange}
 use Rattle.graph_types.specs.declared.changes.EdgeChange.TheVariants.{Insert as ToInsert, Incr as ToIncr, Remove as ToRemove}
 use Rattle.graph_types.proofs.{Keys.keys_total, Expiry.fewer}
 use Rattle.batch_apply.specs.Applied.{is_inserted, taken_away}
@@ -42,28 +41,12 @@ removed_len edges key (Some e) at =
 at_key : (change : EdgeChange) (edges : FinMap key_cmp Stamp) (key : Key) (before : Option Stamp) → get edges key ≡ before
     → len (set_at edges key (stamp_after change before)) + taken_away (outcome_at change before)
     ≡ len edges + cond (is_inserted (outcome_at change before)) 1 0
-at_key (ToInsert weight time) edges key None at =
-    omega (arith, inserted_len edges key (record { weight = weight; first = time; recent = time }) None at)
-at_key (ToInsert weight time) edges key (Some e) at =
-    omega (arith, inserted_len edges key (record e { weight = weight; recent = time }) (Some e) at)
-at_key (ToIncr amount time) edges key None at =
-    omega (arith, inserted_len edges key (record { weight = amount; first = time; recent = time }) None at)
-at_key (ToIncr amount time) edges key (Some e) at =
-    elim (is_weight (e.weight +ℤ amount)) as (λ b.
-    len (set_at edges key (if b then Some (record e { weight = e.weight +ℤ amount; recent = time }) else Some e))
-    + taken_away (if b then Updated else Overflow)
-    ≡ len edges + cond (is_inserted (if b then Updated else Overflow)) 1 0) [
-      | true ↦ omega (arith, inserted_len edges key (record e { weight = e.weight +ℤ amount; recent = time }) (Some e) at)
-      | false ↦ omega (arith, inserted_len edges key e (Some e) at)
-    ]
-at_key ToRemove edges key None at = omega (arith, removed_len edges key None at)
-at_key ToRemove edges key (Some e) at = omega (arith, removed_len edges key (Some e) at)
+at_key change edges key before at = grind (arith, common_steps, inserted_len, removed_len)
 
 changed_len : (change : EdgeChange) (kind source target : List ℕ) (g : Graph)
     → len (changed change kind source target g).edges + taken_away (change_outcome change kind source target g)
     ≡ len g.edges + cond (is_inserted (change_outcome change kind source target g)) 1 0
-changed_len change kind source target g =
-    at_key change g.edges (changed_key change kind source target g) (get g.edges (changed_key change kind source target g)) refl
+changed_len change kind source target g = grind (arith, common_steps, at_key)
 
 pub op_len : (op : NamedOp) (g : Graph)
     → len (after op g).edges + taken_away (outcome op g) ≡ len g.edges + cond (is_inserted (outcome op g)) 1 0
@@ -75,10 +58,4 @@ op_len (Expire time) g = omega (arith, fewer time g.edges)
 pub len_after_all : (ops : List NamedOp) (g : Graph)
     → len (after_all ops g).edges + sum_by taken_away (outcomes ops g) ≡ len g.edges + count_by is_inserted (outcomes ops g)
 len_after_all [] g = refl
-len_after_all (op ∷ ops) g = omega (
-  arith,
-  op_len op g,
-  len_after_all ops (after op g),
-  sum_by-cons taken_away (outcome op g) (outcomes ops (after op g)),
-  sum_by-cons (λ (o : Outcome). cond (is_inserted o) 1 0) (outcome op g) (outcomes ops (after op g)),
-)
+len_after_all (op ∷ ops) g = grind (arith, common_steps, op_len, sum_by-cons, len_after_all ops (after op g))

@@ -1,12 +1,13 @@
 -- A worker's operations as more of the batch are planned.
-use Rattle.std.proofs.Common.{◌≡◌, ◌≢◌, ℕ, zero, suc, ◌+◌, ◌<◌, ◌≤◌, ◌%◌, ◌==◌, ◌||◌, true, false, cond, List, [], ◌∷◌, ◌++◌}
-use Rattle.std.proofs.Common.{length, length-append, get_or, map, filter, refl, sym, ap, ap₂, ◌∙◌, arith, subst, All, AllPairs}
-use Rattle.std.proofs.{Common.{nat_eq, Bool}, lemmas.List.{append-nil, map-append, get_or_append_left, Folds.list_any-append}}
+use Rattle.std.proofs.Common.{◌≡◌, ◌≢◌, ℕ, zero, suc, ◌+◌, ◌<◌, ◌≤◌, ◌%◌, true, false, cond, List, [], ◌∷◌, ◌++◌, length}
+use Rattle.std.proofs.Common.{length-append, get_or, map, filter, refl, sym, ap, ap₂, ◌∙◌, arith, subst, All, AllPairs, nat_eq}
+use Rattle.std.proofs.{Common.Bool, lemmas.List.{append-nil, map-append, get_or_append_left, Folds.list_any-append}}
 use Rattle.std.proofs.lemmas.List.{Sums.sum_by_push, Quantifiers.all_pairs_push, Elements.{All-head, All-tail, All-push}}
 use Rattle.std.{proofs.lemmas.{List.Elements.filter-append, Bool.{true≢false, eqb-true, eqb-false}}, specs.Prelude.slice_index}
 use Rattle.std.specs.{List.{enumerate_from, list_any, sum_by}, declared.option.Option.{Option, TheVariants.{None, Some}}}
+use Rattle.std.proofs.lemmas.Grind.{common_steps}
 use Rattle.graph_types.specs.Graph.{Key}
-use Rattle.edge_block.specs.Batches.{Resolved, AtKey, InAll, IsPlaced, shard_of, is_in_shard, shard_ops}
+use Rattle.edge_block.specs.Batches.{Resolved, AtKey, InAll, IsPlaced, is_in_shard, shard_ops}
 use Rattle.batch_shards.specs.{Shards.{AreSteps, IsAct, IsPlace, key_at, resolved_at, resolved_in}, declared.shard.Act.Act}
 use Rattle.batch_shards.{specs.declared.shard.{Act.TheVariants.{Edge, Expire}, Place.Place, Step.Step}, proofs.Closed.all_left}
 use Rattle.batch_apply.specs.Shards.{acts, unsourced, IsSourceBelow, AreShardSteps, with_source, with_op}
@@ -22,18 +23,9 @@ last_of P (y ∷ xs) x all = last_of P xs x (All-tail P y (xs ++ x ∷ []) all)
 
 absent : (xs : List ℕ) (s : ℕ) → list_any (nat_eq s) xs ≡ false → (i d : ℕ) → i < length xs → get_or xs i d ≡ s → ⊥
 absent [] s none i d lt e = absurd (omega arith)
-absent (x ∷ xs) s none zero d lt e =
-    elim (s == x) as (λ b. s == x ≡ b → (b || list_any (nat_eq s) xs) ≡ false → ⊥) [
-      | true ↦ λ t f. true≢false f
-      | false ↦ λ t f. eqb-false s x t (sym e)
-    ] refl none
-absent (x ∷ xs) s none (suc i) d lt e =
-    elim (s == x) as (λ b. (b || list_any (nat_eq s) xs) ≡ false → ⊥) [
-      | true ↦ λ f. true≢false f
-      | false ↦ λ f. absent xs s f i d (omega arith) e
-    ] none
+absent (x ∷ xs) s none zero d lt e = grind (arith, common_steps, true≢false, eqb-false)
+absent (x ∷ xs) s none (suc i) d lt e = grind (arith, common_steps, true≢false)
 
--- the sources with one more
 more_distinct : (o : Option Key) (sources : List ℕ) → AllPairs (λ a b. a ≢ b) sources
     → AllPairs (λ a b. a ≢ b) (with_source o sources)
 more_distinct None sources u = u
@@ -46,46 +38,22 @@ more_distinct (Some k) sources u =
 
 more_all : (P : ℕ → Type 0) (o : Option Key) (sources : List ℕ) → All P sources → ((k : Key) → o ≡ Some k → P k.source)
     → All P (with_source o sources)
-more_all P None sources all new = all
-more_all P (Some k) sources all new =
-    elim (list_any (nat_eq k.source) sources) as (λ b. All P (cond b sources (sources ++ k.source ∷ []))) [
-      | true ↦ all
-      | false ↦ All-push P sources k.source all (new k refl)
-    ]
+more_all P o sources all new = grind (arith, common_steps, All-push)
 
 more_listed : (o : Option Key) (sources : List ℕ) (s : ℕ) → list_any (nat_eq s) sources ≡ true
     → list_any (nat_eq s) (with_source o sources) ≡ true
-more_listed None sources s listed = listed
-more_listed (Some k) sources s listed =
-    elim (list_any (nat_eq k.source) sources) as (λ b. list_any (nat_eq s) (cond b sources (sources ++ k.source ∷ [])) ≡ true) [
-      | true ↦ listed
-      | false ↦ list_any-append (nat_eq s) sources (k.source ∷ [])
-          ∙ ap (λ b. b || list_any (nat_eq s) (k.source ∷ [])) listed
-    ]
+more_listed o sources s listed = grind (arith, common_steps, list_any-append)
 
 more_length : (o : Option Key) (sources : List ℕ) → length sources ≤ length (with_source o sources)
-more_length None sources = omega arith
-more_length (Some k) sources =
-    elim (list_any (nat_eq k.source) sources) as (λ b. length sources ≤ length (cond b sources (sources ++ k.source ∷ []))) [
-      | true ↦ omega arith
-      | false ↦ let l = length-append sources (k.source ∷ []) in omega arith
-    ]
+more_length o sources = grind (arith, common_steps, length-append)
 
 more_index : (o : Option Key) (sources : List ℕ) (i : ℕ) → i < length sources
     → slice_index (with_source o sources) i ≡ slice_index sources i
-more_index None sources i lt = refl
-more_index (Some k) sources i lt =
-    elim (list_any (nat_eq k.source) sources) as
-    (λ b. slice_index (cond b sources (sources ++ k.source ∷ [])) i ≡ slice_index sources i) [
-      | true ↦ refl
-      | false ↦ get_or_append_left sources (k.source ∷ []) 0 i lt
-    ]
+more_index o sources i lt = grind (arith, common_steps, get_or_append_left)
 
 key_stays : (o : Option Key) (sources : List ℕ) (p : Option Place) → IsPlace (length sources) p
     → key_at (with_source o sources) p ≡ key_at sources p
-key_stays o sources None h = refl
-key_stays o sources (Some p) h = ap (λ n. Some (let k : Key = record { kind = p.kind.0; source = n; target = p.target } in k))
-    (more_index o sources p.row h)
+key_stays o sources p h = grind (arith, common_steps, more_index)
 
 acts_stay : (o : Option Key) (sources : List ℕ) (steps : List Step) → AreSteps (length sources) steps
     → acts (resolved_in (with_source o sources) steps) ≡ acts (resolved_in sources steps)
@@ -100,14 +68,10 @@ acts_stay o sources (s ∷ steps) all =
       act_stays (Expire time) is = refl
 
 wider : (n m : ℕ) → n ≤ m → (p : Option Place) → IsPlace n p → IsPlace m p
-wider n m le None h = tt
-wider n m le (Some p) h = omega arith
+wider n m le p h = grind (arith, common_steps)
 
 steps_wider : (n m : ℕ) → n ≤ m → (steps : List Step) → AreSteps n steps → AreSteps m steps
-steps_wider n m le steps all k d lt = act_wider (get_or steps k d).act (all k d lt) where
-  act_wider : (act : Act) → IsAct n act → IsAct m act
-  act_wider (Edge place change) is = (wider n m le place is.0, is.1)
-  act_wider (Expire time) is = tt
+steps_wider n m le steps all k d lt = grind (arith, common_steps, wider)
 
 abbrev numbers : ℕ → ℕ → List (ℕ × Resolved) → List ℕ
 numbers workers w ps = map (λ (p : ℕ × Resolved). p.0) (filter (λ (p : ℕ × Resolved). is_in_shard workers w p.1) ps)
@@ -123,9 +87,7 @@ next_places workers w rs r =
 
 next_acts : (workers w : ℕ) (rs : List Resolved) (r : Resolved)
     → acts (shard_ops workers w (rs ++ r ∷ [])) ≡ acts (shard_ops workers w rs) ++ acts (shard_ops workers w (r ∷ []))
-next_acts workers w rs r =
-    ap acts (filter-append (is_in_shard workers w) rs (r ∷ []))
-    ∙ map-append unsourced (shard_ops workers w rs) (shard_ops workers w (r ∷ []))
+next_acts workers w rs r = grind (arith, common_steps, filter-append, map-append)
 
 -- an operation of another worker changes nothing
 pub passed : (workers w : ℕ) (rs : List Resolved) (r : Resolved) (is_old : ℕ → Bool) (sources : List ℕ) (steps : List Step)
@@ -150,29 +112,19 @@ key_in (AtKey source key change) = key
 key_in (InAll time) = None
 
 with_key : (r : Resolved) (sources : List ℕ) → with_op r sources ≡ with_source (key_in r) sources
-with_key (AtKey source key change) sources = refl
-with_key (InAll time) sources = refl
+with_key r sources = grind (arith, common_steps)
 
 own_key : (workers w : ℕ) (r : Resolved) → IsPlaced r → is_in_shard workers w r ≡ true → (k : Key) → key_in r ≡ Some k
     → k.source % workers ≡ w
-own_key workers w (AtKey source key change) placed mine k e =
-    eqb-true (k.source % workers) w (ap (λ o. shard_of workers o == w) (sym (placed k e)) ∙ mine)
-own_key workers w (InAll time) placed mine k e = cc
+own_key workers w r placed mine k e = grind (arith, common_steps, eqb-true)
 
 below_key : (n : ℕ) (r : Resolved) → IsSourceBelow n r → (k : Key) → key_in r ≡ Some k → k.source < n
-below_key n (AtKey source key change) below = below
-below_key n (InAll time) below = λ k e. cc
+below_key n r below = grind (arith, common_steps)
 
 more_sum : (f : ℕ → ℕ) (o : Option Key) (sources : List ℕ)
     → ((k : Key) → o ≡ Some k → list_any (nat_eq k.source) sources ≡ false → f k.source ≡ 0)
     → sum_by f (with_source o sources) ≡ sum_by f sources
-more_sum f None sources new = refl
-more_sum f (Some k) sources new =
-    elim (list_any (nat_eq k.source) sources) as (λ b. list_any (nat_eq k.source) sources ≡ b
-    → sum_by f (cond b sources (sources ++ k.source ∷ [])) ≡ sum_by f sources) [
-      | true ↦ λ _. refl
-      | false ↦ λ none. let one = sum_by_push f sources k.source in let zero = new k refl none in omega arith
-    ] refl
+more_sum f o sources new = grind (arith, common_steps, sum_by_push)
 
 module _ (workers w : ℕ) (rs : List Resolved) (r : Resolved) (is_old : ℕ → Bool) (sources : List ℕ) (steps : List Step)
     (is : AreShardSteps workers rs w is_old sources steps) (mine : is_in_shard workers w r ≡ true) (placed : IsPlaced r) where
@@ -213,9 +165,4 @@ module _ (workers w : ℕ) (rs : List Resolved) (r : Resolved) (is_old : ℕ →
   -- a sum over the sources to which those with old rows alone add
   pub same_sum : (f : ℕ → ℕ) → ((s : ℕ) → is_old s ≡ false → f s ≡ 0) → (next : List ℕ) → next ≡ with_op r sources
       → sum_by f next ≡ sum_by f sources
-  same_sum f none next grows =
-      ap (sum_by f) (grows ∙ with_key r sources)
-      ∙ more_sum f (key_in r) sources (λ k e out. elim (is_old k.source) as (λ b. is_old k.source ≡ b → f k.source ≡ 0) [
-        | true ↦ λ old. absurd (true≢false (sym (is.old_rows k.source (own_key workers w r placed mine k e) old) ∙ out))
-        | false ↦ λ old. none k.source old
-      ] refl)
+  same_sum f none next grows = grind (arith, common_steps, with_key, more_sum, true≢false, own_key)

@@ -1,8 +1,8 @@
 -- The blocks of a version and of the next one, by the sources whose rows were replaced.
-use Rattle.std.proofs.Common.{◌≡◌, ◌≢◌, ℕ, zero, suc, ◌+◌, ◌<◌, ◌≤◌, ◌==◌, Bool, true, false, cond, List, [], ◌∷◌}
-use Rattle.std.proofs.Common.{◌++◌, length, get_or, map, flat_map, count_by, refl, sym, ap, ap₂, ◌∙◌, arith, subst, All, AllPairs}
-use Rattle.std.proofs.lemmas.{Bool.eqb-true, Bool.ne_eqb, List.Sums.sum_by-cons, List.Elements.All-head, List.Elements.All-tail}
-use Rattle.std.{specs.List.sum_by, proofs.lemmas.Bool.eq-eqb}
+use Rattle.std.proofs.Common.{◌≡◌, ◌≢◌, ℕ, zero, suc, ◌+◌, ◌<◌, ◌≤◌, ◌==◌, Bool, cond, List, [], ◌∷◌, ◌++◌, length, get_or}
+use Rattle.std.proofs.{Common.{flat_map, count_by, refl, sym, ap, ap₂, ◌∙◌, arith, subst, All, AllPairs}, lemmas.Bool.eqb-true}
+use Rattle.std.{proofs.lemmas.{Bool.{ne_eqb, eq-eqb}, List.{Sums.sum_by-cons, Elements.{All-head, All-tail}}}, specs.List.sum_by}
+use Rattle.std.proofs.lemmas.Grind.{common_steps}
 use Rattle.edge_block.{specs.{Slots.BlockView, Batches.sum_below}, proofs.Counts.count_more}
 use Rattle.graph_version.specs.Rows.{row_of, blocks_of}
 use Rattle.batch_shards.{specs.Done.Exchanges, proofs.Places.count_by-append}
@@ -48,16 +48,10 @@ rows_below p (row ∷ rows) (suc n) le =
 
 pub some_times : (xs : List ℕ) (i d : ℕ) → i < length xs → 1 ≤ times (get_or xs i d) xs
 some_times [] i d lt = absurd (omega arith)
-some_times (x ∷ xs) zero d lt =
-    let c = count_more (λ y. y == x) x xs in
-    let yes : (let k : ℕ = cond (x == x) 1 0 in k) ≡ 1 = ap (λ b. cond b 1 0) (eq-eqb x x refl) in
-    omega arith
-some_times (x ∷ xs) (suc i) d lt =
-    let c = count_more (λ y. y == get_or xs i d) x xs in
-    let rest = some_times xs i d (omega arith) in
-    omega arith
+some_times (x ∷ xs) zero d lt = grind (arith, common_steps, count_more, eq-eqb)
+some_times (x ∷ xs) (suc i) d lt = omega (arith, count_more (λ y. y == get_or xs i d) x xs, some_times xs i d (omega arith))
 
-sum_same : (f h : ℕ → ℕ) (xs : List ℕ) → All (λ x. f x ≡ h x) xs → sum_by f xs ≡ sum_by h xs
+pub sum_same : (f h : ℕ → ℕ) (xs : List ℕ) → All (λ x. f x ≡ h x) xs → sum_by f xs ≡ sum_by h xs
 sum_same f h [] all = refl
 sum_same f h (x ∷ xs) all =
     sum_by-cons f x xs ∙ ap₂ (λ a b. a + b) (All-head (λ x. f x ≡ h x) x xs all)
@@ -76,8 +70,7 @@ others xs rows s = cond (times s xs == 0) (rows s) []
 
 split_count : (p : BlockView → Bool) (b : Bool) (row : List BlockView)
     → count_by p row ≡ count_by p (cond b row []) + (let k : ℕ = cond b 0 (count_by p row) in k)
-split_count p true row = omega arith
-split_count p false row = omega arith
+split_count p b row = grind (arith, common_steps)
 
 module _ (xs : List ℕ) (once : (m : ℕ) → times m xs ≤ 1) where
   -- all blocks are those of the sources that aren't listed and those of the listed ones
@@ -117,11 +110,7 @@ module _ (xs : List ℕ) (rows : List (ℕ × List BlockView)) (before after : L
   rest = lists_below bound (others xs (row_of before))
 
   same_rest : lists_below bound (others xs (row_of after)) ≡ rest
-  same_rest = same_below bound (others xs (row_of after)) (others xs (row_of before))
-      (λ s. elim (times s xs == 0) as (λ b. times s xs == 0 ≡ b → cond b (row_of after s) [] ≡ cond b (row_of before s) []) [
-        | true ↦ λ t. among s ∙ among_none rows s (row_of before s) (ap (times s) sources ∙ eqb-true (times s xs) 0 t)
-        | false ↦ λ t. refl
-      ] refl)
+  same_rest = grind (arith, common_steps, same_below, times, among_none, eqb-true)
 
   new_rows : flat_map (row_of after) xs ≡ flat_map (λ r. r.1) rows
   new_rows =
@@ -165,8 +154,3 @@ pairs (x ∷ xs) once zero (suc j) d lt within e =
 pairs (x ∷ xs) once (suc i) zero d lt within e = absurd (omega arith)
 pairs (x ∷ xs) once (suc i) (suc j) d lt within e =
     pairs xs (λ m. let c = count_more (λ y. y == m) x xs in omega (arith, c, once m)) i j d (omega arith) (omega arith) e
-
-pub count_map : {A B : Type 0} (q : B → Bool) (f : A → B) (xs : List A) → count_by q (map f xs) ≡ count_by (λ x. q (f x)) xs
-count_map q f [] = refl
-count_map q f (x ∷ xs) = count_more q (f x) (map f xs) ∙ ap (λ k. cond (q (f x)) 1 0 + k) (count_map q f xs)
-    ∙ sym (count_more (λ x. q (f x)) x xs)

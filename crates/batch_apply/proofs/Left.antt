@@ -1,7 +1,8 @@
 -- What shards leave, one after another.
 use Rattle.std.proofs.Common.{◌≡◌, ℕ, zero, suc, ◌+◌, Bool, true, List, [], ◌∷◌, ◌++◌, subst, All, map, flat_map, count_by, refl}
 use Rattle.std.proofs.{Common.{sym, ap, ap₂, ◌∙◌, arith}, lemmas.List.{map-append, Sums.sum_by-cons, Elements.All-nil}}
-use Rattle.std.{proofs.lemmas.{List.Elements.All-append, Grind.flat_map-append}, specs.List.{sum_by, range_with_len, AllZip}}
+use Rattle.std.{proofs.lemmas.{List.Elements.All-append, Grind.{flat_map-append, common_steps}}, specs.List.sum_by}
+use Rattle.std.specs.List.{range_with_len, AllZip}
 use Rattle.graph_types.specs.{Graph.Graph, declared.batches.NamedOp.NamedOp, declared.batches.Outcome.Outcome}
 use Rattle.edge_block.specs.{Slots.BlockView, Rows.{Shape, shape_of}, Batches.{Resolved, resolved, opened, layout_after}}
 use Rattle.edge_block.specs.Batches.{rows_all}
@@ -97,15 +98,7 @@ module _ (before : ℕ → List BlockView) where
   handed_left [] [] z q = refl
   handed_left [] (d ∷ dones) z q = absurd z
   handed_left (s ∷ shards) [] z q = absurd z
-  handed_left (s ∷ shards) (d ∷ dones) z q =
-      omega (
-        arith,
-        z.0.handed q,
-        handed_left shards dones z.1 q,
-        count_by-append q d.left.taken.items (taken_left dones),
-        count_by-append q (numbers_of d.left.unused.items) (unused_left dones),
-        count_by-append q (numbers_of s.fresh.items) (fresh_all shards),
-      )
+  handed_left (s ∷ shards) (d ∷ dones) z q = grind (arith, common_steps, handed_left shards dones z.1 q)
 
   module _ (workers : ℕ) (ops : List NamedOp) (g : Graph) (layout : ℕ → List Shape) where
     abbrev rs : List Resolved
@@ -114,8 +107,7 @@ module _ (before : ℕ → List BlockView) where
     pub layouts_left : (a k : ℕ) (shards : List Shard) (dones : List ShardDone)
         → AllZip (IsShardOf workers rs layout) (range_with_len a k) shards → AllZip (IsShardDone before) shards dones
         → All (λ r. map shape_of r.1 ≡ layout_after ops g (λ s. map shape_of (before s)) r.0) (rows_left dones)
-    layouts_left a zero [] [] p z = All-nil (λ (r : ℕ × List BlockView). map shape_of r.1 ≡ layout_after ops g
-        (λ s. map shape_of (before s)) r.0)
+    layouts_left a zero [] [] p z = grind (arith, common_steps, All-nil)
     layouts_left a k [] (d ∷ dones) p z = absurd z
     layouts_left a zero (s ∷ shards) dones p z = absurd p
     layouts_left a (suc k) [] dones p z = absurd p
@@ -130,8 +122,7 @@ module _ (before : ℕ → List BlockView) where
         → AllZip (IsShardOf workers rs layout) (range_with_len a k) shards → AllZip (IsShardDone before) shards dones
         → All (λ r. All (λ b. h b ≡ f b) (before r.0) → map h r.1
         ≡ births_end n (rows_all rs (opened (λ s. map shape_of (before s))) r.0) (map f (before r.0))) (rows_left dones)
-    births_left f h n a zero [] [] each p z = All-nil (λ (r : ℕ × List BlockView). All (λ b. h b ≡ f b) (before r.0) → map h r.1
-        ≡ births_end n (rows_all rs (opened (λ s. map shape_of (before s))) r.0) (map f (before r.0)))
+    births_left f h n a zero [] [] each p z = grind (arith, common_steps, All-nil)
     births_left f h n a k [] (d ∷ dones) each p z = absurd z
     births_left f h n a zero (s ∷ shards) dones each p z = absurd p
     births_left f h n a (suc k) [] dones each p z = absurd p

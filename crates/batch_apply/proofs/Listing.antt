@@ -1,15 +1,15 @@
 -- The old rows of a worker are listed before its first operation.
-use Rattle.std.proofs.Common.{◌≡◌, ◌≢◌, ℕ, zero, suc, ◌+◌, ◌<◌, ◌≤◌, ◌%◌, ◌==◌, ◌||◌, Bool, true, false, cond, List, [], ◌∷◌}
-use Rattle.std.proofs.Common.{◌++◌, length, map, take, get_or, refl, sym, ap, ◌∙◌, arith, subst, All, AllPairs, nat_eq, max}
+use Rattle.graph_types.proofs.Counts.{apart_tail}
+use Rattle.std.proofs.Common.{◌≡◌, ◌≢◌, ℕ, suc, ◌+◌, ◌<◌, ◌≤◌, ◌%◌, ◌==◌, ◌||◌, Bool, true, false, cond, List, [], ◌∷◌, ◌++◌}
+use Rattle.std.proofs.Common.{length, map, take, get_or, refl, sym, ap, ◌∙◌, arith, All, AllPairs, nat_eq, max}
 use Rattle.std.proofs.lemmas.{Bool.{true≢false, eq-eqb, eqb-true, ne_eqb}, List.{append-nil, map-append, length-map}}
 use Rattle.std.proofs.lemmas.List.{length-take-le, get_or-take, get_or-map, Folds.{list_any_none, list_any_at}, Sums.sum_by-cons}
 use Rattle.std.proofs.lemmas.List.{Sums.{sum_by_push, length-filter, count_by-le-length}, Elements.{All-nil, All-head, All-tail}}
-use Rattle.std.proofs.lemmas.List.Elements.{All-map, All-filter, All-weaker, filter_more, filter_passes}
-use Rattle.std.specs.List.{list_any, sum_by}
-use Rattle.edge_block.specs.{Slots.{BlockView, has_before}, Rows.shape_of, Batches.{Resolved, AtKey, InAll, is_in_shard}}
-use Rattle.edge_block.specs.Batches.{shard_ops}
+use Rattle.std.{proofs.lemmas.List.Elements.{All-map, All-filter, All-weaker, filter_more, filter_passes}, specs.List.list_any}
+use Rattle.std.{specs.List.sum_by, proofs.lemmas.Grind.common_steps}
+use Rattle.edge_block.specs.{Slots.{BlockView, has_before}, Rows.shape_of, Batches.{Resolved, AtKey, InAll, shard_ops}}
 use Rattle.batch_shards.specs.{Shards.{IsAct, resolved_at, resolved_in}, Spending.{time_of, old_blocks, latest as latest_step}}
-use Rattle.batch_shards.specs.declared.shard.{Act.{Act, TheVariants.{Edge, Expire}}, Step.Step}
+use Rattle.batch_shards.specs.declared.shard.{Act.Act, Step.Step}
 use Rattle.batch_apply.specs.{Shards.acts, Shards.has_old_shape, Shards.latest, Shards.AreShardSteps, declared.old.OldRow.OldRow}
 use Rattle.batch_apply.specs.OldRows.{AreOldRows, old_sources, own_rows, blocks_in}
 
@@ -22,16 +22,10 @@ listed_blocks [] s = 0
 listed_blocks (r ∷ old) s = cond (s == r.source.0) r.blocks (listed_blocks old s)
 
 pairs_cons : (x : ℕ) (xs : List ℕ) → All (λ y. x ≢ y) xs → AllPairs (λ a b. a ≢ b) xs → AllPairs (λ a b. a ≢ b) (x ∷ xs)
-pairs_cons x xs first rest zero zero d lt within = absurd (omega arith)
-pairs_cons x xs first rest zero (suc j) d lt within = first j d (omega arith)
-pairs_cons x xs first rest (suc i) zero d lt within = absurd (omega arith)
-pairs_cons x xs first rest (suc i) (suc j) d lt within = rest i j d (omega arith) (omega arith)
+pairs_cons x xs first rest is holds d lt within = grind (arith, common_steps)
 
 pub pairs_head : (x : ℕ) (xs : List ℕ) → AllPairs (λ a b. a ≢ b) (x ∷ xs) → All (λ y. x ≢ y) xs
 pairs_head x xs pairs j d lt = pairs 0 (suc j) d (omega arith) (omega arith)
-
-pub pairs_tail : (x : ℕ) (xs : List ℕ) → AllPairs (λ a b. a ≢ b) (x ∷ xs) → AllPairs (λ a b. a ≢ b) xs
-pairs_tail x xs pairs i j d lt within = pairs (suc i) (suc j) d (omega arith) (omega arith)
 
 own_distinct : (workers w : ℕ) (old : List OldRow) → AllPairs (λ a b. a ≢ b) (old_sources old)
     → AllPairs (λ a b. a ≢ b) (old_sources (own_rows workers w old))
@@ -39,7 +33,7 @@ own_distinct workers w [] pairs = pairs
 own_distinct workers w (r ∷ old) pairs =
     let own : List OldRow = own_rows workers w old in
     let rest : AllPairs (λ a b. a ≢ b) (old_sources own) =
-    own_distinct workers w old (pairs_tail r.source.0 (old_sources old) pairs) in
+    own_distinct workers w old (apart_tail r.source.0 (old_sources old) pairs) in
     let others : All (λ (q : OldRow). r.source.0 ≢ q.source.0) old = λ i d lt e.
     pairs_head r.source.0 (old_sources old) pairs i 0 (omega (arith, length-map old (λ (q : OldRow). q.source.0)))
     (e ∙ sym (get_or-map (λ (q : OldRow). q.source.0) old i d 0 lt)) in
@@ -95,14 +89,7 @@ start workers w old pairs =
     }
 
 pub own_few : (workers w : ℕ) (old : List OldRow) → length (old_sources (own_rows workers w old)) ≤ length old
-own_few workers w old =
-    let mine : OldRow → Bool = λ (r : OldRow). r.source.0 % workers == w in
-    omega (
-      arith,
-      length-map (own_rows workers w old) (λ (r : OldRow). r.source.0),
-      length-filter mine old,
-      count_by-le-length mine old,
-    )
+own_few workers w old = grind (arith, common_steps, length-map, length-filter, count_by-le-length)
 
 -- an old row's source isn't that of one before it
 pub not_before : (workers w : ℕ) (old : List OldRow) (i : ℕ) (d : OldRow) → AllPairs (λ a b. a ≢ b) (old_sources old)
@@ -128,9 +115,7 @@ not_before workers w old i d pairs lt =
 own_more : (workers w : ℕ) (old : List OldRow) (i : ℕ) (d : OldRow) (b : Bool) → i < length old
     → (get_or old i d).source.0 % workers == w ≡ b
     → own_rows workers w (take (i + 1) old) ≡ own_rows workers w (take i old) ++ cond b (get_or old i d ∷ []) []
-own_more workers w old i d b lt is =
-    filter_more (λ (r : OldRow). r.source.0 % workers == w) old i d lt
-    ∙ ap (λ t. own_rows workers w (take i old) ++ cond t (get_or old i d ∷ []) []) is
+own_more workers w old i d b lt is = grind (arith, common_steps, filter_more)
 
 pub one_other : (workers w : ℕ) (old : List OldRow) (i : ℕ) (d : OldRow) → i < length old
     → (get_or old i d).source.0 % workers == w ≡ false
@@ -141,20 +126,12 @@ pub one_source : (workers w : ℕ) (old : List OldRow) (i : ℕ) (d : OldRow) �
     → (get_or old i d).source.0 % workers == w ≡ true
     → old_sources (own_rows workers w (take (i + 1) old))
     ≡ old_sources (own_rows workers w (take i old)) ++ (get_or old i d).source.0 ∷ []
-one_source workers w old i d lt is =
-    ap old_sources (own_more workers w old i d true lt is)
-    ∙ map-append (λ (r : OldRow). r.source.0) (own_rows workers w (take i old)) (get_or old i d ∷ [])
+one_source workers w old i d lt is = grind (arith, common_steps, own_more, map-append)
 
 pub one_row : (workers w : ℕ) (old : List OldRow) (i : ℕ) (d : OldRow) → i < length old
     → (get_or old i d).source.0 % workers == w ≡ true
     → blocks_in (own_rows workers w (take (i + 1) old)) ≡ blocks_in (own_rows workers w (take i old)) + (get_or old i d).blocks
-one_row workers w old i d lt is =
-    ap blocks_in (own_more workers w old i d true lt is)
-    ∙ sum_by_push (λ (r : OldRow). r.blocks) (own_rows workers w (take i old)) (get_or old i d)
-
--- the greatest time of a shard's expiries is the batch's
-max_zero : (n : ℕ) → max 0 n ≡ n
-max_zero n = omega arith
+one_row workers w old i d lt is = grind (arith, common_steps, own_more, sum_by_push)
 
 latest_acts : (rs : List Resolved) → latest (acts rs) ≡ latest rs
 latest_acts [] = refl
@@ -163,8 +140,7 @@ latest_acts (InAll time ∷ rs) = ap (max time) (latest_acts rs)
 
 one_act : (sources : List ℕ) (act : Act) (rest : List Resolved) (n : ℕ) → latest rest ≡ n
     → latest (resolved_at sources act ∷ rest) ≡ max (time_of act) n
-one_act sources (Edge place change) rest n same = ap (max 0) same
-one_act sources (Expire time) rest n same = ap (max time) same
+one_act sources act rest n same = grind (arith, common_steps)
 
 latest_in : (sources : List ℕ) (steps : List Step) → latest (resolved_in sources steps) ≡ latest_step steps
 latest_in sources [] = refl
@@ -173,13 +149,7 @@ latest_in sources (s ∷ steps) =
 
 latest_own : (workers w : ℕ) (rs : List Resolved) → latest (shard_ops workers w rs) ≡ latest rs
 latest_own workers w [] = refl
-latest_own workers w (AtKey source key change ∷ rs) =
-    let own : List Resolved = shard_ops workers w rs in
-    elim (is_in_shard workers w (AtKey source key change)) as
-    (λ b. latest (cond b (AtKey source key change ∷ own) own) ≡ max 0 (latest rs)) [
-      | true ↦ ap (max 0) (latest_own workers w rs)
-      | false ↦ latest_own workers w rs ∙ sym (max_zero (latest rs))
-    ]
+latest_own workers w (AtKey source key change ∷ rs) = grind (arith, common_steps, latest_own workers w rs)
 latest_own workers w (InAll time ∷ rs) = ap (max time) (latest_own workers w rs)
 
 pub same_latest : (workers w : ℕ) (rs : List Resolved) (is_old : ℕ → Bool) (sources : List ℕ) (steps : List Step)
@@ -191,9 +161,7 @@ same_latest workers w rs is_old sources steps is =
 -- what holds for a test of rows holds for one that agrees
 pub same_old : (workers w : ℕ) (rs : List Resolved) (a b : ℕ → Bool) (sources : List ℕ) (steps : List Step)
     → ((s : ℕ) → a s ≡ b s) → AreShardSteps workers rs w a sources steps → AreShardSteps workers rs w b sources steps
-same_old workers w rs a b sources steps agree is =
-    let same : a ≡ b = λ i s. agree s i in
-    subst (λ (f : ℕ → Bool). AreShardSteps workers rs w f sources steps) same is
+same_old workers w rs a b sources steps agree is = grind (arith, common_steps)
 
 counted : (time : ℕ) (row : List BlockView) (b : BlockView)
     → old_blocks time (b ∷ row) ≡ cond (has_before time b.slots) 1 0 + old_blocks time row
@@ -257,21 +225,12 @@ module _ (time : ℕ) (rows : ℕ → List BlockView) where
         ] refl
 
     pub blocks_agree : (s : ℕ) → listed_blocks old s ≡ old_blocks time (rows s)
-    blocks_agree s =
-        elim (is_listed old s) as (λ b. is_listed old s ≡ b → listed_blocks old s ≡ old_blocks time (rows s)) [
-          | true ↦ λ t. (found old are.blocks s t).0
-          | false ↦ λ f. not_listed old s f ∙ sym (none_old_blocks time (rows s) (sym (listed_agrees s) ∙ f))
-        ] refl
+    blocks_agree s = grind (arith, common_steps, found, not_listed, none_old_blocks, listed_agrees)
 
     sums_agree : (xs : List OldRow) → All IsRight xs → sum_by (listed_blocks old) (old_sources xs) ≡ blocks_in xs
     sums_agree [] right = refl
     sums_agree (r ∷ xs) right =
-        let here = (All-head IsRight r xs right).0 in
-        let rest = sums_agree xs (All-tail IsRight r xs right) in
-        let agree = blocks_agree r.source.0 in
-        let a = sum_by-cons (listed_blocks old) r.source.0 (old_sources xs) in
-        let b = sum_by-cons (λ (q : OldRow). q.blocks) r xs in
-        omega arith
+        grind (arith, common_steps, All-head, All-tail, blocks_agree, sum_by-cons, sums_agree xs (All-tail IsRight r xs right))
 
     -- a worker's old rows have as many old blocks as its list says
     pub own_blocks : (workers w : ℕ)
@@ -281,6 +240,4 @@ module _ (time : ℕ) (rows : ℕ → List BlockView) where
 
     pub sum_agrees : (sources : List ℕ)
         → sum_by (listed_blocks old) sources ≡ sum_by (λ s. old_blocks time (rows s)) sources
-    sum_agrees sources =
-        let same : listed_blocks old ≡ (λ s. old_blocks time (rows s)) = λ i s. blocks_agree s i in
-        ap (λ (f : ℕ → ℕ). sum_by f sources) same
+    sum_agrees sources = grind (arith, common_steps, blocks_agree)

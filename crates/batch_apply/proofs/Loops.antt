@@ -1,13 +1,13 @@
 -- What loops have done, with one more.
-use Rattle.std.proofs.Common.{◌≡◌, ℕ, ◌+◌, ◌≤◌, ◌==◌, Bool, cond, List, [], ◌∷◌, ◌++◌, length, get_or, count_by, set, take, drop}
-use Rattle.std.proofs.{Common.{refl, sym, ap, ◌∙◌}, lemmas.List.{map-append, set_past, take-append-drop}}
-use Rattle.std.specs.declared.{sync.Arc.Arc, alloc.Global.Global, vec.Vec.Vec}
+use Rattle.std.proofs.Common.{◌≡◌, ℕ, ◌+◌, ◌≤◌, Bool, List, [], ◌∷◌, ◌++◌, length, get_or, count_by, set, take, drop, refl, sym}
+use Rattle.std.proofs.{Common.{ap, ◌∙◌, arith}, lemmas.List.{map-append, set_past, take-append-drop}}
+use Rattle.std.{specs.declared.{sync.Arc.Arc, alloc.Global.Global, vec.Vec.Vec}, proofs.lemmas.Grind.common_steps}
 use Rattle.graph_types.specs.declared.{ids.VertexId.VertexId, batches.Outcome.Outcome, batches.Outcome.TheVariants.Absent}
 use Rattle.edge_block.specs.{declared.blocks.Block.Block, Batches.together}
-use Rattle.graph_version.specs.{Rows.row_of, Drafts.{DraftView, ReplacesRow}}
+use Rattle.graph_version.specs.Drafts.{DraftView, ReplacesRow}
 use Rattle.batch_shards.specs.{RowBlocks.block_of, RowBlocks.blocks_of, RowBlocks.numbers_of, Closing.row_values, Groups.told}
 use Rattle.batch_shards.{specs.declared.shard.ShardDone.ShardDone, proofs.Places.count_by-append}
-use Rattle.batch_apply.{specs.{Plans.written, Applied.{ReplacesRows, written_from, row_among}}, proofs.Placed.among_more}
+use Rattle.batch_apply.{specs.{Plans.written, Applied.{ReplacesRows, written_from}}, proofs.Placed.among_more}
 
 pub written_more : (ps : List (ℕ × Outcome)) (p : ℕ × Outcome) (xs : List Outcome)
     → written (ps ++ p ∷ []) xs ≡ set (written ps xs) p.0 (told (together (get_or (written ps xs) p.0 Absent) p.1))
@@ -16,8 +16,7 @@ written_more (x ∷ ps) p xs = written_more ps p (set xs x.0 (told (together (ge
 
 pub written_past : (ps : List (ℕ × Outcome)) (p : ℕ × Outcome) (xs : List Outcome) → length (written ps xs) ≤ p.0
     → written (ps ++ p ∷ []) xs ≡ written ps xs
-written_past ps p xs past = written_more ps p xs
-    ∙ set_past (written ps xs) p.0 (told (together (get_or (written ps xs) p.0 Absent) p.1)) past
+written_past ps p xs past = grind (arith, common_steps, written_more, set_past)
 
 pub from_more : (ds : List ShardDone) (d : ShardDone) (xs : List Outcome)
     → written_from (ds ++ d ∷ []) xs ≡ written d.outcomes.items (written_from ds xs)
@@ -39,20 +38,10 @@ replaced_none draft = record { rows_are = λ s. refl; rest = refl }
 values_more : (rows : List (VertexId × Vec (Arc Block Global) Global)) (source : VertexId)
     (blocks : Vec (Arc Block Global) Global)
     → row_values (rows ++ (source, blocks) ∷ []) ≡ row_values rows ++ (source.0, blocks_of blocks.items) ∷ []
-values_more rows source blocks = map-append (λ (r : VertexId × Vec (Arc Block Global) Global). (r.0.0, blocks_of r.1.items))
-    rows ((source, blocks) ∷ [])
+values_more rows source blocks = grind (arith, common_steps, map-append)
 
 pub replaced_more : (rows : List (VertexId × Vec (Arc Block Global) Global)) (source : VertexId)
     (blocks : Vec (Arc Block Global) Global) (first draft next : DraftView)
     → ReplacesRows (row_values rows) first draft → ReplacesRow source.0 (blocks_of blocks.items) draft next
     → ReplacesRows (row_values (rows ++ (source, blocks) ∷ [])) first next
-replaced_more rows source blocks first draft next before one = record {
-  rows_are = λ s.
-      one.rows s
-      ∙ ap (λ row. cond (s == source.0) (blocks_of blocks.items) row) (before.rows_are s)
-      ∙ sym (among_more (row_values rows) (source.0, blocks_of blocks.items) s (row_of first.version.rows s))
-      ∙ ap (λ rs. row_among rs s (row_of first.version.rows s)) (sym (values_more rows source blocks));
-  rest = one.rest
-      ∙ ap (λ (d : DraftView). let r : DraftView = record d { version = record d.version { rows = next.version.rows } } in r)
-      before.rest;
-}
+replaced_more rows source blocks first draft next before one = grind (arith, common_steps, among_more, values_more)

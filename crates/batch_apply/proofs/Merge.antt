@@ -1,6 +1,6 @@
 -- What shards leave, put together, is what the batch leaves.
-use Rattle.std.proofs.Common.{◌≡◌, ℕ, ◌+◌, ◌%◌, ◌==◌, List, [], ◌∷◌, map, filter, zip, Bool, true, false, cond, refl, ap, ◌∙◌}
-use Rattle.std.{proofs.Common.All, specs.List.enumerate_from}
+use Rattle.std.proofs.Common.{◌≡◌, ℕ, ◌+◌, ◌%◌, ◌==◌, List, [], ◌∷◌, map, filter, zip, Bool, true, refl, ap, ◌∙◌, All, arith}
+use Rattle.std.{specs.List.enumerate_from, proofs.lemmas.Grind.common_steps}
 use Rattle.graph_types.specs.{Graph.Graph, declared.batches.NamedOp.NamedOp, declared.batches.Outcome.Outcome}
 use Rattle.edge_block.specs.{Rows.{Shape, untouched, row_end}, Batches.{Resolved, resolved, is_in_shard, shard_ops, picked}}
 use Rattle.edge_block.{specs.Batches.{outcomes_all, opened}, proofs.ShardLaws.shard_outcomes}
@@ -11,12 +11,7 @@ use Rattle.batch_shards.specs.Groups.{told}
 shard_is : (p : Resolved → Bool) (rs : List Resolved) (k : ℕ) → map (λ x. x.1) (filter (λ x. p x.1) (enumerate_from k rs))
     ≡ filter p rs
 shard_is p [] k = refl
-shard_is p (r ∷ rs) k =
-    elim (p r) as (λ b. map (λ x. x.1) (cond b ((k, r) ∷ filter (λ x. p x.1) (enumerate_from (k + 1) rs))
-    (filter (λ x. p x.1) (enumerate_from (k + 1) rs))) ≡ cond b (r ∷ filter p rs) (filter p rs)) [
-      | true ↦ ap (λ xs. r ∷ xs) (shard_is p rs (k + 1))
-      | false ↦ shard_is p rs (k + 1)
-    ]
+shard_is p (r ∷ rs) k = grind (arith, common_steps, shard_is p rs (k + 1))
 
 -- the places of picked results
 placed_results : {A : Type 0} (p : Resolved → Bool) (rs : List Resolved) (ys : List A) (k : ℕ)
@@ -28,25 +23,13 @@ placed_results p (r ∷ rs) [] k = none _
     none : {A B : Type 0} (xs : List A) → (let nothing : List B = [] in zip xs nothing) ≡ []
     none [] = refl
     none (x ∷ xs) = refl
-placed_results p (r ∷ rs) (y ∷ ys) k =
-    elim (p r) as (λ b. zip (map (λ x. x.0) (cond b ((k, r) ∷ filter (λ x. p x.1) (enumerate_from (k + 1) rs))
-    (filter (λ x. p x.1) (enumerate_from (k + 1) rs)))) (cond b (y ∷ picked p rs ys) (picked p rs ys))
-    ≡ cond b ((k, y) ∷ picked (λ (x : ℕ × Resolved). p x.1) (enumerate_from (k + 1) rs) (enumerate_from (k + 1) ys))
-    (picked (λ (x : ℕ × Resolved). p x.1) (enumerate_from (k + 1) rs) (enumerate_from (k + 1) ys))) [
-      | true ↦ ap (λ xs. (k, y) ∷ xs) (placed_results p rs ys (k + 1))
-      | false ↦ placed_results p rs ys (k + 1)
-    ]
+placed_results p (r ∷ rs) (y ∷ ys) k = grind (arith, common_steps, placed_results p rs ys (k + 1))
 
 map_picked : {A B : Type 0} (f : B → B) (p : A → Bool) (xs : List A) (ys : List B)
     → map f (picked p xs ys) ≡ picked p xs (map f ys)
 map_picked f p [] ys = refl
 map_picked f p (x ∷ xs) [] = refl
-map_picked f p (x ∷ xs) (y ∷ ys) =
-    elim (p x) as (λ b. map f (cond b (y ∷ picked p xs ys) (picked p xs ys))
-    ≡ cond b (f y ∷ picked p xs (map f ys)) (picked p xs (map f ys))) [
-      | true ↦ ap (λ l. f y ∷ l) (map_picked f p xs ys)
-      | false ↦ map_picked f p xs ys
-    ]
+map_picked f p (x ∷ xs) (y ∷ ys) = grind (arith, common_steps, map_picked f p xs ys)
 
 module _ (workers w : ℕ) (ops : List NamedOp) (g : Graph) (layout : ℕ → List Shape) where
   abbrev shard : List (ℕ × Resolved)

@@ -1,25 +1,23 @@
 -- The fresh blocks that a plan's shards may take are no more than a number of 64 bits tells.
 use Rattle.std.proofs.Common.{◌≡◌, ◌≢◌, ℕ, zero, suc, ◌+◌, ◌-◌, ◌^◌, ◌<◌, ◌≤◌, ◌==◌, Bool, true, false, cond, List, [], ◌∷◌, map}
-use Rattle.std.proofs.Common.{◌||◌, eqb, get_or, length, length-append, min, max, refl, sym, ap, ap₂, ◌∙◌, arith, subst, All, AllPairs}
-use Rattle.std.proofs.lemmas.{Bool.true≢false, Bool.eqb-true, Bool.eqb-false, Bool.ne_eqb, List.length-map}
+use Rattle.std.proofs.Common.{◌||◌, eqb, get_or, length, length-append, min, max, refl, sym, ap, ap₂, ◌∙◌, arith, subst, All}
+use Rattle.std.proofs.{Common.AllPairs, lemmas.{Bool.{true≢false, eqb-true, eqb-false, ne_eqb}, List.length-map}}
 use Rattle.std.proofs.lemmas.List.Sums.{sum_by-cons, sum_by-le, sum_by-le-sum_by, count_by-le-length, length-filter}
-use Rattle.std.proofs.lemmas.List.Elements.{All-head, All-tail, All-map, All-weaker}
-use Rattle.std.proofs.lemmas.Map.{Keys.IsDistinct-from_apart, Steps.length-le_from_distinct_below}
-use Rattle.std.specs.{Prelude.{filter, not}, List.{IsDistinct, sum_by, list_any, enumerate_from, range_with_len, AllZip}}
-use Rattle.graph_types.specs.declared.batches.NamedOp.{NamedOp}
-use Rattle.edge_block.specs.{Slots.{BlockView, has_before}, Operations.{Parts, OfEdge, OfAll, parts_of, names_after, kinds_after}}
-use Rattle.edge_block.specs.Batches.{Resolved, is_in_shard, resolve_parts, resolved}
+use Rattle.std.proofs.lemmas.{List.Elements.{All-head, All-tail, All-map, All-weaker}, Map.Keys.IsDistinct-from_apart}
+use Rattle.std.{proofs.lemmas.Map.Steps.length-le_from_distinct_below, specs.{Prelude.not, List.{IsDistinct, sum_by, list_any}}}
+use Rattle.std.{specs.List.{range_with_len, AllZip}, proofs.lemmas.{List.FromFn.length-enumerate_from, Grind.common_steps}}
+use Rattle.graph_types.{specs.declared.batches.NamedOp.NamedOp, proofs.Counts.apart_tail}
+use Rattle.edge_block.specs.{Slots.{BlockView, has_before}, Operations.{Parts, parts_of, names_after, kinds_after}}
+use Rattle.edge_block.specs.Batches.{Resolved, resolve_parts, resolved}
 use Rattle.graph_version.{specs.{Rows.{row_of, blocks_of}, Versions.{VersionView, IsVersion}}, proofs.BlockCounts.few_blocks}
 use Rattle.batch_shards.specs.{Done.{layout_by, sources_in}, Groups.is_expiry, Spending.{old_blocks, needed}}
 use Rattle.batch_shards.specs.{Spending.latest as latest_step, declared.shard.{Shard.Shard, Step.Step}}
-use Rattle.batch_apply.specs.{Shards.AreShardSteps, Shards.IsShardOf, Shards.latest, declared.old.OldRow.OldRow}
-use Rattle.batch_apply.specs.OldRows.{AreOldRows, old_sources, time_in, expiry_time}
-use Rattle.batch_apply.proofs.{OldRows.old_is_within, Listing.pairs_head, Listing.pairs_tail}
+use Rattle.batch_apply.specs.{Shards.{AreShardSteps, IsShardOf, latest}, declared.old.OldRow.OldRow, OldRows.AreOldRows}
+use Rattle.batch_apply.{specs.OldRows.{old_sources, time_in, expiry_time}, proofs.{OldRows.old_is_within, Listing.pairs_head}}
 
 sum_add : (f g : ℕ → ℕ) (xs : List ℕ) → sum_by (λ x. f x + g x) xs ≡ sum_by f xs + sum_by g xs
 sum_add f g [] = refl
-sum_add f g (x ∷ xs) =
-    omega (arith, sum_add f g xs, sum_by-cons (λ y. f y + g y) x xs, sum_by-cons f x xs, sum_by-cons g x xs)
+sum_add f g (x ∷ xs) = grind (arith, common_steps, sum_add f g xs)
 
 -- how many blocks the row of a source has, where the first row is that of a first source
 abbrev length_at : ℕ → List (List BlockView) → ℕ → ℕ
@@ -27,11 +25,7 @@ length_at first [] s = 0
 length_at first (row ∷ rows) s = cond (s == first) (length row) 0 + length_at (suc first) rows s
 
 at_itself : (first k n : ℕ) → k ≡ first → n ≤ cond (k == first) n 0
-at_itself first k n same =
-    elim (k == first) as (λ b. k == first ≡ b → n ≤ cond b n 0) [
-      | true ↦ λ _. omega arith
-      | false ↦ λ f. absurd (eqb-false k first f same)
-    ] refl
+at_itself first k n same = grind (arith, common_steps, eqb-false)
 
 row_within : (first : ℕ) (rows : List (List BlockView)) (k s : ℕ) → s ≡ first + k → length (row_of rows k) ≤ length_at first rows s
 row_within first [] k s at = omega arith
@@ -44,7 +38,7 @@ once_sum n first [] pairs = omega arith
 once_sum n first (x ∷ xs) pairs =
     let f : ℕ → ℕ = λ s. cond (s == first) n 0 in
     let one = sum_by-cons f x xs in
-    let rest = once_sum n first xs (pairs_tail x xs pairs) in
+    let rest = once_sum n first xs (apart_tail x xs pairs) in
     elim (x == first) as (λ b. x == first ≡ b → sum_by f (x ∷ xs) ≡ cond b n 0 + sum_by f xs → sum_by f (x ∷ xs) ≤ n) [
       | true ↦ λ t e.
           let none = sum_by-le f 0 xs (All-weaker (λ y. x ≢ y) (λ y. f y ≤ 0) (λ y ne.
@@ -77,25 +71,11 @@ old_sum time rows xs pairs =
     let all = row_sum rows 0 xs pairs in
     omega arith
 
-numbered : (k : ℕ) (rs : List Resolved) → length (enumerate_from k rs) ≡ length rs
-numbered k [] = refl
-numbered k (r ∷ rs) = let rest = numbered (k + 1) rs in omega arith
-
 -- a shard has no more operations than the batch
 pub steps_few : (workers w : ℕ) (rs : List Resolved) (is_old : ℕ → Bool) (sources : List ℕ) (steps : List Step)
     → AreShardSteps workers rs w is_old sources steps → length steps ≤ length rs
 steps_few workers w rs is_old sources steps is =
-    let mine : ℕ × Resolved → Bool = λ (p : ℕ × Resolved). is_in_shard workers w p.1 in
-    let numbers : List (ℕ × Resolved) = enumerate_from 0 rs in
-    let same = ap length is.places in
-    omega (
-      arith,
-      length-map steps (λ (s : Step). s.op),
-      length-map (filter mine numbers) (λ (p : ℕ × Resolved). p.0),
-      length-filter mine numbers,
-      count_by-le-length mine numbers,
-      numbered 0 rs,
-    )
+    grind (arith, common_steps, length-map, length-filter, count_by-le-length, length-enumerate_from)
 
 few_needed : (v : VersionView) → IsVersion v → (workers w : ℕ) (rs : List Resolved) (shard : Shard) → length rs ≤ 4096
     → IsShardOf workers rs (layout_by (row_of v.rows)) w shard
@@ -137,8 +117,7 @@ listed_all P (x ∷ xs) q all listed =
 
 one_time : (names kinds : List (List ℕ)) (op : Parts) (rs : List Resolved)
     → latest (resolve_parts names kinds op ∷ rs) ≡ max (time_in op) (latest rs)
-one_time names kinds (OfEdge change kind source target) rs = refl
-one_time names kinds (OfAll time) rs = refl
+one_time names kinds op rs = grind (arith, common_steps)
 
 -- the greatest time of the expiries is told before their names are resolved
 pub same_time : (ops : List NamedOp) (names kinds : List (List ℕ)) → latest (resolved ops names kinds) ≡ expiry_time ops

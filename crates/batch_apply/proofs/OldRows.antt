@@ -1,10 +1,10 @@
 -- The rows from which a batch's expiries may take edges.
-use Rattle.std.proofs.Common.{◌≡◌, ◌≢◌, ℕ, ◌+◌, ◌<◌, ◌≤◌, ◌==◌, ◌||◌, Bool, true, false, cond, List, [], ◌∷◌, ◌++◌, map}
-use Rattle.std.proofs.Common.{length, get_or, refl, sym, ap, ap₂, ◌∙◌, arith, subst, All, AllPairs, Option, Some, None, ltb, nat_eq}
-use Rattle.std.proofs.lemmas.Bool.{true≢false, eqb-false, true_from_ne_false, le-ltb, ltb-true, ltb-false}
-use Rattle.std.proofs.lemmas.List.{length-map, map-append, get_or-map, Folds.list_any-append, Quantifiers.all_pairs_push}
-use Rattle.std.proofs.lemmas.List.Elements.{All-nil, All-push, All-weaker}
-use Rattle.std.specs.{List.list_any, Option.option_or, Option.is_some, FinMap.get}
+use Rattle.std.proofs.Common.{◌≡◌, ◌≢◌, ℕ, ◌+◌, ◌<◌, ◌≤◌, ◌==◌, ◌||◌, Bool, true, false, cond, List, [], ◌∷◌, ◌++◌, map, length}
+use Rattle.std.proofs.Common.{get_or, refl, sym, ap, ap₂, ◌∙◌, arith, subst, All, AllPairs, Option, Some, None, ltb, nat_eq}
+use Rattle.std.proofs.lemmas.{Bool.{true≢false, eqb-false, true_from_ne_false, le-ltb, ltb-true, ltb-false}, List.length-map}
+use Rattle.std.proofs.lemmas.List.{map-append, get_or-map, Folds.list_any-append, Quantifiers.all_pairs_push, Elements.All-nil}
+use Rattle.std.{proofs.lemmas.List.Elements.{All-push, All-weaker}, specs.{List.list_any, Option.{option_or, is_some}}}
+use Rattle.std.{specs.FinMap.get, proofs.lemmas.Grind.common_steps}
 use Rattle.graph_types.specs.Graph.{Graph, Key, Stamp}
 use Rattle.edge_block.specs.Slots.{BlockView, Slot, has_before, stamp_at}
 use Rattle.edge_block.specs.{Rows.Shape, Rows.shape_of, Rows.block_at, Rows.row_at, Batches.IsWithin, Batches.IsLayoutOf}
@@ -35,8 +35,7 @@ no_edges time (Some e ∷ slots) none =
     absurd (true≢false (ap is_some (sym here ∙ none e.target)))
 
 option_none : {A : Type 0} (a b : Option A) → option_or a b ≡ None → (a ≡ None) × (b ≡ None)
-option_none None b e = (refl, e)
-option_none (Some x) b e = absurd (true≢false (ap is_some e))
+option_none a b e = grind (arith, common_steps, true≢false)
 
 no_block : (time : ℕ) (row : List Shape) → ((kind target : ℕ) → row_at row (kind, target) ≡ None) → has_old_shape time row ≡ false
 no_block time [] none = refl
@@ -74,8 +73,7 @@ pub some_counted : (time : ℕ) (row : List BlockView) → ages.is_old_row time 
 some_counted time row some = some_old time row (of_shapes time row ∙ some)
 
 or_true : (b : Bool) → (b || true) ≡ true
-or_true true = refl
-or_true false = refl
+or_true b = grind (arith, common_steps)
 
 -- the rows of so many first sources, as far as they are old
 pub record AreFound (time : ℕ) (rows : ℕ → List BlockView) (n : ℕ) (found : List OldRow) : Type 0 where

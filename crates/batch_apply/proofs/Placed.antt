@@ -1,7 +1,7 @@
 -- Rows that took the places of others.
 use Rattle.std.proofs.Common.{◌≡◌, ℕ, ◌≤◌, ◌==◌, true, false, cond, List, [], ◌∷◌, ◌++◌, map, flat_map, count_by, refl, sym, ap}
-use Rattle.std.proofs.{Common.ap₂, Common.◌∙◌, Common.arith, Common.subst, Common.All, lemmas.Bool.eq-eqb}
-use Rattle.std.proofs.lemmas.{Bool.eqb-true, Bool.eqb-false, Bool.ne_eqb, List.Elements.All-head, List.Elements.All-tail}
+use Rattle.std.proofs.{Common.{ap₂, ◌∙◌, arith, subst, All}, lemmas.Bool.{eq-eqb, eqb-true, eqb-false, ne_eqb}}
+use Rattle.std.proofs.lemmas.{List.Elements.{All-head, All-tail}, Grind.common_steps}
 use Rattle.edge_block.{specs.Slots.BlockView, proofs.Counts.count_more}
 use Rattle.batch_apply.specs.Applied.{row_among}
 
@@ -20,11 +20,7 @@ among_more (x ∷ rows) r source row = among_more rows r source (cond (source ==
 -- a source without a row in the list comes with none of the list's rows
 no_times : (source : ℕ) (r : ℕ × List BlockView) (rows : List (ℕ × List BlockView)) → (source == r.0) ≡ false
     → times source (sources_of rows) ≡ 0 → times source (sources_of (r ∷ rows)) ≡ 0
-no_times source r rows other none =
-    let c = count_more (λ x. x == source) r.0 (sources_of rows) in
-    let no : (let k : ℕ = cond (r.0 == source) 1 0 in k) ≡ 0 =
-    ap (λ b. cond b 1 0) (ne_eqb r.0 source (λ e. eqb-false source r.0 other (sym e))) in
-    omega arith
+no_times source r rows other none = grind (arith, common_steps, count_more, ne_eqb, eqb-false)
 
 -- what is true of each row in the list, and of the source's row before where the list has none, is true of the source's row
 pub among_is : (Is : ℕ → List BlockView → Type 0) (source : ℕ) (rows : List (ℕ × List BlockView)) (row : List BlockView)

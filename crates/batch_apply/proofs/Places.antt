@@ -1,8 +1,8 @@
 -- Where a source stands among few that are looked through.
 use Rattle.std.proofs.Common.{◌≡◌, ◌++◌, ℕ, Bool, List, [], ◌∷◌, length, get_or, refl, sym, ap, ◌∙◌, arith, nat_eq, Some, None}
-use Rattle.std.proofs.lemmas.{Bool.eqb-true, List.map-append, List.Quantifiers.position-Some}
-use Rattle.std.proofs.lemmas.Option.{slice_get-get_or, slice_get-map}
-use Rattle.std.specs.{Prelude.nat_lt, Prelude.position, Prelude.slice_get, List.list_any, List.position_or_len, Option.option_map}
+use Rattle.std.proofs.lemmas.{Bool.eqb-true, List.{map-append, Quantifiers.position-Some}, Option.slice_get-get_or}
+use Rattle.std.{proofs.lemmas.Option.slice_get-map, specs.{Prelude.{nat_lt, position, slice_get}, List.list_any}}
+use Rattle.std.{specs.{List.position_or_len, Option.option_map}, proofs.lemmas.Grind.common_steps}
 use Rattle.graph_types.specs.declared.ids.VertexId.{VertexId}
 use Rattle.batch_shards.proofs.Places.{list_any-map}
 use Rattle.batch_apply.specs.Shards.{source_numbers, with_number}
@@ -14,10 +14,7 @@ any_first p (x ∷ xs) = let before = any_first p xs in grind arith
 -- the sources, where one was found
 pub found_among : (source : ℕ) (xs : List VertexId) (i : ℕ) → position (λ (s : VertexId). nat_eq source s.0) xs ≡ Some i
     → source_numbers xs ≡ with_number source (source_numbers xs)
-found_among source xs i is =
-    let p : VertexId → Bool = λ s. nat_eq source s.0 in
-    let any : list_any (nat_eq source) (source_numbers xs) ≡ nat_lt (position_or_len p xs) (length xs) =
-    list_any-map (λ (s : VertexId). s.0) (nat_eq source) xs ∙ any_first p xs in grind arith
+found_among source xs i is = grind (arith, common_steps, list_any-map, any_first)
 
 -- its place
 pub found_at : (source : ℕ) (xs : List VertexId) (i : ℕ) → position (λ (s : VertexId). nat_eq source s.0) xs ≡ Some i
@@ -32,11 +29,7 @@ found_at source xs i is =
 -- the sources, where none was found
 pub added_among : (source : ℕ) (xs : List VertexId) → position (λ (s : VertexId). nat_eq source s.0) xs ≡ None
     → source_numbers (xs ++ (record { 0 = source }) ∷ []) ≡ with_number source (source_numbers xs)
-added_among source xs is =
-    let p : VertexId → Bool = λ s. nat_eq source s.0 in
-    let any : list_any (nat_eq source) (source_numbers xs) ≡ nat_lt (position_or_len p xs) (length xs) =
-    list_any-map (λ (s : VertexId). s.0) (nat_eq source) xs ∙ any_first p xs in
-    map-append (λ (s : VertexId). s.0) xs ((record { 0 = source }) ∷ []) ∙ grind arith
+added_among source xs is = grind (arith, common_steps, list_any-map, any_first, map-append)
 
 -- its place, the last
 pub added_at : (source : ℕ) (xs : List VertexId)

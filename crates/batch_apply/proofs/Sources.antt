@@ -1,28 +1,21 @@
 -- An operation's source is one of the vertices that the batch leaves.
-use Rattle.std.proofs.Common.{◌≡◌, ◌<◌, ℕ, List, [], ◌∷◌, length, ◌≤◌, Bool, true, false, cond, ◌&&◌, refl, ap, subst, All}
-use Rattle.std.proofs.{Common.Some, Common.None, Common.arith, lemmas.List.Elements.All-nil, lemmas.List.Elements.All-cons}
-use Rattle.graph_types.specs.{Graph.Graph, Graph.Key, Step.after_all, Step.key_in, declared.batches.NamedOp.NamedOp}
+use Rattle.std.proofs.Common.{◌≡◌, ◌<◌, ℕ, List, [], ◌∷◌, length, ◌≤◌, Bool, true, cond, ◌&&◌, ap, subst, All, Some, None, arith}
+use Rattle.std.proofs.lemmas.{List.Elements.{All-nil, All-cons}, Grind.common_steps}
+use Rattle.graph_types.specs.{Graph.{Graph, Key}, Step.after_all, declared.batches.NamedOp.NamedOp}
 use Rattle.graph_types.proofs.NameLists.{number_of-lt}
-use Rattle.edge_block.specs.{Rows.Shape, Batches.{is_known, resolve_parts, resolved, IsWithin, IsLayoutOf}, Operations.Parts}
-use Rattle.edge_block.specs.Operations.{OfEdge, OfAll, parts_of, names_after, kinds_after}
+use Rattle.edge_block.specs.{Rows.Shape, Batches.{resolve_parts, resolved, IsWithin, IsLayoutOf}, Operations.{Parts, OfEdge}}
+use Rattle.edge_block.specs.Operations.{OfAll, parts_of, names_after, kinds_after}
 use Rattle.batch_shards.specs.{Done.sources_in, declared.shard.Shard.Shard}
 use Rattle.batch_apply.specs.{Plan.names_all, Shards.IsSourceBelow, Shards.IsShardOf, Shards.latest}
 use Rattle.batch_apply.proofs.{OldRows.old_within, Names.no_fewer_all, Leaving.names_left}
 
 below_if : (a b c : Bool) (q k : Key) (n : ℕ) → cond (a && (b && c)) (Some q) None ≡ Some k → (b ≡ true → q.source < n)
     → k.source < n
-below_if false b c q k n is below = cc
-below_if true false c q k n is below = cc
-below_if true true false q k n is below = cc
-below_if true true true q k n is below =
-    let same : q ≡ k = cc in
-    subst (λ (x : Key). x.source < n) same (below refl)
+below_if a b c q k n is below = grind (arith, common_steps)
 
 one_below : (names kinds : List (List ℕ)) (op : Parts) (n : ℕ) → length names ≤ n
     → IsSourceBelow n (resolve_parts names kinds op)
-one_below names kinds (OfEdge change kind source target) n few = λ k is.
-    below_if (is_known kinds kind) (is_known names source) (is_known names target) (key_in names kinds kind source target) k n is
-    (λ known. omega (arith, few, number_of-lt names source known))
+one_below names kinds (OfEdge change kind source target) n few = grind (arith, common_steps, below_if, number_of-lt)
 one_below names kinds (OfAll time) n few = tt
 
 all_below : (ops : List NamedOp) (names kinds : List (List ℕ))

@@ -1,14 +1,14 @@
 -- Rows that a batch leaves as they are: no operation is on one of their edges, and no expiry takes one.
-use Rattle.std.proofs.Common.{◌≡◌, ℕ, zero, suc, ◌+◌, ◌%◌, ◌<◌, ◌≤◌, ◌==◌, ◌||◌, List, [], ◌∷◌, map, get_or, count_by, Bool, true}
-use Rattle.std.proofs.Common.{false, cond, refl, sym, ap, ap₂, ◌∙◌, arith, subst, Option, Some, None, All, max}
-use Rattle.std.proofs.{Math.Nat.{le-max_left, le-max_right}, lemmas.Bool.{eq-eqb, eqb-true, false_from_ne_true, true≢false}}
-use Rattle.std.proofs.lemmas.{Bool.{le-ltb, ltb-false, or_parts}, List.{map-id, Sums.sum_by-cons}}
-use Rattle.std.proofs.lemmas.List.{FromFn.sum_by-map-range_with_len_more, Elements.{All-head, All-tail, All-cons, All-nil}}
-use Rattle.std.specs.List.{sum_by, range_with_len, list_any}
+use Rattle.std.proofs.Common.{◌≡◌, ℕ, zero, suc, ◌+◌, ◌%◌, ◌<◌, ◌≤◌, ◌||◌, List, [], ◌∷◌, map, get_or, count_by, Bool, true}
+use Rattle.std.proofs.{Common.{false, cond, refl, sym, ap, ap₂, ◌∙◌, arith, subst, All, max}, Math.Nat.le-max_left}
+use Rattle.std.proofs.{Math.Nat.le-max_right, lemmas.Bool.{eq-eqb, eqb-true, false_from_ne_true, true≢false, le-ltb, ltb-false}}
+use Rattle.std.proofs.lemmas.{Bool.or_parts, List.{map-id, Sums.sum_by-cons, FromFn.sum_by-map-range_with_len_more}}
+use Rattle.std.{proofs.lemmas.List.Elements.{All-head, All-tail, All-cons, All-nil}, specs.List.{sum_by, range_with_len}}
+use Rattle.std.{specs.List.list_any, proofs.lemmas.Grind.common_steps}
 use Rattle.graph_types.specs.{Step.is_before, declared.batches.Outcome.Outcome, declared.batches.Outcome.TheVariants.Expired}
 use Rattle.edge_block.specs.{Slots.{Slot, edges_in, has_before, old_in, slots_since}, Rows.{Shape, OpenBlock, untouched, touch}}
-use Rattle.edge_block.specs.{Rows.{expire_row, old_in_row}, Batches.{Resolved, AtKey, InAll, IsPlaced, key_is_of, shard_of}}
-use Rattle.edge_block.specs.Batches.{is_in_shard, shard_ops, sum_below, rows_step, rows_all, row_step, key_outcome, outcomes_all}
+use Rattle.edge_block.specs.{Rows.{expire_row, old_in_row}, Batches.{Resolved, AtKey, InAll, IsPlaced, key_is_of, is_in_shard}}
+use Rattle.edge_block.specs.Batches.{shard_ops, sum_below, rows_step, rows_all, key_outcome, outcomes_all}
 use Rattle.edge_block.proofs.Counts.{count_more}
 use Rattle.batch_apply.{specs.Shards.{latest, has_old_shape}, proofs.{Placed.times, Totals.sum_all}}
 
@@ -18,8 +18,7 @@ Spares m row (AtKey of key change) = key_is_of m key ≡ false
 Spares m row (InAll time) = (expire_row time row ≡ row) × (old_in_row time row ≡ 0)
 
 row_spared : (m : ℕ) (r : Resolved) (rows : ℕ → List OpenBlock) → Spares m (rows m) r → rows_step r rows m ≡ rows m
-row_spared m (AtKey of key change) rows h = ap (λ b. cond b (row_step (AtKey of key change) (rows m)) (rows m)) h
-row_spared m (InAll time) rows h = h.0
+row_spared m r rows h = grind (arith, common_steps)
 
 later_spared : (m : ℕ) (r : Resolved) (rs : List Resolved) (rows : ℕ → List OpenBlock) → All (Spares m (rows m)) (r ∷ rs)
     → All (Spares m (rows_step r rows m)) rs
@@ -71,8 +70,7 @@ IsUpTo n (AtKey of key change) = Unit {0}
 IsUpTo n (InAll time) = time ≤ n
 
 higher : (a b : ℕ) → a ≤ b → (r : Resolved) → IsUpTo a r → IsUpTo b r
-higher a b le (AtKey of key change) h = tt
-higher a b le (InAll time) h = omega (arith, le, h)
+higher a b le r h = grind (arith, common_steps)
 
 all_higher : (a b : ℕ) → a ≤ b → (rs : List Resolved) → All (IsUpTo a) rs → All (IsUpTo b) rs
 all_higher a b le rs all k d lt = higher a b le (get_or rs k d) (all k d lt)
@@ -116,8 +114,7 @@ KeepsOff m (InAll time) = Unit {0}
 
 spares : (m : ℕ) (most : ℕ) (row : List Shape) → has_old_shape most row ≡ false → (r : Resolved) → KeepsOff m r → IsUpTo most r
     → Spares m (map untouched row) r
-spares m most row none (AtKey of key change) off le = off
-spares m most row none (InAll time) off le = row_since most time le row none
+spares m most row none r off le = grind (arith, common_steps, row_since)
 
 pub all_spare : (m : ℕ) (rs : List Resolved) (row : List Shape) → has_old_shape (latest rs) row ≡ false → All (KeepsOff m) rs
     → All (Spares m (map untouched row)) rs
@@ -129,12 +126,7 @@ module _ (workers m : ℕ) where
   own = m % workers
 
   elsewhere : (r : Resolved) → IsPlaced r → is_in_shard workers own r ≡ false → KeepsOff m r
-  elsewhere (AtKey of None change) placed out = refl
-  elsewhere (AtKey of (Some k) change) placed out = false_from_ne_true (m == k.source) (λ e.
-      let same : m ≡ k.source = eqb-true m k.source e in
-      let at : of ≡ Some m = placed k refl ∙ ap Some (sym same) in
-      true≢false (sym (eq-eqb own own refl) ∙ ap (λ (o : Option ℕ). shard_of workers o == own) (sym at) ∙ out))
-  elsewhere (InAll time) placed out = tt
+  elsewhere r placed out = grind (arith, common_steps, false_from_ne_true, eqb-true, true≢false, eq-eqb)
 
   pub off_all : (rs : List Resolved) → All IsPlaced rs → All (KeepsOff m) (shard_ops workers own rs) → All (KeepsOff m) rs
   off_all [] placed off = All-nil (KeepsOff m)

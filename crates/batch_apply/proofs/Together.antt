@@ -3,8 +3,8 @@ use Rattle.std.proofs.Common.{◌≡◌, ◌≢◌, ℕ, zero, suc, ◌+◌, ◌
 use Rattle.std.proofs.Common.{get_or, true, false, cond, refl, sym, ap, ap₂, ◌∙◌, arith, subst, Option, Some, None, All, AllPairs}
 use Rattle.std.proofs.{Common.{mod-lt, zip, ◌||◌}, lemmas.Bool.{eq-eqb, eqb-true, eqb-false, false_from_ne_true, true≢false}}
 use Rattle.std.proofs.lemmas.List.{length-map, get_or-map, Sums.{sum_by-cons, sum_by-append}, Elements.{All-head, All-tail}}
-use Rattle.std.proofs.lemmas.List.Elements.{All-cons, All-nil, All-append, All-map}
-use Rattle.std.specs.{List.sum_by, List.range_with_len, List.AllZip, List.list_any, Prelude.nat_eq}
+use Rattle.std.{proofs.lemmas.List.Elements.{All-cons, All-nil, All-append, All-map}, specs.List.{sum_by, range_with_len, AllZip}}
+use Rattle.std.{specs.{List.list_any, Prelude.nat_eq}, proofs.lemmas.Grind.common_steps}
 use Rattle.graph_types.specs.{Graph.Graph, Step.after_all, declared.batches.NamedOp.NamedOp, declared.batches.Outcome.Outcome}
 use Rattle.edge_block.specs.{Rows.{Shape, OpenBlock, untouched, taken_in, dropped_in, shape_of, row_end}, Batches.Resolved}
 use Rattle.edge_block.specs.Batches.{AtKey, InAll, resolved, is_in_shard, shard_ops, rows_all, opened, key_is_of, taken_by}
@@ -16,8 +16,9 @@ use Rattle.batch_shards.{specs.Closing.row_values, proofs.Places.count_by-append
 use Rattle.graph_version.specs.Versions.{is_in}
 use Rattle.batch_apply.specs.{Shards.{acts, unsourced, latest, has_old_shape, IsShardOf, ArePlanned}, Plans.{results, told}}
 use Rattle.batch_apply.proofs.{Spared.{Spares, KeepsOff, rows_spared, over_all, all_spare, off_all}, Totals.sum_all}
-use Rattle.batch_apply.proofs.{Totals.{worker_rows, none_taken, none_dropped, same_outcomes}, Kept.some_times, Placed.times}
-use Rattle.batch_apply.proofs.{Merge.{same_ops, shard_places, kept_all}, Resolving.placed_in, Sources.sources_within}
+use Rattle.batch_apply.proofs.{Totals.{worker_rows, none_taken, none_dropped, same_outcomes}, Kept.{some_times, sum_same}}
+use Rattle.batch_apply.proofs.{Placed.times, Merge.{same_ops, shard_places, kept_all}, Resolving.placed_in}
+use Rattle.batch_apply.proofs.Sources.{sources_within}
 use Rattle.edge_block.proofs.Counts.{count_more}
 
 no_times : (m : ℕ) (xs : List ℕ) → All (λ x. x ≡ m → ⊥) xs → times m xs ≡ 0
@@ -61,10 +62,7 @@ module _ (workers : ℕ) (ops : List NamedOp) (g : Graph) (layout : ℕ → List
   none_before a zero m (s ∷ shards) z lt = absurd z
   none_before a (suc k) m [] z lt = absurd z
   none_before a (suc k) m (s ∷ shards) z lt =
-      let here = other_worker a m s z.0 (λ e. omega arith) in
-      let rest = none_before (a + 1) k m shards z.1 (omega arith) in
-      let both = count_by-append (λ x. x == m) (sources_in s) (sources_all shards) in
-      omega arith
+      grind (arith, common_steps, other_worker, count_by-append, none_before (a + 1) k m shards z.1 (omega arith))
 
   pub all_once : (a k m : ℕ) (shards : List Shard) → Zipped a k shards → times m (sources_all shards) ≤ 1
   all_once a zero m [] z = omega arith
@@ -169,8 +167,7 @@ module _ (workers : ℕ) (ops : List NamedOp) (g : Graph) (layout : ℕ → List
   -- nor has its row an edge that one of the expiries takes
   no_old : (w m : ℕ) (shard : Shard) → IsShardOf workers (resolved ops g.names g.kinds) layout w shard → m % workers ≡ w
       → times m (sources_in shard) ≡ 0 → has_old_shape (latest rs) (layout m) ≡ false
-  no_old w m shard is own none = false_from_ne_true (has_old_shape (latest rs) (layout m)) (λ old.
-      let some = listed_times m (sources_in shard) (is.old_rows m own old) in omega (arith, some, none))
+  no_old w m shard is own none = grind (arith, common_steps, false_from_ne_true, listed_times)
 
   module _ (positive : 0 < workers) (shards : List Shard) (planned : ArePlanned workers ops g layout shards) where
     abbrev left : ℕ → List OpenBlock
@@ -211,35 +208,7 @@ module _ (workers : ℕ) (ops : List NamedOp) (g : Graph) (layout : ℕ → List
       outcomes_over = over_all n (sources_all shards) (λ m. all_once 0 workers m shards planned)
           (all_within inside shows 0 workers shards planned) rs (opened layout) spared
 
-  sum_same : (f h : ℕ → ℕ) (xs : List ℕ) → All (λ x. f x ≡ h x) xs → sum_by f xs ≡ sum_by h xs
-  sum_same f h [] all = refl
-  sum_same f h (x ∷ xs) all =
-      sum_by-cons f x xs ∙ ap₂ (λ a b. a + b) (All-head (λ x. f x ≡ h x) x xs all)
-      (sum_same f h xs (All-tail (λ x. f x ≡ h x) x xs all)) ∙ sym (sum_by-cons h x xs)
-
   -- what the shards' results take together
-  together : (before : ℕ → List BlockView) (f : List OpenBlock → ℕ) (count : ShardDone → ℕ)
-      → ((shard : Shard) (done : ShardDone) → IsShardDone before shard done
-      → count done ≡ sum_of (λ m. f (rows_by before shard m)) (sources_in shard))
-      → (a k : ℕ) (shards : List Shard) (dones : List ShardDone) → Zipped a k shards → AllZip (IsShardDone before) shards dones
-      → sum_by count dones ≡ sum_by (λ m. f (rows_all (resolved ops g.names g.kinds) (opened (layout_by before)) m))
-      (sources_all shards)
-  together before f count each a zero [] [] z d = refl
-  together before f count each a zero [] (x ∷ dones) z d = absurd d
-  together before f count each a zero (s ∷ shards) dones z d = absurd z
-  together before f count each a (suc k) [] dones z d = absurd z
-  together before f count each a (suc k) (s ∷ shards) [] z d = absurd d
-  together before f count each a (suc k) (s ∷ shards) (x ∷ dones) z d =
-      let all : ℕ → ℕ = λ m. f (rows_all (resolved ops g.names g.kinds) (opened (layout_by before)) m) in
-      sum_by-cons count x dones
-      ∙ ap₂ (λ a b. a + b)
-      (each s x d.0 ∙ sum_same (λ m. f (rows_by before s m)) all (sources_in s)
-      (λ i e lt. ap f (worker_rows workers a ops g layout s z.0 (opened (layout_by before)) (get_or (sources_in s) i e)
-      (ap (λ b. b == a) (z.0.own i e lt) ∙ eq-eqb a a refl))))
-      (together before f count each (a + 1) k shards dones z.1 d.1)
-      ∙ sym (sum_by-append all (sources_in s) (sources_all shards))
-
-  -- the same of counts that depend on the source
   pub together_at : (before : ℕ → List BlockView) (f : ℕ → List OpenBlock → ℕ) (count : ShardDone → ℕ)
       → ((shard : Shard) (done : ShardDone) → IsShardDone before shard done
       → count done ≡ sum_of (λ m. f m (rows_by before shard m)) (sources_in shard))
@@ -269,9 +238,9 @@ pub batch_totals : (workers : ℕ) (ops : List NamedOp) (g : Graph) (before : �
     → (sum_by (λ d. length d.left.taken.items) dones ≡ taken_by ops g (layout_by before) (length (after_all ops g).names))
     × (sum_by (λ d. length d.left.dropped.items) dones ≡ dropped_by ops g (layout_by before) (length (after_all ops g).names))
 batch_totals workers ops g before shards dones positive inside shows planned done = (
-  together workers ops g (layout_by before) before taken_in (λ d. length d.left.taken.items) (λ s x is. is.taken_are) 0 workers
+  together_at workers ops g (layout_by before) before (λ _. taken_in) (λ d. length d.left.taken.items) (λ s x is. is.taken_are) 0 workers
       shards dones planned done ∙ taken_sum workers ops g (layout_by before) positive shards planned inside shows,
-  together workers ops g (layout_by before) before dropped_in (λ d. length d.left.dropped.items) (λ s x is. is.dropped_are) 0
+  together_at workers ops g (layout_by before) before (λ _. dropped_in) (λ d. length d.left.dropped.items) (λ s x is. is.dropped_are) 0
       workers shards dones planned done ∙ dropped_sum workers ops g (layout_by before) positive shards planned inside shows,
 )
 
@@ -318,6 +287,4 @@ module _ (workers w : ℕ) (ops : List NamedOp) (g : Graph) (layout : ℕ → Li
       → All (λ r. All (λ b. h b ≡ f b) (before r.0) → map h r.1
       ≡ births_end n (rows_all (resolved ops g.names g.kinds) (opened (layout_by before)) r.0) (map f (before r.0)))
       (row_values done.rows.items)
-  shard_births_at f h n each k d lt = λ old.
-      is.births f h n each k d lt old
-      ∙ ap (λ row. births_end n row (map f (before (get_or (row_values done.rows.items) k d).0))) (row_there k d lt)
+  shard_births_at f h n each k d lt = grind (arith, common_steps, row_there)

@@ -1,24 +1,22 @@
 -- Sums over the sources of shards are sums over all sources.
 use Rattle.std.proofs.Common.{◌≡◌, ℕ, zero, suc, ◌+◌, ◌%◌, ◌<◌, ◌≤◌, ◌==◌, List, [], ◌∷◌, map, filter, All, count_by, Bool, true}
-use Rattle.std.proofs.{Common.{false, cond, not, ◌&&◌, refl, sym, ap, ap₂, ◌∙◌, arith}, lemmas.Bool.{eqb-true, eqb-false}}
-use Rattle.std.proofs.lemmas.{Bool.false_from_ne_true, List.{Sums.sum_by-cons, Elements.{All-head, All-tail, All-cons, All-nil}}}
-use Rattle.std.specs.List.{sum_by}
+use Rattle.std.proofs.{Common.{false, cond, not, refl, sym, ap, ap₂, ◌∙◌, arith}, lemmas.Bool.{eqb-true, eqb-false}}
+use Rattle.std.{proofs.lemmas.List.{Sums.sum_by-cons, Elements.{All-head, All-tail, All-cons, All-nil}}, specs.List.sum_by}
+use Rattle.std.proofs.lemmas.Grind.{common_steps}
 use Rattle.graph_types.specs.{Graph.Graph, declared.batches.NamedOp.NamedOp}
-use Rattle.edge_block.specs.{Rows.{Shape, OpenBlock, untouched, taken_in, dropped_in, has_none}, Batches.{Resolved, AtKey, InAll}}
-use Rattle.edge_block.specs.Batches.{resolved, shard_ops, sum_below, rows_all, rows_step, outcome_in, outcomes_all}
-use Rattle.edge_block.proofs.{ShardLaws.shard_rows, Counts.count_more}
+use Rattle.edge_block.specs.{Rows.{Shape, OpenBlock, untouched, taken_in, dropped_in}, Batches.{Resolved, resolved, sum_below}}
+use Rattle.edge_block.{specs.Batches.{rows_all, rows_step, outcome_in, outcomes_all}, proofs.ShardLaws.shard_rows}
+use Rattle.edge_block.proofs.Counts.{count_more}
 use Rattle.batch_apply.specs.Shards.{acts, unsourced, IsShardOf}
 use Rattle.batch_shards.specs.{Done.steps_in, declared.shard.Shard.Shard}
 
 -- rows and outcomes don't depend on the sources' numbers beside the keys
 unsourced_rows : (r : Resolved) (rows : ℕ → List OpenBlock) → rows_step (unsourced r) rows ≡ rows_step r rows
-unsourced_rows (AtKey own key change) rows = refl
-unsourced_rows (InAll time) rows = refl
+unsourced_rows r rows = grind (arith, common_steps)
 
 unsourced_outcome : (over : List ℕ) (r : Resolved) (rows : ℕ → List OpenBlock)
     → outcome_in over (unsourced r) rows ≡ outcome_in over r rows
-unsourced_outcome over (AtKey own key change) rows = refl
-unsourced_outcome over (InAll time) rows = refl
+unsourced_outcome over r rows = grind (arith, common_steps)
 
 acts_rows : (rs : List Resolved) (rows : ℕ → List OpenBlock) → rows_all (acts rs) rows ≡ rows_all rs rows
 acts_rows [] rows = refl
@@ -35,48 +33,27 @@ same_rows rs ss e rows = sym (acts_rows rs rows) ∙ ap (λ xs. rows_all xs rows
 
 pub same_outcomes : (over : List ℕ) (rs ss : List Resolved) → acts rs ≡ acts ss → (rows : ℕ → List OpenBlock)
     → outcomes_all over rs rows ≡ outcomes_all over ss rows
-same_outcomes over rs ss e rows =
-    sym (acts_outcomes over rs rows) ∙ ap (λ xs. outcomes_all over xs rows) e ∙ acts_outcomes over ss rows
+same_outcomes over rs ss e rows = grind (arith, common_steps, acts_outcomes)
 
 -- a row that is not touched takes and drops nothing
 pub none_taken : (row : List Shape) → taken_in (map untouched row) ≡ 0
 none_taken [] = refl
-none_taken (b ∷ row) =
-    let one = count_more (λ (h : OpenBlock). h.touched && not (has_none h.shape)) (untouched b) (map untouched row) in
-    let rest = none_taken row in omega arith
+none_taken (b ∷ row) = grind (arith, common_steps, none_taken row)
 
 pub none_dropped : (row : List Shape) → dropped_in (map untouched row) ≡ 0
 none_dropped [] = refl
-none_dropped (b ∷ row) =
-    let one = count_more (λ (h : OpenBlock). h.touched && h.had) (untouched b) (map untouched row) in
-    let rest = none_dropped row in omega arith
+none_dropped (b ∷ row) = grind (arith, common_steps, none_dropped row)
 
 abbrev others : ℕ → List ℕ → List ℕ
 others n xs = filter (λ x. not (x == n)) xs
 
 count_filter : (p : ℕ → Bool) (n : ℕ) (xs : List ℕ) → count_by p (others n xs) ≤ count_by p xs
 count_filter p n [] = omega arith
-count_filter p n (x ∷ xs) =
-    let rest = count_filter p n xs in
-    let m = count_more p x xs in
-    elim (x == n) as (λ b. count_by p (cond (not b) (x ∷ others n xs) (others n xs)) ≤ count_by p (x ∷ xs)) [
-      | true ↦ omega arith
-      | false ↦ let k = count_more p x (others n xs) in omega arith
-    ]
+count_filter p n (x ∷ xs) = grind (arith, common_steps, count_filter p n xs)
 
 count_others : (m n : ℕ) → (m ≡ n → ⊥) → (xs : List ℕ) → count_by (λ x. x == m) (others n xs) ≡ count_by (λ x. x == m) xs
 count_others m n ne [] = refl
-count_others m n ne (x ∷ xs) =
-    let rest = count_others m n ne xs in
-    let c = count_more (λ x. x == m) x xs in
-    elim (x == n) as (λ b. x == n ≡ b → count_by (λ x. x == m) (cond (not b) (x ∷ others n xs) (others n xs))
-    ≡ count_by (λ x. x == m) (x ∷ xs)) [
-      | true ↦ λ t.
-          let no : (x == m) ≡ false = false_from_ne_true (x == m) (λ e. ne (sym (eqb-true x m e) ∙ eqb-true x n t)) in
-          let none : count_by (λ x. x == m) (x ∷ xs) ≡ 0 + count_by (λ x. x == m) xs = c
-          ∙ ap (λ b. cond b 1 0 + count_by (λ x. x == m) xs) no in omega arith
-      | false ↦ λ t. count_more (λ x. x == m) x (others n xs) ∙ ap (λ k. cond (x == m) 1 0 + k) rest ∙ sym c
-    ] refl
+count_others m n ne (x ∷ xs) = grind (arith, common_steps, count_others m n ne xs)
 
 sum_zero : (f : ℕ → ℕ) (n : ℕ) (xs : List ℕ) → count_by (λ x. x == n) xs ≡ 0 → sum_by f xs ≡ sum_by f (others n xs)
 sum_zero f n [] e = refl
@@ -100,16 +77,10 @@ sum_one f n (x ∷ xs) e =
 others_below : (n : ℕ) (xs : List ℕ) → All (λ x. x < suc n) xs → All (λ x. x < n) (others n xs)
 others_below n [] all = All-nil (λ x. x < n)
 others_below n (x ∷ xs) all =
-    let rest = others_below n xs (All-tail (λ x. x < suc n) x xs all) in
-    let here : x < suc n = All-head (λ x. x < suc n) x xs all in
-    elim (x == n) as (λ b. x == n ≡ b → All (λ x. x < n) (cond (not b) (x ∷ others n xs) (others n xs))) [
-      | true ↦ λ t. rest
-      | false ↦ λ t. let ne : x ≡ n → ⊥ = eqb-false x n t in All-cons (λ x. x < n) x (others n xs) (omega arith) rest
-    ] refl
+    grind (arith, common_steps, All-tail, All-head, eqb-false, All-cons, others_below n xs (All-tail (λ x. x < suc n) x xs all))
 
 none_below : (f : ℕ → ℕ) (xs : List ℕ) → All (λ x. x < 0) xs → sum_by f xs ≡ 0
-none_below f [] all = refl
-none_below f (x ∷ xs) all = let here : x < 0 = All-head (λ x. x < 0) x xs all in absurd (omega arith)
+none_below f xs all = grind (arith, common_steps, All-head)
 
 -- a sum over different numbers below n is one over all numbers below n, where the others add nothing
 pub sum_all : (f : ℕ → ℕ) (n : ℕ) (xs : List ℕ) → ((m : ℕ) → count_by (λ x. x == m) xs ≤ 1) → All (λ x. x < n) xs
@@ -131,7 +102,4 @@ pub worker_rows : (workers w : ℕ) (ops : List NamedOp) (g : Graph) (layout : �
     → IsShardOf workers (resolved ops g.names g.kinds) layout w shard → (rows : ℕ → List OpenBlock) (source : ℕ)
     → (source % workers == w) ≡ true
     → rows_all (steps_in shard) rows source ≡ rows_all (resolved ops g.names g.kinds) rows source
-worker_rows workers w ops g layout shard is rows source own =
-    ap (λ (after : ℕ → List OpenBlock). after source)
-    (same_rows (steps_in shard) (shard_ops workers w (resolved ops g.names g.kinds)) is.acts_are rows)
-    ∙ shard_rows workers w ops g.names g.kinds rows source own
+worker_rows workers w ops g layout shard is rows source own = grind (arith, common_steps, same_rows, shard_rows)

@@ -1,11 +1,9 @@
 -- Results of all shards, put together at their places, are the batch's results.
-use Rattle.std.proofs.Common.{◌≡◌, ℕ, suc, ◌+◌, ◌%◌, ◌^◌, ◌<◌, ◌==◌, List, [], ◌∷◌, ◌++◌, length, set, Bool, true, false, refl}
-use Rattle.std.proofs.Common.{sym, ap, ap₂, ◌∙◌, arith, Option, Some, None, mod-lt, length-append, get_or, map, flat_map, cond}
-use Rattle.std.proofs.{Common.replicate, Common.ltb, Math.Nat.add-mod-mod, Math.Nat.mod-add-mod, Math.Nat.mod-mod}
-use Rattle.std.proofs.lemmas.Bool.{eqb-true, eqb-false, lt-ltb, le-ltb, ltb-true, ltb-false}
-use Rattle.std.{proofs.lemmas.List.append_assoc, proofs.lemmas.List.Sums.sum_by-append, specs.List.sum_by}
-use Rattle.graph_types.specs.declared.batches.Outcome.{Outcome}
-use Rattle.graph_types.specs.declared.batches.Outcome.TheVariants.{Inserted, Updated, Removed, Absent, Overflow, Expired}
+use Rattle.std.proofs.Common.{◌≡◌, ℕ, suc, ◌+◌, ◌<◌, ◌==◌, List, [], ◌∷◌, ◌++◌, length, set, Bool, true, false, refl, sym, ap}
+use Rattle.std.proofs.Common.{ap₂, ◌∙◌, arith, Option, mod-lt, length-append, get_or, map, flat_map, cond, replicate, ltb}
+use Rattle.std.proofs.{Math.Nat.{add-mod-mod, mod-add-mod, mod-mod}, lemmas.Bool.{eqb-true, eqb-false, lt-ltb, le-ltb, ltb-true}}
+use Rattle.std.{proofs.lemmas.{Bool.ltb-false, List.{append_assoc, Sums.sum_by-append}, Grind.common_steps}, specs.List.sum_by}
+use Rattle.graph_types.specs.declared.batches.Outcome.{Outcome, TheVariants.{Absent, Expired}}
 use Rattle.edge_block.specs.{Rows.OpenBlock, Rows.old_in_row, Batches.key_outcome}
 use Rattle.edge_block.specs.Batches.{Resolved, AtKey, InAll, shard_of, is_in_shard, together, outcome_in, outcomes_all, rows_step}
 use Rattle.batch_apply.specs.Plans.{written, results, written_all}
@@ -63,49 +61,18 @@ so_far workers w sources (r ∷ rs) rows =
     cond (is_done workers w r) (told (outcome_in sources r rows)) Absent ∷ so_far workers w sources rs (rows_step r rows)
 
 twice : (o : Outcome) → told (told o) ≡ told o
-twice Inserted = refl
-twice Updated = refl
-twice Removed = refl
-twice Absent = refl
-twice Overflow = refl
-twice (Expired count) = ap Expired (mod-mod count (2 ^ 64))
+twice o = grind (arith, common_steps, mod-mod)
 
 edge_step : (a w : ℕ) (o : Outcome)
     → cond (a == w) (told (together (cond (ltb a w) (told o) Absent) (told o))) (cond (ltb a w) (told o) Absent)
     ≡ cond (ltb a (w + 1)) (told o) Absent
-edge_step a w o =
-    elim (a == w) as (λ b. a == w ≡ b
-    → cond b (told (together (cond (ltb a w) (told o) Absent) (told o))) (cond (ltb a w) (told o) Absent)
-    ≡ cond (ltb a (w + 1)) (told o) Absent) [
-      | true ↦ λ t.
-          let same : a ≡ w = eqb-true a w t in
-          let not_yet : ltb a w ≡ false = le-ltb a w (omega (arith, same)) in
-          let now : ltb a (w + 1) ≡ true = lt-ltb a (w + 1) (omega (arith, same)) in
-          ap (λ b. told (together (cond b (told o) Absent) (told o))) not_yet ∙ twice o
-          ∙ ap (λ b. cond b (told o) Absent) (sym now)
-      | false ↦ λ t.
-          let other : a ≡ w → ⊥ = eqb-false a w t in
-          ap (λ b. cond b (told o) Absent) (elim (ltb a w) as (λ b. ltb a w ≡ b → b ≡ ltb a (w + 1)) [
-            | true ↦ λ l. let lt = ltb-true a w l in sym (lt-ltb a (w + 1) (omega (arith, lt)))
-            | false ↦ λ l. let ge = ltb-false a w l in sym (le-ltb a (w + 1) (omega (arith, ge, other)))
-          ] refl)
-    ] refl
+edge_step a w o = grind (arith, common_steps, eqb-true, le-ltb, lt-ltb, twice, eqb-false, ltb-true, ltb-false)
 
 expiry_step : (w : ℕ) (f : ℕ → ℕ) (before sources : List ℕ) → (w ≡ 0 → before ≡ [])
     → told (together (cond (ltb 0 w) (told (Expired (sum_by f before))) Absent) (told (Expired (sum_by f sources))))
     ≡ cond (ltb 0 (w + 1)) (told (Expired (sum_by f (before ++ sources)))) Absent
 expiry_step w f before sources first =
-    let a : ℕ = sum_by f before in
-    let b : ℕ = sum_by f sources in
-    let now : ltb 0 (w + 1) ≡ true = lt-ltb 0 (w + 1) (omega arith) in
-    elim (ltb 0 w) as (λ t. ltb 0 w ≡ t → told (together (cond t (told (Expired a)) Absent) (told (Expired b)))
-    ≡ told (Expired (sum_by f (before ++ sources)))) [
-      | true ↦ λ t. ap Expired (mod-add-mod a (2 ^ 64) (b % 2 ^ 64) ∙ add-mod-mod a b (2 ^ 64)
-          ∙ ap (λ n. n % 2 ^ 64) (sym (sum_by-append f before sources)))
-      | false ↦ λ t.
-          let none : before ≡ [] = first (let le = ltb-false 0 w t in omega (arith, le)) in
-          twice (Expired b) ∙ ap (λ (xs : List ℕ). told (Expired (sum_by f (xs ++ sources)))) (sym none)
-    ] refl ∙ ap (λ t. cond t (told (Expired (sum_by f (before ++ sources)))) Absent) (sym now)
+    grind (arith, common_steps, lt-ltb, mod-add-mod, add-mod-mod, sum_by-append, ltb-false, twice)
 
 step : (workers w : ℕ) (before sources : List ℕ) → (w ≡ 0 → before ≡ []) → (rs : List Resolved) (rows : ℕ → List OpenBlock)
     → mixed (is_in_shard workers w) rs (map told (outcomes_all sources rs rows)) (so_far workers w before rs rows)
@@ -139,10 +106,7 @@ shard_by_shard : (workers w : ℕ) (before : List ℕ) (shards : List (List ℕ)
     → (rs : List Resolved) (rows : ℕ → List OpenBlock)
     → written_all workers w shards rs rows (so_far workers w before rs rows)
     ≡ so_far workers (w + length shards) (before ++ all_sources shards) rs rows
-shard_by_shard workers w before [] first rs rows =
-    let same : w ≡ w + 0 = omega arith in
-    ap (λ n. so_far workers n before rs rows) same
-    ∙ ap (λ xs. so_far workers (w + 0) xs rs rows) (sym (none_more before))
+shard_by_shard workers w before [] first rs rows = grind (arith, common_steps, none_more)
 shard_by_shard workers w before (sources ∷ shards) first rs rows =
     let next : w + 1 + length shards ≡ w + suc (length shards) = omega arith in
     ap (written_all workers (w + 1) shards rs rows)
@@ -154,8 +118,7 @@ shard_by_shard workers w before (sources ∷ shards) first rs rows =
     ∙ ap (λ xs. so_far workers (w + suc (length shards)) xs rs rows) (append_assoc before sources (all_sources shards))
 
 none_done : (workers : ℕ) (r : Resolved) → is_done workers 0 r ≡ false
-none_done workers (AtKey source key change) = le-ltb (shard_of workers source) 0 (omega arith)
-none_done workers (InAll time) = le-ltb 0 0 (omega arith)
+none_done workers r = grind (arith, common_steps, le-ltb)
 
 none_yet : (workers : ℕ) (rs : List Resolved) (rows : ℕ → List OpenBlock)
     → replicate (length rs) Absent ≡ so_far workers 0 [] rs rows
@@ -164,12 +127,10 @@ none_yet workers (r ∷ rs) rows = ap₂ (λ (o : Outcome) os. o ∷ os)
     (ap (λ b. cond b (told (outcome_in [] r rows)) Absent) (sym (none_done workers r))) (none_yet workers rs (rows_step r rows))
 
 every : (workers : ℕ) → 0 < workers → (s : Option ℕ) → shard_of workers s < workers
-every workers h None = h
-every workers h (Some source) = mod-lt source h
+every workers h s = grind (arith, common_steps, mod-lt)
 
 each_done : (workers : ℕ) → 0 < workers → (r : Resolved) → is_done workers workers r ≡ true
-each_done workers h (AtKey source key change) = lt-ltb (shard_of workers source) workers (every workers h source)
-each_done workers h (InAll time) = lt-ltb 0 workers h
+each_done workers h r = grind (arith, common_steps, lt-ltb, every)
 
 all_done : (workers : ℕ) → 0 < workers → (sources : List ℕ) (rs : List Resolved) (rows : ℕ → List OpenBlock)
     → so_far workers workers sources rs rows ≡ map told (outcomes_all sources rs rows)

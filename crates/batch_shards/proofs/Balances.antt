@@ -1,25 +1,18 @@
 -- What stays, is dropped, is written and is handed back adds up, block by block and row by row.
-use Rattle.std.proofs.Common.{◌≡◌, ℕ, ◌+◌, Bool, true, false, cond, not, ◌&&◌, List, [], ◌∷◌, ◌++◌, map, flat_map, count_by, refl}
-use Rattle.std.{proofs.{Common.{ap, ◌∙◌, arith}, lemmas.List.map-append}, specs.Option.option_to_list}
+use Rattle.std.proofs.Common.{◌≡◌, ℕ, ◌+◌, Bool, cond, not, ◌&&◌, List, [], ◌∷◌, ◌++◌, map, flat_map, count_by, refl, ap, ◌∙◌}
+use Rattle.std.{proofs.{Common.arith, lemmas.{List.map-append, Grind.common_steps}}, specs.Option.option_to_list}
 use Rattle.edge_block.specs.{Slots.BlockView, Rows.{shape_of, has_none}}
 use Rattle.batch_shards.specs.{RowBlocks.{block_of, had_here, had_in, own_here, own_in}, Closing.{after_here, stays_here}}
 use Rattle.batch_shards.specs.Closing.{written_here, dropped_here, unused_here, after_of, stays_of, written_of, dropped_of}
 use Rattle.batch_shards.specs.{Closing.{unused_of, stays_all, written_all, dropped_all, unused_all}, Shards.{had_all, own_all}}
-use Rattle.batch_shards.{specs.declared.{row_blocks.RowBlock.RowBlock, shard.OpenRow.OpenRow}, proofs.Places.count_by-append}
+use Rattle.batch_shards.specs.declared.{row_blocks.RowBlock.RowBlock, shard.OpenRow.OpenRow}
 
 -- what balances in each element balances in the whole list
 pub balance : {X A : Type 0} (p : A → Bool) (a b c d : X → List A)
     → ((x : X) → count_by p (a x) + count_by p (b x) ≡ count_by p (c x) + count_by p (d x)) → (xs : List X)
     → count_by p (flat_map a xs) + count_by p (flat_map b xs) ≡ count_by p (flat_map c xs) + count_by p (flat_map d xs)
 balance p a b c d each [] = refl
-balance p a b c d each (x ∷ xs) =
-    let one = each x in
-    let rest = balance p a b c d each xs in
-    let i = count_by-append p (a x) (flat_map a xs) in
-    let j = count_by-append p (b x) (flat_map b xs) in
-    let k = count_by-append p (c x) (flat_map c xs) in
-    let l = count_by-append p (d x) (flat_map d xs) in
-    omega arith
+balance p a b c d each (x ∷ xs) = grind (arith, common_steps, balance p a b c d each xs)
 
 pub map-pieces : {X A B : Type 0} (f : A → B) (g : X → List A) (xs : List X)
     → map f (flat_map g xs) ≡ flat_map (λ x. map f (g x)) xs
@@ -35,25 +28,16 @@ adds_up : {X A : Type 0} (p : A → Bool) (a b c : X → List A)
     → ((x : X) → count_by p (a x) + count_by p (b x) ≡ count_by p (c x)) → (xs : List X)
     → count_by p (flat_map a xs) + count_by p (flat_map b xs) ≡ count_by p (flat_map c xs)
 adds_up p a b c each [] = refl
-adds_up p a b c each (x ∷ xs) =
-    let one = each x in
-    let rest = adds_up p a b c each xs in
-    let i = count_by-append p (a x) (flat_map a xs) in
-    let j = count_by-append p (b x) (flat_map b xs) in
-    let k = count_by-append p (c x) (flat_map c xs) in
-    omega arith
+adds_up p a b c each (x ∷ xs) = grind (arith, common_steps, adds_up p a b c each xs)
 
 -- one block: it stays or is dropped, and what stays or is written is there after
 one_before : (t : Bool) (b : BlockView) (o : List BlockView) (p : BlockView → Bool)
     → count_by p (cond t [] (b ∷ [])) + count_by p (cond t o []) ≡ count_by p (cond t o (b ∷ []))
-one_before true b o p = omega arith
-one_before false b o p = omega arith
+one_before t b o p = grind (arith, common_steps)
 
 one_after : (t n : Bool) (b : BlockView) (p : BlockView → Bool)
     → count_by p (cond t [] (b ∷ [])) + count_by p (cond (t && not n) (b ∷ []) []) ≡ count_by p (cond (t && n) [] (b ∷ []))
-one_after true true b p = omega arith
-one_after true false b p = omega arith
-one_after false n b p = omega arith
+one_after t n b p = grind (arith, common_steps)
 
 row_before : (p : BlockView → Bool) (row : List RowBlock) → count_by p (stays_of row) + count_by p (dropped_of row)
     ≡ count_by p (had_in row)
@@ -79,9 +63,7 @@ all_after work p = adds_up p (λ (r : OpenRow). stays_of r.blocks.items) (λ (r 
 one_number : (t n : Bool) (b : BlockView) (q : ℕ → Bool)
     → count_by q (map (λ b. b.number) (cond (t && not n) (b ∷ []) [])) + count_by q (cond (t && n) (b.number ∷ []) [])
     ≡ count_by q (cond t (b.number ∷ []) []) + count_by q []
-one_number true true b q = omega arith
-one_number true false b q = omega arith
-one_number false n b q = refl
+one_number t n b q = grind (arith, common_steps)
 
 row_numbers : (q : ℕ → Bool) (row : List RowBlock)
     → count_by q (map (λ b. b.number) (written_of row)) + count_by q (unused_of row) ≡ count_by q (own_in row)

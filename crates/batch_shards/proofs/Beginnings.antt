@@ -1,14 +1,14 @@
 -- Before a shard's first row is done: the rows as they are opened, no outcome yet, and the blocks that are needed.
-use Rattle.std.proofs.Common.{◌≡◌, ℕ, ◌≤◌, true, false, not, List, [], ◌∷◌, length, get_or, take, map, refl, sym, ap, ◌∙◌, arith}
-use Rattle.std.proofs.{Common.subst, Common.All, lemmas.Bool.false≢true, lemmas.Bool.le-ltb}
-use Rattle.std.proofs.lemmas.List.{get_or-map, get_or_default, length-map, Elements.All-nil}
-use Rattle.std.specs.declared.{alloc.Global.Global, option.Option.TheVariants.None, option.Option.TheVariants.Some, sync.Arc.Arc}
+use Rattle.std.proofs.Common.{◌≡◌, ℕ, ◌≤◌, false, not, List, [], ◌∷◌, length, get_or, take, map, refl, sym, ap, ◌∙◌, arith, subst}
+use Rattle.std.proofs.{Common.All, lemmas.{Bool.{false≢true, le-ltb}, List.{get_or-map, get_or_default, length-map}}}
+use Rattle.std.{proofs.lemmas.List.Elements.All-nil, specs.declared.{alloc.Global.Global, option.Option.TheVariants.{None, Some}}}
+use Rattle.std.{specs.declared.sync.Arc.Arc, proofs.lemmas.Grind.common_steps}
 use Rattle.graph_types.specs.declared.batches.Outcome.{Outcome}
 use Rattle.edge_block.specs.{Batches.{opened, rows_all, outcome_in}, declared.blocks.Block.Block, Slots.BlockView, Rows.OpenBlock}
 use Rattle.edge_block.specs.Rows.{shape_of, untouched}
 use Rattle.batch_shards.specs.{RowBlocks.{block_of, blocks_of, kept_of, opens, had_in, numbers_of, IsOf}, Closing.row_values}
-use Rattle.batch_shards.specs.{Shards.{resolved_at, resolved_in}, Spending.{needed, needed_past}, Groups.{is_past, is_expiry}}
-use Rattle.batch_shards.specs.{Groups.{told, none_told}, Done.layout_by, declared.shard.Act.{Act, TheVariants.{Edge, Expire}}}
+use Rattle.batch_shards.specs.{Shards.{resolved_at, resolved_in}, Spending.{needed, needed_past}, Groups.{is_past, told}}
+use Rattle.batch_shards.specs.{Groups.none_told, Done.layout_by, declared.shard.Act.{Act, TheVariants.{Edge, Expire}}}
 use Rattle.batch_shards.specs.{declared.shard.{Step.Step, OpenRow.OpenRow, ShardDone.ShardDone}, Progress.AreOutcomes}
 use Rattle.batch_shards.{specs.Progress.AreRowsDone, proofs.{ShardSteps.first_step, SourceSteps.outcome_of, Expiring.count_wider}}
 use Rattle.graph_version.specs.Versions.{IsBlockOf}
@@ -51,12 +51,7 @@ none_written rows sources steps = record {
 -- what is needed before the first row
 pub few_past : (rows : ℕ → List BlockView) (sources : List ℕ) (steps : List Step) → needed_past 0 rows sources steps
     ≤ needed rows sources steps
-few_past rows sources steps =
-    let h = count_wider (λ (s : Step). is_past 0 s.act) (λ (s : Step). not (is_expiry s.act)) (λ s. one s.act) steps in
-    omega arith where
-      one : (act : Act) → is_past 0 act ≡ true → not (is_expiry act) ≡ true
-      one (Edge place change) e = refl
-      one (Expire time) e = absurd (false≢true e)
+few_past rows sources steps = grind (arith, common_steps, count_wider, false≢true)
 
 -- no row is done yet
 pub none_yet : (rows : ℕ → List BlockView) (sources : List ℕ) (steps : List Step) (fresh : List (Arc Block Global))

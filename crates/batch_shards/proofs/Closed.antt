@@ -1,11 +1,11 @@
 -- What closed rows are: their layout, how many blocks they took and dropped, and whose blocks they have.
-use Rattle.std.proofs.Common.{◌≡◌, ℕ, ◌+◌, Bool, true, false, cond, not, ◌&&◌, ◌||◌, ◌⊎◌, inl, inr, List, [], ◌∷◌, ◌++◌, length}
-use Rattle.std.proofs.Common.{map, filter, flat_map, refl, sym, ap, ap₂, ◌∙◌, All, length-append, arith}
-use Rattle.std.proofs.lemmas.List.{Sums.sum_by-cons, Elements.{All-head, All-tail, All-cons, All-nil, All-append}}
-use Rattle.std.specs.{Option.is_some, Option.option_to_list, declared.alloc.Global.Global}
-use Rattle.std.specs.declared.{option.Option.Option, option.Option.TheVariants.None, option.Option.TheVariants.Some, sync.Arc.Arc}
-use Rattle.edge_block.specs.{declared.blocks.Block.Block, Slots.BlockView, Rows.{OpenBlock, shape_of, shapes, has_none, is_kept}}
-use Rattle.edge_block.{specs.Rows.{row_end, taken_in, dropped_in}, proofs.Counts.count_more}
+use Rattle.std.proofs.Common.{◌≡◌, ℕ, ◌+◌, Bool, true, false, cond, not, ◌&&◌, ◌||◌, ◌⊎◌, List, [], ◌∷◌, ◌++◌, length, map}
+use Rattle.std.proofs.{Common.{flat_map, refl, sym, ap, ap₂, ◌∙◌, All, length-append, arith}, lemmas.List.Sums.sum_by-cons}
+use Rattle.std.{proofs.lemmas.List.Elements.{All-head, All-tail, All-cons, All-nil, All-append}, specs.Option.is_some}
+use Rattle.std.specs.{Option.option_to_list, declared.{alloc.Global.Global, option.Option.Option, sync.Arc.Arc}}
+use Rattle.std.proofs.lemmas.Grind.{common_steps}
+use Rattle.edge_block.specs.{declared.blocks.Block.Block, Slots.BlockView, Rows.{OpenBlock, shape_of, has_none, row_end}}
+use Rattle.edge_block.{specs.Rows.{taken_in, dropped_in}, proofs.Counts.count_more}
 use Rattle.batch_shards.specs.RowBlocks.{block_of, open_of, opens, had_here, had_in, IsOf}
 use Rattle.batch_shards.specs.Closing.{written_here, dropped_here, after_of, written_of, dropped_of, closed_rows}
 use Rattle.batch_shards.specs.{Shards.AreOpen, Shards.AreOwn, Shards.sources_of, Shards.had_all, Done.sum_of, Done.AreBlockRows}
@@ -15,13 +15,7 @@ use Rattle.graph_version.specs.Versions.{IsBlockOf}
 -- the layout at the batch's end
 pub after_end : (row : List RowBlock) → map shape_of (after_of row) ≡ row_end (opens row)
 after_end [] = refl
-after_end (h ∷ row) =
-    let n : Bool = has_none (shape_of (block_of h.block)) in
-    elim (h.touched && n) as (λ b. map shape_of (cond b [] (block_of h.block ∷ []) ++ after_of row)
-    ≡ shapes (cond (not b) (open_of h ∷ filter is_kept (opens row)) (filter is_kept (opens row)))) [
-      | true ↦ after_end row
-      | false ↦ ap (λ ss. shape_of (block_of h.block) ∷ ss) (after_end row)
-    ]
+after_end (h ∷ row) = grind (arith, common_steps, after_end row)
 
 pub length-written : (row : List RowBlock) → length (written_of row) ≡ taken_in (opens row)
 length-written [] = refl
@@ -36,9 +30,7 @@ length-written (h ∷ row) =
 
 one_dropped : (t : Bool) (o : Option (Arc Block Global)) → length (cond t (map block_of (option_to_list o)) [])
     ≡ cond (t && (not t || is_some o)) 1 0
-one_dropped true None = refl
-one_dropped true (Some b) = refl
-one_dropped false o = refl
+one_dropped t o = grind (arith, common_steps)
 
 pub length-dropped : (row : List RowBlock) → length (dropped_of row) ≡ dropped_in (opens row)
 length-dropped [] = refl
@@ -127,6 +119,4 @@ rows_edges row each (s ∷ sources) = All-append HasEdges (row s) (flat_map row 
 -- the blocks of rows that were read have edges, where each row of sources has such or no source is there
 pub read_edges : (row : ℕ → List BlockView) (sources : List ℕ) → (length sources ≡ 0) ⊎ AreBlockRows row
     → All HasEdges (flat_map row sources)
-read_edges row sources (inr each) = rows_edges row each sources
-read_edges row [] (inl none) = All-nil HasEdges
-read_edges row (s ∷ sources) (inl none) = absurd (omega arith)
+read_edges row sources is = grind (arith, common_steps, rows_edges, All-nil)

@@ -1,9 +1,9 @@
 -- The births of a closed row's blocks.
-use Rattle.std.proofs.Common.{◌≡◌, ℕ, Bool, true, false, cond, not, ◌&&◌, ◌||◌, ◌==◌, List, [], ◌∷◌, ◌++◌, map, flat_map, All}
-use Rattle.std.proofs.{Common.{refl, sym, ap, ap₂, ◌∙◌, subst}, lemmas.{Bool.{eq-eqb, or_right}, List.map-append}}
-use Rattle.std.proofs.lemmas.List.Elements.{All-head, All-tail, All-cons, All-nil}
-use Rattle.std.specs.{Prelude.if◌then◌else◌, Option.is_some, Option.option_to_list, declared.alloc.Global.Global}
-use Rattle.std.specs.declared.{option.Option.Option, option.Option.TheVariants.None, option.Option.TheVariants.Some, sync.Arc.Arc}
+use Rattle.std.proofs.Common.{◌≡◌, ℕ, Bool, true, cond, not, ◌&&◌, ◌||◌, ◌==◌, List, [], ◌∷◌, ◌++◌, map, flat_map, All, refl, sym}
+use Rattle.std.proofs.{Common.{ap, ap₂, ◌∙◌, subst, arith}, lemmas.{Bool.{eq-eqb, or_right}, List.map-append}}
+use Rattle.std.{proofs.lemmas.List.Elements.{All-head, All-tail, All-cons, All-nil}, specs.Prelude.if◌then◌else◌}
+use Rattle.std.specs.{Option.{is_some, option_to_list}, declared.{alloc.Global.Global, option.Option.Option, sync.Arc.Arc}}
+use Rattle.std.proofs.lemmas.Grind.{common_steps}
 use Rattle.edge_block.specs.{declared.blocks.Block.Block, Slots.BlockView, Rows.{OpenBlock, shape_of, has_none}}
 use Rattle.graph_version.specs.Versions.{is_in}
 use Rattle.batch_shards.specs.{RowBlocks.{block_of, opens, had_here, had_in}, Closing.{written_here, after_of, written_of}}
@@ -29,11 +29,7 @@ module _ (f g : BlockView → ℕ) (n : ℕ) where
       → map g after ≡ births_end n row (map f had)
       → map g (cond (t && e) [] (b ∷ []) ++ after)
       ≡ births_step (not (t && e)) t (not t || is_some o) n row (map f (cond t (map block_of (option_to_list o)) (b ∷ []) ++ had))
-  one_birth true true None b after had row new old rest = rest
-  one_birth true true (Some x) b after had row new old rest = rest
-  one_birth true false None b after had row new old rest = ap₂ (λ x xs. x ∷ xs) (All-head (λ x. g x ≡ n) b [] new) rest
-  one_birth true false (Some x) b after had row new old rest = ap₂ (λ x xs. x ∷ xs) (All-head (λ x. g x ≡ n) b [] new) rest
-  one_birth false e o b after had row new old rest = ap₂ (λ x xs. x ∷ xs) (All-head (λ x. g x ≡ f x) b [] old) rest
+  one_birth t e o b after had row new old rest = grind (arith, common_steps, All-head)
 
   pub row_births : (row : List RowBlock) → All (λ b. g b ≡ n) (written_of row) → All (λ b. g b ≡ f b) (had_in row)
       → map g (after_of row) ≡ births_end n (opens row) (map f (had_in row))
@@ -49,8 +45,7 @@ module _ (f g : BlockView → ℕ) (n : ℕ) where
   pub all_births : (now : ℕ → List OpenBlock) (rows : ℕ → List BlockView) (work : List OpenRow) → AreOpen now work
       → All (λ r. had_in r.blocks.items ≡ rows r.source.0) work → All (λ b. g b ≡ n) (written_all work)
       → All (λ r. All (λ b. g b ≡ f b) (rows r.0) → map g r.1 ≡ births_end n (now r.0) (map f (rows r.0))) (closed_rows work)
-  all_births now rows [] opened had new =
-      All-nil (λ (r : ℕ × List BlockView). All (λ b. g b ≡ f b) (rows r.0) → map g r.1 ≡ births_end n (now r.0) (map f (rows r.0)))
+  all_births now rows [] opened had new = grind (arith, common_steps, All-nil)
   all_births now rows (r ∷ work) opened had new =
       let here : had_in r.blocks.items ≡ rows r.source.0 =
       All-head (λ (r : OpenRow). had_in r.blocks.items ≡ rows r.source.0) r work had in
@@ -79,9 +74,7 @@ module _ (f : BlockView → ℕ) where
       → map f gone ≡ births_dropped row (map f had)
       → map f (cond t (map block_of (option_to_list o)) [] ++ gone)
       ≡ dropped_step t (not t || is_some o) row (map f (cond t (map block_of (option_to_list o)) (b ∷ []) ++ had))
-  one_dropped true None b gone had row rest = rest
-  one_dropped true (Some x) b gone had row rest = ap (λ ls. f (block_of x) ∷ ls) rest
-  one_dropped false o b gone had row rest = rest
+  one_dropped t o b gone had row rest = grind (arith, common_steps)
 
   pub row_dropped : (row : List RowBlock) → map f (dropped_of row) ≡ births_dropped (opens row) (map f (had_in row))
   row_dropped [] = refl

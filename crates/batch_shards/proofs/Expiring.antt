@@ -1,15 +1,17 @@
 -- An expiry, block by block, and how many fresh blocks operations need.
-use Rattle.std.proofs.Common.{◌≡◌, ℕ, zero, suc, ◌+◌, ◌%◌, ◌^◌, ◌<◌, ◌≤◌, Bool, true, false, cond, not, ◌&&◌, ◌||◌, List, [], ◌∷◌}
-use Rattle.std.proofs.Common.{◌++◌, map, length, get_or, set, take, drop, count_by, refl, sym, ap, ◌∙◌, arith, subst}
-use Rattle.std.proofs.lemmas.{Bool.{false≢true, lt-ltb, ltb-true}, List.Sums.{sum_by-cons, sum_by-append, sum_by-set}}
-use Rattle.std.specs.{List.{list_any, sum_by}, Prelude.◌+ℤ◌, declared.option.Option.{Option, TheVariants.{None, Some}}}
-use Rattle.graph_types.specs.{Graph.Stamp, Graph.Key, Limits.is_weight, Step.is_before, Step.outcome_at, Step.stamp_after}
-use Rattle.graph_types.specs.declared.changes.EdgeChange.{EdgeChange, TheVariants.Insert, TheVariants.Incr, TheVariants.Remove}
-use Rattle.graph_types.specs.declared.{batches.Outcome.Outcome, ids.VertexId.VertexId}
-use Rattle.graph_types.specs.declared.batches.Outcome.TheVariants.{Inserted, Updated, Removed, Absent, Overflow, Expired}
+use Rattle.std.proofs.Common.{◌≡◌, ℕ, zero, suc, ◌+◌, ◌%◌, ◌^◌, ◌<◌, ◌≤◌, Bool, true, false, cond, ◌&&◌, ◌||◌, List, [], ◌∷◌}
+use Rattle.std.proofs.Common.{◌++◌, map, length, get_or, set, drop, count_by, refl, sym, ap, ◌∙◌, arith, subst}
+use Rattle.std.proofs.lemmas.{Bool.{false≢true, lt-ltb, ltb-true}, List.Sums.{sum_by-cons, sum_by-append, get_or-le-sum_by}}
+use Rattle.std.{proofs.lemmas.List.Sums.{sum_by-le-sum_by, sum_by-drop_more}, specs.List.{list_any, sum_by}}
+use Rattle.std.{specs.declared.option.Option.{Option, TheVariants.{None, Some}}, proofs.lemmas.List.{get_or-map, length-map}}
+use Rattle.std.proofs.lemmas.Grind.{common_steps}
+use Rattle.graph_types.specs.{Graph.{Stamp, Key}, Step.{is_before, outcome_at, stamp_after}}
+use Rattle.graph_types.specs.declared.{changes.EdgeChange.EdgeChange, batches.Outcome.{Outcome, TheVariants.{Inserted, Updated}}}
+use Rattle.graph_types.specs.declared.{batches.Outcome.TheVariants.{Removed, Absent, Overflow, Expired}, ids.VertexId.VertexId}
+use Rattle.graph_types.proofs.DegreeBounds.{one_where}
 use Rattle.edge_block.specs.{Slots.{Slot, slots_since, has_before, old_in, edges_in, holds, at_first, BlockView}, Rows.OpenBlock}
-use Rattle.edge_block.specs.Rows.{has_old, touch, expire_block, put_edge, set_edge, edge_at, untouched, shape_of, has_edge}
-use Rattle.edge_block.specs.{Rows.{has_room, new_block, touches}, Batches.{key_step, key_outcome, together}}
+use Rattle.edge_block.specs.Rows.{touch, expire_block, put_edge, set_edge, edge_at, untouched, shape_of, has_edge, has_room}
+use Rattle.edge_block.specs.{Rows.{new_block, touches}, Batches.{key_step, key_outcome, together}}
 use Rattle.batch_shards.specs.{Groups.told, Spending.{is_unspent, unspent, old_blocks, time_of, latest, spends, takes}}
 use Rattle.batch_shards.specs.declared.shard.{Act.{Act, TheVariants.{Edge, Expire}}, Step.Step}
 
@@ -27,9 +29,7 @@ map_first_next f (suc k) (x ∷ xs) y d lt e = ap (λ ys. f x ∷ ys) (map_first
 
 pub map_first_more : {A : Type 0} (f : A → A) (k : ℕ) (xs : List A) (y d : A) → k < length xs → y ≡ f (get_or xs k d)
     → set (map_first f k xs) k y ≡ map_first f (k + 1) xs
-map_first_more f k xs y d lt e =
-    let same : suc k ≡ k + 1 = omega arith in
-    map_first_next f k xs y d lt e ∙ ap (λ n. map_first f n xs) same
+map_first_more f k xs y d lt e = grind (arith, common_steps, map_first_next)
 
 pub map_first_there : {A : Type 0} (f : A → A) (k : ℕ) (xs : List A) (d : A) → get_or (map_first f k xs) k d ≡ get_or xs k d
 map_first_there f zero xs d = refl
@@ -47,24 +47,6 @@ map_first_long f zero xs = refl
 map_first_long f (suc k) [] = refl
 map_first_long f (suc k) (x ∷ xs) = ap suc (map_first_long f k xs)
 
--- a sum over one element more
-sum_next : {A : Type 0} (f : A → ℕ) (k : ℕ) (xs : List A) (d : A) → k < length xs
-    → sum_by f (take (suc k) xs) ≡ sum_by f (take k xs) + f (get_or xs k d)
-sum_next f k [] d lt = absurd (omega arith)
-sum_next f zero (x ∷ xs) d lt = let a = sum_by-cons f x [] in omega arith
-sum_next f (suc k) (x ∷ xs) d lt =
-    sum_by-cons f x (take (suc k) xs)
-    ∙ added (f x) (sum_by f (take (suc k) xs)) (sum_by f (take k xs)) (f (get_or xs k d)) (sum_next f k xs d (omega arith))
-    ∙ ap (λ n. n + f (get_or xs k d)) (sym (sum_by-cons f x (take k xs))) where
-      added : (a b c e : ℕ) → b ≡ c + e → a + b ≡ a + c + e
-      added a b c e h = omega arith
-
-pub sum_more : {A : Type 0} (f : A → ℕ) (k : ℕ) (xs : List A) (d : A) → k < length xs
-    → sum_by f (take (k + 1) xs) ≡ sum_by f (take k xs) + f (get_or xs k d)
-sum_more f k xs d lt =
-    let same : k + 1 ≡ suc k = omega arith in
-    ap (λ n. sum_by f (take n xs)) same ∙ sum_next f k xs d lt
-
 -- a count modulo m, with another one added
 pub mod_more : (a b m : ℕ) → (a % m + b) % m ≡ (a + b) % m
 mod_more a b m =
@@ -72,22 +54,10 @@ mod_more a b m =
     ∙ ap (λ x. (x + b % m) % m) (Rattle.std.proofs.Math.Nat.mod-mod a m)
     ∙ sym (Rattle.std.proofs.Math.Nat.add-mod a b m)
 
--- a count with one element changed
-pub count_set : {A : Type 0} (p : A → Bool) (xs : List A) (k : ℕ) (y d : A) → k < length xs
-    → count_by p (set xs k y) + cond (p (get_or xs k d)) 1 0 ≡ count_by p xs + cond (p y) 1 0
-count_set p xs k y d lt = sum_by-set (λ x. cond (p x) 1 0) xs k y d lt
-
 pub count_there : {A : Type 0} (p : A → Bool) (xs : List A) (k : ℕ) (d : A) → k < length xs → p (get_or xs k d) ≡ true
     → 0 < count_by p xs
-count_there p [] k d lt e = absurd (omega arith)
-count_there p (x ∷ xs) zero d lt e =
-    let a = sum_by-cons (λ x. cond (p x) 1 0) x xs in
-    let b : (let n : ℕ = cond (p x) 1 0 in n) ≡ 1 = ap (λ t. let n : ℕ = cond t 1 0 in n) e in
-    omega arith
-count_there p (x ∷ xs) (suc k) d lt e =
-    let a = sum_by-cons (λ x. cond (p x) 1 0) x xs in
-    let b = count_there p xs k d (omega arith) e in
-    omega arith
+count_there p xs k d lt e =
+    omega (arith, get_or-le-sum_by (λ x. cond (p x) 1 0) xs k d lt, ap (λ t. cond {A = ℕ} t 1 0) e)
 
 -- an edge that is old at a time is old at each later one
 pub older : (s t : ℕ) (x : Stamp) → s ≤ t → is_before s x ≡ true → is_before t x ≡ true
@@ -105,27 +75,16 @@ old_later s t (Some x ∷ slots) le e =
     ] refl e
 
 and_both : (a b c : Bool) → (b ≡ true → c ≡ true) → (a && b) ≡ true → (a && c) ≡ true
-and_both true b c h e = h e
-and_both false b c h e = e
+and_both a b c h e = grind (arith, common_steps)
 
 pub unspent_later : (s t : ℕ) (b : OpenBlock) → s ≤ t → is_unspent s b ≡ true → is_unspent t b ≡ true
-unspent_later s t b le e =
-    and_both (not b.touched) (has_old s b) (has_old t b) (old_later s t b.shape.slots le) e
-
-one_more : (a b : Bool) → (a ≡ true → b ≡ true) → cond a 1 0 ≤ cond b 1 0
-one_more true b h = let e = h refl in subst (λ x. 1 ≤ cond x 1 0) (sym e) (omega arith)
-one_more false b h = omega arith
+unspent_later s t b le e = grind (arith, common_steps, and_both, old_later)
 
 -- what passes a test passes a wider one
 pub count_wider : {A : Type 0} (p q : A → Bool) → ((x : A) → p x ≡ true → q x ≡ true) → (xs : List A)
     → count_by p xs ≤ count_by q xs
-count_wider p q h [] = omega arith
-count_wider p q h (x ∷ xs) =
-    let a = sum_by-cons (λ x. cond (p x) 1 0) x xs in
-    let b = sum_by-cons (λ x. cond (q x) 1 0) x xs in
-    let c = count_wider p q h xs in
-    let d = one_more (p x) (q x) (h x) in
-    omega arith
+count_wider p q h xs =
+    sum_by-le-sum_by (λ x. cond (p x) 1 0) (λ x. cond (q x) 1 0) xs (λ x. one_where (p x) (q x) (h x))
 
 pub fewer_earlier : (s t : ℕ) (row : List OpenBlock) → s ≤ t → unspent s row ≤ unspent t row
 fewer_earlier s t row le = count_wider (is_unspent s) (is_unspent t) (λ b. unspent_later s t b le) row
@@ -133,19 +92,7 @@ fewer_earlier s t row le = count_wider (is_unspent s) (is_unspent t) (λ b. unsp
 -- one block of an expiry: what is taken of the fresh ones is no longer owed to a later time
 pub expired_owes : (s t : ℕ) (b : OpenBlock) → s ≤ t
     → cond (is_unspent s b) 1 0 + cond (is_unspent t (expire_block s b)) 1 0 ≤ cond (is_unspent t b) 1 0
-expired_owes s t b le =
-    elim (has_old s b) as (λ x. has_old s b ≡ x → cond (not b.touched && x) 1 0
-    + cond (is_unspent t (cond x (touch (slots_since s) b) b)) 1 0 ≤ cond (is_unspent t b) 1 0) [
-      | true ↦ λ old. elim b.touched as (λ y. cond (not y && true) 1 0 + 0 ≤ cond (not y && has_old t b) 1 0) [
-        | true ↦ omega arith
-        | false ↦ subst (λ z. 1 + 0 ≤ cond z 1 0) (sym (old_later s t b.shape.slots le old)) (omega arith)
-      ]
-      | false ↦ λ young. elim b.touched as (λ y. cond (not y && false) 1 0 + cond (not y && has_old t b) 1 0
-          ≤ cond (not y && has_old t b) 1 0) [
-            | true ↦ omega arith
-            | false ↦ omega arith
-          ]
-    ] refl
+expired_owes s t b le = grind (arith, common_steps, old_later)
 
 -- a block with no edge of before a time has none in count, either
 pub none_old : (time : ℕ) (slots : List (Option Slot)) → has_before time slots ≡ false → old_in time slots ≡ 0
@@ -184,15 +131,7 @@ holds_since time target (Some x ∷ slots) e =
 touched_owes : (t : ℕ) (p : OpenBlock → Bool) (f : List (Option Slot) → List (Option Slot)) (row : List OpenBlock)
     → unspent t (at_first p (touch f) row) ≤ unspent t row
 touched_owes t p f [] = omega arith
-touched_owes t p f (b ∷ row) =
-    let a = sum_by-cons (λ x. cond (is_unspent t x) 1 0) (touch f b) row in
-    let c = sum_by-cons (λ x. cond (is_unspent t x) 1 0) b (at_first p (touch f) row) in
-    let d = sum_by-cons (λ x. cond (is_unspent t x) 1 0) b row in
-    let e = touched_owes t p f row in
-    elim (p b) as (λ x. unspent t (cond x (touch f b ∷ row) (b ∷ at_first p (touch f) row)) ≤ unspent t (b ∷ row)) [
-      | true ↦ omega arith
-      | false ↦ omega arith
-    ]
+touched_owes t p f (b ∷ row) = grind (arith, common_steps, touched_owes t p f row)
 
 put_owes : (t kind : ℕ) (e : Slot) (row : List OpenBlock) → unspent t (put_edge kind e row) ≤ unspent t row
 put_owes t kind e row =
@@ -233,20 +172,13 @@ edge_owes t change key row new e = subst (λ r. unspent t r ≤ unspent t row) (
 -- the row before the batch owes its old blocks
 pub opened_owes : (t : ℕ) (row : List BlockView) → unspent t (map untouched (map shape_of row)) ≡ old_blocks t row
 opened_owes t [] = refl
-opened_owes t (b ∷ row) =
-    let a = sum_by-cons (λ x. cond (is_unspent t x) 1 0) (untouched (shape_of b)) (map untouched (map shape_of row)) in
-    let c = sum_by-cons (λ (x : BlockView). cond (has_before t x.slots) 1 0) b row in
-    let d = opened_owes t row in
-    omega arith
+opened_owes t (b ∷ row) = grind (arith, common_steps, opened_owes t row)
 
 -- no expiry is later than the latest
 pub not_later : (steps : List Step) (k : ℕ) (s : Step) → k < length steps → time_of (get_or steps k s).act ≤ latest steps
 not_later [] k s lt = absurd (omega arith)
 not_later (x ∷ steps) zero s lt = Rattle.std.proofs.Math.Nat.le-max_left (time_of x.act) (latest steps)
-not_later (x ∷ steps) (suc k) s lt =
-    let a = not_later steps k s (omega arith) in
-    let b = Rattle.std.proofs.Math.Nat.le-max_right (time_of x.act) (latest steps) in
-    omega arith
+not_later (x ∷ steps) (suc k) s lt = grind (arith, common_steps, not_later steps k s (omega arith))
 
 -- what is needed of a row is what it takes and owes
 pub spends_least : (act : Act) (t : ℕ) (row : List OpenBlock) → time_of act ≤ t → spends act row ≤ takes act + unspent t row
@@ -263,58 +195,27 @@ is_counted Overflow = false
 is_counted (Expired count) = true
 
 last_stands : (x y : Outcome) → is_counted y ≡ false → together x y ≡ y
-last_stands Inserted y e = refl
-last_stands Updated y e = refl
-last_stands Removed y e = refl
-last_stands Absent y e = refl
-last_stands Overflow y e = refl
-last_stands (Expired a) Inserted e = refl
-last_stands (Expired a) Updated e = refl
-last_stands (Expired a) Removed e = refl
-last_stands (Expired a) Absent e = refl
-last_stands (Expired a) Overflow e = refl
-last_stands (Expired a) (Expired b) e = absurd (false≢true (sym e))
+last_stands x y e = grind (arith, common_steps, false≢true)
 
 not_counted : (change : EdgeChange) (s : Option Stamp) → is_counted (outcome_at change s) ≡ false
-not_counted (Insert weight time) None = refl
-not_counted (Insert weight time) (Some e) = refl
-not_counted (Incr amount time) None = refl
-not_counted (Incr amount time) (Some e) =
-    elim (is_weight (e.weight +ℤ amount)) as (λ b. is_counted (cond b Updated Overflow) ≡ false) [
-      | true ↦ refl
-      | false ↦ refl
-    ]
-not_counted Remove None = refl
-not_counted Remove (Some e) = refl
+not_counted change s = grind (arith, common_steps)
 
 pub edge_stands : (x : Outcome) (change : EdgeChange) (key : Option Key) (rows : ℕ → List OpenBlock)
     → together x (key_outcome change key rows) ≡ key_outcome change key rows
-edge_stands x change None rows = last_stands x Absent refl
-edge_stands x change (Some k) rows =
-    last_stands x (outcome_at change (edge_at (rows k.source) (k.kind, k.target)))
-    (not_counted change (edge_at (rows k.source) (k.kind, k.target)))
+edge_stands x change key rows = grind (arith, common_steps, last_stands, not_counted)
 
 -- counts told one after another
 pub told_more : (a b : ℕ) → told (together (told (Expired a)) (Expired b)) ≡ told (Expired (a + b))
 told_more a b = ap Expired (mod_more a b (2 ^ 64))
 
 pub told_none : (o : Outcome) (count : ℕ) → o ≡ told (Expired count) → told (together o (Expired 0)) ≡ o
-told_none o count e =
-    let same : count + 0 ≡ count = omega arith in
-    ap (λ x. told (together x (Expired 0))) e ∙ told_more count 0 ∙ ap (λ n. told (Expired n)) same ∙ sym e
+told_none o count e = grind (arith, common_steps, told_more)
 
 -- a sum over the sources from one on
-needed_next : (f : ℕ → ℕ) (sources : List VertexId) (row : ℕ) → row < length sources
-    → sum_by f (drop row (map (λ s. s.0) sources))
-    ≡ f (get_or sources row (record { 0 = 0 })).0 + sum_by f (drop (suc row) (map (λ s. s.0) sources))
-needed_next f [] row lt = absurd (omega arith)
-needed_next f (s ∷ sources) zero lt = sum_by-cons f s.0 (map (λ (s : VertexId). s.0) sources)
-needed_next f (s ∷ sources) (suc row) lt = needed_next f sources row (omega arith)
-
 pub needed_row : (f : ℕ → ℕ) (sources : List VertexId) (row : ℕ) → row < length sources
     → sum_by f (drop row (map (λ s. s.0) sources))
     ≡ f (get_or sources row (record { 0 = 0 })).0 + sum_by f (drop (row + 1) (map (λ s. s.0) sources))
 needed_row f sources row lt =
-    let same : suc row ≡ row + 1 = omega arith in
-    needed_next f sources row lt
-    ∙ ap (λ n. f (get_or sources row (record { 0 = 0 })).0 + sum_by f (drop n (map (λ (s : VertexId). s.0) sources))) same
+    let numbers : List ℕ = map (λ (s : VertexId). s.0) sources in
+    sum_by-drop_more f numbers row 0 (omega (arith, length-map sources (λ (s : VertexId). s.0)))
+    ∙ ap (λ n. f n + sum_by f (drop (row + 1) numbers)) (get_or-map (λ (s : VertexId). s.0) sources row (record { 0 = 0 }) 0 lt)

@@ -2,11 +2,11 @@
 use Rattle.std.proofs.Common.{◌≡◌, ℕ, ◌+◌, ◌%◌, ◌^◌, ◌<◌, ◌≤◌, true, false, cond, List, length, get_or, set, take, sym, ap, ◌∙◌}
 use Rattle.std.proofs.{Common.{arith, All}, lemmas.List.{map-set, get_or-map, length-map, Elements.All-set}}
 use Rattle.std.specs.{List.{list_any, sum_by}, declared.option.Option.{Option, TheVariants.{None, Some}}}
+use Rattle.std.proofs.lemmas.{List.Sums.{sum_by_more, sum_by-set}, Grind.common_steps}
 use Rattle.edge_block.specs.{Slots.{slots_since, has_before, old_in, holds}, Rows.{OpenBlock, touch, expire_block, expire_row}}
-use Rattle.batch_shards.specs.RowBlocks.{block_of, open_of, opens, IsOf}
-use Rattle.batch_shards.specs.{Notes.IsNoted, Spending.is_unspent, Spending.unspent, declared.notes.Notes.Notes}
-use Rattle.batch_shards.{specs.declared.row_blocks.RowBlock.RowBlock, proofs.Expiring.map_first, proofs.Expiring.map_first_more}
-use Rattle.batch_shards.proofs.Expiring.{map_first_there, sum_more, mod_more, count_set, count_there, expired_owes, holds_since}
+use Rattle.batch_shards.specs.{RowBlocks.{block_of, open_of, opens, IsOf}, Notes.IsNoted, Spending.{is_unspent, unspent}}
+use Rattle.batch_shards.{specs.declared.{notes.Notes.Notes, row_blocks.RowBlock.RowBlock}, proofs.Expiring.map_first}
+use Rattle.batch_shards.proofs.Expiring.{map_first_more, map_first_there, mod_more, count_there, expired_owes, holds_since}
 
 module _ (row : List RowBlock) (k : ℕ) (h : RowBlock) (lt : k < length row) (is : h ≡ get_or row k h) where
   pub open_there : get_or (opens row) k (open_of h) ≡ open_of h
@@ -21,21 +21,14 @@ module _ (row : List RowBlock) (k : ℕ) (h : RowBlock) (lt : k < length row) (i
 
   module _ (time : ℕ) (first : List OpenBlock) (done : opens row ≡ map_first (expire_block time) k first) where
     pub first_there : get_or first k (open_of h) ≡ open_of h
-    first_there = sym (map_first_there (expire_block time) k first (open_of h))
-        ∙ ap (λ bs. get_or bs k (open_of h)) (sym done) ∙ open_there
+    first_there = grind (arith, common_steps, map_first_there, open_there)
 
     within : k < length first
-    within =
-        let a = Rattle.batch_shards.proofs.Expiring.map_first_long (expire_block time) k first in
-        let b = ap length done in
-        let c = inside in
-        omega arith
+    within = omega (arith, Rattle.batch_shards.proofs.Expiring.map_first_long (expire_block time) k first, ap length done, inside)
 
     pub set_here : (y : RowBlock) → open_of y ≡ expire_block time (open_of h)
         → opens (set row k y) ≡ map_first (expire_block time) (k + 1) first
-    set_here y shown = map-set open_of row k y ∙ ap (λ bs. set bs k (open_of y)) done
-        ∙ map_first_more (expire_block time) k first (open_of y) (open_of h) within
-        (shown ∙ ap (expire_block time) (sym first_there))
+    set_here y shown = grind (arith, common_steps, map-set, map_first_more, within, first_there)
 
     pub count_here : (count gone : ℕ) → count ≡ sum_by (λ b. old_in time b.shape.slots) (take k first) % 2 ^ 64
         → gone ≡ old_in time (block_of h.block).slots
@@ -45,14 +38,14 @@ module _ (row : List RowBlock) (k : ℕ) (h : RowBlock) (lt : k < length row) (i
         ap (λ n. (n + gone) % 2 ^ 64) was
         ∙ mod_more (sum_by f (take k first)) gone (2 ^ 64)
         ∙ ap (λ n. (sum_by f (take k first) + n) % 2 ^ 64) (is_gone ∙ ap f (sym first_there))
-        ∙ ap (λ n. n % 2 ^ 64) (sym (sum_more f k first (open_of h) within))
+        ∙ ap (λ n. n % 2 ^ 64) (sym (sum_by_more f first k (open_of h) within))
 
   pub few_here : (time t before now y_fresh : ℕ) (y : RowBlock) (owed : ℕ) → time ≤ t
       → open_of y ≡ expire_block time (open_of h)
       → before + unspent t (opens row) ≤ now + owed → now ≤ y_fresh + cond (is_unspent time (open_of h)) 1 0
       → before + unspent t (opens (set row k y)) ≤ y_fresh + owed
   few_here time t before now y_fresh y owed le shown few took =
-      let a = count_set (is_unspent t) (opens row) k (open_of y) (open_of h) inside in
+      let a = sum_by-set (λ x. cond (is_unspent t x) 1 0) (opens row) k (open_of y) (open_of h) inside in
       let b = expired_owes time t (open_of h) le in
       let one : OpenBlock → ℕ = λ o. cond (is_unspent t o) 1 0 in
       let c : one (open_of y) ≡ one (expire_block time (open_of h)) = ap one shown in
@@ -64,8 +57,7 @@ module _ (row : List RowBlock) (k : ℕ) (h : RowBlock) (lt : k < length row) (i
 -- a row with one block changed is of its source
 pub all_set : (row : List RowBlock) (k : ℕ) (h : RowBlock) → k < length row → h ≡ get_or row k h → (y : RowBlock) (source : ℕ)
     → (block_of y.block).source ≡ (block_of h.block).source → All (IsOf source) row → All (IsOf source) (set row k y)
-all_set row k h lt is y source same all =
-    All-set (IsOf source) row k y (same ∙ ap (λ (x : RowBlock). (block_of x.block).source) is ∙ all k h lt) all
+all_set row k h lt is y source same all = grind (arith, common_steps, All-set)
 
 -- notes of a row hold behind an expiry
 module _ (time : ℕ) where

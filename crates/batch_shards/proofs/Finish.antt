@@ -1,21 +1,20 @@
 -- What a shard leaves, from the rows that it has opened, changed and closed.
-use Rattle.std.proofs.Common.{◌≡◌, ℕ, zero, suc, ◌+◌, ◌<◌, false, not, List, [], ◌∷◌, ◌++◌, length, get_or, take}
-use Rattle.std.proofs.Common.{map, flat_map, count_by, zip, refl, sym, ap, ap₂, ◌∙◌, arith, subst, All}
-use Rattle.std.proofs.lemmas.{Bool.lt-ltb, List.get_or-map, List.length-map, List.take_all}
-use Rattle.std.specs.declared.{option.Option.TheVariants.None, option.Option.TheVariants.Some, sync.Arc.Arc, alloc.Global.Global}
+use Rattle.std.proofs.Common.{◌≡◌, ℕ, zero, suc, ◌+◌, ◌<◌, false, List, [], ◌∷◌, ◌++◌, length, get_or, take, map, flat_map}
+use Rattle.std.proofs.{Common.{count_by, zip, refl, sym, ap, ap₂, ◌∙◌, arith, subst, All}, lemmas.{Bool.lt-ltb, List.get_or-map}}
+use Rattle.std.{proofs.lemmas.List.{length-map, take_all}, specs.declared.{sync.Arc.Arc, alloc.Global.Global}}
+use Rattle.std.proofs.lemmas.Grind.{common_steps}
 use Rattle.graph_types.specs.declared.batches.Outcome.{Outcome, TheVariants.Absent}
 use Rattle.edge_block.specs.{Batches.opened, Batches.outcomes_all, Rows.shape_of, Rows.row_end, Rows.taken_in, Rows.dropped_in}
 use Rattle.edge_block.specs.{declared.blocks.Block.Block, Slots.BlockView}
 use Rattle.batch_shards.specs.{RowBlocks.{block_of, blocks_of, numbers_of}, Closing.{written_here, dropped_here, closed_rows}}
 use Rattle.batch_shards.specs.{Closing.{row_values, stays_all, written_all, dropped_all, unused_all}, Groups.{is_past, told}}
 use Rattle.batch_shards.specs.{Groups.outcome_over, Shards.{IsAct, AreSteps, resolved_at, resolved_in, sources_of, had_all}}
-use Rattle.batch_shards.specs.declared.shard.{Act.{Act, TheVariants.{Edge, Expire}}, Step.Step, Shard.Shard, ShardDone.ShardDone}
-use Rattle.batch_shards.specs.{declared.shard.OpenRow.OpenRow, Progress.{AreOutcomes, AreRowsDone}, Births.births_end}
-use Rattle.batch_shards.specs.{Births.births_dropped, Done.{IsShardDone, sum_of, layout_by, rows_by, sources_in}}
-use Rattle.batch_shards.proofs.{Dating.all_births, Dating.all_dropped, Dating.written_births, Places.count_by-append}
-use Rattle.batch_shards.proofs.{ShardSteps.first_step, ShardSteps.length-outcomes_all, Balances.all_before}
-use Rattle.batch_shards.proofs.{Balances.all_after, Balances.all_numbers, Closed.length-written, Closed.length-dropped}
-use Rattle.batch_shards.proofs.Closed.{sum_open, same_sources, pieces_closed, all_layout, HasEdges, all_blocks}
+use Rattle.batch_shards.specs.declared.shard.{Act.Act, Step.Step, Shard.Shard, ShardDone.ShardDone, OpenRow.OpenRow}
+use Rattle.batch_shards.specs.{Progress.{AreOutcomes, AreRowsDone}, Births.{births_end, births_dropped}, Done.IsShardDone}
+use Rattle.batch_shards.{specs.Done.{sum_of, layout_by, rows_by, sources_in}, proofs.Dating.{all_births, all_dropped}}
+use Rattle.batch_shards.proofs.{Dating.written_births, Places.count_by-append, ShardSteps.{first_step, length-outcomes_all}}
+use Rattle.batch_shards.proofs.{Balances.{all_before, all_after, all_numbers}, Closed.{length-written, length-dropped, sum_open}}
+use Rattle.batch_shards.proofs.Closed.{same_sources, pieces_closed, all_layout, HasEdges, all_blocks}
 use Rattle.graph_version.specs.Versions.{IsBlockOf, is_in}
 
 -- a list of pairs by their parts
@@ -31,9 +30,7 @@ zipped (o ∷ outs) (r ∷ rs) e h =
 
 -- every operation is on one of the rows
 all_past : (rows : ℕ) (act : Act) → IsAct rows act → is_past rows act ≡ false
-all_past rows (Edge None change) w = refl
-all_past rows (Edge (Some p) change) w = ap not (lt-ltb p.row rows w.0)
-all_past rows (Expire time) w = refl
+all_past rows act w = grind (arith, common_steps, lt-ltb)
 
 outcomes_all_are : (rows : ℕ → List BlockView) (sources : List ℕ) (steps : List Step) (outs : List (ℕ × Outcome))
     → AreSteps (length sources) steps → AreOutcomes sources steps rows (length sources) outs

@@ -5,6 +5,7 @@ use Rattle.std.proofs.lemmas.{Bool.{or_cases, or_left, or_right, le-leb, and_fro
 use Rattle.std.proofs.lemmas.List.{get_or-set_other, map-set, Elements.{All-head, All-tail}, Folds.list_any-append}
 use Rattle.std.{proofs.Math.ListN.length-set, specs.{Prelude.{filter, All, nat_lt, nat_le, ◌^◌, ◌-◌}, List.list_any}}
 use Rattle.std.specs.declared.{option.Option.{Option, TheVariants.{None, Some}}, vec.Vec.Vec, alloc.Global.Global}
+use Rattle.std.proofs.lemmas.Grind.{common_steps}
 use Rattle.graph_types.specs.{View.in_view, declared.ids.Filter.Filter}
 use Rattle.edge_block.specs.Slots.{Slot, BlockView, holds, edges_in, entry_in, IsSlot}
 use Rattle.edge_block.{specs.Lending.LentEdge, specs.Lending.lent_of, proofs.SlotLaws.target_of_edge}
@@ -53,22 +54,13 @@ module _ (n : Notes) (list place : ℕ) (v w : Vec ℕ Global) (places : Vec (Ve
       ∙ ap (λ (l : Vec ℕ Global). l.items) (get_or-set_same n.places.items list w v lt) ∙ longer
 
   other_list : (k : ℕ) → (k ≡ list → ⊥) → get_or (places_in noted) k [] ≡ get_or (places_in n) k []
-  other_list k ne =
-      ap (λ (ls : List (Vec ℕ Global)). get_or (map (λ (l : Vec ℕ Global). l.items) ls) k []) are
-      ∙ ap (λ (ls : List (List ℕ)). get_or ls k []) (map-set (λ (l : Vec ℕ Global). l.items) n.places.items list w)
-      ∙ get_or-set_other (places_in n) list k w.items [] ne
+  other_list k ne = grind (arith, common_steps, map-set, get_or-set_other)
 
   longer_list : (i : ℕ) → stands (v.items ++ place ∷ []) i ≡ (stands v.items i || stands (place ∷ []) i)
   longer_list i = list_any-append (λ p. p == i) v.items (place ∷ [])
 
   pub now_stands : (target : ℕ) → list ≡ list_of n target → may_stand noted target place ≡ true
-  now_stands target is =
-      or_right (not (nat_lt (list_of n target) (length places.items)))
-      (stands (get_or (places_in noted) (list_of n target) []) place)
-      (ap (λ k. stands (get_or (places_in noted) k []) place) (sym is)
-      ∙ ap (λ ps. stands ps place) new_list
-      ∙ longer_list place
-      ∙ or_right (stands v.items place) (stands (place ∷ []) place) (or_left (place == place) false (eq-eqb place place refl)))
+  now_stands target is = grind (arith, common_steps, or_right, new_list, longer_list, or_left, eq-eqb)
 
   pub more_stand : HasMore n noted
   more_stand = record {

@@ -1,21 +1,18 @@
 -- Notes of a row: what an operation leaves of its targets, and the first of the noted places.
-use Rattle.std.proofs.Common.{◌≡◌, ◌⊎◌, ℕ, zero, suc, ◌+◌, ◌<◌, ◌≤◌, ◌==◌, Bool, true, false, cond, List, [], ◌∷◌, ◌++◌, length}
-use Rattle.std.proofs.{Common.{get_or, set, refl, sym, ap, ◌∙◌, inl, inr, arith, ◌||◌}, lemmas.Bool.{true≢false, false≢true}}
-use Rattle.std.proofs.lemmas.Bool.{false_from_ne_true, lt-ltb, le-ltb, eqb-true, eqb-false, or_cases, or_left, or_right}
-use Rattle.std.proofs.lemmas.List.{get_or-set_same, get_or-set_other, get_or_default, get_or_append_left, Sums.position_or_len_is}
-use Rattle.std.{proofs.Math.ListN.length-set, specs.{Prelude.replicate, List.{list_any, position, position_or_len}}}
-use Rattle.std.specs.{Option.{IfSome, MatchOption}, declared.option.Option.{Option, TheVariants.{None, Some}}}
-use Rattle.graph_types.specs.{Graph.Stamp, Step.stamp_after, Step.outcome_at, declared.changes.EdgeChange.EdgeChange}
-use Rattle.edge_block.specs.{Slots.{Slot, holds, is_free, put_slot, take_slot, at_first, stamp_at}, Rows.{OpenBlock, touch}}
-use Rattle.edge_block.{specs.Rows.{touches, new_block}, proofs.SlotLaws.target_of_edge}
-use Rattle.batch_shards.specs.{RowBlocks.{block_of, open_of, set_slot, IsTouched, IsChanged}, Notes.{has_target, may_stand}}
-use Rattle.batch_shards.specs.{Notes.{stands, IsNoted, Gains}, declared.{notes.Notes.Notes, row_blocks.RowBlock.RowBlock}}
+use Rattle.std.proofs.Common.{◌≡◌, ◌⊎◌, ℕ, zero, suc, ◌+◌, ◌<◌, ◌≤◌, Bool, true, false, cond, List, [], ◌∷◌, ◌++◌, length, get_or}
+use Rattle.std.proofs.{Common.{set, refl, ap, ◌∙◌, inl, inr, arith}, lemmas.Bool.{false≢true, false_from_ne_true, lt-ltb, le-ltb}}
+use Rattle.std.proofs.lemmas.{Bool.{eqb-true, eqb-false, or_cases, or_left, or_right}, List.{get_or-set_same, get_or-set_other}}
+use Rattle.std.proofs.{lemmas.List.{get_or_default, get_or_append_left, Sums.position_or_len_is}, Math.ListN.length-set}
+use Rattle.std.specs.{Prelude.replicate, List.{list_any, position, position_or_len}, Option.{IfSome, MatchOption}}
+use Rattle.std.{specs.declared.option.Option.{Option, TheVariants.{None, Some}}, proofs.lemmas.Grind.common_steps}
+use Rattle.graph_types.specs.{Graph.Stamp, declared.changes.EdgeChange.EdgeChange}
+use Rattle.edge_block.{specs.{Slots.{Slot, holds, put_slot, take_slot, at_first}, Rows.new_block}, proofs.SlotLaws.target_of_edge}
+use Rattle.batch_shards.specs.{RowBlocks.{open_of, set_slot, IsTouched, IsChanged}, Notes.{has_target, stands, IsNoted, Gains}}
+use Rattle.batch_shards.specs.declared.{notes.Notes.Notes, row_blocks.RowBlock.RowBlock}
 
 pub position_is : {A : Type 0} (p : A → Bool) (xs : List A) (i : ℕ) (d : A) → i < length xs → p (get_or xs i d) ≡ true
     → ((k : ℕ) → k < i → p (get_or xs k d) ≡ false) → position p xs ≡ Some i
-position_is p xs i d lt here before =
-    let e : position_or_len p xs ≡ i = position_or_len_is p xs i d (omega arith) before (λ _. here) in
-    rw (e, lt-ltb i (length xs) lt) refl
+position_is p xs i d lt here before = grind (arith, common_steps, position_or_len_is, lt-ltb)
 
 pub position_none : {A : Type 0} (p : A → Bool) (xs : List A)
     → ((i : ℕ) (d : A) → i < length xs → p (get_or xs i d) ≡ true → ⊥) → position p xs ≡ None
@@ -69,25 +66,11 @@ any_at_first {A} q p f (x ∷ xs) h =
 
 put_targets : (e : Slot) (slots : List (Option Slot)) (t : ℕ) → list_any (holds t) (put_slot e slots) ≡ true
     → (list_any (holds t) slots ≡ true) ⊎ (t ≡ e.target)
-put_targets e slots t h = go (list_any (holds e.target) slots) h where
-  either : (p : Option Slot → Bool) → list_any (holds t) (at_first p (λ _. Some e) slots) ≡ true
-      → (list_any (holds t) slots ≡ true) ⊎ (t ≡ e.target)
-  either p h = elim (any_at_first (holds t) p (λ _. Some e) slots h) [
-    | inl there ↦ inl there
-    | inr new ↦ inr (target_of_edge e t new.1)
-  ]
-
-  go : (b : Bool) → list_any (holds t) (cond b (at_first (holds e.target) (λ _. Some e) slots)
-      (at_first is_free (λ _. Some e) slots)) ≡ true → (list_any (holds t) slots ≡ true) ⊎ (t ≡ e.target)
-  go true h = either (holds e.target) h
-  go false h = either is_free h
+put_targets e slots t h = grind (arith, common_steps, any_at_first, target_of_edge)
 
 take_targets : (target : ℕ) (slots : List (Option Slot)) (t : ℕ) → list_any (holds t) (take_slot target slots) ≡ true
     → list_any (holds t) slots ≡ true
-take_targets target slots t h = elim (any_at_first (holds t) (holds target) (λ _. None) slots h) [
-  | inl there ↦ there
-  | inr new ↦ absurd (false≢true new.1)
-]
+take_targets target slots t h = grind (arith, common_steps, any_at_first, false≢true)
 
 set_targets : (target : ℕ) (o : Option Stamp) (slots : List (Option Slot)) (t : ℕ) → list_any (holds target) slots ≡ true
     → list_any (holds t) (set_slot target o slots) ≡ true → list_any (holds t) slots ≡ true
@@ -99,21 +82,11 @@ set_targets target (Some stamp) slots t has h = elim (put_targets (record { targ
 
 pub changed_targets : (change : EdgeChange) (target : ℕ) (h y : RowBlock) (t : ℕ) → IsChanged change target h y
     → has_target target h ≡ true → has_target t y ≡ true → has_target t h ≡ true
-changed_targets change target h y t is has now =
-    let slots : List (Option Slot) = (block_of h.block).slots in
-    let after : Option Stamp = stamp_after change (stamp_at slots target) in
-    go (touches (outcome_at change (stamp_at slots target))) after (ap (λ (o : OpenBlock). o.shape.slots) is.shown) where
-      go : (b : Bool) (after : Option Stamp)
-          → (block_of y.block).slots ≡ (cond b (touch (set_slot target after) (open_of h)) (open_of h)).shape.slots
-          → has_target t h ≡ true
-      go true after e = set_targets target after (block_of h.block).slots t has (ap (list_any (holds t)) (sym e) ∙ now)
-      go false after e = ap (list_any (holds t)) (sym e) ∙ now
+changed_targets change target h y t is has now = grind (arith, common_steps, set_targets)
 
 pub put_block_targets : (e : Slot) (h y : RowBlock) (t : ℕ) → IsTouched (put_slot e) h y → has_target t y ≡ true
     → (has_target t h ≡ true) ⊎ (t ≡ e.target)
-put_block_targets e h y t is now =
-    put_targets e (block_of h.block).slots t
-    (ap (list_any (holds t)) (sym (ap (λ (o : OpenBlock). o.shape.slots) is.shown)) ∙ now)
+put_block_targets e h y t is now = grind (arith, common_steps, put_targets)
 
 no_target : (n t : ℕ) → list_any (holds t) (replicate n None) ≡ true → ⊥
 no_target zero t h = false≢true h
@@ -121,64 +94,20 @@ no_target (suc n) t h = no_target n t h
 
 pub new_block_targets : (kind : ℕ) (e : Slot) (y : RowBlock) (t : ℕ) → open_of y ≡ new_block kind e → has_target t y ≡ true
     → t ≡ e.target
-new_block_targets kind e y t is now =
-    elim (or_cases (holds t (Some e)) (list_any (holds t) (replicate 31 None))
-    (ap (list_any (holds t)) (sym (ap (λ (o : OpenBlock). o.shape.slots) is)) ∙ now)) [
-      | inl here ↦ target_of_edge e t here
-      | inr rest ↦ absurd (no_target 31 t rest)
-    ]
+new_block_targets kind e y t is now = grind (arith, common_steps, or_cases, target_of_edge, no_target)
 
 -- What it leaves of a row's
 
 pub noted_kept : (notes : Option Notes) (row : List RowBlock) (p : ℕ) (y d : RowBlock) → p < length row → IsNoted notes row
     → ((t : ℕ) → has_target t y ≡ true → has_target t (get_or row p d) ≡ true) → IsNoted notes (set row p y)
-noted_kept None row p y d within noted keeps = tt
-noted_kept (Some n) row p y d within noted keeps = λ t i x lt has.
-    let short : i < length row = omega (arith, length-set row p y) in
-    elim (i == p) as (λ b. i == p ≡ b → may_stand n t i ≡ true) [
-      | true ↦ λ s.
-          let same : i ≡ p = eqb-true i p s in
-          let is : get_or (set row p y) i x ≡ y = ap (λ k. get_or (set row p y) k x) same ∙ get_or-set_same row p y x within in
-          noted t i d short (ap (λ k. has_target t (get_or row k d)) same ∙ keeps t (ap (has_target t) (sym is) ∙ has))
-      | false ↦ λ s.
-          let is : get_or (set row p y) i x ≡ get_or row i x = get_or-set_other row p i y x (eqb-false i p s) in
-          noted t i x short (ap (has_target t) (sym is) ∙ has)
-    ] refl
+noted_kept notes row p y d within noted keeps =
+    grind (arith, common_steps, length-set, eqb-true, get_or-set_same, get_or-set_other, eqb-false)
 
 pub gains_put : (target p : ℕ) (row : List RowBlock) (y d : RowBlock) → p < length row
     → ((t : ℕ) → has_target t y ≡ true → (has_target t (get_or row p d) ≡ true) ⊎ (t ≡ target)) → Gains target p row (set row p y)
-gains_put target p row y d within keeps = record {
-  only = λ t i x lt has.
-      let short : i < length row = omega (arith, length-set row p y) in
-      elim (i == p) as (λ b. i == p ≡ b
-      → ((i < length row) × (has_target t (get_or row i x) ≡ true)) ⊎ ((t ≡ target) × (i ≡ p))) [
-        | true ↦ λ s.
-            let same : i ≡ p = eqb-true i p s in
-            let is : get_or (set row p y) i x ≡ y = ap (λ k. get_or (set row p y) k x) same ∙ get_or-set_same row p y x within in
-            elim (keeps t (ap (has_target t) (sym is) ∙ has)) [
-              | inl there ↦ inl (
-                short,
-                ap (λ k. has_target t (get_or row k x)) same
-                    ∙ ap (has_target t) (get_or_default row p x d within) ∙ there,
-              )
-              | inr new ↦ inr (new, same)
-            ]
-        | false ↦ λ s.
-            let is : get_or (set row p y) i x ≡ get_or row i x = get_or-set_other row p i y x (eqb-false i p s) in
-            inl (short, ap (has_target t) (sym is) ∙ has)
-      ] refl;
-}
+gains_put target p row y d within keeps =
+    grind (arith, common_steps, length-set, eqb-true, get_or-set_same, get_or_default, get_or-set_other, eqb-false)
 
 pub gains_push : (target : ℕ) (row : List RowBlock) (y : RowBlock) → ((t : ℕ) → has_target t y ≡ true → t ≡ target)
     → Gains target (length row) row (row ++ y ∷ [])
-gains_push target row y only_one = record {
-  only = λ t i x lt has.
-      elim (Rattle.std.proofs.lemmas.Bool.cases_lt i (length row)) [
-        | inl below ↦ inl (below, ap (has_target t) (sym (get_or_append_left row (y ∷ []) x i below)) ∙ has)
-        | inr above ↦
-            let same : i ≡ length row = omega (arith, lt, Rattle.std.proofs.Common.length-append row (y ∷ [])) in
-            let is : get_or (row ++ y ∷ []) i x ≡ y = ap (λ k. get_or (row ++ y ∷ []) k x) same
-            ∙ Rattle.std.proofs.Math.Seq.get_or-append_seam row y [] x in
-            inr (only_one t (ap (has_target t) (sym is) ∙ has), same)
-      ];
-}
+gains_push target row y only_one = grind (arith, common_steps, get_or_append_left)

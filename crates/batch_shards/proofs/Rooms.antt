@@ -1,25 +1,15 @@
 -- Where a row may have room, and what a change leaves of it.
-use Rattle.std.proofs.Common.{◌≡◌, ℕ, ◌<◌, ◌==◌, true, false, List, [], ◌∷◌, ◌++◌, length, get_or, set, refl, sym, ap, ◌∙◌, arith}
+use Rattle.std.proofs.Common.{◌≡◌, ℕ, ◌<◌, true, false, List, [], ◌∷◌, ◌++◌, length, get_or, set, sym, ap, ◌∙◌, arith}
 use Rattle.std.proofs.lemmas.{Bool.{true≢false, false_from_ne_true, eqb-true, eqb-false}, List.get_or-set_same}
 use Rattle.std.proofs.{lemmas.List.{get_or-set_other, get_or_append_left, Quantifiers.position-Some}, Math.ListN.length-set}
-use Rattle.std.specs.{List.position, declared.option.Option.TheVariants.None, declared.option.Option.TheVariants.Some}
+use Rattle.std.{specs.{List.position, declared.option.Option.TheVariants.{None, Some}}, proofs.lemmas.Grind.common_steps}
 use Rattle.batch_shards.{specs.Room.IsFull, specs.declared.row_blocks.RowBlock.RowBlock, proofs.RowSteps.at_room}
 
 -- the row behind a change of one block, at which the test on its room fails where it matters
 pub full_set : (kind place p : ℕ) (row : List RowBlock) (y : RowBlock) → IsFull kind place row
     → (p < place → p < length row → at_room kind y ≡ false) → IsFull kind place (set row p y)
-full_set kind place p row y is fails = record {
-  full = λ i d below within.
-      let short : i < length row = omega (arith, length-set row p y) in
-      elim (i == p) as (λ b. i == p ≡ b → at_room kind (get_or (set row p y) i d) ≡ false) [
-        | true ↦ λ s.
-            let same : i ≡ p = eqb-true i p s in
-            ap (λ k. at_room kind (get_or (set row p y) k d)) same
-            ∙ ap (at_room kind) (get_or-set_same row p y d (omega arith))
-            ∙ fails (omega arith) (omega arith)
-        | false ↦ λ s. ap (at_room kind) (get_or-set_other row p i y d (eqb-false i p s)) ∙ is.full i d below short
-      ] refl;
-}
+full_set kind place p row y is fails =
+    grind (arith, common_steps, length-set, at_room, eqb-true, get_or-set_same, get_or-set_other, eqb-false)
 
 -- no block before the first with room has room
 pub full_before : (kind p : ℕ) (row : List RowBlock) (d : RowBlock) → position (at_room kind) row ≡ Some p → IsFull kind p row

@@ -1,15 +1,15 @@
 -- One operation on a row of the program's blocks.
 use Rattle.std.proofs.Common.{◌≡◌, ℕ, ◌<◌, ◌==◌, Bool, true, false, cond, List, [], ◌∷◌, ◌++◌, length, get_or, set, count_by}
 use Rattle.std.proofs.{Common.{refl, sym, ap, ◌∙◌, arith, subst, All}, lemmas.List.{map-append, Elements.{All-head, All-tail}}}
-use Rattle.std.proofs.lemmas.{List.Quantifiers.position-Some, Bool.{false≢true, and_parts}}
-use Rattle.std.specs.{List.{list_any, position}, Option.{is_some, option_or}, declared.option.Option.{Option, TheVariants.None}}
-use Rattle.std.specs.declared.{option.Option.TheVariants.Some, sync.Arc.Arc, alloc.Global.Global, vec.Vec.Vec}
-use Rattle.graph_types.specs.{Graph.Stamp, Graph.IsWeight, Graph.IsTime, Step.stamp_after, Step.outcome_at}
-use Rattle.graph_types.specs.declared.changes.EdgeChange.{EdgeChange, TheVariants.Insert, TheVariants.Incr, TheVariants.Remove}
-use Rattle.edge_block.proofs.{Entries.list_any-holds, Firsts.first_some-by_any}
-use Rattle.edge_block.specs.Slots.{Slot, holds, stamp_at, is_free, put_slot, has_room_for, IsSlot, first_some, at_first}
-use Rattle.edge_block.specs.Rows.{OpenBlock, has_edge, has_room, open_at, edge_at, touch, touches, put_edge, set_edge, new_block}
-use Rattle.edge_block.specs.{Rows.change_row, declared.blocks.Block.Block}
+use Rattle.std.{proofs.lemmas.{List.Quantifiers.position-Some, Bool.{false≢true, and_parts}}, specs.List.{list_any, position}}
+use Rattle.std.specs.{Option.{is_some, option_or}, declared.{option.Option.{Option, TheVariants.{None, Some}}, sync.Arc.Arc}}
+use Rattle.std.{specs.declared.{alloc.Global.Global, vec.Vec.Vec}, proofs.lemmas.Grind.common_steps}
+use Rattle.graph_types.specs.{Graph.{Stamp, IsWeight, IsTime}, Step.{stamp_after, outcome_at}}
+use Rattle.graph_types.specs.declared.changes.EdgeChange.{EdgeChange}
+use Rattle.edge_block.{proofs.{Entries.list_any-holds, Firsts.first_some-by_any}, specs.Slots.{Slot, holds, stamp_at, put_slot}}
+use Rattle.edge_block.specs.{Slots.{has_room_for, IsSlot, first_some, at_first}, Rows.{OpenBlock, has_edge, has_room, open_at}}
+use Rattle.edge_block.specs.Rows.{edge_at, touch, touches, put_edge, set_edge, new_block, change_row}
+use Rattle.edge_block.specs.declared.blocks.Block.{Block}
 use Rattle.batch_shards.specs.{RowBlocks.{block_of, open_of, opens, had_here, own_here, set_slot, IsChanged}, OpenRows.KeepsHere}
 use Rattle.batch_shards.specs.{OpenRows.KeepsIn, declared.row_blocks.RowBlock.RowBlock}
 use Rattle.batch_shards.proofs.Places.{list_any-map, none_passes, one_passes, first_changed, first_has, count_by-set, flat_map-set}
@@ -42,17 +42,11 @@ placed p same found = ap (position p) (sym same) ∙ sym found
 -- a block with the edge is of the kind, and its slots have it
 edge_kind : (kind target : ℕ) (h : OpenBlock) → has_edge (kind, target) h ≡ true
     → open_at h (kind, target) ≡ stamp_at h.shape.slots target
-edge_kind kind target h is =
-    elim (kind == h.shape.kind) as (λ b. is_some (cond b (stamp_at h.shape.slots target) None) ≡ true
-    → cond b (stamp_at h.shape.slots target) None ≡ stamp_at h.shape.slots target) [
-      | true ↦ λ i. refl
-      | false ↦ λ i. absurd (false≢true i)
-    ] is
+edge_kind kind target h is = grind (arith, common_steps, false≢true)
 
 pub edge_target : (kind target : ℕ) (h : RowBlock) → at_edge kind target h ≡ true
     → list_any (holds target) (block_of h.block).slots ≡ true
-edge_target kind target h is = list_any-holds target (block_of h.block).slots
-    ∙ ap is_some (sym (edge_kind kind target (open_of h) is)) ∙ is
+edge_target kind target h is = grind (arith, common_steps, list_any-holds, edge_kind)
 
 module _ (kind target : ℕ) (row : List RowBlock) where
   module _ (i : ℕ) (d : RowBlock) (found : position (at_edge kind target) row ≡ Some i) where
@@ -85,13 +79,7 @@ module _ (kind target : ℕ) (row : List RowBlock) where
     at_first_of o = at_first (has_edge (kind, target)) (touch (set_slot target o)) (opens row)
 
     sets : (o : Option Stamp) → set_edge (kind, target) o (opens row) ≡ at_first_of o
-    sets None = refl
-    sets (Some stamp) =
-        let e : Slot = record { target = target; stamp = stamp } in
-        ap (λ b. cond b (at_first_of (Some stamp))
-        (cond (list_any (λ h. has_room kind h.shape) (opens row))
-        (at_first (λ h. has_room kind h.shape) (touch (put_slot e)) (opens row)) (opens row ++ new_block kind e ∷ [])))
-        found_any
+    sets o = grind (arith, common_steps, found_any)
 
     -- the operation changes the block where the edge stands
     pub found_changed : (change : EdgeChange) (y : RowBlock) → IsChanged change target here y
@@ -119,26 +107,18 @@ module _ (kind target : ℕ) (row : List RowBlock) where
 pub put_into : (kind : ℕ) (e : Slot) (row : List RowBlock) (i : ℕ) (y d : RowBlock)
     → list_any (has_edge (kind, e.target)) (opens row) ≡ false → position (at_room kind) row ≡ Some i
     → open_of y ≡ touch (put_slot e) (open_of (get_or row i d)) → put_edge kind e (opens row) ≡ opens (set row i y)
-put_into kind e row i y d absent room is =
-    rw (absent, list_any-map open_of (λ h. has_room kind h.shape) row ∙ one_passes (at_room kind) row i d room)
-    (first_changed open_of (λ h. has_room kind h.shape) (touch (put_slot e)) row i y d room is)
+put_into kind e row i y d absent room is = grind (arith, common_steps, list_any-map, one_passes, first_changed)
 
 -- else into a block that is appended
 pub put_last : (kind : ℕ) (e : Slot) (row : List RowBlock) (y : RowBlock)
     → list_any (has_edge (kind, e.target)) (opens row) ≡ false → position (at_room kind) row ≡ None
     → open_of y ≡ new_block kind e → put_edge kind e (opens row) ≡ opens (row ++ y ∷ [])
-put_last kind e row y absent room is =
-    rw (absent, list_any-map open_of (λ h. has_room kind h.shape) row ∙ none_passes (at_room kind) row room)
-    (ap (λ h. opens row ++ h ∷ []) (sym is) ∙ sym (map-append open_of row (y ∷ [])))
+put_last kind e row y absent room is = grind (arith, common_steps, list_any-map, none_passes, map-append)
 
 -- a block with room takes an edge
 pub room_is : (kind target : ℕ) (row : List RowBlock) (i : ℕ) (d : RowBlock) → position (at_room kind) row ≡ Some i
     → has_room_for target (block_of (get_or row i d).block).slots ≡ true
-room_is kind target row i d room =
-    let at = position-Some (at_room kind) row i d room in
-    let h : RowBlock = get_or row i d in
-    Rattle.edge_block.proofs.Room.room_free target (block_of h.block).slots
-    (and_parts (kind == (block_of h.block).kind) (list_any is_free (block_of h.block).slots) at.1).1
+room_is kind target row i d room = grind (arith, common_steps, position-Some, and_parts)
 
 pub room_within : (kind : ℕ) (row : List RowBlock) (i : ℕ) (d : RowBlock) → position (at_room kind) row ≡ Some i → i < length row
 room_within kind row i d room = (position-Some (at_room kind) row i d room).0
@@ -160,14 +140,8 @@ keeps_set most row i y d fresh left lt is keeps = record {
 pub absent_puts : (change : EdgeChange) (place : ℕ × ℕ) (row : List OpenBlock) (s : Stamp) → Some s ≡ stamp_after change None
     → cond (touches (outcome_at change None)) (set_edge place (stamp_after change None) row) row ≡ put_edge place.0
     (record { target = place.1; stamp = s }) row
-absent_puts (Insert weight time) place row s e = let same : s ≡ record { weight = weight; first = time; recent = time } = cc in
-    ap (λ t. put_edge place.0 (record { target = place.1; stamp = t }) row) (sym same)
-absent_puts (Incr amount time) place row s e = let same : s ≡ record { weight = amount; first = time; recent = time } = cc in ap
-    (λ t. put_edge place.0 (record { target = place.1; stamp = t }) row) (sym same)
-absent_puts Remove place row s e = cc
+absent_puts change place row s e = grind (arith, common_steps)
 
 pub absent_stays : (change : EdgeChange) (place : ℕ × ℕ) (row : List OpenBlock) → None ≡ stamp_after change None
     → cond (touches (outcome_at change None)) (set_edge place (stamp_after change None) row) row ≡ row
-absent_stays (Insert weight time) place row e = cc
-absent_stays (Incr amount time) place row e = cc
-absent_stays Remove place row e = refl
+absent_stays change place row e = grind (arith, common_steps)

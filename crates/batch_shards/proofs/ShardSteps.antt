@@ -1,26 +1,19 @@
 -- The operations of a shard, one after another.
-use Rattle.std.proofs.Common.{◌≡◌, ◌≢◌, ℕ, suc, ◌+◌, ◌<◌, ◌≤◌, Bool, true, false, List, [], ◌∷◌, ◌++◌, length, get_or, refl, sym}
-use Rattle.std.proofs.{Common.{ap, ◌∙◌, arith, AllPairs, take, ltb}, lemmas.{Bool.{ltb-true, ltb-false}, List.map-append}}
-use Rattle.std.{proofs.lemmas.List.take_more, specs.{Prelude.pos, declared.option.Option.TheVariants.None}}
+use Rattle.std.proofs.Common.{◌≡◌, ◌≢◌, ℕ, suc, ◌+◌, ◌<◌, ◌≤◌, List, [], ◌∷◌, ◌++◌, length, get_or, refl, ap, arith, AllPairs}
+use Rattle.std.{proofs.{Common.take, lemmas.{Bool.{ltb-true, ltb-false}, List.{map-append, take_more}}}, specs.Prelude.pos}
+use Rattle.std.{specs.declared.option.Option.TheVariants.None, proofs.lemmas.Grind.common_steps}
 use Rattle.edge_block.specs.{Rows.OpenBlock, Batches.Resolved, Batches.rows_step, Batches.rows_all, Batches.outcomes_all}
 use Rattle.batch_shards.specs.{Shards.{resolved_at, resolved_in}, declared.shard.{Step.Step, Act.TheVariants.Edge}}
 use Rattle.graph_types.specs.declared.changes.EdgeChange.TheVariants.{Insert}
 
 -- what is not before a place, and not there, is behind it
 pub further : (k i : ℕ) → i ≤ k → (k ≡ i → ⊥) → i + 1 ≤ k
-further k i le n = elim (ltb i k) as (λ t. ltb i k ≡ t → i + 1 ≤ k) [
-  | true ↦ λ t. let lt = ltb-true i k t in omega arith
-  | false ↦ λ t. let ge = ltb-false i k t in absurd (n (omega arith))
-] refl
+further k i le n = grind (arith, common_steps, ltb-true, ltb-false)
 
 -- two places of distinct numbers
 pub apart : (xs : List ℕ) (i j d : ℕ) → AllPairs (λ a b. a ≢ b) xs → i < length xs → j < length xs → (i ≡ j → ⊥)
     → get_or xs i d ≡ get_or xs j d → ⊥
-apart xs i j d distinct a b n e =
-    elim (Rattle.std.proofs.Common.ltb i j) as (λ t. Rattle.std.proofs.Common.ltb i j ≡ t → ⊥) [
-      | true ↦ λ t. distinct i j d (Rattle.std.proofs.lemmas.Bool.ltb-true i j t) b e
-      | false ↦ λ t. let ge = Rattle.std.proofs.lemmas.Bool.ltb-false i j t in distinct j i d (omega arith) a (sym e)
-    ] refl
+apart xs i j d distinct a b n e = grind (arith, common_steps, ltb-true, ltb-false)
 
 -- operations one after another
 pub rows_more : (rs : List Resolved) (r : Resolved) (rows : ℕ → List OpenBlock)
@@ -42,12 +35,9 @@ module _ (sources : List ℕ) (steps : List Step) (k : ℕ) (lt : k < length ste
 
   pub resolved_more : resolved_in sources (take (k + 1) steps) ≡ resolved_in sources (take k steps)
       ++ resolved_at sources s.act ∷ []
-  resolved_more =
-      ap (resolved_in sources) (take_more steps k first_step lt)
-      ∙ map-append (λ (t : Step). resolved_at sources t.act) (take k steps) (s ∷ [])
+  resolved_more = grind (arith, common_steps, take_more, map-append)
 
   pub all_rows_more : (rows : ℕ → List OpenBlock)
       → rows_step (resolved_at sources s.act) (rows_all (resolved_in sources (take k steps)) rows)
       ≡ rows_all (resolved_in sources (take (k + 1) steps)) rows
-  all_rows_more rows = sym (ap (λ rs. rows_all rs rows) resolved_more
-      ∙ rows_more (resolved_in sources (take k steps)) (resolved_at sources s.act) rows)
+  all_rows_more rows = grind (arith, common_steps, resolved_more, rows_more)

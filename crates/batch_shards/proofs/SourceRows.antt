@@ -1,8 +1,8 @@
 -- One more source's row is done.
-use Rattle.std.proofs.Common.{◌≡◌, ℕ, ◌+◌, ◌<◌, true, false, List}
-use Rattle.std.proofs.Common.{[], ◌∷◌, ◌++◌, length, get_or, map, flat_map, count_by, take, refl, sym, subst, ap, ap₂, ◌∙◌, arith, All}
-use Rattle.std.proofs.lemmas.List.{map-append, take_more, get_or_default, Sums.sum_by-append, Elements.All-push}
-use Rattle.std.{specs.declared.sync.Arc.Arc, specs.declared.alloc.Global.Global, specs.List.sum_by, proofs.lemmas.Bool.false≢true}
+use Rattle.std.proofs.Common.{◌≡◌, ℕ, ◌+◌, ◌<◌, true, false, List, [], ◌∷◌, ◌++◌, length, get_or, map, flat_map, count_by, take}
+use Rattle.std.proofs.{Common.{refl, sym, subst, ap, ap₂, ◌∙◌, arith, All}, lemmas.List.{map-append, take_more, get_or_default}}
+use Rattle.std.{proofs.lemmas.List.{Sums.sum_by-append, Elements.All-push}, specs.declared.{sync.Arc.Arc, alloc.Global.Global}}
+use Rattle.std.{specs.List.sum_by, proofs.lemmas.{Bool.false≢true, Grind.common_steps}}
 use Rattle.graph_types.specs.declared.{batches.Outcome.{Outcome, TheVariants.Expired}, ids.VertexId.VertexId}
 use Rattle.edge_block.specs.{declared.blocks.Block.Block, Slots.BlockView, Batches.{outcome_in, together, rows_all, opened}}
 use Rattle.edge_block.specs.Rows.{OpenBlock, old_in_row}
@@ -27,8 +27,7 @@ module _ (rows : ℕ → List BlockView) (sources : List ℕ) (steps : List Step
     acts act = (get_or steps k first_step).act ≡ act
 
     over_is : (counted : List ℕ) (act : Act) → acts act → over counted ≡ outcome_in counted (resolved_at sources act) now
-    over_is counted act e = outcome_of counted sources steps k (opened (layout_by rows)) lt
-        ∙ ap (λ a. outcome_in counted (resolved_at sources a) now) e
+    over_is counted act e = grind (arith, common_steps, outcome_of)
 
     -- over which sources it is counted matters for an expiry alone
     one_edge : (act : Act) → acts act → does_act row act ≡ false → over (take row sources) ≡ over (take (row + 1) sources)

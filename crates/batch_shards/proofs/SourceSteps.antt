@@ -1,13 +1,11 @@
 -- The operations on one source's row, among those of a shard.
-use Rattle.std.proofs.Common.{◌≡◌, ℕ, zero, suc, ◌+◌, ◌-◌, ◌<◌, ◌≤◌, ◌==◌, not, Bool, true, false, cond, List, [], ◌∷◌, length}
-use Rattle.std.proofs.{Common.{get_or, set, ◌||◌, min, take, count_by, refl, sym, ap, ◌∙◌, arith, subst}, lemmas.Bool.false≢true}
-use Rattle.std.proofs.lemmas.Bool.{or_right, eq-eqb, eqb-true, eqb-false, ne_eqb, ltb-true, ltb-false, lt-ltb, le-ltb}
+use Rattle.std.proofs.Common.{◌≡◌, ℕ, zero, suc, ◌+◌, ◌-◌, ◌<◌, ◌≤◌, ◌==◌, Bool, true, false, cond, List, [], ◌∷◌, length, get_or}
+use Rattle.std.proofs.{Common.{set, ◌||◌, min, take, count_by, refl, sym, ap, ◌∙◌, arith, subst}, lemmas.Bool.false≢true}
+use Rattle.std.proofs.lemmas.Bool.{or_right, eq-eqb, eqb-true, eqb-false, ne_eqb, ltb-true, ltb-false, le-ltb, or_from}
 use Rattle.std.proofs.lemmas.List.{get_or-set_same, get_or-set_other, Sums.{count_by_more_yes, count_by_more_no, sum_by-cons}}
-use Rattle.std.specs.{List.sum_by, Prelude.{slice_index, nat_lt}, declared.option.Option.TheVariants.{None, Some}}
-use Rattle.graph_types.specs.{Step.outcome_at, declared.batches.Outcome.Outcome, declared.batches.Outcome.TheVariants.Expired}
-use Rattle.graph_types.specs.declared.changes.EdgeChange.{EdgeChange}
-use Rattle.edge_block.specs.Rows.{OpenBlock, change_row, edge_at, old_in_row}
-use Rattle.edge_block.specs.Batches.{key_step, rows_step, rows_all, outcome_in, together}
+use Rattle.std.{specs.{List.sum_by, Prelude.nat_lt, declared.option.Option.TheVariants.Some}, proofs.lemmas.Grind.common_steps}
+use Rattle.graph_types.specs.declared.{batches.Outcome.{Outcome, TheVariants.Expired}, changes.EdgeChange.EdgeChange}
+use Rattle.edge_block.specs.{Rows.{OpenBlock, old_in_row}, Batches.{key_step, rows_step, rows_all, outcome_in, together}}
 use Rattle.batch_shards.specs.{Shards.{IsAct, resolved_at, resolved_in}, Spending.takes, Groups.{is_at, is_past, does_act}}
 use Rattle.batch_shards.specs.Groups.{may_change, key_of, IsNext, LeadsTo, IsSourceRow, IsOneMore, IsTold, told, outcome_over}
 use Rattle.batch_shards.specs.{Groups.{act_step, act_outcome}, declared.shard.Act.{Act, TheVariants.{Edge, Expire}}}
@@ -25,83 +23,34 @@ outcome_of counted sources (s ∷ steps) (suc k) rows lt =
     outcome_of counted sources steps k (rows_step (resolved_at sources s.act) rows) (omega arith)
 
 or_false : (b : Bool) → (b || false) ≡ true → b ≡ true
-or_false true e = refl
-or_false false e = e
+or_false b e = grind (arith, common_steps)
 
 or_none : (b : Bool) → (b || false) ≡ false → b ≡ false
-or_none true e = e
-or_none false e = refl
+or_none b e = grind (arith, common_steps)
 
 not_at : (row since : ℕ) (act : Act) → may_change row since act ≡ false → is_at row act ≡ false
-not_at row since (Edge place change) e = or_none (is_at row (Edge place change)) e
-not_at row since (Expire time) e = refl
+not_at row since act e = grind (arith, common_steps, or_none)
 
 -- operations past a row are those on the next row and those past both
 pub past_more : (row : ℕ) (steps : List Step) → count_by (λ s. is_past row s.act) steps
     ≡ count_by (λ s. is_past (row + 1) s.act) steps + count_by (λ s. is_at row s.act) steps
 past_more row [] = refl
-past_more row (s ∷ steps) =
-    let rest = past_more row steps in
-    let a = more (λ s. is_past row s.act) in
-    let b = more (λ s. is_past (row + 1) s.act) in
-    let c = more (λ s. is_at row s.act) in
-    let o = one s.act in
-    omega arith where
-      more : (p : Step → Bool) → count_by p (s ∷ steps) ≡ cond (p s) 1 0 + count_by p steps
-      more p = sum_by-cons (λ x. cond (p x) 1 0) s steps
-
-      at : (a : ℕ) → cond (not (nat_lt a row)) 1 0 ≡ cond (not (nat_lt a (row + 1))) 1 0 + cond (a == row) 1 0
-      at a = elim (nat_lt a row) as (λ t. nat_lt a row ≡ t → cond (not t) 1 0 ≡ cond (not (nat_lt a (row + 1))) 1 0
-          + cond (a == row) 1 0) [
-            | true ↦ λ t.
-                let lt : a < row = ltb-true a row t in
-                let next : nat_lt a (row + 1) ≡ true = lt-ltb a (row + 1) (omega arith) in
-                let other : (a == row) ≡ false = ne_eqb a row (λ e. absurd (omega arith)) in
-                rw (next, other) refl
-            | false ↦ λ t.
-                let ge : row ≤ a = ltb-false a row t in
-                elim (a == row) as (λ u. a == row ≡ u → 1 ≡ cond (not (nat_lt a (row + 1))) 1 0 + cond u 1 0) [
-                  | true ↦ λ u.
-                      let same : a ≡ row = eqb-true a row u in
-                      let next : nat_lt a (row + 1) ≡ true = lt-ltb a (row + 1) (omega arith) in
-                      rw next refl
-                  | false ↦ λ u.
-                      let ne = eqb-false a row u in
-                      let next : nat_lt a (row + 1) ≡ false = le-ltb a (row + 1) (omega arith) in
-                      rw next refl
-                ] refl
-          ] refl
-
-      one : (o : Act) → cond (is_past row o) 1 0 ≡ cond (is_past (row + 1) o) 1 0 + cond (is_at row o) 1 0
-      one (Edge None change) = refl
-      one (Edge (Some p) change) = at p.row
-      one (Expire time) = refl
+past_more row (s ∷ steps) = grind (arith, common_steps, past_more row steps)
 
 module _ (sources : List ℕ) (steps : List Step) (row source : ℕ) (is : IsSourceRow sources steps row source) where
   stepped_edge : (change : EdgeChange) (p : Place) (rows : ℕ → List OpenBlock) → (p.row == row) ≡ true
       → rows_step (resolved_at sources (Edge (Some p) change)) rows source ≡ key_step change (key_of source (Some p)) (rows source)
-  stepped_edge change p rows e =
-      let mine : slice_index sources p.row ≡ source = ap (slice_index sources) (eqb-true p.row row e) ∙ is.source_is in
-      let same : (source == slice_index sources p.row) ≡ true = ap (λ s. source == s) mine ∙ eq-eqb source source refl in
-      ap (λ b. cond b (change_row change (p.kind.0, p.target) (rows source)) (rows source)) same
+  stepped_edge change p rows e = grind (arith, common_steps, eqb-true, eq-eqb)
 
   row_stepped : (act : Act) (rows : ℕ → List OpenBlock) → does_act row act ≡ true
       → rows_step (resolved_at sources act) rows source ≡ act_step source act (rows source)
-  row_stepped (Edge None change) rows e = absurd (false≢true e)
-  row_stepped (Edge (Some p) change) rows e = stepped_edge change p rows (or_false (p.row == row) e)
-  row_stepped (Expire time) rows e = refl
+  row_stepped act rows e = grind (arith, common_steps, false≢true, stepped_edge, or_false)
 
   row_passed : (since : ℕ) (act : Act) (rows : ℕ → List OpenBlock) → IsAct (length sources) act
       → old_in_row since (rows source) ≡ 0 → may_change row since act ≡ false
       → rows_step (resolved_at sources act) rows source ≡ rows source
-  row_passed since (Edge None change) rows w young e = refl
-  row_passed since (Edge (Some p) change) rows w young e =
-      let other : (source == slice_index sources p.row) ≡ false = ne_eqb source (slice_index sources p.row)
-      (λ s. apart sources row p.row 0 is.distinct is.within w.0
-      (λ r. eqb-false p.row row (or_none (p.row == row) e) (sym r)) (is.source_is ∙ s)) in
-      ap (λ b. cond b (change_row change (p.kind.0, p.target) (rows source)) (rows source)) other
-  row_passed since (Expire time) rows w young e =
-      young_stays time (rows source) (young_before time since (rows source) (ltb-false since time e) young)
+  row_passed since act rows w young e =
+      grind (arith, common_steps, ne_eqb, apart, eqb-false, or_none, young_stays, young_before, ltb-false)
 
   module _ (rows : ℕ → List OpenBlock) where
     abbrev pub row_by : ℕ → List OpenBlock
@@ -109,37 +58,17 @@ module _ (sources : List ℕ) (steps : List Step) (row source : ℕ) (is : IsSou
 
     pub stepped : (k : ℕ) (blocks : List OpenBlock) → k < length steps → (let t = get_or steps k first_step in
         does_act row t.act ≡ true → blocks ≡ row_by k → act_step source t.act blocks ≡ row_by (k + 1))
-    stepped k blocks lt here e =
-        let t : Step = get_or steps k first_step in
-        ap (act_step source t.act) e
-        ∙ sym (row_stepped t.act (rows_all (resolved_in sources (take k steps)) rows) here)
-        ∙ ap (λ f. f source) (all_rows_more sources steps k lt rows)
+    stepped k blocks lt here e = grind (arith, common_steps, first_step, row_stepped, all_rows_more)
 
     pub outcome_here : (k : ℕ) (blocks : List OpenBlock) (before o : Outcome) → k < length steps
         → (let t = get_or steps k first_step in does_act row t.act ≡ true → blocks ≡ row_by k
         → o ≡ told (together before (act_outcome source t.act blocks)) → IsOneMore sources steps rows source k before o)
     outcome_here k blocks before o lt here e is_o =
-        let t : Step = get_or steps k first_step in
-        is_o ∙ ap (λ x. told (together before x)) (keyed t.act here ∙ sym (outcome_of (source ∷ []) sources steps k rows lt)) where
-          now : ℕ → List OpenBlock
-          now = rows_all (resolved_in sources (take k steps)) rows
-
-          keyed : (act : Act) → does_act row act ≡ true
-              → act_outcome source act blocks ≡ outcome_in (source ∷ []) (resolved_at sources act) now
-          keyed (Edge None change) u = absurd (false≢true u)
-          keyed (Edge (Some p) change) u =
-              ap (λ b. outcome_at change (edge_at b (p.kind.0, p.target))) e
-              ∙ ap (λ s. outcome_at change (edge_at (now s) (p.kind.0, p.target)))
-              (sym (ap (slice_index sources) (eqb-true p.row row (or_false (p.row == row) u)) ∙ is.source_is))
-          keyed (Expire time) u =
-              ap Expired (ap (old_in_row time) e ∙ (omega (arith, sum_by-cons (λ s. old_in_row time (now s)) source [])))
+        grind (arith, common_steps, first_step, outcome_of, false≢true, eqb-true, or_false, sum_by-cons)
 
     pass : (since k : ℕ) → k < length steps → old_in_row since (row_by k) ≡ 0
         → may_change row since (get_or steps k first_step).act ≡ false → row_by (k + 1) ≡ row_by k
-    pass since k lt young out =
-        ap (λ f. f source) (sym (all_rows_more sources steps k lt rows))
-        ∙ row_passed since (get_or steps k first_step).act
-        (rows_all (resolved_in sources (take k steps)) rows) (is.steps_are k first_step lt) young out
+    pass since k lt young out = grind (arith, common_steps, all_rows_more, row_passed, first_step)
 
     skipped : (since gap k next : ℕ) → next ≡ k + gap → next ≤ length steps → old_in_row since (row_by k) ≡ 0
         → ((j : ℕ) (s : Step) → k ≤ j → j < next → may_change row since (get_or steps j s).act ≡ false)
@@ -207,57 +136,25 @@ pub at_row : (steps : List Step) (row k : ℕ) → k < length steps → does_act
     → (count_by (λ s. is_at row s.act) (take (k + 1) steps)
     ≡ count_by (λ s. is_at row s.act) (take k steps) + takes (get_or steps k first_step).act)
     × (count_by (λ s. is_at row s.act) (take (k + 1) steps) ≤ count_by (λ s. is_at row s.act) steps)
-at_row steps row k lt acts =
-    let all = Rattle.std.proofs.lemmas.List.Sums.sum_by-take-drop (λ (s : Step). cond (is_at row s.act) 1 0) steps (k + 1) in
-    (one (get_or steps k first_step).act refl acts, omega arith) where
-      one : (act : Act) → (get_or steps k first_step).act ≡ act → does_act row act ≡ true
-          → count_by (λ s. is_at row s.act) (take (k + 1) steps) ≡ count_by (λ s. is_at row s.act) (take k steps) + takes act
-      one (Edge place change) e u = count_by_more_yes (λ (s : Step). is_at row s.act) steps k first_step lt
-          (ap (is_at row) e ∙ or_false (is_at row (Edge place change)) u)
-      one (Expire time) e u = count_by_more_no (λ (s : Step). is_at row s.act) steps k first_step lt (ap (is_at row) e)
-          ∙ (omega arith)
+at_row steps row k lt acts = grind (arith, common_steps, first_step, count_by_more_yes, or_false, count_by_more_no)
 
 -- what is so of each place before one and of each behind it is so of each other place
 pub beside : (P : ℕ → Type 0) (i k : ℕ) → (k < i → P k) → (i + 1 ≤ k → P k) → (k ≡ i → ⊥) → P k
-beside P i k before behind ne =
-    elim (nat_lt k i) as (λ t. nat_lt k i ≡ t → P k) [
-      | true ↦ λ t. before (ltb-true k i t)
-      | false ↦ λ t. let ge : i ≤ k = ltb-false k i t in behind (further k i ge ne)
-    ] refl
+beside P i k before behind ne = grind (arith, common_steps, ltb-true, ltb-false, further)
 
 -- what is so of a written outcome, and of each other one
 pub wrote : (outs : List (ℕ × Outcome)) (i k : ℕ) (w o : ℕ × Outcome) (P : ℕ → Outcome → Type 0) → i < length outs → P i w.1
     → ((k ≡ i → ⊥) → P k (get_or outs k o).1) → P k (get_or (set outs i w) k o).1
-wrote outs i k w o P lt here there =
-    elim (k == i) as (λ t. k == i ≡ t → P k (get_or (set outs i w) k o).1) [
-      | true ↦ λ t. subst (λ x. P x (get_or (set outs i w) x o).1) (sym (eqb-true k i t))
-          (subst (λ (y : ℕ × Outcome). P i y.1) (sym (get_or-set_same outs i w o lt)) here)
-      | false ↦ λ t. subst (λ (y : ℕ × Outcome). P k y.1) (sym (get_or-set_other outs i k w o (eqb-false k i t)))
-          (there (eqb-false k i t))
-    ] refl
+wrote outs i k w o P lt here there = grind (arith, common_steps, eqb-true, get_or-set_same, get_or-set_other, eqb-false)
 
 -- an operation on an edge of none of so many first rows and the next, but not on the next, is on none of the first
 pub past_here : (row : ℕ) (act : Act) → is_past (row + 1) act ≡ false → does_act row act ≡ false → is_past row act ≡ false
-past_here row (Edge None change) past out = refl
-past_here row (Edge (Some p) change) past out =
-    elim (nat_lt p.row row) as (λ t. nat_lt p.row row ≡ t → not t ≡ false) [
-      | true ↦ λ t. refl
-      | false ↦ λ t.
-          let ge : row ≤ p.row = ltb-false p.row row t in
-          let ne = eqb-false p.row row (or_none (p.row == row) out) in
-          absurd (false≢true (sym past ∙ ap not (le-ltb p.row (row + 1) (omega arith))))
-    ] refl
-past_here row (Expire time) past out = refl
+past_here row act past out = grind (arith, common_steps, ltb-false, eqb-false, or_none, false≢true, le-ltb)
 
 -- the next one is also that from a later place on
 pub next_from : {needed of : Act → Bool} {steps : List Step} {place next : ℕ} → LeadsTo needed of steps place next → (p : ℕ)
     → place ≤ p → p ≤ next → LeadsTo needed of steps p next
-next_from x p ge le = record {
-  ahead = le;
-  within = x.within;
-  between = λ k s from below. x.between k s (omega arith) below;
-  there = x.there;
-}
+next_from x p ge le = grind (arith, common_steps)
 
 -- the next operation on the row's edges behind one, where the next at its place was known
 pub edge_behind : (steps : List Step) (row i e behind n : ℕ) → i < length steps → IsNext (is_at row) steps i e
@@ -283,29 +180,22 @@ earlier_next {p} {q} {u} {v} {steps} {place} {a} {b} x y =
     (λ t. nat_lt a b ≡ t → LeadsTo (λ act. u act || v act) (λ act. p act || q act) steps place (min a b)) [
       | true ↦ λ t.
           let lt : a < b = ltb-true a b t in
-          subst (LeadsTo (λ act. u act || v act) (λ act. p act || q act) steps place) (sym (min_left a b (omega arith))) (record {
+          let least : a ≡ min a b = omega arith in
+          subst (LeadsTo (λ act. u act || v act) (λ act. p act || q act) steps place) least (record {
             ahead = x.ahead;
             within = x.within;
-            between = λ k s ge below. none (u (get_or steps k s).act) (v (get_or steps k s).act) (x.between k s ge below)
+            between = λ k s ge below. or_from (u (get_or steps k s).act) (v (get_or steps k s).act) (x.between k s ge below)
                 (y.between k s ge (omega arith));
             there = λ s inside. ap (λ b. b || q (get_or steps a s).act) (x.there s inside);
           })
       | false ↦ λ t.
           let ge : b ≤ a = ltb-false a b t in
-          subst (LeadsTo (λ act. u act || v act) (λ act. p act || q act) steps place) (sym (min_right a b ge)) (record {
+          let least : b ≡ min a b = omega arith in
+          subst (LeadsTo (λ act. u act || v act) (λ act. p act || q act) steps place) least (record {
             ahead = y.ahead;
             within = y.within;
-            between = λ k s le below. none (u (get_or steps k s).act) (v (get_or steps k s).act)
+            between = λ k s le below. or_from (u (get_or steps k s).act) (v (get_or steps k s).act)
                 (x.between k s le (omega arith)) (y.between k s le below);
             there = λ s inside. or_right (p (get_or steps b s).act) (q (get_or steps b s).act) (y.there s inside);
           })
-    ] refl where
-      none : (u v : Bool) → u ≡ false → v ≡ false → (u || v) ≡ false
-      none true v e f = e
-      none false v e f = f
-
-      min_left : (a b : ℕ) → a ≤ b → min a b ≡ a
-      min_left a b le = omega arith
-
-      min_right : (a b : ℕ) → b ≤ a → min a b ≡ b
-      min_right a b le = omega arith
+    ] refl

@@ -1,45 +1,20 @@
 -- For each place, the first expiry that is not before it.
-use Rattle.std.proofs.Common.{◌≡◌, ℕ, ◌+◌, ◌<◌, ◌==◌, Bool, true, false, cond, List, length, get_or, set, refl, sym, ap, ◌∙◌}
-use Rattle.std.proofs.{Common.arith, Common.subst, Math.ListN.length-set, lemmas.Bool.eqb-true, lemmas.Bool.eqb-false}
-use Rattle.std.proofs.lemmas.{Bool.false≢true, Bool.eq-eqb, Bool.ne_eqb, List.get_or-set_same, List.get_or-set_other}
-use Rattle.std.{proofs.lemmas.List.get_or_default, specs.declared.option.Option.TheVariants.Some}
-use Rattle.batch_shards.specs.{Groups.{is_at, is_expiry, IsNext, AreGroups}, declared.shard.{Step.Step, Place.Place, Act.Act}}
+use Rattle.std.proofs.Common.{◌≡◌, ℕ, ◌+◌, ◌<◌, ◌==◌, Bool, true, false, List, length, get_or, set, refl, sym, ap, ◌∙◌, arith}
+use Rattle.std.proofs.{Common.subst, Math.ListN.length-set, lemmas.Bool.{eqb-true, eqb-false, false≢true, eq-eqb, ne_eqb}}
+use Rattle.std.proofs.lemmas.List.{get_or-set_same, get_or-set_other, get_or_default}
+use Rattle.std.{specs.declared.option.Option.TheVariants.Some, proofs.lemmas.Grind.common_steps}
+use Rattle.batch_shards.specs.{Groups.{is_at, IsNext, AreGroups}, declared.shard.{Step.Step, Place.Place, Act.Act}}
 use Rattle.batch_shards.{specs.declared.shard.Act.TheVariants.Edge, proofs.ShardSteps.{first_step, further}}
 use Rattle.graph_types.specs.declared.changes.EdgeChange.{EdgeChange}
 
 -- the next operation of a kind is here, or it is the next behind
 module _ (of : Act → Bool) (steps : List Step) (i : ℕ) (lt : i < length steps) where
   pub next_here : of (get_or steps i first_step).act ≡ true → IsNext of steps i i
-  next_here here = record {
-    ahead = omega arith;
-    within = omega arith;
-    between = λ k s ge below. absurd (omega arith);
-    there = λ s inside. ap (λ (t : Step). of t.act) (get_or_default steps i s first_step lt) ∙ here;
-  }
+  next_here here = grind (arith, common_steps, get_or_default, first_step)
 
   pub next_past : (behind : ℕ) → of (get_or steps i first_step).act ≡ false → IsNext of steps (i + 1) behind
       → IsNext of steps i behind
-  next_past behind none x = record {
-    ahead = (let a = x.ahead in omega arith);
-    within = x.within;
-    between = λ k s ge below.
-        elim (k == i) as (λ b. (k == i) ≡ b → of (get_or steps k s).act ≡ false) [
-          | true ↦ λ t. ap (λ j. of (get_or steps j s).act) (eqb-true k i t)
-              ∙ ap (λ (t : Step). of t.act) (get_or_default steps i s first_step lt) ∙ none
-          | false ↦ λ t. x.between k s (further k i ge (eqb-false k i t)) below
-        ] refl;
-    there = x.there;
-  }
-
-one_further : (steps : List Step) (i behind n : ℕ) → i < length steps → IsNext is_expiry steps (i + 1) behind
-    → n ≡ cond (is_expiry (get_or steps i first_step).act) i behind → IsNext is_expiry steps i n
-one_further steps i behind n lt x is =
-    subst (IsNext is_expiry steps i) (sym is)
-    (elim (is_expiry (get_or steps i first_step).act) as (λ b. is_expiry (get_or steps i first_step).act ≡ b
-    → IsNext is_expiry steps i (cond b i behind)) [
-      | true ↦ λ here. next_here is_expiry steps i lt here
-      | false ↦ λ none. next_past is_expiry steps i lt behind none x
-    ] refl)
+  next_past behind none x = grind (arith, common_steps, eqb-true, get_or_default, first_step, further, eqb-false)
 
 -- the groups with one operation more in front, which is on an edge of a row, or of none
 pub groups_pass : (steps : List Step) (i : ℕ) (first next : List ℕ) → i < length steps

@@ -1,28 +1,21 @@
 -- Rows without an edge from before a time, and the times that expiries have reached.
 use Rattle.std.proofs.Common.{◌≡◌, ℕ, zero, suc, ◌+◌, ◌<◌, ◌≤◌, Bool, true, false, cond, ◌||◌, List, [], ◌∷◌, ◌++◌, map, length}
-use Rattle.std.proofs.{Common.{get_or, take, count_by, refl, sym, ap, ap₂, ◌∙◌, arith, All, max}, lemmas.Bool.{le-ltb, ltb-true}}
+use Rattle.std.proofs.{Common.{get_or, take, count_by, refl, ap, ap₂, ◌∙◌, arith, All, max}, lemmas.Bool.{le-ltb, ltb-true}}
 use Rattle.std.proofs.lemmas.{Bool.{ltb-false, false≢true}, List.{take_more, get_or_append_left, get_or_push, Elements.All-head}}
-use Rattle.std.proofs.lemmas.List.{Elements.All-tail, Sums.{sum_by-cons, sum_by-le-sum_by, sum_by_more}}
-use Rattle.std.specs.{Prelude.nat_lt, List.list_any, declared.option.Option.Option}
+use Rattle.std.{proofs.lemmas.List.{Elements.All-tail, Sums.{sum_by-cons, sum_by-le-sum_by, sum_by_more}}, specs.List.list_any}
+use Rattle.std.{specs.declared.option.Option.Option, proofs.lemmas.Grind.common_steps}
 use Rattle.graph_types.specs.Step.{is_before}
 use Rattle.edge_block.specs.Slots.{Slot, edges_in, old_in, slots_since}
 use Rattle.edge_block.specs.Rows.{OpenBlock, has_old, touch, expire_row, old_in_row}
 use Rattle.batch_shards.specs.{Groups.{is_expiry, is_later, IsNext, LeadsTo}, Spending.{latest, time_of, AreReached}}
-use Rattle.batch_shards.specs.declared.shard.{Act.{Act, TheVariants.{Edge, Expire}}, Step.Step}
-use Rattle.batch_shards.proofs.{ShardSteps.first_step, Expiring.older, Expiring.count_wider}
+use Rattle.batch_shards.{specs.declared.shard.{Act.Act, Step.Step}, proofs.{ShardSteps.first_step, Expiring.{older, count_wider}}}
 
 -- what is old at a time is old at each later one
 pub slots_before : (s t : ℕ) (slots : List (Option Slot)) → s ≤ t → old_in t slots ≡ 0 → old_in s slots ≡ 0
-slots_before s t slots le young =
-    let fewer = count_wider (λ (e : Slot). is_before s e.stamp) (λ (e : Slot). is_before t e.stamp)
-    (λ e. older s t e.stamp le) (edges_in slots) in
-    omega arith
+slots_before s t slots le young = grind (arith, common_steps, count_wider, older)
 
 fewer_old : (s t : ℕ) (row : List OpenBlock) → s ≤ t → old_in_row s row ≤ old_in_row t row
-fewer_old s t row le =
-    sum_by-le-sum_by (λ (b : OpenBlock). old_in s b.shape.slots) (λ (b : OpenBlock). old_in t b.shape.slots) row
-    (λ b. count_wider (λ (e : Slot). is_before s e.stamp) (λ (e : Slot). is_before t e.stamp) (λ e. older s t e.stamp le)
-    (edges_in b.shape.slots))
+fewer_old s t row le = grind (arith, common_steps, sum_by-le-sum_by, count_wider, older)
 
 pub young_before : (s t : ℕ) (row : List OpenBlock) → s ≤ t → old_in_row t row ≡ 0 → old_in_row s row ≡ 0
 young_before s t row le young = let fewer = fewer_old s t row le in omega arith
@@ -41,8 +34,7 @@ none_from least (e ∷ es) all =
 
 -- and where there is none
 pub none_without : (time : ℕ) (es : List Slot) → map (λ e. e.stamp.recent) es ≡ [] → count_by (λ e. is_before time e.stamp) es ≡ 0
-none_without time [] e = refl
-none_without time (x ∷ es) e = cc
+none_without time es e = grind (arith, common_steps)
 
 -- none is from before time 0
 pub none_at_start : (row : List OpenBlock) → old_in_row 0 row ≡ 0
@@ -76,16 +68,11 @@ young_stays time (b ∷ row) e =
 -- one block more
 pub young_more : (s t : ℕ) (row : List OpenBlock) (k : ℕ) (d : OpenBlock) → k < length row → old_in_row s (take k row) ≡ 0
     → t ≤ s → old_in t (get_or row k d).shape.slots ≡ 0 → old_in_row t (take (k + 1) row) ≡ 0
-young_more s t row k d lt young le here =
-    let a = sum_by_more (λ (b : OpenBlock). old_in t b.shape.slots) row k d lt in
-    let b = young_before t s (take k row) le young in
-    omega arith
+young_more s t row k d lt young le here = grind (arith, common_steps, sum_by_more, young_before)
 
 -- the greatest time of one operation more
 latest_push : (steps : List Step) (s : Step) → latest (steps ++ s ∷ []) ≡ max (latest steps) (time_of s.act)
-latest_push [] s = greatest_of (time_of s.act) where
-  greatest_of : (n : ℕ) → max n 0 ≡ max 0 n
-  greatest_of n = omega arith
+latest_push [] s = grind (arith, common_steps)
 latest_push (x ∷ steps) s = ap (max (time_of x.act)) (latest_push steps s)
     ∙ regroup (time_of x.act) (latest steps) (time_of s.act) where
       regroup : (a b c : ℕ) → max a (max b c) ≡ max (max a b) c
@@ -93,8 +80,7 @@ latest_push (x ∷ steps) s = ap (max (time_of x.act)) (latest_push steps s)
 
 pub latest_more : (steps : List Step) (k : ℕ) → k < length steps
     → latest (take (k + 1) steps) ≡ max (latest (take k steps)) (time_of (get_or steps k first_step).act)
-latest_more steps k lt =
-    ap latest (take_more steps k first_step lt) ∙ latest_push (take k steps) (get_or steps k first_step)
+latest_more steps k lt = grind (arith, common_steps, take_more, first_step, latest_push)
 
 latest_rises : (i j : ℕ) (steps : List Step) → i ≤ j → latest (take i steps) ≤ latest (take j steps)
 latest_rises zero j steps le = omega arith
@@ -109,59 +95,22 @@ latest_rises (suc i) (suc j) (x ∷ steps) le =
 pub reached_push : (steps : List Step) (v : List ℕ) (i n : ℕ) → length v ≡ i → n ≡ latest (take (i + 1) steps)
     → ((k : ℕ) → k < i → get_or v k 0 ≡ latest (take (k + 1) steps))
     → (k : ℕ) → k < i + 1 → get_or (v ++ n ∷ []) k 0 ≡ latest (take (k + 1) steps)
-reached_push steps v i n long is are k lt =
-    elim (nat_lt k i) as (λ t. nat_lt k i ≡ t → get_or (v ++ n ∷ []) k 0 ≡ latest (take (k + 1) steps)) [
-      | true ↦ λ t.
-          let below : k < i = ltb-true k i t in
-          get_or_append_left v (n ∷ []) 0 k (omega arith) ∙ are k below
-      | false ↦ λ t.
-          let ge : i ≤ k = ltb-false k i t in
-          let same : k ≡ i = omega arith in
-          get_or_push v n 0 k (omega arith) ∙ is ∙ ap (λ j. latest (take (j + 1) steps)) (sym same)
-    ] refl
+reached_push steps v i n long is are k lt = grind (arith, common_steps, ltb-true, get_or_append_left, ltb-false, get_or_push)
 
 -- what is no expiry is no later one
 none_later : (since : ℕ) (act : Act) → is_expiry act ≡ false → is_later since act ≡ false
-none_later since (Edge place change) e = refl
-none_later since (Expire time) e = absurd (false≢true (sym e))
+none_later since act e = grind (arith, common_steps, false≢true)
 
 module _ (steps : List Step) (reached : List ℕ) (are : AreReached steps reached) where
   pub reached_rises : (i j : ℕ) → i ≤ j → j < length reached → get_or reached i 0 ≤ get_or reached j 0
-  reached_rises i j le lt =
-      let a = are.are i (omega (arith, are.long)) in
-      let b = are.are j (omega (arith, are.long)) in
-      let c = latest_rises (i + 1) (j + 1) steps (omega arith) in
-      omega arith
+  reached_rises i j le lt = grind (arith, common_steps, latest_rises)
 
   -- what has not been reached at a place is not the time of its operation
   not_reached : (since k : ℕ) (s : Step) → k < length steps → get_or reached k 0 ≤ since
       → is_later since (get_or steps k s).act ≡ false
-  not_reached since k s lt le =
-      let a = are.are k lt in
-      let b = latest_more steps k lt in
-      let same = ap time_of (ap (λ (x : Step). x.act)
-      (Rattle.std.proofs.lemmas.List.get_or_default steps k s first_step lt)) in
-      early (get_or steps k s).act (below (latest (take k steps)) (time_of (get_or steps k first_step).act)
-      (get_or reached k 0) (time_of (get_or steps k s).act) since (a ∙ b) same le) where
-        below : (a b n c since : ℕ) → n ≡ max a b → c ≡ b → n ≤ since → c ≤ since
-        below a b n c since e f le = omega arith
-
-        early : (act : Act) → time_of act ≤ since → is_later since act ≡ false
-        early (Edge place change) le = refl
-        early (Expire time) le = le-ltb since time le
+  not_reached since k s lt le = grind (arith, common_steps, latest_more, first_step, le-ltb)
 
   -- no expiry before the place at which a time is passed is later, and the next expiry from there on may be
   pub leads_later : (since place first n : ℕ) → ((k : ℕ) → k < first → get_or reached k 0 ≤ since)
       → IsNext is_expiry steps (max place first) n → LeadsTo (is_later since) is_expiry steps place n
-  leads_later since place first n low next = record {
-    ahead = (let a = next.ahead in omega arith);
-    within = next.within;
-    between = λ k s ge below.
-        elim (nat_lt k first) as (λ t. nat_lt k first ≡ t → is_later since (get_or steps k s).act ≡ false) [
-          | true ↦ λ t. not_reached since k s (omega (arith, next.within)) (low k (ltb-true k first t))
-          | false ↦ λ t.
-              let from : first ≤ k = ltb-false k first t in
-              none_later since (get_or steps k s).act (next.between k s (omega arith) below)
-        ] refl;
-    there = next.there;
-  }
+  leads_later since place first n low next = grind (arith, common_steps, not_reached, ltb-true, ltb-false, none_later)

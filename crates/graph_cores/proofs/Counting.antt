@@ -1,11 +1,11 @@
 -- One edge more in a table of degrees.
-use Rattle.std.proofs.Common.{◌≡◌, ℕ, ◌+◌, ◌<◌, Bool, true, false, cond, List, [], ◌∷◌, ◌++◌, length, map, ℤ, pos, ◌+ℤ◌, refl}
-use Rattle.std.proofs.{Common.{sym, ap, subst, ◌∙◌, arith}, lemmas.{Int.ints, List.{map-append, Sums.{sum_by_push, fold-append}}}}
-use Rattle.std.proofs.lemmas.List.Elements.{filter-append, All-append, All-cons, All-nil, All-head}
-use Rattle.std.specs.Prelude.{filter, fold, All}
-use Rattle.graph_types.specs.{Graph.{entry_of, stamp_of}, Limits.kind_limit, View.{leaves, enters}, Degrees.listed_degree}
-use Rattle.graph_types.specs.{Degrees.{with_edge, CountsEdge, IsWithinLimits}, declared.ids.{Edge.Edge, Degree.Degree}}
-use Rattle.graph_types.{specs.declared.ids.Filter.Filter, proofs.{DegreeBounds.degree_within, ListedDegrees.with_shown}}
+use Rattle.std.proofs.Common.{◌≡◌, ℕ, ◌+◌, ◌<◌, Bool, true, cond, List, [], ◌∷◌, ◌++◌, length, map, ℤ, pos, ◌+ℤ◌, sym, subst}
+use Rattle.std.proofs.{Common.arith, lemmas.{Int.ints, List.{map-append, Sums.{sum_by_push, fold-append}}}}
+use Rattle.std.{proofs.lemmas.List.Elements.{filter-append, All-append, All-cons, All-nil, All-head}, specs.Prelude.filter}
+use Rattle.std.{specs.Prelude.{fold, All}, proofs.lemmas.Grind.common_steps}
+use Rattle.graph_types.specs.{Graph.stamp_of, Limits.kind_limit, Degrees.{listed_degree, with_edge, CountsEdge, IsWithinLimits}}
+use Rattle.graph_types.{specs.declared.ids.{Edge.Edge, Degree.Degree, Filter.Filter}, proofs.DegreeBounds.degree_within}
+use Rattle.graph_types.proofs.ListedDegrees.{with_shown}
 use Rattle.edge_block.specs.Slots.{IsStamp}
 use Rattle.graph_cores.{specs.Tallies.{passes, HasRoomFor, Counts}, proofs.Parts.{first_edges, All-right}}
 
@@ -15,37 +15,16 @@ weight_sum es = fold ◌+ℤ◌ (pos 0) (map (λ e. e.weight) es)
 
 weights_push : (p : Edge → Bool) (es : List Edge) (e : Edge)
     → weight_sum (filter p (es ++ e ∷ [])) ≡ weight_sum (filter p es) +ℤ cond (p e) e.weight (pos 0)
-weights_push p es e =
-    let before : List Edge = filter p es in
-    ap weight_sum (filter-append p es (e ∷ []))
-    ∙ ap (fold ◌+ℤ◌ (pos 0)) (map-append (λ (x : Edge). x.weight) before (filter p (e ∷ [])))
-    ∙ fold-append ◌+ℤ◌ (pos 0) (map (λ (x : Edge). x.weight) before) (map (λ (x : Edge). x.weight) (filter p (e ∷ [])))
-    ∙ elim (p e) as (λ b. fold ◌+ℤ◌ (weight_sum before) (map (λ (x : Edge). x.weight) (cond b (e ∷ []) []))
-    ≡ weight_sum before +ℤ cond b e.weight (pos 0)) [ true ↦ refl | false ↦ omega (arith, ints) ]
+weights_push p es e = grind (arith, common_steps, filter-append, map-append, fold-append, ints)
 
 listed_push : (f : Filter) (es : List Edge) (e : Edge) (v : ℕ) → passes f e ≡ true
     → listed_degree f (es ++ e ∷ []) v ≡ with_edge e v (listed_degree f es v)
-listed_push f es e v shown =
-    let outgoing = sum_by_push (λ (x : Edge). cond (leaves f v (entry_of x)) 1 0) es e in
-    let incoming = sum_by_push (λ (x : Edge). cond (enters f v (entry_of x)) 1 0) es e in
-    let weights = weights_push (λ (x : Edge). leaves f v (entry_of x)) es e in
-    let all : listed_degree f (es ++ e ∷ []) v ≡ with_shown (passes f e) e v (listed_degree f es v) =
-    λ i. record { outgoing = outgoing i; incoming = incoming i; out_weight = weights i } in
-    all ∙ ap (λ b. with_shown b e v (listed_degree f es v)) shown
+listed_push f es e v shown = grind (arith, common_steps, sum_by_push, weights_push, with_shown)
 
 -- an edge of the view that is counted at its ends
 pub counts_edge : (f : Filter) (e : Edge) (old new : List Degree) → passes f e ≡ true → IsStamp (stamp_of e)
     → CountsEdge e old new → Counts f (e ∷ []) old new
-counts_edge f e old new shown stamp counts before is = record {
-  tally = record {
-    size = refl;
-    at = λ v d h. let within : v < length old =
-        omega (arith, counts.size) in counts.at v d within ∙ ap (with_edge e v) (is.tally.at v d within)
-        ∙ sym (listed_push f before e v shown);
-  };
-  stamps = All-append (λ (x : Edge). IsStamp (stamp_of x)) before (e ∷ []) is.stamps
-      (All-cons (λ (x : Edge). IsStamp (stamp_of x)) e [] stamp (All-nil (λ (x : Edge). IsStamp (stamp_of x))));
-}
+counts_edge f e old new shown stamp counts before is = grind (arith, common_steps, listed_push, All-append, All-cons, All-nil)
 
 -- what an edge that can be counted keeps to
 pub record IsCountable (f : Filter) (e : Edge) (table : List Degree) : Type 0 where

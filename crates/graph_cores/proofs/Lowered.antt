@@ -1,11 +1,11 @@
 -- What taking a neighbor from each listed vertex does.
-use Rattle.std.proofs.Common.{◌≡◌, ℕ, ◌+◌, ◌-◌, ◌<◌, ◌≤◌, suc, arith, refl, sym, ap, ◌∙◌, subst, inl, inr, List, [], ◌∷◌, ◌++◌}
-use Rattle.std.proofs.{Common.{length, set, cond, true, false, Bool}, lemmas.Bool.{cases_eq, Decides.Decides-eqb}}
-use Rattle.std.proofs.lemmas.List.{get_or-set_same, get_or-set_other, length-set, length-append, Sums.sum_by-set}
-use Rattle.std.proofs.lemmas.List.Elements.{All-weaker, All-push, All-tail, Contains-push, Contains-append_left}
-use Rattle.std.specs.{Prelude.◌==◌, Prelude.All, Prelude.sum, List.Contains}
+use Rattle.std.proofs.Common.{◌≡◌, ℕ, ◌+◌, ◌-◌, ◌<◌, ◌≤◌, suc, arith, refl, sym, ap, subst, inl, inr, List, [], ◌∷◌, ◌++◌, length}
+use Rattle.std.proofs.{Common.{set, cond, true, false, Bool}, lemmas.{Bool.{cases_eq, Decides.Decides-eqb}, List.get_or-set_same}}
+use Rattle.std.proofs.lemmas.List.{get_or-set_other, length-set, Elements.{All-weaker, All-push, All-tail, Contains-push}}
+use Rattle.std.{proofs.lemmas.List.Elements.Contains-append_left, specs.{Prelude.{◌==◌, All, sum}, List.Contains}}
+use Rattle.std.proofs.lemmas.Grind.{common_steps}
 use Rattle.graph_types.specs.Arcs.{at}
-use Rattle.graph_cores.{specs.Peel.lowered, proofs.Times.{times, times_yes, times_no}}
+use Rattle.graph_cores.{specs.Peel.lowered, proofs.Times.times}
 
 abbrev less : List ℕ → ℕ → List ℕ
 less ds w = set ds w (at ds w - 1)
@@ -14,18 +14,13 @@ abbrev pushed : ℕ → List ℕ → List ℕ → ℕ → List ℕ
 pushed k ds st w = cond (at ds w == k + 1) (st ++ w ∷ []) st
 
 less_at : (ds : List ℕ) (w x : ℕ) → w < length ds → w ≡ x → at (less ds w) x ≡ at ds x - 1
-less_at ds w x lt e =
-    let a : at (less ds w) w ≡ at ds w - 1 = get_or-set_same ds w (at ds w - 1) 0 lt in
-    sym (ap (at (less ds w)) e) ∙ a ∙ ap (λ y. at ds y - 1) e
+less_at ds w x lt e = grind (arith, common_steps, get_or-set_same)
 
 less_other : (ds : List ℕ) (w x : ℕ) → (w ≡ x → ⊥) → at (less ds w) x ≡ at ds x
 less_other ds w x ne = get_or-set_other ds w x (at ds w - 1) 0 (λ e. ne (sym e))
 
 less_low : (ds : List ℕ) (w x : ℕ) → w < length ds → at (less ds w) x ≤ at ds x
-less_low ds w x lt = elim (cases_eq w x) [
-  | inl e ↦ let a = less_at ds w x lt e in omega arith
-  | inr ne ↦ let a = less_other ds w x ne in omega arith
-]
+less_low ds w x lt = grind (arith, common_steps, cases_eq, less_at, less_other)
 
 rest_within : (ds : List ℕ) (w : ℕ) (ws : List ℕ) → All (λ x. x < length ds) (w ∷ ws) → All (λ x. x < length (less ds w)) ws
 rest_within ds w ws h = λ i d l. let a = h (suc i) d (omega arith) in let long = length-set ds w (at ds w - 1) in omega arith
@@ -34,16 +29,10 @@ pub lowered_at : (k : ℕ) (ws ds st : List ℕ) (x : ℕ) → All (λ w. w < le
     → at (lowered k ws ds st).0 x ≡ at ds x - times x ws
 lowered_at k [] ds st x h = omega arith
 lowered_at k (w ∷ ws) ds st x h =
-    let lt : w < length ds = h 0 0 (omega arith) in
-    let more = lowered_at k ws (less ds w) (pushed k ds st w) x (rest_within ds w ws h) in
-    elim (cases_eq w x) [
-      | inl e ↦ let a = less_at ds w x lt e in let t = times_yes x w ws e in omega arith
-      | inr ne ↦ let a = less_other ds w x ne in let t = times_no x w ws ne in omega arith
-    ]
+    grind (arith, common_steps, lowered_at k ws (less ds w) (pushed k ds st w) x (rest_within ds w ws h))
 
 pushed_keeps : (b : Bool) (st : List ℕ) (w x : ℕ) → Contains st x → Contains (cond b (st ++ w ∷ []) st) x
-pushed_keeps true st w x c = Contains-append_left st (w ∷ []) x c
-pushed_keeps false st w x c = c
+pushed_keeps b st w x c = grind (arith, common_steps, Contains-append_left)
 
 pub lowered_keeps : (k : ℕ) (ws ds st : List ℕ) (x : ℕ) → Contains st x → Contains (lowered k ws ds st).1 x
 lowered_keeps k [] ds st x c = c
@@ -75,12 +64,8 @@ lowered_pushes k (w ∷ ws) ds st x h many few =
 
 pushed_low : (b : Bool) (k : ℕ) (ds st : List ℕ) (w : ℕ) → w < length ds → (at ds w == k + 1) ≡ b → All (λ y. at ds y ≤ k) st
     → All (λ y. at (less ds w) y ≤ k) (cond b (st ++ w ∷ []) st)
-pushed_low true k ds st w lt e low =
-    All-push (λ y. at (less ds w) y ≤ k) st w
-    (All-weaker (λ y. at ds y ≤ k) (λ y. at (less ds w) y ≤ k) (λ y l. let a = less_low ds w y lt in omega arith) st low)
-    (let full : at ds w ≡ k + 1 = (Decides-eqb (at ds w) (k + 1)).0 e in let a = less_at ds w w lt refl in omega arith)
-pushed_low false k ds st w lt e low = All-weaker (λ y. at ds y ≤ k) (λ y. at (less ds w) y ≤ k)
-    (λ y l. let a = less_low ds w y lt in omega arith) st low
+pushed_low true k ds st w lt e low = grind (arith, common_steps, All-push, All-weaker, less_low, Decides-eqb, less_at)
+pushed_low false k ds st w lt e low = grind (arith, common_steps, All-weaker, less_low)
 
 pub lowered_low : (k : ℕ) (ws ds st : List ℕ) → All (λ w. w < length ds) ws → All (λ y. at ds y ≤ k) st
     → All (λ y. at (lowered k ws ds st).0 y ≤ k) (lowered k ws ds st).1
@@ -90,30 +75,16 @@ lowered_low k (w ∷ ws) ds st h low =
     (pushed_low (at ds w == k + 1) k ds st w (h 0 0 (omega arith)) refl low)
 
 pushed_all : (P : ℕ → Type 0) (b : Bool) (st : List ℕ) (w : ℕ) → P w → All P st → All P (cond b (st ++ w ∷ []) st)
-pushed_all P true st w p all = All-push P st w all p
-pushed_all P false st w p all = all
+pushed_all P b st w p all = grind (arith, common_steps, All-push)
 
 pub lowered_all : (P : ℕ → Type 0) (k : ℕ) (ws ds st : List ℕ) → All P ws → All P st → All P (lowered k ws ds st).1
 lowered_all P k [] ds st new all = all
 lowered_all P k (w ∷ ws) ds st new all = lowered_all P k ws (less ds w) (pushed k ds st w) (All-tail P w ws new)
     (pushed_all P (at ds w == k + 1) st w (new 0 0 (omega arith)) all)
 
-pushed_sum : (b : Bool) (k : ℕ) (ds st : List ℕ) (w : ℕ) → w < length ds → (at ds w == k + 1) ≡ b
-    → sum (less ds w) + length (cond b (st ++ w ∷ []) st) ≤ sum ds + length st
-pushed_sum true k ds st w lt e =
-    let full : at ds w ≡ k + 1 = (Decides-eqb (at ds w) (k + 1)).0 e in
-    let s : sum (less ds w) + at ds w ≡ sum ds + (at ds w - 1) = sum_by-set (λ x. x) ds w (at ds w - 1) 0 lt in
-    let long = length-append st (w ∷ []) in
-    omega arith
-pushed_sum false k ds st w lt e =
-    let s : sum (less ds w) + at ds w ≡ sum ds + (at ds w - 1) = sum_by-set (λ x. x) ds w (at ds w - 1) 0 lt in
-    omega arith
-
 -- each vertex that is pushed has lost a neighbor
 pub lowered_sum : (k : ℕ) (ws ds st : List ℕ) → All (λ w. w < length ds) ws
     → sum (lowered k ws ds st).0 + length (lowered k ws ds st).1 ≤ sum ds + length st
 lowered_sum k [] ds st h = omega arith
 lowered_sum k (w ∷ ws) ds st h =
-    let one = pushed_sum (at ds w == k + 1) k ds st w (h 0 0 (omega arith)) refl in
-    let more = lowered_sum k ws (less ds w) (pushed k ds st w) (rest_within ds w ws h) in
-    omega arith
+    grind (arith, common_steps, lowered_sum k ws (less ds w) (pushed k ds st w) (rest_within ds w ws h))

@@ -1,12 +1,13 @@
 -- Steps of peeling.
 use Rattle.std.proofs.Common.{◌≡◌, ◌≢◌, ℕ, ◌+◌, ◌<◌, ◌≤◌, arith, refl, sym, ap, ◌∙◌, subst, ◌⊎◌, inl, inr, List, [], ◌∷◌, ◌++◌}
-use Rattle.std.proofs.{Common.{length, get_or, set, true, false, Bool}, lemmas.Bool.{cases_eq, cases_Bool, cases_lt}}
-use Rattle.std.proofs.lemmas.{Bool.Decides.nat_tests, List.{get_or-set_same, get_or-set_other, get_or_default}}
-use Rattle.std.proofs.lemmas.List.{get_or_append_left, length-append, length-set, length-replicate, get_or-replicate, get_or_past}
-use Rattle.std.proofs.lemmas.List.{Sums.length-filter, Kept.AllPairs-filter, Elements.{filter_passes, All-weaker, All-contains}}
-use Rattle.std.proofs.lemmas.List.Elements.{All-tail, Contains-get_or, Contains-push, Contains-append_cases}
-use Rattle.std.proofs.lemmas.Option.{get_or_from_slice_get, slice_get_within}
-use Rattle.std.specs.{Prelude.{IsTrue, All, count_by, filter, nat_le, nat_lt, ◌&&◌, replicate}, List.Contains}
+use Rattle.std.proofs.{Common.{length, get_or, set, true, false, Bool}, lemmas.Bool.{cases_eq, cases_Bool, cases_lt, and_from}}
+use Rattle.std.proofs.lemmas.{Bool.{le-leb, leb-true, lt-ltb, and_parts}, List.{get_or-set_same, get_or-set_other}}
+use Rattle.std.proofs.lemmas.List.{get_or_default, get_or_append_left, length-append, length-set, length-replicate}
+use Rattle.std.proofs.lemmas.List.{get_or-replicate, get_or_past, Sums.length-filter, Kept.AllPairs-filter}
+use Rattle.std.proofs.lemmas.List.Elements.{filter_passes, All-weaker, All-contains, All-tail, Contains-get_or, Contains-push}
+use Rattle.std.proofs.lemmas.{List.Elements.Contains-append_cases, Option.{get_or_from_slice_get, slice_get_within}}
+use Rattle.std.specs.{Prelude.{IsTrue, All, count_by, filter, nat_le, nat_lt, replicate}, List.Contains}
+use Rattle.std.proofs.lemmas.Grind.{common_steps}
 use Rattle.graph_types.specs.{Graph.Graph, Analyses.{IsTable, Joins, IsCoreNumber}, Arcs.{AreNeighbors, at}}
 use Rattle.graph_types.{specs.declared.ids.Filter.Filter, proofs.Counts.{Contains-cons_cases, Contains-nil, Contains-cons}}
 use Rattle.graph_types.proofs.Counts.{count_yes, contains_filter, filter_contains, passing_length}
@@ -16,15 +17,7 @@ use Rattle.graph_cores.proofs.Lowered.{lowered_at, lowered_keeps, lowered_pushes
 
 -- what is left was left before
 pub still : (alive : List Bool) (v w : ℕ) → IsTrue (is_alive (set alive v false) w) → IsTrue (is_alive alive w)
-still alive v w h = elim (cases_eq w v) [
-  | inl e ↦ elim (cases_lt v (length alive)) [
-    | inl lt ↦ let gone = get_or-set_same alive v false false lt in let both = sym gone
-        ∙ sym (ap (is_alive (set alive v false)) e) ∙ h in absurd (cc)
-    | inr ge ↦ let gone = get_or_past (set alive v false) v false (let long = length-set alive v false in omega arith) in
-        let both = sym gone ∙ sym (ap (is_alive (set alive v false)) e) ∙ h in absurd (cc)
-  ]
-  | inr ne ↦ sym (get_or-set_other alive v w false false ne) ∙ h
-]
+still alive v w h = grind (arith, common_steps, cases_eq, cases_lt, get_or-set_same, get_or_past, length-set, get_or-set_other)
 
 other_way : (f : Filter) (g : Graph) (a b : ℕ) → Joins f g a b → Joins f g b a
 other_way f g a b j = elim j [ inl x ↦ inr x | inr x ↦ inl x ]
@@ -44,36 +37,14 @@ left_or alive (w ∷ ws) = elim (cases_Bool (is_alive alive w)) [
   ]
 ]
 
-Contains-last : (xs : List ℕ) (x : ℕ) → Contains (xs ++ x ∷ []) x
-Contains-last xs x = Contains-push xs x
-
 pub front_low : (xs : List ℕ) (x : ℕ) (P : ℕ → Type 0) → All P (xs ++ x ∷ []) → All P xs
 front_low xs x P all = λ m d l.
     let long = length-append xs (x ∷ []) in
     subst P (get_or_append_left xs (x ∷ []) d m l) (all m d (omega arith))
 
-and_true : (a b : Bool) → a ≡ true → b ≡ true → (a && b) ≡ true
-and_true a b p q = ap (λ x. x && b) p ∙ q
-
-second_true : (a b : Bool) → (a && b) ≡ true → b ≡ true
-second_true true b h = h
-second_true false b h = cc
-
-le_test : (a b : ℕ) → a ≤ b → nat_le a b ≡ true
-le_test a b h = grind (arith, nat_tests)
-
-test_le : (a b : ℕ) → nat_le a b ≡ true → a ≤ b
-test_le a b h = grind (arith, nat_tests)
-
-lt_test : (a b : ℕ) → a < b → nat_lt a b ≡ true
-lt_test a b h = grind (arith, nat_tests)
-
 all_pass : (p : ℕ → Bool) (xs : List ℕ) → All (λ x. p x ≡ true) xs → length xs ≡ count_by p xs
 all_pass p [] h = refl
-all_pass p (x ∷ xs) h =
-    let c = count_yes p x xs (h 0 x (omega arith)) in
-    let more = all_pass p xs (All-tail (λ y. p y ≡ true) x xs h) in
-    omega arith
+all_pass p (x ∷ xs) h = omega (arith, count_yes p x xs (h 0 x (omega arith)), all_pass p xs (All-tail (λ y. p y ≡ true) x xs h))
 
 module _ (f : Filter) (g : Graph) (n : ℕ) (neighbors : ℕ → List ℕ) (nb : AreNeighbors f g neighbors)
     (in' : (v : ℕ) → All (λ w. w < n) (neighbors v)) where
@@ -128,7 +99,7 @@ module _ (f : Filter) (g : Graph) (n : ℕ) (neighbors : ℕ → List ℕ) (nb :
   take_out alive degrees cores stack k v la ld lc lt i on =
       let ws = neighbors v in
       let within : All (λ w. w < length degrees) ws = λ m d l. let a = in' v m d l in omega arith in
-      let few : at degrees v ≤ k = All-contains (λ y. at degrees y ≤ k) (stack ++ v ∷ []) v i.low (Contains-last stack v) in
+      let few : at degrees v ≤ k = All-contains (λ y. at degrees y ≤ k) (stack ++ v ∷ []) v i.low (Contains-push stack v) in
       let a_lt : v < length alive = omega arith in
       let c_lt : v < length cores = omega arith in
       let new = set alive v false in
@@ -220,9 +191,9 @@ module _ (f : Filter) (g : Graph) (n : ℕ) (neighbors : ℕ → List ℕ) (nb :
     );
     known = λ v lt off. let b = i.known v lt off in let low = b.1 in (b.0, omega arith);
     listed = λ v on le. contains_filter (is_low alive degrees k) left v
-        (and_true (is_alive alive v) (nat_le (at degrees v) k) on (le_test (at degrees v) k le)) (i.all v on);
+        (and_from (is_alive alive v) (nat_le (at degrees v) k) on (le-leb (at degrees v) k le)) (i.all v on);
     low = All-weaker (λ v. is_low alive degrees k v ≡ true) (λ v. at degrees v ≤ k)
-        (λ v h. test_le (at degrees v) k (second_true (is_alive alive v) (nat_le (at degrees v) k) h))
+        (λ v h. leb-true (at degrees v) k (and_parts (is_alive alive v) (nat_le (at degrees v) k) h).1)
         (filter (is_low alive degrees k) left) (filter_passes (is_low alive degrees k) left);
   }
 
@@ -245,7 +216,7 @@ module _ (f : Filter) (g : Graph) (n : ℕ) (neighbors : ℕ → List ℕ) (nb :
             let down = (shrinks v).1 in
             let enough = many v on in
             contains_filter (is_high alive degrees k) left v
-            (and_true (is_alive alive v) (nat_lt k (at degrees v)) was (lt_test k (at degrees v) (omega arith))) (all v was);
+            (and_from (is_alive alive v) (nat_lt k (at degrees v)) was (lt-ltb k (at degrees v) (omega arith))) (all v was);
       }
 
   -- none is left
@@ -264,20 +235,7 @@ module _ (f : Filter) (g : Graph) (n : ℕ) (neighbors : ℕ → List ℕ) (nb :
       → ((v : ℕ) → at degrees v ≡ length (neighbors v)) → ((v : ℕ) → v < n → Contains left v)
       → IsBetween f g n neighbors alive degrees cores left 0
   first alive degrees cores left e degree all =
-      let on : (v : ℕ) → v < n → is_alive alive v ≡ true = λ v lt. ap (λ xs. is_alive xs v) e
-      ∙ get_or-replicate n v true false lt in
-      record {
-        count = λ v. degree v ∙ all_pass (is_alive alive) (neighbors v) (λ m d l. on _ (in' v m d l));
-        many = λ v h. omega arith;
-        known = λ v lt off. let both = sym (on v lt) ∙ off in absurd (cc);
-        all = λ v h. elim (cases_lt v (n)) [
-          | inl lt ↦ all v lt
-          | inr ge ↦
-              let long : length alive ≡ n = ap length e ∙ length-replicate n true in
-              let off = get_or_past alive v false (omega arith) in
-              let both = sym off ∙ h in absurd (cc)
-        ];
-      }
+      grind (arith, common_steps, get_or-replicate, all_pass, cases_lt, length-replicate, get_or_past)
 
 pub numbers_within : (n : ℕ) (xs : List ℕ) → length xs ≡ n → ((v : ℕ) → v < n → at xs v ≡ v) → All (λ w. w < n) xs
 numbers_within n xs long each k d lt = let e = each k (omega arith) in let same = get_or_default xs k d 0 lt in omega arith

@@ -1,9 +1,8 @@
 -- How often a number is listed, and how many of a list are left.
-use Rattle.std.proofs.Common.{◌≡◌, ◌≢◌, ℕ, ◌+◌, ◌<◌, ◌≤◌, arith, refl, ap, ◌∙◌, inl, inr, List, [], ◌∷◌, length, set, true, false}
-use Rattle.std.proofs.{Common.Bool, lemmas.List.get_or-set_same, lemmas.List.get_or-set_other, lemmas.List.Elements.All-contains}
-use Rattle.std.proofs.lemmas.Bool.{cases_eq, cases_Bool, cases_lt, Decides.Decides-eqb}
-use Rattle.std.proofs.lemmas.List.FromFn.{length-range_with_len, get_or-range_with_len}
-use Rattle.std.specs.{Prelude.◌==◌, Prelude.All, Prelude.AllPairs, Prelude.count_by, List.Contains, List.range_with_len}
+use Rattle.std.proofs.Common.{◌≡◌, ◌≢◌, ℕ, ◌+◌, ◌<◌, ◌≤◌, arith, refl, inl, inr, List, [], ◌∷◌, length, set, true, false, Bool}
+use Rattle.std.proofs.lemmas.{List.Elements.All-contains, Bool.{cases_eq, cases_Bool, cases_lt, Decides.Decides-eqb}}
+use Rattle.std.{proofs.lemmas.List.FromFn.{length-range_with_len, get_or-range_with_len}, specs.Prelude.{◌==◌, All, AllPairs}}
+use Rattle.std.{specs.{Prelude.count_by, List.{Contains, range_with_len}}, proofs.lemmas.Grind.common_steps}
 use Rattle.graph_types.proofs.Counts.{Contains-cons_cases, Contains-nil, Contains-first, Contains-cons, apart_tail, apart_head}
 use Rattle.graph_types.proofs.Counts.{count_yes, count_no, sub_length}
 use Rattle.graph_cores.specs.Peel.{is_alive}
@@ -23,13 +22,7 @@ times_no x y xs ne = count_no (λ z. z == x) y xs (differ y x ne)
 
 pub has_times : (x : ℕ) (xs : List ℕ) → Contains xs x → 1 ≤ times x xs
 has_times x [] c = absurd (Contains-nil x c)
-has_times x (y ∷ ys) c = elim (cases_eq y x) [
-  | inl e ↦ let t = times_yes x y ys e in omega arith
-  | inr ne ↦ elim (Contains-cons_cases y ys x c) [
-    | inl e ↦ absurd (ne e)
-    | inr more ↦ let t = times_no x y ys ne in let m = has_times x ys more in omega arith
-  ]
-]
+has_times x (y ∷ ys) c = grind (arith, common_steps, cases_eq, times_yes, Contains-cons_cases, times_no)
 
 pub times_has : (x : ℕ) (xs : List ℕ) → 1 ≤ times x xs → Contains xs x
 times_has x [] m = absurd (omega arith)
@@ -54,29 +47,7 @@ apart_times x (y ∷ ys) h = elim (cases_eq y x) [
 pub count_taken : (alive : List Bool) (v : ℕ) (xs : List ℕ) → v < length alive → is_alive alive v ≡ true
     → count_by (is_alive (set alive v false)) xs + times v xs ≡ count_by (is_alive alive) xs
 count_taken alive v [] lt on = refl
-count_taken alive v (y ∷ ys) lt on =
-    let more = count_taken alive v ys lt on in
-    elim (cases_eq y v) [
-      | inl e ↦
-          let t = times_yes v y ys e in
-          let a = count_no (is_alive (set alive v false)) y ys
-          (ap (is_alive (set alive v false)) e ∙ get_or-set_same alive v false false lt) in
-          let b = count_yes (is_alive alive) y ys (ap (is_alive alive) e ∙ on) in
-          omega arith
-      | inr ne ↦
-          let t = times_no v y ys ne in
-          let same : is_alive (set alive v false) y ≡ is_alive alive y = get_or-set_other alive v y false false ne in
-          elim (cases_Bool (is_alive alive y)) [
-            | inl on' ↦
-                let a = count_yes (is_alive (set alive v false)) y ys (same ∙ on') in
-                let b = count_yes (is_alive alive) y ys on' in
-                omega arith
-            | inr off ↦
-                let a = count_no (is_alive (set alive v false)) y ys (same ∙ off) in
-                let b = count_no (is_alive alive) y ys off in
-                omega arith
-          ]
-    ]
+count_taken alive v (y ∷ ys) lt on = grind (arith, common_steps, count_taken alive v ys lt on)
 
 -- distinct numbers below n are at most n
 pub apart_few : (n : ℕ) (xs : List ℕ) → AllPairs (λ a b. a ≢ b) xs → All (λ x. x < n) xs → length xs ≤ n

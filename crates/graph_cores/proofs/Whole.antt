@@ -1,14 +1,15 @@
 -- The edges of all rows: those of the view of the content, each once, and the degrees over them.
-use Rattle.std.proofs.Common.{◌≡◌, ◌≢◌, ℕ, zero, suc, ◌+◌, ◌<◌, ◌≤◌, Bool, true, false, cond, ◌&&◌, eqb, ◌-◌, List, [], ◌∷◌, ◌++◌}
+use Rattle.std.proofs.Common.{◌≡◌, ◌≢◌, ℕ, zero, suc, ◌+◌, ◌<◌, ◌≤◌, Bool, true, false, ◌&&◌, eqb, ◌-◌, List, [], ◌∷◌, ◌++◌}
 use Rattle.std.proofs.Common.{length, get_or, map, pos, ◌+ℤ◌, append_assoc, append-nil, refl, sym, ap, ◌∙◌, subst, arith, inl}
-use Rattle.std.proofs.{Common.{inr, Option, None, Some, true≢false}, lemmas.{Grind.flat_map-append, List.get_or_past}}
-use Rattle.std.proofs.lemmas.List.{Elements.{filter-append, filter_passes, All-filter}, FromFn.get_or-map-range_with_len}
-use Rattle.std.proofs.lemmas.List.{FromFn.{length-map-range_with_len, map-range_with_len_more, fill_by_all}, Kept.AllPairs-filter}
-use Rattle.std.{proofs.lemmas.{List.Sums.length-filter, Bool.cases_lt}, specs.Prelude.{filter, fold, count_by, All}}
-use Rattle.std.specs.{Option.is_some, FinMap.{get, entries}, List.{Contains, range_with_len, list_all}}
-use Rattle.graph_types.specs.{Graph.{Graph, key_of}, Limits.kind_limit, View.{leaves, enters}, Degrees.listed_degree}
-use Rattle.graph_types.specs.{Answer.{degree_at, degree_table}, declared.ids.{Degree.Degree, Edge.Edge, Filter.Filter}}
-use Rattle.graph_types.proofs.{Keys.get_listed, Counts.Contains-first, Arcs.contains_map, Folds.{count_entries, weight_entries}}
+use Rattle.std.proofs.{Common.{inr, Option, None, Some, true≢false}, lemmas.Grind.{flat_map-append, common_steps}}
+use Rattle.std.proofs.lemmas.List.{get_or_past, Elements.{filter-append, filter_passes, All-filter}}
+use Rattle.std.proofs.lemmas.List.FromFn.{get_or-map-range_with_len, length-map-range_with_len, map-range_with_len_more}
+use Rattle.std.proofs.lemmas.{List.{FromFn.fill_by_all, Kept.AllPairs-filter, Sums.length-filter}, Bool.cases_lt}
+use Rattle.std.specs.{Prelude.{filter, fold, count_by, All}, Option.is_some, FinMap.get, List.{Contains, range_with_len}}
+use Rattle.std.specs.List.{list_all}
+use Rattle.graph_types.specs.{Graph.{Graph, key_of}, Limits.kind_limit, Degrees.listed_degree, Answer.{degree_at, degree_table}}
+use Rattle.graph_types.{specs.declared.ids.{Degree.Degree, Edge.Edge, Filter.Filter}, proofs.Keys.get_listed}
+use Rattle.graph_types.proofs.{Counts.Contains-first, Arcs.contains_map, Folds.{count_entries, weight_entries}}
 use Rattle.edge_block.specs.Slots.{Slot, BlockView, is_free, edges_in, entry_in}
 use Rattle.graph_version.specs.{Rows.{row_of, blocks_of}, Versions.{VersionView, content, IsVersion, IsBlockOf}}
 use Rattle.graph_version.{specs.Edges.{AreEachOnce, edges_in_blocks}, proofs.{Shown.rows_each_once, Totals.same_blocks}}
@@ -19,14 +20,7 @@ use Rattle.graph_cores.{specs.Tallies.{passes, shown_edges, IsCounted, AreViewEd
 
 filter_twice : (p q : Edge → Bool) (es : List Edge) → filter (λ e. p e && q e) (filter p es) ≡ filter (λ e. p e && q e) es
 filter_twice p q [] = refl
-filter_twice p q (e ∷ es) =
-    let both : Edge → Bool = λ x. p x && q x in
-    elim (p e) as (λ b. p e ≡ b → filter both (cond b (e ∷ filter p es) (filter p es))
-    ≡ cond (b && q e) (e ∷ filter both es) (filter both es)) [
-      | true ↦ λ t. ap (λ b. cond (b && q e) (e ∷ filter both (filter p es)) (filter both (filter p es))) t
-          ∙ ap (λ l. cond (q e) (e ∷ l) l) (filter_twice p q es)
-      | false ↦ λ t. filter_twice p q es
-    ] refl
+filter_twice p q (e ∷ es) = grind (arith, common_steps, filter_twice p q es)
 
 counted_twice : (p q : Edge → Bool) (es : List Edge) → count_by (λ e. p e && q e) (filter p es) ≡ count_by (λ e. p e && q e) es
 counted_twice p q es =
@@ -42,12 +36,7 @@ shown_degree f es v =
     λ i. record { outgoing = outgoing i; incoming = incoming i; out_weight = weights i }
 
 content_degree : (f : Filter) (g : Graph) (es : List Edge) (v : ℕ) → AreEachOnce es g → listed_degree f es v ≡ degree_at f g v
-content_degree f g es v each =
-    let outgoing = sym (count_entries (leaves f v) es each.once) ∙ ap (λ m. count_by (leaves f v) (entries m)) each.same in
-    let incoming = sym (count_entries (enters f v) es each.once) ∙ ap (λ m. count_by (enters f v) (entries m)) each.same in
-    let weights = sym (weight_entries (leaves f v) es each.once)
-    ∙ ap (λ m. fold ◌+ℤ◌ (pos 0) (map (λ e. e.1.weight) (filter (leaves f v) (entries m)))) each.same in
-    λ i. record { outgoing = outgoing i; incoming = incoming i; out_weight = weights i }
+content_degree f g es v each = grind (arith, common_steps, count_entries, weight_entries)
 
 -- Rows by source
 
@@ -62,8 +51,7 @@ below_more rows n =
     ∙ ap (λ bs. blocks_below rows n ++ bs) (append-nil (row_of rows n))
 
 pub shown_append : (f : Filter) (xs ys : List BlockView) → shown_edges f (xs ++ ys) ≡ shown_edges f xs ++ shown_edges f ys
-shown_append f xs ys = ap (filter (passes f)) (flat_map-append _ xs ys)
-    ∙ filter-append (passes f) (edges_in_blocks xs) (edges_in_blocks ys)
+shown_append f xs ys = grind (arith, common_steps, flat_map-append, filter-append)
 
 -- the edges of one source more
 pub shown_more : (f : Filter) (rows : List (List BlockView)) (n : ℕ)
@@ -73,8 +61,7 @@ shown_more f rows n = ap (shown_edges f) (below_more rows n) ∙ shown_append f 
 -- those of the first sources are those of all to some source, but for the last of them
 first_below : (f : Filter) (rows : List (List BlockView)) (k j : ℕ)
     → (rest : List Edge) × (shown_edges f (blocks_below rows (k + j)) ≡ shown_edges f (blocks_below rows k) ++ rest)
-first_below f rows k zero =
-    ([], ap (λ n. shown_edges f (blocks_below rows n)) (omega arith) ∙ sym (append-nil (shown_edges f (blocks_below rows k))))
+first_below f rows k zero = grind (arith, common_steps, append-nil)
 first_below f rows k (suc j) =
     let r = first_below f rows k j in
     let more : k + suc j ≡ (k + j) + 1 = omega arith in (

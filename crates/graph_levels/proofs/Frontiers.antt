@@ -1,34 +1,24 @@
 -- Steps of a search by frontiers.
-use Rattle.std.proofs.Common.{◌≡◌, ℕ, ◌+◌, ◌<◌, ◌≤◌, zero, suc, arith, refl, sym, ap, ◌∙◌, subst, ◌⊎◌, inl, inr, List, [], ◌∷◌}
-use Rattle.std.proofs.Common.{◌++◌, length, set, drop, get_or, not, Option, Some, None, cond, true, false, Bool}
-use Rattle.std.proofs.lemmas.{Bool.{cases_eq, cases_lt}, Option.get_or_from_slice_get, List.{get_or-set_same, get_or-set_other}}
-use Rattle.std.proofs.lemmas.List.{get_or_past, length-append, length-replicate, get_or-replicate, Elements.All-tail}
-use Rattle.std.proofs.lemmas.List.Elements.{All-weaker, All-push, All-nil, All-cons, Contains-push, Contains-append_left}
-use Rattle.std.{proofs.lemmas.List.Elements.All-contains, specs.{Prelude.{All, replicate}, List.Contains}}
+use Rattle.std.proofs.Common.{◌≡◌, ℕ, ◌+◌, ◌<◌, ◌≤◌, zero, suc, arith, refl, sym, ap, ◌∙◌, subst, inl, inr, List, [], ◌∷◌, ◌++◌}
+use Rattle.std.proofs.{Common.{length, set, drop, get_or, not, Option, Some, None, cond, true, false, Bool}, lemmas.Bool.cases_eq}
+use Rattle.std.proofs.lemmas.{Bool.cases_lt, Option.get_or_from_slice_get, List.{get_or-set_same, get_or-set_other, get_or_past}}
+use Rattle.std.proofs.lemmas.List.{length-append, length-replicate, get_or-replicate, Elements.{All-tail, All-weaker, All-push}}
+use Rattle.std.proofs.lemmas.List.Elements.{All-nil, All-cons, Contains-push, Contains-append_left, All-contains}
+use Rattle.std.{specs.{Prelude.{All, replicate}, List.Contains}, proofs.lemmas.Grind.common_steps}
 use Rattle.graph_types.specs.{Graph.Graph, Analyses.{LeadsTo, Walk, IsLevel, IsTable}, declared.ids.Filter.Filter}
-use Rattle.graph_types.specs.declared.ids.VertexId.{VertexId}
+use Rattle.graph_types.{specs.declared.ids.VertexId.VertexId, proofs.Counts.{Contains-cons_cases, Contains-nil}}
 use Rattle.graph_levels.specs.Search.{has_none, level_of, HasLevel, IsReached, IsSearch}
 use Rattle.graph_levels.specs.Reached.{met, stands_in, table_of, vertices_of}
 use Rattle.graph_levels.proofs.Tables.{asked, front_long, length-table, levelled, table_push, vertices_push}
 
 none_of : (o : Option ℕ) → has_none o ≡ true → o ≡ None
-none_of None h = refl
-none_of (Some k) h = cc
+none_of o h = grind (arith, common_steps)
 
 some_of : (o : Option ℕ) → has_none o ≡ false → (j : ℕ) × (o ≡ Some j)
-some_of None h = cc
-some_of (Some k) h = (k, refl)
+some_of o h = grind (arith, common_steps)
 
 same_level : (levels : List (Option ℕ)) (v j k : ℕ) → HasLevel levels j v → HasLevel levels k v → j ≡ k
 same_level levels v j k p q = let both = sym p ∙ q in cc
-
--- the element that a list begins with, or one of the rest
-Contains-cons_cases : (x : ℕ) (xs : List ℕ) (y : ℕ) → Contains (x ∷ xs) y → (x ≡ y) ⊎ Contains xs y
-Contains-cons_cases x xs y (zero, lt, e) = inl e
-Contains-cons_cases x xs y (suc k, lt, e) = inr (k, omega arith, e)
-
-Contains-nil : (y : ℕ) → Contains [] y → ⊥
-Contains-nil y c = let lt = c.1 in omega arith
 
 -- where there is no level
 abbrev no_level : Option ℕ
@@ -38,10 +28,7 @@ module _ (f : Filter) (g : Graph) (s : ℕ) where
   -- a vertex with no level gets one
   kept : (levels : List (Option ℕ)) (v d : ℕ) → level_of levels v ≡ None → (w k : ℕ) → HasLevel levels k w
       → HasLevel (set levels v (Some d)) k w
-  kept levels v d none w k h = elim (cases_eq w v) [
-    | inl e ↦ let both = sym none ∙ ap (level_of levels) (sym e) ∙ h in absurd (cc)
-    | inr ne ↦ get_or-set_other levels v w (Some d) None ne ∙ h
-  ]
+  kept levels v d none w k h = grind (arith, common_steps, cases_eq, get_or-set_other)
 
   mark : (levels : List (Option ℕ)) (rest next : List ℕ) (d u v : ℕ) → IsSearch f g s levels rest next d → HasLevel levels d u
       → LeadsTo f g u v → v < length levels → level_of levels v ≡ None
@@ -89,11 +76,7 @@ module _ (f : Filter) (g : Graph) (s : ℕ) where
   pub visit_all : (n : ℕ) (ts : List ℕ) (rows : List (VertexId × ℕ)) (rest : List ℕ) (m d u : ℕ)
       → IsSearch f g s (table_of n rows) rest (vertices_of (drop m rows)) d → HasLevel (table_of n rows) d u → m ≤ length rows
       → All (LeadsTo f g u) ts → All (λ v. v < n) ts → Visited n rows rest m d ts (met (d + 1) ts rows)
-  visit_all n [] rows rest m d u i at long edges in' = record {
-    search = i;
-    reached = All-nil (IsReached (table_of n rows) (d + 1));
-    keep = λ w k h. h;
-  }
+  visit_all n [] rows rest m d u i at long edges in' = grind (arith, common_steps, All-nil)
   visit_all n (v ∷ ts) rows rest m d u i at long edges in' =
       let lt : v < n = in' 0 0 (omega arith) in
       let edge : LeadsTo f g u v = edges 0 0 (omega arith) in
@@ -205,15 +188,7 @@ module _ (f : Filter) (g : Graph) (s : ℕ) where
         (here.0, here.1, omega arith)
 
     pub level_at : (v : ℕ) (o : Option ℕ) → level_of levels v ≡ o → IsLevel f g s v o
-    level_at v None is = λ n w. let r = reached n v w in let no = sym is ∙ r.1 in cc
-    level_at v (Some k) is = (
-      sound v k is,
-      λ m w.
-          let r = reached m v w in
-          let same = same_level levels v k r.0 is r.1 in
-          let low = r.2 in
-          omega arith,
-    )
+    level_at v o is = grind (arith, common_steps, reached, same_level)
 
   -- with no frontier left all levels are found
   pub found : (levels : List (Option ℕ)) (n d : ℕ) → length levels ≡ n → IsSearch f g s levels [] [] d
@@ -252,19 +227,7 @@ module _ (f : Filter) (g : Graph) (s : ℕ) where
       ]
 
   begin' : (n : ℕ) → s < n → IsSearch f g s (set (replicate n None) s (Some 0)) (s ∷ []) [] 0
-  begin' n lt =
-      let long = length-replicate n no_level in
-      let in' : s < length (replicate n no_level) = omega arith in
-      let new = set (replicate n None) s (Some 0) in
-      let at : HasLevel new 0 s = get_or-set_same (replicate n None) s (Some 0) None in' in
-      record {
-        start = at;
-        sound = λ v k h. let o = only n v k lt h in subst (Walk (LeadsTo f g) s v) (sym o.1) (sym o.0);
-        low = λ v k h. let o = (only n v k lt h).1 in omega arith;
-        now = All-cons (HasLevel new 0) s [] at (All-nil (HasLevel new 0));
-        later = All-nil (HasLevel new 1);
-        closed = λ a b k h to. let o = only n a k lt h in inr (inl (subst (Contains (s ∷ [])) (sym o.0) (Contains-push [] s)));
-      }
+  begin' n lt = grind (arith, common_steps, length-replicate, get_or-set_same, only, All-cons, All-nil, Contains-push)
 
   -- only the source has a level
   pub begin : (n : ℕ) (levels : List (Option ℕ)) → levels ≡ replicate n None → s < n

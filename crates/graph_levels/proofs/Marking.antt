@@ -1,11 +1,11 @@
 -- Marks that are set.
 use Rattle.std.proofs.Common.{◌≡◌, ◌≢◌, ◌↔◌, ℕ, ◌*◌, ◌/◌, ◌%◌, ◌^◌, ◌<◌, List, [], ◌∷◌, ◌++◌, length, set, get_or, arith, inl}
-use Rattle.std.proofs.{Common.{inr, refl, sym, ap, ◌∙◌, subst, Bool, true, false, ◌||◌}, lemmas.Bool.{cases_eq, cases_lt}}
-use Rattle.std.proofs.lemmas.{Bool.{false≢true, Decides.eqb_tells}, Nat.Bits.{bit_at_set_same, bit_at_set_other, bit_at-zero}}
-use Rattle.std.proofs.lemmas.List.{get_or-set_same, get_or-set_other, get_or-replicate, get_or_past, length-replicate}
-use Rattle.std.specs.{Prelude.{IsTrue, replicate}, Int.{w64, bit_at, RustNames.bit_or}}
+use Rattle.std.proofs.{Common.{inr, sym, ap, ◌∙◌, false}, lemmas.Bool.{cases_eq, cases_lt, false≢true, Decides.eqb_tells}}
+use Rattle.std.proofs.lemmas.{Nat.Bits.{bit_at_set_same, bit_at_set_other, bit_at-zero}, List.{get_or-set_same, get_or-set_other}}
+use Rattle.std.{proofs.lemmas.List.{get_or-replicate, get_or_past, length-replicate}, specs.{Prelude.replicate, Int.w64}}
+use Rattle.std.{specs.Int.{bit_at, RustNames.bit_or}, proofs.lemmas.Grind.common_steps}
 use Rattle.graph_types.specs.declared.ids.VertexId.{VertexId}
-use Rattle.graph_levels.{specs.{Marks.{AreMarks, IsMarked}, Reached.stands_in}, proofs.Tables.stands_push}
+use Rattle.graph_levels.{specs.Marks.{AreMarks, IsMarked}, proofs.Tables.stands_push}
 
 -- the word with a bit more
 abbrev pub with_bit : ℕ → ℕ → ℕ
@@ -32,43 +32,17 @@ marks_alike marks v w lt ne = elim (cases_eq (w / 64) (v / 64)) [
 
 pub marked_other : (marks : List ℕ) (v w : ℕ) → v / 64 < length marks → w ≢ v
     → (IsMarked (marked_at marks v) w ↔ IsMarked marks w)
-marked_other marks v w lt ne = (
-  (λ set. sym (marks_alike marks v w lt ne) ∙ set),
-  (λ set. marks_alike marks v w lt ne ∙ set),
-)
+marked_other marks v w lt ne = grind (arith, common_steps, marks_alike)
 
 -- one vertex more, with its mark
 pub marks_more : (marks new : List ℕ) (rows : List (VertexId × ℕ)) (d v : ℕ) → AreMarks marks rows → IsMarked new v
     → ((w : ℕ) → w ≢ v → (IsMarked new w ↔ IsMarked marks w)) → AreMarks new (rows ++ (record { 0 = v }, d) ∷ [])
-marks_more marks new rows d v are marked others w =
-    subst (λ b. IsMarked new w ↔ IsTrue b) (sym (stands_push w v d rows)) (elim (eqb_tells w v) [
-      | inl same ↦
-          subst (λ b. IsMarked new w ↔ IsTrue (stands_in w rows || b)) (sym same.0)
-          ((λ _. or_true (stands_in w rows)), (λ _. subst (IsMarked new) (sym same.1) marked))
-      | inr differ ↦
-          subst (λ b. IsMarked new w ↔ IsTrue (stands_in w rows || b)) (sym differ.0)
-          (subst (λ b. IsMarked new w ↔ IsTrue b) (sym (or_false (stands_in w rows)))
-          ((λ set. (are w).0 ((others w differ.1).0 set)), (λ stands. (others w differ.1).1 ((are w).1 stands))))
-    ]) where
-      or_true : (b : Bool) → IsTrue (b || true)
-      or_true true = refl
-      or_true false = refl
-
-      or_false : (b : Bool) → (b || false) ≡ b
-      or_false true = refl
-      or_false false = refl
+marks_more marks new rows d v are marked others w = grind (arith, common_steps, stands_push, eqb_tells)
 
 -- with no bit set nothing is marked
 pub none_marked : (count v : ℕ) → IsMarked (replicate count 0) v → ⊥
-none_marked count v marked =
-    let zero_word : get_or (replicate count 0) (v / 64) 0 ≡ 0 = elim (cases_lt (v / 64) count) [
-      | inl lt ↦ get_or-replicate count (v / 64) 0 0 lt
-      | inr past ↦ get_or_past (replicate count 0) (v / 64) 0 (omega (arith, past, length-replicate {A = ℕ} count 0))
-    ] in
-    let none = sym marked ∙ ap (λ word. bit_at word (v % 64)) zero_word in
-    omega (arith, none, bit_at-zero (v % 64))
+none_marked count v marked = grind (arith, common_steps, cases_lt, get_or-replicate, get_or_past, length-replicate, bit_at-zero)
 
 pub first_marked : (count s : ℕ) (new : List ℕ) → IsMarked new s
     → ((w : ℕ) → w ≢ s → (IsMarked new w ↔ IsMarked (replicate count 0) w)) → AreMarks new ((record { 0 = s }, 0) ∷ [])
-first_marked count s new marked others =
-    marks_more (replicate count 0) new [] 0 s (λ w. ((λ set. absurd (none_marked count w set)), (λ stands. absurd (false≢true stands)))) marked others
+first_marked count s new marked others = grind (arith, common_steps, marks_more, none_marked, false≢true)

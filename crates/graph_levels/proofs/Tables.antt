@@ -11,6 +11,7 @@ use Rattle.std.proofs.lemmas.List.{Sorted.{IsPermutation-map, IsPermutation-sym}
 use Rattle.std.proofs.lemmas.List.{Elements.{All-weaker, All-tail, All-push, All-contains, All-cons, All-nil}, Sums.fold-append}
 use Rattle.std.{proofs.Math.Seq.drop-append_seam, specs.{Prelude.{All, fold, nat_eq, replicate}, List.{AllPairs, Contains}}}
 use Rattle.std.specs.{List.{IsDistinct, list_any, Sorted.{IsNonDecreasing, IsNonDecreasingBy, IsPermutation}}, Cmp.nat_eq_equiv}
+use Rattle.std.proofs.lemmas.Grind.{common_steps}
 use Rattle.graph_types.proofs.{Counts.{Contains-cons, Contains-cons_cases, Contains-first}, Arcs.contains_map}
 use Rattle.graph_types.specs.declared.ids.VertexId.{VertexId}
 use Rattle.graph_levels.specs.{Search.{has_none, level_of}, Reached.{AreRows, met, rows_from, stands_in, table_of, vertices_of}}
@@ -21,8 +22,7 @@ filled levels rows = fold (λ table row. set table row.0.0 (Some row.1)) levels 
 
 length-filled : (rows : List (VertexId × ℕ)) (levels : List (Option ℕ)) → length (filled levels rows) ≡ length levels
 length-filled [] levels = refl
-length-filled (row ∷ rows) levels =
-    length-filled rows (set levels row.0.0 (Some row.1)) ∙ length-set levels row.0.0 (Some row.1)
+length-filled (row ∷ rows) levels = grind (arith, common_steps, length-filled rows (set levels row.0.0 (Some row.1)))
 
 pub length-table : (n : ℕ) (rows : List (VertexId × ℕ)) → length (table_of n rows) ≡ n
 length-table n rows = length-filled rows (replicate n None) ∙ length-replicate n None
@@ -33,9 +33,7 @@ table_push n rows v d = fold-append (λ table row. set table row.0.0 (Some row.1
 
 pub vertices_push : (m : ℕ) (rows : List (VertexId × ℕ)) (v d : ℕ) → m ≤ length rows
     → vertices_of (drop m (rows ++ (record { 0 = v }, d) ∷ [])) ≡ vertices_of (drop m rows) ++ v ∷ []
-vertices_push m rows v d long =
-    ap vertices_of (drop-append-le m rows ((record { 0 = v }, d) ∷ []) long)
-    ∙ map-append (λ (row : VertexId × ℕ). row.0.0) (drop m rows) ((record { 0 = v }, d) ∷ [])
+vertices_push m rows v d long = grind (arith, common_steps, drop-append-le, map-append)
 
 -- a vertex has a level in the filled table where it had one, or stands in a row
 levelled_from : (rows : List (VertexId × ℕ)) (levels : List (Option ℕ)) (v : ℕ) → v < length levels
@@ -63,9 +61,7 @@ levelled_from (row ∷ rows) levels v lt =
 
 pub levelled : (n : ℕ) (rows : List (VertexId × ℕ)) (v : ℕ) → v < n
     → has_none (level_of (table_of n rows) v) ≡ not (stands_in v rows)
-levelled n rows v lt =
-    levelled_from rows (replicate n None) v (omega (arith, lt, length-replicate {A = Option ℕ} n None))
-    ∙ ap (λ o. has_none o && not (stands_in v rows)) (get_or-replicate n v None None lt)
+levelled n rows v lt = grind (arith, common_steps, levelled_from, length-replicate, get_or-replicate)
 
 -- visiting targets keeps the rows that were there, at their front
 pub met_more : (d : ℕ) (ts : List ℕ) (rows : List (VertexId × ℕ))
@@ -114,9 +110,7 @@ front_more d ts old rows front =
     (more.1 ∙ ap (λ xs. xs ++ more.0) front ∙ append_assoc old (drop (length old) rows) more.0)
 
 pub front_long : (old rows : List (VertexId × ℕ)) → rows ≡ old ++ drop (length old) rows → length old ≤ length rows
-front_long old rows front =
-    let long : length rows ≡ length old + length (drop (length old) rows) = ap length front ∙ length-append old (drop (length old) rows) in
-    omega arith
+front_long old rows front = grind (arith, common_steps, length-append)
 
 -- behind the last row there is none
 pub none_left : (k : ℕ) (rows : List (VertexId × ℕ)) → length rows ≤ k → vertices_of (drop k rows) ≡ []
@@ -132,11 +126,7 @@ first_rows n s lt = record {
 -- the row that is asked next
 pub asked : (old rows : List (VertexId × ℕ)) (k : ℕ) (row : VertexId × ℕ) → rows ≡ old ++ drop (length old) rows
     → k < length old → row ≡ get_or rows k row → vertices_of (drop k old) ≡ row.0.0 ∷ vertices_of (drop (k + 1) old)
-asked old rows k row front lt is =
-    let here : get_or old k row ≡ row =
-    sym (is ∙ ap (λ xs. get_or xs k row) front ∙ get_or_append_left old (drop (length old) rows) row k lt) in
-    let split : drop k old ≡ get_or old k row ∷ drop (k + 1) old = rw add-one (drop-cons old k row lt) in
-    ap vertices_of split ∙ ap (λ (r : VertexId × ℕ). r.0.0 ∷ vertices_of (drop (k + 1) old)) here
+asked old rows k row front lt is = grind (arith, common_steps, get_or_append_left, add-one, drop-cons)
 
 differs : (v w : ℕ) → v ≢ w → nat_eq v w ≡ false
 differs v w ne = elim (eqb_tells v w) [ inl same ↦ absurd (ne same.1) | inr differ ↦ differ.0 ]
@@ -169,8 +159,7 @@ untouched (row ∷ rows) levels v none = elim (eqb_tells v row.0.0) [
 ]
 
 stands_not : (v : ℕ) (rows : List (VertexId × ℕ)) → All (λ w. v ≢ w) (vertices_of rows) → stands_in v rows ≡ false
-stands_not v rows others =
-    list_any_none (nat_eq v) (vertices_of rows) (All-weaker (λ w. v ≢ w) (λ w. nat_eq v w ≡ false) (differs v) (vertices_of rows) others)
+stands_not v rows others = grind (arith, common_steps, list_any_none, All-weaker, differs)
 
 -- a row's vertex has the row's level
 told_by : (rows : List (VertexId × ℕ)) (levels : List (Option ℕ)) (row : VertexId × ℕ) → AllPairs (λ v w. v ≢ w) (vertices_of rows)
@@ -308,10 +297,4 @@ sorted_rows n rows sorted are moved ordered =
 
 pub stands_push : (w v d : ℕ) (rows : List (VertexId × ℕ))
     → stands_in w (rows ++ (record { 0 = v }, d) ∷ []) ≡ (stands_in w rows || nat_eq w v)
-stands_push w v d rows =
-    ap (list_any (nat_eq w)) (map-append (λ (row : VertexId × ℕ). row.0.0) rows ((record { 0 = v }, d) ∷ []))
-    ∙ list_any-append (nat_eq w) (vertices_of rows) (v ∷ [])
-    ∙ ap (λ b. stands_in w rows || b) (or_false (nat_eq w v)) where
-      or_false : (b : Bool) → (b || false) ≡ b
-      or_false true = refl
-      or_false false = refl
+stands_push w v d rows = grind (arith, common_steps, map-append, list_any-append)

@@ -1,7 +1,8 @@
 -- Changes of trees that keep what they say.
-use Rattle.std.proofs.Common.{◌≡◌, ℕ, ◌+◌, ◌<◌, ◌≤◌, arith, sym, ap, ◌∙◌, subst, inl, inr, List, length, get_or, set, []}
+use Rattle.std.proofs.Common.{◌≡◌, ℕ, ◌+◌, ◌<◌, ◌≤◌, arith, sym, ap, ◌∙◌, subst, inl, inr, List, length, get_or, set}
 use Rattle.std.proofs.lemmas.{Bool.{cases_eq, cases_lt}, List.{get_or-set_same, get_or-set_other, get_or_default, get_or_past}}
 use Rattle.std.{proofs.lemmas.List.FromFn.{length-range_with_len, get_or-range_with_len}, specs.List.range_with_len}
+use Rattle.std.proofs.lemmas.Grind.{common_steps}
 use Rattle.graph_types.specs.{Graph.Graph, Analyses.Connects, declared.ids.Filter.Filter}
 use Rattle.graph_levels.{specs.Forest.{parent, IsForest, IsSound, Respects}, proofs.Walks.{itself, then}}
 
@@ -17,10 +18,7 @@ parent_set_other ps v a w ne = get_or-set_other ps v w a w ne
 
 -- a parent that is no greater
 pub forest_set : (ps : List ℕ) (v a : ℕ) → v < length ps → a ≤ v → IsForest ps → IsForest (set ps v a)
-forest_set ps v a lt le low = λ w. elim (cases_eq w v) [
-  | inl e ↦ let same = parent_set_same ps v a lt in let there = ap (parent (set ps v a)) e in omega arith
-  | inr ne ↦ let same = parent_set_other ps v a w ne in let below = low w in omega arith
-]
+forest_set ps v a lt le low = grind (arith, common_steps, cases_eq, parent_set_same, parent_set_other)
 
 -- a parent that walks join
 pub sound_set : (f : Filter) (g : Graph) (ps : List ℕ) (v a : ℕ) → v < length ps → Connects f g a v → IsSound f g ps
@@ -34,19 +32,7 @@ sound_set f g ps v a lt c sound = λ w. elim (cases_eq w v) [
 -- the parent's parent in place of the parent
 pub respects_halved : (ps : List ℕ) (v : ℕ) (label : ℕ → ℕ) → v < length ps → Respects (set ps v (parent ps (parent ps v))) label
     → Respects ps label
-respects_halved ps v label lt new = λ w. elim (cases_eq w v) [
-  | inl e ↦
-      let p = parent ps v in
-      let a = parent ps p in
-      let here : label v ≡ label a = new v ∙ ap label (parent_set_same ps v a lt) in
-      let at : label v ≡ label p =
-      elim (cases_eq p v) [
-        | inl root ↦ ap label (sym root)
-        | inr ne ↦ here ∙ sym (new p ∙ ap label (parent_set_other ps v a p ne))
-      ] in
-      ap label e ∙ at ∙ ap (λ x. label (parent ps x)) (sym e)
-  | inr ne ↦ new w ∙ ap label (parent_set_other ps v (parent ps (parent ps v)) w ne)
-]
+respects_halved ps v label lt new = grind (arith, common_steps, cases_eq, parent_set_same, parent_set_other)
 
 -- a root put below another vertex
 pub respects_linked : (ps : List ℕ) (r a : ℕ) (label : ℕ → ℕ) → r < length ps → parent ps r ≡ r → Respects (set ps r a) label
@@ -65,32 +51,7 @@ FlatBelow ps i = (v : ℕ) → v < i → parent ps (parent ps v) ≡ parent ps v
 
 pub flat_more : (ps : List ℕ) (i : ℕ) → i < length ps → IsForest ps → FlatBelow ps i
     → FlatBelow (set ps i (parent ps (parent ps i))) (i + 1)
-flat_more ps i lt low flat = λ v below.
-    let p = parent ps i in
-    let a = parent ps p in
-    let new = set ps i a in
-    let p_low = low i in
-    let a_low = low p in
-    elim (cases_eq v i) [
-      | inl e ↦
-          let here : parent new v ≡ a = ap (parent new) e ∙ parent_set_same ps i a lt in
-          let there : parent new a ≡ a =
-          elim (cases_eq a i) [
-            | inl root ↦ ap (parent new) root ∙ parent_set_same ps i a lt
-            | inr ne ↦
-                elim (cases_eq p i) [
-                  | inl p_root ↦ absurd (ne (ap (parent ps) p_root ∙ p_root))
-                  | inr p_ne ↦ parent_set_other ps i a a ne ∙ flat p (omega arith)
-                ]
-          ] in
-          ap (parent new) here ∙ there ∙ sym here
-      | inr ne ↦
-          let q = parent ps v in
-          let q_low = low v in
-          let q_ne : q ≡ i → ⊥ = λ e. ne (omega arith) in
-          let here : parent new v ≡ q = parent_set_other ps i a v ne in
-          ap (parent new) here ∙ parent_set_other ps i a q q_ne ∙ flat v (omega arith) ∙ sym here
-    ]
+flat_more ps i lt low flat = grind (arith, common_steps, cases_eq, parent_set_same, parent_set_other)
 
 -- the parent's parent, as the code reads it
 abbrev pub up : List ℕ → ℕ → ℕ
@@ -98,13 +59,7 @@ up ps v = get_or ps (get_or ps v 0) 0
 
 pub up_is : (ps : List ℕ) (v : ℕ) → v < length ps → IsForest ps
     → (up ps v ≡ parent ps (parent ps v)) × (get_or ps v 0 ≡ parent ps v) × (parent ps v ≤ v) × (up ps v ≤ parent ps v)
-up_is ps v lt low =
-    let r = read ps v lt in
-    let a = low v in
-    let p_lt : parent ps v < length ps = omega arith in
-    let b = low (parent ps v) in
-    let e : up ps v ≡ parent ps (parent ps v) = ap (λ x. get_or ps x 0) r ∙ read ps (parent ps v) p_lt in
-    (e, r, a, omega arith)
+up_is ps v lt low = grind (arith, common_steps, read)
 
 pub halved_forest : (ps : List ℕ) (v : ℕ) → v < length ps → IsForest ps → IsForest (set ps v (up ps v))
 halved_forest ps v lt low = let u = up_is ps v lt low in forest_set ps v (up ps v) lt (omega arith) low
@@ -128,26 +83,15 @@ pub halved_sound : (f : Filter) (g : Graph) (ps : List ℕ) (v : ℕ) → v < le
 halved_sound f g ps v lt low sound = sound_set f g ps v (up ps v) lt (halved_connects f g ps v lt low sound) sound
 
 pub halved_flat : (ps : List ℕ) (i : ℕ) → i < length ps → IsForest ps → FlatBelow ps i → FlatBelow (set ps i (up ps i)) (i + 1)
-halved_flat ps i lt low flat = let u = up_is ps i lt low in
-    subst (λ x. FlatBelow (set ps i x) (i + 1)) (sym u.0) (flat_more ps i lt low flat)
+halved_flat ps i lt low flat = grind (arith, common_steps, up_is, flat_more)
 
 -- a root stays one
 pub halved_roots : (ps : List ℕ) (v w : ℕ) → v < length ps → parent ps w ≡ w → parent (set ps v (up ps v)) w ≡ w
-halved_roots ps v w lt root =
-    elim (cases_eq w v) [
-      | inl e ↦
-          let here : get_or ps v 0 ≡ v = read ps v lt ∙ ap (parent ps) (sym e) ∙ root ∙ e in
-          let there : up ps v ≡ v = ap (λ x. get_or ps x 0) here ∙ here in
-          ap (parent (set ps v (up ps v))) e ∙ parent_set_same ps v (up ps v) lt ∙ there ∙ sym e
-      | inr ne ↦ parent_set_other ps v (up ps v) w ne ∙ root
-    ]
+halved_roots ps v w lt root = grind (arith, common_steps, cases_eq, read, parent_set_same, parent_set_other)
 
 -- each vertex is its own parent
 pub fresh : (n v : ℕ) → parent (range_with_len 0 n) v ≡ v
-fresh n v = elim (cases_lt v n) [
-  | inl lt ↦ let e = get_or-range_with_len 0 n v v lt in omega arith
-  | inr le ↦ let long = length-range_with_len 0 n in get_or_past (range_with_len 0 n) v v (omega arith)
-]
+fresh n v = grind (arith, common_steps, cases_lt, get_or-range_with_len, length-range_with_len, get_or_past)
 
 pub fresh_forest : (n : ℕ) (ps : List ℕ) → ps ≡ range_with_len 0 n → IsForest ps
 fresh_forest n ps e = λ v. let f = fresh n v in let same = ap (λ xs. parent xs v) e in omega arith

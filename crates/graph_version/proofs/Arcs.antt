@@ -1,35 +1,25 @@
 -- Edges along arcs lead where the arcs do.
 use Rattle.std.proofs.Common.{◌≡◌, ℕ, zero, suc, ◌<◌, arith, refl, sym, ap, ◌∙◌, subst, List, [], ◌∷◌, ◌++◌, length, map}
-use Rattle.std.proofs.{Common.{append-nil, append_assoc, Some, true, false, Bool, cond, Option}, lemmas.Bool.and_parts}
-use Rattle.std.proofs.lemmas.{Bool.{eqb-true, Decides.{nat_tests, Decides-eqb}}, List.length-replicate}
-use Rattle.std.specs.{Prelude.filter, Prelude.nat_lt, Prelude.◌&&◌, Prelude.◌==◌, Prelude.◌↔◌, List.Contains, FinMap.find}
+use Rattle.std.proofs.{Common.{append-nil, Some, true, Bool, cond, Option}, lemmas.Bool.{and_parts, eqb-true, Decides.nat_tests}}
+use Rattle.std.{proofs.lemmas.{Bool.Decides.Decides-eqb, List.length-replicate}, specs.Prelude.{filter, nat_lt, ◌&&◌, ◌==◌, ◌↔◌}}
+use Rattle.std.{specs.{List.Contains, FinMap.find}, proofs.lemmas.Grind.common_steps}
 use Rattle.graph_types.specs.Graph.{Key, Stamp, key_cmp, key_of, stamp_of, entry_of}
 use Rattle.graph_types.{specs.Analyses.LeadsTo, proofs.Arcs.contains_map, proofs.Arcs.map_contains, proofs.Counts.contains_filter}
 use Rattle.graph_types.proofs.{Counts.filter_contains, Keys.get_is, Keys.find_listed, Keys.is_key_of, Keys.is_key_of_at}
 use Rattle.graph_version.specs.Listed.{edge_along, is_within, leaves, along, all_edges, put_targets}
 
 pick : (b : Bool) (s : Stamp) (o : Option Stamp) → o ≡ Some s → cond b (Some s) o ≡ Some s
-pick true s o e = refl
-pick false s o e = e
+pick b s o e = grind (arith, common_steps)
 
 present : (key : Key) (arcs : List (ℕ × ℕ)) (x : ℕ × ℕ) → Contains arcs x → key ≡ key_of (edge_along x)
     → find key_cmp key (map entry_of (map edge_along arcs)) ≡ Some (stamp_of (edge_along (0, 0)))
 present key [] x c same = let l = c.1 in absurd (omega arith)
-present key (y ∷ ys) x (zero, l, e) same =
-    ap (λ t. cond t (Some (stamp_of (edge_along (0, 0)))) (find key_cmp key (map entry_of (map edge_along ys))))
-    (is_key_of_at key (edge_along y) (same ∙ ap (λ arc. key_of (edge_along arc)) (sym e)))
+present key (y ∷ ys) x (zero, l, e) same = grind (arith, common_steps, is_key_of_at)
 present key (y ∷ ys) x (suc k, l, e) same = pick (is_key_of key (edge_along y)) _ _ (present key ys x (k, omega arith, e) same)
 
 module _ (count : ℕ) (arcs : List (ℕ × ℕ)) where
   pub arc_along : (a b : ℕ) → LeadsTo all_edges (along count arcs) a b → Contains (filter (is_within count) arcs) (a, b)
-  arc_along a b l =
-      let ws = filter (is_within count) arcs in
-      let key : Key = record { kind = l.0; source = a; target = b } in
-      let r = find_listed key (map edge_along ws) l.1 (sym (get_is key (map edge_along ws)) ∙ l.2) in
-      let m = map_contains edge_along ws r.0 r.1.0 in
-      let whole : ◌≡◌ {A = Key} (key_of (edge_along m.0)) key = ap key_of m.2 ∙ sym r.1.1 in
-      let ends : ◌≡◌ {A = ℕ × ℕ} m.0 (a, b) = λ i. ((whole i).source, (whole i).target) in
-      subst (Contains ws) ends m.1
+  arc_along a b l = grind (arith, common_steps, find_listed, get_is, map_contains)
 
   pub along_arc : (a b : ℕ) → Contains (filter (is_within count) arcs) (a, b) → LeadsTo all_edges (along count arcs) a b
   along_arc a b c =
@@ -70,10 +60,4 @@ pub put_is : (count source : ℕ) (arcs : List (ℕ × ℕ)) (targets : List ℕ
     → put_targets count source arcs targets ≡ targets ++ map (λ (arc : ℕ × ℕ). arc.1) (filter (leaves count source) arcs)
 put_is count source [] targets = sym (append-nil targets)
 put_is count source (arc ∷ arcs) targets =
-    let rest = filter (leaves count source) arcs in
-    let second : ℕ × ℕ → ℕ = λ arc. arc.1 in
-    elim (leaves count source arc) as (λ b. put_targets count source arcs (cond b (targets ++ arc.1 ∷ []) targets) ≡ targets
-    ++ map second (cond b (arc ∷ rest) rest)) [
-      | true ↦ put_is count source arcs (targets ++ arc.1 ∷ []) ∙ append_assoc targets (arc.1 ∷ []) (map second rest)
-      | false ↦ put_is count source arcs targets
-    ]
+    grind (arith, common_steps, put_is count source arcs (targets ++ arc.1 ∷ []), put_is count source arcs targets)

@@ -1,6 +1,6 @@
 -- How many blocks rows have: a version at most 2 ^ 38, since each of its blocks has an edge.
 use Rattle.std.proofs.Common.{◌≡◌, ℕ, suc, ◌≤◌, ◌^◌, false, List, [], ◌∷◌, length, Option, Some, None, arith, All, length-append}
-use Rattle.std.{proofs.lemmas.List.Elements.{All-head, All-tail, All-append}, specs.List.list_all}
+use Rattle.std.{proofs.lemmas.{List.Elements.{All-head, All-tail, All-append}, Grind.common_steps}, specs.List.list_all}
 use Rattle.edge_block.specs.Slots.{Slot, BlockView, is_free, edges_in}
 use Rattle.version_pages.specs.Rows.{row_of, blocks_of}
 use Rattle.graph_version.specs.{Versions.VersionView, Versions.IsVersion, Edges.edges_in_block, Edges.edges_in_blocks}
@@ -28,6 +28,4 @@ all_have [] each = λ k d h. absurd (omega arith)
 all_have (row ∷ rows) each = All-append HasEdges row (blocks_of rows) (each 0) (all_have rows (λ s. each (suc s)))
 
 pub few_blocks : (v : VersionView) → IsVersion v → length (blocks_of v.rows) ≤ 2 ^ 38
-few_blocks v is =
-    let many = as_many_edges (blocks_of v.rows) (all_have v.rows (λ s k d h. (is.rows.blocks s k d h).has_edges)) in
-    omega (arith, many, count_is_total v is, few_total v is)
+few_blocks v is = grind (arith, common_steps, as_many_edges, all_have, count_is_total, few_total)

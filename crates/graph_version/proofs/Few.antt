@@ -1,8 +1,8 @@
 -- A version has at most 2 ^ 38 edges: as many as there are kinds, sources and targets.
 use Rattle.std.proofs.Common.{◌≡◌, ℕ, ◌^◌, ◌<◌, ◌≤◌, true, cond, ◌&&◌, eqb, List, [], ◌∷◌, refl, length, get_or, sym, ap, ◌∙◌}
 use Rattle.std.proofs.{Common.{arith, All}, lemmas.{Bool.{and_parts, eqb-true}, List.Sums.{sum_by-cons, sum_by-le-sum_by}}}
-use Rattle.std.specs.{Prelude.count_by, Option.is_some, FinMap.get, FinMap.len}
-use Rattle.graph_types.{specs.{Graph.{Key, key_of}, declared.ids.Edge.Edge}, proofs.DegreeBounds.{crowd, one_where}}
+use Rattle.std.{specs.{Prelude.count_by, Option.is_some, FinMap.get}, proofs.lemmas.Grind.common_steps}
+use Rattle.graph_types.{specs.{Graph.{key_of, Key}, declared.ids.Edge.Edge}, proofs.DegreeBounds.{crowd, one_where}}
 use Rattle.graph_types.proofs.Keys.{HasKeysOnce, is_key_of, is_key_of_at, count_key, get_listed, len_once}
 use Rattle.version_pages.specs.Rows.{blocks_of}
 use Rattle.graph_version.specs.{Versions.{VersionView, content, IsVersion}, Edges.edges_in_blocks, Kept.edge_total}
@@ -10,9 +10,7 @@ use Rattle.graph_version.proofs.Shown.{rows_each_once}
 
 -- the rows of a version list as many edges as its content has
 pub count_is_total : (v : VersionView) → IsVersion v → length (edges_in_blocks (blocks_of v.rows)) ≡ edge_total v
-count_is_total v is =
-    let each = rows_each_once (content v) v.rows is.rows in
-    sym (len_once (edges_in_blocks (blocks_of v.rows)) each.once) ∙ ap len each.same
+count_is_total v is = grind (arith, common_steps, rows_each_once, len_once)
 
 ones : (es : List Edge) → count_by (λ (e : Edge). true) es ≡ length es
 ones [] = refl
@@ -20,14 +18,7 @@ ones (e ∷ es) = omega (arith, sum_by-cons (λ (x : Edge). 1) e es, ones es)
 
 has_parts : (k s t : ℕ) (e : Edge) → ((eqb e.kind.0 k && eqb e.source.0 s) && eqb e.target.0 t) ≡ true
     → is_key_of (record { kind = k; source = s; target = t }) e ≡ true
-has_parts k s t e passes =
-    let (left, target) = and_parts (eqb e.kind.0 k && eqb e.source.0 s) (eqb e.target.0 t) passes in
-    let (kind, source) = and_parts (eqb e.kind.0 k) (eqb e.source.0 s) left in
-    is_key_of_at _ e (λ i. record {
-      kind = sym (eqb-true e.kind.0 k kind) i;
-      source = sym (eqb-true e.source.0 s source) i;
-      target = sym (eqb-true e.target.0 t target) i;
-    })
+has_parts k s t e passes = grind (arith, common_steps, and_parts, is_key_of_at, eqb-true)
 
 at_key : (es : List Edge) → HasKeysOnce es → (k s t : ℕ)
     → count_by (λ (e : Edge). (eqb e.kind.0 k && eqb e.source.0 s) && eqb e.target.0 t) es ≤ 1

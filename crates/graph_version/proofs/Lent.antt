@@ -1,6 +1,6 @@
 -- What a filter that takes all lends of a block.
-use Rattle.std.proofs.Common.{◌≡◌, ◌-◌, ◌<◌, ◌^◌, Bool, true, List, [], ◌∷◌, map, refl, ap, arith, All, Option, None, Some}
-use Rattle.std.{proofs.lemmas.{Bool.le-leb, List.Elements.{All-head, All-tail}}, specs.Prelude.filter}
+use Rattle.std.proofs.Common.{◌≡◌, ◌-◌, ◌^◌, Bool, true, List, [], ◌∷◌, map, refl, ap, arith, All, Option, None, Some}
+use Rattle.std.{proofs.lemmas.{Bool.le-leb, List.Elements.{All-head, All-tail}, Grind.common_steps}, specs.Prelude.filter}
 use Rattle.graph_types.specs.{Graph.Key, Graph.Stamp, View.in_view, declared.ids.Filter.Filter}
 use Rattle.edge_block.specs.{Slots.{Slot, BlockView, IsBlock, IsSlot, IsStamp, edges_in, entry_in, entries_of}, Lending.lent_of}
 
@@ -11,12 +11,7 @@ pub record TakesAll (f : Filter) : Type 0 where
   pub to : f.hi ≡ 2 ^ 64 - 1
 
 passes : (f : Filter) (e : Key × Stamp) → TakesAll f → IsStamp e.1 → in_view f e ≡ true
-passes f e takes is =
-    let kind = takes.kind in
-    let time : e.1.recent < 2 ^ 63 = is.2 in
-    let low = le-leb f.lo e.1.recent (omega (arith, takes.from)) in
-    let high = le-leb e.1.recent f.hi (omega (arith, takes.to, time)) in
-    rw (kind, low, high) refl
+passes f e takes is = grind (arith, common_steps, le-leb)
 
 kept : {X : Type 0} (p : X → Bool) (x : X) (xs ys : List X) → p x ≡ true → filter p xs ≡ ys → filter p (x ∷ xs) ≡ x ∷ ys
 kept p x xs ys is rest = rw is (ap (λ l. x ∷ l) rest)

@@ -1,10 +1,9 @@
 -- A search of a row for an edge, block by block.
 use Rattle.std.proofs.Common.{◌≡◌, ℕ, zero, suc, ◌+◌, ◌<◌, true, List, [], ◌∷◌, length, get_or, map, take, Option, None, Some}
-use Rattle.std.proofs.Common.{refl, sym, ap, ◌∙◌, arith}
-use Rattle.std.specs.{Option.is_some, Option.option_or, declared.sync.Arc.Arc, declared.alloc.Global.Global, FinMap.get}
+use Rattle.std.{proofs.Common.{refl, sym, ap, ◌∙◌, arith}, specs.{Option.{is_some, option_or}, declared.sync.Arc.Arc}}
+use Rattle.std.{specs.{declared.alloc.Global.Global, FinMap.get}, proofs.lemmas.Grind.common_steps}
 use Rattle.graph_types.specs.Graph.{Stamp}
-use Rattle.edge_block.specs.{Slots.BlockView, Slots.first_some, Lending.LentEdge, declared.blocks.Block.Block}
-use Rattle.edge_block.specs.Rows.{shape_of, block_at, row_at}
+use Rattle.edge_block.specs.{Slots.first_some, Lending.LentEdge, declared.blocks.Block.Block, Rows.{shape_of, block_at, row_at}}
 use Rattle.version_pages.specs.{Rows.row_of, Sharing.block_value, Sharing.block_values}
 use Rattle.graph_version.specs.{Versions.VersionView, Versions.content, Versions.IsVersion, Edges.lent_to, Lending.lent_at}
 
@@ -17,10 +16,7 @@ module _ {A B : Type 0} (f : A → Option B) where
   pub first_after : (xs : List A) (i : ℕ) (d : A) → i < length xs → first_some f (take i xs) ≡ None
       → is_some (f (get_or xs i d)) ≡ true → first_some f xs ≡ f (get_or xs i d)
   first_after [] i d lt none is = absurd (omega arith)
-  first_after (x ∷ xs) zero d lt none is = taken (f x) (first_some f xs) is where
-    taken : (a b : Option B) → is_some a ≡ true → option_or a b ≡ a
-    taken None b is = cc
-    taken (Some y) b is = refl
+  first_after (x ∷ xs) zero d lt none is = grind (arith, common_steps)
   first_after (x ∷ xs) (suc i) d lt none is = left (f x) (first_some f (take i xs)) (first_some f xs) _ none
       (λ rest. first_after xs i d (omega arith) rest is) where
         left : (a b c e : Option B) → option_or a b ≡ None → (b ≡ None → c ≡ e) → option_or a c ≡ e
@@ -48,12 +44,10 @@ look_at place (b ∷ blocks) = ap (option_or (place_at place b)) (look_at place 
 
 lent_some : (kind target : ℕ) (stamp : Option Stamp) (edge : LentEdge) → Some edge ≡ lent_to kind target stamp
     → is_some stamp ≡ true
-lent_some kind target None edge same = cc
-lent_some kind target (Some s) edge same = refl
+lent_some kind target h2 edge same = grind (arith, common_steps)
 
 lent_none : (kind target : ℕ) (stamp : Option Stamp) → None ≡ lent_to kind target stamp → stamp ≡ None
-lent_none kind target None same = refl
-lent_none kind target (Some s) same = cc
+lent_none kind target h2 same = grind (arith, common_steps)
 
 -- a block that lends no edge there has none there
 pub none_there : (kind target : ℕ) (block : Arc Block Global) → None ≡ lent_to kind target (place_at (kind, target) block)
@@ -64,10 +58,7 @@ shown : (v : VersionView) (kind source target : ℕ) (blocks : List (Arc Block G
     → block_values blocks ≡ row_of v.rows source
     → get (content v).edges (record { kind = kind; source = source; target = target }) ≡ first_some (place_at (kind, target))
     blocks
-shown v kind source target blocks is same =
-    sym (is.rows.layout.shows (record { kind = kind; source = source; target = target }))
-    ∙ ap (λ (row : List BlockView). row_at (map shape_of row) (kind, target)) (sym same)
-    ∙ look_at (kind, target) blocks
+shown v kind source target blocks is same = grind (arith, common_steps, look_at)
 
 -- the first block that lends an edge there lends the content's
 pub found_edge : (v : VersionView) (kind source target : ℕ) (blocks : List (Arc Block Global)) (i : ℕ) (d : Arc Block Global)
@@ -82,5 +73,4 @@ found_edge v kind source target blocks i d edge is same lt none here =
 pub no_edge : (v : VersionView) (kind source target : ℕ) (blocks : List (Arc Block Global)) → IsVersion v
     → block_values blocks ≡ row_of v.rows source
     → first_some (place_at (kind, target)) blocks ≡ None → None ≡ lent_at v kind source target
-no_edge v kind source target blocks is same none =
-    ap (lent_to kind target) (sym (shown v kind source target blocks is same ∙ none))
+no_edge v kind source target blocks is same none = grind (arith, common_steps, shown)

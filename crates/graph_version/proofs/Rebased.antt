@@ -2,13 +2,13 @@
 use Rattle.std.proofs.Common.{◌≡◌, ◌≢◌, ℕ, zero, suc, ◌+◌, ◌-◌, ◌<◌, ◌≤◌, List, [], ◌∷◌, ◌++◌, map, length, take, drop, get_or}
 use Rattle.std.proofs.Common.{refl, sym, ap, ap₂, subst, ◌∙◌, arith, inl, inr, All, AllPairs, length-append, ℤ, true, rules, w64}
 use Rattle.std.proofs.{Common.FitsSigned, lemmas.List.{append-nil, take-append-drop, take_all, drop_all, length-map, map-append}}
-use Rattle.std.proofs.lemmas.{List.Elements.{All-head, All-tail, All-cons}, Bool.{cases_lt, Decides.eqb_tells}}
-use Rattle.std.specs.{List.list_all, declared.{sync.Arc.Arc, alloc.Global.Global}, FinMap.{len, get}, Option.is_some}
-use Rattle.graph_types.specs.{Graph.{key_of, stamp_of, IsContent, Graph, graph_of, map_of}, Limits.{name_limit, kind_limit}}
-use Rattle.graph_types.specs.{Limits.IsWeight, declared.{batches.NamedOp.NamedOp, contents.Content.Content, ids.Edge.Edge}}
-use Rattle.graph_types.proofs.Keys.{get_listed}
-use Rattle.edge_block.specs.{Slots.{IsStamp, Slot, BlockView, is_free, entry_in, entries_of, edges_in}, Lending.LentEdge}
-use Rattle.edge_block.specs.{Lending.lent_of, declared.blocks.Block.Block, Rows.shape_of, Batches.{IsLayoutOf, IsWithin}}
+use Rattle.std.proofs.lemmas.{List.{drop_more, get_or_past, Elements.{All-head, All-tail, All-cons}}, Bool.cases_lt}
+use Rattle.std.{proofs.lemmas.Bool.Decides.eqb_tells, specs.{declared.{sync.Arc.Arc, alloc.Global.Global}, FinMap.{len, get}}}
+use Rattle.std.{specs.Option.is_some, proofs.lemmas.Grind.common_steps}
+use Rattle.graph_types.specs.{Graph.{key_of, stamp_of, IsContent, Graph, graph_of}, Limits.{name_limit, kind_limit, IsWeight}}
+use Rattle.graph_types.{specs.declared.{batches.NamedOp.NamedOp, contents.Content.Content, ids.Edge.Edge}, proofs.Keys.get_listed}
+use Rattle.edge_block.specs.{Slots.{IsStamp, Slot, BlockView, entry_in, entries_of, edges_in}, Lending.{LentEdge, lent_of}}
+use Rattle.edge_block.specs.{declared.blocks.Block.Block, Rows.shape_of, Batches.{IsLayoutOf, IsWithin}}
 use Rattle.vertex_names.specs.Book.{Book}
 use Rattle.version_pages.specs.{Rows.{row_of, blocks_of, numbers_of, Replaces}, Sharing.{block_value, block_values}}
 use Rattle.graph_version.specs.{Versions.{VersionView, IsBlockOf, AreRowsOf, IsVersion, content, layout_of}, Edges.edge_from}
@@ -36,24 +36,11 @@ drop_front : {A : Type 0} (xs ys : List A) → drop (length xs) (xs ++ ys) ≡ y
 drop_front [] ys = refl
 drop_front (x ∷ xs) ys = drop_front xs ys
 
--- from a place on: what stands there, and the rest
-drop_at : {A : Type 0} (xs : List A) (k : ℕ) (d : A) → k < length xs → drop k xs ≡ get_or xs k d ∷ drop (k + 1) xs
-drop_at [] k d lt = absurd (omega arith)
-drop_at (x ∷ xs) zero d lt = refl
-drop_at (x ∷ xs) (suc k) d lt =
-    let further : suc (k + 1) ≡ suc k + 1 = omega arith in
-    drop_at xs k d (omega arith) ∙ ap (λ n. get_or xs k d ∷ drop n (x ∷ xs)) further
-
 at_drop : {A : Type 0} (xs : List A) (k : ℕ) (d : A) → get_or (drop k xs) 0 d ≡ get_or xs k d
 at_drop [] zero d = refl
 at_drop [] (suc k) d = refl
 at_drop (x ∷ xs) zero d = refl
 at_drop (x ∷ xs) (suc k) d = at_drop xs k d
-
-past : {A : Type 0} (xs : List A) (k : ℕ) (d : A) → length xs ≤ k → get_or xs k d ≡ d
-past [] k d le = refl
-past (x ∷ xs) zero d le = absurd (omega arith)
-past (x ∷ xs) (suc k) d le = past xs k d (omega arith)
 
 -- Rows like others
 
@@ -82,10 +69,7 @@ pub unnumbered_like : (rows : List (List BlockView)) (bs : List BlockView)
     → map unnumbered bs ≡ map unnumbered (blocks_of rows) → (s : ℕ)
     → map unnumbered (row_of (rows_like rows bs) s) ≡ map unnumbered (row_of rows s)
 unnumbered_like [] bs same s = refl
-unnumbered_like (row ∷ rows) bs same zero =
-    map_take unnumbered (length row) bs ∙ ap (take (length row)) (same ∙ map-append unnumbered row (blocks_of rows))
-    ∙ ap (λ n. take n (map unnumbered row ++ map unnumbered (blocks_of rows))) (sym (length-map row unnumbered))
-    ∙ take_front (map unnumbered row) (map unnumbered (blocks_of rows))
+unnumbered_like (row ∷ rows) bs same zero = grind (arith, common_steps, map_take, map-append, length-map, take_front)
 unnumbered_like (row ∷ rows) bs same (suc s) =
     unnumbered_like rows (drop (length row) bs)
     (map_drop unnumbered (length row) bs ∙ ap (drop (length row)) (same ∙ map-append unnumbered row (blocks_of rows))
@@ -110,12 +94,12 @@ pub row_more : (rows : List (List BlockView)) (blocks : List BlockView) (k : ℕ
 row_more rows blocks k copy next left row rest so_far lt row_is rest_is replaced =
     let n : ℕ = length (row_of rows k) in
     let all : List (List BlockView) = rows_like rows blocks in
-    let at : drop k rows ≡ row_of rows k ∷ drop (k + 1) rows = drop_at rows k [] lt in
+    let at : drop k rows ≡ row_of rows k ∷ drop (k + 1) rows = drop_more rows k [] lt in
     let cut : take n left ∷ rows_like (drop (k + 1) rows) (drop n left) ≡ drop k all =
     ap (λ rs. rows_like rs left) (sym at) ∙ so_far.rest in
     let long = length-rows_like rows blocks in
     let here : row ≡ row_of all k = row_is ∙ ap (λ rs. get_or rs 0 []) cut ∙ at_drop all k [] in
-    let behind : drop k all ≡ row_of all k ∷ drop (k + 1) all = drop_at all k [] (omega arith) in
+    let behind : drop k all ≡ row_of all k ∷ drop (k + 1) all = drop_more all k [] (omega arith) in
     let many : length left ≡ length (row_of rows k ++ blocks_of (drop (k + 1) rows)) =
     so_far.many ∙ ap (λ rs. length (blocks_of rs)) at in
     let both = length-append (row_of rows k) (blocks_of (drop (k + 1) rows)) in
@@ -136,12 +120,7 @@ row_more rows blocks k copy next left row rest so_far lt row_is rest_is replaced
 pub all_made : (rows : List (List BlockView)) (blocks : List BlockView) (k : ℕ) (copy : List (List BlockView))
     (left : List BlockView) → AreSoFar rows blocks k copy left → length rows ≤ k → (s : ℕ)
     → row_of copy s ≡ row_of (rows_like rows blocks) s
-all_made rows blocks k copy left so_far le s =
-    let long = length-rows_like rows blocks in
-    elim (cases_lt s k) [
-      | inl lt ↦ so_far.made s lt
-      | inr from ↦ so_far.none s from ∙ sym (past (rows_like rows blocks) s [] (omega arith))
-    ]
+all_made rows blocks k copy left so_far le s = grind (arith, common_steps, length-rows_like, cases_lt, get_or_past)
 
 -- The version
 
@@ -150,10 +129,7 @@ shapes_same [] = refl
 shapes_same (x ∷ xs) = ap (λ ys. shape_of x ∷ ys) (shapes_same xs)
 
 unnumbered_block : (source : ℕ) (x y : BlockView) → unnumbered x ≡ unnumbered y → IsBlockOf source y → IsBlockOf source x
-unnumbered_block source x y same is = record {
-  source_is = ap (λ b. b.source) same ∙ is.source_is;
-  has_edges = ap (λ b. list_all is_free b.slots) same ∙ is.has_edges;
-}
+unnumbered_block source x y same is = grind (arith, common_steps)
 
 blocks_same : (source : ℕ) (xs ys : List BlockView) → map unnumbered xs ≡ map unnumbered ys → All (IsBlockOf source) ys
     → All (IsBlockOf source) xs
@@ -171,8 +147,7 @@ pub record LookLike (v : VersionView) (blocks : List BlockView) (copy : List (Li
   pub looks : (s : ℕ) → row_of copy s ≡ row_of (rows_like v.rows blocks) s
 
 copies_long : (v : VersionView) (blocks : List BlockView) → AreCopies v.rows blocks → length blocks ≡ length (blocks_of v.rows)
-copies_long v blocks copies =
-    sym (length-map blocks unnumbered) ∙ ap length copies.same ∙ length-map (blocks_of v.rows) unnumbered
+copies_long v blocks copies = grind (arith, common_steps, length-map)
 
 pub look_blocks : (v : VersionView) (blocks : List BlockView) (copy : List (List BlockView)) → LookLike v blocks copy
     → blocks_of copy ≡ blocks
@@ -185,8 +160,7 @@ look_rows v blocks copy like s = ap (map unnumbered) (like.looks s) ∙ unnumber
 
 pub look_layout : (v : VersionView) (blocks : List BlockView) (copy : List (List BlockView)) → LookLike v blocks copy
     → (s : ℕ) → layout_of copy s ≡ layout_of v.rows s
-look_layout v blocks copy like s =
-    shapes_same (row_of copy s) ∙ ap (map shape_of) (look_rows v blocks copy like s) ∙ sym (shapes_same (row_of v.rows s))
+look_layout v blocks copy like s = grind (arith, common_steps, shapes_same, look_rows)
 
 look_rows_of : (v : VersionView) (blocks : List BlockView) (copy : List (List BlockView)) (g : Graph) → IsVersion v
     → LookLike v blocks copy → g ≡ content v → AreRowsOf g copy
@@ -226,11 +200,7 @@ rebased_kept names kinds old_names old_kinds v blocks batches copy g edges is n 
 
 pub rebased_is : (v : VersionView) (blocks : List BlockView) (batches : List (List NamedOp)) (copy : List (List BlockView))
     (g : Graph) → batches ≡ [] → LookLike v blocks copy → g ≡ content v → IsRebased v (version_of g batches copy)
-rebased_is v blocks batches copy g none like same = record {
-  opening = same;
-  batches = none;
-  rows = look_layout v blocks copy like;
-}
+rebased_is v blocks batches copy g none like same = grind (arith, common_steps, look_layout)
 
 -- Blocks copied one after another
 
@@ -253,14 +223,11 @@ pub record AreCopied (held old : List (Arc Block Global)) (k : ℕ) (new : List 
 -- once all are
 pub copied_numbers : (held old new : List (Arc Block Global)) (k : ℕ) → AreCopied held old k new
     → numbers_of (block_values new) ≡ numbers_of (block_values old)
-copied_numbers held old new k copied =
-    same_by_place (λ (b : BlockView). b.number) block_value new old copied.long (λ j d lt. copied.numbers j d)
+copied_numbers held old new k copied = grind (arith, common_steps, same_by_place)
 
 pub copied_same : (held old new : List (Arc Block Global)) (k : ℕ) → AreCopied held old k new → length held ≤ k
     → length held ≡ length old → map unnumbered (block_values new) ≡ map unnumbered (block_values held)
-copied_same held old new k copied all many =
-    let long = copied.long in
-    same_by_place unnumbered block_value new held (long ∙ sym many) (λ j d lt. copied.first j d (omega arith))
+copied_same held old new k copied all many = grind (arith, common_steps, same_by_place)
 
 numbers_mapped : (bs : List (Arc Block Global)) → numbers_of (block_values bs)
     ≡ map (λ (b : Arc Block Global). (block_value b).number) bs
@@ -271,10 +238,7 @@ pub all_copied : (rows : List (List BlockView)) (held old new : List (Arc Block 
     → map unnumbered (block_values new) ≡ map unnumbered (block_values held)
     → numbers_of (block_values new) ≡ numbers_of (block_values old) → block_values held ≡ blocks_of rows
     → AllPairs ◌≢◌ (map (λ (b : Arc Block Global). (block_value b).number) old) → AreCopies rows (block_values new)
-all_copied rows held old new same numbers held_are apart = record {
-  same = same ∙ ap (map unnumbered) held_are;
-  apart = subst (λ ns. AllPairs ◌≢◌ ns) (sym (numbers ∙ numbers_mapped old)) apart;
-}
+all_copied rows held old new same numbers held_are apart = grind (arith, common_steps, numbers_mapped)
 
 pub mapped_numbers : (old new : List (Arc Block Global)) → numbers_of (block_values new) ≡ numbers_of (block_values old)
     → numbers_of (block_values new) ≡ map (λ (b : Arc Block Global). (block_value b).number) old
@@ -283,25 +247,15 @@ mapped_numbers old new numbers = numbers ∙ numbers_mapped old
 -- a list written over, whole
 pub written : {A : Type 0} (old new : List A) (len : ℕ) → len ≡ length old → length new ≡ length old
     → take len (new ++ drop (length new) old) ≡ new
-written old new len is long =
-    ap (λ xs. take len (new ++ xs)) (drop_all (length new) old (omega arith)) ∙ ap (take len) (append-nil new)
-    ∙ take_all len new (omega arith)
+written old new len is long = grind (arith, common_steps, drop_all, append-nil, take_all)
 
 pub numbers_long : (a b : List (Arc Block Global)) → numbers_of (block_values a) ≡ numbers_of (block_values b) → length a ≡ length b
-numbers_long a b same =
-    sym (length-map a block_value) ∙ sym (length-map (block_values a) (λ (x : BlockView). x.number)) ∙ ap length same
-    ∙ length-map (block_values b) (λ (x : BlockView). x.number) ∙ length-map b block_value
+numbers_long a b same = grind (arith, common_steps, length-map)
 
 -- the content's lists
 pub same_content : (names kinds : Book) (edges : ℕ) (v : VersionView) (c : Content) → IsSummary names kinds edges v
     → c.names ≡ names.names → c.kinds ≡ kinds.names → c.edges ≡ edges_in_blocks (blocks_of v.rows) → graph_of c ≡ content v
-same_content names kinds edges v c is n k e =
-    let each = rows_each_once (content v) v.rows is.version.rows in
-    λ i. record {
-      names = (n ∙ ap (λ (b : Book). b.names) is.names_are) i;
-      kinds = (k ∙ ap (λ (b : Book). b.names) is.kinds_are) i;
-      edges = (ap map_of e ∙ each.same) i;
-    }
+same_content names kinds edges v c is n k e = grind (arith, common_steps, rows_each_once)
 
 -- they are a content
 pub listed_content : (names kinds : Book) (edges : ℕ) (v : VersionView) (c : Content) → IsSummary names kinds edges v

@@ -1,6 +1,6 @@
 -- How many edges rows have, and rows that look the same.
 use Rattle.std.proofs.Common.{◌≡◌, ◌≢◌, ◌==◌, ℕ, zero, suc, ◌+◌, ◌<◌, List, [], ◌∷◌, ◌++◌, length, get_or, take, refl, sym, ap}
-use Rattle.std.proofs.{Common.{◌∙◌, arith, length-append, inl, inr, if◌then◌else◌}, lemmas.Grind.flat_map-append}
+use Rattle.std.proofs.{Common.{◌∙◌, arith, length-append, inl, inr, if◌then◌else◌}, lemmas.Grind.{flat_map-append, common_steps}}
 use Rattle.std.{proofs.lemmas.{List.length-map, Bool.Decides.eqb_tells}, specs.declared.{sync.Arc.Arc, alloc.Global.Global}}
 use Rattle.edge_block.specs.{Slots.BlockView, Slots.entry_in, Slots.entries_of, Slots.edges_in, declared.blocks.Block.Block}
 use Rattle.version_pages.specs.{Rows.row_of, Rows.blocks_of, Sharing.block_value, Sharing.block_values}
@@ -35,12 +35,7 @@ pub count_more : (blocks : List (Arc Block Global)) (i : ℕ) (d : Arc Block Glo
     → count_in (block_values (take (i + 1) blocks)) ≡ count_in (block_values (take i blocks)) + length
     (edges_in (block_value (get_or blocks i d)).slots)
 count_more [] i d lt = absurd (omega arith)
-count_more (b ∷ blocks) zero d lt = omega (
-  arith,
-  count-append (block_value b ∷ []) [],
-  length-append (edges_in_block (block_value b)) [],
-  count_one (block_value b),
-)
+count_more (b ∷ blocks) zero d lt = grind (arith, common_steps, count-append, length-append, count_one)
 count_more (b ∷ blocks) (suc i) d lt =
     let further : suc (i + 1) ≡ suc i + 1 = omega arith in
     let rest = count_more blocks i d (omega arith) in

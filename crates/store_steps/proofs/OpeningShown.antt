@@ -26,11 +26,6 @@ none_born zero m = refl
 none_born (suc n) zero = refl
 none_born (suc n) (suc m) = none_born n m
 
-free_below : (n m : ℕ) → m < n → slice_get (replicate n Free) m ≡ Some Free
-free_below zero m h = absurd (omega arith)
-free_below (suc n) zero h = refl
-free_below (suc n) (suc m) h = free_below n m (omega arith)
-
 listed_below : (blocks : ℕ) (ns : List ℕ) (m : ℕ) → All (λ n. n < blocks) ns → is_listed m ns ≡ true → m < blocks
 listed_below blocks [] m within is = cc
 listed_below blocks (n ∷ ns) m within is =
@@ -48,7 +43,7 @@ born_listed blocks ns within m =
     ∙ (elim (is_listed m ns) as (λ t. is_listed m ns ≡ t → is_at is_used (if t then option_map (λ _. Used 0)
     (slice_get (replicate blocks Free) m) else slice_get (replicate blocks Free) m) ≡ t) [
       | true ↦ λ is. ap (λ p. is_at is_used (option_map (λ _. Used 0) p))
-          (free_below blocks m (listed_below blocks ns m within is))
+          (free_at blocks m (listed_below blocks ns m within is))
       | false ↦ λ is. none_born blocks m
     ] refl)
 

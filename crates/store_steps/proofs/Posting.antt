@@ -1,9 +1,9 @@
 -- An accepted batch is Take and Fill of each taken block and then one Post, all done.
 use Rattle.std.proofs.Common.{◌≡◌, ℕ, zero, suc, ◌+◌, ◌<◌, Bool, true, false, ◌&&◌, List, [], ◌∷◌, ◌++◌, length, get_or, refl}
 use Rattle.std.proofs.{Common.{sym, ap, subst, ◌∙◌, arith, length-append}, lemmas.{Grind.common_steps, List.map-append}}
-use Rattle.std.proofs.lemmas.{List.length-map, Option.slice_get_within, Bool.{and_from, or_right, lt-ltb, le-leb, or_left}}
-use Rattle.std.specs.{Prelude.slice_get, Prelude.if◌then◌else◌, Prelude.All, Prelude.Contains, Option.option_map}
-use Rattle.std.specs.{List.list_all, declared.option.Option.TheVariants.None, declared.option.Option.TheVariants.Some}
+use Rattle.std.proofs.lemmas.{List.{length-map, get_or_default}, Option.slice_get_within, Bool.{and_from, or_right, lt-ltb}}
+use Rattle.std.{proofs.lemmas.Bool.{le-leb, or_left}, specs.Prelude.{slice_get, if◌then◌else◌, All, Contains}}
+use Rattle.std.specs.{Option.option_map, List.list_all, declared.option.Option.TheVariants.{None, Some}}
 use Rattle.block_pool.{proofs.Grants.length-marked, specs.Pools.is_free_at, specs.Pools.is_used_at}
 use Rattle.graph_types.specs.{Limits.batch_limit, Step.is_within_limits, declared.batches.NamedOp.NamedOp}
 use Rattle.graph_types.proofs.More.{left_more}
@@ -144,9 +144,6 @@ contains_picked p (c ∷ cs) b (suc k) h at is =
 kept_placed : (a : Acceptance) (w : World) → ShowsWorld a.old w → (b : BlockView) → Contains (blocks_of a.old.last.rows) b
     → is_listed b.number a.taken ≡ false → IsPlaced a w b
 kept_placed a w shows b h is = grind (arith, common_steps, heap_else, fresh_taken, or_right, number_in)
-
-get_or_default : (bs : List BlockView) (k : ℕ) (d e : BlockView) → k < length bs → get_or bs k d ≡ get_or bs k e
-get_or_default bs k d e h = grind (arith, common_steps)
 
 placed : (a : Acceptance) (w : World) → ShowsWorld a.old w → All (IsPlaced a w) (new_blocks a)
 placed a w shows k d h =

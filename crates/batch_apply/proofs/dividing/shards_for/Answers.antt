@@ -21,23 +21,15 @@ loop-worker-preserved c rows are =
       rw (counted, pushed) (ap₂ (λ (a : List ℕ) (b : ℕ). a ++ b ∷ []) so_far.1 tells ∙ sym (map-append need shards (shard ∷ []))),
     )
 
-pub shard_for-requires-clause-workers : goal.shard_for-requires-clause-workers
-shard_for-requires-clause-workers c = c.requires.workers
-
-pub shard_for-requires-clause-few : goal.shard_for-requires-clause-few
-shard_for-requires-clause-few c = c.requires.few
-
-pub shard_for-requires-clause-placed : goal.shard_for-requires-clause-placed
-shard_for-requires-clause-placed c = c.requires.placed
-
-pub shard_for-requires-clause-valid : goal.shard_for-requires-clause-valid
-shard_for-requires-clause-valid c = c.requires.valid
-
-pub shard_for-requires-clause-few_old : goal.shard_for-requires-clause-few_old
-shard_for-requires-clause-few_old c = c.requires.few_old
-
-pub shard_for-requires-clause-old : goal.shard_for-requires-clause-old
-shard_for-requires-clause-old c = c.requires.old
+pub shard_for-requires : goal.shard_for-requires
+shard_for-requires c = record {
+  workers = c.requires.workers;
+  few = c.requires.few;
+  placed = c.requires.placed;
+  valid = c.requires.valid;
+  few_old = c.requires.few_old;
+  old = c.requires.old;
+}
 
 pub returns-clause-shards : goal.returns-clause-shards
 returns-clause-shards c rows are =

@@ -52,18 +52,14 @@ place_of-requires c = record { same = c.loop-row.invariant.same }
 pub loop-row-init : goal.loop-row-init
 loop-row-init c = record { same = c.requires.same; own = c.requires.none; blocks = refl }
 
-pub returns-clause-own : goal.returns-clause-own
-returns-clause-own c =
-    let whole : take c.loop-row.row-index c.args.old.now ≡ c.args.old.now = take_all c.loop-row.row-index c.args.old.now (omega
-    arith) in
-    c.loop-row.invariant.own ∙ ap (λ (rows : List OldRow). old_sources (own_rows c.args.workers c.args.worker rows)) whole
-
-pub returns-clause-blocks : goal.returns-clause-blocks
-returns-clause-blocks c =
-    let whole : take c.loop-row.row-index c.args.old.now ≡ c.args.old.now = take_all c.loop-row.row-index c.args.old.now (omega
-    arith) in
-    c.loop-row.invariant.blocks
-    ∙ ap (λ (rows : List OldRow). min (blocks_in (own_rows c.args.workers c.args.worker rows)) (2 ^ 64 - 1)) whole
-
-pub returns-clause-same : goal.returns-clause-same
-returns-clause-same c = c.loop-row.invariant.same
+pub returns : goal.returns
+returns c =
+    let old : List OldRow = c.args.old.now in
+    let whole : take c.loop-row.row-index old ≡ old = take_all c.loop-row.row-index old (omega arith) in
+    record {
+      same = c.loop-row.invariant.same;
+      own = c.loop-row.invariant.own
+          ∙ ap (λ (rows : List OldRow). old_sources (own_rows c.args.workers c.args.worker rows)) whole;
+      blocks = c.loop-row.invariant.blocks
+          ∙ ap (λ (rows : List OldRow). min (blocks_in (own_rows c.args.workers c.args.worker rows)) (2 ^ 64 - 1)) whole;
+    }

@@ -1,5 +1,5 @@
-use Rattle.std.proofs.Common.{◌≤◌, ◌+◌, ◌++◌, ◌∷◌, [], ℕ, List, true, false, cond, length, length-append, nat_eq, ap, sym}
-use Rattle.std.proofs.{Common.{◌∙◌, arith}, lemmas.{List.length-map, Option.{get_or_from_slice_get, slice_get_within}}}
+use Rattle.std.proofs.Common.{◌≤◌, ◌+◌, ◌++◌, ◌∷◌, [], ℕ, List, true, false, cond, length, length-append, nat_eq, ap, sym, ◌∙◌}
+use Rattle.std.proofs.{Common.arith, lemmas.{List.length-map, Option.{get_or_from_slice_get, slice_get_within}}}
 use Rattle.std.specs.{List.list_any, Option.option_map, declared.option.Option.{Option, TheVariants.Some}}
 use Rattle.graph_types.specs.{Graph.Key, declared.ids.VertexId.VertexId}
 use Rattle.batch_apply.specs.{Plan.key_of, Shards.{source_numbers, with_number, with_source}, declared.resolve.EdgeKey.EdgeKey}
@@ -8,24 +8,9 @@ use Rattle.batch_apply.proofs.shards.place_in.Goals as goal
 pub place_of-requires : goal.place_of-requires
 place_of-requires c = record { same = c.requires.same }
 
-pub returns-clause-sources : goal.returns-clause-sources
-returns-clause-sources c =
-    c.in_ok-row.ensures.sources
-    ∙ ap (λ (k : Option EdgeKey). with_source (option_map key_of k) (source_numbers c.args.sources.now.items)) (sym c.in-Some.is)
-
 -- the key from another source
 abbrev key_from : EdgeKey → ℕ → Option Key
 key_from k source = Some (record { kind = k.kind.0; source = source; target = k.target })
-
-pub returns-clause-key : goal.returns-clause-key
-returns-clause-key c =
-    let read = get_or_from_slice_get (source_numbers c.place_of.new.sources.items) c.in_ok-row.row c.in-Some.key.source 0
-    c.in_ok-row.ensures.place in
-    ap (key_from c.in-Some.key) read ∙ ap (option_map key_of) (sym c.in-Some.is)
-
-pub returns-clause-place : goal.returns-clause-place
-returns-clause-place c =
-    slice_get_within (source_numbers c.place_of.new.sources.items) c.in_ok-row.row c.in-Some.key.source c.in_ok-row.ensures.place
 
 one_more : (source : ℕ) (sources : List ℕ) → length (with_number source sources) ≤ length sources + 1
 one_more source sources =
@@ -34,10 +19,25 @@ one_more source sources =
       | false ↦ omega (arith, length-append sources (source ∷ []))
     ]
 
-pub returns-clause-few : goal.returns-clause-few
-returns-clause-few c =
+pub returns : goal.returns
+returns c =
     let new : List VertexId = c.place_of.new.sources.items in
     let old : List VertexId = c.args.sources.now.items in
-    let same = ap length c.in_ok-row.ensures.sources in
     let number : VertexId → ℕ = λ (s : VertexId). s.0 in
-    omega (arith, same, length-map new number, length-map old number, one_more c.in-Some.key.source (source_numbers old))
+    let found = c.in_ok-row.ensures in
+    record {
+      same = found.same;
+      sources = found.sources
+          ∙ ap (λ (k : Option EdgeKey). with_source (option_map key_of k) (source_numbers old)) (sym c.in-Some.is);
+      key = ap (key_from c.in-Some.key)
+          (get_or_from_slice_get (source_numbers new) c.in_ok-row.row c.in-Some.key.source 0 found.place)
+          ∙ ap (option_map key_of) (sym c.in-Some.is);
+      place = slice_get_within (source_numbers new) c.in_ok-row.row c.in-Some.key.source found.place;
+      few = omega (
+        arith,
+        ap length found.sources,
+        length-map new number,
+        length-map old number,
+        one_more c.in-Some.key.source (source_numbers old),
+      );
+    }

@@ -107,33 +107,27 @@ loop-k-preserved c =
           }
     ]
 
-pub returns-clause-shard : goal.returns-clause-shard
-returns-clause-shard c rows are =
+pub returns : goal.returns
+returns c =
     let rs : List Resolved = map shown c.args.ops.now in
-    let sources : List ℕ = source_numbers c.loop-k.sources.items in
-    let long : length rs ≡ length c.args.ops.now = length-map c.args.ops.now shown in
-    let whole : take c.loop-k.k rs ≡ rs = take_all c.loop-k.k rs (omega (arith, long, c.loop-k-test.false)) in
-    let done : AreShardSteps c.args.workers rs c.args.worker (is_listed c.args.old.now) sources c.loop-k.steps.items =
-    rw (sym whole) c.loop-k.invariant.steps in
-    same_old c.args.workers c.args.worker rs (is_listed c.args.old.now) (λ s. has_old_shape (latest rs) (layout_by rows s)) sources
-    c.loop-k.steps.items (listed_agrees (latest rs) rows c.args.old.now are) done
-
-pub returns-clause-blocks : goal.returns-clause-blocks
-returns-clause-blocks c rows are =
-    let rs : List Resolved = map shown c.args.ops.now in
+    let old : List OldRow = c.args.old.now in
     let sources : List ℕ = source_numbers c.loop-k.sources.items in
     let steps : List Step = c.loop-k.steps.items in
     let long : length rs ≡ length c.args.ops.now = length-map c.args.ops.now shown in
     let whole : take c.loop-k.k rs ≡ rs = take_all c.loop-k.k rs (omega (arith, long, c.loop-k-test.false)) in
-    let done : AreShardSteps c.args.workers rs c.args.worker (is_listed c.args.old.now) sources steps =
+    let done : AreShardSteps c.args.workers rs c.args.worker (is_listed old) sources steps =
     rw (sym whole) c.loop-k.invariant.steps in
-    let time : latest_step steps ≡ latest rs = same_latest c.args.workers c.args.worker rs (is_listed c.args.old.now) sources steps
-    done in
-    let old : sum_by (λ s. old_blocks (latest_step steps) (rows s)) sources
-    ≡ blocks_in (own_rows c.args.workers c.args.worker c.args.old.now) =
-    ap (λ t. sum_by (λ s. old_blocks t (rows s)) sources) time ∙ sym (sum_agrees (latest rs) rows c.args.old.now are sources)
-    ∙ c.loop-k.invariant.old_blocks in
-    let edges : ℕ = count_by (λ (s : Step). not (is_expiry s.act)) steps in
-    let both : blocks_in (own_rows c.args.workers c.args.worker c.args.old.now) + edges
-    ≡ edges + sum_by (λ s. old_blocks (latest_step steps) (rows s)) sources = omega arith in
-    c.loop-k.invariant.blocks ∙ ap (λ n. min n (2 ^ 64 - 1)) both
+    record {
+      shard = λ rows are. same_old c.args.workers c.args.worker rs (is_listed old) (λ s. has_old_shape (latest rs) (layout_by rows s))
+          sources steps (listed_agrees (latest rs) rows old are) done;
+      blocks = λ rows are.
+          let owed : sum_by (λ s. old_blocks (latest_step steps) (rows s)) sources
+          ≡ blocks_in (own_rows c.args.workers c.args.worker old) =
+          ap (λ t. sum_by (λ s. old_blocks t (rows s)) sources)
+          (same_latest c.args.workers c.args.worker rs (is_listed old) sources steps done)
+          ∙ sym (sum_agrees (latest rs) rows old are sources) ∙ c.loop-k.invariant.old_blocks in
+          let edges : ℕ = count_by (λ (s : Step). not (is_expiry s.act)) steps in
+          let both : blocks_in (own_rows c.args.workers c.args.worker old) + edges
+          ≡ edges + sum_by (λ s. old_blocks (latest_step steps) (rows s)) sources = omega arith in
+          c.loop-k.invariant.blocks ∙ ap (λ n. min n (2 ^ 64 - 1)) both;
+    }

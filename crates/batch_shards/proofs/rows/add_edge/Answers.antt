@@ -1,4 +1,5 @@
-use Rattle.std.proofs.{Common.{◌≡◌, true, get_or, length, arith, [], ◌∷◌, ◌++◌, sym, ap, ◌∙◌, subst, w64}, lemmas.Int.to_z-of_z}
+use Rattle.std.proofs.Common.{◌≡◌, true, get_or, length, arith, [], ◌∷◌, ◌++◌, sym, ap, ◌∙◌, subst, w64, rules}
+use Rattle.std.proofs.lemmas.Int.{to_z-of_z}
 use Rattle.edge_block.specs.{Slots.{Slot, has_room_for, edge_slot, put_slot}, Rows.touch}
 use Rattle.batch_shards.specs.{RowBlocks.{block_of, open_of, IsTouched}, declared.row_blocks.RowBlock.RowBlock, Notes.Gains}
 use Rattle.batch_shards.{specs.Room.IsFull, proofs.{Rooms.{full_set, full_before, full_all}, RowSteps.{at_room, placed}}}
@@ -13,44 +14,29 @@ put-requires-clause-room c =
     subst (λ (h : RowBlock). has_room_for c.args.target (block_of h.block).slots ≡ true) (sym c.index_mut.ensures.value)
     (room_is c.args.kind.0 c.args.target c.args.row.now.items c.in-Some.place c.index_mut.result.now found)
 
-pub returns-in_ok-put-in-Some-clause-row : goal.returns-in_ok-put-in-Some-clause-row
-returns-in_ok-put-in-Some-clause-row c =
+pub returns-in_ok-put-in-Some : goal.returns-in_ok-put-in-Some
+returns-in_ok-put-in-Some c =
+    let place = c.in-Some.place in
+    let row = c.args.row.now.items in
     let found = placed (at_room c.args.kind.0) c.as_slice.ensures.value c.in-Some.ensures in
+    let within = room_within c.args.kind.0 row place c.index_mut.result.now found in
     let e : Slot = edge_slot c.args.target c.args.marks.weight c.args.marks.first c.args.marks.recent in
     let h : RowBlock = c.index_mut.result.now in
     let t : IsTouched (put_slot e) h c.put.new.self =
     (rw (to_z-of_z w64 c.args.marks.weight (weight_fits c.args.marks.weight c.requires.marks.weight)) at
     c.in_ok-put-in-Some.ensures.touched) in
-    sym (put_into c.args.kind.0 e c.args.row.now.items c.in-Some.place c.put.new.self h c.requires.absent found
-    (t.shown ∙ ap (λ (x : RowBlock). touch (put_slot e) (open_of x)) c.index_mut.ensures.value))
-
-pub returns-in_ok-put-in-Some-clause-gains : goal.returns-in_ok-put-in-Some-clause-gains
-returns-in_ok-put-in-Some-clause-gains c =
-    let found = placed (at_room c.args.kind.0) c.as_slice.ensures.value c.in-Some.ensures in
-    let e : Slot = edge_slot c.args.target c.args.marks.weight c.args.marks.first c.args.marks.recent in
-    let h : RowBlock = c.index_mut.result.now in
-    let t : IsTouched (put_slot e) h c.put.new.self =
-    (rw (to_z-of_z w64 c.args.marks.weight (weight_fits c.args.marks.weight c.requires.marks.weight)) at
-    c.in_ok-put-in-Some.ensures.touched) in
-    gains_put c.args.target c.in-Some.place c.args.row.now.items c.put.new.self h
-    (room_within c.args.kind.0 c.args.row.now.items c.in-Some.place h found)
-    (λ other now. put_block_targets e (get_or c.args.row.now.items c.in-Some.place h) c.put.new.self other
-    (subst (λ (x : RowBlock). IsTouched (put_slot e) x c.put.new.self) c.index_mut.ensures.value t) now)
-
-pub returns-in_ok-put-in-Some-clause-full : goal.returns-in_ok-put-in-Some-clause-full
-returns-in_ok-put-in-Some-clause-full c =
-    let found = placed (at_room c.args.kind.0) c.as_slice.ensures.value c.in-Some.ensures in
-    full_set c.args.kind.0 c.in-Some.place c.in-Some.place c.args.row.now.items c.put.new.self
-    (full_before c.args.kind.0 c.in-Some.place c.args.row.now.items c.index_mut.result.now found)
-    (λ below within. absurd (omega arith))
-
-pub returns-in_ok-put-in-Some-clause-keeps : goal.returns-in_ok-put-in-Some-clause-keeps
-returns-in_ok-put-in-Some-clause-keeps c =
-    let found = placed (at_room c.args.kind.0) c.as_slice.ensures.value c.in-Some.ensures in
-    let h : RowBlock = c.index_mut.result.now in
-    keeps_set 1 c.args.row.now.items c.in-Some.place c.put.new.self h c.args.fresh.now c.put.new.fresh
-    (room_within c.args.kind.0 c.args.row.now.items c.in-Some.place h found) c.index_mut.ensures.value
-    c.in_ok-put-in-Some.ensures.keeps
+    record {
+      row = sym (put_into c.args.kind.0 e row place c.put.new.self h c.requires.absent found
+          (t.shown ∙ ap (λ (x : RowBlock). touch (put_slot e) (open_of x)) c.index_mut.ensures.value));
+      gains = gains_put c.args.target place row c.put.new.self h within
+          (λ other now. put_block_targets e (get_or row place h) c.put.new.self other
+          (subst (λ (x : RowBlock). IsTouched (put_slot e) x c.put.new.self) c.index_mut.ensures.value t) now);
+      full = full_set c.args.kind.0 place place row c.put.new.self (full_before c.args.kind.0 place row h found)
+          (λ below within. absurd (omega arith));
+      own = search rules;
+      keeps = keeps_set 1 row place c.put.new.self h c.args.fresh.now c.put.new.fresh within c.index_mut.ensures.value
+          c.in_ok-put-in-Some.ensures.keeps;
+    }
 
 pub returns-in_ok-push-in-None-clause-gains : goal.returns-in_ok-push-in-None-clause-gains
 returns-in_ok-push-in-None-clause-gains c =

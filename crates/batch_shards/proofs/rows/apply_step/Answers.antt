@@ -1,5 +1,5 @@
-use Rattle.std.proofs.Common.{◌≡◌, ◌<◌, List, true, sym, ap, ◌∙◌, subst, get_or, set, length}
-use Rattle.std.specs.{Option.is_some, declared.option.Option.TheVariants.None, declared.option.Option.TheVariants.Some}
+use Rattle.std.{proofs.Common.{◌≡◌, ◌<◌, List, true, sym, ap, ◌∙◌, subst, get_or, set, length, rules}, specs.Option.is_some}
+use Rattle.std.specs.declared.option.Option.TheVariants.{None, Some}
 use Rattle.graph_types.specs.{Step.stamp_after, Changes.option_stamp, Changes.stamp_in}
 use Rattle.edge_block.{specs.Slots.stamp_at, proofs.Entries.list_any-holds}
 use Rattle.batch_shards.specs.{RowBlocks.{block_of, opens, IsChanged}, declared.row_blocks.RowBlock.RowBlock, Notes.has_target}
@@ -19,50 +19,36 @@ add_edge-requires-clause-absent c =
     let none = placed (at_edge c.args.kind.0 c.args.target) c.as_slice.ensures.value c.in-None.ensures in
     absent_any c.args.kind.0 c.args.target c.args.row.now.items none
 
-pub returns-in_ok-outcome-in-Some-clause-outcome : goal.returns-in_ok-outcome-in-Some-clause-outcome
-returns-in_ok-outcome-in-Some-clause-outcome c =
-    let found = placed (at_edge c.args.kind.0 c.args.target) c.as_slice.ensures.value c.in-Some.ensures in
-    let h : RowBlock = c.index_mut.result.now in
-    rw (found_edge c.args.kind.0 c.args.target c.args.row.now.items c.in-Some.place h found, ← c.index_mut.ensures.value)
-    c.in_ok-outcome-in-Some.ensures.outcome
-
-pub returns-in_ok-outcome-in-Some-clause-row : goal.returns-in_ok-outcome-in-Some-clause-row
-returns-in_ok-outcome-in-Some-clause-row c =
-    let found = placed (at_edge c.args.kind.0 c.args.target) c.as_slice.ensures.value c.in-Some.ensures in
-    let h : RowBlock = c.index_mut.result.now in
-    sym (found_changed c.args.kind.0 c.args.target c.args.row.now.items c.in-Some.place h found c.args.change
-    c.change_here.new.here (subst (λ (x : RowBlock). IsChanged c.args.change c.args.target x c.change_here.new.here)
-    c.index_mut.ensures.value c.in_ok-outcome-in-Some.ensures.changed))
-
-pub returns-in_ok-outcome-in-Some-clause-hints : goal.returns-in_ok-outcome-in-Some-clause-hints
-returns-in_ok-outcome-in-Some-clause-hints c =
-    let found = placed (at_edge c.args.kind.0 c.args.target) c.as_slice.ensures.value c.in-Some.ensures in
+pub returns-in_ok-outcome-in-Some : goal.returns-in_ok-outcome-in-Some
+returns-in_ok-outcome-in-Some c =
+    let k = c.args.kind.0 in
+    let row = c.args.row.now.items in
+    let place = c.in-Some.place in
+    let found = placed (at_edge k c.args.target) c.as_slice.ensures.value c.in-Some.ensures in
     let h : RowBlock = c.index_mut.result.now in
     let y : RowBlock = c.change_here.new.here in
-    let here : RowBlock = get_or c.args.row.now.items c.in-Some.place h in
-    let within : c.in-Some.place < length c.args.row.now.items =
-    found_within c.args.kind.0 c.args.target c.args.row.now.items c.in-Some.place h found in
+    let here : RowBlock = get_or row place h in
+    let within : place < length row = found_within k c.args.target row place h found in
     let has : has_target c.args.target here ≡ true =
-    list_any-holds c.args.target (block_of here.block).slots
-    ∙ found_some c.args.kind.0 c.args.target c.args.row.now.items c.in-Some.place h found in
+    list_any-holds c.args.target (block_of here.block).slots ∙ found_some k c.args.target row place h found in
     let changed : IsChanged c.args.change c.args.target here y =
     subst (λ (x : RowBlock). IsChanged c.args.change c.args.target x y) c.index_mut.ensures.value
     c.in_ok-outcome-in-Some.ensures.changed in
     record {
-      noted = noted_kept c.args.hints.now.notes c.args.row.now.items c.in-Some.place y h within c.requires.hints.noted
-          (λ other now. changed_targets c.args.change c.args.target here y other changed has now);
-      room = subst (λ (row : List RowBlock). IsRoom c.after_change-hints.result row) c.as_slice-in-Some.ensures.value
-          (c.after_change-hints.ensures c.args.row.now.items y c.as_slice-in-Some.ensures.value c.requires.hints.room);
-      young = none_at_start (opens (set c.args.row.now.items c.in-Some.place y));
+      outcome = rw (found_edge k c.args.target row place h found, ← c.index_mut.ensures.value)
+          c.in_ok-outcome-in-Some.ensures.outcome;
+      row = sym (found_changed k c.args.target row place h found c.args.change y changed);
+      hints = record {
+        noted = noted_kept c.args.hints.now.notes row place y h within c.requires.hints.noted
+            (λ other now. changed_targets c.args.change c.args.target here y other changed has now);
+        room = subst (λ (row : List RowBlock). IsRoom c.after_change-hints.result row) c.as_slice-in-Some.ensures.value
+            (c.after_change-hints.ensures row y c.as_slice-in-Some.ensures.value c.requires.hints.room);
+        young = none_at_start (opens (set row place y));
+      };
+      own = search rules;
+      keeps = keeps_set 1 row place y h c.args.fresh.now c.change_here.new.fresh within c.index_mut.ensures.value
+          c.in_ok-outcome-in-Some.ensures.keeps;
     }
-
-pub returns-in_ok-outcome-in-Some-clause-keeps : goal.returns-in_ok-outcome-in-Some-clause-keeps
-returns-in_ok-outcome-in-Some-clause-keeps c =
-    let found = placed (at_edge c.args.kind.0 c.args.target) c.as_slice.ensures.value c.in-Some.ensures in
-    let h : RowBlock = c.index_mut.result.now in
-    keeps_set 1 c.args.row.now.items c.in-Some.place c.change_here.new.here h c.args.fresh.now c.change_here.new.fresh
-    (found_within c.args.kind.0 c.args.target c.args.row.now.items c.in-Some.place h found) c.index_mut.ensures.value
-    c.in_ok-outcome-in-Some.ensures.keeps
 
 pub returns-in_ok-note_edge-in-None-clause-outcome : goal.returns-in_ok-note_edge-in-None-clause-outcome
 returns-in_ok-note_edge-in-None-clause-outcome c =

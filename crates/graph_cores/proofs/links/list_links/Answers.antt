@@ -13,20 +13,12 @@ loop-vertex-preserved g c =
     links_more f gr c.loop-vertex.vertex c.loop-vertex.links.items c.link.new.links.items c.deref.result.now
     c.loop-vertex.invariant told c.in_ok-link.ensures
 
-pub returns-clause-exact : goal.returns-clause-exact
-returns-clause-exact g c =
-    let f = g.E.ViewEdges.filter c.args.edges.now in
-    let gr = g.E.ViewEdges.graph c.args.edges.now in
-    let is = c.vertex_count-vertex-end.ensures.is in
-    links_all f gr (length gr.names) c.loop-vertex.links.items c.vertex_count-vertex-end.ensures.within c.loop-vertex.vertex
-    (omega arith) c.loop-vertex.invariant
-
-pub returns-clause-within : goal.returns-clause-within
-returns-clause-within g c =
+pub returns : goal.returns
+returns g c =
     let f = g.E.ViewEdges.filter c.args.edges.now in
     let gr = g.E.ViewEdges.graph c.args.edges.now in
     let is = c.vertex_count-vertex-end.ensures.is in
     let within = c.vertex_count-vertex-end.ensures.within in
-    links_within f gr (length gr.names) c.loop-vertex.links.items within
-    (links_all f gr (length gr.names) c.loop-vertex.links.items within c.loop-vertex.vertex
-    (omega arith) c.loop-vertex.invariant)
+    let exact = links_all f gr (length gr.names) c.loop-vertex.links.items within c.loop-vertex.vertex
+    (omega arith) c.loop-vertex.invariant in
+    record { exact = exact; within = links_within f gr (length gr.names) c.loop-vertex.links.items within exact }

@@ -5,15 +5,14 @@ use Rattle.graph_levels.proofs.parts.find.Goals as goal
 
 pub bounds-parents-parents : goal.bounds-parents-parents
 bounds-parents-parents c =
-    let lt : c.loop-parents.vertex < length c.loop-parents.parents = omega arith in
-    let u = up_is c.loop-parents.parents c.loop-parents.vertex lt c.loop-parents.invariant.forest in
-    omega arith
+    omega (arith, up_is c.loop-parents.parents c.loop-parents.vertex (omega arith) c.loop-parents.invariant.forest)
 
 pub loop-parents-smaller : goal.loop-parents-smaller
-loop-parents-smaller c =
-    let lt : c.loop-parents.vertex < length c.loop-parents.parents = omega arith in
-    let u = up_is c.loop-parents.parents c.loop-parents.vertex lt c.loop-parents.invariant.forest in
-    omega (arith, c.loop-parents-test.true)
+loop-parents-smaller c = omega (
+  arith,
+  c.loop-parents-test.true,
+  up_is c.loop-parents.parents c.loop-parents.vertex (omega arith) c.loop-parents.invariant.forest,
+)
 
 pub loop-parents-preserved : goal.loop-parents-preserved
 loop-parents-preserved c =

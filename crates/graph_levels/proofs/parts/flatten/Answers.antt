@@ -4,9 +4,7 @@ use Rattle.graph_levels.proofs.parts.flatten.Goals as goal
 
 pub bounds-parents-parents : goal.bounds-parents-parents
 bounds-parents-parents c =
-    let lt : c.loop-vertex.vertex < length c.loop-vertex.parents = omega arith in
-    let u = up_is c.loop-vertex.parents c.loop-vertex.vertex lt c.loop-vertex.invariant.forest in
-    omega arith
+    omega (arith, up_is c.loop-vertex.parents c.loop-vertex.vertex (omega arith) c.loop-vertex.invariant.forest)
 
 pub loop-vertex-preserved : goal.loop-vertex-preserved
 loop-vertex-preserved c =

@@ -7,52 +7,38 @@ use Rattle.graph_levels.proofs.parts.join.Goals as goal
 around : (f : Filter) (g : Graph) (a b r s : ℕ) → Connects f g r a → Connects f g s b → Joins f g a b → Connects f g r s
 around f g a b r s p q j = then f g r a s p (then f g a b s (one_step f g a b j) (backward f g s b q))
 
-pub returns-then-first-second-clause-coarser : goal.returns-then-first-second-clause-coarser
-returns-then-first-second-clause-coarser c = λ label new.
+pub returns-then-first-second : goal.returns-then-first-second
+returns-then-first-second c =
     let ps = c.find-second.new.parents in
     let r = c.find-second.result in
     let lt : r < length ps = omega arith in
-    let mid = c.find-second.ensures.coarser label
-    (respects_linked ps r c.find-first.result label lt c.find-second.ensures.root new) in
-    let old = c.find-first.ensures.coarser label mid.0 in
-    (old.0, old.1 ∙ sym (linked_same ps r c.find-first.result label lt new) ∙ sym mid.1)
+    record {
+      forest = forest_set ps r c.find-first.result lt (omega arith) c.find-second.ensures.forest;
+      coarser = λ label new.
+          let mid = c.find-second.ensures.coarser label
+          (respects_linked ps r c.find-first.result label lt c.find-second.ensures.root new) in
+          let old = c.find-first.ensures.coarser label mid.0 in
+          (old.0, old.1 ∙ sym (linked_same ps r c.find-first.result label lt new) ∙ sym mid.1);
+      sound = λ f g sound j.
+          let one = c.find-first.ensures.sound f g sound in
+          let two = c.find-second.ensures.sound f g one.0 in
+          sound_set f g ps r c.find-first.result lt (around f g _ _ _ _ one.1 two.1 j) two.0;
+    }
 
-pub returns-then-first-second-clause-sound : goal.returns-then-first-second-clause-sound
-returns-then-first-second-clause-sound c = λ f g sound j.
-    let ps = c.find-second.new.parents in
-    let r = c.find-second.result in
-    let lt : r < length ps = omega arith in
-    let one = c.find-first.ensures.sound f g sound in
-    let two = c.find-second.ensures.sound f g one.0 in
-    sound_set f g ps r c.find-first.result lt (around f g _ _ _ _ one.1 two.1 j) two.0
-
-pub returns-else-first-second-clause-coarser : goal.returns-else-first-second-clause-coarser
-returns-else-first-second-clause-coarser c = λ label new.
-    let ps = c.find-second.new.parents in
-    let r = c.find-first.result in
-    let lt : r < length ps = omega arith in
-    let root = c.find-second.ensures.roots r c.find-first.ensures.root in
-    let mid = c.find-second.ensures.coarser label (respects_linked ps r c.find-second.result label lt root new) in
-    let old = c.find-first.ensures.coarser label mid.0 in
-    (old.0, old.1 ∙ linked_same ps r c.find-second.result label lt new ∙ sym mid.1)
-
-pub returns-else-first-second-clause-sound : goal.returns-else-first-second-clause-sound
-returns-else-first-second-clause-sound c = λ f g sound j.
+pub returns-else-first-second : goal.returns-else-first-second
+returns-else-first-second c =
     let ps = c.find-second.new.parents in
     let r = c.find-first.result in
     let lt : r < length ps = omega arith in
-    let one = c.find-first.ensures.sound f g sound in
-    let two = c.find-second.ensures.sound f g one.0 in
-    sound_set f g ps r c.find-second.result lt (backward f g _ _ (around f g _ _ _ _ one.1 two.1 j)) two.0
-
-pub returns-then-first-second-clause-forest : goal.returns-then-first-second-clause-forest
-returns-then-first-second-clause-forest c =
-    let ps = c.find-second.new.parents in
-    let lt : c.find-second.result < length ps = omega arith in
-    forest_set ps c.find-second.result c.find-first.result lt (omega arith) c.find-second.ensures.forest
-
-pub returns-else-first-second-clause-forest : goal.returns-else-first-second-clause-forest
-returns-else-first-second-clause-forest c =
-    let ps = c.find-second.new.parents in
-    let lt : c.find-first.result < length ps = omega arith in
-    forest_set ps c.find-first.result c.find-second.result lt (omega arith) c.find-second.ensures.forest
+    record {
+      forest = forest_set ps r c.find-second.result lt (omega arith) c.find-second.ensures.forest;
+      coarser = λ label new.
+          let root = c.find-second.ensures.roots r c.find-first.ensures.root in
+          let mid = c.find-second.ensures.coarser label (respects_linked ps r c.find-second.result label lt root new) in
+          let old = c.find-first.ensures.coarser label mid.0 in
+          (old.0, old.1 ∙ linked_same ps r c.find-second.result label lt new ∙ sym mid.1);
+      sound = λ f g sound j.
+          let one = c.find-first.ensures.sound f g sound in
+          let two = c.find-second.ensures.sound f g one.0 in
+          sound_set f g ps r c.find-second.result lt (backward f g _ _ (around f g _ _ _ _ one.1 two.1 j)) two.0;
+    }

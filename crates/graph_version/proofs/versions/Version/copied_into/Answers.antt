@@ -5,8 +5,8 @@ use Rattle.graph_version.specs.{Versions.VersionView, Rebased.AreCopies, Rebased
 use Rattle.graph_version.proofs.Rebased.{written, numbers_long, mapped_numbers, all_copied}
 use Rattle.graph_version.proofs.versions.Version.copied_into.Goals as goal
 
-pub returns-clause-copies : goal.returns-clause-copies
-returns-clause-copies c =
+pub returns : goal.returns
+returns c =
     let old : List (Arc Block Global) = c.args.blocks.items in
     let new : List (Arc Block Global) = c.copy_each.new.blocks in
     let numbers : numbers_of (block_values new) ≡ numbers_of (block_values old) = c.in_ok-copy_each.ensures.numbers
@@ -17,16 +17,9 @@ returns-clause-copies c =
     let held : block_values c.in_ok-held.held.items ≡ blocks_of c.args.self.now.rows =
     c.in_ok-held.ensures ∙ ap (λ (v : VersionView). blocks_of v.rows) c.self.view_is in
     let ok = c.args.blocks.ok in
-    subst (λ (bs : List (Arc Block Global)). AreCopies c.args.self.now.rows (block_values bs))
-    (sym (written old new c.args.blocks.len (omega (arith, ok.0)) (numbers_long new old numbers)))
-    (all_copied c.args.self.now.rows c.in_ok-held.held.items old new same numbers held c.requires.apart)
-
-pub returns-clause-numbers : goal.returns-clause-numbers
-returns-clause-numbers c =
-    let old : List (Arc Block Global) = c.args.blocks.items in
-    let new : List (Arc Block Global) = c.copy_each.new.blocks in
-    let numbers : numbers_of (block_values new) ≡ numbers_of (block_values old) = c.in_ok-copy_each.ensures.numbers
-    ∙ ap (λ (bs : List (Arc Block Global)). numbers_of (block_values bs)) c.as_mut_slice.ensures.value in
-    let ok = c.args.blocks.ok in
-    ap (λ (bs : List (Arc Block Global)). numbers_of (block_values bs))
-    (written old new c.args.blocks.len (omega (arith, ok.0)) (numbers_long new old numbers)) ∙ mapped_numbers old new numbers
+    let is = written old new c.args.blocks.len (omega (arith, ok.0)) (numbers_long new old numbers) in
+    record {
+      copies = subst (λ (bs : List (Arc Block Global)). AreCopies c.args.self.now.rows (block_values bs)) (sym is)
+          (all_copied c.args.self.now.rows c.in_ok-held.held.items old new same numbers held c.requires.apart);
+      numbers = ap (λ (bs : List (Arc Block Global)). numbers_of (block_values bs)) is ∙ mapped_numbers old new numbers;
+    }

@@ -18,22 +18,17 @@ invariant_of-result c =
     (subst (IsSummary c.self.inside.names c.self.inside.kinds c.self.inside.edges) c.self.view_is c.self.invariant)
     c.in_ok-share.ensures c.in_ok-share-2.ensures c.new-2.ensures like same
 
-pub returns-clause-rebased : goal.returns-clause-rebased
-returns-clause-rebased c =
-    let like : LookLike c.args.self.now (block_values c.args.blocks.items) c.in_ok-rows_over.field-0 = record {
+pub returns : goal.returns
+returns c =
+    let blocks = block_values c.args.blocks.items in
+    let like : LookLike c.args.self.now blocks c.in_ok-rows_over.field-0 = record {
       copies = c.requires;
       looks = λ s. c.in_ok-rows_over.ensures s
           ∙ (λ i. row_of (rows_like (c.self.view_is i).rows (block_values (c.as_slice.ensures.value i))) s);
     } in
     let same : graph_of (arc_value {X = ListedContent} c.in_ok-new.field-0).content ≡ content c.args.self.now =
     ap (λ (listed : ListedContent). graph_of listed.content) c.in_ok-new.ensures.ok ∙ c.in_ok-contents.ensures in
-    rebased_is c.args.self.now (block_values c.args.blocks.items) _ _ _ c.new-2.ensures like same
-
-pub returns-clause-blocks : goal.returns-clause-blocks
-returns-clause-blocks c =
-    let like : LookLike c.args.self.now (block_values c.args.blocks.items) c.in_ok-rows_over.field-0 = record {
-      copies = c.requires;
-      looks = λ s. c.in_ok-rows_over.ensures s
-          ∙ (λ i. row_of (rows_like (c.self.view_is i).rows (block_values (c.as_slice.ensures.value i))) s);
-    } in
-    look_blocks c.args.self.now (block_values c.args.blocks.items) c.in_ok-rows_over.field-0 like
+    record {
+      rebased = rebased_is c.args.self.now blocks _ _ _ c.new-2.ensures like same;
+      blocks = look_blocks c.args.self.now blocks c.in_ok-rows_over.field-0 like;
+    }
