@@ -4,7 +4,7 @@ use Rattle.std.proofs.{Common.get_or, Common.take, lemmas.Bool.cases_eq, lemmas.
 use Rattle.std.proofs.lemmas.List.Elements.{Contains-push, Contains-push_cases, Contains-append_left, Contains-get_or}
 use Rattle.std.specs.{Prelude.◌↔◌, List.Contains}
 use Rattle.graph_types.specs.{Graph.Graph, Analyses.LeadsTo, Arcs.AreWithin, declared.ids.Filter.Filter}
-use Rattle.graph_cores.specs.Links.{AreLinks, IsLinked}
+use Rattle.graph_cores.specs.Peel.{AreLinks, IsLinked}
 
 -- one more pair
 added : (xs : List (ℕ × ℕ)) (a b v w : ℕ) → Contains (xs ++ (a, b) ∷ []) (v, w) ↔ (Contains xs (v, w) ⊎ ((v ≡ a) × (w ≡ b)))

@@ -1,4 +1,3 @@
-pub mod Links
 pub mod Peel
 pub mod Rows
 pub mod Tallies

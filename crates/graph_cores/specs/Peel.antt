@@ -1,7 +1,15 @@
--- Peeling: vertices are taken out, those with fewest neighbors first.
+-- Links, which join different vertices both ways, and peeling: vertices are taken out, those with fewest neighbors first.
 use Rattle.std.specs.Prelude.{◌≡◌, ℕ, ◌+◌, ◌-◌, ◌<◌, ◌≤◌, ◌==◌, List, [], ◌∷◌, ◌++◌, slice_index_or, slice_set, Bool, false, cond}
-use Rattle.std.specs.{Prelude.{IsTrue, All, count_by, ◌&&◌, nat_le, nat_lt}, List.Contains}
-use Rattle.graph_types.specs.{Graph.Graph, Analyses.{IsDense, IsCoreNumber}, Arcs.at, declared.ids.Filter.Filter}
+use Rattle.std.specs.{Prelude.{◌≢◌, ◌⊎◌, ◌↔◌, IsTrue, All, count_by, ◌&&◌, nat_le, nat_lt}, List.Contains}
+use Rattle.graph_types.specs.{Graph.Graph, Analyses.{IsDense, IsCoreNumber, Joins}, Arcs.at, declared.ids.Filter.Filter}
+
+-- each two different vertices that an edge of the view joins, both ways, as often as may be
+abbrev pub AreLinks : Filter → Graph → List (ℕ × ℕ) → Type 0
+AreLinks f g links = (v w : ℕ) → Contains links (v, w) ↔ ((w ≢ v) × Joins f g v w)
+
+-- v and w are the source and another of the targets, in either order
+abbrev pub IsLinked : ℕ → List ℕ → ℕ → ℕ → Type 0
+IsLinked source targets v w = (w ≢ v) × (((v ≡ source) × Contains targets w) ⊎ ((w ≡ source) × Contains targets v))
 
 -- whether v is left
 abbrev pub is_alive : List Bool → ℕ → Bool

@@ -3,7 +3,7 @@
 ghost use Rattle.std.specs.Prelude.{◌≡◌, ◌⊎◌, ◌↔◌, ℕ, length, IfOk, OnOk};
 ghost use Rattle.std.specs.List.{Contains};
 ghost use Rattle.graph_types.specs.Arcs.{AreWithin};
-ghost use Rattle.graph_cores.specs.Links.{AreLinks, IsLinked};
+ghost use Rattle.graph_cores.specs.Peel.{AreLinks, IsLinked};
 
 use graph_version::ViewEdges;
 use std::alloc::{AllocError, Global};

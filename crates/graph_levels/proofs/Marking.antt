@@ -5,7 +5,7 @@ use Rattle.std.proofs.lemmas.{Nat.Bits.{bit_at_set_same, bit_at_set_other, bit_a
 use Rattle.std.{proofs.lemmas.List.{get_or-replicate, get_or_past, length-replicate}, specs.{Prelude.replicate, Int.w64}}
 use Rattle.std.{specs.Int.{bit_at, RustNames.bit_or}, proofs.lemmas.Grind.common_steps}
 use Rattle.graph_types.specs.declared.ids.VertexId.{VertexId}
-use Rattle.graph_levels.{specs.Marks.{AreMarks, IsMarked}, proofs.Tables.stands_push}
+use Rattle.graph_levels.{specs.Reached.{AreMarks, IsMarked}, proofs.Tables.stands_push}
 
 -- the word with a bit more
 abbrev pub with_bit : ℕ → ℕ → ℕ

@@ -1,7 +1,12 @@
--- Rows of the vertices that were reached, each with its level.
+-- Rows of the vertices that were reached, each with its level, and marks of vertices.
 use Rattle.std.specs.Prelude.{◌≡◌, ℕ, ◌+◌, ◌<◌, nat_eq, List, [], ◌∷◌, ◌++◌, All, Bool, cond, Option, Some, None, fold, map}
 use Rattle.std.specs.{Prelude.{replicate, slice_set}, List.{IsDistinct, list_any}}
+use Rattle.std.specs.{Prelude.{◌↔◌, ◌/◌, ◌%◌, slice_index_or, IsTrue}, Int.bit_at}
 use Rattle.graph_types.specs.{Graph.Graph, Analyses.AreLevels, declared.ids.{Filter.Filter, VertexId.VertexId}}
+use Rattle.graph_levels.specs.declared.found.Levels.{Levels, TheVariants.{Each, Reached}}
+
+abbrev pub numbers_of : List VertexId → List ℕ
+numbers_of vertices = map (λ vertex. vertex.0) vertices
 
 abbrev pub vertices_of : List (VertexId × ℕ) → List ℕ
 vertices_of rows = map (λ row. row.0.0) rows
@@ -33,3 +38,16 @@ rows_from v (Some level ∷ levels) = (record { 0 = v }, level) ∷ rows_from (v
 -- the vertices that a walk reaches from the source, with their levels, in number order
 abbrev pub AreReached : Filter → Graph → ℕ → List (VertexId × ℕ) → Type 0
 AreReached f g source rows = (levels : List (Option ℕ)) × AreLevels f g source levels × (rows ≡ rows_from 0 levels)
+
+-- the level of each vertex, or those of the vertices that are reached
+abbrev pub TellLevels : Filter → Graph → ℕ → Levels → Type 0
+TellLevels f g source (Each levels) = AreLevels f g source levels
+TellLevels f g source (Reached rows) = AreReached f g source rows
+
+-- marks of vertices, one bit each, 64 in a word
+abbrev pub IsMarked : List ℕ → ℕ → Type 0
+IsMarked marks v = bit_at (slice_index_or marks (v / 64) 0) (v % 64) ≡ 1
+
+-- the vertices that stand in these rows are marked, and no other
+abbrev pub AreMarks : List ℕ → List (VertexId × ℕ) → Type 0
+AreMarks marks rows = (v : ℕ) → (IsMarked marks v ↔ IsTrue (stands_in v rows))

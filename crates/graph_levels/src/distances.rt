@@ -2,7 +2,7 @@
 
 ghost use Rattle.std.specs.Prelude.{◌≡◌, ◌<◌, ◌≤◌, ◌+◌, ◌*◌, ◌/◌, ℕ, [], length, drop, replicate, All, IfOk, OnOk};
 ghost use Rattle.graph_types.specs.Analyses.{AreLevels, LeadsTo};
-ghost use Rattle.graph_levels.specs.Marks.{AreMarks};
+ghost use Rattle.graph_levels.specs.Reached.{AreMarks};
 ghost use Rattle.graph_levels.specs.Reached.{AreRows, met, table_of, vertices_of};
 ghost use Rattle.graph_levels.specs.Search.{IsSearch};
 

@@ -2,7 +2,7 @@
 
 ghost use Rattle.std.specs.Prelude.{◌≡◌, ◌<◌, length, All, IfOk};
 ghost use Rattle.graph_types.specs.Analyses.{AreLevels};
-ghost use Rattle.graph_levels.specs.Levels.{TellLevels};
+ghost use Rattle.graph_levels.specs.Reached.{TellLevels};
 ghost use Rattle.graph_levels.specs.Reached.{table_of, vertices_of};
 
 use crate::distances::search;

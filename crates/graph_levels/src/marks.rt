@@ -1,7 +1,7 @@
 //! Marks of vertices, one bit each.
 
 ghost use Rattle.std.specs.Prelude.{◌≡◌, ◌≢◌, ◌↔◌, ◌<◌, ◌/◌, ℕ, IsTrue, length};
-ghost use Rattle.graph_levels.specs.Marks.{IsMarked};
+ghost use Rattle.graph_levels.specs.Reached.{IsMarked};
 
 /// How many vertices a word marks.
 pub(crate) const WORD: usize = 64;

@@ -3,8 +3,8 @@
 ghost use Rattle.std.specs.Prelude.{◌≡◌, ◌<◌, ◌≤◌, ◌↔◌, length, IfOk, IfErr, OnOk};
 ghost use Rattle.graph_types.specs.Analyses.{AreLevels, AreLabels};
 ghost use Rattle.graph_version.specs.Versions.{content};
-ghost use Rattle.graph_levels.specs.Levels.{TellLevels};
-ghost use Rattle.graph_levels.specs.Vertices.{numbers_of};
+ghost use Rattle.graph_levels.specs.Reached.{TellLevels};
+ghost use Rattle.graph_levels.specs.Reached.{numbers_of};
 ghost use Rattle.graph_levels.specs.declared.versions.LevelError.TheVariants.{OutOfMemory};
 
 use crate::found::{Levels, levels_over, reached_over};

@@ -1,4 +1,3 @@
 pub mod Refusals
 pub mod Drafts
-pub mod Replies
 pub mod Links

@@ -1,7 +1,7 @@
--- When a batch is refused.
-use Rattle.std.specs.Prelude.{◌≡◌, ◌≢◌, ◌⊎◌, ◌<◌, ℕ, List, length}
+-- When a batch is refused, and which answers take memory.
+use Rattle.std.specs.Prelude.{◌≡◌, ◌≢◌, ◌⊎◌, ◌<◌, ℕ, List, length, Bool, true, false}
 use Rattle.graph_types.specs.{Limits.{name_limit, kind_limit}, Graph.Graph, Step.{MeetsNameLimit, MeetsKindLimit}}
-use Rattle.graph_types.specs.declared.batches.NamedOp.{NamedOp}
+use Rattle.graph_types.specs.declared.{batches.NamedOp.NamedOp, requests.Request.{Request, TheVariants.OneEdge}}
 use Rattle.graph_model.specs.declared.apply.PlainError.{PlainError, TheVariants.{NamesFull, KindsFull, OutOfMemory}}
 
 -- for the names first, then for the kinds; want of memory may come at any time
@@ -27,3 +27,7 @@ IsNamesRefusal error names = (error ≡ OutOfMemory) ⊎ ((error ≡ NamesFull) 
 
 abbrev pub IsKindsRefusal : PlainError → List (List ℕ) → Type 0
 IsKindsRefusal error kinds = (error ≡ OutOfMemory) ⊎ ((error ≡ KindsFull) × (kind_limit < length kinds))
+
+abbrev pub takes_memory : Request → Bool
+takes_memory (OneEdge kind source target) = false
+takes_memory _ = true

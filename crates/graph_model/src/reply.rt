@@ -9,7 +9,7 @@ ghost use Rattle.graph_types.specs.Limits.{IsWeight, kind_limit};
 ghost use Rattle.graph_types.specs.Step.{number_of};
 ghost use Rattle.graph_types.specs.Changes.{stamp_in};
 ghost use Rattle.graph_model.specs.Drafts.{shown_key};
-ghost use Rattle.graph_model.specs.Replies.{takes_memory};
+ghost use Rattle.graph_model.specs.Refusals.{takes_memory};
 ghost use Rattle.std.specs.FinMap.{get};
 ghost use Rattle.std.specs.Option.{option_map};
 

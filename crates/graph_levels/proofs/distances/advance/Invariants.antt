@@ -1,5 +1,5 @@
 use Rattle.std.proofs.Common.{◌≡◌, ℕ, ◌*◌, ◌≤◌, ◌++◌, [], length, drop}
-use Rattle.graph_levels.specs.{Marks.AreMarks, Reached.AreRows, Reached.table_of, Reached.vertices_of, Search.IsSearch}
+use Rattle.graph_levels.specs.{Reached.AreMarks, Reached.AreRows, Reached.table_of, Reached.vertices_of, Search.IsSearch}
 use Rattle.graph_levels.proofs.distances.advance.Given as goal
 
 abbrev pub invariant-loop-place : goal.invariant-loop-place

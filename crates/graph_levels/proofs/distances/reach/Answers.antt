@@ -1,6 +1,6 @@
 use Rattle.std.proofs.Common.{◌≡◌, ◌≤◌, ◌+◌, ◌/◌, ◌∙◌, [], ℕ, arith, length, drop, refl, ap, subst}
 use Rattle.std.{proofs.lemmas.List.length-replicate, specs.Prelude.replicate}
-use Rattle.graph_levels.specs.{Search.IsSearch, Marks.IsMarked, Reached.table_of, Reached.vertices_of}
+use Rattle.graph_levels.specs.{Search.IsSearch, Reached.IsMarked, Reached.table_of, Reached.vertices_of}
 use Rattle.graph_levels.proofs.{Frontiers.begin, Frontiers.deeper, Frontiers.found, Marking.first_marked}
 use Rattle.graph_levels.proofs.Tables.{few_rows, first_rows, length-table, none_left}
 use Rattle.graph_levels.proofs.distances.reach.Goals as goal

@@ -1,5 +1,5 @@
 use Rattle.std.proofs.Common.{◌≡◌, drop, length}
-use Rattle.graph_levels.specs.{Marks.AreMarks, Reached.met}
+use Rattle.graph_levels.specs.{Reached.AreMarks, Reached.met}
 use Rattle.graph_levels.proofs.distances.visit.Given as goal
 
 abbrev pub invariant-loop-target : goal.invariant-loop-target

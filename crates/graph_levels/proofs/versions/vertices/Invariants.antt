@@ -1,5 +1,5 @@
 use Rattle.std.proofs.Common.{◌≡◌, take}
-use Rattle.graph_levels.specs.Vertices.{numbers_of}
+use Rattle.graph_levels.specs.Reached.{numbers_of}
 use Rattle.graph_levels.proofs.versions.vertices.Given as goal
 
 abbrev pub invariant-loop-number : goal.invariant-loop-number
