@@ -30,11 +30,7 @@ fn find(names: &NameBook, op: &NamedOp) -> Ends
 }
 
 /// The numbers of the ends of operations, one after another.
-fn find_each(
-    alloc: Global,
-    names: &NameBook,
-    ops: &[NamedOp],
-) -> Result<Vec<Ends>, AllocError>
+fn find_each(alloc: Global, names: &NameBook, ops: &[NamedOp]) -> Result<Vec<Ends>, AllocError>
     ensures { IfOk result (λ v. v.items ≡ map (ends_in names.now.names) ops.now) }
 {
     let mut found = Vec::with_capacity(alloc, ops.len())?;

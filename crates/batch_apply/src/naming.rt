@@ -5,8 +5,8 @@ ghost use Rattle.graph_types.specs.Valid.{IsValid};
 ghost use Rattle.edge_block.specs.Batches.{resolved, IsPlaced};
 ghost use Rattle.batch_apply.specs.Plan.{names_all, kinds_all, shown, with_names, AreFound, Fits, IsInRange, IsUnplanned};
 
-use crate::plans::PlanError;
 use crate::finding::found_at;
+use crate::plans::PlanError;
 use crate::resolve::{Ends, ResolvedOp, resolve_op};
 use graph_types::NamedOp;
 use std::alloc::Global;
@@ -38,7 +38,13 @@ pub fn resolve_batch(
 {
     let mut found = Vec::with_capacity(alloc, ops.len())?;
     for k in 0..ops.len() {
-        let op = resolve_op(names, kinds, &ops[k], &ops[k + 1..], found_at(found_before, k))?;
+        let op = resolve_op(
+            names,
+            kinds,
+            &ops[k],
+            &ops[k + 1..],
+            found_at(found_before, k),
+        )?;
         let Ok(()) = found.push(op) else {
             return Err(PlanError::OutOfMemory);
         };

@@ -8,7 +8,7 @@ use Rattle.std.proofs.lemmas.List.{map_more, get_or_default, get_or_past, Elemen
 use Rattle.std.specs.Prelude.{IsTrue, Option, None, Some, sum_by, count_by, zip, ◌==◌, is_some}
 use Rattle.std.specs.{List.flat_map, List.filter_map, Option.option_to_list}
 use Rattle.graph_types.specs.{Answer.{level_row, names_of}, Valid.is_name, declared.ids.{Degree.Degree, VertexId.VertexId}}
-use Rattle.graph_levels.specs.Vertices.{numbers_of}
+use Rattle.graph_levels.specs.Reached.{numbers_of}
 use Rattle.vertex_names.specs.Book.{Book, IsBook}
 use Rattle.version_answers.proofs.NamedRows.{label_at, length-labels, level_rows_more, next_row, rows_all}
 use Rattle.script_lines.specs.Lines.{greatest, number_line}

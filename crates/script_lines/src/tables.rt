@@ -5,7 +5,7 @@ ghost use Rattle.std.specs.Prelude.{◌≡◌, ◌++◌, [], OnOk, bytes_eq, cou
 ghost use Rattle.std.specs.Prelude.{string_bytes, sum_by, zip};
 ghost use Rattle.std.specs.List.{flat_map};
 ghost use Rattle.std.specs.Option.{option_to_list};
-ghost use Rattle.graph_levels.specs.Vertices.{numbers_of};
+ghost use Rattle.graph_levels.specs.Reached.{numbers_of};
 ghost use Rattle.graph_types.specs.Answer.{level_row, names_of, reached};
 ghost use Rattle.script_lines.specs.Lines as lines_of;
 ghost use Rattle.version_answers.specs.Numbered.{named};

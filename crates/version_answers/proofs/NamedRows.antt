@@ -6,7 +6,7 @@ use Rattle.std.proofs.lemmas.{Option.unwrap_or-slice_get, Slice.Zip.length-zip, 
 use Rattle.std.specs.{Prelude.zip, List.filter_map, List.slice_get, Option.option_to_list, Option.unwrap_or}
 use Rattle.graph_types.specs.{Answer.{names_of, level_row, reached, IsReply}, declared.ids.{VertexId.VertexId, Filter.Filter}}
 use Rattle.graph_types.{specs.{declared.requests.Request.Request, Analyses.AreLevels, Graph.Graph}, proofs.More.kept_row}
-use Rattle.graph_levels.specs.{Reached.AreReached, Reached.rows_from, Vertices.numbers_of}
+use Rattle.graph_levels.specs.{Reached.AreReached, Reached.rows_from, Reached.numbers_of}
 use Rattle.graph_types.specs.declared.requests.Reply.TheVariants as replies
 use Rattle.graph_types.specs.declared.requests.Request.TheVariants as request
 use Rattle.version_answers.specs.{Numbered.IsNumberedReply, Numbered.named, declared.numbered.NumberedReply.NumberedReply}

@@ -7,7 +7,7 @@ use Rattle.graph_types.specs.declared.requests.Request.{Request, TheVariants.{Le
 use Rattle.graph_types.specs.declared.requests.Request.TheVariants.{Cores as AskCores, Degrees as AskDegrees}
 use Rattle.graph_types.specs.declared.requests.{Request.TheVariants.OneEdge as AskOneEdge, Reply.Reply, AskError.AskError}
 use Rattle.graph_types.specs.declared.requests.Reply.TheVariants as replies
-use Rattle.graph_levels.specs.{Reached.rows_from, Vertices.numbers_of}
+use Rattle.graph_levels.specs.{Reached.rows_from, Reached.numbers_of}
 use Rattle.version_answers.specs.declared.numbered.NumberedReply.{NumberedReply}
 use Rattle.version_answers.specs.declared.numbered.NumberedReply.TheVariants.{Levels, Reached, Labels, Cores, Degrees, OneEdge}
 

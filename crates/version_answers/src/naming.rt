@@ -4,7 +4,7 @@ ghost use Rattle.std.specs.Prelude.{◌≡◌, ◌++◌, ℕ, ℤ, [], length, m
 ghost use Rattle.std.specs.declared.option.Option.{Option};
 ghost use Rattle.std.specs.Option.{option_to_list};
 ghost use Rattle.graph_types.specs.Answer.{reached, level_row, names_of};
-ghost use Rattle.graph_levels.specs.Vertices.{numbers_of};
+ghost use Rattle.graph_levels.specs.Reached.{numbers_of};
 ghost use Rattle.graph_version.specs.Versions.{content};
 ghost use Rattle.version_answers.specs.Numbered.{named};
 ghost use Rattle.version_answers.specs.declared.numbered.NumberedReply.TheVariants.{OneEdge};

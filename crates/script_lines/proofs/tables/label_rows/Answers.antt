@@ -1,5 +1,5 @@
 use Rattle.std.proofs.Common.{◌<◌, ◌++◌, ◌∙◌, [], length, arith, string_bytes}
-use Rattle.graph_levels.specs.Vertices.{numbers_of}
+use Rattle.graph_levels.specs.Reached.{numbers_of}
 use Rattle.graph_types.specs.Answer.{names_of}
 use Rattle.script_lines.{specs.Lines.label_line, proofs.TableRows.{lines_all, lines_more}}
 use Rattle.version_answers.proofs.NamedRows.{label_at, length-labels}

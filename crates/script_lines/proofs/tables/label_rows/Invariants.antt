@@ -1,5 +1,5 @@
 use Rattle.std.{proofs.Common.{◌≡◌, ◌++◌, take, string_bytes}, specs.{Prelude.zip, List.flat_map}}
-use Rattle.graph_levels.specs.Vertices.{numbers_of}
+use Rattle.graph_levels.specs.Reached.{numbers_of}
 use Rattle.graph_types.specs.Answer.{names_of}
 use Rattle.script_lines.specs.Lines.{label_line}
 use Rattle.script_lines.proofs.tables.label_rows.Given as goal

@@ -1,5 +1,5 @@
 use Rattle.std.proofs.Common.{◌+◌, ◌<◌, ◌∙◌, length, ap, arith, bytes_eq, count_by}
-use Rattle.graph_levels.specs.Vertices.{numbers_of}
+use Rattle.graph_levels.specs.Reached.{numbers_of}
 use Rattle.graph_types.specs.Answer.{names_of}
 use Rattle.script_lines.proofs.TableRows.{own_more}
 use Rattle.version_answers.proofs.NamedRows.{length-labels, rows_all}

@@ -1,5 +1,5 @@
 use Rattle.std.{proofs.Common.{◌≡◌, bytes_eq, count_by, take}, specs.Prelude.zip}
-use Rattle.graph_levels.specs.Vertices.{numbers_of}
+use Rattle.graph_levels.specs.Reached.{numbers_of}
 use Rattle.graph_types.specs.Answer.{names_of}
 use Rattle.script_lines.proofs.tables.own_labels.Given as goal
 

@@ -1,6 +1,6 @@
 use Rattle.std.proofs.Common.{◌<◌, ◌∙◌, [], length, arith}
 use Rattle.graph_types.specs.Answer.{names_of}
-use Rattle.graph_levels.specs.Vertices.{numbers_of}
+use Rattle.graph_levels.specs.Reached.{numbers_of}
 use Rattle.version_answers.proofs.NamedRows.{rows_more, rows_all, label_at, length-labels}
 use Rattle.version_answers.proofs.naming.name_labels.Goals as goal
 

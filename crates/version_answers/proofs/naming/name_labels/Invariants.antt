@@ -1,6 +1,6 @@
 use Rattle.std.{proofs.Common.{◌≡◌, take}, specs.Prelude.zip}
 use Rattle.graph_types.specs.Answer.{names_of}
-use Rattle.graph_levels.specs.Vertices.{numbers_of}
+use Rattle.graph_levels.specs.Reached.{numbers_of}
 use Rattle.version_answers.proofs.naming.name_labels.Given as goal
 
 abbrev pub invariant-loop-vertex : goal.invariant-loop-vertex
