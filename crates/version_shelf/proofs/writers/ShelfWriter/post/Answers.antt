@@ -1,44 +1,76 @@
-use Rattle.std.proofs.Common.{◌≡◌, ◌++◌, ◌∷◌, [], inr, Some, sym, ap, ◌∙◌}
+use Rattle.std.proofs.Common.{◌≡◌, ◌++◌, ◌∷◌, [], length, inr, Some, sym, ap, subst, ◌∙◌, arith, length-append}
+use mathlib.Core.List.{IsPrefix}
 use Rattle.graph_version.specs.Versions.{VersionView}
 use Rattle.version_shelf.specs.{Histories.HistoryView, Shelves.ToldView, Shelves.ShelfView}
 use Rattle.version_shelf.proofs.Steps.{still_showing, ends_with_last}
+use Rattle.version_shelf.proofs.writers.ShelfWriter.post.Given.{Over}
 use Rattle.version_shelf.proofs.writers.ShelfWriter.post.Goals as goal
+use Rattle.version_shelf.proofs.writers.ShelfWriter.post.Goals.{After-again}
+
+-- the history with the batch that the version lends has the version's batches
+entered : (g : Over) (c : After-again g) → c.self.inside.history.batches ≡ c.args.version.value.batches
+entered g c =
+    ap (λ (s : ShelfView). s.posted) c.self.view_is
+    ∙ (c.if-not-enter_batch.ensures.posted ∙ sym (ends_with_last c.args.version.value.batches c.args.self.now.posted
+    c.in-Some.ensures.batch.0 c.requires.next.1.0 c.in-Some.batch.now c.requires.next.1.1
+    (ap (λ (v : VersionView). v.batches) (sym c.deref.ensures) ∙ c.in-Some.ensures.batch.1)))
+
+pub unreachable-requires : goal.unreachable-requires
+unreachable-requires g c =
+    let none : c.args.self.now.posted ++ c.requires.next.1.0 ∷ [] ≡ [] =
+    sym c.requires.next.1.1 ∙ ap (λ (v : VersionView). v.batches) (sym c.deref.ensures) ∙ c.in_default.ensures.batch in
+    let empty : length (c.args.self.now.posted ++ c.requires.next.1.0 ∷ []) ≡ 0 = ap length none in
+    let long = length-append c.args.self.now.posted (c.requires.next.1.0 ∷ []) in omega arith
+
+pub show-requires : goal.show-requires
+show-requires g c =
+    let before = (goal.at.show-requires g c).After-again in
+    let shown : ToldView = c.self.inside.place.desk.shown.value in
+    let same : c.in_ok-copy.copy.value ≡ c.args.version.value = c.in_ok-copy.ensures in
+    record {
+      newer = (
+        c.self.invariant.1.0 ∙ ap (λ (h : HistoryView). h.book) (sym c.again.ensures),
+        (
+          ap (λ (s : ShelfView). s.opening) (c.self.view_is ∙ c.enter_batch.ensures.same) ∙ sym c.requires.next.0
+              ∙ ap (λ (v : VersionView). v.opening) (sym same),
+          subst (IsPrefix shown.version.batches) (entered g before ∙ ap (λ (v : VersionView). v.batches) (sym same))
+              c.self.invariant.1.1,
+        ),
+      );
+    }
+
+pub invariant_of-shown : goal.invariant_of-shown
+invariant_of-shown g c =
+    ap (λ (v : VersionView). v.batches) c.in_ok-copy.ensures ∙ sym (entered g (goal.at.invariant_of-shown g c).After-again)
+    ∙ ap (λ (h : HistoryView). h.batches) (sym c.again.ensures)
+
+pub invariant_of-result : goal.invariant_of-result
+invariant_of-result g c =
+    sym (entered g (goal.at.invariant_of-result g c).After-again) ∙ ap (λ (h : HistoryView). h.batches) (sym c.again-2.ensures)
 
 pub invariant_of-self : goal.invariant_of-self
 invariant_of-self g c =
-    let version : VersionView = c.args.version.value in
     let history : HistoryView = c.self.inside.history in
     let shown : ToldView = c.self.inside.place.desk.shown.value in
-    let told : ToldView = record { book = c.again.result.book; version = c.in_ok-copy.copy.value } in
-    let batch = c.in-Some.batch.now in
-    let ends : version.batches ≡ c.args.self.now.posted ++ batch ∷ [] =
-    ends_with_last version.batches c.args.self.now.posted c.in-Some.ensures.batch.0 c.requires.next.1.0 batch c.requires.next.1.1
-    (ap (λ (v : VersionView). v.batches) (sym c.deref.ensures) ∙ c.in-Some.ensures.batch.1) in
-    let posted : history.batches ≡ version.batches =
-    ap (λ (s : ShelfView). s.posted) c.self.view_is ∙ (c.if-not-enter_batch.ensures.posted ∙ sym ends) in (
+    let told : ToldView = record { book = c.again.result.book; version = c.in_ok-copy.copy.value } in (
       c.self.invariant.0,
       still_showing shown c.show.new.place.desk.shown.value told history c.self.invariant.1
           (ap (λ (h : HistoryView). h.book) c.again.ensures)
-          (ap (λ (v : VersionView). v.batches) c.in_ok-copy.ensures ∙ sym posted) (inr c.show.ensures.shown),
+          (ap (λ (v : VersionView). v.batches) c.in_ok-copy.ensures
+          ∙ sym (entered g (goal.at.invariant_of-self g c).After-again)) (inr c.show.ensures.shown),
       c.show.ensures.view ∙ ap (λ (t : ToldView). Some t) (sym c.show.ensures.shown),
     )
 
 pub returns-clause-posted : goal.returns-clause-posted
-returns-clause-posted g c =
-    let version : VersionView = c.args.version.value in
-    let history : HistoryView = c.self.inside.history in
-    let ends : version.batches ≡ c.args.self.now.posted ++ c.in-Some.batch.now ∷ [] =
-    ends_with_last version.batches c.args.self.now.posted c.in-Some.ensures.batch.0 c.requires.next.1.0 c.in-Some.batch.now
-    c.requires.next.1.1
-    (ap (λ (v : VersionView). v.batches) (sym c.deref.ensures) ∙ c.in-Some.ensures.batch.1) in (
-      ap (λ (s : ShelfView). s.posted) c.self.view_is ∙ (c.if-not-enter_batch.ensures.posted ∙ sym ends),
-      ap (λ (t : ToldView). t.version.batches) c.show.ensures.shown ∙ ap (λ (v : VersionView). v.batches) c.in_ok-copy.ensures,
-      λ i. record {
-        book = (ap (λ (h : HistoryView). h.book) c.again-2.ensures
-            ∙ ap (λ (s : ShelfView). s.book) (c.self.view_is ∙ c.enter_batch.ensures.same)) i;
-        version = version;
-      },
-    )
+returns-clause-posted g c = (
+  entered g (goal.at.returns-clause-posted g c).After-again,
+  ap (λ (t : ToldView). t.version.batches) c.show.ensures.shown ∙ ap (λ (v : VersionView). v.batches) c.in_ok-copy.ensures,
+  λ i. record {
+    book = (ap (λ (h : HistoryView). h.book) c.again-2.ensures
+        ∙ ap (λ (s : ShelfView). s.book) (c.self.view_is ∙ c.enter_batch.ensures.same)) i;
+    version = c.args.version.value;
+  },
+)
 
 pub returns-clause-same : goal.returns-clause-same
 returns-clause-same g c = (
