@@ -24,7 +24,7 @@ const RUN: usize = 8;
 ///
 /// What a search reads lies together and first: a header of the live places, the kind, the source, the number and the
 /// bounds of the recent times, and then the targets. A clone is equal in everything, its number too.
-#[derive(Clone, Debug, Drop)]
+#[derive(Debug, Drop)]
 pub struct Block {
     /// Bit `k` is set where slot `k` has an edge.
     live: u32,
@@ -55,6 +55,29 @@ impl Model for Block {
     } };
 
     ghost invariant = { λ a. AreColumns a.live a.targets a.weights a.firsts a.recents × AreTimes a.live a.recents a.times };
+}
+
+// Written by hand: a derived one clones column by column, and has a way out behind each.
+impl Clone for Block {
+    ghost use Rattle.std.specs.Prelude.{◌≡◌, ⊤};
+
+    ghost is_clone = { λ block copy. copy ≡ block };
+
+    ghost is_infallible = { λ _. ⊤ };
+
+    fn clone(&self) -> Result<Self, AllocError> {
+        Ok(Block {
+            live: self.live,
+            kind: self.kind,
+            source: self.source,
+            number: self.number,
+            times: self.times,
+            targets: self.targets,
+            weights: self.weights,
+            firsts: self.firsts,
+            recents: self.recents,
+        })
+    }
 }
 
 /// An edge that a block lends: its fields stand in the block's columns, and its source is the block's.

@@ -1,3 +1,3 @@
 pub mod Ages
-pub mod Eights
+pub mod Copies
 pub mod Places

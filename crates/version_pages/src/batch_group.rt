@@ -15,10 +15,19 @@ use std::vec::VecCloneMethods;
 const PAGES: usize = 32;
 
 /// At most 1,024 batches that follow one another, in pages of 32 that copies share.
-#[derive(Drop)]
 pub(crate) struct BatchGroup {
     len: usize,
     pages: Vec<Arc<BatchPage>>,
+}
+
+// By hand, so that who lets one go need not take it apart.
+impl Drop for BatchGroup {
+    fn drop(self) {
+        let BatchGroup {
+            len: _len,
+            pages: _pages,
+        } = self;
+    }
 }
 
 impl Model for BatchGroup {

@@ -13,9 +13,15 @@ use std::vec::VecCloneMethods;
 pub(crate) const PAGE: usize = 32;
 
 /// At most 32 batches that follow one another.
-#[derive(Drop)]
 pub(crate) struct BatchPage {
     batches: Vec<Arc<Batch>>,
+}
+
+// By hand, so that who lets one go need not take it apart.
+impl Drop for BatchPage {
+    fn drop(self) {
+        let BatchPage { batches: _batches } = self;
+    }
 }
 
 impl Model for BatchPage {

@@ -97,10 +97,19 @@ fn any_before(blocks: &[Arc<Block>], time: u64) -> bool
 }
 
 /// A source's row, and since when its edges have been touched.
-#[derive(Drop)]
 pub(crate) struct Row {
     blocks: Blocks,
     since: u64,
+}
+
+// By hand, so that who lets one go need not take it apart.
+impl Drop for Row {
+    fn drop(self) {
+        let Row {
+            blocks: _blocks,
+            since: _since,
+        } = self;
+    }
 }
 
 impl Model for Row {
@@ -114,6 +123,18 @@ impl Model for Row {
     ghost view = { λ row. row_values row.blocks };
 
     ghost invariant = { λ row. is_old_row row.since (row_values row.blocks) ≡ false };
+}
+
+impl Clone for Row {
+    ghost is_clone = { λ row copy. copy ≡ row };
+
+    // The blocks are shared.
+    fn clone(&self) -> Result<Row, AllocError> {
+        Ok(Row {
+            blocks: self.blocks.share()?,
+            since: self.since,
+        })
+    }
 }
 
 impl Row {
@@ -135,16 +156,6 @@ impl Row {
         Ok(Row {
             blocks: listed(alloc, blocks)?,
             since,
-        })
-    }
-
-    /// The same row, its blocks shared.
-    pub(crate) fn share(&self) -> Result<Row, AllocError>
-        ensures { IfOk result (λ row. row ≡ self.now) }
-    {
-        Ok(Row {
-            blocks: self.blocks.share()?,
-            since: self.since,
         })
     }
 

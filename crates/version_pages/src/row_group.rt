@@ -16,9 +16,15 @@ use std::sync::Arc;
 const PAGE: usize = 64;
 
 /// The rows of 1,024 sources that follow one another, in pages that versions share.
-#[derive(Drop)]
 pub(crate) struct Group {
     pages: [Arc<Page>; 16],
+}
+
+// By hand, so that who lets one go need not take it apart.
+impl Drop for Group {
+    fn drop(self) {
+        let Group { pages: _pages } = self;
+    }
 }
 
 impl Model for Group {
@@ -50,24 +56,7 @@ impl Group {
     {
         let page = Arc::new(alloc, Page::blank(alloc)?)?;
         Ok(Group {
-            pages: [
-                Arc::try_clone(&page)?,
-                Arc::try_clone(&page)?,
-                Arc::try_clone(&page)?,
-                Arc::try_clone(&page)?,
-                Arc::try_clone(&page)?,
-                Arc::try_clone(&page)?,
-                Arc::try_clone(&page)?,
-                Arc::try_clone(&page)?,
-                Arc::try_clone(&page)?,
-                Arc::try_clone(&page)?,
-                Arc::try_clone(&page)?,
-                Arc::try_clone(&page)?,
-                Arc::try_clone(&page)?,
-                Arc::try_clone(&page)?,
-                Arc::try_clone(&page)?,
-                page,
-            ],
+            pages: [&page; 16].try_map(Arc::try_clone)?,
         })
     }
 

@@ -19,10 +19,19 @@ const PART: usize = 8;
 const PAGE: usize = 64;
 
 /// The rows of eight sources that follow one another, and since when their edges have been touched.
-#[derive(Drop)]
 pub(crate) struct Part {
     rows: [Row; 8],
     since: u64,
+}
+
+// By hand, so that who lets one go need not take it apart.
+impl Drop for Part {
+    fn drop(self) {
+        let Part {
+            rows: _rows,
+            since: _since,
+        } = self;
+    }
 }
 
 impl Model for Part {
@@ -41,18 +50,8 @@ impl Clone for Part {
     ghost is_clone = { λ part copy. copy ≡ part };
 
     fn clone(&self) -> Result<Part, AllocError> {
-        let [a, b, c, d, e, f, g, h] = &self.rows;
         Ok(Part {
-            rows: [
-                a.share()?,
-                b.share()?,
-                c.share()?,
-                d.share()?,
-                e.share()?,
-                f.share()?,
-                g.share()?,
-                h.share()?,
-            ],
+            rows: self.rows.clone()?,
             since: self.since,
         })
     }
@@ -149,10 +148,19 @@ fn rows_since(rows: &[Row]) -> u64
 }
 
 /// The rows of 64 sources that follow one another, in parts that versions share, and since when their edges have been touched.
-#[derive(Drop)]
 pub(crate) struct Page {
     parts: [Arc<Part>; 8],
     since: u64,
+}
+
+// By hand, so that who lets one go need not take it apart.
+impl Drop for Page {
+    fn drop(self) {
+        let Page {
+            parts: _parts,
+            since: _since,
+        } = self;
+    }
 }
 
 impl Model for Page {
@@ -172,18 +180,8 @@ impl Clone for Page {
     ghost is_clone = { λ page copy. copy ≡ page };
 
     fn clone(&self) -> Result<Page, AllocError> {
-        let [a, b, c, d, e, f, g, h] = &self.parts;
         Ok(Page {
-            parts: [
-                Arc::try_clone(a)?,
-                Arc::try_clone(b)?,
-                Arc::try_clone(c)?,
-                Arc::try_clone(d)?,
-                Arc::try_clone(e)?,
-                Arc::try_clone(f)?,
-                Arc::try_clone(g)?,
-                Arc::try_clone(h)?,
-            ],
+            parts: self.parts.clone()?,
             since: self.since,
         })
     }
@@ -196,16 +194,7 @@ impl Page {
     {
         let part = Arc::new(alloc, Part::blank())?;
         Ok(Page {
-            parts: [
-                Arc::try_clone(&part)?,
-                Arc::try_clone(&part)?,
-                Arc::try_clone(&part)?,
-                Arc::try_clone(&part)?,
-                Arc::try_clone(&part)?,
-                Arc::try_clone(&part)?,
-                Arc::try_clone(&part)?,
-                part,
-            ],
+            parts: [&part; 8].try_map(Arc::try_clone)?,
             since: u64::MAX,
         })
     }

@@ -21,9 +21,15 @@ pub(crate) fn hash_of(text: &str) -> u64
 }
 
 /// From hashes to numbers, in parts that copies share.
-#[derive(Drop)]
 pub(crate) struct HashIndex {
     parts: Vec<Arc<Part>>,
+}
+
+// By hand, so that who lets one go need not take it apart.
+impl Drop for HashIndex {
+    fn drop(self) {
+        let HashIndex { parts: _parts } = self;
+    }
 }
 
 impl Model for HashIndex {

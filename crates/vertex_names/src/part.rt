@@ -13,9 +13,15 @@ const FULL: usize = 64;
 
 /// Numbers by hash, in pieces that copies share, each behind its lowest hash. A number costs a search of two lists that
 /// rise and a copy of one piece, whichever hashes there are.
-#[derive(Drop)]
 pub(crate) struct Part {
     pieces: Vec<(u64, Arc<Piece>)>,
+}
+
+// By hand, so that who lets one go need not take it apart.
+impl Drop for Part {
+    fn drop(self) {
+        let Part { pieces: _pieces } = self;
+    }
 }
 
 impl Model for Part {

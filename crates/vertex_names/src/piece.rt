@@ -145,10 +145,19 @@ fn enter(entries: &mut Vec<(u64, u32)>, place: usize, entry: (u64, u32)) -> Resu
 }
 
 /// Numbers by hash, in the order of the hashes.
-#[derive(Drop)]
 pub(crate) struct Piece {
     entries: Vec<(u64, u32)>,
     spread: Spread,
+}
+
+// By hand, so that who lets one go need not take it apart.
+impl Drop for Piece {
+    fn drop(self) {
+        let Piece {
+            entries: _entries,
+            spread: _spread,
+        } = self;
+    }
 }
 
 impl Model for Piece {

@@ -13,12 +13,22 @@ use std::marker::Model;
 use std::sync::Arc;
 
 /// The names of a book, and what finds them. Books share it until one of them adds a name.
-#[derive(Drop)]
 pub(crate) struct Tables {
     texts: Texts,
     index: HashIndex,
     /// The numbers of the names whose hash another name had taken.
     others: Vec<u32>,
+}
+
+// By hand, so that who lets one go need not take it apart.
+impl Drop for Tables {
+    fn drop(self) {
+        let Tables {
+            texts: _texts,
+            index: _index,
+            others: _others,
+        } = self;
+    }
 }
 
 impl Model for Tables {

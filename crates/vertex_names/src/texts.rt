@@ -18,9 +18,15 @@ pub(crate) enum Kept {
 }
 
 /// A name of a book. Most are short, and are then read where the name stands, without a further place in memory.
-#[derive(Drop)]
 pub(crate) struct Entry {
     kept: Kept,
+}
+
+// By hand, so that who lets one go need not take it apart.
+impl Drop for Entry {
+    fn drop(self) {
+        let Entry { kept: _kept } = self;
+    }
 }
 
 impl Model for Entry {
@@ -77,9 +83,15 @@ impl Clone for Entry {
 }
 
 /// Names that follow one another.
-#[derive(Drop)]
 pub(crate) struct Chunk {
     names: Vec<Entry>,
+}
+
+// By hand, so that who lets one go need not take it apart.
+impl Drop for Chunk {
+    fn drop(self) {
+        let Chunk { names: _names } = self;
+    }
 }
 
 impl Model for Chunk {
@@ -129,10 +141,19 @@ impl Chunk {
 }
 
 /// Names in order, in chunks of 256 that copies share.
-#[derive(Drop)]
 pub(crate) struct Texts {
     len: usize,
     chunks: Vec<Arc<Chunk>>,
+}
+
+// By hand, so that who lets one go need not take it apart.
+impl Drop for Texts {
+    fn drop(self) {
+        let Texts {
+            len: _len,
+            chunks: _chunks,
+        } = self;
+    }
 }
 
 impl Model for Texts {

@@ -1,4 +1,4 @@
-use Rattle.std.proofs.Common.{◌≡◌, ◌∙◌, ◌+◌, ◌-◌, ◌≤◌, ◌<◌, ◌/◌, ◌%◌, ℕ, List, length, get_or, ap, sym, subst, arith}
+use Rattle.std.proofs.Common.{◌≡◌, ◌∙◌, ◌+◌, ◌≤◌, ◌<◌, ◌/◌, ◌%◌, ℕ, List, length, get_or, ap, sym, subst, arith}
 use Rattle.std.{proofs.lemmas.Bool.ltb-false, specs.declared.{sync.Arc.Arc, alloc.Global.Global}}
 use Rattle.edge_block.specs.Slots.{BlockView}
 use Rattle.version_pages.specs.{Ages.AreYoung, RowGroups.{AreGroups, in_group, in_groups}, declared.row_group.Group.Group}
