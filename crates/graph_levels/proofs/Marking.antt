@@ -1,6 +1,6 @@
 -- Marks that are set.
 use Rattle.std.proofs.Common.{◌≡◌, ◌≢◌, ◌↔◌, ℕ, ◌*◌, ◌/◌, ◌%◌, ◌^◌, ◌<◌, List, [], ◌∷◌, ◌++◌, length, set, get_or, arith, inl}
-use Rattle.std.proofs.{Common.{inr, sym, ap, ◌∙◌, false}, lemmas.Bool.{cases_eq, cases_lt, false≢true, Decides.eqb_tells}}
+use Rattle.std.proofs.{Common.{inr, sym, ap, ◌∙◌}, lemmas.Bool.{cases_eq, cases_lt, false≢true, Decides.eqb_tells}}
 use Rattle.std.proofs.lemmas.{Nat.Bits.{bit_at_set_same, bit_at_set_other, bit_at-zero}, List.{get_or-set_same, get_or-set_other}}
 use Rattle.std.{proofs.lemmas.List.{get_or-replicate, get_or_past, length-replicate}, specs.{Prelude.replicate, Int.w64}}
 use Rattle.std.{specs.Int.{bit_at, RustNames.bit_or}, proofs.lemmas.Grind.common_steps}

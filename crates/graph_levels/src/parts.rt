@@ -99,7 +99,6 @@ fn settle<R: ViewEdges>(alloc: Global, edges: &R, parents: &mut [u32]) -> Result
 }
 
 /// Each vertex as its own parent.
-#[tactic(auto, using(graph_types::proofs::More::range_more))]
 fn own_parents(alloc: Global, count: u32) -> Result<Vec<u32>, AllocError>
     ensures { IfOk result (λ parents. parents.items ≡ range_with_len 0 count) }
 {

@@ -1,11 +1,11 @@
 -- Names in a book: their numbers, and what one more name leaves true.
 use Rattle.std.proofs.Common.{◌≡◌, ◌≢◌, ◌⊎◌, ℕ, ◌+◌, ◌<◌, Bool, true, false, cond, not, ◌||◌, suc, length-append, List, [], ◌∷◌}
 use Rattle.std.proofs.Common.{◌++◌, length, get_or, IsTrue, Option, Some, None, inl, inr, refl, sym, ap, subst, ◌∙◌, arith}
-use Rattle.std.proofs.{Common.true≢false, Common.if◌then◌else◌, Common.All, Common.AllPairs, Math.Seq.get_or-append_seam}
+use Rattle.std.proofs.{Common.true≢false, Common.All, Common.AllPairs, Math.Seq.get_or-append_seam}
 use Rattle.std.proofs.lemmas.{Bool.false_from_ne_true, Bool.Decides.eqb_tells, Slice.Eq.bytes_eq-Decides}
 use Rattle.std.proofs.lemmas.List.{Folds.list_any_at, Elements.All-push, Quantifiers.all_pairs_push, get_or_append_left}
 use Rattle.std.proofs.lemmas.Option.{same_Some, none-some, slice_get_within, get_or_from_slice_get}
-use Rattle.std.specs.{Option.SomeIff, Option.IfSome, Option.IfNone, Option.is_some, List.slice_get, Str.bytes_eq}
+use Rattle.std.specs.{Option.SomeIff, Option.IfSome, Option.IfNone, List.slice_get, Str.bytes_eq}
 use Rattle.graph_types.specs.{Step.number_of, Answer.is_listed, Valid.is_name}
 use Rattle.vertex_names.specs.{Index.text_hash, Index.found_at, Index.Stands, Index.IsIndexed, Book.Book, Book.IsBook}
 

@@ -1,5 +1,5 @@
 -- Pieces of a part: what a changed piece leaves, and what a split does.
-use Rattle.std.proofs.Common.{◌≡◌, ◌≢◌, ℕ, zero, suc, ◌+◌, ◌<◌, ◌≤◌, List, [], ◌∷◌, length, get_or, set, map, Option}
+use Rattle.std.proofs.Common.{◌≡◌, ◌≢◌, ℕ, suc, ◌+◌, ◌<◌, ◌≤◌, List, [], ◌∷◌, length, get_or, set, Option}
 use Rattle.std.proofs.Common.{refl, sym, ap, ◌∙◌, arith, nat_eq, subst, inl, inr}
 use Rattle.std.proofs.{lemmas.Bool.cases_lt, lemmas.Bool.Decides.eqb_tells, Math.Seq.map-set_same}
 use Rattle.std.proofs.lemmas.List.{length-map, get_or-map, map-set, get_or-set_same, get_or-set_other, get_or_default}

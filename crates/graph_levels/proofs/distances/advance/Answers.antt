@@ -1,4 +1,6 @@
-use Rattle.std.{proofs.Common.{◌<◌, ◌+◌, arith, length, sym, get_or, ℕ, subst}, specs.{Prelude.All, List.Contains}}
+use Rattle.std.{proofs.Common.{◌≡◌, ◌<◌, ◌+◌, ◌++◌, ◌∙◌, [], arith, length, drop, ap, sym, get_or, ℕ, subst}, specs.{Prelude.All, List.Contains}}
+use Rattle.std.{proofs.lemmas.List.{append-nil, drop_all, length-append}}
+use Rattle.graph_levels.specs.{Reached.{table_of, vertices_of}, Search.IsSearch}
 use Rattle.graph_types.specs.{Analyses.LeadsTo, declared.ids.VertexId.VertexId}
 use Rattle.graph_levels.proofs.{Frontiers.step, Tables.front_more, Tables.met_rows, Targets.told}
 use Rattle.graph_levels.proofs.distances.advance.Goals as goal
@@ -39,3 +41,49 @@ loop-place-preserved g c =
       front = front_more (d + 1) ts old rows i.front;
       search = λ s start. step f gr s n d k ts old rows row i.front lt c.index.ensures edges in' each (i.search s start);
     })
+
+pub loop-place-init : goal.loop-place-init
+loop-place-init g c =
+    let old = c.args.rows.now.items in
+    let none : drop (length old) old ≡ [] = drop_all (length old) old (omega arith) in
+    record {
+      words = c.requires.words;
+      marks = c.requires.marks;
+      rows = c.requires.rows;
+      front = sym (append-nil old) ∙ ap (λ xs. old ++ xs) (sym none);
+      search = λ s start. subst (λ xs. IsSearch (g.R.ViewEdges.filter c.args.edges.now) (g.R.ViewEdges.graph c.args.edges.now) s
+          (table_of (length (g.R.ViewEdges.graph c.args.edges.now).names) old) (vertices_of (drop c.args.first old))
+          (vertices_of xs) c.args.depth) (sym none) start;
+    }
+
+pub index-requires : goal.index-requires
+index-requires g c =
+    let old = c.args.rows.now.items in
+    let rows = c.loop-place.rows.items in
+    let all : length rows ≡ length (old ++ drop (length old) rows) = ap length c.loop-place.invariant.front in
+    let both = length-append old (drop (length old) rows) in
+    let new = c.loop-place.rows.ok.0 in
+    let was = c.args.rows.now.ok.0 in
+    let end = c.len-place-end.ensures in
+    omega arith
+
+pub visit-requires-clause-marks : goal.visit-requires-clause-marks
+visit-requires-clause-marks g c = c.loop-place.invariant.marks
+
+pub returns : goal.returns
+returns g c =
+    let old = c.args.rows.now.items in
+    let rows = c.loop-place.rows.items in
+    let all : length rows ≡ length (old ++ drop (length old) rows) = ap length c.loop-place.invariant.front in
+    let both = length-append old (drop (length old) rows) in
+    let was = c.args.rows.now.ok.0 in
+    let end = c.len-place-end.ensures in
+    let none : drop c.loop-place.place old ≡ [] = drop_all c.loop-place.place old (omega arith) in
+    record {
+      marks = c.loop-place.invariant.marks;
+      rows = c.loop-place.invariant.rows;
+      more = omega arith;
+      search = λ s start. subst (λ xs. IsSearch (g.R.ViewEdges.filter c.args.edges.now) (g.R.ViewEdges.graph c.args.edges.now) s
+          (table_of (length (g.R.ViewEdges.graph c.args.edges.now).names) rows) (vertices_of xs)
+          (vertices_of (drop (length old) rows)) c.args.depth) none (c.loop-place.invariant.search s start);
+    }

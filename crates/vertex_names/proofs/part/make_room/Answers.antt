@@ -1,4 +1,4 @@
-use Rattle.std.proofs.Common.{◌≡◌, ◌∙◌, ◌≤◌, ◌<◌, ◌+◌, ◌/◌, ℕ, List, get_or, sym, ap, subst, arith, nat_eq, rules}
+use Rattle.std.proofs.Common.{◌≡◌, ◌∙◌, ◌≤◌, ◌<◌, ◌+◌, ◌/◌, ℕ, List, get_or, refl, sym, ap, subst, arith, nat_eq, rules}
 use Rattle.std.specs.{List.insert, Map.lookup, declared.sync.Arc.Arc, declared.alloc.Global.Global}
 use Rattle.vertex_names.specs.{declared.piece.Piece.Piece, Order.firsts, Order.last_place, Pieces.entries_of}
 use Rattle.vertex_names.proofs.Splits.{split_in_two}
@@ -36,3 +36,21 @@ returns c =
     split_in_two ps c.args.place m h x c.in_ok-lower.lower c.in_ok-upper.upper c.requires.rising c.requires.place c.index.ensures x_is
     over is left right in
     rw c.in_ok-insert.ensures.items (record { some = search rules; rising = two.0; same = two.1 })
+
+pub returns-in_err-before : goal.returns-in_err-before
+returns-in_err-before c = record { some = omega arith; rising = c.requires.rising; same = λ q. refl }
+
+pub returns-in_err-lower : goal.returns-in_err-lower
+returns-in_err-lower c = record { some = omega arith; rising = c.requires.rising; same = λ q. refl }
+
+pub returns-in_err-from : goal.returns-in_err-from
+returns-in_err-from c = record { some = omega arith; rising = c.requires.rising; same = λ q. refl }
+
+pub returns-in_err-upper : goal.returns-in_err-upper
+returns-in_err-upper c = record { some = omega arith; rising = c.requires.rising; same = λ q. refl }
+
+pub returns-then-len-lt-FULL : goal.returns-then-len-lt-FULL
+returns-then-len-lt-FULL c = record { some = omega arith; rising = c.requires.rising; same = λ q. refl }
+
+pub returns-then-middle-lowest : goal.returns-then-middle-lowest
+returns-then-middle-lowest c = record { some = omega arith; rising = c.requires.rising; same = λ q. refl }
