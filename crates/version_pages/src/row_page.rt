@@ -180,8 +180,9 @@ impl Clone for Page {
     ghost is_clone = { λ page copy. copy ≡ page };
 
     fn clone(&self) -> Result<Page, AllocError> {
+        let parts = self.parts.clone()?;
         Ok(Page {
-            parts: self.parts.clone()?,
+            parts,
             since: self.since,
         })
     }

@@ -5,10 +5,10 @@ use Rattle.version_pages.proofs.row_page.PageClone.clone.Goals as goal
 
 pub invariant_of-result : goal.invariant_of-result
 invariant_of-result c = (
-  zipped_full 8 in_part _ _ c.in_ok-clone.ensures.cases.whole c.self.invariant.0,
-  c.in_ok-clone.ensures.cases.long,
-  subst (AreSince c.self.inside.since) (sym (zipped_flat in_part _ _ c.in_ok-clone.ensures.cases.whole)) c.self.invariant.2,
+  zipped_full 8 in_part _ _ c.in_ok-parts.ensures.cases.whole c.self.invariant.0,
+  c.in_ok-parts.ensures.cases.long,
+  subst (AreSince c.self.inside.since) (sym (zipped_flat in_part _ _ c.in_ok-parts.ensures.cases.whole)) c.self.invariant.2,
 )
 
 pub returns : goal.returns
-returns c = record { cases = zipped_flat in_part _ _ c.in_ok-clone.ensures.cases.whole ∙ c.self.view_is }
+returns c = record { cases = zipped_flat in_part _ _ c.in_ok-parts.ensures.cases.whole ∙ c.self.view_is }
