@@ -68,3 +68,15 @@ returns-clause-bodies c = c.loop-i.invariant.bodies
 
 pub returns-clause-blocks : goal.returns-clause-blocks
 returns-clause-blocks c = c.loop-i.invariant.blocks
+
+pub loop-i-init : goal.loop-i-init
+loop-i-init c = record {
+  bodies = c.requires.bodies;
+  granted = c.in_ok-granted.ensures.items;
+  blocks = ap (map number_of) c.in_ok-blocks.ensures.items ∙ sym c.in_ok-granted.ensures.items;
+}
+
+pub returns-clause-numbers : goal.returns-clause-numbers
+returns-clause-numbers c =
+    let all : c.loop-i.i ≡ c.args.count = omega (arith, c.loop-i-test.false, c.loop-i.auto.i-end) in
+    c.loop-i.invariant.granted ∙ ap (popped c.args.numbers.now.free.items c.args.numbers.now.free_len) all

@@ -1,4 +1,4 @@
-use Rattle.std.proofs.{Common.◌+◌, Common.sym, Common.subst, Common.arith, lemmas.Grind.common_steps}
+use Rattle.std.proofs.{Common.◌+◌, Common.sym, Common.subst}
 use Rattle.block_pool.{specs.Pools.AreBodies, proofs.BodyLaws.bodies_more}
 use Rattle.block_pool.proofs.pool.no_bodies.Goals as goal
 
