@@ -1,6 +1,6 @@
 -- What a whole collection leaves.
 use Rattle.std.proofs.Common.{◌≡◌, ℕ, zero, suc, ◌≤◌, Bool, true, false, ◌||◌, ◌⊎◌, inl, inr, List, [], ◌∷◌, ◌++◌, map, replicate}
-use Rattle.std.proofs.{Common.{get_or, set, refl, sym, ap, subst, ◌∙◌, arith, eqb}, lemmas.{Grind.common_steps, Bool.cases_eq}}
+use Rattle.std.proofs.{Common.{get_or, set, refl, sym, ap, subst, ◌∙◌, arith, eqb}, lemmas.{Grind.common_steps, Bool.{cases_eq, or_cases}}}
 use Rattle.std.{proofs.lemmas.Bool.Decides.nat_tests, specs.{Prelude.slice_get, List.list_any, Option.unwrap_or}}
 use Rattle.std.specs.declared.option.Option.{Option, TheVariants.{None, Some}}
 use Rattle.block_reclamation.specs.declared.{copies.{PinCopy.PinCopy, Pin.Pin}, status.BlockStatus.BlockStatus}
@@ -125,9 +125,6 @@ found number p (session ∷ sessions) k never none is =
           let f : Found number p sessions = found number p sessions k never none rest in
           record { session = suc f.session; pin = f.pin; at = f.at; holds = f.holds }
     ] refl is
-
-or_cases : (a b : Bool) → (a || b) ≡ true → (a ≡ true) ⊎ (b ≡ true)
-or_cases a b is = grind (arith, common_steps)
 
 settled_need : (w : World) (birth retirement : ℕ) → Found settled_number (is_between birth retirement) w.sessions → IsSettledNeed w birth retirement
 settled_need w birth retirement f = grind (arith, common_steps)

@@ -99,22 +99,29 @@ pub named_still : (w : World) (heap : List (List Edge)) (status : List BlockStat
 named_still w heap status floor copy sessions sound n h =
     record { names = (sound.named n h).names; kinds = (sound.named n h).kinds }
 
+-- a change of blocks keeps the versions
+carries_blocks : (w : World) (heap : List (List Edge)) (status : List BlockStatus)
+    → ((b n : ℕ) → IsCovered w.copy n → IsKeptAt n (slice_get w.status b) → IsKeptAt n (slice_get status b))
+    → ((b n : ℕ) → IsKeptAt n (slice_get w.status b) → edges_at heap b ≡ edges_at w.heap b)
+    → Carries w (record w { heap = heap; status = status })
+carries_blocks w heap status kept edges = record {
+  floor = refl;
+  copy = refl;
+  last = omega arith;
+  versions = λ n _. refl;
+  graphs = λ n _. refl;
+  kept = λ b n covered _ k. kept b n covered k;
+  edges = edges;
+}
+
 pub sound_status : (w : World) (b : ℕ) (before after : BlockStatus) → IsSound w → slice_get w.status b ≡ Some before
     → FreesNone w.copy before after → IsSound (with_status w (set w.status b after))
 sound_status w b before after sound found frees =
-    let carries : Carries w (with_status w (set w.status b after)) = record {
-      floor = refl;
-      copy = refl;
-      last = omega arith;
-      versions = λ n _. refl;
-      graphs = λ n _. refl;
-      kept = λ c n covered _ k.
-          elim (cases_eq c b) [
-            | inl e ↦ absurd (frees.not_kept n covered (subst (IsKeptAt n) (ap (slice_get w.status) e ∙ found) k))
-            | inr ne ↦ subst (IsKeptAt n) (sym (set_else w.status b c after ne)) k
-          ];
-      edges = λ c n _. refl;
-    } in
+    let carries : Carries w (with_status w (set w.status b after)) = carries_blocks w w.heap (set w.status b after)
+    (λ c n covered k. elim (cases_eq c b) [
+      | inl e ↦ absurd (frees.not_kept n covered (subst (IsKeptAt n) (ap (slice_get w.status) e ∙ found) k))
+      | inr ne ↦ subst (IsKeptAt n) (sym (set_else w.status b c after ne)) k
+    ]) (λ c n _. refl) in
     record {
       floor_last = sound.floor_last;
       copy_last = sound.copy_last;
@@ -151,17 +158,9 @@ fills status heap b edges after is = grind (arith, common_steps)
 pub sound_fill : (w : World) (b : ℕ) (edges : List Edge) → IsSound w → slice_get w.status b ≡ Some Granted
     → IsSound (with_heap w (set w.heap b edges))
 sound_fill w b edges sound granted =
-    let carries : Carries w (with_heap w (set w.heap b edges)) = record {
-      floor = refl;
-      copy = refl;
-      last = omega arith;
-      versions = λ n _. refl;
-      graphs = λ n _. refl;
-      kept = λ c n _ _ k. k;
-      edges = λ c n k.
-          let apart : c ≢ b = λ e. subst (IsKeptAt n) (ap (slice_get w.status) e ∙ granted) k in
-          get_or-set_other w.heap b c edges [] apart;
-    } in
+    let carries : Carries w (with_heap w (set w.heap b edges)) = carries_blocks w (set w.heap b edges) w.status (λ c n _ k. k)
+    (λ c n k. let apart : c ≢ b = λ e. subst (IsKeptAt n) (ap (slice_get w.status) e ∙ granted) k in
+    get_or-set_other w.heap b c edges [] apart) in
     record {
       floor_last = sound.floor_last;
       copy_last = sound.copy_last;

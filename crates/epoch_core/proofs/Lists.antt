@@ -73,9 +73,6 @@ and_right a b is = grind (arith, common_steps)
 pub neither : (a b : Bool) → not (a || b) ≡ (not a && not b)
 neither a b = grind (arith, common_steps)
 
-pub or_false : (a b : Bool) → (a || b) ≡ false → (a ≡ false) × (b ≡ false)
-or_false a b is = grind (arith, common_steps)
-
 pub true_or_false : (b : Bool) → (b ≡ true) ⊎ (b ≡ false)
 true_or_false b = grind (arith, common_steps)
 

@@ -12,7 +12,7 @@ use Rattle.epoch_core.specs.Machine.{to_settle, with_sessions, move, read_on, se
 use Rattle.epoch_core.specs.{Versions.{blocks_at, edges_at}, Sound.{IsCovered, IsHeld, IsSessionSound, IsSound}}
 use Rattle.epoch_core.{specs.Worlds.unsettled_in, proofs.Keeping.Carries, proofs.Keeping.carry, proofs.Keeping.named_still}
 use Rattle.epoch_core.proofs.Lists.{option_map_some, ChangedAt, changed_at-some, one_piece_more}
-use Rattle.block_reclamation.specs.declared.copies.{Pin.Pin, TheConstants.SEATS}
+use Rattle.block_reclamation.specs.declared.copies.{Pin.Pin, PinCopy.PinCopy, TheConstants.SEATS}
 use Rattle.block_reclamation.specs.Copies.{floor_of, needs, number_if, pin_at, settled_number, unsettled_number}
 use Rattle.block_reclamation.proofs.{Least.settled_needed, Least.unsettled_needed, Copied.floor_is_least}
 
@@ -89,18 +89,26 @@ session_floored w s (Asking hold inquiry) at low p = (
   p.1,
 )
 
-pub sound_floor : (w : World) → IsSound w → IsSound (floored w)
-sound_floor w sound = record {
-  floor_last = floor_first w;
-  copy_last = omega arith;
+-- beside blocks and versions, a world is sound by its floor, its copy and its sessions
+sound_beside : (w : World) (floor : ℕ) (copy : PinCopy) (sessions : List SessionState) → IsSound w → floor ≤ last_number w
+    → copy.last ≤ last_number w → ((s : ℕ)
+    → let new : World = record w { floor = floor; copy = copy; sessions = sessions } in IsSessionSound new (session_of new s))
+    → IsSound (record w { floor = floor; copy = copy; sessions = sessions })
+sound_beside w floor copy sessions sound low copied held = record {
+  floor_last = low;
+  copy_last = copied;
   used = sound.used;
   dated = sound.dated;
   listed_once = sound.listed_once;
   shown = sound.shown;
-  named = named_still w w.heap w.status (present_floor w) (present_copy w) w.sessions sound;
-  sessions = λ s. session_floored w s (session_of w s) refl (floor_each w s) (sound.sessions s);
+  named = named_still w w.heap w.status floor copy sessions sound;
+  sessions = held;
   sizes = sound.sizes;
 }
+
+pub sound_floor : (w : World) → IsSound w → IsSound (floored w)
+sound_floor w sound = sound_beside w (present_floor w) (present_copy w) w.sessions sound (floor_first w) (omega arith)
+    (λ s. session_floored w s (session_of w s) refl (floor_each w s) (sound.sessions s))
 
 -- sessions
 carries_sessions : (w : World) (sessions : List SessionState) → Carries w (with_sessions w sessions)
@@ -145,23 +153,15 @@ KeepsSession w change = (session next : SessionState) → IsSessionSound w sessi
 
 sound_sessions : (w : World) (s : ℕ) (session next : SessionState) → IsSound w → slice_get w.sessions s ≡ Some session
     → IsSessionSound w next → IsSound (with_sessions w (set w.sessions s next))
-sound_sessions w s session next sound found known = record {
-  floor_last = sound.floor_last;
-  copy_last = sound.copy_last;
-  used = sound.used;
-  dated = sound.dated;
-  listed_once = sound.listed_once;
-  shown = sound.shown;
-  named = named_still w w.heap w.status w.floor w.copy (set w.sessions s next) sound;
-  sessions = λ t. carry w (with_sessions w (set w.sessions s next)) (session_of (with_sessions w (set w.sessions s next)) t)
-      (carries_sessions w (set w.sessions s next))
-      (elim (cases_eq t s) [
-        | inl e ↦ subst (IsSessionSound w) (sym (ap (session_of (with_sessions w (set w.sessions s next))) e
-            ∙ session_after w s session next found)) known
-        | inr ne ↦ subst (IsSessionSound w) (sym (session_else w s t next ne)) (sound.sessions t)
-      ]);
-  sizes = sound.sizes;
-}
+sound_sessions w s session next sound found known =
+    sound_beside w w.floor w.copy (set w.sessions s next) sound sound.floor_last sound.copy_last
+    (λ t. carry w (with_sessions w (set w.sessions s next)) (session_of (with_sessions w (set w.sessions s next)) t)
+    (carries_sessions w (set w.sessions s next))
+    (elim (cases_eq t s) [
+      | inl e ↦ subst (IsSessionSound w) (sym (ap (session_of (with_sessions w (set w.sessions s next))) e
+          ∙ session_after w s session next found)) known
+      | inr ne ↦ subst (IsSessionSound w) (sym (session_else w s t next ne)) (sound.sessions t)
+    ]))
 
 pub sound_move : (w : World) (s : ℕ) (change : SessionState → Option SessionState) (after : World) → IsSound w
     → KeepsSession w change → move w s change ≡ Some after → IsSound after

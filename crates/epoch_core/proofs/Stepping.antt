@@ -1,9 +1,12 @@
 -- An event that changes one part of the world is a step of the whole state.
-use Rattle.std.{proofs.Common.{◌≡◌, ℕ, List, refl, sym, ap, subst}, specs.{Prelude.{IfOk, OnErr}, Option.option_map}}
+use Rattle.std.proofs.{Common.{◌≡◌, ℕ, List, refl, sym, ap, subst, true}, lemmas.Result.{IfOk-weaker, on_err_weaker}}
+use Rattle.std.specs.{Prelude.{IfOk, OnOk, OnErr, IsTrue, MatchOption, slice_get}, Option.{option_map, option_and_then}}
 use Rattle.std.specs.declared.{option.Option.{Option, TheVariants.{None, Some}}, result.Result.{Result, TheVariants.{Ok, Err}}}
 use Rattle.epoch_core.specs.{Blocks.Stepped, Blocks.changed_at, Worlds.MachineState, Worlds.World, Runs.Steps}
-use Rattle.epoch_core.specs.declared.{step.Step.Step, events.Event.Event, session_states.SessionState.SessionState}
-use Rattle.epoch_core.specs.Machine.{Replies, move, step, with_sessions, with_status}
+use Rattle.epoch_core.specs.declared.{step.Step.Step, events.Event.{Event, TheVariants.Reply}, session_states.SessionState.SessionState}
+use Rattle.epoch_core.specs.Machine.{IsAnswered, Replies, move, question_in, step, takes_memory, to_reply, with_sessions, with_status}
+use Rattle.epoch_core.specs.declared.states.Version.{Version}
+use Rattle.epoch_core.specs.Worlds.{Answer}
 use Rattle.block_reclamation.specs.declared.status.BlockStatus.{BlockStatus}
 
 pub stepped_in : {A W : Type 0} (put_in : A → W) (o : Option A) (outcome : Step) (old new : A) → Stepped o outcome old new
@@ -43,11 +46,66 @@ moved_by old e event s change outcome sessions same does replies is =
     steps_by old e event (with_sessions old.world) (changed_at change old.world.sessions s) outcome old.world.sessions sessions same
     does refl replies is
 
--- what a call leaves
-pub ok_also : {A E : Type 0} (r : Result A E) (P Q : A → Type 0) → ((x : A) → P x → Q x) → IfOk r P → IfOk r Q
-ok_also (Ok x) P Q also is = also x is
-ok_also (Err e) P Q also is = tt
+-- What an event of one session leaves, whose call may run out of memory
 
 pub err_always : {A E : Type 0} (r : Result A E) (P : Type 0) → P → OnErr r P
 err_always (Ok x) P is = tt
 err_always (Err e) P is = is
+
+pub record MayStep {E : Type 0} (old : MachineState) (event : Event) (r : Result Step E) (new : MachineState) : Type 0 where
+  pub steps : IfOk r (λ outcome. Steps old event outcome new)
+  pub unchanged : OnErr r (new ≡ old)
+  pub memory : OnErr r (IsTrue (takes_memory event))
+
+pub may_step : {E : Type 0} (old : MachineState) (e event : Event) (r : Result Step E) (new : MachineState) → event ≡ e
+    → takes_memory e ≡ true → IfOk r (λ outcome. Steps old e outcome new) → OnErr r (new ≡ old) → MayStep old event r new
+may_step old e event r new same takes steps unchanged = subst (λ x. MayStep old x r new) (sym same) (record {
+  steps = steps;
+  unchanged = unchanged;
+  memory = err_always r _ takes;
+})
+
+-- a move of a session
+pub may_move : {E : Type 0} (old : MachineState) (e event : Event) (s : ℕ) (change : SessionState → Option SessionState)
+    (r : Result Step E) (sessions : List SessionState) → event ≡ e → takes_memory e ≡ true
+    → step old.world e ≡ move old.world s change → Replies old.world e old.replies old.replies
+    → IfOk r (λ outcome. Stepped (changed_at change old.world.sessions s) outcome old.world.sessions sessions)
+    → OnErr r (sessions ≡ old.world.sessions)
+    → MayStep old event r (record { world = with_sessions old.world sessions; replies = old.replies })
+may_move old e event s change r sessions same takes does replies moves unchanged =
+    may_step old e event r _ same takes
+    (IfOk-weaker r _ (λ outcome. Steps old e outcome (record {
+      world = with_sessions old.world sessions;
+      replies = old.replies;
+    })) (λ outcome is. moved_by old e e s change outcome sessions refl does replies is) moves)
+    (on_err_weaker r (λ stay. ap (λ kept. record { world = with_sessions old.world kept; replies = old.replies }) stay) unchanged)
+
+-- a session's reply
+reply_steps : (old : MachineState) (s : ℕ) (outcome : Step) (sessions : List SessionState) (replies : List (List Answer))
+    → Stepped (changed_at (to_reply old.world.opening old.world.versions) old.world.sessions s) outcome old.world.sessions sessions
+    → Replies old.world (Reply s) old.replies replies
+    → Steps old (Reply s) outcome (record { world = with_sessions old.world sessions; replies = replies })
+reply_steps old s outcome sessions replies moves answered = record {
+  world = stepped_in (with_sessions old.world) (changed_at (to_reply old.world.opening old.world.versions) old.world.sessions s)
+      outcome old.world.sessions sessions moves;
+  replies = answered;
+}
+
+pub may_reply : {E : Type 0} (old : MachineState) (event : Event) (s : ℕ) (versions : List Version) (r : Result Step E)
+    (sessions : List SessionState) (replies : List (List Answer)) → event ≡ Reply s → versions ≡ old.world.versions
+    → IfOk r (λ outcome. Stepped (changed_at (to_reply old.world.opening versions) old.world.sessions s) outcome
+    old.world.sessions sessions)
+    → OnOk r (MatchOption (option_and_then (question_in old.world.opening versions) (slice_get old.world.sessions s))
+    (replies ≡ old.replies) (λ q. IsAnswered s q old.replies replies))
+    → OnErr r (sessions ≡ old.world.sessions) → OnErr r (replies ≡ old.replies)
+    → MayStep old event r (record { world = with_sessions old.world sessions; replies = replies })
+may_reply old event s versions (Ok outcome) sessions replies same read moves answered stay still =
+    may_step old (Reply s) event (Ok outcome) _ same refl
+    (reply_steps old s outcome sessions replies
+    (subst (λ v. Stepped (changed_at (to_reply old.world.opening v) old.world.sessions s) outcome old.world.sessions sessions)
+    read moves)
+    (subst (λ v. MatchOption (option_and_then (question_in old.world.opening v) (slice_get old.world.sessions s))
+    (replies ≡ old.replies) (λ q. IsAnswered s q old.replies replies)) read answered)) tt
+may_reply old event s versions (Err e) sessions replies same read moves answered stay still =
+    may_step old (Reply s) event (Err e) _ same refl tt
+    (λ i. record { world = with_sessions old.world (stay i); replies = still i })

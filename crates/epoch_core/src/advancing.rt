@@ -45,11 +45,28 @@ fn advance(parts: &mut Parts, event: &Event) -> Result<Step, AllocError>
         Event::Floor => Ok(raise_floor(parts)),
         Event::Recycle(block) => Ok(recycle_block(&mut parts.status, &parts.copy, *block)),
         Event::Pin(session) => Ok(pin(&mut parts.sessions, *session, parts.floor)),
-        Event::Enter(session) => Ok(enter_last(parts, *session)),
+        Event::Enter(session) => {
+            let last = parts.versions.len() as u64;
+            Ok(enter(&mut parts.sessions, *session, last))
+        }
         Event::Settle(session) => Ok(settle(&mut parts.sessions, *session)),
         Event::Ask(session, request) => ask(parts.alloc, &mut parts.sessions, *session, request),
-        Event::Read(session) => read_next(parts, *session),
-        Event::Reply(session) => reply_to(parts, *session),
+        Event::Read(session) => read(
+            parts.alloc,
+            &parts.opening,
+            parts.heap.as_slice(),
+            parts.versions.as_slice(),
+            &mut parts.sessions,
+            *session,
+        ),
+        Event::Reply(session) => reply(
+            parts.alloc,
+            &parts.opening,
+            parts.versions.as_slice(),
+            &mut parts.sessions,
+            &mut parts.replies,
+            *session,
+        ),
         Event::Release(session) => Ok(release(&mut parts.sessions, *session)),
     }
 }
@@ -105,47 +122,4 @@ fn raise_floor(parts: &mut Parts) -> Step
     parts.floor = copy.floor();
     parts.copy = copy;
     Step::Done
-}
-
-fn enter_last(parts: &mut Parts, session: usize) -> Step
-    requires { IsCore (state_of parts.old) }
-    ensures steps { Steps (state_of parts.old) (Event.Enter session) result (state_of parts.new) }
-    ensures contents { HasContents parts.new.opening parts.new.versions.items }
-{
-    let last = parts.versions.len() as u64;
-    enter(&mut parts.sessions, session, last)
-}
-
-fn read_next(parts: &mut Parts, session: usize) -> Result<Step, AllocError>
-    requires { IsCore (state_of parts.old) }
-    ensures steps { IfOk result (λ outcome. Steps (state_of parts.old) (Event.Read session) outcome (state_of parts.new)) }
-    ensures unchanged { OnErr result (state_of parts.new ≡ state_of parts.old) }
-    ensures contents { HasContents parts.new.opening parts.new.versions.items }
-{
-    let step = read(
-        parts.alloc,
-        &parts.opening,
-        parts.heap.as_slice(),
-        parts.versions.as_slice(),
-        &mut parts.sessions,
-        session,
-    )?;
-    Ok(step)
-}
-
-fn reply_to(parts: &mut Parts, session: usize) -> Result<Step, AllocError>
-    requires { IsCore (state_of parts.old) }
-    ensures steps { IfOk result (λ outcome. Steps (state_of parts.old) (Event.Reply session) outcome (state_of parts.new)) }
-    ensures unchanged { OnErr result (state_of parts.new ≡ state_of parts.old) }
-    ensures contents { HasContents parts.new.opening parts.new.versions.items }
-{
-    let step = reply(
-        parts.alloc,
-        &parts.opening,
-        parts.versions.as_slice(),
-        &mut parts.sessions,
-        &mut parts.replies,
-        session,
-    )?;
-    Ok(step)
 }

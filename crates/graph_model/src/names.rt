@@ -66,6 +66,16 @@ pub(crate) fn make_names(
     if !makes_names(change) {
         return Ok(());
     }
+    make_both(names, source, target)
+}
+
+/// Adds the names of an edge's two ends. `NamesFull` where they would be more than 65,536.
+fn make_both(names: &mut Vec<Name>, source: &Name, target: &Name) -> Result<(), PlainError>
+    ensures made { OnOk result (names.new.items ≡ step.with_name (step.with_name names.old.items source.now) target.now) }
+    ensures few { OnOk result (length names.new.items ≤ name_limit) }
+    ensures refused { IfErr result (λ e. IsNamesRefusal e
+        (step.with_name (step.with_name names.old.items source.now) target.now)) }
+{
     add_name(names, source)?;
     add_name(names, target)?;
     if names.len() > 65_536 {
@@ -101,36 +111,10 @@ fn make_names_of(names: &mut Vec<Name>, op: &NamedOp) -> Result<(), PlainError>
     ensures refused { IfErr result (λ e. IsNamesRefusal e (left.names_after op.now names.old.items)) }
 {
     match op {
-        NamedOp::Insert {
-            source,
-            target,
-            weight,
-            time,
-            ..
-        } => {
-            let change = EdgeChange::Insert {
-                weight: *weight,
-                time: *time,
-            };
-            make_names(names, change, source, target)
+        NamedOp::Insert { source, target, .. } | NamedOp::Incr { source, target, .. } => {
+            make_both(names, source, target)
         }
-        NamedOp::Incr {
-            source,
-            target,
-            amount,
-            time,
-            ..
-        } => {
-            let change = EdgeChange::Incr {
-                amount: *amount,
-                time: *time,
-            };
-            make_names(names, change, source, target)
-        }
-        NamedOp::Remove { source, target, .. } => {
-            make_names(names, EdgeChange::Remove, source, target)
-        }
-        NamedOp::Expire { .. } => Ok(()),
+        NamedOp::Remove { .. } | NamedOp::Expire { .. } => Ok(()),
     }
 }
 

@@ -226,31 +226,35 @@ unstarted_part setup rows before after count part = (
 done_ended : (feed feed' : Script) (run : Run) → IsReady feed run → MeetsEnd feed feed' → records_done feed' ≡ run.records
 done_ended feed feed' run ready meets = rw meets.ended (meets.given ∙ sym ready.records)
 
--- the end of the input, by what the run's finish answers
+-- what a run's finish answers
+pub record Finishes (run : Run) (mid after : Option (List ℕ)) (result : Result Summary ServeFault) : Type 0 where
+  pub whole : OnOk result (Appends mid after (end_line (length (pending_of run.server))))
+  pub summary : IfOk result
+      (λ summary. summary ≡ record { records = run.records; errors = run.errors; pending = length (pending_of run.server) })
+  pub part : OnErr result (AppendsPart mid after (end_line (length (pending_of run.server))))
+  pub fault : IfErr result (λ fault. fault ≡ Write)
+
+-- the end of the input
 pub whole_or_part : (setup : Setup) (rows : List Row) (feed feed' : Script) (run run' : Run)
     (before now mid after : Option (List ℕ))
     (result : Result Summary ServeFault) → IsReady feed run → Reaches setup (Some rows) feed.left run before now
     → IsTurn feed run now (Ok false) feed' run' mid
-    → OnOk result (Appends mid after (end_line (length (pending_of run'.server))))
-    → IfOk result
-    (λ summary. summary ≡ record { records = run'.records; errors = run'.errors; pending = length (pending_of run'.server) })
-    → OnErr result (AppendsPart mid after (end_line (length (pending_of run'.server))))
-    → IfErr result (λ fault. fault ≡ Write)
+    → Finishes run' mid after result
     → AppendsSome before after (IsText setup rows (records_done feed') result)
-whole_or_part setup rows feed feed' run run' before now mid after (Ok summary) ready reached turned whole counts part fault =
+whole_or_part setup rows feed feed' run run' before now mid after (Ok summary) ready reached turned ends =
     let same : run' ≡ run = turned.1 in
     let few : run.records < record_limit = few_given feed run ready turned.0.open_before in
     let written : Appends now after (end_line (length (pending_of run.server))) =
-    appends_then now mid after [] (end_line (length (pending_of run.server))) turned.2 (rw same at whole) in
+    appends_then now mid after [] (end_line (length (pending_of run.server))) turned.2 (rw same at ends.whole) in
     finished setup rows feed.left run before now after (records_done feed') summary reached turned.0.over few
-    (done_ended feed feed' run ready turned.0) written (rw same at counts)
-whole_or_part setup rows feed feed' run run' before now mid after (Err error) ready reached turned whole counts part fault =
+    (done_ended feed feed' run ready turned.0) written (rw same at ends.summary)
+whole_or_part setup rows feed feed' run run' before now mid after (Err error) ready reached turned ends =
     let same : run' ≡ run = turned.1 in
     let few : run.records < record_limit = few_given feed run ready turned.0.open_before in
     let written : AppendsPart now after (end_line (length (pending_of run.server))) =
-    part_then now mid after [] (end_line (length (pending_of run.server))) turned.2 (rw same at part) in
+    part_then now mid after [] (end_line (length (pending_of run.server))) turned.2 (rw same at ends.part) in
     let text = unfinished setup rows feed.left run before now after (records_done feed') reached turned.0.over few written in
-    rw fault text
+    rw ends.fault text
 
 -- the same of all records that are left, where they are known
 pub all_stopped : (first : Option (List Row)) (feed feed' : Script) (start run run' : Run) (before now after : Option (List ℕ))
@@ -267,18 +271,14 @@ pub all_ended : (first : Option (List Row)) (feed feed' : Script) (start run run
     (result : Result Summary ServeFault) → IsReady feed run
     → ((setup : Setup) → ShowsRun start (beginning setup) → Reaches setup first feed.left run before now)
     → IsTurn feed run now (Ok false) feed' run' mid
-    → OnOk result (Appends mid after (end_line (length (pending_of run'.server))))
-    → IfOk result
-    (λ summary. summary ≡ record { records = run'.records; errors = run'.errors; pending = length (pending_of run'.server) })
-    → OnErr result (AppendsPart mid after (end_line (length (pending_of run'.server))))
-    → IfErr result (λ fault. fault ≡ Write)
+    → Finishes run' mid after result
     → IfSome first (λ rows. (setup : Setup) → ShowsRun start (beginning setup)
     → AppendsSome before after (IsText setup rows (records_done feed') result))
-all_ended None feed feed' start run run' before now mid after result ready reached turned whole counts part fault = tt
-all_ended (Some rows) feed feed' start run run' before now mid after result ready reached turned whole counts part fault =
+all_ended None feed feed' start run run' before now mid after result ready reached turned ends = tt
+all_ended (Some rows) feed feed' start run run' before now mid after result ready reached turned ends =
     λ setup shows.
     whole_or_part setup rows feed feed' run run' before now mid after result ready
-    (reached setup shows) turned whole counts part fault
+    (reached setup shows) turned ends
 
 -- from a run to the records that are left
 pub from_run : (left : Option (List Row)) (start : Run) (setup : Setup) (count : ℕ) (before mid after : Option (List ℕ))

@@ -2,7 +2,7 @@
 use Rattle.std.proofs.Common.{◌≡◌, ◌≢◌, ℕ, zero, suc, ◌+◌, ◌<◌, ◌≤◌, ◌==◌, max, true, false, List, [], ◌∷◌, ◌++◌, length, map}
 use Rattle.std.proofs.Common.{take, get_or, set, replicate, append-nil, refl, sym, ap, ap₂, subst, ◌∙◌, arith, inl, inr, ◌-◌}
 use Rattle.std.proofs.lemmas.{Bool.{eq-eqb, eqb-true, true≢false}, List.{get_or-set_same, get_or-set_other, length-map, map-set}}
-use Rattle.std.proofs.lemmas.List.{take-append-le, length-append, get_or-map, FromFn.get_or-range_with_len}
+use Rattle.std.proofs.lemmas.List.{take-append-le, length-append, nil_from_length, get_or-map, FromFn.get_or-range_with_len}
 use Rattle.std.proofs.{lemmas.Option.{get_or_from_slice_get, slice_get_read, slice_get_within}, Math.ListN.length-set}
 use Rattle.std.{proofs.Math.{Seq.take-length, Nat.max-eq_right}, specs.Prelude.{◌⊎◌, Option, None, Some, IfSome, slice_get}}
 use Rattle.std.specs.{Iterator.Yields, List.range_with_len, Option.option_map, declared.vec.IntoIter.IntoIter}
@@ -274,10 +274,6 @@ given s (x ∷ xs) t yields =
     let rest = given yields.0 xs t yields.2 in
     (yields.1.0 ∙ ap (λ ys. x ∷ ys) rest.0, omega (arith, yields.1.1, rest.1))
 
-nothing : {X : Type 0} (xs : List X) → length xs ≡ 0 → xs ≡ []
-nothing [] none = refl
-nothing (x ∷ xs) none = absurd (omega arith)
-
 pub all_given : {X Z : Type 0} (items : List X) (s : IntoIter X Z) (xs : List X) (t : IntoIter X Z) (r : Option X)
     (u : IntoIter X Z) → into_iter_items s ≡ items → into_iter_len s ≡ length items → Yields into_iter_steps s xs t
     → r ≡ None → into_iter_steps t r u → xs ≡ items
@@ -287,4 +283,4 @@ all_given items s xs t r u are count yields none step =
     let whole : length items ≡ length xs + length (into_iter_items t) =
     ap length (sym are ∙ both.0) ∙ length-append xs (into_iter_items t) in
     let left : length (into_iter_items t) ≡ 0 = omega (arith, whole, count, both.1, end.0) in
-    sym (append-nil xs) ∙ (ap (λ ys. xs ++ ys) (sym (nothing (into_iter_items t) left)) ∙ (sym both.0 ∙ are))
+    sym (append-nil xs) ∙ (ap (λ ys. xs ++ ys) (sym (nil_from_length (into_iter_items t) left)) ∙ (sym both.0 ∙ are))

@@ -151,6 +151,10 @@ rebased_sound s (Ok held) sound = record {
   pending = sound.pending;
 }
 
+-- what isn't past a limit
+at_most : (n limit : ℕ) → (limit < n → ⊥) → n ≤ limit
+at_most n limit not_over = elim (cases_lt limit n) as (λ _. n ≤ limit) [ inl over ↦ absurd (not_over over) | inr within ↦ within ]
+
 -- what a record leaves of such a state is one
 sound_after : (item : Result Command FeedWord) (s : ServerState) (outcome : RecordResult) → IsRecordResult item s outcome
     → IsSound s → IsSound (after_item item outcome s)
@@ -161,19 +165,7 @@ sound_after (Ok (Op op)) s (Ok lines) is sound = record {
 }
 sound_after (Ok (Op op)) s (Err word) is sound = sound
 sound_after (Ok Commit) s (Ok lines) is sound =
-    let names : length (after_all s.pending (last_version s)).names ≤ name_limit =
-    elim (cases_lt name_limit (length (after_all s.pending (last_version s)).names)) as (λ _.
-    length (after_all s.pending (last_version s)).names ≤ name_limit) [
-      | inl over ↦ absurd (is.0.limits.0 over)
-      | inr within ↦ within
-    ] in
-    let kinds : length (after_all s.pending (last_version s)).kinds ≤ kind_limit =
-    elim (cases_lt kind_limit (length (after_all s.pending (last_version s)).kinds)) as (λ _.
-    length (after_all s.pending (last_version s)).kinds ≤ kind_limit) [
-      | inl over ↦ absurd (is.0.limits.1 over)
-      | inr within ↦ within
-    ] in
-    committed_sound s sound names kinds
+    committed_sound s sound (at_most _ name_limit is.0.limits.0) (at_most _ kind_limit is.0.limits.1)
 sound_after (Ok Commit) s (Err word) is sound = record { versions = sound.versions; pending = none_valid }
 sound_after (Ok (OpenSlot slot)) s (Ok lines) is sound = record { versions = sound.versions; pending = sound.pending }
 sound_after (Ok (OpenSlot slot)) s (Err word) is sound = sound

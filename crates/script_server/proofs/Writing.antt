@@ -1,6 +1,6 @@
 -- Known bytes that grow by one text and then by another.
-use Rattle.std.proofs.Common.{◌≡◌, ℕ, ◌+◌, ◌-◌, List, [], ◌++◌, append_assoc, append-nil, sym, ◌∙◌, ap, take, drop, length}
-use Rattle.std.proofs.{Common.length-drop, lemmas.List.take-append-drop, Math.Seq.take-add, Math.Seq.take-length}
+use Rattle.std.proofs.Common.{ℕ, ◌+◌, ◌-◌, List, [], ◌++◌, append_assoc, append-nil, sym, ◌∙◌, ap, take, drop, length}
+use Rattle.std.proofs.{lemmas.List.{take-append-drop, take_rest}, Math.Seq.take-add}
 use Rattle.std.specs.{Prelude.{Option, None, Some, Result, Ok, Err, OnErr, OnOk}, Io.KnownBytes.{Appends, Keeps}}
 use Rattle.script_server.specs.Writes.{AppendsPart}
 
@@ -34,14 +34,11 @@ part_then a b c x y first second = (
 pub part_longer : (a b : Option (List ℕ)) (x y : List ℕ) → AppendsPart a b x → AppendsPart a b (x ++ y)
 part_longer a b x y part = (part.0, part.1 ++ y, ap (λ text. text ++ y) part.2 ∙ append_assoc part.0 part.1 y, part.3)
 
-pub slice_rest : (at : ℕ) (text : List ℕ) → take (length text - at) (drop at text) ≡ drop at text
-slice_rest at text = rw (← length-drop at text) (take-length (drop at text))
-
 -- n bytes more of a text
 pub taken_more : (a b c : Option (List ℕ)) (at n : ℕ) (text : List ℕ) → Appends a b (take at text)
     → Appends b c (take n (take (length text - at) (drop at text))) → Appends a c (take (at + n) text)
 taken_more a b c at n text before more =
-    rw (take-add at n text) (appends_then a b c (take at text) (take n (drop at text)) before (rw (slice_rest at text) at more))
+    rw (take-add at n text) (appends_then a b c (take at text) (take n (drop at text)) before (rw (take_rest text at) at more))
 
 -- the first bytes of a text, and nothing more
 pub part_taken : (a b c : Option (List ℕ)) (at : ℕ) (text : List ℕ) → Appends a b (take at text) → Keeps b c

@@ -12,6 +12,7 @@ ghost use Rattle.script_server.specs.Texts.{IsText};
 ghost use Rattle.script_server.specs.Runs.{CountsRecord, ExecutesRecord, HasCause, IsFresh, IsReady, IsStartup, IsTurn};
 ghost use Rattle.script_server.specs.Runs.{ShowsRun, TellsStop, is_start, is_write, records_done};
 ghost use Rattle.script_server.specs.Writes.{AppendsPart, AppendsSome, held};
+ghost use Rattle.script_server.specs.declared.script.ServeFault.TheVariants.{Memory, Write};
 
 use crate::output;
 use crate::server::{Response, Server, Stop};
@@ -344,9 +345,6 @@ fn turn<P: Threads + Wait + Sync, R: Read, W: Write>(
 }
 
 impl From<AllocError> for ServeFault {
-    ghost use Rattle.std.specs.Prelude.{◌≡◌};
-    ghost use Rattle.script_server.specs.declared.script.ServeFault.TheVariants.{Memory};
-
     ghost from_gives = { λ _ fault. fault ≡ Memory };
 
     fn from(_error: AllocError) -> ServeFault {
@@ -355,9 +353,6 @@ impl From<AllocError> for ServeFault {
 }
 
 impl From<Unwritten> for ServeFault {
-    ghost use Rattle.std.specs.Prelude.{◌≡◌};
-    ghost use Rattle.script_server.specs.declared.script.ServeFault.TheVariants.{Write};
-
     ghost from_gives = { λ _ fault. fault ≡ Write };
 
     fn from(_unwritten: Unwritten) -> ServeFault {

@@ -13,6 +13,7 @@ ghost use Rattle.stream_store.specs.Refusals.{block_count};
 ghost use Rattle.stream_store.specs.Seats.{SeatView, held_version};
 ghost use Rattle.script_server.specs.Servers.{EndsAt, IsServer, LacksReader, Obeys, ShowsServer, pending_of};
 ghost use Rattle.script_server.specs.Servers as servers;
+ghost use Rattle.script_server.specs.declared.server.Stop.TheVariants.{Memory};
 ghost use Rattle.script_server.specs.States as states;
 
 use crate::slots::Slots;
@@ -47,9 +48,6 @@ pub enum Stop {
 }
 
 impl From<AllocError> for Stop {
-    ghost use Rattle.std.specs.Prelude.{◌≡◌};
-    ghost use Rattle.script_server.specs.declared.server.Stop.TheVariants.{Memory};
-
     ghost from_gives = { λ _ stop. stop ≡ Memory };
 
     fn from(_refused: AllocError) -> Stop {

@@ -1,8 +1,8 @@
 -- One block after another is given back or retired.
-use Rattle.std.proofs.{Common.{◌≡◌, ℕ, ◌==◌, true, false, List, [], ◌∷◌, set, refl, sym, ap, ◌∙◌}, lemmas.Bool.eq-eqb}
-use Rattle.std.{proofs.lemmas.Bool.true≢false, specs.{List.list_all, Prelude.{slice_get, Bool}}}
+use Rattle.std.proofs.{Common.{◌≡◌, ℕ, ◌==◌, true, false, List, [], ◌∷◌, set, refl, sym, ap, ◌∙◌}, lemmas.Bool.{eq-eqb, or_parts, true≢false}}
+use Rattle.std.specs.{List.list_all, Prelude.{slice_get, Bool}}
 use Rattle.block_reclamation.specs.{declared.status.BlockStatus.BlockStatus, Status.is_at, Status.is_listed}
-use Rattle.epoch_core.{specs.Blocks.all_differ, proofs.Lists.{set_else, and_left, and_right, or_false}}
+use Rattle.epoch_core.{specs.Blocks.all_differ, proofs.Lists.{set_else, and_left, and_right}}
 use Rattle.store_steps.proofs.NumberLists.{differ_head, differ_tail}
 
 -- numbers whose statuses pass a test, and that are each there once: they may be moved one after another
@@ -16,7 +16,7 @@ still_pass : (test : BlockStatus → Bool) (n : ℕ) (ns : List ℕ) (s : BlockS
     → list_all (λ m. is_at test (slice_get (set pool n s) m)) ns ≡ true
 still_pass test n [] s pool pass apart = refl
 still_pass test n (m ∷ ns) s pool pass apart =
-    let parts : ((m == n) ≡ false) × (is_listed n ns ≡ false) = or_false (m == n) (is_listed n ns) apart in
+    let parts : ((m == n) ≡ false) × (is_listed n ns ≡ false) = or_parts (m == n) (is_listed n ns) apart in
     let same : is_at test (slice_get (set pool n s) m) ≡ is_at test (slice_get pool m) =
     ap (is_at test) (set_else pool n m s (λ e. absurd (true≢false (sym (eq-eqb m n e) ∙ parts.0)))) in
     let here : is_at test (slice_get (set pool n s) m) ≡ true = same ∙ and_left _ _ pass in

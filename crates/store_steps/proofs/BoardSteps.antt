@@ -1,7 +1,8 @@
 -- The board's calls are the machine's steps.
-use Rattle.std.proofs.Common.{◌≡◌, ℕ, zero, suc, ◌<◌, ◌≤◌, List, [], ◌∷◌, length, true, refl, sym, ap, ◌∙◌, arith}
-use Rattle.std.proofs.lemmas.{Bool.cases_eq, List.get_or-set_same, List.get_or-set_other, List.length-map, List.length-replicate}
-use Rattle.std.{proofs.lemmas.Grind.common_steps, specs.Prelude.Option, specs.Prelude.Some, specs.Prelude.option_map}
+use Rattle.std.proofs.Common.{◌≡◌, ℕ, ◌<◌, ◌≤◌, List, length, true, sym, ap, ◌∙◌, arith}
+use Rattle.std.proofs.lemmas.Bool.{cases_eq}
+use Rattle.std.proofs.lemmas.List.{get_or_default, get_or-set_same, get_or-set_other, length-map, length-replicate, same_lists}
+use Rattle.std.{proofs.lemmas.Grind.common_steps, specs.Prelude.{None, Option, Some, option_map}}
 use Rattle.block_reclamation.specs.{declared.copies.{Pin.Pin, PinCopy.PinCopy, TheConstants.SEATS}, Board.{BoardState, IsBoard}}
 use Rattle.block_reclamation.specs.{Board.with_pin, Copies.{pin_at, unsettled, settled, copy_of}}
 use Rattle.epoch_core.specs.{declared.session_states.SessionState.SessionState, Machine.to_pin, Machine.to_settle}
@@ -63,13 +64,8 @@ settles_as_machine b w s n board low shows held below after is =
 
 -- lists of one length with the same at each place are the same
 same_elements : (xs ys : List (Option Pin)) → length xs ≡ length ys → ((s : ℕ) → pin_at xs s ≡ pin_at ys s) → xs ≡ ys
-same_elements [] [] long same = refl
-same_elements [] (y ∷ ys) long same = absurd (omega arith)
-same_elements (x ∷ xs) [] long same = absurd (omega arith)
-same_elements (x ∷ xs) (y ∷ ys) long same =
-    let head : x ≡ y = same zero in
-    let rest : xs ≡ ys = same_elements xs ys (omega arith) (λ s. same (suc s)) in
-    cc
+same_elements xs ys long same = same_lists xs ys long
+    (λ k d h. get_or_default xs k d None h ∙ same k ∙ get_or_default ys k None d (omega (arith, h, long)))
 
 -- the board's pins are the machine's
 pins_same : (b : BoardState) (w : World) → IsBoard b → length w.sessions ≤ SEATS → ShowsBoard b w → seat_pins w.sessions ≡ b.pins

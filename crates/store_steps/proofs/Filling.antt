@@ -1,6 +1,6 @@
 -- Take and Fill of several blocks.
 use Rattle.std.proofs.Common.{◌≡◌, ◌≢◌, ℕ, ◌<◌, ◌==◌, true, false, List, [], ◌∷◌, ◌++◌, length, set, refl, sym, ap, ◌∙◌, arith}
-use Rattle.std.proofs.lemmas.{Grind.common_steps, Bool.eq-eqb, Bool.true≢false, List.length-set}
+use Rattle.std.proofs.lemmas.{Grind.common_steps, Bool.{eq-eqb, or_parts, true≢false}, List.length-set}
 use Rattle.std.proofs.lemmas.List.Elements.{All-head, All-tail, All-cons}
 use Rattle.std.{proofs.Common.get_or-set_same, proofs.Common.get_or-set_other, specs.declared.option.Option.TheVariants.Some}
 use Rattle.std.specs.{Prelude.{slice_get, All}, Option.{option_map, option_and_then}, List.flat_map}
@@ -11,7 +11,7 @@ use Rattle.block_reclamation.specs.{Status.is_listed, declared.status.BlockStatu
 use Rattle.block_pool.specs.Pools.{marked}
 use Rattle.epoch_core.specs.{declared.events.Event.{Event, TheVariants.{Take, Fill}}, Blocks.{taken, put, all_differ}}
 use Rattle.epoch_core.specs.{Machine.{step, with_status, with_heap}, Versions.{edges_at, edges_of}, Worlds.World}
-use Rattle.epoch_core.proofs.Lists.{set_same, set_else, or_false}
+use Rattle.epoch_core.proofs.Lists.{set_same, set_else}
 use Rattle.store_steps.{specs.Steps.all_done, specs.Steps.filling, proofs.NumberLists.differ_head, proofs.NumberLists.differ_tail}
 
 -- the heap with the edges of these blocks at their numbers
@@ -42,7 +42,7 @@ still : (status : List BlockStatus) (s x : BlockStatus) (b : BlockView) (bs : Li
 still status s x b [] apart all = λ k d h. absurd (omega arith)
 still status s x b (c ∷ cs) apart all =
     let parts : ((c.number == b.number) ≡ false) × (is_listed b.number (numbers_of cs) ≡ false) =
-    or_false (c.number == b.number) (is_listed b.number (numbers_of cs)) apart in
+    or_parts (c.number == b.number) (is_listed b.number (numbers_of cs)) apart in
     All-cons (λ y. slice_get (set status b.number x) y.number ≡ Some s) c cs
     (set_else status b.number c.number x (λ e. absurd (true≢false (sym (eq-eqb c.number b.number e) ∙ parts.0)))
     ∙ All-head (λ y. slice_get status y.number ≡ Some s) c cs all)
@@ -74,7 +74,7 @@ pub heap_else : (bs : List BlockView) (heap : List (List Edge)) (n : ℕ) → is
 heap_else [] heap n apart = refl
 heap_else (b ∷ bs) heap n apart =
     let parts : ((b.number == n) ≡ false) × (is_listed n (numbers_of bs) ≡ false) =
-    or_false (b.number == n) (is_listed n (numbers_of bs)) apart in
+    or_parts (b.number == n) (is_listed n (numbers_of bs)) apart in
     let ne : n ≢ b.number = λ e. absurd (true≢false (sym (eq-eqb b.number n (sym e)) ∙ parts.0)) in
     heap_else bs (set heap b.number (edges_in_block b)) n parts.1 ∙ rw get_or-set_other refl
 

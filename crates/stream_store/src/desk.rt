@@ -3,6 +3,8 @@
 ghost use Rattle.std.specs.Prelude.{◌≡◌, ℕ, ◌+◌, ◌<◌, ◌≤◌, ◌++◌, length, map, count_by, vec_capacity, vec_len};
 ghost use Rattle.std.specs.Prelude.{IfOk, IfErr, OnOk, OnErr};
 ghost use Rattle.std.specs.Arc.{arc_value};
+ghost use Rattle.std.specs.Coded.{codes};
+ghost use Rattle.graph_types.specs.Coded.{graph_code};
 ghost use mathlib.Core.List.{IsPrefix};
 ghost use Rattle.graph_version.specs.declared.versions.Version.{Version};
 ghost use Rattle.graph_version.specs.Versions.{content};
@@ -17,7 +19,7 @@ ghost use Rattle.store_steps.specs.Opening.{opened_desk};
 ghost use Rattle.store_steps.specs.Steps.{Accepts, TakesAt, recycling};
 ghost use Rattle.stream_store.specs.Applying.{IsReceipt};
 ghost use Rattle.stream_store.specs.Refusals.{Refuses, IsWithin, block_count};
-ghost use Rattle.stream_store.specs.Kept.{entry_of};
+ghost use Rattle.stream_store.specs.Kept.{DeskState, IsDeskState, entry_of, state_of};
 ghost use Rattle.stream_store.specs.Openings.{OpensWith};
 
 use crate::applying::{Prepared, grant_blocks, next_number, plan_next, prepare, publish};
@@ -72,13 +74,6 @@ impl Drop for Desk {
 }
 
 impl Model for Desk {
-    ghost use Rattle.std.specs.Prelude.{vec_capacity, vec_len};
-    ghost use Rattle.std.specs.Arc.{arc_value};
-    ghost use Rattle.graph_version.specs.declared.versions.Version.{Version};
-    ghost use Rattle.stream_store.specs.Kept.{DeskState, state_of, IsDeskState};
-    ghost use Rattle.std.specs.Coded.{codes};
-    ghost use Rattle.graph_types.specs.Coded.{graph_code};
-
     ghost Value = { DeskState };
 
     ghost coded = { Prim.hlevel (codes, graph_code) };

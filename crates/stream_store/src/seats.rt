@@ -3,13 +3,17 @@
 
 ghost use Rattle.std.specs.Prelude.{◌≡◌, ◌⊎◌, ℕ, List, max, length, IfOk, IfErr, OnOk, OnErr, MatchResult, Some, None, true};
 ghost use Rattle.std.specs.Prelude.{Err, option_map};
+ghost use Rattle.std.specs.Arc.{arc_value};
+ghost use Rattle.std.specs.Coded.{codes};
+ghost use Rattle.graph_types.specs.Coded.{graph_code};
 ghost use Rattle.graph_types.specs.Answer.{IsAnswer};
 ghost use Rattle.graph_types.specs.declared.requests.Request.TheVariants.{OneEdge};
 ghost use Rattle.block_reclamation.specs.Board.{with_pin};
 ghost use Rattle.block_reclamation.specs.Copies.{pin_at, unsettled, settled};
+ghost use Rattle.graph_version.specs.declared.versions.Version.{Version};
 ghost use Rattle.version_shelf.specs.Shelves.{Begins, IsOfOneShelf};
 ghost use Rattle.version_answers.specs.Numbered.{IsNumberedAnswer};
-ghost use Rattle.stream_store.specs.Seats.{held_version, held_graph, lent_to, seat_of};
+ghost use Rattle.stream_store.specs.Seats.{SeatView, SessionView, held_version, held_graph, lent_to, seat_of};
 
 use crate::desk::Desk;
 use crate::receipts::Receipt;
@@ -46,10 +50,6 @@ impl Drop for Seat {
 }
 
 impl Model for Seat {
-    ghost use Rattle.stream_store.specs.Seats.{SeatView};
-    ghost use Rattle.std.specs.Coded.{codes};
-    ghost use Rattle.graph_types.specs.Coded.{graph_code};
-
     ghost Value = { SeatView };
 
     ghost coded = { Prim.hlevel (codes, graph_code) };
@@ -80,10 +80,6 @@ impl Drop for PinnedSeat {
 }
 
 impl Model for PinnedSeat {
-    ghost use Rattle.stream_store.specs.Seats.{SeatView};
-    ghost use Rattle.std.specs.Coded.{codes};
-    ghost use Rattle.graph_types.specs.Coded.{graph_code};
-
     ghost Value = { SeatView };
 
     ghost coded = { Prim.hlevel (codes, graph_code) };
@@ -118,13 +114,6 @@ impl Drop for Session {
 }
 
 impl Model for Session {
-    ghost use Rattle.std.specs.Prelude.{option_map};
-    ghost use Rattle.std.specs.Arc.{arc_value};
-    ghost use Rattle.graph_version.specs.declared.versions.Version.{Version};
-    ghost use Rattle.stream_store.specs.Seats.{SessionView};
-    ghost use Rattle.std.specs.Coded.{codes};
-    ghost use Rattle.graph_types.specs.Coded.{graph_code};
-
     ghost Value = { SessionView };
 
     ghost coded = { Prim.hlevel (codes, graph_code) };

@@ -1,10 +1,10 @@
-use Rattle.std.proofs.{Common.{◌≡◌, true, List, refl, sym, ap, subst, ◌∙◌}, lemmas.Result.on_err_weaker}
-use Rattle.std.specs.{declared.result.Result.Result, Prelude.{IfOk, OnErr, IsTrue}}
+use Rattle.std.{proofs.Common.{◌≡◌, List, length, refl, sym, ap, subst, ◌∙◌, arith}, specs.Prelude.{IfOk, slice_index_or}}
+use Rattle.graph_types.specs.declared.ids.Edge.{Edge}
 use Rattle.epoch_core.specs.{Blocks.Stepped, Blocks.changed_at, Blocks.taken, Blocks.reclaimed, Worlds.MachineState, Runs.Steps}
-use Rattle.epoch_core.specs.{Cores.state_of, declared.session_states.SessionState.SessionState, declared.step.Step.Step}
-use Rattle.epoch_core.specs.declared.events.Event.{Event, TheVariants.Fill, TheVariants.Post, TheVariants.Ask}
-use Rattle.epoch_core.specs.Machine.{takes_memory, to_ask, to_pin, to_release, to_settle, with_sessions}
-use Rattle.epoch_core.proofs.Stepping.{changed_by, moved_by, ok_also, err_always}
+use Rattle.epoch_core.specs.{Cores.state_of, declared.events.Event.{Event, TheVariants.Fill, TheVariants.Post}}
+use Rattle.epoch_core.specs.declared.{states.Version.Version, session_states.SessionState.TheVariants.Idle}
+use Rattle.epoch_core.specs.Machine.{ReadsContent, to_ask, to_enter, to_pin, to_read, to_release, to_settle}
+use Rattle.epoch_core.proofs.{Read.reads_content, Stepping.{changed_by, moved_by, may_step, may_move, may_reply}}
 use Rattle.epoch_core.proofs.advancing.advance.Goals as goal
 
 pub returns-in-Take-clause-steps : goal.returns-in-Take-clause-steps
@@ -39,67 +39,54 @@ returns-in-Floor-clause-contents c = c.raise_floor.ensures.contents
 
 pub returns-in-Enter-clause-steps : goal.returns-in-Enter-clause-steps
 returns-in-Enter-clause-steps c =
-    subst (λ e. Steps (state_of c.args.parts.now) e c.enter_last.result (state_of c.enter_last.new.parts)) (sym c.in-Enter.is)
-    c.enter_last.ensures.steps
-
-pub returns-in-Enter-clause-contents : goal.returns-in-Enter-clause-contents
-returns-in-Enter-clause-contents c = c.enter_last.ensures.contents
-
--- a call's step and its want of memory are those of the event that it is
-by_event : {E : Type 0} (old new : MachineState) (e event : Event) (r : Result Step E) → event ≡ e → takes_memory e ≡ true
-    → IfOk r (λ outcome. Steps old e outcome new)
-    → IfOk r (λ outcome. Steps old event outcome new) × OnErr r (IsTrue (takes_memory event))
-by_event old new e event r is memory steps = (
-  subst (λ x. IfOk r (λ outcome. Steps old x outcome new)) (sym is) steps,
-  subst (λ x. OnErr r (IsTrue (takes_memory x))) (sym is) (err_always r _ memory),
-)
+    let old : MachineState = state_of c.args.parts.now in
+    let last : c.len-last.result ≡ length old.world.versions = omega (arith, c.len-last.ensures, c.args.parts.now.versions.ok.0) in
+    moved_by old _ _ c.in-Enter.session (to_enter (length old.world.versions)) _ _ c.in-Enter.is refl refl
+    (subst (λ n. Stepped (changed_at (to_enter n) old.world.sessions c.in-Enter.session) c.enter.result old.world.sessions
+    c.enter.new.sessions.items) last c.enter.ensures)
 
 pub returns-in-Fill : goal.returns-in-Fill
 returns-in-Fill c =
-    let both = by_event (state_of c.args.parts.now) (state_of c.fill.new.parts) _ _ c.fill.result
-    (c.in-Fill.is ∙ ap (λ edges. Fill c.in-Fill.block edges) (sym c.as_slice.ensures)) refl c.fill.ensures.steps in
-    record { steps = both.0; unchanged = c.fill.ensures.unchanged; memory = both.1; contents = c.fill.ensures.contents }
+    let s = may_step (state_of c.args.parts.now) _ c.args.event.now c.fill.result (state_of c.fill.new.parts)
+    (c.in-Fill.is ∙ ap (λ edges. Fill c.in-Fill.block edges) (sym c.as_slice.ensures)) refl c.fill.ensures.steps
+    c.fill.ensures.unchanged in
+    record { steps = s.steps; unchanged = s.unchanged; memory = s.memory; contents = c.fill.ensures.contents }
 
 pub returns-in-Post : goal.returns-in-Post
 returns-in-Post c =
-    let both = by_event (state_of c.args.parts.now) (state_of c.post.new.parts) _ _ c.post.result
-    (c.in-Post.is ∙ ap (λ blocks. Post c.in-Post.batch blocks) (sym c.as_slice-in-Post.ensures)) refl c.post.ensures.steps in
-    record { steps = both.0; unchanged = c.post.ensures.unchanged; memory = both.1; contents = c.post.ensures.contents }
+    let s = may_step (state_of c.args.parts.now) _ c.args.event.now c.post.result (state_of c.post.new.parts)
+    (c.in-Post.is ∙ ap (λ blocks. Post c.in-Post.batch blocks) (sym c.as_slice-in-Post.ensures)) refl c.post.ensures.steps
+    c.post.ensures.unchanged in
+    record { steps = s.steps; unchanged = s.unchanged; memory = s.memory; contents = c.post.ensures.contents }
+
+pub returns-in-Ask : goal.returns-in-Ask
+returns-in-Ask c =
+    let s = may_move (state_of c.args.parts.now) _ c.args.event.now c.in-Ask.session (to_ask c.in-Ask.request) c.ask.result
+    c.ask.new.sessions.items c.in-Ask.is refl refl refl c.ask.ensures.asked c.ask.ensures.unchanged in
+    record { steps = s.steps; unchanged = s.unchanged; memory = s.memory; contents = c.requires.contents }
 
 pub returns-in-Read : goal.returns-in-Read
 returns-in-Read c =
-    let both = by_event (state_of c.args.parts.now) (state_of c.read_next.new.parts) _ _ c.read_next.result
-    c.in-Read.is refl c.read_next.ensures.steps in
-    record { steps = both.0; unchanged = c.read_next.ensures.unchanged; memory = both.1; contents = c.read_next.ensures.contents }
+    let old : MachineState = state_of c.args.parts.now in
+    let moves : List (List Edge) → List Version → Type 0 = λ heap versions. IfOk c.read.result (λ outcome. Stepped (changed_at
+    (to_read old.world.opening heap versions) old.world.sessions c.in-Read.session) outcome old.world.sessions
+    c.read.new.sessions.items) in
+    let s = may_move old _ c.args.event.now c.in-Read.session (to_read old.world.opening old.world.heap old.world.versions)
+    c.read.result c.read.new.sessions.items c.in-Read.is refl refl refl
+    (subst (λ heap. moves heap old.world.versions) c.as_slice-in-Read.ensures.value
+    (subst (moves c.as_slice-in-Read.result.now) c.as_slice-in-Read-2.ensures.value c.read.ensures.read))
+    c.read.ensures.unchanged in
+    record { steps = s.steps; unchanged = s.unchanged; memory = s.memory; contents = c.requires.contents }
+
+pub reply-requires-clause-content : goal.reply-requires-clause-content
+reply-requires-clause-content c =
+    subst (λ versions. ReadsContent c.args.parts.now.opening versions
+    (slice_index_or c.args.parts.now.sessions.items c.in-Reply.session Idle)) (sym c.as_slice-in-Reply.ensures.value)
+    (reads_content (state_of c.args.parts.now).world c.in-Reply.session c.requires.sound c.requires.contents)
 
 pub returns-in-Reply : goal.returns-in-Reply
 returns-in-Reply c =
-    let both = by_event (state_of c.args.parts.now) (state_of c.reply_to.new.parts) _ _ c.reply_to.result
-    c.in-Reply.is refl c.reply_to.ensures.steps in
-    record { steps = both.0; unchanged = c.reply_to.ensures.unchanged; memory = both.1; contents = c.reply_to.ensures.contents }
-
-pub returns-in-Ask-clause-steps : goal.returns-in-Ask-clause-steps
-returns-in-Ask-clause-steps c =
-    let old : MachineState = state_of c.args.parts.now in
-    let request = c.in-Ask.request in
-    ok_also c.ask.result (λ outcome. Stepped (changed_at (to_ask request) old.world.sessions c.in-Ask.session) outcome
-    old.world.sessions c.ask.new.sessions.items)
-    (λ outcome. Steps old c.args.event.now outcome (record {
-      world = with_sessions old.world c.ask.new.sessions.items;
-      replies = old.replies;
-    }))
-    (λ outcome is. moved_by old (Ask c.in-Ask.session request) c.args.event.now c.in-Ask.session (to_ask request) outcome
-    c.ask.new.sessions.items c.in-Ask.is refl refl is) c.ask.ensures.asked
-
-pub returns-in-Ask-clause-unchanged : goal.returns-in-Ask-clause-unchanged
-returns-in-Ask-clause-unchanged c =
-    let old : MachineState = state_of c.args.parts.now in
-    let with : List SessionState → MachineState = λ sessions. record { world = with_sessions old.world sessions; replies = old.replies } in
-    on_err_weaker c.ask.result (λ same. ap with same) c.ask.ensures.unchanged
-
-pub returns-in-Ask-clause-memory : goal.returns-in-Ask-clause-memory
-returns-in-Ask-clause-memory c =
-    subst (λ (e : Event). OnErr c.ask.result (IsTrue (takes_memory e))) (sym c.in-Ask.is) (err_always c.ask.result _ refl)
-
-pub returns-in-Ask-clause-contents : goal.returns-in-Ask-clause-contents
-returns-in-Ask-clause-contents c = c.requires.contents
+    let s = may_reply (state_of c.args.parts.now) c.args.event.now c.in-Reply.session c.as_slice-in-Reply.result.now
+    c.reply.result c.reply.new.sessions.items c.reply.new.replies.items c.in-Reply.is c.as_slice-in-Reply.ensures.value
+    c.reply.ensures.moved c.reply.ensures.answered c.reply.ensures.session_stays c.reply.ensures.replies_stay in
+    record { steps = s.steps; unchanged = s.unchanged; memory = s.memory; contents = c.requires.contents }

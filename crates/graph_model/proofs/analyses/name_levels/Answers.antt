@@ -6,13 +6,11 @@ use Rattle.graph_model.proofs.analyses.name_levels.Goals as goal
 
 pub loop-name-preserved : goal.loop-name-preserved
 loop-name-preserved c =
-    let names = c.args.names.now in
-    let levels = c.args.levels.now in
     let turn =
-    zip_turn names levels c.loop-name.yielded c.into_iter-name-iterator.result c.loop-name.name-iterator c.next.new.self
+    zip_turn c.args.names.now c.args.levels.now c.loop-name.yielded c.into_iter-name-iterator.result c.loop-name.name-iterator c.next.new.self
     c.next.result (cc) (cc) c.loop-name.yielded_by _ c.in-Some.is c.next.ensures.steps in
-    level_rows_more names levels c.loop-name.rows.items c.push_level.new.rows.items _ _ c.in-Some.name.now c.in-Some.level.now
-    c.loop-name.invariant c.in_ok-push_level.ensures (length_push c.loop-name.yielded _) turn
+    level_rows_more c.args.names.now c.args.levels.now c.loop-name.rows.items c.push_level.new.rows.items _ _ c.in-Some.name.now
+    c.in-Some.level.now c.loop-name.invariant c.in_ok-push_level.ensures (length_push c.loop-name.yielded _) turn
 
 pub returns : goal.returns
 returns c =

@@ -12,8 +12,6 @@ name_labels-requires c =
 
 pub returns : goal.returns
 returns c =
-    let names = c.as_slice.ensures in
-    let read = c.deref.ensures.value in
     inr (labels_answer c.args.content.now c.args.filter.now c.in_ok-filter.filter c.in_ok-filter.ensures.found
     c.in_ok-filter.ensures.refused c.in_ok-labels.labels.items c.of.result c.in_ok-labels.ensures
-    (c.of.ensures ∙ c.in_ok-rows.ensures ∙ (λ i. zip (names i) (names_of (names i) (read i)))))
+    (c.of.ensures ∙ c.in_ok-rows.ensures ∙ (λ i. zip (c.as_slice.ensures i) (names_of (c.as_slice.ensures i) (c.deref.ensures.value i)))))

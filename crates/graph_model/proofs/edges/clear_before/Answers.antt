@@ -1,5 +1,5 @@
 -- What `retain` keeps is a filter.
-use Rattle.std.proofs.{Common.not, Common.rules, Common.◌<◌, Common.◌≤◌, lemmas.Fn.filter_same}
+use Rattle.std.proofs.{Common.not, Common.rules, lemmas.Fn.filter_same}
 use Rattle.graph_types.specs.Step.{was_before}
 use Rattle.graph_model.proofs.edges.clear_before.Goals as goal
 

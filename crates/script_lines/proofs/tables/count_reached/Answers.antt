@@ -1,5 +1,5 @@
 use mir.Val.{bool_byte}
-use Rattle.std.{proofs.Common.{◌+◌, ◌<◌, ◌≤◌, ◌∙◌, length, ap, arith}, specs.List.filter_map}
+use Rattle.std.{proofs.Common.{◌+◌, ◌≤◌, ◌∙◌, length, ap, arith}, specs.List.filter_map}
 use Rattle.graph_types.specs.Answer.{level_row}
 use Rattle.script_lines.proofs.TableRows.{at_most_one, reached_more}
 use Rattle.version_answers.proofs.NamedRows.{rows_all}
@@ -7,14 +7,10 @@ use Rattle.script_lines.proofs.tables.count_reached.Goals as goal
 
 pub loop-vertex-preserved : goal.loop-vertex-preserved
 loop-vertex-preserved c =
-    let names = c.args.names.now.names in
-    let levels = c.args.levels.now in
-    let k = c.loop-vertex.vertex in
-    let left : k < length names = omega (arith, c.loop-vertex-test.true, c.min-count.ensures, c.len.ensures.value) in
-    let right : k < length levels = omega (arith, c.loop-vertex-test.true, c.min-count.ensures) in
     let one : c.from-reached.result ≤ 1 = rw c.from-reached.ensures (at_most_one c.is_some.result) in (
       ap (λ n. c.loop-vertex.reached + n) (c.from-reached.ensures ∙ ap bool_byte c.is_some.ensures)
-          ∙ reached_more names levels c.loop-vertex.reached k _ c.loop-vertex.invariant.0 left right,
+          ∙ reached_more c.args.names.now.names c.args.levels.now c.loop-vertex.reached c.loop-vertex.vertex _
+          c.loop-vertex.invariant.0 (omega (arith, c.loop-vertex-test.true, c.min-count.ensures, c.len.ensures.value)),
       omega (arith, one, c.loop-vertex.invariant.1),
     )
 

@@ -1,17 +1,13 @@
-use Rattle.std.proofs.Common.{◌<◌, ◌^◌, length, arith}
+use Rattle.std.proofs.Common.{◌<◌, ◌^◌, arith}
 use Rattle.script_lines.proofs.TableRows.{edges_more, sum_all}
 use Rattle.script_lines.proofs.tables.edges_of.Goals as goal
 
 pub loop-vertex-preserved : goal.loop-vertex-preserved
 loop-vertex-preserved c =
-    let names = c.args.names.now.names in
-    let degrees = c.args.degrees.now in
-    let k = c.loop-vertex.vertex in
-    let left : k < length names = omega (arith, c.loop-vertex-test.true, c.min-count.ensures, c.len.ensures.value) in
-    let right : k < length degrees = omega (arith, c.loop-vertex-test.true, c.min-count.ensures) in
     let edge : c.from-edges.result < 2 ^ 32 = omega (arith, c.from-edges.ensures, c.loop-vertex-test.element_fits) in (
-      edges_more names degrees c.loop-vertex.edges k c.from-edges.result _ c.loop-vertex.invariant.0 c.from-edges.ensures
-          left right,
+      edges_more c.args.names.now.names c.args.degrees.now c.loop-vertex.edges c.loop-vertex.vertex c.from-edges.result _
+          c.loop-vertex.invariant.0 c.from-edges.ensures
+          (omega (arith, c.loop-vertex-test.true, c.min-count.ensures, c.len.ensures.value)),
       omega (arith, edge, c.loop-vertex.invariant.1),
     )
 

@@ -1,16 +1,12 @@
-use Rattle.std.proofs.Common.{◌<◌, ◌∙◌, length, ap, arith}
+use Rattle.std.proofs.Common.{◌∙◌, ap, arith}
 use Rattle.script_lines.{specs.Lines.greatest, proofs.TableRows.greatest_more}
 use Rattle.version_answers.proofs.NamedRows.{rows_all}
 use Rattle.script_lines.proofs.tables.greatest.Goals as goal
 
 pub loop-vertex-preserved : goal.loop-vertex-preserved
 loop-vertex-preserved c =
-    let names = c.args.names.now.names in
-    let numbers = c.args.numbers.now in
-    let k = c.loop-vertex.vertex in
-    let left : k < length names = omega (arith, c.loop-vertex-test.true, c.min-count.ensures, c.len.ensures.value) in
-    let right : k < length numbers = omega (arith, c.loop-vertex-test.true, c.min-count.ensures) in
-    c.max-most.ensures ∙ greatest_more names numbers c.loop-vertex.most k c.loop-vertex.invariant left right
+    c.max-most.ensures ∙ greatest_more c.args.names.now.names c.args.numbers.now c.loop-vertex.most c.loop-vertex.vertex
+    c.loop-vertex.invariant (omega (arith, c.loop-vertex-test.true, c.min-count.ensures, c.len.ensures.value))
 
 pub returns : goal.returns
 returns c =

@@ -1,4 +1,4 @@
-use Rattle.std.proofs.Common.{◌<◌, ◌++◌, ◌∙◌, [], length, arith, string_bytes}
+use Rattle.std.proofs.Common.{◌<◌, ◌++◌, ◌∙◌, [], length, min, arith, string_bytes}
 use Rattle.graph_levels.specs.Reached.{numbers_of}
 use Rattle.graph_types.specs.Answer.{names_of}
 use Rattle.script_lines.{specs.Lines.label_line, proofs.TableRows.{lines_all, lines_more}}
@@ -10,25 +10,18 @@ loop-vertex-preserved c =
     let names = c.args.names.now.names in
     let labels = c.args.labels.now in
     let k = c.loop-vertex.vertex in
-    let left : k < length names = omega (arith, c.loop-vertex-test.true, c.min-count.ensures, c.len.ensures.value) in
-    let right : k < length labels = omega (arith, c.loop-vertex-test.true, c.min-count.ensures) in
-    let all : k < length (names_of names (numbers_of labels)) = omega (arith, right, length-labels names labels) in
+    let within : k < min (length names) (length labels) =
+    omega (arith, c.loop-vertex-test.true, c.min-count.ensures, c.len.ensures.value) in
     lines_more names (names_of names (numbers_of labels)) label_line (string_bytes c.args.lines.now)
-    (string_bytes c.loop-vertex.lines ++ c.loop-vertex.page.bytes) _ k c.name_at-name.result.now [] c.name_at.result.now c.loop-vertex.invariant
-    c.in_ok-label_line.ensures left all c.name_at-name.ensures
-    (label_at names labels k _ c.name_at.result.now right c.name_at.ensures)
+    (string_bytes c.loop-vertex.lines ++ c.loop-vertex.page.bytes) _ k c.name_at-name.result.now [] c.name_at.result.now
+    c.loop-vertex.invariant c.in_ok-label_line.ensures (omega (arith, length-labels names labels)) c.name_at-name.ensures
+    (label_at names labels k _ c.name_at.result.now (omega arith) c.name_at.ensures)
 
 pub returns : goal.returns
 returns c =
     let names = c.args.names.now.names in
     let labels = c.args.labels.now in
+    let long = length-labels names labels in
     c.in_ok-flush.ensures ∙ lines_all names (names_of names (numbers_of labels)) label_line (string_bytes c.args.lines.now)
     (string_bytes c.loop-vertex.lines ++ c.loop-vertex.page.bytes) c.loop-vertex.vertex c.loop-vertex.invariant
-    (omega (
-      arith,
-      c.loop-vertex.auto.vertex-end,
-      c.loop-vertex-test.false,
-      c.min-count.ensures,
-      c.len.ensures.value,
-      length-labels names labels,
-    ))
+    (omega (arith, c.loop-vertex.auto.vertex-end, c.loop-vertex-test.false, c.min-count.ensures, c.len.ensures.value))

@@ -1,4 +1,4 @@
-use Rattle.std.{proofs.Common.{◌<◌, ◌++◌, ◌∙◌, length, ap, arith, string_bytes}, specs.List.{filter_map, flat_map}}
+use Rattle.std.{proofs.Common.{◌++◌, ◌∙◌, ap, arith, string_bytes}, specs.List.{filter_map, flat_map}}
 use Rattle.graph_types.specs.Answer.{level_row}
 use Rattle.script_lines.{specs.Lines.number_line, proofs.TableRows.level_lines_more}
 use Rattle.version_answers.proofs.NamedRows.{rows_all}
@@ -6,13 +6,10 @@ use Rattle.script_lines.proofs.tables.level_rows.Goals as goal
 
 pub loop-vertex-preserved : goal.loop-vertex-preserved
 loop-vertex-preserved c =
-    let names = c.args.names.now.names in
-    let levels = c.args.levels.now in
-    let k = c.loop-vertex.vertex in
-    let left : k < length names = omega (arith, c.loop-vertex-test.true, c.min-count.ensures, c.len.ensures.value) in
-    let right : k < length levels = omega (arith, c.loop-vertex-test.true, c.min-count.ensures) in
-    level_lines_more names levels (string_bytes c.args.lines.now) (string_bytes c.loop-vertex.lines ++ c.loop-vertex.page.bytes) _ k _ c.name_at.result.now
-    c.name_at.ensures c.loop-vertex.invariant c.in_ok-level_line.ensures left right
+    level_lines_more c.args.names.now.names c.args.levels.now (string_bytes c.args.lines.now)
+    (string_bytes c.loop-vertex.lines ++ c.loop-vertex.page.bytes) _ c.loop-vertex.vertex _ c.name_at.result.now
+    c.name_at.ensures c.loop-vertex.invariant c.in_ok-level_line.ensures
+    (omega (arith, c.loop-vertex-test.true, c.min-count.ensures, c.len.ensures.value))
 
 pub returns : goal.returns
 returns c =

@@ -1,17 +1,13 @@
-use Rattle.std.proofs.{Common.{◌<◌, ◌++◌, ◌∙◌, [], length, arith, string_bytes}, lemmas.List.get_or_default}
-use Rattle.script_lines.{specs.Lines.number_line, proofs.TableRows.{lines_all, lines_more}}
+use Rattle.std.proofs.Common.{◌++◌, ◌∙◌, [], arith, string_bytes}
+use Rattle.script_lines.{specs.Lines.number_line, proofs.TableRows.{lines_all, value_lines_more}}
 use Rattle.script_lines.proofs.tables.number_rows.Goals as goal
 
 pub loop-vertex-preserved : goal.loop-vertex-preserved
 loop-vertex-preserved c =
-    let names = c.args.names.now.names in
-    let numbers = c.args.numbers.now in
-    let k = c.loop-vertex.vertex in
-    let left : k < length names = omega (arith, c.loop-vertex-test.true, c.min-count.ensures, c.len.ensures.value) in
-    let right : k < length numbers = omega (arith, c.loop-vertex-test.true, c.min-count.ensures) in
-    lines_more names numbers number_line (string_bytes c.args.lines.now) (string_bytes c.loop-vertex.lines ++ c.loop-vertex.page.bytes) _ k _ [] _
-    c.loop-vertex.invariant c.in_ok-number_line.ensures left right c.name_at.ensures
-    (get_or_default numbers k _ _ right)
+    value_lines_more c.args.names.now.names c.args.numbers.now number_line (string_bytes c.args.lines.now)
+    (string_bytes c.loop-vertex.lines ++ c.loop-vertex.page.bytes) _ c.loop-vertex.vertex _ [] _ c.loop-vertex.invariant
+    c.in_ok-number_line.ensures (omega (arith, c.loop-vertex-test.true, c.min-count.ensures, c.len.ensures.value))
+    c.name_at.ensures
 
 pub returns : goal.returns
 returns c =

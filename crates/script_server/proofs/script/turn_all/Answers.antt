@@ -37,4 +37,9 @@ pub returns-in-Ok-false-clause-text : goal.returns-in-Ok-false-clause-text
 returns-in-Ok-false-clause-text g c =
     all_ended _ _ _ _ _ _ _ _ _ _ c.finish.result c.records.invariant.ready c.records.invariant.reaches
     (rw c.in-Ok-false.field-0-test at c.in-Ok-false.ensures.turns)
-    c.finish.ensures.whole c.finish.ensures.summary c.finish.ensures.part c.finish.ensures.fault
+    (record {
+      whole = c.finish.ensures.whole;
+      summary = c.finish.ensures.summary;
+      part = c.finish.ensures.part;
+      fault = c.finish.ensures.fault;
+    })

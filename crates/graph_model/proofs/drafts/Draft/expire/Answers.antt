@@ -1,5 +1,5 @@
 -- The edges that stay show the map without the others, and the list is shorter by those that went.
-use Rattle.std.proofs.Common.{◌≡◌, ℕ, ◌+◌, ◌-◌, ◌≤◌, length, ap, sym, ◌∙◌, arith, subst}
+use Rattle.std.proofs.Common.{length, ap, sym, ◌∙◌, arith, subst}
 use Rattle.graph_types.specs.{Graph.{Graph, content_of, graph_of, IsContent}, declared.batches.Outcome.TheVariants.Expired}
 use Rattle.graph_types.proofs.Expiry.{map_of-later, count_before-map_of, count-later}
 use Rattle.graph_model.{proofs.OneOperation.IsContent-later, specs.Drafts.shown_by}
