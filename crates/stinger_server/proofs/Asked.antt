@@ -32,27 +32,25 @@ stopped_walk rules known w name before (x ∷ rest) =
     stopped_walk rules known w name (before ++ x ∷ []) rest
     ∙ ap (λ arguments. record w { stopped = Some (name, arguments) }) (append_assoc before (x ∷ []) rest)
 
+-- so behind a subcommand of the program
+past_walk : (name : Text) (rest : List Text)
+    → fold (walked flag_rules names) (record (walk_from nothing_held) { stopped = Some (name, []) }) rest
+    ≡ record (walk_from nothing_held) { stopped = Some (name, rest) }
+past_walk name rest = stopped_walk flag_rules names (walk_from nothing_held) name [] rest
+
+past_fault : (name : Text) (rest : List Text)
+    → walk_fault top names (record (walk_from nothing_held) { stopped = Some (name, []) }) rest ≡ []
+past_fault name rest = stopped_fault top names (walk_from nothing_held) (name, []) rest
+
 -- the arguments behind `run` are those of its own level
 run_fault : (rest : List Text) → fault_of program (codes "run" ∷ rest) ≡ level_fault run [] nothing_held rest false []
 unfolding clap_on_literals
-run_fault rest =
-    rw (
-      stopped_walk flag_rules names (walk_from nothing_held) (codes "run") [] rest,
-      stopped_fault top names
-          (walk_from nothing_held) (codes "run", []) rest,
-    )
-    (or_else_nil _)
+run_fault rest = rw (past_walk (codes "run") rest, past_fault (codes "run") rest) (or_else_nil _)
 
 -- those behind `drive` are of that one's
 drive_fault : (rest : List Text) → fault_of program (codes "drive" ∷ rest) ≡ level_fault drive [] nothing_held rest false []
 unfolding clap_on_literals
-drive_fault rest =
-    rw (
-      stopped_walk flag_rules names (walk_from nothing_held) (codes "drive") [] rest,
-      stopped_fault top names
-          (walk_from nothing_held) (codes "drive", []) rest,
-    )
-    (or_else_nil _)
+drive_fault rest = rw (past_walk (codes "drive") rest, past_fault (codes "drive") rest) (or_else_nil _)
 
 plain_after_run : (argument : Text) → bytes_eq argument (codes "--") ≡ false
     → plainly_asked_of_run (argument ∷ []) ≡ flagged (asks_for_help argument)

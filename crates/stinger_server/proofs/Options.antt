@@ -9,7 +9,7 @@ use Rattle.clap.specs.declared.{builder.value_parser.ValueParser.TheVariants.Uns
 use Rattle.clap.specs.Walk.{Row, Text, one_of, rows_of}
 use Rattle.clap.proofs.{WalkLemmas.{first_value-rows, one_text-rows}, ValueTestLemmas.{Accepts-accepts, accepts-Accepts}}
 use Rattle.stream_store.specs.{Configs.AreSizesWithin, Configs.ConfigView, declared.config.BadConfig.BadConfig}
-use Rattle.stinger_server.specs.Program.{is_quiet, number_within, readers_of, sizes_given, sizes_of}
+use Rattle.stinger_server.specs.Program.{is_quiet, number_within, sizes_given, sizes_of}
 
 -- a number, where it lies within limits
 abbrev pub within : ℕ → ℕ → ℕ → Option ℕ
@@ -87,6 +87,17 @@ no_seats None blocks = refl
 no_seats (Some w) None = refl
 no_seats (Some w) (Some b) = refl
 
+all_within : (workers blocks seats : ℕ) → (1 ≤ workers) × (workers ≤ 8) → (16 ≤ blocks) × (blocks ≤ 65536)
+    → (1 ≤ seats) × (seats ≤ 16) → AreSizesWithin workers blocks seats
+all_within workers blocks seats w b s = record {
+  workers_some = w.0;
+  workers_few = w.1;
+  blocks_some = b.0;
+  blocks_few = b.1;
+  seats_some = s.0;
+  seats_few = s.1;
+}
+
 -- a configuration is made of just the numbers within their limits
 pub sizes_made : (workers blocks seats : ℕ) (made : Result ConfigView BadConfig)
     → MatchResult made
@@ -111,15 +122,7 @@ sizes_made workers blocks seats (Err fault) valid = sym (go (is_within 1 8 worke
     go (inl w) b s = rw w refl
     go (inr w) (inl b) s = rw b (no_blocks (within 1 8 workers) (within 1 16 seats))
     go (inr w) (inr b) (inl s) = rw s (no_seats (within 1 8 workers) (within 16 65536 blocks))
-    go (inr w) (inr b) (inr s) =
-        absurd (valid (record {
-          workers_some = w.0;
-          workers_few = w.1;
-          blocks_some = b.0;
-          blocks_few = b.1;
-          seats_some = s.0;
-          seats_few = s.1;
-        }))
+    go (inr w) (inr b) (inr s) = absurd (valid (all_within workers blocks seats w b s))
 
 -- ---- from what the getters read
 
@@ -139,22 +142,19 @@ pub with_all : (rows : List Row) (workers blocks seats : Option ℕ) → number_
     → number_within 1 16 (one_of (codes "seats") rows) ≡ seats → sizes_of rows ≡ sized workers blocks seats
 with_all rows workers blocks seats w b s = rw (w, b, s) refl
 
--- the options of the subcommand that was met
-pub options_met : (run : Option (Text × List Row)) (rows : List Row) → option_map (λ p. p.1) run ≡ Some rows
-    → option_and_then (λ p. sizes_of p.1) run ≡ sizes_of rows
-options_met None rows e = cc
-options_met (Some p) rows e = ap sizes_of (unsome e)
-  where
-    unsome : Some p.1 ≡ Some rows → p.1 ≡ rows
-    unsome e = cc
+unsome : {X : Type 0} (x y : X) → Some x ≡ Some y → x ≡ y
+unsome x y e = cc
 
-pub readers_met : (drive : Option (Text × List Row)) (rows : List Row) → option_map (λ p. p.1) drive ≡ Some rows
-    → option_and_then (λ p. readers_of p.1) drive ≡ readers_of rows
-readers_met None rows e = cc
-readers_met (Some p) rows e = ap readers_of (unsome e)
-  where
-    unsome : Some p.1 ≡ Some rows → p.1 ≡ rows
-    unsome e = cc
+-- what is read of the options of the subcommand that was met
+pub options_met : {X : Type 0} (read : List Row → Option X) (met : Option (Text × List Row)) (rows : List Row)
+    → option_map (λ p. p.1) met ≡ Some rows → option_and_then (λ p. read p.1) met ≡ read rows
+options_met read None rows e = cc
+options_met read (Some p) rows e = ap read (unsome p.1 rows e)
+
+-- where nothing is read of them, nothing is told
+pub nothing_met : {X : Type 0} (read : List Row → Option X) (met : Option (Text × List Row)) (rows : List Row) (told : Option X)
+    → told ≡ None → option_map (λ p. p.1) met ≡ Some rows → read rows ≡ None → told ≡ option_and_then (λ p. read p.1) met
+nothing_met read met rows told none is unread = none ∙ sym (options_met read met rows is ∙ unread)
 
 -- what get_one reads of an option, at an unsigned type of k bits
 pub option_read : (k least most : ℕ) → most < 2 ^ k → most < 2 ^ 64 → (f : Found) (id : List ℕ) (read : Option ℕ)
@@ -166,6 +166,14 @@ option_read k least most fits small f id read nothing some =
     ap (number_within least most) (sym (one_text-rows f id))
     ∙ read_within (λ bs r. ParsesUnsigned k 10 bs r × ExplainsUnsignedError 10 bs r × HasUnsignedDigitsIfOk bs r) k least most
     fits small (λ t r g. g.0) (one_text f id) read nothing some
+
+pub unread : (k least most : ℕ) → most < 2 ^ k → most < 2 ^ 64 → (f : Found) (id : List ℕ) (read : Option ℕ)
+    → (one_text f id ≡ None → read ≡ None)
+    → ((t : List ℕ) → one_text f id ≡ Some t
+    → ReadsOne (λ bs r. ParsesUnsigned k 10 bs r × ExplainsUnsignedError 10 bs r × HasUnsignedDigitsIfOk bs r) t read)
+    → read ≡ None → number_within least most (one_of id (rows_of f)) ≡ None
+unread k least most fits small f id read nothing some none =
+    option_read k least most fits small f id read nothing some ∙ ap (option_and_then (within least most)) none
 
 -- ---- sizes lie within their limits
 
@@ -205,14 +213,7 @@ sizes_limits rows sizes e =
     let w = number_limits 1 8 (one_of (codes "workers") rows) sizes.workers all.0 in
     let b = number_limits 16 65536 (one_of (codes "blocks") rows) sizes.blocks all.1 in
     let s = number_limits 1 16 (one_of (codes "seats") rows) sizes.seats all.2 in
-    record {
-      workers_some = w.0;
-      workers_few = w.1;
-      blocks_some = b.0;
-      blocks_few = b.1;
-      seats_some = s.0;
-      seats_few = s.1;
-    }
+    all_within sizes.workers sizes.blocks sizes.seats w b s
 
 -- ---- the flag
 
@@ -221,10 +222,8 @@ pub quiet_met : (met : Option (Text × List Row)) (f : Found) (b : Bool) → opt
     → b ≡ option_map_or (λ text. bytes_eq text (codes "true")) (first_value f (codes "quiet")) false
     → b ≡ option_map_or (λ p. is_quiet p.1) met false
 quiet_met None f b e is = cc
-quiet_met (Some p) f b e is = is ∙ (ap flagged (first_value-rows f (codes "quiet")) ∙ sym (ap is_quiet (unsome e)))
+quiet_met (Some p) f b e is =
+    is ∙ (ap flagged (first_value-rows f (codes "quiet")) ∙ sym (ap is_quiet (unsome p.1 (rows_of f) e)))
   where
     flagged : Option Text → Bool
     flagged text = option_map_or (λ t. bytes_eq t (codes "true")) text false
-
-    unsome : Some p.1 ≡ Some (rows_of f) → p.1 ≡ rows_of f
-    unsome e = cc

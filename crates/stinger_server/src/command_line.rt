@@ -2,7 +2,7 @@
 
 ghost use Rattle.std.specs.Prelude.{◌≡◌, false, IfOk};
 ghost use Rattle.clap.specs.Words.{app_of, rule_of};
-ghost use Rattle.stinger_server.specs.Program.{drive_app, flag_rule, number_rule, program, required_rule, run_app, size_rule};
+ghost use Rattle.stinger_server.specs.Program.{drive_app, flag_rule, number_rule, program, run_app, size_rule};
 
 use clap::builder::ValueParser;
 use clap::{Arg, ArgAction, Command};
@@ -57,7 +57,7 @@ fn drive_command<'a, A: AllocGlobal>(rt: &A) -> Result<Command<'a>, AllocError>
     Command::new(rt.alloc(), "drive")
         .about("Checks a store on this machine, with readers and a feeder at once")
         .override_usage("stinger drive --readers <N>")
-        .arg(required(rt, "readers", 1, 4, READERS))
+        .arg(number(rt, "readers", 1, 4, READERS).required(true))
 }
 
 /// An option whose value is a whole number from `least` to `most`.
@@ -73,20 +73,6 @@ fn size<'a, A: AllocGlobal>(
     ensures local { result.global ≡ false }
 {
     number(rt, name, least, most, help).default_value(default)
-}
-
-/// The same of one that may not be left out.
-fn required<'a, A: AllocGlobal>(
-    rt: &A,
-    name: &'a str,
-    least: u64,
-    most: u64,
-    help: &'a str,
-) -> Arg<'a>
-    ensures rule { rule_of result ≡ required_rule name.now least most }
-    ensures local { result.global ≡ false }
-{
-    number(rt, name, least, most, help).required(true)
 }
 
 /// The same without a word on where it is left out.

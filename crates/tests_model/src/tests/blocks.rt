@@ -92,8 +92,8 @@ pub(super) fn two_blocks(alloc: Global, listed: &str) -> Result<Vec<List<Edge>>,
     Ok(heap)
 }
 
-// An edge, and the way back.
-const EDGE: Edge = Edge {
+/// An edge, and the way back.
+pub(super) const EDGE: Edge = Edge {
     kind: KindId(0),
     source: VertexId(0),
     target: VertexId(1),
@@ -102,7 +102,7 @@ const EDGE: Edge = Edge {
     recent: 11,
 };
 
-const BACK: Edge = Edge {
+pub(super) const BACK: Edge = Edge {
     kind: KindId(0),
     source: VertexId(1),
     target: VertexId(0),

@@ -181,8 +181,9 @@ fn reply_at(alloc: Global, place: usize) -> Result<Reply, AllocError> {
 }
 
 fn levels(alloc: Global, name: &str, level: u32) -> Result<Reply, AllocError> {
-    let row = (Name::from_str(alloc, name)?, level);
-    Ok(Reply::Levels(List::of(Vec::from_array(alloc, [row])?)))
+    let mut rows = Vec::new(alloc);
+    rows.push((Name::from_str(alloc, name)?, level))?;
+    Ok(Reply::Levels(List::of(rows)))
 }
 
 fn check_replies(rt: &impl Abort, replies: &[Reply]) {

@@ -45,6 +45,14 @@ fn any_within(lo: u64, hi: u64) -> Filter {
     Filter { kind: None, lo, hi }
 }
 
+fn of_kind(kind: u8) -> Filter {
+    Filter {
+        kind: Some(KindId(kind)),
+        lo: 0,
+        hi: 99,
+    }
+}
+
 fn target_of(edge: Option<EdgeRef<'_>>) -> Option<u32> {
     match edge {
         Some(edge) => Some(*edge.target),
@@ -246,16 +254,8 @@ fn lends_what_was_put(rt: HostRuntime) {
 
 #[test]
 fn selects_by_kind_and_window(rt: HostRuntime) {
-    let mut block = Block::blank(0);
-    block.clear_for(VertexId(0), KindId(1));
-    put(&rt, &mut block, 7, 10);
-    put(&rt, &mut block, 8, 20);
-    let of_kind = |kind| Filter {
-        kind: Some(KindId(kind)),
-        lo: 0,
-        hi: 99,
-    };
-    selects(&rt, &block, &of_kind(1), 2);
+    let mut block = two_edges(&rt);
+    selects(&rt, &block, &of_kind(5), 2);
     selects(&rt, &block, &of_kind(0), 0);
     selects(&rt, &block, &any_within(10, 10), 1);
     selects(&rt, &block, &any_within(11, 20), 1);

@@ -79,17 +79,24 @@ fn refused_events(rt: HostRuntime) {
     }
 }
 
-/// What is seen of a new machine after the events.
-fn seen_after(rt: &impl Abort, alloc: Global, events: &[Event]) -> Seen {
+/// What is seen of a machine after the events.
+fn seen_after(rt: &impl Abort, core: &mut Core, events: &[Event]) -> Seen
+    requires { 0 < length core.old.world.sessions }
+{
+    run(core, events).expect(rt, "one growth alone is refused");
+    seen(core, 0)
+}
+
+/// The same of a new machine.
+fn seen_anew(rt: &impl Abort, alloc: Global, events: &[Event]) -> Seen {
     let mut core = Core::new(alloc, 1, 1).expect(rt, "one growth alone is refused");
-    run(&mut core, events).expect(rt, "one growth alone is refused");
-    seen(&core, 0)
+    seen_after(rt, &mut core, events)
 }
 
 /// What is seen is what is seen after some of the events, from the first one on.
 fn is_after_some(rt: &impl Abort, alloc: Global, seen: Seen, events: &[Event]) -> bool {
     for count in 0..events.len() {
-        if seen_after(rt, alloc, &events[..count]) == seen {
+        if seen_anew(rt, alloc, &events[..count]) == seen {
             return true;
         }
     }

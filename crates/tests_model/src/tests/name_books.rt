@@ -77,8 +77,11 @@ fn check_full(rt: &impl Abort, book: &mut NameBook) {
     added(rt, book, "65536", Err(AddError::NamesFull));
     assert_absent(rt, book, "65536", 65_536);
     assert_numbered(rt, book, "40000", 40_000);
-    let shared = book.share().expect(rt, "a book");
-    assert_numbered(rt, &shared, "65535", 65_535);
+}
+
+// A book that shares the names has this number for a name.
+fn check_share(rt: &impl Abort, book: &NameBook, name: &str, number: u32) {
+    assert_numbered(rt, &book.share().expect(rt, "a book"), name, number);
 }
 
 #[test]
@@ -88,6 +91,7 @@ fn takes_as_many_names_as_a_graph_may_have(rt: HostRuntime) {
         add_plain(&rt, rt.alloc(), &mut book, number);
     }
     check_full(&rt, &mut book);
+    check_share(&rt, &book, "65535", 65_535);
 }
 
 // The book has the names 0, 1 .. in this order, so many of them, and no other.
@@ -98,14 +102,24 @@ fn check_names(rt: &impl Abort, alloc: Global, book: &NameBook, len: u32) {
     assert_absent(rt, book, plain(rt, alloc, len).as_str(), len);
 }
 
-// Adds the name of that number. The book that shares the names before is as it was.
-fn check_shared(rt: &impl Abort, alloc: Global, book: &mut NameBook, number: u32) {
-    let before = book.share().expect(rt, "a book");
+// Adds the name of that number beside a book that shares the names before, which is as it was.
+fn check_beside(
+    rt: &impl Abort,
+    alloc: Global,
+    before: &NameBook,
+    book: &mut NameBook,
+    number: u32,
+) {
     add_plain(rt, alloc, book, number);
     if number >= 254 {
-        check_names(rt, alloc, &before, number);
+        check_names(rt, alloc, before, number);
         check_names(rt, alloc, book, number.saturating_add(1));
     }
+}
+
+fn check_shared(rt: &impl Abort, alloc: Global, book: &mut NameBook, number: u32) {
+    let before = book.share().expect(rt, "a book");
+    check_beside(rt, alloc, &before, book, number);
 }
 
 #[test]

@@ -3,13 +3,13 @@
 ghost use Rattle.std.specs.Prelude.{◌≡◌, ◌<◌, ◌≤◌, IfOk, length};
 ghost use Rattle.graph_types.specs.Graph.{IsContent};
 
-use super::checks::{only_refused, same, tell_refused};
+use super::checks::{only_refused, same};
 use super::graphs::content_of;
 use super::machines::{check_table, seen};
+use super::values::LineError;
 use epoch_core::{Core, OutOfMemory};
 use graph_types::{Content, List};
 use std::alloc::Global;
-use std::process::Abort;
 
 // One session over two blocks, of which block 1 has the edges of the content.
 #[tactic(auto, using(crate::proofs::Openings::in_one))]
@@ -21,11 +21,11 @@ fn opened(alloc: Global, content: &Content) -> Result<Core, OutOfMemory>
     Core::opened(alloc, 1, 2, content, &[(1, List::of(edges))])
 }
 
-fn check_opened(rt: &impl Abort, alloc: Global, content: &Content, table: &str)
-    requires { IsContent content.now }
+// The same of what operations leave.
+fn opened_with(alloc: Global, ops: &str) -> Result<Core, LineError>
+    ensures { IfOk result (λ core. length core.world.sessions ≡ 1) }
 {
-    let mut core = opened(alloc, content).expect(rt, "a machine");
-    check_table(rt, alloc, &mut core, 1, table);
+    Ok(opened(alloc, &content_of(alloc, ops)?)?)
 }
 
 const ONE_EDGE: &str = "i,k,a,b,5,10";
@@ -60,24 +60,15 @@ said 0 2 => OneEdge 6 10 30";
 
 #[test]
 fn opens_with_an_edge_in_a_block(rt: HostRuntime) {
-    let content = content_of(rt.alloc(), ONE_EDGE).expect(&rt, "an edge");
-    check_opened(&rt, rt.alloc(), &content, IN_ONE_BLOCK);
+    let mut core = opened_with(rt.alloc(), ONE_EDGE).expect(&rt, "a machine");
+    check_table(&rt, rt.alloc(), &mut core, 1, IN_ONE_BLOCK);
 }
 
 // The machine at its start, where there was memory for it.
-fn check_refused(rt: &(impl Abort + Print), alloc: Global, content: &Content)
-    requires { IsContent content.now }
-{
-    match opened(alloc, content) {
-        Ok(core) => same(rt, seen(&core, 0), (0, None, None, 0)),
-        Err(_) => tell_refused(rt),
-    }
-}
-
 #[test]
 fn refused_opening(rt: HostRuntime) {
-    match content_of(rt.alloc(), ONE_EDGE) {
-        Ok(content) => check_refused(&rt, rt.alloc(), &content),
+    match opened_with(rt.alloc(), ONE_EDGE) {
+        Ok(core) => same(&rt, seen(&core, 0), (0, None, None, 0)),
         Err(error) => only_refused(&rt, error),
     }
 }

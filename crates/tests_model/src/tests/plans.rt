@@ -3,14 +3,14 @@
 ghost use Rattle.std.specs.Prelude.{◌≡◌};
 ghost use Rattle.epoch_core.specs.Worlds.{empty_opening};
 
-use super::blocks::{GRANTED_AND_FREE, two_blocks};
+use super::blocks::{BACK, EDGE, GRANTED_AND_FREE, two_blocks};
 use super::checks::{same, tell_refused};
 use super::graphs::{content_of, empty};
 use super::texts::check_shown;
 use super::values::{LineError, batch, numbers};
 use block_reclamation::BlockStatus;
 use epoch_core::{Opening, Version, blocks_at, content_with, plan_post};
-use graph_types::{Batch, Edge, KindId, List, VertexId};
+use graph_types::{Batch, Edge, List};
 use std::alloc::{AllocError, Global};
 use std::process::Abort;
 use std::slice::from_ref;
@@ -35,24 +35,7 @@ fn opening(alloc: Global) -> Result<Opening, LineError> {
     })
 }
 
-const EDGES: [Edge; 2] = [
-    Edge {
-        kind: KindId(0),
-        source: VertexId(0),
-        target: VertexId(1),
-        weight: 5,
-        first: 10,
-        recent: 10,
-    },
-    Edge {
-        kind: KindId(0),
-        source: VertexId(1),
-        target: VertexId(0),
-        weight: -7,
-        first: 12,
-        recent: 12,
-    },
-];
+const EDGES: [Edge; 2] = [EDGE, BACK];
 
 // The blocks of the version of this number, and its content with two edges.
 fn check_version(

@@ -12,23 +12,11 @@ use std::marker::Model;
 use std::process::Abort;
 use std::sync::Arc;
 
-/// A pool of 16 blocks, the numbers of the last grant, and those of its blocks that were neither given back nor retired
-/// since.
+/// A pool of 16 blocks, and those of the last grant that were neither given back nor retired since.
+#[derive(Drop)]
 pub(super) struct Hand {
     pool: Pool,
-    numbers: Vec<u32>,
     blocks: Vec<Arc<Block>>,
-}
-
-// Written by hand: who lets one go rests on this function, and not on how each part is let go.
-impl Drop for Hand {
-    fn drop(self) {
-        let Hand {
-            pool: _pool,
-            numbers: _numbers,
-            blocks: _blocks,
-        } = self;
-    }
 }
 
 impl Model for Hand {
@@ -47,20 +35,18 @@ impl Hand {
     pub(super) fn new(alloc: Global) -> Result<Hand, AllocError> {
         Ok(Hand {
             pool: Pool::new(alloc, 16)?,
-            numbers: Vec::new(alloc),
             blocks: Vec::new(alloc),
         })
     }
 
-    /// Grants so many blocks.
-    fn grant(&mut self, count: u32) -> Option<GrantError> {
+    /// Grants so many blocks, and tells the first number.
+    fn grant(&mut self, count: u32) -> Result<Option<u32>, GrantError> {
         match self.pool.grant(count) {
             Ok(Grant { numbers, blocks }) => {
-                self.numbers = numbers;
                 self.blocks = blocks;
-                None
+                Ok(numbers.first().copied())
             }
-            Err(error) => Some(error),
+            Err(error) => Err(error),
         }
     }
 
@@ -94,7 +80,7 @@ impl Hand {
     /// Gives another block of the first one's number back.
     fn exchange(&mut self, block: Arc<Block>) {
         if !self.blocks.is_empty() && self.blocks[0].number() == block.number() {
-            let _first = self.blocks.remove(0);
+            self.blocks.remove(0);
             self.pool.give_back(block.number(), Some(block));
         }
     }
@@ -103,12 +89,12 @@ impl Hand {
         self.pool.recycle(copy)
     }
 
-    fn first(&self) -> Option<&Block> {
-        self.blocks.first().map(|block| &**block)
-    }
-
-    fn last(&self) -> Option<&Block> {
-        self.blocks.last().map(|block| &**block)
+    /// The block at this place of those.
+    fn at(&self, place: usize) -> Option<&Block> {
+        match self.blocks.get(place) {
+            Some(block) => Some(&**block),
+            None => None,
+        }
     }
 }
 
@@ -123,7 +109,7 @@ pub(super) fn counts(rt: &impl Abort, hand: &Hand, free: u32, used: u32, retired
 }
 
 pub(super) fn granted(rt: &impl Abort, hand: &mut Hand, count: u32) {
-    same(rt, hand.grant(count), None);
+    same(rt, hand.grant(count).is_ok(), true);
 }
 
 /// So many blocks are freed by a copy.
@@ -136,7 +122,7 @@ fn check_full(rt: &impl Abort, hand: &mut Hand) {
         needed: 17,
         free: 16,
     };
-    same(rt, hand.grant(17), Some(refused));
+    same(rt, hand.grant(17), Err(refused));
     counts(rt, hand, 16, 0, 0);
 }
 
@@ -145,18 +131,13 @@ fn grants_no_more_blocks_than_there_are(rt: HostRuntime) {
     check_full(&rt, &mut Hand::new(rt.alloc()).expect(&rt, "a pool"));
 }
 
-fn first_is(rt: &impl Abort, hand: &Hand, number: u32) {
-    same(rt, hand.first().expect(rt, "a block").number(), number);
-    same(rt, hand.numbers.first().copied(), Some(number));
-}
-
 fn check_last_back(rt: &impl Abort, hand: &mut Hand) {
     granted(rt, hand, 3);
     hand.give_number_back();
     hand.give_number_back();
     let last = hand.give_number_back().expect(rt, "a block");
-    granted(rt, hand, 1);
-    first_is(rt, hand, last);
+    same(rt, hand.grant(1), Ok(Some(last)));
+    same(rt, hand.at(0).expect(rt, "a block").number(), last);
     counts(rt, hand, 15, 1, 0);
 }
 
@@ -179,11 +160,11 @@ fn filled(rt: &impl Abort, number: u32) -> Block
 /// Grants a block, gives a filled one back in its place, and grants one more.
 fn check_exchange(rt: &impl Abort, alloc: Global, hand: &mut Hand) {
     granted(rt, hand, 1);
-    let number = hand.first().expect(rt, "a block").number();
+    let number = hand.at(0).expect(rt, "a block").number();
     hand.exchange(Arc::new(alloc, filled(rt, number)).expect(rt, "memory for a block"));
     counts(rt, hand, 16, 0, 0);
     granted(rt, hand, 1);
-    same(rt, hand.first().expect(rt, "a block").len(), 1);
+    same(rt, hand.at(0).expect(rt, "a block").len(), 1);
 }
 
 /// A block that was then retired and recycled is granted as it was, too, after those that were free before.
@@ -205,8 +186,8 @@ fn check_retired(rt: &impl Abort, alloc: Global, hand: &mut Hand) {
     };
     freed(rt, hand, &copy, 1);
     granted(rt, hand, 16);
-    same(rt, hand.first().expect(rt, "a block").len(), 0);
-    same(rt, hand.last().expect(rt, "a block").len(), 1);
+    same(rt, hand.at(0).expect(rt, "a block").len(), 0);
+    same(rt, hand.at(15).expect(rt, "a block").len(), 1);
 }
 
 /// A new pool of 16 blocks; where a growth was refused, once no more is refused.

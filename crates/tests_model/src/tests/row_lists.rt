@@ -9,11 +9,16 @@ use std::process::Abort;
 use std::sync::Arc;
 use version_pages::Rows;
 
+fn push_block(alloc: Global, blocks: &mut Vec<Arc<Block>>, number: u32) -> Result<(), AllocError> {
+    blocks.push(Arc::new(alloc, Block::blank(number))?)?;
+    Ok(())
+}
+
 // So many blank blocks, numbered from the first.
 fn blocks_from(alloc: Global, first: u32, count: u32) -> Result<Vec<Arc<Block>>, AllocError> {
     let mut blocks = Vec::new(alloc);
     for number in 0..count {
-        blocks.push(Arc::new(alloc, Block::blank(first.saturating_add(number)))?)?;
+        push_block(alloc, &mut blocks, first.saturating_add(number))?;
     }
     Ok(blocks)
 }

@@ -99,19 +99,7 @@ pin 0 => Done
 enter 0 => Done
 ask 0 edge,0,k,a,b => Done
 read 0 => Done
-reply 0 => Done
-ask 0 deg,0,*,0,9 => Done
-read 0 => Done
-reply 0 => Done
-ask 0 edge,0,x,a,b => Done
-read 0 => Done
-reply 0 => Done
-release 0 => Done
-post r,k,a,b | => Done
-pin 0 => Done
-enter 0 => Done
-ask 0 edge,0,k,a,b => Done
-reply 0 => Done 0 0 2 4";
+reply 0 => Done";
 
 // In the large one it holds version 3, whose edge got its weight by an increment, while session 1 holds version 2 and
 // session 2 version 0; then version 4 is posted, the other sessions let go, and the block of version 2 is filled anew.
@@ -146,19 +134,20 @@ floor => Done 3 3 3 1
 recycle 4 => Done
 recycle 3 => Skipped
 take 4 => Done
-fill 4 0,1,0,9,5,5 => Done
-ask 0 deg,0,*,0,9 => Done
+fill 4 0,1,0,9,5,5 => Done";
+
+// What session 0 asks besides, before it lets its version go; and once more, of a later version without the edge.
+const ASKED: &str = "ask 0 deg,0,*,0,9 => Done
 read 0 => Done
 reply 0 => Done
 ask 0 edge,0,x,a,b => Done
 read 0 => Done
 reply 0 => Done
-release 0 => Done
-post r,k,b,a | => Done
-pin 0 => Done
+release 0 => Done";
+
+const AGAIN: &str = "pin 0 => Done
 enter 0 => Done
-ask 0 edge,0,k,a,b => Done
-reply 0 => Done 3 3 5 4";
+ask 0 edge,0,k,a,b => Done";
 
 const ALIKE: &str = "said 0 0 => OneEdge 3 1 1
 said 0 1 => Degrees a 1 0 3 b 0 1 0
@@ -175,14 +164,12 @@ fn machines_come_to_what_their_stories_say(rt: HostRuntime) {
     // keeps_what_a_settled_pin_needs
     check_new(&rt, alloc, 2, 3, &[BETWEEN_PINS, NONE_RETIRED]);
     // a_session_is_answered_alike_in_two_worlds
-    check_new(&rt, alloc, 1, 1, &[SMALL, ALIKE]);
-    check_new(
-        &rt,
-        alloc,
-        3,
-        5,
-        &[LARGE, ALIKE, "said 1 0 => OneEdge 7 1 1"],
-    );
+    let cut = "post r,k,a,b | => Done";
+    let told = "reply 0 => Done 0 0 2 4";
+    check_new(&rt, alloc, 1, 1, &[SMALL, ASKED, cut, AGAIN, told, ALIKE]);
+    let cut = "post r,k,b,a | => Done";
+    let told = "reply 0 => Done 3 3 5 4\nsaid 1 0 => OneEdge 7 1 1";
+    check_new(&rt, alloc, 3, 5, &[LARGE, ASKED, cut, AGAIN, told, ALIKE]);
 }
 
 // Session 0 holds the version of three edges, which are in two blocks: a to b and a loop at c of kind k, and b to c of

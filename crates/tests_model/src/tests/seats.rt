@@ -86,8 +86,7 @@ fn shows_the_pin_of_a_seat(rt: HostRuntime) -> Result<(), Fail> {
 
 #[test]
 fn numbers_sixteen_seats(rt: HostRuntime) {
-    assert!(rt; SeatNo::new(0).is_some());
-    assert!(rt; SeatNo::new(15).is_some());
-    assert!(rt; SeatNo::new(16).is_none());
-    assert!(rt; SeatNo::new(255).is_none());
+    for (number, is_seat) in [(0, true), (15, true), (16, false), (255, false)] {
+        same(&rt, SeatNo::new(number).is_some(), is_seat);
+    }
 }

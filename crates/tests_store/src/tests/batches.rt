@@ -73,9 +73,10 @@ fn operation(alloc: Global, op: Op) -> Result<NamedOp, AllocError> {
 }
 
 fn push_op(alloc: Global, batch: &mut Batch, op: Op) -> Result<(), AllocError> {
-    match operation(alloc, op) {
-        Ok(op) => batch.push(op).map_err(|_| AllocError),
-        Err(error) => Err(error),
+    let op = operation(alloc, op)?;
+    match batch.push(op) {
+        Ok(()) => Ok(()),
+        Err(_) => Err(AllocError),
     }
 }
 

@@ -62,21 +62,11 @@ fn play_of(text: &str, may_refuse: bool) -> Play<'_> {
 const ROOM: usize = 1024;
 
 /// Where the seats of a play are, what its last line told, and what stood before that, where a refusal is to leave it.
+#[derive(Drop)]
 struct Scene {
     places: Vec<Place>,
     told: String,
     kept: String,
-}
-
-// Written by hand: who lets one go rests on this function, and not on how each part is let go.
-impl Drop for Scene {
-    fn drop(self) {
-        let Scene {
-            places: _places,
-            told: _told,
-            kept: _kept,
-        } = self;
-    }
 }
 
 /// Does a line where there is memory, and tells of it.
@@ -248,30 +238,19 @@ fn check_named<J: Naming, R: Threads + Wait + Sync + Abort + Print>(
     }
 }
 
-/// A store that opens with the version that a batch makes.
-fn opened_from<R: Threads + Wait + Sync>(
-    rt: &R,
-    alloc: Global,
-    config: Config,
-    name: &str,
-) -> Result<Opened, OpenError> {
-    let (mut desk, _board, _seats) = open_parts(rt, alloc, config)?;
-    let _told = apply_at(rt, &mut desk, &PassAll, batch_named(alloc, name));
-    Store::open_from(rt, alloc, config, desk.last())
-}
-
 /// A store as a user opens it, with nothing or with the version that a batch makes.
 fn opened<R: Threads + Wait + Sync>(
     rt: &R,
     alloc: Global,
     config: Config,
-    play: &Play,
+    from: &str,
 ) -> Result<Opened, OpenError> {
-    if play.from.is_empty() {
-        Store::open(rt, alloc, config)
-    } else {
-        opened_from(rt, alloc, config, play.from.trim_end())
+    if from.is_empty() {
+        return Store::open(rt, alloc, config);
     }
+    let (mut desk, _board, _seats) = open_parts(rt, alloc, config)?;
+    let _told = apply_at(rt, &mut desk, &PassAll, batch_named(alloc, from));
+    Store::open_from(rt, alloc, config, desk.last())
 }
 
 /// Plays over a new store, where it opens: by its parts where the play has lines at the desk, and else as a user opens it.
@@ -282,7 +261,8 @@ fn check_new<R: Threads + Wait + Sync + Abort + Print>(
     play: &Play,
 ) -> Result<(), OpenError> {
     if play.at_desk.is_empty() {
-        return check_named::<Brand, R>(rt, alloc, opened(rt, alloc, config, play)?, play);
+        let opened = opened(rt, alloc, config, play.from.trim_end())?;
+        return check_named::<Brand, R>(rt, alloc, opened, play);
     }
     let (desk, board, seats) = open_parts(rt, alloc, config)?;
     let scene = scene_of(alloc, seats)?;

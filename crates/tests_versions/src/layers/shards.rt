@@ -15,20 +15,20 @@ use std::sync::Arc;
 
 /// What a letter says of an edge, with a number: `i` inserts, `+` adds to the weight, `m` inserts the greatest weight,
 /// and `-` removes.
-fn change_by(letter: u8, number: i8) -> EdgeChange
+fn change_by(letter: char, number: i8) -> EdgeChange
     ensures { IsChange result }
 {
     let number = i64::from(number);
     match letter {
-        b'i' => EdgeChange::Insert {
+        'i' => EdgeChange::Insert {
             weight: number,
             time: 1,
         },
-        b'+' => EdgeChange::Incr {
+        '+' => EdgeChange::Incr {
             amount: number,
             time: 2,
         },
-        b'm' => EdgeChange::Insert {
+        'm' => EdgeChange::Insert {
             weight: 1 << 40,
             time: 3,
         },
@@ -38,12 +38,12 @@ fn change_by(letter: u8, number: i8) -> EdgeChange
 
 /// What a letter says of one source's edge to a target, with a number; with `x` that the edges go which were last touched before a
 /// time, which then stands in the target's place; and with `?` that an edge goes whose names are unknown.
-fn act_by(letter: u8, target: u32, number: i8) -> Act
+fn act_by(letter: char, target: u32, number: i8) -> Act
     ensures { IsAct 1 result }
 {
     match letter {
-        b'x' => Act::Expire(u64::from(target)),
-        b'?' => Act::Edge(None, EdgeChange::Remove),
+        'x' => Act::Expire(u64::from(target)),
+        '?' => Act::Edge(None, EdgeChange::Remove),
         _ => Act::Edge(
             Some(Place {
                 row: 0,
@@ -82,36 +82,45 @@ fn shard_with(alloc: Global, source: u32, steps: Vec<Step>) -> Result<Shard, All
     })
 }
 
-/// The operations of one source, of a table of letters, targets and numbers.
-fn steps_of(alloc: Global, table: &[(u8, u32, i8)]) -> Result<Vec<Step>, AllocError>
+/// What a word says: a letter, a target and a number, with commas between them.
+fn act_of(word: &str) -> Act
+    ensures { IsAct 1 result }
+{
+    let (letter, rest) = word.split_once(',').unwrap_or((word, ""));
+    let (target, number) = rest.split_once(',').unwrap_or((rest, ""));
+    act_by(
+        letter.chars().next().unwrap_or('-'),
+        target.parse().unwrap_or(0),
+        number.parse().unwrap_or(0),
+    )
+}
+
+/// The operations of one source, of such words with a blank between them.
+fn steps_of(alloc: Global, words: &str) -> Result<Vec<Step>, AllocError>
     ensures { IfOk result (λ steps. AreSteps 1 steps.items) }
 {
     let mut steps = Vec::new(alloc);
     let mut op = 0;
-    for (letter, target, number) in table {
+    for word in words.split_whitespace() {
         steps.push(Step {
             op,
-            act: act_by(*letter, *target, *number),
+            act: act_of(word),
         })?;
         op = op.wrapping_add(1);
     }
     Ok(steps)
 }
 
-/// The shard of one source, of such a table.
-pub(super) fn shard_of(
-    alloc: Global,
-    source: u32,
-    table: &[(u8, u32, i8)],
-) -> Result<Shard, AllocError>
+/// The shard of one source, of such words.
+pub(super) fn shard_of(alloc: Global, source: u32, words: &str) -> Result<Shard, AllocError>
     ensures { IfOk result (IsShard (row_of [])) }
 {
-    shard_with(alloc, source, steps_of(alloc, table)?)
+    shard_with(alloc, source, steps_of(alloc, words)?)
 }
 
-/// What the work on a table leaves of an empty graph.
-fn work(alloc: Global, table: &[(u8, u32, i8)]) -> Result<ShardDone, AllocError> {
-    let shard = shard_of(alloc, 7, table)?;
+/// What the work on such words leaves of an empty graph.
+fn work(alloc: Global, words: &str) -> Result<ShardDone, AllocError> {
+    let shard = shard_of(alloc, 7, words)?;
     work_on(alloc, &Version::empty(alloc), shard)
 }
 
@@ -150,79 +159,40 @@ fn done_text(alloc: Global, done: &ShardDone) -> Result<String, AllocError> {
     Ok(text)
 }
 
-/// What the work on a table leaves, as text.
-fn told(alloc: Global, table: &[(u8, u32, i8)]) -> Result<String, AllocError> {
-    done_text(alloc, &work(alloc, table)?)
+/// What the work on such words leaves, as text.
+fn told(alloc: Global, words: &str) -> Result<String, AllocError> {
+    done_text(alloc, &work(alloc, words)?)
 }
 
-fn check_work(rt: &impl Abort, alloc: Global, table: &[(u8, u32, i8)], wanted: &str) {
-    let text = told(alloc, table).expect(rt, "what the work leaves");
-    check_text(rt, text.as_str(), wanted, "the work");
+fn check_work(rt: &impl Abort, alloc: Global, line: &str) {
+    let (words, wanted) = line.split_once(" => ").expect(rt, line);
+    let text = told(alloc, words).expect(rt, "what the work leaves");
+    check_text(rt, text.as_str(), wanted, line);
 }
 
-/// One source's operations from an empty graph.
-const OPERATIONS: [(u8, u32, i8); 6] = [
-    (b'i', 5, 1),
-    (b'+', 5, 2),
-    (b'm', 6, 0),
-    (b'+', 6, 1),
-    (b'-', 5, 0),
-    (b'-', 5, 0),
-];
-
-/// Expiries between other operations: the first takes the edge to 5, and the second those to 6 and 7.
-const EXPIRING: [(u8, u32, i8); 7] = [
-    (b'i', 5, 1),
-    (b'+', 6, 2),
-    (b'x', 2, 0),
-    (b'i', 7, 1),
-    (b'x', 3, 0),
-    (b'm', 5, 0),
-    (b'x', 3, 0),
-];
-
-/// A block that the batch fills and empties again is in no row, and is handed back.
-const EMPTIED: [(u8, u32, i8); 2] = [(b'i', 5, 1), (b'-', 5, 0)];
+/// One source's operations from an empty graph, a line for each story.
+///
+/// Then expiries between other operations: the first takes the edge to 5, and the second those to 6 and 7. A block that the batch
+/// fills and empties again is in no row, and is handed back. Of 33 insertions two blocks are taken, and the first is full.
+const STORIES: &str = "\
+i,5,1 +,5,2 m,6,0 +,6,1 -,5,0 -,5,0 => 0i 1u 2i 3o 4r 5a 7:1 0:6,; 1 5 0
+i,5,1 +,6,2 x,2,0 i,7,1 x,3,0 m,5,0 x,3,0 => 0i 1i 2x1 3i 4x2 5i 6x0 7:1 0:5,; 1 6 0
+i,5,1 -,5,0 => 0i 1r 7:0; 0 2 0
+i,0,1 i,1,1 i,2,1 i,3,1 i,4,1 i,5,1 i,6,1 i,7,1 i,8,1 i,9,1 i,10,1 i,11,1 i,12,1 i,13,1 i,14,1 i,15,1 i,16,1 \
+i,17,1 i,18,1 i,19,1 i,20,1 i,21,1 i,22,1 i,23,1 i,24,1 i,25,1 i,26,1 i,27,1 i,28,1 i,29,1 i,30,1 i,31,1 i,32,1 \
+=> 0i 1i ..31i 32i 7:2 0:0,1,..,31, 0:32,; 2 31 0";
 
 #[test]
 fn works_by_the_operation_rule(rt: HostRuntime) {
-    check_work(
-        &rt,
-        rt.alloc(),
-        &OPERATIONS,
-        "0i 1u 2i 3o 4r 5a 7:1 0:6,; 1 5 0",
-    );
-    check_work(
-        &rt,
-        rt.alloc(),
-        &EXPIRING,
-        "0i 1i 2x1 3i 4x2 5i 6x0 7:1 0:5,; 1 6 0",
-    );
-    check_work(&rt, rt.alloc(), &EMPTIED, "0i 1r 7:0; 0 2 0");
-}
-
-/// A table that inserts the targets below a number.
-fn inserts(alloc: Global, count: u32) -> Result<Vec<(u8, u32, i8)>, AllocError> {
-    let mut table = Vec::new(alloc);
-    for target in 0..count {
-        table.push((b'i', target, 1))?;
+    for line in STORIES.lines() {
+        check_work(&rt, rt.alloc(), line);
     }
-    Ok(table)
-}
-
-/// Two blocks are taken, of which the first is full.
-#[test]
-fn fills_a_block_and_appends_a_second(rt: HostRuntime) {
-    let table = inserts(rt.alloc(), 33).expect(&rt, "33 insertions");
-    let wanted = "0i 1i ..31i 32i 7:2 0:0,1,..,31, 0:32,; 2 31 0";
-    check_work(&rt, rt.alloc(), table.as_slice(), wanted);
 }
 
 /// The shard is given up, or the work leaves what it has to.
 #[test]
 fn refused_work_gives_the_shard_up(rt: HostRuntime) {
-    let table = [(b'i', 5, 1), (b'+', 5, 1), (b'i', 6, 1), (b'-', 5, 0)];
-    match told(rt.alloc(), &table) {
+    match told(rt.alloc(), "i,5,1 +,5,1 i,6,1 -,5,0") {
         Ok(text) => check_text(
             &rt,
             text.as_str(),

@@ -13,13 +13,7 @@ use std::thread::Threads;
 
 /// One source's operations: an insertion, the same again, an expiry of that edge, another insertion, and a removal whose source is
 /// unknown.
-const OPERATIONS: [(u8, u32, i8); 5] = [
-    (b'i', 5, 1),
-    (b'i', 5, 1),
-    (b'x', 2, 0),
-    (b'i', 6, 1),
-    (b'?', 0, 0),
-];
+const OPERATIONS: &str = "i,5,1 i,5,1 x,2,0 i,6,1 ?,0,0";
 
 /// A job for each worker, on the source of its number.
 fn jobs(alloc: Global, workers: u32) -> Result<Vec<Job>, AllocError>
@@ -29,7 +23,7 @@ fn jobs(alloc: Global, workers: u32) -> Result<Vec<Job>, AllocError>
     for worker in 0..workers {
         jobs.push(Job {
             worker: worker as usize,
-            shard: shard_of(alloc, worker, &OPERATIONS)?,
+            shard: shard_of(alloc, worker, OPERATIONS)?,
         })?;
     }
     Ok(jobs)

@@ -5,6 +5,6 @@ use Rattle.tests_model.proofs.tests.pools.Hand.exchange.Goals as goal
 
 pub invariant_of-self : goal.invariant_of-self
 invariant_of-self c =
-    rest_held c.self.inside.blocks.items c.remove-first.new.self.items c.remove-first.result c.number-then-number.result Free
-    c.self.inside.pool c.give_back.new.self c.remove-first.ensures.value (search rules) c.remove-first.ensures.items
+    rest_held c.self.inside.blocks.items c.remove.new.self.items c.remove.result c.number-then-number.result Free
+    c.self.inside.pool c.give_back.new.self c.remove.ensures.value (search rules) c.remove.ensures.items
     c.give_back.ensures c.self.invariant
