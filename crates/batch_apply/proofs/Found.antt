@@ -53,8 +53,10 @@ pub all_later : (names : List (List ℕ)) (done : NamedOp) (ops : List NamedOp) 
 all_later names done [] found are = tt
 all_later names done (op ∷ ops) [] are = tt
 all_later names done (op ∷ ops) (ends ∷ found) are = (
-  (source_later names (parts_of done) (parts_of op) ends.source are.0.0,
-  target_later names (parts_of done) (parts_of op) ends.target are.0.1),
+  (
+    source_later names (parts_of done) (parts_of op) ends.source are.0.0,
+    target_later names (parts_of done) (parts_of op) ends.target are.0.1,
+  ),
   all_later names done ops found are.1,
 )
 
