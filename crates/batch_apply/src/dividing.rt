@@ -1,6 +1,6 @@
 //! The parts of a plan: a batch's names, resolved, and the shards of workers.
 
-ghost use Rattle.std.specs.Prelude.{◌≡◌, ◌-◌, ◌≤◌, ◌<◌, ◌^◌, ℕ, List, length, map, min, IfOk, IfErr, OnOk, All};
+ghost use Rattle.std.specs.Prelude.{◌≡◌, ◌∷◌, ◌++◌, [], ◌-◌, ◌≤◌, ◌<◌, ◌^◌, ℕ, List, length, map, min, IfOk, IfErr, OnOk, All};
 ghost use Rattle.std.specs.List.{range_with_len, AllZip};
 ghost use Rattle.edge_block.specs.Slots.{BlockView};
 ghost use Rattle.edge_block.specs.Batches.{IsPlaced};
@@ -71,6 +71,28 @@ pub struct Shards {
     pub needs: Vec<usize>,
 }
 
+/// No shards yet.
+fn no_shards(alloc: Global) -> Shards
+    ensures shards { result.shards.items ≡ [] }
+    ensures needs { result.needs.items ≡ [] }
+{
+    Shards {
+        shards: Vec::new(alloc),
+        needs: Vec::new(alloc),
+    }
+}
+
+/// Adds the shard of one worker more.
+fn add_shard(all: &mut Shards, planned: Needing) -> Result<(), AllocError>
+    ensures shards { OnOk result (all.new.shards.items ≡ all.old.shards.items ++ planned.shard ∷ []) }
+    ensures needs { OnOk result (all.new.needs.items ≡ all.old.needs.items ++ planned.blocks ∷ []) }
+{
+    let Needing { shard, blocks } = planned;
+    all.needs.push(blocks)?;
+    all.shards.push(shard)?;
+    Ok(())
+}
+
 /// The shard of each worker, in order: a vertex's operations are those of the worker whose number is the vertex's modulo the
 /// number of workers, in the batch's order. An operation whose source is unknown at its place is worker 0's, and an expiry is
 /// every worker's. The greatest number stands for as many blocks, or more.
@@ -91,14 +113,12 @@ pub fn shards_for(
     ensures needs { IfOk result (λ v. (rows : ℕ → List BlockView) → AreOldRows (latest (map shown ops.now)) rows old.now
         → v.needs.items ≡ map (λ shard. min (needed rows (sources_in shard) shard.steps.items) (2 ^ 64 - 1)) v.shards.items) }
 {
-    let mut shards = Vec::new(alloc);
-    let mut needs = Vec::new(alloc);
+    let mut all = no_shards(alloc);
     for worker in 0..workers {
-        let Needing { shard, blocks } = shard_for(alloc, workers, worker, ops, old)?;
-        shards.push(shard)?;
-        needs.push(blocks)?;
+        let planned = shard_for(alloc, workers, worker, ops, old)?;
+        add_shard(&mut all, planned)?;
     }
-    Ok(Shards { shards, needs })
+    Ok(all)
 }
 
 /// The shard of each worker, as `shards_for` gives them. Several workers plan theirs at once, each in a thread of its own.
@@ -138,12 +158,9 @@ pub fn shards_at_once<R: Threads + Sync>(
             → n.blocks ≡ min (needed rows (sources_in n.shard) n.shard.steps.items) (2 ^ 64 - 1)) }
     { shard_for(alloc, workers, worker, ops, old) };
     let planned = map_indices(rt, alloc, workers, &plan_one)?;
-    let mut shards = Vec::with_capacity(alloc, workers)?;
-    let mut needs = Vec::with_capacity(alloc, workers)?;
+    let mut all = no_shards(alloc);
     for one in planned {
-        let Needing { shard, blocks } = one?;
-        shards.push(shard)?;
-        needs.push(blocks)?;
+        add_shard(&mut all, one?)?;
     }
-    Ok(Shards { shards, needs })
+    Ok(all)
 }

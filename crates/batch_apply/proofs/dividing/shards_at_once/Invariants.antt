@@ -6,5 +6,5 @@ use Rattle.batch_apply.proofs.dividing.shards_at_once.Given as goal
 
 abbrev pub invariant-loop-one : goal.invariant-loop-one
 invariant-loop-one g l = (rows : ℕ → List BlockView) → AreOldRows (latest (map shown l.ops)) rows l.old
-    → AllZip (IsShardOf l.fn.workers (map shown l.ops) (layout_by rows)) (range_with_len 0 (length l.yielded)) l.shards.items
-    × (l.needs.items ≡ map (λ shard. min (needed rows (sources_in shard) shard.steps.items) (2 ^ 64 - 1)) l.shards.items)
+    → AllZip (IsShardOf l.fn.workers (map shown l.ops) (layout_by rows)) (range_with_len 0 (length l.yielded)) l.all.shards.items
+    × (l.all.needs.items ≡ map (λ shard. min (needed rows (sources_in shard) shard.steps.items) (2 ^ 64 - 1)) l.all.shards.items)

@@ -1,4 +1,4 @@
-use Rattle.std.proofs.Common.{◌∙◌, List, map, ap, sym, subst}
+use Rattle.std.proofs.Common.{◌∙◌, map, ap, sym, subst}
 use Rattle.graph_version.specs.{Versions.content, Rows.row_of}
 use Rattle.batch_apply.specs.{Plan.shown, OldRows.{AreOldRows, expiry_time}, declared.plans.Plan.Plan}
 use Rattle.batch_apply.proofs.{Needs.few_old_rows, Planned.{planned, old_resolved}}
