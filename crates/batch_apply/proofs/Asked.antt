@@ -12,7 +12,6 @@ use Rattle.edge_block.{specs.Batches.{Resolved, AtKey, InAll, resolved, shard_of
 use Rattle.graph_version.specs.Rows.{row_of, blocks_of}
 use Rattle.batch_shards.specs.{Done.{layout_by, sources_in, steps_in}, Groups.is_expiry, Spending.old_blocks, Shards.resolved_at}
 use Rattle.batch_shards.specs.{Shards.resolved_in, declared.shard.{Act.Act, Shard.Shard, Step.Step}}
-use Rattle.batch_shards.specs.declared.shard.Act.TheVariants as act
 use Rattle.batch_apply.specs.{Planned.IsPlan, Shards.acts, Shards.unsourced, Shards.latest, Shards.IsShardOf}
 use Rattle.batch_apply.{specs.declared.plans.Plan.Plan, proofs.Listing.same_latest, proofs.Resolving.as_many_resolved}
 use Rattle.batch_apply.proofs.{Together.all_once, Placed.times, Kept.sum_lists, Kept.split_rows, Dealt.needs_of}

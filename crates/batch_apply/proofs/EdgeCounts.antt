@@ -1,6 +1,6 @@
 -- How many edges operations leave: as many as before, with one more for each that was inserted and one less for each that
 -- was removed or has expired.
-use Rattle.std.proofs.Common.{◌≡◌, ℕ, zero, suc, ◌+◌, ◌-◌, ◌<◌, true, cond, List, [], ◌∷◌, refl, sym, ap, ◌∙◌, arith}
+use Rattle.std.proofs.Common.{◌≡◌, ℕ, zero, suc, ◌+◌, ◌-◌, ◌<◌, cond, List, [], ◌∷◌, refl, sym, ap, ◌∙◌, arith}
 use Rattle.std.{proofs.lemmas.{Bool.true≢false, List.Sums.sum_by-cons}, specs.{Prelude.count_by, List.sum_by, Option.is_some}}
 use Rattle.std.specs.{declared.option.Option.{Option, TheVariants.{None, Some}}, FinMap.{FinMap, get, insert, remove, len}}
 use Rattle.std.{specs.FinMap.{len-insert, len-remove, empty_of_len, get-empty}, proofs.lemmas.Grind.common_steps}

@@ -1,7 +1,8 @@
 -- What was found of the ends of operations, as more names appear.
-use Rattle.std.proofs.Common.{◌≡◌, ◌∙◌, ℕ, ◌+◌, Bool, true, false, if◌then◌else◌, IsTrue, List, [], ◌∷◌, ◌++◌, map, drop, refl, sym, ap}
-use Rattle.std.proofs.Common.{Some, None, subst}
-use Rattle.graph_types.specs.{Step.with_name, Step.makes_names, Step.number_of, Answer.is_listed, declared.batches.NamedOp.NamedOp}
+use Rattle.std.proofs.Common.{◌≡◌, ◌∙◌, ℕ, ◌+◌, Bool, true, false, if◌then◌else◌, IsTrue, List, [], ◌∷◌, ◌++◌, map, drop, refl}
+use Rattle.std.proofs.Common.{sym, ap, Option, Some, None, subst}
+use Rattle.std.{specs.Option.IfSome, proofs.lemmas.Option.IfSome_then}
+use Rattle.graph_types.specs.{Step.{with_name, makes_names, number_of}, Answer.is_listed, declared.batches.NamedOp.NamedOp}
 use Rattle.edge_block.specs.Operations.{Parts, OfEdge, OfAll, parts_of, names_by, names_after}
 use Rattle.batch_apply.specs.{declared.resolve.Ends.Ends, Plan.{known, ends_by, ends_in, IsFound, AreFound}}
 use Rattle.std.proofs.lemmas.List.{drop-drop}
@@ -16,7 +17,7 @@ is_listed_known : (names : List (List ℕ)) (name : List ℕ) (i : ℕ) → know
 is_listed_known names name i is = listed_if (is_listed names name) (number_of names name) i is
 
 -- a known name keeps its number as another appears
-known_next : (names : List (List ℕ)) (other name : List ℕ) (i : ℕ) → known names name ≡ Some i
+pub known_next : (names : List (List ℕ)) (other name : List ℕ) (i : ℕ) → known names name ≡ Some i
     → known (with_name names other) name ≡ Some i
 known_next names other name i is =
     let listed = is_listed_known names name i is in
@@ -34,15 +35,17 @@ known_by : (done : Parts) (names : List (List ℕ)) (name : List ℕ) (i : ℕ) 
 known_by (OfEdge change kind source target) names name i is = made_if (makes_names change) names source target name i is
 known_by (OfAll time) names name i is = is
 
-later_by : (names : List (List ℕ)) (done op : Parts) (ends : Ends) (s t : ℕ) → ends.source ≡ Some s → ends.target ≡ Some t
-    → ends ≡ ends_by names op → ends ≡ ends_by (names_by done names) op
-later_by names done (OfEdge change kind source target) ends s t is_source is_target same =
-    let of_source : known names source ≡ Some s = ap (λ (e : Ends). e.source) (sym same) ∙ is_source in
-    let of_target : known names target ≡ Some t = ap (λ (e : Ends). e.target) (sym same) ∙ is_target in
-    same
-    ∙ same_ends _ _ _ _ (of_source ∙ sym (known_by done names source s of_source))
-    (of_target ∙ sym (known_by done names target t of_target))
-later_by names done (OfAll time) ends s t is_source is_target same = same
+source_later : (names : List (List ℕ)) (done op : Parts) (found : Option ℕ)
+    → IfSome found (λ s. (ends_by names op).source ≡ Some s)
+    → IfSome found (λ s. (ends_by (names_by done names) op).source ≡ Some s)
+source_later names done (OfEdge change kind source target) found is = IfSome_then found is (known_by done names source)
+source_later names done (OfAll time) found is = is
+
+target_later : (names : List (List ℕ)) (done op : Parts) (found : Option ℕ)
+    → IfSome found (λ t. (ends_by names op).target ≡ Some t)
+    → IfSome found (λ t. (ends_by (names_by done names) op).target ≡ Some t)
+target_later names done (OfEdge change kind source target) found is = IfSome_then found is (known_by done names target)
+target_later names done (OfAll time) found is = is
 
 -- what was found stays so behind an operation
 pub all_later : (names : List (List ℕ)) (done : NamedOp) (ops : List NamedOp) (found : List Ends) → AreFound names ops found
@@ -50,41 +53,61 @@ pub all_later : (names : List (List ℕ)) (done : NamedOp) (ops : List NamedOp) 
 all_later names done [] found are = tt
 all_later names done (op ∷ ops) [] are = tt
 all_later names done (op ∷ ops) (ends ∷ found) are = (
-  λ s t is_source is_target. later_by names (parts_of done) (parts_of op) ends s t is_source is_target (are.0 s t is_source is_target),
+  (
+    source_later names (parts_of done) (parts_of op) ends.source are.0.0,
+    target_later names (parts_of done) (parts_of op) ends.target are.0.1,
+  ),
   all_later names done ops found are.1,
 )
 
--- names that are known both are made no more
-made_known : (b : Bool) (names : List (List ℕ)) (source target : List ℕ) → IsTrue (is_listed names source)
-    → IsTrue (is_listed names target) → (if b then with_name (with_name names source) target else names) ≡ names
-made_known true names source target of_source of_target =
-    let first : with_name names source ≡ names =
-    ap (λ c. if c then names else names ++ source ∷ []) of_source in
-    ap (λ l. with_name l target) first ∙ ap (λ c. if c then names else names ++ target ∷ []) of_target
-made_known false names source target of_source of_target = refl
+-- a known name is not added
+pub known_there : (names : List (List ℕ)) (name : List ℕ) (i : ℕ) → known names name ≡ Some i → with_name names name ≡ names
+known_there names name i is = ap (λ c. if c then names else names ++ name ∷ []) (is_listed_known names name i is)
 
-both_by : (names : List (List ℕ)) (op : Parts) (ends : Ends) (s t : ℕ) → ends.source ≡ Some s → ends.target ≡ Some t
-    → ends ≡ ends_by names op → names_by op names ≡ names
-both_by names (OfEdge change kind source target) ends s t is_source is_target same =
-    made_known (makes_names change) names source target
-    (is_listed_known names source s (ap (λ (e : Ends). e.source) (sym same) ∙ is_source))
-    (is_listed_known names target t (ap (λ (e : Ends). e.target) (sym same) ∙ is_target))
-both_by names (OfAll time) ends s t is_source is_target same = refl
+both_made : (b : Bool) (names : List (List ℕ)) (source target : List ℕ) (s t : ℕ) → known names source ≡ Some s
+    → known names target ≡ Some t → (if b then with_name (with_name names source) target else names) ≡ names
+both_made true names source target s t of_source of_target =
+    ap (λ l. with_name l target) (known_there names source s of_source) ∙ known_there names target t of_target
+both_made false names source target s t of_source of_target = refl
 
--- an operation with both ends known leaves the names as they are
+both_by : (names : List (List ℕ)) (op : Parts) (s t : ℕ) → (ends_by names op).source ≡ Some s → (ends_by names op).target ≡ Some t
+    → names_by op names ≡ names
+both_by names (OfEdge change kind source target) s t of_source of_target =
+    both_made (makes_names change) names source target s t of_source of_target
+both_by names (OfAll time) s t of_source of_target = refl
+
+found_some : (found end : Option ℕ) (n : ℕ) → found ≡ Some n → IfSome found (λ m. end ≡ Some m) → end ≡ Some n
+found_some found end n is found_is = subst (λ o. IfSome o (λ m. end ≡ Some m)) is found_is
+
+-- an operation with both ends found leaves the names as they are
 pub none_made : (names : List (List ℕ)) (op : NamedOp) (ends : Ends) (s t : ℕ) → ends.source ≡ Some s → ends.target ≡ Some t
     → IsFound names op ends → names_after op names ≡ names
 none_made names op ends s t is_source is_target found =
-    both_by names (parts_of op) ends s t is_source is_target (found s t is_source is_target)
+    both_by names (parts_of op) s t (found_some ends.source _ s is_source found.0) (found_some ends.target _ t is_target found.1)
+
+-- and these are its ends
+pub both_ends : (names : List (List ℕ)) (op : NamedOp) (ends : Ends) (s t : ℕ) → ends.source ≡ Some s → ends.target ≡ Some t
+    → IsFound names op ends → ends ≡ ends_in (names_after op names) op
+both_ends names op ends s t is_source is_target found =
+    same_ends _ _ _ _ (is_source ∙ sym (found_some ends.source _ s is_source found.0))
+    (is_target ∙ sym (found_some ends.target _ t is_target found.1))
+    ∙ ap (λ l. ends_in l op) (sym (none_made names op ends s t is_source is_target found))
 
 -- nothing found is right, and so is what the names themselves give
 pub nothing_found : (names : List (List ℕ)) (ops : List NamedOp) → AreFound names ops []
 nothing_found names [] = tt
 nothing_found names (op ∷ ops) = tt
 
+itself : (o : Option ℕ) → IfSome o (λ n. o ≡ Some n)
+itself (Some n) = refl
+itself None = tt
+
+each_one : (names : List (List ℕ)) (op : NamedOp) → IsFound names op (ends_in names op)
+each_one names op = (itself (ends_in names op).source, itself (ends_in names op).target)
+
 pub each_found : (names : List (List ℕ)) (ops : List NamedOp) → AreFound names ops (map (ends_in names) ops)
 each_found names [] = tt
-each_found names (op ∷ ops) = (λ s t is_source is_target. refl, each_found names ops)
+each_found names (op ∷ ops) = (each_one names op, each_found names ops)
 
 -- what was found of the first, and of those behind it
 pub first_found : (names : List (List ℕ)) (op : NamedOp) (ops : List NamedOp) (ends : Ends) (front rest : List Ends)

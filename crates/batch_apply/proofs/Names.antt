@@ -7,7 +7,6 @@ use Rattle.graph_types.proofs.NameLists.{length-with_name}
 use Rattle.edge_block.specs.Operations.{names_after, kinds_after}
 use Rattle.vertex_names.specs.{Book.Book, declared.book.AddError.AddError}
 use Rattle.batch_apply.specs.{declared.resolve.Ends.Ends, Plan.{known, names_all, kinds_all, IsRefusal}}
-use Rattle.batch_apply.specs.declared.plans.PlanError.TheVariants as full
 
 -- a listed name is listed among more, with its number
 listed_next : (name x : List ℕ) (names more : List (List ℕ)) (found : Bool)

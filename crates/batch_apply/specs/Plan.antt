@@ -1,12 +1,12 @@
 -- The numbers of a batch's names, each operation by the names at its place.
-use Rattle.std.specs.{Prelude.{ℕ, ◌≡◌, ◌<◌, ◌≤◌, List, [], ◌∷◌, length, if◌then◌else◌}, Option.option_map}
+use Rattle.std.specs.{Prelude.{ℕ, ◌≡◌, ◌<◌, ◌≤◌, List, [], ◌∷◌, length, if◌then◌else◌}, Option.{option_map, IfSome}}
 use Rattle.std.specs.declared.option.Option.{Option, TheVariants.{None, Some}}
 use Rattle.graph_types.specs.{Graph.Key, Step.number_of, declared.batches.NamedOp.NamedOp, Changes.IsChange}
 use Rattle.vertex_names.specs.{Book.Book, declared.book.AddError.{AddError, TheVariants.{NamesFull, OutOfMemory}}}
 use Rattle.edge_block.specs.Operations.{Parts, OfEdge, OfAll, parts_of, names_after, kinds_after}
 use Rattle.edge_block.specs.Batches.{Resolved, AtKey, InAll, is_known}
-use Rattle.batch_apply.specs.declared.{plans.PlanError.PlanError, resolve.{Ends.Ends, EdgeKey.EdgeKey, ResolvedOp.ResolvedOp}}
-use Rattle.batch_apply.specs.declared.resolve.ResolvedOp.TheVariants.{Edge, Expire}
+use Rattle.batch_apply.specs.declared.{plans.PlanError.PlanError, resolve.{Ends.Ends, EdgeKey.EdgeKey, SeenKind.SeenKind}}
+use Rattle.batch_apply.specs.declared.resolve.ResolvedOp.{ResolvedOp, TheVariants.{Edge, Expire}}
 use Rattle.batch_apply.specs.declared.plans.PlanError.TheVariants as plan
 
 -- a name's number, if it has appeared
@@ -21,10 +21,10 @@ ends_by names (OfAll time) = record { source = None; target = None }
 abbrev pub ends_in : List (List ℕ) → NamedOp → Ends
 ends_in names op = ends_by names (parts_of op)
 
--- what was found of an operation's ends: if both numbers, then those that the names give them
+-- what was found of an operation's ends: each number is the one that the names give the end
 abbrev pub IsFound : List (List ℕ) → NamedOp → Ends → Type 0
-IsFound names op found = (source target : ℕ) → found.source ≡ Some source → found.target ≡ Some target
-    → found ≡ ends_in names op
+IsFound names op found = IfSome found.source (λ s. (ends_in names op).source ≡ Some s)
+    × IfSome found.target (λ t. (ends_in names op).target ≡ Some t)
 
 -- what was found of the first of these operations, or of all
 abbrev pub AreFound : List (List ℕ) → List NamedOp → List Ends → Type 0
@@ -35,6 +35,10 @@ AreFound names _ _ = Unit {0}
 abbrev pub kind_by : List (List ℕ) → Parts → Option ℕ
 kind_by kinds (OfEdge change kind source target) = known kinds kind
 kind_by kinds (OfAll time) = None
+
+-- a kind that was seen has its number
+abbrev pub IsSeen : List (List ℕ) → Option SeenKind → Type 0
+IsSeen kinds seen = IfSome seen (λ k. known kinds k.text.now ≡ Some k.number.0)
 
 -- the names, and the kinds, after operations, one after another
 abbrev pub names_all : List NamedOp → List (List ℕ) → List (List ℕ)

@@ -6,6 +6,7 @@ ghost use Rattle.graph_types.specs.declared.batches.NamedOp.{NamedOp};
 ghost use Rattle.batch_apply.specs.Plan.{ends_in, AreFound, IsFound};
 
 use crate::resolve::Ends;
+use crate::workers::one_after_another;
 use graph_types::NamedOp;
 use std::alloc::{AllocError, Global};
 use std::thread::{Threads, join};
@@ -66,10 +67,10 @@ fn find_all<R: Threads + Sync>(
         ensures { IfOk result (λ v. v.items ≡ map (ends_in names.entry.now.names) low.entry.now) }
     { find_all(rt, alloc, names, low, rest) };
     let (b, a) = join(rt, back, front);
-    let mut all = a?;
-    let mut behind = b?;
-    all.append(&mut behind)?;
-    Ok(all)
+    let all = a?;
+    let rest = b?;
+    let found = one_after_another(all, rest)?;
+    Ok(found)
 }
 
 /// What is known of the ends of operations before any is resolved: nothing where there is one worker, who resolves each in

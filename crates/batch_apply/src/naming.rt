@@ -1,21 +1,40 @@
 //! The names of a batch, resolved.
 
-ghost use Rattle.std.specs.Prelude.{◌≡◌, ◌≤◌, map, IfOk, IfErr, OnOk, All};
+ghost use Rattle.std.specs.Prelude.{◌≡◌, ◌≤◌, ℕ, List, map, IfOk, IfErr, OnOk, All};
 ghost use Rattle.graph_types.specs.Valid.{IsValid};
-ghost use Rattle.edge_block.specs.Batches.{resolved, IsPlaced};
-ghost use Rattle.batch_apply.specs.Plan.{names_all, kinds_all, shown, with_names, AreFound, Fits, IsInRange, IsUnplanned};
+ghost use Rattle.edge_block.specs.Operations.{parts_of};
+ghost use Rattle.edge_block.specs.Batches.{resolve_parts, resolved, IsPlaced};
+ghost use Rattle.batch_apply.specs.Plan.{names_all, kinds_all, shown, with_names, AreFound, Fits, IsInRange, IsSeen, IsUnplanned};
 
 use crate::finding::found_at;
 use crate::plans::PlanError;
-use crate::resolve::{Ends, ResolvedOp, resolve_op};
+use crate::resolve::{Ends, ResolvedOp, SeenKind, resolve_op};
 use graph_types::NamedOp;
 use std::alloc::Global;
 use vertex_names::NameBook;
 
+/// An operation's kind with its number, by the operation resolved; none where its edge's key is not known.
+fn kind_seen<'a>(op: &'a NamedOp, resolved: ResolvedOp) -> Option<SeenKind<'a>>
+    ensures { (names kinds : List (List ℕ)) → shown resolved ≡ resolve_parts names kinds (parts_of op.now) → IsSeen kinds result }
+{
+    let ResolvedOp::Edge(_, Some(key), _) = resolved else {
+        return None;
+    };
+    match op {
+        NamedOp::Insert { kind, .. } | NamedOp::Incr { kind, .. } | NamedOp::Remove { kind, .. } =>
+            Some(SeenKind {
+                text: kind.as_str(),
+                number: key.kind,
+            }),
+        NamedOp::Expire { .. } => None,
+    }
+}
+
 /// A batch's operations with the numbers of their names, each by the names at its place; the books then have the names
 /// that the batch leaves, and are within their limits as they were before.
 ///
-/// What was found of the ends of the first operations spares looking these up. `NamesFull` comes before `KindsFull`. After an error the books have some of the batch's names.
+/// What was found of the ends of the first operations spares looking these up. `NamesFull` comes before `KindsFull`. After
+/// an error the books have some of the batch's names.
 #[tactic(auto, using(crate::proofs::Resolving::placed_in))]
 pub fn resolve_batch(
     alloc: Global,
@@ -37,14 +56,18 @@ pub fn resolve_batch(
     ensures refused { IfErr result (λ error. IsUnplanned error ops.now names.old kinds.old) }
 {
     let mut found = Vec::with_capacity(alloc, ops.len())?;
+    let mut seen = None;
     for k in 0..ops.len() {
+        let asked = &ops[k];
         let op = resolve_op(
             names,
             kinds,
-            &ops[k],
+            asked,
             &ops[k + 1..],
             found_at(found_before, k),
+            seen,
         )?;
+        seen = kind_seen(asked, op);
         let Ok(()) = found.push(op) else {
             return Err(PlanError::OutOfMemory);
         };

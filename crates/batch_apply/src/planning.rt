@@ -1,12 +1,12 @@
 //! The plan of a batch by version, batch and workers.
 
-ghost use Rattle.std.specs.Prelude.{◌<◌, IfOk, IfErr, OnOk};
+ghost use Rattle.std.specs.Prelude.{◌≡◌, ◌<◌, IfOk, IfErr, OnOk};
 ghost use Rattle.graph_version.specs.Versions.{content};
 ghost use Rattle.graph_version.specs.Rows.{row_of};
 ghost use Rattle.batch_apply.specs.OldRows.{AreOldRows, expiry_time};
 ghost use Rattle.batch_apply.specs.Planned.{IsPlan, MeetsNeitherLimit, IsPlanRefusal};
 
-use crate::dividing::plan_found;
+use crate::dividing::{NamedBatch, Shards, name_batch, shards_at_once, shards_for};
 use crate::finding::look_up;
 use crate::old::{OldRow, old_rows};
 use crate::plans::{Plan, PlanError};
@@ -37,11 +37,13 @@ pub fn plan(
     ensures refused { IfErr result (λ error. IsPlanRefusal error batch.now (content version.now)) }
 {
     let old = old_rows(alloc, version, batch)?;
-    plan_found(alloc, version, batch, &old, &[], workers)
+    let named = name_batch(alloc, version, batch, &[])?;
+    let planned = shards_for(alloc, workers, named.ops.as_slice(), old.as_slice())?;
+    Ok(plan_of(named, planned))
 }
 
 /// Plans a batch as [`plan`] does, for who has found the version's old rows for it. Several workers look the names of its
-/// operations up at once before; what the plan is doesn't depend on it.
+/// operations up at once before, and plan their shards at once; what the plan is doesn't depend on it.
 pub fn plan_with<R: Threads + Sync>(
     rt: &R,
     alloc: Global,
@@ -57,5 +59,24 @@ pub fn plan_with<R: Threads + Sync>(
     ensures refused { IfErr result (λ error. IsPlanRefusal error batch.now (content version.now)) }
 {
     let found = look_up(rt, alloc, version.names(), batch.ops(), workers)?;
-    plan_found(alloc, version, batch, old, &found, workers)
+    let named = name_batch(alloc, version, batch, &found)?;
+    let planned = shards_at_once(rt, alloc, workers, named.ops.as_slice(), old)?;
+    Ok(plan_of(named, planned))
+}
+
+/// The plan of these names and these shards.
+fn plan_of(named: NamedBatch, planned: Shards) -> Plan
+    ensures { result ≡ record { names = named.names; kinds = named.kinds; shards = planned.shards; needs = planned.needs } }
+{
+    let NamedBatch {
+        names,
+        kinds,
+        ops: _ops,
+    } = named;
+    Plan {
+        names,
+        kinds,
+        shards: planned.shards,
+        needs: planned.needs,
+    }
 }

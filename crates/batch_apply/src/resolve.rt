@@ -1,6 +1,6 @@
 //! The numbers of a batch's names, each operation by the names at its place.
 
-ghost use Rattle.std.specs.Prelude.{◌≡◌, ◌≤◌, ◌<◌, ◌∷◌, ℕ, List, [], length, IfOk, IfErr, OnOk, IsTrue, All};
+ghost use Rattle.std.specs.Prelude.{◌≡◌, ◌≤◌, ◌<◌, ◌∷◌, ℕ, List, [], length, IfOk, IfErr, OnOk, IfSome, Some, IsTrue, All};
 ghost use Rattle.graph_types.specs.Step.{with_name};
 ghost use Rattle.edge_block.specs.Batches.{AtKey, resolve_parts};
 ghost use Rattle.vertex_names.specs.Book.{Book};
@@ -10,7 +10,7 @@ ghost use Rattle.std.specs.Option.{option_map};
 ghost use Rattle.edge_block.specs.Operations.{parts_of, names_after, kinds_after};
 ghost use Rattle.batch_apply.specs.Plan as plan;
 ghost use Rattle.batch_apply.specs.Plan.{known, ends_in, names_all, key_from, key_of, shown, with_names, kind_by};
-ghost use Rattle.batch_apply.specs.Plan.{Fits, IsFound, IsInRange, IsRefusal, IsUnplanned};
+ghost use Rattle.batch_apply.specs.Plan.{Fits, IsFound, IsSeen, IsInRange, IsRefusal, IsUnplanned};
 
 use crate::plans::PlanError;
 use graph_types::{EdgeChange, KindId, NamedOp};
@@ -40,10 +40,29 @@ pub enum ResolvedOp {
     Expire(u64),
 }
 
-/// The numbers of two names, which are added, the source before the target.
-fn add_ends(names: &mut NameBook, source: &str, target: &str) -> Result<Ends, AddError>
+/// The number of a name, which is added. It may have been found before: a name keeps its number.
+fn add_end(names: &mut NameBook, name: &str, found: Option<u32>) -> Result<u32, AddError>
+    requires within { Fits names.old }
+    requires name { IsTrue (is_name name.now) }
+    requires found { IfSome found (λ number. known names.old.names name.now ≡ Some number) }
+    ensures number { IfOk result (λ number. known (with_name names.old.names name.now) name.now ≡ Some number) }
+    ensures names { OnOk result (names.new ≡ with_names names.old (with_name names.old.names name.now)) }
+    ensures within { OnOk result (Fits names.new) }
+    ensures refused { IfErr result (λ error. IsRefusal error names.old (with_name names.old.names name.now)) }
+{
+    match found {
+        Some(number) => Ok(number),
+        None => names.add(name),
+    }
+}
+
+/// The numbers of two names, which are added, the source before the target. Some may have been found before.
+fn add_ends(names: &mut NameBook, source: &str, target: &str, found: Ends) -> Result<Ends, AddError>
+    requires within { Fits names.old }
     requires source { IsTrue (is_name source.now) }
     requires target { IsTrue (is_name target.now) }
+    requires found_source { IfSome found.source (λ number. known names.old.names source.now ≡ Some number) }
+    requires found_target { IfSome found.target (λ number. known names.old.names target.now ≡ Some number) }
     ensures ends { let after = with_name (with_name names.old.names source.now) target.now in
         IfOk result (λ e. e ≡ record { source = known after source.now; target = known after target.now }) }
     ensures names { OnOk result (names.new ≡ with_names names.old (with_name (with_name names.old.names source.now) target.now)) }
@@ -51,18 +70,31 @@ fn add_ends(names: &mut NameBook, source: &str, target: &str) -> Result<Ends, Ad
     ensures refused { IfErr result (λ error. IsRefusal error names.old
         (with_name (with_name names.old.names source.now) target.now)) }
 {
-    let source = names.add(source)?;
-    let target = names.add(target)?;
+    let source = add_end(names, source, found.source)?;
+    let target = add_end(names, target, found.target)?;
     Ok(Ends {
         source: Some(source),
         target: Some(target),
     })
 }
 
-/// The numbers of an operation's ends; its names are added first, where it makes any.
-fn op_ends(names: &mut NameBook, op: &NamedOp) -> Result<Ends, AddError>
+/// The number of a name, where it has appeared. It may have been found before.
+fn find_end(names: &NameBook, name: &str, found: Option<u32>) -> Option<u32>
+    requires { IfSome found (λ number. known names.now.names name.now ≡ Some number) }
+    ensures { result ≡ known names.now.names name.now }
+{
+    match found {
+        Some(number) => Some(number),
+        None => names.number(name),
+    }
+}
+
+/// The numbers of an operation's ends, of which some may have been found before; its names are added first, where it makes
+/// any.
+fn op_ends(names: &mut NameBook, op: &NamedOp, found: Ends) -> Result<Ends, AddError>
     requires within { Fits names.old }
     requires names { IsTrue (has_names op.now) }
+    requires found { IsFound names.old.names op.now found }
     ensures ends { IfOk result (λ e. e ≡ ends_in (names_after op.now names.old.names) op.now) }
     ensures names { OnOk result (names.new ≡ with_names names.old (names_after op.now names.old.names)) }
     ensures within { OnOk result (Fits names.new) }
@@ -70,14 +102,14 @@ fn op_ends(names: &mut NameBook, op: &NamedOp) -> Result<Ends, AddError>
 {
     match op {
         NamedOp::Insert { source, target, .. } => {
-            add_ends(names, source.as_str(), target.as_str())
+            add_ends(names, source.as_str(), target.as_str(), found)
         }
         NamedOp::Incr { source, target, .. } => {
-            add_ends(names, source.as_str(), target.as_str())
+            add_ends(names, source.as_str(), target.as_str(), found)
         }
         NamedOp::Remove { source, target, .. } => Ok(Ends {
-            source: names.number(source.as_str()),
-            target: names.number(target.as_str()),
+            source: find_end(names, source.as_str(), found.source),
+            target: find_end(names, target.as_str(), found.target),
         }),
         NamedOp::Expire { .. } => Ok(Ends {
             source: None,
@@ -86,8 +118,8 @@ fn op_ends(names: &mut NameBook, op: &NamedOp) -> Result<Ends, AddError>
     }
 }
 
-/// The numbers of an operation's ends, as `op_ends` gives them. Where both were found before, no name is looked up: a name
-/// keeps its number.
+/// The numbers of an operation's ends, as `op_ends` gives them. Where both were found before, there is nothing to add.
+#[tactic(auto, using(crate::proofs::Found::none_made, crate::proofs::Found::both_ends))]
 fn ends_of(names: &mut NameBook, op: &NamedOp, found: Ends) -> Result<Ends, AddError>
     requires within { Fits names.old }
     requires names { IsTrue (has_names op.now) }
@@ -99,46 +131,98 @@ fn ends_of(names: &mut NameBook, op: &NamedOp, found: Ends) -> Result<Ends, AddE
 {
     match (found.source, found.target) {
         (Some(_), Some(_)) => Ok(found),
-        _ => op_ends(names, op),
+        _ => op_ends(names, op, found),
     }
 }
 
-/// The number of a kind, which is added.
-fn add_kind(kinds: &mut NameBook, kind: &str) -> Result<Option<KindId>, AddError>
+/// A kind's text and its number.
+#[derive(Clone, Copy)]
+pub struct SeenKind<'a> {
+    pub text: &'a str,
+    pub number: KindId,
+}
+
+/// Whether two lists of bytes are the same. A loop over short ones is several times as fast as their `==`.
+fn are_same(a: &[u8], b: &[u8]) -> bool
+    ensures { IsTrue result → a.now ≡ b.now }
+{
+    if a.len() != b.len() {
+        return false;
+    }
+    for k in 0..a.len() {
+        if a[k] != b[k] {
+            return false;
+        }
+    }
+    true
+}
+
+/// The number of a kind, if it was seen before: a name keeps its number.
+fn if_seen(kind: &str, seen: Option<SeenKind<'_>>) -> Option<KindId>
+    ensures { (kinds : List (List ℕ)) → IsSeen kinds seen.entry → IfSome result (λ k. known kinds kind.now ≡ Some k.0) }
+{
+    let seen = seen?;
+    if are_same(seen.text.as_bytes(), kind.as_bytes()) {
+        Some(seen.number)
+    } else {
+        None
+    }
+}
+
+/// The number of a kind, which is added. It may have been seen before.
+fn add_kind(
+    kinds: &mut NameBook,
+    kind: &str,
+    seen: Option<SeenKind<'_>>,
+) -> Result<Option<KindId>, AddError>
     requires limit { kinds.old.limit ≤ 64 }
+    requires within { Fits kinds.old }
     requires kind { IsTrue (is_name kind.now) }
+    requires seen { IsSeen kinds.old.names seen }
     ensures kind { IfOk result (λ k. option_map (λ k. k.0) k ≡ known (with_name kinds.old.names kind.now) kind.now) }
     ensures kinds { OnOk result (kinds.new ≡ with_names kinds.old (with_name kinds.old.names kind.now)) }
     ensures within { OnOk result (Fits kinds.new) }
     ensures refused { IfErr result (λ error. IsRefusal error kinds.old (with_name kinds.old.names kind.now)) }
 {
+    if let Some(number) = if_seen(kind, seen) {
+        return Ok(Some(number));
+    }
     let number = kinds.add(kind)?;
     Ok(Some(KindId(number as u8)))
 }
 
-/// The number of a kind, where it has appeared.
-fn find_kind(kinds: &NameBook, kind: &str) -> Option<KindId>
-    requires { kinds.now.limit ≤ 64 }
+/// The number of a kind, where it has appeared. It may have been seen before.
+fn find_kind(kinds: &NameBook, kind: &str, seen: Option<SeenKind<'_>>) -> Option<KindId>
+    requires limit { kinds.now.limit ≤ 64 }
+    requires seen { IsSeen kinds.now.names seen }
     ensures { option_map (λ k. k.0) result ≡ known kinds.now.names kind.now }
 {
+    if let Some(number) = if_seen(kind, seen) {
+        return Some(number);
+    }
     let number = kinds.number(kind)?;
     Some(KindId(number as u8))
 }
 
-/// The number of an operation's kind, which is added first, where the operation makes kinds.
-fn op_kind(kinds: &mut NameBook, op: &NamedOp) -> Result<Option<KindId>, AddError>
+/// The number of an operation's kind, which is added first, where the operation makes kinds. It may have been seen before.
+fn op_kind(
+    kinds: &mut NameBook,
+    op: &NamedOp,
+    seen: Option<SeenKind<'_>>,
+) -> Result<Option<KindId>, AddError>
     requires limit { kinds.old.limit ≤ 64 }
     requires within { Fits kinds.old }
     requires names { IsTrue (has_names op.now) }
+    requires seen { IsSeen kinds.old.names seen }
     ensures kind { IfOk result (λ k. option_map (λ k. k.0) k ≡ kind_by (kinds_after op.now kinds.old.names) (parts_of op.now)) }
     ensures kinds { OnOk result (kinds.new ≡ with_names kinds.old (kinds_after op.now kinds.old.names)) }
     ensures within { OnOk result (Fits kinds.new) }
     ensures refused { IfErr result (λ error. IsRefusal error kinds.old (kinds_after op.now kinds.old.names)) }
 {
     match op {
-        NamedOp::Insert { kind, .. } => add_kind(kinds, kind.as_str()),
-        NamedOp::Incr { kind, .. } => add_kind(kinds, kind.as_str()),
-        NamedOp::Remove { kind, .. } => Ok(find_kind(kinds, kind.as_str())),
+        NamedOp::Insert { kind, .. } => add_kind(kinds, kind.as_str(), seen),
+        NamedOp::Incr { kind, .. } => add_kind(kinds, kind.as_str(), seen),
+        NamedOp::Remove { kind, .. } => Ok(find_kind(kinds, kind.as_str(), seen)),
         NamedOp::Expire { .. } => Ok(None),
     }
 }
@@ -211,7 +295,11 @@ fn add_names(names: &mut NameBook, ops: &[NamedOp]) -> Result<(), AddError>
     ensures refused { IfErr result (λ error. IsRefusal error names.old (names_all ops.now names.old.names)) }
 {
     for op in ops {
-        op_ends(names, op)?;
+        let unfound = Ends {
+            source: None,
+            target: None,
+        };
+        op_ends(names, op, unfound)?;
     }
     Ok(())
 }
@@ -234,7 +322,7 @@ fn kinds_refusal(error: AddError, names: &mut NameBook, behind: &[NamedOp]) -> P
 }
 
 /// An operation with the numbers of its names, which are added first, where it makes any. These operations are behind it, and
-/// this was found of its ends.
+/// this was found of its ends. A kind may have been seen before.
 ///
 /// After an error the books have some of the names.
 pub fn resolve_op(
@@ -243,12 +331,14 @@ pub fn resolve_op(
     op: &NamedOp,
     behind: &[NamedOp],
     found: Ends,
+    seen: Option<SeenKind<'_>>,
 ) -> Result<ResolvedOp, PlanError>
     requires limit { kinds.old.limit ≤ 64 }
     requires within { Fits names.old × Fits kinds.old }
     requires op { IsValid op.now }
     requires behind { All IsValid behind.now }
     requires found { IsFound names.old.names op.now found }
+    requires seen { IsSeen kinds.old.names seen }
     ensures op { IfOk result (λ r. shown r
         ≡ resolve_parts (names_after op.now names.old.names) (kinds_after op.now kinds.old.names) (parts_of op.now)) }
     ensures change { IfOk result IsInRange }
@@ -261,7 +351,7 @@ pub fn resolve_op(
         Ok(ends) => ends,
         Err(error) => return Err(names_refusal(error)),
     };
-    match op_kind(kinds, op) {
+    match op_kind(kinds, op, seen) {
         Ok(kind) => Ok(resolved_op(op, ends, kind)),
         Err(error) => Err(kinds_refusal(error, names, behind)),
     }

@@ -110,11 +110,11 @@ fn do_busy<R: Threads + Sync, G: Gate + Sync>(
     Ok(done)
 }
 
-/// What the jobs of the first half leave, and then what those of the second leave.
-fn one_after_another(
-    first: Vec<ShardDone>,
-    second: Vec<ShardDone>,
-) -> Result<Vec<ShardDone>, AllocError>
+/// Items of two lists, one list after the other.
+pub(crate) fn one_after_another<T: Drop>(
+    first: Vec<T>,
+    second: Vec<T>,
+) -> Result<Vec<T>, AllocError>
     ensures { IfOk result (λ v. v.items ≡ first.items ++ second.items) }
 {
     let mut all = first;

@@ -2,6 +2,8 @@
 
 ghost use Rattle.std.specs.Prelude.{◌<◌};
 
+mod shared;
+
 use super::steps::planned;
 use crate::texts::{check_so, check_text, push_item, tell_refused};
 use batch_apply::{Plan, PlanError, law_sources_within};

@@ -6,5 +6,5 @@ use Rattle.batch_apply.proofs.dividing.shards_for.Given as goal
 
 abbrev pub invariant-loop-worker : goal.invariant-loop-worker
 invariant-loop-worker l = (rows : ℕ → List BlockView) → AreOldRows (latest (map shown l.ops)) rows l.old
-    → AllZip (IsShardOf l.workers (map shown l.ops) (layout_by rows)) (range_with_len 0 l.worker) l.shards.items
-    × (l.needs.items ≡ map (λ shard. min (needed rows (sources_in shard) shard.steps.items) (2 ^ 64 - 1)) l.shards.items)
+    → AllZip (IsShardOf l.workers (map shown l.ops) (layout_by rows)) (range_with_len 0 l.worker) l.all.shards.items
+    × (l.all.needs.items ≡ map (λ shard. min (needed rows (sources_in shard) shard.steps.items) (2 ^ 64 - 1)) l.all.shards.items)

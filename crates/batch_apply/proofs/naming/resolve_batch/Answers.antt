@@ -3,7 +3,7 @@ use Rattle.std.proofs.lemmas.List.{Elements.All-push}
 use Rattle.graph_types.specs.declared.batches.NamedOp.{NamedOp}
 use Rattle.edge_block.specs.{Operations.names_after, Operations.kinds_after, Batches.resolved}
 use Rattle.vertex_names.specs.Book.{Book}
-use Rattle.batch_apply.specs.Plan.{names_all, kinds_all, shown, AreFound, IsInRange}
+use Rattle.batch_apply.specs.Plan.{names_all, kinds_all, shown, AreFound, IsInRange, IsSeen}
 use Rattle.batch_apply.proofs.{Found.{all_later, rest_found}, Resolving.{one_more, placed_in, all_resolved}}
 use Rattle.batch_apply.proofs.naming.resolve_batch.Goals as goal
 
@@ -29,6 +29,8 @@ loop-k-preserved c =
       limit = ap (λ (b : Book). b.limit) c.in_ok-op.ensures.names ∙ c.loop-k.invariant.limit;
       few = ap (λ (b : Book). b.limit) c.in_ok-op.ensures.kinds ∙ c.loop-k.invariant.few;
       within = c.in_ok-op.ensures.within;
+      seen = subst (λ l. IsSeen l c.kind_seen-seen.result) (sym more_kinds)
+          (c.kind_seen-seen.ensures (names_after op names) (kinds_after op kinds) c.in_ok-op.ensures.op);
       before = subst (λ l. AreFound l rest (drop (k + 1) c.args.found_before.now)) (sym more_names)
           (all_later names op rest (drop (k + 1) c.args.found_before.now) (rest_found names op rest c.args.found_before.now k
           (subst (λ os. AreFound names os (drop k c.args.found_before.now)) step c.loop-k.invariant.before)));

@@ -1,6 +1,6 @@
 use Rattle.std.proofs.Common.{◌≡◌, ◌++◌, drop, map, All}
 use Rattle.edge_block.specs.Batches.{resolved}
-use Rattle.batch_apply.specs.Plan.{names_all, kinds_all, shown, AreFound, Fits, IsInRange}
+use Rattle.batch_apply.specs.Plan.{names_all, kinds_all, shown, AreFound, Fits, IsInRange, IsSeen}
 use Rattle.batch_apply.proofs.naming.resolve_batch.Given as goal
 
 -- what is left of the operations leaves what all leave
@@ -14,5 +14,6 @@ invariant-loop-k l = record {
   limit : l.names.limit ≡ l.initial.names.limit;
   few : l.kinds.limit ≡ l.initial.kinds.limit;
   within : Fits l.names × Fits l.kinds;
+  seen : IsSeen l.kinds.names l.seen;
   before : AreFound l.names.names (drop l.k l.ops) (drop l.k l.found_before);
 }

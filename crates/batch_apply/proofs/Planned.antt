@@ -1,0 +1,40 @@
+-- A plan by its names and its shards.
+use Rattle.std.proofs.Common.{◌≡◌, ◌≤◌, ◌-◌, ◌^◌, ℕ, List, map, min, length, ap, sym, subst, ◌∙◌, arith}
+use Rattle.std.{proofs.lemmas.List.length-map, specs.List.{range_with_len, AllZip}}
+use Rattle.graph_types.specs.{Step.after_all, declared.batches.NamedOp.NamedOp}
+use Rattle.edge_block.specs.{Slots.BlockView, Batches.{Resolved, resolved}}
+use Rattle.graph_version.specs.{Rows.row_of, Kept.{vertex_book, kind_book}, Versions.{VersionView, content, IsVersion}}
+use Rattle.batch_shards.specs.{Done.{layout_by, sources_in}, Spending.needed}
+use Rattle.batch_apply.specs.{Plan.shown, Shards.{IsShardOf, latest}, OldRows.{AreOldRows, expiry_time}, Planned.IsPlan}
+use Rattle.batch_apply.specs.declared.{plans.Plan.Plan, old.OldRow.OldRow, resolve.ResolvedOp.ResolvedOp}
+use Rattle.batch_apply.proofs.Needs.{same_time, exact_needs}
+
+-- the rows from which the operations may take edges are those by the batch's greatest time
+pub old_resolved : (ops : List NamedOp) (names kinds : List (List ℕ)) (found : List ResolvedOp) (rows : ℕ → List BlockView)
+    (old : List OldRow) → map shown found ≡ resolved ops names kinds → AreOldRows (expiry_time ops) rows old
+    → AreOldRows (latest (map shown found)) rows old
+old_resolved ops names kinds found rows old is are =
+    subst (λ (t : ℕ). AreOldRows t rows old) (sym (ap latest is ∙ same_time ops names kinds)) are
+
+pub planned : (v : VersionView) → IsVersion v → (workers : ℕ) (ops : List NamedOp) (found : List ResolvedOp) (old : List OldRow)
+    (plan : Plan) → plan.names ≡ vertex_book (after_all ops (content v)).names
+    → plan.kinds ≡ kind_book (after_all ops (content v)).kinds
+    → map shown found ≡ resolved ops (content v).names (content v).kinds → length found ≤ 4096
+    → AreOldRows (expiry_time ops) (row_of v.rows) old
+    → ((rows : ℕ → List BlockView) → AreOldRows (latest (map shown found)) rows old
+    → AllZip (IsShardOf workers (map shown found) (layout_by rows)) (range_with_len 0 workers) plan.shards.items)
+    → ((rows : ℕ → List BlockView) → AreOldRows (latest (map shown found)) rows old
+    → plan.needs.items ≡ map (λ shard. min (needed rows (sources_in shard) shard.steps.items) (2 ^ 64 - 1)) plan.shards.items)
+    → IsPlan workers ops (content v) (row_of v.rows) plan
+planned v is workers ops found old plan names kinds ops_are few are shards needs =
+    let rs : List Resolved = map shown found in
+    let old_are = old_resolved ops (content v).names (content v).kinds found (row_of v.rows) old ops_are are in
+    let zip = shards (row_of v.rows) old_are in
+    let few_rs : length rs ≤ 4096 = omega (arith, few, length-map found shown) in
+    record {
+      names = names;
+      kinds = kinds;
+      shards = subst (λ (os : List Resolved). AllZip (IsShardOf workers os (layout_by (row_of v.rows)))
+          (range_with_len 0 workers) plan.shards.items) ops_are zip;
+      needs = needs (row_of v.rows) old_are ∙ exact_needs v is workers rs plan.shards.items few_rs zip;
+    }

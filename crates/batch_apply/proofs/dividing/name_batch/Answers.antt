@@ -1,0 +1,62 @@
+use Rattle.std.proofs.Common.{◌≤◌, length, arith, ap, sym, subst, ◌∙◌, List, All}
+use Rattle.graph_types.specs.{Graph.Graph, Valid.IsValid, declared.batches.NamedOp.NamedOp}
+use Rattle.vertex_names.specs.Book.{Book}
+use Rattle.edge_block.specs.Batches.{resolved}
+use Rattle.graph_version.specs.{Versions.content}
+use Rattle.batch_apply.specs.{Plan.{names_all, kinds_all, with_names, Fits}, Planned.IsPlanRefusal}
+use Rattle.batch_apply.proofs.{Resolving.as_many_shown, Leaving.{names_book, kinds_book, neither_limit, plan_refused}}
+use Rattle.batch_apply.proofs.Names.{err_then}
+use Rattle.batch_apply.proofs.dividing.name_batch.Goals as goal
+
+-- the version's books are within their limits
+pub resolve_batch-requires-clause-within : goal.resolve_batch-requires-clause-within
+resolve_batch-requires-clause-within c = (
+  subst Fits (sym (c.in_ok-names.ensures ∙ c.names.ensures.names)) c.names.ensures.version.small.names,
+  subst Fits (sym (c.in_ok-kinds.ensures ∙ c.kinds.ensures)) c.names.ensures.version.small.kinds,
+)
+
+pub resolve_batch-requires-clause-limit : goal.resolve_batch-requires-clause-limit
+resolve_batch-requires-clause-limit c =
+    subst (λ (b : Book). b.limit ≤ 64) (sym (c.in_ok-kinds.ensures ∙ c.kinds.ensures)) (omega arith)
+
+pub resolve_batch-requires-clause-valid : goal.resolve_batch-requires-clause-valid
+resolve_batch-requires-clause-valid c =
+    subst (λ (ops : List NamedOp). All IsValid ops) (sym c.ops.ensures.ops) c.ops.ensures.batch.valid
+
+pub returns-clause-few : goal.returns-clause-few
+returns-clause-few c =
+    let many = as_many_shown c.in_ok-ops.ops.items c.ops.result.now c.in_ok-names.names.names c.in_ok-kinds.kinds.names
+    c.in_ok-ops.ensures.ops in
+    omega (arith, many, ap length c.ops.ensures.ops, c.ops.ensures.batch.few)
+
+pub returns-clause-ops : goal.returns-clause-ops
+returns-clause-ops c =
+    let old_names = c.in_ok-names.ensures ∙ c.names.ensures.names in
+    let old_kinds = c.in_ok-kinds.ensures ∙ c.kinds.ensures in
+    c.in_ok-ops.ensures.ops ∙ (λ i. resolved (c.ops.ensures.ops i) (old_names i).names (old_kinds i).names)
+
+pub returns-clause-names : goal.returns-clause-names
+returns-clause-names c =
+    names_book c.args.batch.now (content c.args.version.now) c.in_ok-names.names c.resolve_batch.new.names
+    (c.in_ok-names.ensures ∙ c.names.ensures.names) (c.in_ok-ops.ensures.names
+    ∙ ap (λ (os : List NamedOp). with_names c.in_ok-names.names (names_all os c.in_ok-names.names.names)) c.ops.ensures.ops)
+
+pub returns-clause-kinds : goal.returns-clause-kinds
+returns-clause-kinds c =
+    kinds_book c.args.batch.now (content c.args.version.now) c.in_ok-kinds.kinds c.resolve_batch.new.kinds
+    (c.in_ok-kinds.ensures ∙ c.kinds.ensures) (c.in_ok-ops.ensures.kinds
+    ∙ ap (λ (os : List NamedOp). with_names c.in_ok-kinds.kinds (kinds_all os c.in_ok-kinds.kinds.names)) c.ops.ensures.ops)
+
+pub returns-clause-limits : goal.returns-clause-limits
+returns-clause-limits c =
+    neither_limit c.args.batch.now (content c.args.version.now) c.resolve_batch.new.names c.resolve_batch.new.kinds
+    (returns-clause-names c) (returns-clause-kinds c) c.in_ok-ops.ensures.within.0 c.in_ok-ops.ensures.within.1
+
+pub returns-in_err-ops-clause-refused : goal.returns-in_err-ops-clause-refused
+returns-in_err-ops-clause-refused c =
+    let g : Graph = content c.args.version.now in
+    err_then c.from_residual-in_err-ops.result (λ error. IsPlanRefusal error c.args.batch.now g) c.in_err-ops.field-0.0
+    c.from_residual-in_err-ops.ensures.1
+    (subst (λ (os : List NamedOp). IsPlanRefusal c.in_err-ops.field-0.0 os g) c.ops.ensures.ops
+    (plan_refused c.in_err-ops.field-0.0 c.ops.result.now g c.in_ok-names.names c.in_ok-kinds.kinds
+    (c.in_ok-names.ensures ∙ c.names.ensures.names) (c.in_ok-kinds.ensures ∙ c.kinds.ensures) c.in_err-ops.ensures.refused))
