@@ -59,8 +59,7 @@ fn old_blocks_in(row: &[Arc<Block>], time: u64) -> usize
 
 /// The rows of a version with an edge from before the greatest time of a batch's expiries, sources rising.
 ///
-/// Of these rows, and of those of more than 64 blocks, headers are read, however many expiries the batch has; none where it has
-/// no expiry.
+/// Of these rows alone headers are read, however many expiries the batch has; none where it has no expiry.
 pub fn old_rows(alloc: Global, version: &Version, batch: &Batch) -> Result<Vec<OldRow>, AllocError>
     ensures { IfOk result (λ v. AreOldRows (expiry_time batch.now) (row_of version.now.rows) v.items) }
 {

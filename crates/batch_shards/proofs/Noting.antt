@@ -1,5 +1,5 @@
 -- Notes of a row: what an operation leaves of its targets, and the first of the noted places.
-use Rattle.std.proofs.Common.{◌≡◌, ◌⊎◌, ℕ, zero, suc, ◌+◌, ◌<◌, ◌≤◌, Bool, true, false, cond, List, [], ◌∷◌, ◌++◌, length, get_or}
+use Rattle.std.proofs.Common.{◌≡◌, ◌⊎◌, ℕ, zero, suc, ◌<◌, ◌≤◌, Bool, true, false, cond, List, [], ◌∷◌, ◌++◌, length, get_or}
 use Rattle.std.proofs.{Common.{set, refl, ap, ◌∙◌, inl, inr, arith}, lemmas.Bool.{false≢true, false_from_ne_true, lt-ltb, le-ltb}}
 use Rattle.std.proofs.lemmas.{Bool.{eqb-true, eqb-false, or_cases, or_left, or_right}, List.{get_or-set_same, get_or-set_other}}
 use Rattle.std.proofs.{lemmas.List.{get_or_default, get_or_append_left, Sums.position_or_len_is}, Math.ListN.length-set}

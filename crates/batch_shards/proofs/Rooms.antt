@@ -1,5 +1,5 @@
 -- Where a row may have room, and what a change leaves of it.
-use Rattle.std.proofs.Common.{◌≡◌, ℕ, ◌<◌, true, false, List, [], ◌∷◌, ◌++◌, length, get_or, set, sym, ap, ◌∙◌, arith}
+use Rattle.std.proofs.Common.{◌≡◌, ℕ, ◌<◌, false, List, [], ◌∷◌, ◌++◌, length, get_or, set, sym, ap, ◌∙◌, arith}
 use Rattle.std.proofs.lemmas.{Bool.{true≢false, false_from_ne_true, eqb-true, eqb-false}, List.get_or-set_same}
 use Rattle.std.proofs.{lemmas.List.{get_or-set_other, get_or_append_left, Quantifiers.position-Some}, Math.ListN.length-set}
 use Rattle.std.{specs.{List.position, declared.option.Option.TheVariants.{None, Some}}, proofs.lemmas.Grind.common_steps}

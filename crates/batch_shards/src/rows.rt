@@ -9,7 +9,7 @@ ghost use Rattle.graph_types.specs.Graph.{IsWeight, IsTime};
 ghost use Rattle.graph_types.specs.Step.{stamp_after, outcome_at};
 ghost use Rattle.edge_block.specs.Slots.{has_room_for, stamp_at, edge_slot};
 ghost use Rattle.edge_block.specs.Rows as layout;
-ghost use Rattle.edge_block.specs.Rows.{touch, touches, change_row, edge_at, put_edge};
+ghost use Rattle.edge_block.specs.Rows.{OpenBlock, touch, touches, change_row, edge_at, put_edge};
 ghost use Rattle.batch_shards.specs.RowBlocks.{block_of, open_of, opens, set_slot, IsOf, IsChanged, IsTouched};
 ghost use Rattle.batch_shards.specs.OpenRows.{KeepsHere, KeepsIn, LeavesEnough};
 ghost use Rattle.batch_shards.specs.Spending.{unspent};
@@ -211,6 +211,19 @@ fn new_block(
     })
 }
 
+/// A time such that no edge of a row was last touched before it, once a change was made in a row of which `since` is such a time.
+/// The edge may be older than those that the row had.
+fn since_after(since: u64, change: EdgeChange) -> u64
+    ensures { (place : ℕ × ℕ) (row : List OpenBlock) → layout.old_in_row since row ≡ 0
+        → layout.old_in_row result (change_row change place row) ≡ 0 }
+{
+    match change {
+        EdgeChange::Insert { time, .. } => since.min(time),
+        EdgeChange::Incr { time, .. } => since.min(time),
+        EdgeChange::Remove => since,
+    }
+}
+
 /// Changes the edge of a kind to a target, and answers the outcome.
 pub fn apply_step(
     row: &mut Vec<RowBlock>,
@@ -231,8 +244,7 @@ pub fn apply_step(
     ensures own { OnOk result (All (IsOf source.0) row.new.items) }
     ensures keeps { OnOk result (KeepsIn 1 row.old.items fresh.old row.new.items fresh.new) }
 {
-    // The edge may be older than those that the row had.
-    hints.since = 0;
+    hints.since = since_after(hints.since, change);
     match find_place(row.as_slice(), &hints.notes, kind, target) {
         Some(place) => {
             let outcome = change_here(&mut row[place], fresh, target, change)?;

@@ -40,7 +40,7 @@ earlier_rows s t rows le none =
 pub none_before_zero : (es : List Slot) → list_any (λ e. is_before 0 e.stamp) es ≡ false
 none_before_zero es = list_any_none (λ (e : Slot). is_before 0 e.stamp) es (λ i e lt. le-ltb (get_or es i e).stamp.recent 0 (omega arith))
 
-pub row_before_zero : (row : List BlockView) → is_old_row 0 row ≡ false
+row_before_zero : (row : List BlockView) → is_old_row 0 row ≡ false
 row_before_zero row = list_any_none (λ (b : BlockView). has_before 0 b.slots) row
     (λ i b lt. none_before_zero (edges_in (get_or row i b).slots))
 

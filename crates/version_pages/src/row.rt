@@ -11,9 +11,6 @@ use std::marker::Model;
 use std::slice;
 use std::sync::Arc;
 
-/// A row of more blocks is always looked through, so that writing it reads none of their headers.
-const FEW: usize = 64;
-
 /// Blocks in order. Most rows have one block or none, and then need no list.
 #[derive(Drop)]
 pub(crate) enum Blocks {
@@ -70,13 +67,10 @@ fn block_since(block: &Block) -> u64
     }
 }
 
-/// A time such that no edge of a row was last touched before it: the least of their times, but 0 of a row of many blocks.
+/// A time such that no edge of a row was last touched before it: the least of their times.
 fn blocks_since(blocks: &[Arc<Block>]) -> u64
     ensures { is_old_row result (block_values blocks.now) ≡ false }
 {
-    if blocks.len() > FEW {
-        return 0;
-    }
     let mut since = u64::MAX;
     for block in blocks {
         since = since.min(block_since(block));

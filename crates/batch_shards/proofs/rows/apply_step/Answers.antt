@@ -1,11 +1,11 @@
-use Rattle.std.{proofs.Common.{◌≡◌, ◌<◌, List, true, sym, ap, ◌∙◌, subst, get_or, set, length, rules}, specs.Option.is_some}
+use Rattle.std.{proofs.Common.{◌≡◌, ◌<◌, List, true, sym, ap, ◌∙◌, subst, get_or, length, rules}, specs.Option.is_some}
 use Rattle.std.specs.declared.option.Option.TheVariants.{None, Some}
 use Rattle.graph_types.specs.{Step.stamp_after, Changes.option_stamp, Changes.stamp_in}
-use Rattle.edge_block.{specs.Slots.stamp_at, proofs.Entries.list_any-holds}
+use Rattle.edge_block.{specs.Slots.stamp_at, specs.Rows.OpenBlock, specs.Rows.old_in_row, proofs.Entries.list_any-holds}
 use Rattle.batch_shards.specs.{RowBlocks.{block_of, opens, IsChanged}, declared.row_blocks.RowBlock.RowBlock, Notes.has_target}
 use Rattle.batch_shards.{specs.Room.IsRoom, proofs.RowSteps.{absent_edge, absent_puts, absent_stays, at_edge, placed, keeps_set}}
 use Rattle.batch_shards.proofs.{RowSteps.{found_within, found_edge, found_some, found_changed, absent_any}, Noting.noted_kept}
-use Rattle.batch_shards.proofs.{Noting.changed_targets, Young.none_at_start}
+use Rattle.batch_shards.proofs.Noting.{changed_targets}
 use Rattle.batch_shards.proofs.rows.apply_step.Goals as goal
 
 pub change_here-requires-clause-edge : goal.change_here-requires-clause-edge
@@ -43,7 +43,9 @@ returns-in_ok-outcome-in-Some c =
             (λ other now. changed_targets c.args.change c.args.target here y other changed has now);
         room = subst (λ (row : List RowBlock). IsRoom c.after_change-hints.result row) c.as_slice-in-Some.ensures.value
             (c.after_change-hints.ensures row y c.as_slice-in-Some.ensures.value c.requires.hints.room);
-        young = none_at_start (opens (set row place y));
+        young = subst (λ (r : List OpenBlock). old_in_row c.since_after-hints.result r ≡ 0)
+            (found_changed k c.args.target row place h found c.args.change y changed)
+            (c.since_after-hints.ensures (k, c.args.target) (opens row) c.requires.hints.young);
       };
       own = search rules;
       keeps = keeps_set 1 row place y h c.args.fresh.now c.change_here.new.fresh within c.index_mut.ensures.value
@@ -70,14 +72,9 @@ returns-in_ok-note_edge-in-None-clause-hints c = record {
   noted = c.in_ok-note_edge-in-None.ensures c.args.row.now.items c.add_edge.new.row.items c.requires.hints.noted
       c.in_ok-place-in-None.ensures.gains;
   room = c.in_ok-place-in-None.ensures.full;
-  young = none_at_start (opens c.add_edge.new.row.items);
-}
-
-pub returns-in_default-clause-hints : goal.returns-in_default-clause-hints
-returns-in_default-clause-hints c = record {
-  noted = c.requires.hints.noted;
-  room = c.requires.hints.room;
-  young = none_at_start (opens c.args.row.now.items);
+  young = subst (λ (r : List OpenBlock). old_in_row c.since_after-hints.result r ≡ 0)
+      (sym (returns-in_ok-note_edge-in-None-clause-row c))
+      (c.since_after-hints.ensures (c.args.kind.0, c.args.target) (opens c.args.row.now.items) c.requires.hints.young);
 }
 
 pub returns-in_default-clause-outcome : goal.returns-in_default-clause-outcome
@@ -91,3 +88,11 @@ returns-in_default-clause-row c =
     rw (absent_edge c.args.kind.0 c.args.target c.args.row.now.items none)
     (sym (absent_stays c.args.change (c.args.kind.0, c.args.target) (opens c.args.row.now.items)
     (ap option_stamp (sym c.in_default.is) ∙ c.change_edge-outcome.ensures.stamp)))
+
+pub returns-in_default-clause-hints : goal.returns-in_default-clause-hints
+returns-in_default-clause-hints c = record {
+  noted = c.requires.hints.noted;
+  room = c.requires.hints.room;
+  young = subst (λ (r : List OpenBlock). old_in_row c.since_after-hints.result r ≡ 0) (sym (returns-in_default-clause-row c))
+      (c.since_after-hints.ensures (c.args.kind.0, c.args.target) (opens c.args.row.now.items) c.requires.hints.young);
+}

@@ -1,12 +1,9 @@
 use Rattle.std.proofs.{Common.{◌≡◌, ℕ, List, false, sym, subst, ap, ◌∙◌, arith, All}, lemmas.List.take_all}
 use Rattle.std.specs.declared.{sync.Arc.Arc, alloc.Global.Global}
 use Rattle.edge_block.specs.{Slots.BlockView, Slots.has_before, declared.blocks.Block.Block}
-use Rattle.version_pages.specs.Sharing.{block_value, block_values}
-use Rattle.version_pages.proofs.Ages.{bounded_more, bounded_row, earlier_block, row_before_zero}
+use Rattle.version_pages.specs.Sharing.{block_value}
+use Rattle.version_pages.proofs.Ages.{bounded_more, bounded_row, earlier_block}
 use Rattle.version_pages.proofs.row.blocks_since.Goals as goal
-
-pub returns-then-blocks-gt-FEW : goal.returns-then-blocks-gt-FEW
-returns-then-blocks-gt-FEW c = row_before_zero (block_values c.args.blocks.now)
 
 pub loop-block-preserved : goal.loop-block-preserved
 loop-block-preserved c =
