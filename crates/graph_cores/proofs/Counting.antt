@@ -1,5 +1,5 @@
 -- One edge more in a table of degrees.
-use Rattle.std.proofs.Common.{◌≡◌, ℕ, ◌+◌, ◌<◌, Bool, true, cond, List, [], ◌∷◌, ◌++◌, length, map, ℤ, pos, ◌+ℤ◌, sym, subst}
+use Rattle.std.proofs.Common.{◌≡◌, ℕ, ◌<◌, Bool, true, cond, List, [], ◌∷◌, ◌++◌, length, map, ℤ, pos, ◌+ℤ◌, sym, subst}
 use Rattle.std.proofs.{Common.arith, lemmas.{Int.ints, List.{map-append, Sums.{sum_by_push, fold-append}}}}
 use Rattle.std.{proofs.lemmas.List.Elements.{filter-append, All-append, All-cons, All-nil, All-head}, specs.Prelude.filter}
 use Rattle.std.{specs.Prelude.{fold, All}, proofs.lemmas.Grind.common_steps}
