@@ -2,9 +2,9 @@
 use Rattle.std.proofs.Common.{◌≡◌, ◌≢◌, ℕ, ◌+◌, ◌<◌, ◌≤◌, arith, sym, ap, ◌∙◌, subst, ◌⊎◌, inl, inr, List, [], ◌∷◌, ◌++◌, length}
 use Rattle.std.proofs.{Common.get_or, Common.take, lemmas.Bool.cases_eq, lemmas.List.take_more}
 use Rattle.std.proofs.lemmas.List.Elements.{Contains-push, Contains-push_cases, Contains-append_left, Contains-get_or}
-use Rattle.std.specs.{Prelude.◌↔◌, List.Contains}
+use Rattle.std.{specs.{Prelude.◌↔◌, List.Contains}, proofs.lemmas.Grind.{flat_map-append, common_steps}}
 use Rattle.graph_types.specs.{Graph.Graph, Analyses.LeadsTo, Arcs.AreWithin, declared.ids.Filter.Filter}
-use Rattle.graph_cores.specs.Peel.{AreLinks, IsLinked}
+use Rattle.graph_cores.specs.Peel.{both_ways, AreLinks, IsLinked}
 
 -- one more pair
 added : (xs : List (ℕ × ℕ)) (a b v w : ℕ) → Contains (xs ++ (a, b) ∷ []) (v, w) ↔ (Contains xs (v, w) ⊎ ((v ≡ a) × (w ≡ b)))
@@ -22,6 +22,10 @@ added xs a b v w = (
         subst (Contains (xs ++ (a, b) ∷ [])) same (Contains-push xs (a, b))
   ]),
 )
+
+-- a link more, both ways
+pub both_push : (xs : List (ℕ × ℕ)) (a b : ℕ) → both_ways (xs ++ (a, b) ∷ []) ≡ (both_ways xs ++ (a, b) ∷ []) ++ (b, a) ∷ []
+both_push xs a b = grind (arith, common_steps, flat_map-append)
 
 -- one more target
 more : (s : ℕ) (ts : List ℕ) (i t : ℕ) → take (i + 1) ts ≡ take i ts ++ t ∷ [] → (v w : ℕ)

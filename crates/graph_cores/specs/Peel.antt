@@ -1,7 +1,11 @@
 -- Links, which join different vertices both ways, and peeling: vertices are taken out, those with fewest neighbors first.
 use Rattle.std.specs.Prelude.{◌≡◌, ℕ, ◌+◌, ◌-◌, ◌<◌, ◌≤◌, ◌==◌, List, [], ◌∷◌, ◌++◌, slice_index_or, slice_set, Bool, false, cond}
-use Rattle.std.specs.{Prelude.{◌≢◌, ◌⊎◌, ◌↔◌, IsTrue, All, count_by, ◌&&◌, nat_le, nat_lt}, List.Contains}
+use Rattle.std.specs.{Prelude.{◌≢◌, ◌⊎◌, ◌↔◌, IsTrue, All, count_by, ◌&&◌, nat_le, nat_lt}, List.{Contains, flat_map}}
 use Rattle.graph_types.specs.{Graph.Graph, Analyses.{IsDense, IsCoreNumber, Joins}, Arcs.at, declared.ids.Filter.Filter}
+
+-- each link, and right after it the same one turned
+abbrev pub both_ways : List (ℕ × ℕ) → List (ℕ × ℕ)
+both_ways links = flat_map (λ link. link ∷ (link.1, link.0) ∷ []) links
 
 -- each two different vertices that an edge of the view joins, both ways, as often as may be
 abbrev pub AreLinks : Filter → Graph → List (ℕ × ℕ) → Type 0
