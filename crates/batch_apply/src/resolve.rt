@@ -14,7 +14,7 @@ ghost use Rattle.batch_apply.specs.Plan.{Fits, IsFound, IsSeen, IsInRange, IsRef
 
 use crate::plans::PlanError;
 use graph_types::{EdgeChange, KindId, NamedOp};
-use vertex_names::{AddError, NameBook};
+use vertex_names::{AddError, NameBook, is_same_name};
 
 /// The numbers of an operation's source and target: none where a name has not appeared.
 #[derive(Clone, Copy, Debug)]
@@ -142,27 +142,12 @@ pub struct SeenKind<'a> {
     pub number: KindId,
 }
 
-/// Whether two lists of bytes are the same. A loop over short ones is several times as fast as their `==`.
-fn are_same(a: &[u8], b: &[u8]) -> bool
-    ensures { IsTrue result → a.now ≡ b.now }
-{
-    if a.len() != b.len() {
-        return false;
-    }
-    for k in 0..a.len() {
-        if a[k] != b[k] {
-            return false;
-        }
-    }
-    true
-}
-
 /// The number of a kind, if it was seen before: a name keeps its number.
 fn if_seen(kind: &str, seen: Option<SeenKind<'_>>) -> Option<KindId>
     ensures { (kinds : List (List ℕ)) → IsSeen kinds seen.entry → IfSome result (λ k. known kinds kind.now ≡ Some k.0) }
 {
     let seen = seen?;
-    if are_same(seen.text.as_bytes(), kind.as_bytes()) {
+    if is_same_name(seen.text, kind) {
         Some(seen.number)
     } else {
         None

@@ -13,7 +13,9 @@ mod cache;
 mod index;
 mod part;
 mod piece;
+mod same;
 mod tables;
 mod texts;
 
 pub use book::{AddError, NameBook};
+pub use same::is_same_name;

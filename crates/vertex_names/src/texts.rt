@@ -2,6 +2,7 @@ ghost use Rattle.std.specs.Prelude.{◌≡◌, ◌+◌, ◌<◌, ◌≤◌, ◌^
 ghost use Rattle.std.specs.Prelude.{option_copied, IfOk, OnOk, OnErr, All, IfSome, IfNone, ◌≢◌, Some, ◌↔◌, IsTrue};
 ghost use Rattle.vertex_names.specs.Texts.{texts_of, AreChunks};
 
+use crate::same::is_same_name;
 use arrayvec::ArrayString;
 use std::alloc::{AllocError, Global};
 use std::marker::Model;
@@ -199,8 +200,7 @@ impl Texts {
     {
         match self.name(number) {
             None => false,
-            // (as bytes, since texts are compared by words that are read byte by byte, each with its checks)
-            Some(known) => known.as_bytes() == name.as_bytes(),
+            Some(known) => is_same_name(known, name),
         }
     }
 

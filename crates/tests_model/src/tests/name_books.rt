@@ -6,7 +6,7 @@ use graph_types::is_name;
 use std::alloc::Global;
 use std::io::Print;
 use std::process::Abort;
-use vertex_names::{AddError, NameBook};
+use vertex_names::{AddError, NameBook, is_same_name};
 
 // What `add` answers, at a text that is a name.
 fn add(rt: &impl Abort, book: &mut NameBook, name: &str) -> Result<u32, AddError> {
@@ -48,6 +48,30 @@ fn add_new(rt: &(impl Abort + Print), book: &mut NameBook, name: &str, number: u
 fn check_two(rt: &impl Abort, book: &NameBook) {
     assert_absent(rt, book, "c", 2);
     assert_numbered(rt, book, "b", 1);
+}
+
+#[test]
+fn tells_names_from_others_byte_by_byte(rt: HostRuntime) {
+    let longest = "0123456789abcdef0123456789abcdef0123456789abcdef0123456789abcdef";
+    same(
+        &rt,
+        is_same_name(
+            longest,
+            "0123456789abcdef0123456789abcdef0123456789abcdef0123456789abcdef",
+        ),
+        true,
+    );
+    same(
+        &rt,
+        is_same_name(
+            longest,
+            "0123456789abcdef0123456789abcdef0123456789abcdef0123456789abcdeg",
+        ),
+        false,
+    );
+    same(&rt, is_same_name("ann", "anna"), false);
+    same(&rt, is_same_name("ann", "Ann"), false);
+    same(&rt, is_same_name("", ""), true);
 }
 
 #[test]
