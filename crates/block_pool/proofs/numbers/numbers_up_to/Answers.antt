@@ -1,4 +1,4 @@
-use Rattle.std.proofs.{Common.{◌∷◌, [], ◌+◌, ap, length, replicate, sym, subst, arith}, lemmas.List.length-append}
+use Rattle.std.proofs.{Common.{◌≡◌, ◌∙◌, count_by, ◌∷◌, [], ◌+◌, ap, length, replicate, sym, subst, arith}, lemmas.List.length-append}
 use Rattle.block_pool.{specs.Kept.Lists, proofs.Tallies.free_more}
 use Rattle.block_reclamation.specs.{declared.status.BlockStatus.TheVariants.Free, Status.is_free}
 use Rattle.block_pool.proofs.numbers.numbers_up_to.Goals as goal
@@ -16,3 +16,19 @@ loop-number-preserved c = record {
         c.loop-number.invariant.long,
       );
 }
+
+pub loop-number-init : goal.loop-number-init
+loop-number-init c = record {
+  listed = λ q. ap (count_by q) c.in_ok-numbers.ensures.items;
+  long = ap length c.in_ok-numbers.ensures.items;
+}
+
+pub returns-clause-listed : goal.returns-clause-listed
+returns-clause-listed c =
+    let all : c.loop-number.number ≡ c.args.count = omega (arith, c.loop-number-test.false, c.loop-number.auto.number-end) in
+    subst (λ k. Lists is_free (replicate k Free) c.loop-number.numbers.items) all c.loop-number.invariant.listed
+
+pub returns-clause-length : goal.returns-clause-length
+returns-clause-length c =
+    let all : c.loop-number.number ≡ c.args.count = omega (arith, c.loop-number-test.false, c.loop-number.auto.number-end) in
+    c.loop-number.invariant.long ∙ all

@@ -80,3 +80,20 @@ pub returns-clause-numbers : goal.returns-clause-numbers
 returns-clause-numbers c =
     let all : c.loop-i.i ≡ c.args.count = omega (arith, c.loop-i-test.false, c.loop-i.auto.i-end) in
     c.loop-i.invariant.granted ∙ ap (popped c.args.numbers.now.free.items c.args.numbers.now.free_len) all
+
+pub body_of-requires-clause-own : goal.body_of-requires-clause-own
+body_of-requires-clause-own c =
+    let n = c.args.numbers.now in
+    let is = free_read n c.requires.kept (n.free_len - 1 - c.loop-i.i) c.index-number.result.now
+    (omega (arith, c.loop-i-test.true, c.requires.enough)) c.index-number.ensures in
+    c.loop-i.invariant.bodies.numbers c.index-number.result.now is.1
+
+pub overflow_sub-numbers : goal.overflow_sub-numbers
+overflow_sub-numbers c = omega (arith, c.loop-i-test.true, c.requires.enough)
+
+pub overflow_sub-numbers-in-loop-i : goal.overflow_sub-numbers-in-loop-i
+overflow_sub-numbers-in-loop-i c = omega (arith, c.loop-i-test.true, c.requires.enough)
+
+pub index-number-requires : goal.index-number-requires
+index-number-requires c =
+    omega (arith, c.loop-i-test.true, c.requires.enough, c.requires.kept.free_in, c.requires.kept.free_room)

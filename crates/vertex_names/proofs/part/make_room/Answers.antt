@@ -1,6 +1,6 @@
 use Rattle.std.proofs.Common.{◌≡◌, ◌∙◌, ◌≤◌, ◌<◌, ◌+◌, ◌/◌, ℕ, List, get_or, refl, sym, ap, subst, arith, nat_eq, rules}
 use Rattle.std.specs.{List.insert, Map.lookup, declared.sync.Arc.Arc, declared.alloc.Global.Global}
-use Rattle.vertex_names.specs.{declared.piece.Piece.Piece, Order.firsts, Order.last_place, Pieces.entries_of}
+use Rattle.vertex_names.specs.{declared.piece.Piece.Piece, Order.IsRising, Order.firsts, Order.last_place, Pieces.entries_of}
 use Rattle.vertex_names.proofs.Splits.{split_in_two}
 use Rattle.vertex_names.proofs.part.make_room.Goals as goal
 
@@ -54,3 +54,17 @@ returns-then-len-lt-FULL c = record { some = omega arith; rising = c.requires.ri
 
 pub returns-then-middle-lowest : goal.returns-then-middle-lowest
 returns-then-middle-lowest c = record { some = omega arith; rising = c.requires.rising; same = λ q. refl }
+
+pub last_at-requires : goal.last_at-requires
+last_at-requires c = subst (λ (l : List (ℕ × Arc Piece Global)). IsRising (firsts l)) (sym c.deref-else-middle-lowest.ensures.value)
+    c.requires.rising
+
+pub insert-requires : goal.insert-requires
+insert-requires c = omega (arith, c.requires.place)
+
+pub index_mut-requires : goal.index_mut-requires
+index_mut-requires c = omega (arith, c.requires.place, c.in_ok-insert.ensures.len)
+
+pub returns-in_err-insert : goal.returns-in_err-insert
+returns-in_err-insert c = rw c.in_err-insert.ensures.items
+    (record { some = omega (arith, c.requires.place); rising = c.requires.rising; same = λ q. refl })

@@ -55,3 +55,9 @@ returns-clause-statuses c =
     let at = born_at (statuses n) c.args.number c.requires.born in
     let read = status_read n c.args.number c.index-status.result.now at.0 c.index-status.ensures in
     ap (set (statuses n) c.args.number) (c.after_retiring.ensures ∙ ap (retired c.args.version) (sym read))
+
+pub index-status-requires : goal.index-status-requires
+index-status-requires c = omega (arith, (born_at (statuses c.args.self.now) c.args.number c.requires.born).0)
+
+pub index_mut-requires : goal.index_mut-requires
+index_mut-requires c = omega (arith, (born_at (statuses c.args.self.now) c.args.number c.requires.born).0)
