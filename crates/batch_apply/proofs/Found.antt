@@ -60,39 +60,6 @@ all_later names done (op ∷ ops) (ends ∷ found) are = (
   all_later names done ops found are.1,
 )
 
--- a known name is not added
-pub known_there : (names : List (List ℕ)) (name : List ℕ) (i : ℕ) → known names name ≡ Some i → with_name names name ≡ names
-known_there names name i is = ap (λ c. if c then names else names ++ name ∷ []) (is_listed_known names name i is)
-
-both_made : (b : Bool) (names : List (List ℕ)) (source target : List ℕ) (s t : ℕ) → known names source ≡ Some s
-    → known names target ≡ Some t → (if b then with_name (with_name names source) target else names) ≡ names
-both_made true names source target s t of_source of_target =
-    ap (λ l. with_name l target) (known_there names source s of_source) ∙ known_there names target t of_target
-both_made false names source target s t of_source of_target = refl
-
-both_by : (names : List (List ℕ)) (op : Parts) (s t : ℕ) → (ends_by names op).source ≡ Some s → (ends_by names op).target ≡ Some t
-    → names_by op names ≡ names
-both_by names (OfEdge change kind source target) s t of_source of_target =
-    both_made (makes_names change) names source target s t of_source of_target
-both_by names (OfAll time) s t of_source of_target = refl
-
-found_some : (found end : Option ℕ) (n : ℕ) → found ≡ Some n → IfSome found (λ m. end ≡ Some m) → end ≡ Some n
-found_some found end n is found_is = subst (λ o. IfSome o (λ m. end ≡ Some m)) is found_is
-
--- an operation with both ends found leaves the names as they are
-pub none_made : (names : List (List ℕ)) (op : NamedOp) (ends : Ends) (s t : ℕ) → ends.source ≡ Some s → ends.target ≡ Some t
-    → IsFound names op ends → names_after op names ≡ names
-none_made names op ends s t is_source is_target found =
-    both_by names (parts_of op) s t (found_some ends.source _ s is_source found.0) (found_some ends.target _ t is_target found.1)
-
--- and these are its ends
-pub both_ends : (names : List (List ℕ)) (op : NamedOp) (ends : Ends) (s t : ℕ) → ends.source ≡ Some s → ends.target ≡ Some t
-    → IsFound names op ends → ends ≡ ends_in (names_after op names) op
-both_ends names op ends s t is_source is_target found =
-    same_ends _ _ _ _ (is_source ∙ sym (found_some ends.source _ s is_source found.0))
-    (is_target ∙ sym (found_some ends.target _ t is_target found.1))
-    ∙ ap (λ l. ends_in l op) (sym (none_made names op ends s t is_source is_target found))
-
 -- nothing found is right, and so is what the names themselves give
 pub nothing_found : (names : List (List ℕ)) (ops : List NamedOp) → AreFound names ops []
 nothing_found names [] = tt

@@ -9,15 +9,6 @@ use Rattle.batch_shards.specs.{RowBlocks.block_of, RowBlocks.blocks_of, RowBlock
 use Rattle.batch_shards.{specs.declared.shard.ShardDone.ShardDone, proofs.Places.count_by-append}
 use Rattle.batch_apply.{specs.{Plans.written, Applied.{ReplacesRows, written_from}}, proofs.Placed.among_more}
 
-pub written_more : (ps : List (ℕ × Outcome)) (p : ℕ × Outcome) (xs : List Outcome)
-    → written (ps ++ p ∷ []) xs ≡ set (written ps xs) p.0 (told (together (get_or (written ps xs) p.0 Absent) p.1))
-written_more [] p xs = refl
-written_more (x ∷ ps) p xs = written_more ps p (set xs x.0 (told (together (get_or xs x.0 Absent) x.1)))
-
-pub written_past : (ps : List (ℕ × Outcome)) (p : ℕ × Outcome) (xs : List Outcome) → length (written ps xs) ≤ p.0
-    → written (ps ++ p ∷ []) xs ≡ written ps xs
-written_past ps p xs past = grind (arith, common_steps, written_more, set_past)
-
 pub from_more : (ds : List ShardDone) (d : ShardDone) (xs : List Outcome)
     → written_from (ds ++ d ∷ []) xs ≡ written d.outcomes.items (written_from ds xs)
 from_more [] d xs = refl

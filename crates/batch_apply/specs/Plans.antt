@@ -1,8 +1,8 @@
 -- A plan: a batch's operations with the numbers of their names, by shard.
-use Rattle.std.specs.{Prelude.{ℕ, ◌+◌, List, [], ◌∷◌, map, get_or, set, Bool}, List.enumerate_from}
-use Rattle.graph_types.specs.{Graph.Graph, declared.batches.{NamedOp.NamedOp, Outcome.{Outcome, TheVariants.Absent}}}
-use Rattle.edge_block.specs.{Rows.OpenBlock, Batches.{Resolved, resolved, is_in_shard, outcomes_all, picked, together}}
-pub use Rattle.batch_shards.specs.Groups.{told}
+use Rattle.std.specs.{Prelude.{ℕ, ◌+◌, List, [], ◌∷◌, map, Bool}, List.enumerate_from}
+use Rattle.graph_types.specs.{Graph.Graph, declared.batches.{NamedOp.NamedOp, Outcome.Outcome}}
+use Rattle.edge_block.specs.{Rows.OpenBlock, Batches.{Resolved, resolved, is_in_shard, outcomes_all, picked}}
+pub use Rattle.batch_shards.specs.Groups.{told, written}
 
 -- the batch's operations, each with its place
 abbrev pub placed_ops : List NamedOp → Graph → List (ℕ × Resolved)
@@ -11,11 +11,6 @@ placed_ops ops g = enumerate_from 0 (resolved ops g.names g.kinds)
 -- the operations of a shard without their places
 abbrev pub ops_of : List (ℕ × Resolved) → List Resolved
 ops_of shard = map (λ p. p.1) shard
-
--- outcomes put together with those that stand at their places of the batch
-abbrev pub written : List (ℕ × Outcome) → List Outcome → List Outcome
-written [] xs = xs
-written (p ∷ ps) xs = written ps (set xs p.0 (told (together (get_or xs p.0 Absent) p.1)))
 
 -- the results of the operations that pass, each with its place
 abbrev pub results : {A : Type 0} → (Resolved → Bool) → List Resolved → List A → ℕ → List (ℕ × A)

@@ -7,13 +7,11 @@ ghost use Rattle.graph_types.specs.declared.batches.Outcome.TheVariants.{Absent}
 ghost use Rattle.graph_version.specs.Batches.{batch_value};
 ghost use Rattle.graph_version.specs.Rows as rows;
 ghost use Rattle.graph_version.specs.Rows.{row_of};
-ghost use Rattle.edge_block.specs.Batches.{together};
 ghost use Rattle.batch_shards.specs.RowBlocks.{blocks_of, numbers_of};
 ghost use Rattle.batch_shards.specs.Closing.{row_values};
 ghost use Rattle.graph_version.specs.Versions.{content, is_in};
 ghost use Rattle.batch_apply.specs.Planned.{IsPlan};
-ghost use Rattle.batch_apply.specs.Plans.{written};
-ghost use Rattle.batch_shards.specs.Groups.{told};
+ghost use Rattle.batch_shards.specs.Groups.{written};
 ghost use Rattle.batch_apply.specs.Gathered.{IsDealt, IsShard};
 ghost use Rattle.batch_apply.specs.Applied.{is_inserted, taken_away};
 ghost use Rattle.batch_apply.specs.Applied.{IsApplied, ReplacesRows, written_from};
@@ -21,7 +19,7 @@ ghost use Rattle.batch_apply.specs.Gathered.{IsGathered};
 
 use crate::plans::Plan;
 use crate::workers::{Gate, Job, do_all, do_alone};
-use batch_shards::{Leavings, Shard, ShardDone};
+use batch_shards::{Leavings, Shard, ShardDone, write_outcomes};
 use edge_block::Block;
 use graph_types::{Batch, Outcome, VertexId};
 use graph_version::{Version, VersionDraft};
@@ -311,33 +309,6 @@ fn add_blocks(all: &mut Leavings, left: &mut Leavings) -> Result<(), AllocError>
     add_items(&mut all.dropped, &mut left.dropped)?;
     add_items(&mut all.unused, &mut left.unused)?;
     Ok(())
-}
-
-/// Puts outcomes together with those at their places; one whose place is past the end is let go.
-#[tactic(auto, using(crate::proofs::Loops::written_more, crate::proofs::Loops::written_past))]
-fn write_outcomes(outcomes: &mut Vec<Outcome>, found: Vec<(u32, Outcome)>)
-    ensures { outcomes.new.items ≡ written found.items outcomes.old.items }
-{
-    for (place, outcome) in found {
-        let place = place as usize;
-        if place < outcomes.len() {
-            outcomes[place] = put_together(outcomes[place], outcome);
-        }
-    }
-}
-
-/// What is told of an operation after one more shard: an expiry's counts are added, and of all else the shard's outcome
-/// stands.
-fn put_together(before: Outcome, found: Outcome) -> Outcome
-    ensures { result ≡ told (together before found) }
-{
-    let Outcome::Expired(so_far) = before else {
-        return found;
-    };
-    let Outcome::Expired(more) = found else {
-        return found;
-    };
-    Outcome::Expired(so_far.wrapping_add(more))
 }
 
 /// How many edges operations with these outcomes leave where there were so many before, modulo 2^64.

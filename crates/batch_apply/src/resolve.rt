@@ -118,23 +118,6 @@ fn op_ends(names: &mut NameBook, op: &NamedOp, found: Ends) -> Result<Ends, AddE
     }
 }
 
-/// The numbers of an operation's ends, as `op_ends` gives them. Where both were found before, there is nothing to add.
-#[tactic(auto, using(crate::proofs::Found::none_made, crate::proofs::Found::both_ends))]
-fn ends_of(names: &mut NameBook, op: &NamedOp, found: Ends) -> Result<Ends, AddError>
-    requires within { Fits names.old }
-    requires names { IsTrue (has_names op.now) }
-    requires found { IsFound names.old.names op.now found }
-    ensures ends { IfOk result (λ e. e ≡ ends_in (names_after op.now names.old.names) op.now) }
-    ensures names { OnOk result (names.new ≡ with_names names.old (names_after op.now names.old.names)) }
-    ensures within { OnOk result (Fits names.new) }
-    ensures refused { IfErr result (λ error. IsRefusal error names.old (names_after op.now names.old.names)) }
-{
-    match (found.source, found.target) {
-        (Some(_), Some(_)) => Ok(found),
-        _ => op_ends(names, op, found),
-    }
-}
-
 /// A kind's text and its number.
 #[derive(Clone, Copy)]
 pub struct SeenKind<'a> {
@@ -332,7 +315,7 @@ pub fn resolve_op(
     ensures within { OnOk result (Fits names.new × Fits kinds.new) }
     ensures refused { IfErr result (λ error. IsUnplanned error (op.now ∷ behind.now) names.old kinds.old) }
 {
-    let ends = match ends_of(names, op, found) {
+    let ends = match op_ends(names, op, found) {
         Ok(ends) => ends,
         Err(error) => return Err(names_refusal(error)),
     };

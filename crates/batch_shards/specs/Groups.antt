@@ -1,5 +1,5 @@
 -- The operations on each row of a shard, one after another.
-use Rattle.std.specs.Prelude.{◌≡◌, ◌≢◌, ℕ, ◌+◌, ◌%◌, ◌^◌, ◌<◌, ◌≤◌, ◌==◌, nat_lt, List, [], ◌∷◌, length, get_or, slice_index}
+use Rattle.std.specs.Prelude.{◌≡◌, ◌≢◌, ℕ, ◌+◌, ◌%◌, ◌^◌, ◌<◌, ◌≤◌, ◌==◌, nat_lt, List, [], ◌∷◌, length, get_or, set, slice_index}
 use Rattle.std.specs.{Prelude.{AllPairs, Bool, true, false, not, ◌||◌}, declared.option.Option.{Option, TheVariants.{None, Some}}}
 use Rattle.graph_types.specs.{Graph.Key, declared.batches.Outcome.{Outcome, TheVariants.{Inserted, Updated, Removed, Absent}}}
 use Rattle.graph_types.specs.declared.batches.Outcome.TheVariants.{Overflow, Expired}
@@ -76,6 +76,11 @@ told Removed = Removed
 told Absent = Absent
 told Overflow = Overflow
 told (Expired count) = Expired (count % 2 ^ 64)
+
+-- outcomes put together with those that stand at their places of the batch
+abbrev pub written : List (ℕ × Outcome) → List Outcome → List Outcome
+written [] xs = xs
+written (p ∷ ps) xs = written ps (set xs p.0 (told (together (get_or xs p.0 Absent) p.1)))
 
 -- the outcome of the k-th operation, where an expiry counts the edges of some of the sources
 abbrev pub outcome_over : List ℕ → List ℕ → List Step → (ℕ → List OpenBlock) → ℕ → Outcome

@@ -202,3 +202,24 @@ fn refused_work_gives_the_shard_up(rt: HostRuntime) {
         Err(AllocError) => tell_refused(&rt),
     }
 }
+
+/// What outcomes found at places leave of three operations of which none has one.
+fn put(alloc: Global, found: &[(u32, Outcome)]) -> Result<Vec<Outcome>, AllocError> {
+    let mut outcomes = vec![in alloc; Outcome::Absent; 3]?;
+    batch_shards::write_outcomes(&mut outcomes, Vec::from_slice(alloc, found)?);
+    Ok(outcomes)
+}
+
+/// In any order; an expiry's counts are added modulo 2^64, and a place past the end is let go.
+#[test]
+fn outcomes_go_to_their_places(rt: HostRuntime) {
+    let found = [
+        (2, Outcome::Removed),
+        (0, Outcome::Expired(u64::MAX)),
+        (3, Outcome::Inserted),
+        (0, Outcome::Expired(4)),
+    ];
+    let outcomes = put(rt.alloc(), &found).expect(&rt, "memory");
+    let wanted = [Outcome::Expired(3), Outcome::Absent, Outcome::Removed];
+    assert!(&rt; outcomes.as_slice() == &wanted[..]);
+}

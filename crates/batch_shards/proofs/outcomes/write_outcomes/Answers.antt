@@ -2,8 +2,8 @@ use Rattle.std.proofs.{Common.{◌≡◌, List, set, get_or, sym, ap, ◌∙◌,
 use Rattle.graph_types.specs.declared.batches.Outcome.{Outcome, TheVariants.Absent}
 use Rattle.edge_block.specs.Batches.{together}
 use Rattle.batch_shards.specs.Groups.{told}
-use Rattle.batch_apply.proofs.Loops.{written_more}
-use Rattle.batch_apply.proofs.applied.write_outcomes.Goals as goal
+use Rattle.batch_shards.proofs.PlacedOutcomes.{written_more}
+use Rattle.batch_shards.proofs.outcomes.write_outcomes.Goals as goal
 
 pub loop-place-preserved-then-place-len : goal.loop-place-preserved-then-place-len
 loop-place-preserved-then-place-len c =

@@ -1,0 +1,34 @@
+//! The outcomes of shards, put together in the batch's order.
+
+ghost use Rattle.std.specs.Prelude.{◌≡◌};
+ghost use Rattle.edge_block.specs.Batches.{together};
+ghost use Rattle.batch_shards.specs.Groups.{told, written};
+
+use graph_types::Outcome;
+
+/// Puts outcomes together with those at their places; one whose place is past the end is let go.
+#[tactic(auto, using(crate::proofs::PlacedOutcomes::written_more, crate::proofs::PlacedOutcomes::written_past))]
+pub fn write_outcomes(outcomes: &mut Vec<Outcome>, found: Vec<(u32, Outcome)>)
+    ensures { outcomes.new.items ≡ written found.items outcomes.old.items }
+{
+    for (place, outcome) in found {
+        let place = place as usize;
+        if place < outcomes.len() {
+            outcomes[place] = put_together(outcomes[place], outcome);
+        }
+    }
+}
+
+/// What is told of an operation after one more shard: an expiry's counts are added, and of all else the shard's outcome
+/// stands.
+fn put_together(before: Outcome, found: Outcome) -> Outcome
+    ensures { result ≡ told (together before found) }
+{
+    let Outcome::Expired(so_far) = before else {
+        return found;
+    };
+    let Outcome::Expired(more) = found else {
+        return found;
+    };
+    Outcome::Expired(so_far.wrapping_add(more))
+}
