@@ -4,16 +4,5 @@ pub mod OneRecord
 pub mod RunSoFar
 pub mod RunTexts
 pub mod RunEnd
-pub mod SlotLaws
-pub mod DeskLaws
-pub mod NamesApart
-pub mod Commands
-pub mod Edges
-pub mod OwnLabels
-pub mod Replies
-pub mod Asking
-pub mod HeldBlocks
-pub mod Rebasing
 pub mod OneText
-pub mod ContentsKept
 pub mod SomeText

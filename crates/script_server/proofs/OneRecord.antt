@@ -3,8 +3,12 @@ use Rattle.std.proofs.Common.{◌≡◌, ℕ, ◌+◌, List, string_bytes, arith
 use Rattle.std.specs.{Prelude.Option, Prelude.Result, Prelude.Ok, Prelude.Err, Io.KnownBytes.Appends}
 use Rattle.feed_csv.specs.{Script.FaultStep, Script.RefusesRow, Script.Script, declared.command.Command.Command}
 use Rattle.feed_csv.specs.declared.command.FeedWord.{FeedWord, TheVariants.Read, TheVariants.Memory}
-use Rattle.script_server.specs.{declared.{script.Run.Run, server.Response.TheVariants.Refused}, Servers.{IsServer, ReopensIn}}
-use Rattle.script_server.specs.{Servers.result_of, States.printed, Runs.{FailsToWrite, CountsRecord, CompletesRecord}}
+use Rattle.script_server.specs.declared.script.Run.{Run}
+use Rattle.script_commands.specs.declared.server.Response.TheVariants.{Refused}
+use Rattle.script_commands.specs.Servers.{IsServer, ReopensIn}
+use Rattle.script_server.specs.Runs.{FailsToWrite, CountsRecord, CompletesRecord}
+use Rattle.script_commands.specs.Servers.{result_of}
+use Rattle.script_commands.specs.States.{printed}
 use Rattle.script_server.specs.Writes.{AppendsPart}
 use Rattle.script_lines.specs.{Lines.error_line, declared.words.Word.TheVariants.Feed}
 use Rattle.script_lines.specs.declared.words.Word.TheVariants as told

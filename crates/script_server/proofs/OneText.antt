@@ -7,8 +7,8 @@ use Rattle.graph_types.{proofs.OneAnswer.one_answer, specs.declared.requests.Req
 use Rattle.script_lines.specs.{declared.words.Word.Word, Lines.end_line}
 use Rattle.stream_store.specs.{Refusals.{Attempt, BatchRefusal, IsAdmissible}, declared.receipts.ApplyError.ApplyError}
 use Rattle.stream_store.specs.declared.receipts.ApplyError.TheVariants as refused
-use Rattle.script_server.specs.States.{IsCommitted, attempt, batch_word, answer_result, beginning, printed, version, version_in}
-use Rattle.script_server.specs.States.{Held, IsRecordResult, IsReplied, Progress, RecordResult, Setup, ServerState, after_record}
+use Rattle.script_commands.specs.States.{IsCommitted, attempt, batch_word, answer_result, beginning, printed, version, version_in}
+use Rattle.script_commands.specs.States.{Held, IsRecordResult, IsReplied, Progress, RecordResult, Setup, ServerState, after_record}
 use Rattle.script_server.specs.Executions.{Executes, IsFullText}
 
 one_replied : (slot : ℕ) (request : Request) (s : ServerState) (held : Result Held Word) (a b : RecordResult)

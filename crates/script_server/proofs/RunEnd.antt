@@ -3,7 +3,9 @@ use Rattle.std.proofs.{Common.{◌≡◌, ℕ, ◌+◌, ◌<◌, List, length, �
 use Rattle.std.specs.Prelude.{Bool, false, true, Option, Some, Result, Ok, Err, IfErr, IfOk, is_err}
 use Rattle.feed_csv.specs.{Records.record_limit, Script.NextStep, Script.Script, declared.command.Command.Command}
 use Rattle.script_server.specs.declared.script.{Run.Run, ServeFault.{ServeFault, TheVariants.{Read, Memory, Start, Write}}}
-use Rattle.script_server.specs.{declared.script.Summary.Summary, Servers.pending_of, Runs.{ExecutesRecord, FailsToWrite}}
+use Rattle.script_server.specs.declared.script.Summary.{Summary}
+use Rattle.script_server.specs.Runs.{ExecutesRecord, FailsToWrite}
+use Rattle.script_commands.specs.Servers.{pending_of}
 use Rattle.script_server.specs.Runs.{HasCause, IsReady, IsTurn, ReopensAfter, done_by, is_start, is_write}
 
 -- a turn ended the run

@@ -3,7 +3,7 @@ use Rattle.std.proofs.Common.{◌≡◌, ℕ, ◌+◌, ◌<◌, List, [], ◌∷
 use Rattle.std.specs.{Prelude.true, Prelude.Option, Prelude.None, Prelude.Some, Prelude.Ok, Io.KnownBytes.Appends}
 use Rattle.feed_csv.specs.{Commands.item_of, Records.Row, Records.Takes, Records.record_limit, Script.IsOpen, Script.Script}
 use Rattle.script_server.specs.{declared.script.Run.Run, Runs.{IsReady, ShowsRun, IsTurn}, Executions.Executes}
-use Rattle.script_server.specs.States.{IsRecordResult, Progress, RecordResult, Setup, after_record, beginning, printed}
+use Rattle.script_commands.specs.States.{IsRecordResult, Progress, RecordResult, Setup, after_record, beginning, printed}
 use Rattle.script_server.proofs.Writing.{appends_nothing, appends_then}
 
 -- of the records there were at first, where they are known, these were given, and the others are left

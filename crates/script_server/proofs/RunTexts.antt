@@ -7,8 +7,11 @@ use Rattle.feed_csv.specs.{Script.MeetsEnd, Script.Script, Script.TakesRow}
 use Rattle.feed_csv.specs.declared.command.FeedWord.TheVariants as feed_word
 use Rattle.script_server.specs.declared.script.{Run.Run, ServeFault.{ServeFault, TheVariants.{Read, Memory, Start, Write}}}
 use Rattle.script_server.specs.{declared.script.Summary.Summary, Runs.{FailsToWrite, IsFresh, IsReady, ShowsRun, IsStartup}}
-use Rattle.script_server.specs.{Runs.{IsTurn, records_done}, States.{IsRecordResult, RecordResult, Reopens, Setup, after_record}}
-use Rattle.script_server.specs.{States.{beginning, printed}, Executions.{ExecutesPrefix, IsFullText}, Servers.pending_of}
+use Rattle.script_server.specs.Runs.{IsTurn, records_done}
+use Rattle.script_commands.specs.States.{IsRecordResult, RecordResult, Reopens, Setup, after_record}
+use Rattle.script_server.specs.Executions.{ExecutesPrefix, IsFullText}
+use Rattle.script_commands.specs.States.{beginning, printed}
+use Rattle.script_commands.specs.Servers.{pending_of}
 use Rattle.script_server.specs.{Texts.{IsTextToFault, IsText, IsTextToRebase, IsIntendedText}, Writes.{AppendsPart, AppendsSome}}
 use Rattle.script_server.proofs.Writing.{appends_nothing, appends_then, part_then}
 use Rattle.script_server.proofs.RunSoFar.{Reaches, few_given, leaves-append, run-append}

@@ -16,11 +16,12 @@ use Rattle.script_lines.specs.{declared.words.Word.Word, declared.words.Word.The
 use Rattle.script_lines.specs.Lines.{open_line, collect_line}
 use Rattle.stream_store.specs.Refusals.{asked}
 use Rattle.stream_store.specs.declared.receipts.ApplyError.TheVariants as refused
-use Rattle.script_server.specs.{Executions.{Executes, IsFullText}, States.{Held, IsCommitted, IsRecordResult, IsReplied}}
-use Rattle.script_server.specs.States.{Progress, RecordResult, ServerState, Setup, after_collect, after_commit, after_item}
-use Rattle.script_server.specs.States.{after_record, answer_result, batch_word, beginning, close_result, floor_of, last_version}
-use Rattle.script_server.specs.States.{lines_unless, op_refusal, open_refusal, printed, rebase_result, rebased, recycled, used}
-use Rattle.script_server.{specs.States.{version, version_in}, proofs.ContentsKept.{HasContent, content_after_all}}
+use Rattle.script_server.specs.Executions.{Executes, IsFullText}
+use Rattle.script_commands.specs.States.{Held, IsCommitted, IsRecordResult, IsReplied}
+use Rattle.script_commands.specs.States.{Progress, RecordResult, ServerState, Setup, after_collect, after_commit, after_item}
+use Rattle.script_commands.specs.States.{after_record, answer_result, batch_word, beginning, close_result, floor_of, last_version}
+use Rattle.script_commands.specs.States.{lines_unless, op_refusal, open_refusal, printed, rebase_result, rebased, recycled, used}
+use Rattle.script_commands.{specs.States.{version, version_in}, proofs.ContentsKept.{HasContent, content_after_all}}
 
 -- each version that the batches of a state leave is that of a content, and what is pending is valid
 record IsSound (s : ServerState) : Type 0 where

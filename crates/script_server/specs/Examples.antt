@@ -1,8 +1,8 @@
 -- Scripts worked out by hand: which blocks a collection frees, by what the slots hold.
 use Rattle.std.specs.Prelude.{◌≡◌, pos, ℕ, List, [], ◌∷◌, Option, Some, None}
 use Rattle.graph_types.specs.{Step.empty_graph, declared.batches.NamedOp.{NamedOp, TheVariants.Insert}}
-use Rattle.script_server.specs.States.{Dates, Held, ServerState, after_collect, after_commit, after_rebase, beginning, dates}
-use Rattle.script_server.specs.States.{floor_of, last_held, recycled, used}
+use Rattle.script_commands.specs.States.{Dates, Held, ServerState, after_collect, after_commit, after_rebase, beginning, dates}
+use Rattle.script_commands.specs.States.{floor_of, last_held, recycled, used}
 
 -- the edge from a to b, of kind k
 abbrev pub put_edge : ℕ → List NamedOp

@@ -2,7 +2,7 @@
 use Rattle.std.specs.Prelude.{◌≡◌, ◌<◌, ℕ, ◌+◌, List, [], ◌∷◌, ◌++◌, length}
 use Rattle.feed_csv.specs.{Commands.item_of, Records.{Row, record_limit}}
 use Rattle.script_lines.specs.Lines.{end_line}
-use Rattle.script_server.specs.States.{IsRecordResult, RecordResult, Progress, Setup, after_record, beginning, printed}
+use Rattle.script_commands.specs.States.{IsRecordResult, RecordResult, Progress, Setup, after_record, beginning, printed}
 
 -- the records, executed one after another, print this text and bring a run from here to there: each comes to one of its results,
 -- in the state that those before it left

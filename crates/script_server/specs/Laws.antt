@@ -3,7 +3,8 @@ use Rattle.std.specs.Prelude.{◌≡◌, ◌<◌, ℕ, List, length}
 use Rattle.feed_csv.specs.Records.{record_limit, records_of}
 use Rattle.graph_types.specs.{Graph.{graph_of, IsContent}, declared.contents.Content.Content}
 use Rattle.stream_store.specs.Configs.{ConfigView}
-use Rattle.script_server.specs.{States.{Progress, Setup, set_up}, Executions.IsFullText}
+use Rattle.script_server.specs.Executions.{IsFullText}
+use Rattle.script_commands.specs.States.{Progress, Setup, set_up}
 
 -- a script has one text, and leaves one state
 abbrev pub HasOneText : Type 0

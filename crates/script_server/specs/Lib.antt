@@ -1,9 +1,6 @@
 pub mod Texts
 pub mod Writes
 pub mod Runs
-pub mod States
 pub mod Executions
-pub mod Slots
-pub mod Servers
 pub mod Laws
 pub mod Examples

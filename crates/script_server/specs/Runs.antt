@@ -7,10 +7,13 @@ use Rattle.feed_csv.specs.{Script.TakesRow, declared.{command.{Command.Command, 
 use Rattle.feed_csv.specs.declared.phase.Phase.TheVariants.{Ended, Reading, Stopped}
 use Rattle.feed_csv.specs.declared.command.FeedWord.TheVariants as word
 use Rattle.script_server.specs.declared.script.{Run.Run, ServeFault.{ServeFault, TheVariants.{Read, Memory, Start, Write}}}
-use Rattle.script_server.specs.declared.{script.Summary.Summary, server.Response.{Response, TheVariants.{Lines, Refused}}}
-use Rattle.script_server.specs.{declared.server.Stop.Stop, Servers.{IsServer, ShowsServer}, States.{IsRecordResult, Progress}}
-use Rattle.script_server.specs.{States.{RecordResult, Reopens, Setup, after_record, beginning, printed}, Writes.AppendsPart}
-use Rattle.script_server.specs.declared.server.Stop.TheVariants as stopped
+use Rattle.script_server.specs.declared.script.Summary.{Summary}
+use Rattle.script_commands.specs.declared.server.Response.{Response}
+use Rattle.script_commands.specs.declared.server.Response.TheVariants.{Lines, Refused}
+use Rattle.script_commands.specs.{declared.server.Stop.Stop, Servers.{IsServer, ShowsServer}, States.{IsRecordResult, Progress}}
+use Rattle.script_server.specs.Writes.{AppendsPart}
+use Rattle.script_commands.specs.States.{RecordResult, Reopens, Setup, after_record, beginning, printed}
+use Rattle.script_commands.specs.declared.server.Stop.TheVariants as stopped
 use Rattle.script_lines.specs.{declared.words.Word.TheVariants.Feed, Lines.error_line}
 use Rattle.script_lines.specs.declared.words.Word.TheVariants as told
 

@@ -4,7 +4,7 @@ use Rattle.feed_csv.specs.{Commands.item_of, Records.{Row, record_limit}}
 use Rattle.feed_csv.specs.declared.command.FeedWord.TheVariants as feed
 use Rattle.script_server.specs.declared.script.ServeFault.{ServeFault, TheVariants.{Read, Memory, Start, Write}}
 use Rattle.script_server.specs.{declared.script.Summary.Summary, Executions.{Executes, ExecutesPrefix, IsFullText}}
-use Rattle.script_server.specs.States.{Progress, Reopens, Setup, beginning}
+use Rattle.script_commands.specs.States.{Progress, Reopens, Setup, beginning}
 use Rattle.script_lines.specs.{declared.words.Word.{Word, TheVariants.Feed}, Lines.error_line}
 use Rattle.script_lines.specs.declared.words.Word.TheVariants as word
 

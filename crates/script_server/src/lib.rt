@@ -1,19 +1,16 @@
 //! A script of batches and requests to lines: [`serve`] reads comma-separated records and writes what
 //! `specs/Texts.antt` says of them. [`run_script`] does the same over a feed and a [`Sink`], and its contract says why it ended.
-//! [`Server`] does one command after another over a store, and tells what each came to; `specs/States.antt` says what that is,
-//! and which state it leaves.
+//! What a record comes to is `script_commands`'s.
 #![tactic(auto)]
 
 mod laws;
 mod output;
 mod script;
-mod server;
 mod sink;
-mod slots;
 
 pub use laws::{law_examples, law_one_text, law_some_text};
 pub use output::write_text;
 pub use script::{ServeFault, Summary, run_script, serve};
-pub use server::{Response, Server, Stop};
+pub use script_commands::{Response, Server, Stop};
 pub use sink::{Sink, Unwritten};
 pub use stream_store::{BadConfig, Config};

@@ -12,7 +12,9 @@ use Rattle.stream_store.specs.{Configs.{ConfigView, AreSizesWithin}, declared.co
 use Rattle.stinger_server.specs.declared.arguments.{RunOptions.RunOptions, Order.Order}
 use Rattle.stinger_server.specs.declared.arguments.Order.TheVariants as order
 use Rattle.script_server.specs.declared.script.{ServeFault.{ServeFault, TheVariants.{Read, Start, Write}}, Summary.Summary}
-use Rattle.script_server.specs.{States.set_up, Texts.IsText, Writes.{AppendsPart, AppendsSome}}
+use Rattle.script_server.specs.Texts.{IsText}
+use Rattle.script_server.specs.Writes.{AppendsPart, AppendsSome}
+use Rattle.script_commands.specs.States.{set_up}
 use Rattle.store_drive.specs.{Reports.{IsReaderCount, IsReport, word_text}, declared.reports.DriveFault.DriveFault}
 use Rattle.store_drive.specs.declared.reports.DriveReport.{DriveReport}
 

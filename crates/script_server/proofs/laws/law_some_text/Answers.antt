@@ -1,7 +1,8 @@
 use Rattle.std.proofs.Common.{[], arith, refl}
 use Rattle.feed_csv.specs.Records.{records_of}
 use Rattle.graph_types.specs.Graph.{IsContent, content_of}
-use Rattle.script_server.{specs.States.set_up, proofs.SomeText.some_text}
+use Rattle.script_server.proofs.SomeText.{some_text}
+use Rattle.script_commands.specs.States.{set_up}
 use Rattle.script_server.proofs.laws.law_some_text.Goals as goal
 
 -- nothing is a content

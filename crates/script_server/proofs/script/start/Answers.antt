@@ -1,4 +1,4 @@
-use Rattle.script_server.specs.States.{set_up}
+use Rattle.script_commands.specs.States.{set_up}
 use Rattle.script_server.proofs.script.start.Goals as goal
 
 pub returns-clause-starts : goal.returns-clause-starts

@@ -1,6 +1,9 @@
 use Rattle.std.proofs.Common.{◌≡◌, ◌-◌, false}
 use Rattle.feed_csv.specs.Records.{record_limit}
-use Rattle.script_server.{specs.{States.{Setup, beginning}, Runs.{IsReady, ShowsRun}, Writes.held}, proofs.RunSoFar.Reaches}
+use Rattle.script_server.specs.Runs.{IsReady, ShowsRun}
+use Rattle.script_server.specs.Writes.{held}
+use Rattle.script_server.proofs.RunSoFar.{Reaches}
+use Rattle.script_commands.specs.States.{Setup, beginning}
 use Rattle.script_server.proofs.script.turn_all.Given as goal
 
 abbrev pub invariant-records : goal.invariant-records

@@ -1,0 +1,11 @@
+pub mod SlotLaws
+pub mod DeskLaws
+pub mod NamesApart
+pub mod Commands
+pub mod Edges
+pub mod OwnLabels
+pub mod Replies
+pub mod Asking
+pub mod HeldBlocks
+pub mod Rebasing
+pub mod ContentsKept
