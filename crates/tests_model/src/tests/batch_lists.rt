@@ -54,23 +54,31 @@ fn is_at(batch: Option<&Batch>, wanted: u64) -> bool {
 fn check_list(rt: &impl Abort, list: &BatchList, times: usize) {
     same(rt, list.len(), times);
     for place in 0..times {
-        assert!(rt; is_at(list.get(place), place as u64), "place {place}");
+        same(
+            rt,
+            (place, is_at(list.get(place), place as u64)),
+            (place, true),
+        );
     }
-    assert!(rt; list.get(times).is_none());
+    same(rt, list.get(times).is_none(), true);
     let mut time = 0_u64;
     for batch in list.iter() {
-        assert!(rt; is_at(Some(batch), time), "time {time}");
+        same(rt, (time, is_at(Some(batch), time)), (time, true));
         time = time.saturating_add(1);
     }
     same(rt, time, times as u64);
 }
 
+// One batch more in the list.
+fn check_added(rt: &impl Abort, alloc: Global, list: &mut BatchList, times: usize) {
+    add(alloc, list, times as u64).expect(rt, "a batch");
+    check_list(rt, list, times.saturating_add(1));
+    same(rt, is_at(list.last(), times as u64), true);
+}
+
 // One batch more in a list that shares the pages; the list before is as it was.
 fn check_next(rt: &impl Abort, alloc: Global, list: &BatchList, times: usize) {
-    let mut next = list.share().expect(rt, "a list");
-    add(alloc, &mut next, times as u64).expect(rt, "a batch");
-    check_list(rt, &next, times.saturating_add(1));
-    assert!(rt; is_at(next.last(), times as u64));
+    check_added(rt, alloc, &mut list.share().expect(rt, "a list"), times);
     check_list(rt, list, times);
 }
 

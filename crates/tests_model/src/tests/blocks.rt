@@ -64,11 +64,12 @@ fn step(rt: &impl Abort, status: &mut Vec<BlockStatus>, line: &str) -> Step {
 fn check_step(rt: &impl Abort, alloc: Global, status: &mut Vec<BlockStatus>, line: &str) {
     let (text, wanted) = line.split_once(" => ").expect(rt, line);
     let step = step(rt, status, text);
-    if wanted.contains(' ') {
-        check_shown(rt, alloc, (step, status.as_slice()), wanted, line).expect(rt, line);
+    let told = if wanted.contains(' ') {
+        check_shown(rt, alloc, (step, status.as_slice()), wanted, line)
     } else {
-        check_shown(rt, alloc, step, wanted, line).expect(rt, line);
-    }
+        check_shown(rt, alloc, step, wanted, line)
+    };
+    told.expect(rt, line);
 }
 
 #[test]

@@ -49,11 +49,16 @@ pub(super) fn event(alloc: Global, line: &str) -> Result<Event, LineError> {
     }
 }
 
+fn push_event(alloc: Global, events: &mut Vec<Event>, line: &str) -> Result<(), LineError> {
+    events.push(event(alloc, line)?)?;
+    Ok(())
+}
+
 /// The events of these lines.
 pub(super) fn events(alloc: Global, lines: &str) -> Result<Vec<Event>, LineError> {
     let mut events = Vec::new(alloc);
     for line in lines.lines() {
-        events.push(event(alloc, line)?)?;
+        push_event(alloc, &mut events, line)?;
     }
     Ok(events)
 }

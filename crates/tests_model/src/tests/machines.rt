@@ -82,7 +82,7 @@ fn check_line(rt: &impl Abort, alloc: Global, core: &mut Core, sessions: usize, 
     let (verb, place) = text.split_once(' ').unwrap_or((text, ""));
     match verb {
         "said" | "seen" => check_look(rt, alloc, core, sessions, place, wanted),
-        "copied" => same(rt, core.copied(), copy_of(rt, wanted)),
+        "copied" => same(rt, &core.copied(), &copy_of(rt, wanted)),
         _ => check_step(rt, alloc, core, text, wanted),
     }
 }

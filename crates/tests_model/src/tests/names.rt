@@ -24,11 +24,11 @@ tab\t
 /// Whether each line is a name, and whether it is that of a kind, as a text and as bytes.
 fn check_texts(rt: &impl Abort, lines: &str, are_names: bool, are_kinds: bool) {
     for text in lines.lines() {
-        let told = (is_name(text), is_kind_name(text));
-        same(rt, (text, told), (text, (are_names, are_kinds)));
         let bytes = text.as_bytes();
-        let told = (is_name_bytes(bytes), is_kind_name_bytes(bytes));
-        same(rt, (text, told), (text, (are_names, are_kinds)));
+        let names = (is_name(text), is_name_bytes(bytes));
+        let kinds = (is_kind_name(text), is_kind_name_bytes(bytes));
+        let wanted = ((are_names, are_names), (are_kinds, are_kinds));
+        same(rt, (text, (names, kinds)), (text, wanted));
     }
 }
 

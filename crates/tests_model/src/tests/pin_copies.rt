@@ -32,7 +32,7 @@ fn tells_the_least_of_all_pins_and_of_the_unsettled(rt: HostRuntime) {
 fn is_copied(rt: &impl Abort, pins: &[Option<Pin>; SEATS])
     requires { length pins.now ≡ SEATS }
 {
-    same(rt, PinCopy::of(9, pins), copy_of_three());
+    same(rt, &PinCopy::of(9, pins), &copy_of_three());
 }
 
 #[test]

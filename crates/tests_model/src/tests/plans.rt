@@ -119,6 +119,18 @@ fn check_post(
     }
 }
 
+// The plan of a Post of these operations and these blocks.
+fn check_ops(
+    rt: &impl Abort,
+    alloc: Global,
+    heap: &[List<Edge>],
+    ops: &str,
+    blocks: &[usize],
+    wanted: &str,
+) -> Result<(), LineError> {
+    check_post(rt, alloc, heap, &batch(alloc, ops)?, blocks, wanted)
+}
+
 // The plan of a Post with this text.
 fn check_text(
     rt: &impl Abort,
@@ -128,13 +140,12 @@ fn check_text(
     wanted: &str,
 ) -> Result<(), LineError> {
     let (ops, blocks) = post.split_once('|').ok_or(LineError::Wrong)?;
-    let blocks = numbers(alloc, blocks)?;
-    check_post(
+    check_ops(
         rt,
         alloc,
         heap,
-        &batch(alloc, ops)?,
-        blocks.as_slice(),
+        ops,
+        numbers(alloc, blocks)?.as_slice(),
         wanted,
     )
 }

@@ -211,11 +211,15 @@ read 0 => Skipped
 reply 0 => Done
 said 0 0 => REPLY";
 
+fn check_asked(rt: &impl Abort, alloc: Global, asked: &str, reply: &str) {
+    let story = asked.replace(alloc, "REPLY", reply).expect(rt, reply);
+    check_new(rt, alloc, 1, 2, &[THREE_EDGES, story.as_str()]);
+}
+
 fn check_request(rt: &impl Abort, alloc: Global, row: &str) {
     let (request, reply) = row.split_once(" => ").expect(rt, row);
     let asked = ASKING.replace(alloc, "REQUEST", request).expect(rt, row);
-    let story = asked.replace(alloc, "REPLY", reply).expect(rt, row);
-    check_new(rt, alloc, 1, 2, &[THREE_EDGES, story.as_str()]);
+    check_asked(rt, alloc, asked.as_str(), reply);
 }
 
 #[test]

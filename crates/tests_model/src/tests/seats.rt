@@ -41,7 +41,7 @@ fn keeps_the_floor_below_each_pin(rt: HostRuntime) -> Result<(), Fail> {
 }
 
 fn copied(rt: &impl Abort, board: &mut Board, last: u64, copy: PinCopy) {
-    same(rt, board.raise(last), copy);
+    same(rt, &board.raise(last), &copy);
 }
 
 /// Seat 0 has a settled pin, and seat 15 an unsettled one.

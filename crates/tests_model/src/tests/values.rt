@@ -85,11 +85,15 @@ fn edge(text: &str) -> Result<Edge, LineError> {
     })
 }
 
+fn push_edge(edges: &mut Vec<Edge>, word: &str) -> Result<(), LineError> {
+    Ok(edges.push(edge(word)?)?)
+}
+
 /// Edges with a blank between them.
 pub(super) fn edges(alloc: Global, text: &str) -> Result<List<Edge>, LineError> {
     let mut edges = Vec::new(alloc);
     for word in text.split_whitespace() {
-        edges.push(edge(word)?)?;
+        push_edge(&mut edges, word)?;
     }
     Ok(List::of(edges))
 }
