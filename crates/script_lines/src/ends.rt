@@ -45,7 +45,7 @@ impl RowEnd {
         ensures put { self.new ≡ codes " " ++ (decimal number ++ self.old) }
         ensures short { length self.new ≤ length self.old + 21 }
     {
-        self.put_digits(number);
+        self.put_number(number);
         self.put_byte(b' ');
     }
 
@@ -56,11 +56,26 @@ impl RowEnd {
         ensures put { self.new ≡ codes " " ++ (signed_decimal number ++ self.old) }
         ensures short { length self.new ≤ length self.old + 22 }
     {
-        self.put_digits(number.unsigned_abs());
+        self.put_number(number.unsigned_abs());
         if number < 0 {
             self.put_byte(b'-');
         }
         self.put_byte(b' ');
+    }
+
+    /// Puts a number before what there is. Most numbers of an answer have one digit, which needs no call.
+    #[inline(always)]
+    #[tactic(auto, using(std::proofs::lemmas::Fmt::decimal_digit))]
+    fn put_number(&mut self, number: u64)
+        requires { length self.old ≤ 48 }
+        ensures put { self.new ≡ decimal number ++ self.old }
+        ensures short { length self.new ≤ length self.old + 20 }
+    {
+        if number < 10 {
+            self.put_byte(b'0' + number as u8);
+        } else {
+            self.put_digits(number);
+        }
     }
 
     /// Puts digits before what there is.
