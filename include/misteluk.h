@@ -1,0 +1,206 @@
+/* Misteluk: a graph of weighted, timed edges that changes in batches, and versions of it that stay as they were.
+ *
+ *     misteluk_desk desk = {0};
+ *     misteluk_batch batch = {0};
+ *     misteluk_counts counts;
+ *     if (misteluk_desk_new(16384, &desk) || misteluk_batch_new(&batch)) return 1;
+ *     misteluk_batch_insert(&batch, "knows", 5, "ann", 3, "bob", 3, 1, 0);
+ *     misteluk_desk_apply(&desk, &batch, &counts);
+ *
+ * A desk is where batches are applied. Each batch that is accepted leaves one version more; a version that was held never
+ * changes, whatever is applied after it. A handle begins as {0}, and holds nothing then.
+ *
+ * What a caller owes: each pointer leads to as much memory as the length beside it says, and is not NULL, also where the length
+ * is 0; no two pointers of a call overlap; one call at a time for each handle, on any thread; a handle is not copied and used
+ * twice, and not used in a forked child. Each length counts items of the array, not bytes. All else is tested inside: texts,
+ * numbers, lengths, and whether a handle holds anything.
+ *
+ * A call that can be refused returns a code. After any code but MISTELUK_OK the handles are as they were before the call, and
+ * what it would have written is not to be read, unless its comment says otherwise. No call reads or writes a file, starts a
+ * thread, waits, or keeps a pointer that it was given.
+ */
+#ifndef MISTELUK_H
+#define MISTELUK_H
+
+#include <stddef.h>
+#include <stdint.h>
+
+#ifdef __cplusplus
+extern "C" {
+#endif
+
+/* The number of this interface. It grows with each change that an older caller could not take. */
+#define MISTELUK_INTERFACE 1
+
+enum {
+    MISTELUK_OK = 0,
+    MISTELUK_MEMORY = 1,        /* out of memory */
+    MISTELUK_NO_HANDLE = 2,     /* a handle holds nothing */
+    MISTELUK_HELD_ALREADY = 3,  /* a handle that is to be made holds something already */
+    MISTELUK_BAD_LENGTH = 4,    /* arrays whose lengths differ, or an array that is too short */
+    MISTELUK_BAD_NAME = 5,      /* a name is 1 to 64 bytes, each from 0x21 to 0x7E; a kind's is not "*" */
+    MISTELUK_BAD_WEIGHT = 6,    /* a weight is at most 2^40 in size */
+    MISTELUK_BAD_TIME = 7,      /* a time is below 2^63 */
+    MISTELUK_BAD_NUMBER = 8,    /* an index past its dictionary, or ends that fall or leave their text */
+    MISTELUK_BAD_BLOCKS = 9,    /* a desk has 16 to 65,536 blocks */
+    MISTELUK_BATCH_FULL = 10,   /* a batch has at most 4,096 operations */
+    MISTELUK_BATCHES_FULL = 11, /* a desk accepts at most 65,536 batches between two rebases */
+    MISTELUK_NAMES_FULL = 12,   /* a graph has at most 65,536 vertices */
+    MISTELUK_KINDS_FULL = 13,   /* a graph has at most 64 kinds */
+    MISTELUK_BLOCKS_FULL = 14,  /* fewer blocks are free than the batch asks for */
+    MISTELUK_NO_SEAT = 15,      /* 16 versions are held, or what is to be released isn't held */
+    MISTELUK_NO_VERTEX = 16,
+    MISTELUK_NO_KIND = 17,
+    MISTELUK_NO_EDGE = 18
+};
+
+/* What stands for "any kind" where a kind's number is asked for, and for "not reached" among levels. */
+#define MISTELUK_ANY_KIND UINT32_MAX
+#define MISTELUK_NOT_REACHED UINT32_MAX
+
+typedef struct { void *at; } misteluk_desk;
+typedef struct { void *at; } misteluk_batch;
+typedef struct { void *at; } misteluk_version;
+
+/* What became of a batch's operations, each counted once but an expiry, which counts the edges that it took away. */
+typedef struct {
+    uint64_t version; /* the number of the version that the batch left */
+    uint64_t inserted, updated, removed, absent, overflowed, expired;
+} misteluk_counts;
+
+/* The last version, and the blocks. */
+typedef struct {
+    uint64_t version, vertices, kinds, edges;
+    uint64_t blocks_free, blocks_retired, blocks_used;
+} misteluk_stat;
+
+/* A version, and how many bytes its names and its kinds' names have. */
+typedef struct {
+    uint64_t version, vertices, kinds, edges, name_bytes, kind_bytes;
+} misteluk_size;
+
+/* Which version is held, for its release. */
+typedef struct {
+    uint64_t opening, number;
+} misteluk_hold;
+
+typedef struct {
+    int64_t weight;
+    uint64_t first, recent; /* the time of its first insertion, and of the last operation that touched it */
+} misteluk_edge;
+
+/* Which edges count: those of one kind by its number, or of any, whose recent time is from `from` to `to`, both included. Where
+ * `from` is greater than `to` there are none. */
+typedef struct {
+    uint64_t from, to;
+    uint32_t kind;
+} misteluk_view;
+
+/* Returns MISTELUK_INTERFACE as the library was made. */
+uint32_t misteluk_interface(void);
+
+/* Batches */
+
+/* Makes an empty batch. MEMORY, HELD_ALREADY. */
+uint32_t misteluk_batch_new(misteluk_batch *out);
+/* Ends a batch with all that it has. A handle that holds nothing may be given. */
+void misteluk_batch_free(misteluk_batch batch);
+/* Tells how many operations a batch has. NO_HANDLE. */
+uint32_t misteluk_batch_length(misteluk_batch *batch, uint64_t *out);
+/* Appends an insertion: the edge is added, or the weight of the one that is there is replaced.
+ * NO_HANDLE, BAD_NAME, BAD_WEIGHT, BAD_TIME, BATCH_FULL in this order, or MEMORY. */
+uint32_t misteluk_batch_insert(misteluk_batch *batch, const char *kind, size_t kind_length, const char *source,
+    size_t source_length, const char *target, size_t target_length, int64_t weight, uint64_t time);
+/* Appends an addition: the edge is added, or the amount is added to the weight of the one that is there. As above. */
+uint32_t misteluk_batch_add(misteluk_batch *batch, const char *kind, size_t kind_length, const char *source,
+    size_t source_length, const char *target, size_t target_length, int64_t amount, uint64_t time);
+/* Appends a removal. NO_HANDLE, BAD_NAME, BATCH_FULL, or MEMORY. */
+uint32_t misteluk_batch_remove(misteluk_batch *batch, const char *kind, size_t kind_length, const char *source,
+    size_t source_length, const char *target, size_t target_length);
+/* Appends an expiry: each edge whose recent time is before this one is taken away. NO_HANDLE, BAD_TIME, BATCH_FULL, or MEMORY. */
+uint32_t misteluk_batch_expire(misteluk_batch *batch, uint64_t time);
+
+/* The desk */
+
+/* Opens a desk without edges, with so many blocks, each for 32 edges of one source and kind. BAD_BLOCKS, HELD_ALREADY, MEMORY. */
+uint32_t misteluk_desk_new(uint32_t blocks, misteluk_desk *out);
+/* Ends a desk. Versions that were held answer on, until they are freed. A handle that holds nothing may be given. */
+void misteluk_desk_free(misteluk_desk desk);
+/* Applies a batch, operation after operation, and empties it. NO_HANDLE, BATCHES_FULL, NAMES_FULL, KINDS_FULL, BLOCKS_FULL in
+ * this order, or MEMORY; the desk and the batch are as they were then. */
+uint32_t misteluk_desk_apply(misteluk_desk *desk, misteluk_batch *batch, misteluk_counts *counts);
+/* Applies insertions of one kind, in batches of 4,096, whose vertices are numbers in a dictionary of names: the name of number n
+ * are the bytes of `text` from ends[n - 1], or from 0, to below ends[n]. Blocks that nobody needs are collected where too few
+ * are free. `done` tells how many insertions were applied, also after a refusal, and `counts` what became of them; the first
+ * that is refused, and those of its batch, are not in. The codes of an insertion and of `apply`, and BAD_LENGTH, BAD_NUMBER. */
+uint32_t misteluk_desk_insert_columns(misteluk_desk *desk, const char *kind, size_t kind_length, const char *text,
+    size_t text_length, const uint64_t *ends, size_t ends_length, const uint32_t *sources, size_t sources_length,
+    const uint32_t *targets, size_t targets_length, const int64_t *weights, size_t weights_length, const uint64_t *times,
+    size_t times_length, misteluk_counts *counts, uint64_t *done);
+/* Frees each retired block that no held version of this opening needs, and tells how many these were. NO_HANDLE. */
+uint32_t misteluk_desk_collect(misteluk_desk *desk, uint64_t *freed);
+/* Tells the counts. NO_HANDLE. */
+uint32_t misteluk_desk_stat(misteluk_desk *desk, misteluk_stat *out);
+/* Holds the last version: `version` holds it, and `hold` is for its release. At most 16 versions of different numbers are held
+ * at once, each as often as one likes. NO_HANDLE, HELD_ALREADY, NO_SEAT, MEMORY. */
+uint32_t misteluk_desk_hold(misteluk_desk *desk, misteluk_version *version, misteluk_hold *hold);
+/* Takes one hold back, so that a collection may free what the version alone needs. The version handle is freed on its own, before
+ * or after. The hold of a former opening needs nothing more, and is OK. NO_HANDLE, NO_SEAT where it isn't held. */
+uint32_t misteluk_desk_release(misteluk_desk *desk, misteluk_hold hold);
+/* Opens the desk anew over what the last version holds: its number is 0, no batch is kept, nothing is held or retired. Versions
+ * that were held answer on. NO_HANDLE, MEMORY. */
+uint32_t misteluk_desk_rebase(misteluk_desk *desk);
+
+/* Versions */
+
+/* Makes a second handle on the same version, as for another thread. NO_HANDLE, HELD_ALREADY, MEMORY. */
+uint32_t misteluk_version_clone(misteluk_version *version, misteluk_version *out);
+/* Lets a version go. A handle that holds nothing may be given. */
+void misteluk_version_free(misteluk_version version);
+/* Tells its sizes. NO_HANDLE. */
+uint32_t misteluk_version_size(misteluk_version *version, misteluk_size *out);
+/* Tells the number of a vertex. NO_HANDLE, NO_VERTEX. */
+uint32_t misteluk_version_vertex(misteluk_version *version, const char *name, size_t length, uint32_t *out);
+/* Tells the number of a kind. NO_HANDLE, NO_KIND. */
+uint32_t misteluk_version_kind(misteluk_version *version, const char *name, size_t length, uint32_t *out);
+/* Writes the names of vertices from number `first` on, one after another, as many as `ends` has places, and where each ends.
+ * NO_HANDLE, NO_VERTEX where there are fewer, BAD_LENGTH where the text has no room for them. */
+uint32_t misteluk_version_names(misteluk_version *version, uint32_t first, char *text, size_t text_length, uint64_t *ends,
+    size_t ends_length);
+/* The same of the kinds' names. NO_HANDLE, NO_KIND, BAD_LENGTH. */
+uint32_t misteluk_version_kind_names(misteluk_version *version, uint32_t first, char *text, size_t text_length, uint64_t *ends,
+    size_t ends_length);
+/* Tells one edge by its numbers. NO_HANDLE, NO_KIND, NO_VERTEX, NO_EDGE. */
+uint32_t misteluk_version_edge(misteluk_version *version, uint32_t kind, uint32_t source, uint32_t target, misteluk_edge *out);
+/* For each vertex by number: how many edges of the view go out, how many come in, and the sum of the weights that go out. Each
+ * array has as many places as there are vertices. NO_HANDLE, NO_KIND, BAD_LENGTH, MEMORY. */
+uint32_t misteluk_version_degrees(misteluk_version *version, const misteluk_view *view, uint32_t *outgoing,
+    size_t outgoing_length, uint32_t *incoming, size_t incoming_length, int64_t *out_weight, size_t out_weight_length);
+/* For each vertex: the least number of edges of the view that lead to it from the source, or NOT_REACHED.
+ * NO_HANDLE, NO_KIND, NO_VERTEX, BAD_LENGTH, MEMORY. */
+uint32_t misteluk_version_levels(misteluk_version *version, const misteluk_view *view, uint32_t source, uint32_t *levels,
+    size_t levels_length);
+/* For each vertex: the least number of a vertex that edges of the view join it to, whatever their direction.
+ * NO_HANDLE, NO_KIND, BAD_LENGTH, MEMORY. */
+uint32_t misteluk_version_labels(misteluk_version *version, const misteluk_view *view, uint32_t *labels, size_t labels_length);
+/* For each vertex: its core number (Seidman 1983) over the view, direction and kind ignored. As above. */
+uint32_t misteluk_version_cores(misteluk_version *version, const misteluk_view *view, uint32_t *cores, size_t cores_length);
+/* Writes the edges of one source that the view lets through, in the order of its row, into columns of one length. `count` tells
+ * how many there are; where the columns have fewer places nothing is written and the code is BAD_LENGTH, with `count` told.
+ * NO_HANDLE, NO_KIND, NO_VERTEX, BAD_LENGTH. */
+uint32_t misteluk_version_row(misteluk_version *version, const misteluk_view *view, uint32_t source, uint32_t *kinds,
+    size_t kinds_length, uint32_t *targets, size_t targets_length, int64_t *weights, size_t weights_length, uint64_t *firsts,
+    size_t firsts_length, uint64_t *recents, size_t recents_length, uint64_t *count);
+/* Writes the edges that the view lets through of the sources from `*source` on, source by source, each one's whole row, as many as
+ * the columns hold. `count` tells how many were written, and `*source` is the first source that isn't in: the number of vertices
+ * where all are. NO_HANDLE, NO_KIND, BAD_LENGTH where the columns differ or not even the next row fits (then `count` tells how
+ * long it is). */
+uint32_t misteluk_version_edges(misteluk_version *version, const misteluk_view *view, uint32_t *source, uint32_t *kinds,
+    size_t kinds_length, uint32_t *sources, size_t sources_length, uint32_t *targets, size_t targets_length, int64_t *weights,
+    size_t weights_length, uint64_t *firsts, size_t firsts_length, uint64_t *recents, size_t recents_length, uint64_t *count);
+
+#ifdef __cplusplus
+}
+#endif
+
+#endif
