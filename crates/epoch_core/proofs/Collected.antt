@@ -1,5 +1,5 @@
 -- What a whole collection leaves.
-use Rattle.std.proofs.Common.{◌≡◌, ℕ, zero, suc, ◌≤◌, Bool, true, false, ◌||◌, ◌⊎◌, inl, inr, List, [], ◌∷◌, ◌++◌, map, replicate}
+use Rattle.std.proofs.Common.{◌≡◌, ℕ, zero, suc, ◌≤◌, Bool, true, false, ◌||◌, inl, inr, List, [], ◌∷◌, ◌++◌, map, replicate}
 use Rattle.std.proofs.{Common.{get_or, set, refl, sym, ap, subst, ◌∙◌, arith, eqb}, lemmas.{Grind.common_steps, Bool.{cases_eq, or_cases}}}
 use Rattle.std.{proofs.lemmas.Bool.Decides.nat_tests, specs.{Prelude.slice_get, List.list_any, Option.unwrap_or}}
 use Rattle.std.specs.declared.option.Option.{Option, TheVariants.{None, Some}}
@@ -14,7 +14,7 @@ use Rattle.epoch_core.{specs.{Runs.{next_world, run}, Sound.{IsDatedAt, IsSound}
 use Rattle.epoch_core.proofs.{Lists.{changed_at-some, set_same, set_else}, Moves.{floored, settled_needs, unsettled_needs}}
 
 -- a block was born and retired with these numbers
-abbrev IsRetiredAt : World → ℕ → ℕ → ℕ → Type 0
+abbrev pub IsRetiredAt : World → ℕ → ℕ → ℕ → Type 0
 IsRetiredAt w b birth retirement = slice_get w.status b ≡ Some (Retired birth retirement)
 
 -- one Recycle
@@ -132,14 +132,14 @@ settled_need w birth retirement f = grind (arith, common_steps)
 unsettled_need : (w : World) (retirement : ℕ) → Found unsettled_number (is_before retirement) w.sessions → IsUnsettledNeed w retirement
 unsettled_need w retirement f = grind (arith, common_steps)
 
-pinned : (w : World) (birth retirement : ℕ) → retirement ≤ last_number w → needs (present_copy w) birth retirement ≡ true → IsPinned w birth retirement
+pub pinned : (w : World) (birth retirement : ℕ) → retirement ≤ last_number w → needs (present_copy w) birth retirement ≡ true → IsPinned w birth retirement
 pinned w birth retirement low need = grind (arith, common_steps, or_cases, nat_tests, settled_need, found, unsettled_need)
 
-pin_needs : (w : World) (birth retirement : ℕ) → IsPinned w birth retirement → needs (present_copy w) birth retirement ≡ true
+pub pin_needs : (w : World) (birth retirement : ℕ) → IsPinned w birth retirement → needs (present_copy w) birth retirement ≡ true
 pin_needs w birth retirement (inl n) = settled_needs w n.session n.pin birth retirement n.is_pin n.born n.before
 pin_needs w birth retirement (inr n) = unsettled_needs w n.session n.pin birth retirement n.is_pin n.before
 
-retired_by : (w : World) (b birth retirement : ℕ) → IsSound w → IsRetiredAt w b birth retirement → retirement ≤ last_number w
+pub retired_by : (w : World) (b birth retirement : ℕ) → IsSound w → IsRetiredAt w b birth retirement → retirement ≤ last_number w
 retired_by w b birth retirement sound at = (subst (IsDatedAt (last_number w)) at (sound.dated b)).1
 
 pub leaves_what_pins_need : (w : World) → IsSound w → LeavesWhatPinsNeed w

@@ -10,7 +10,8 @@ use Rattle.epoch_core.specs.declared.session_states.{Hold.Hold, SessionState.{Se
 use Rattle.epoch_core.specs.{declared.session_states.SessionState.TheVariants.Asking, Blocks.{filled, taken, reclaimed}}
 use Rattle.epoch_core.specs.{Machine.{with_heap, with_status}, Versions.{AreEdgesOf, blocks_at, edges_at, edges_of, graph_at}}
 use Rattle.epoch_core.specs.{Versions.version_at, Worlds.{World, last_blocks, last_graph, last_number, session_of}}
-use Rattle.epoch_core.specs.Sound.{IsCovered, IsDatedAt, IsHeld, IsKeptAt, IsNamed, IsSessionSound, IsSound}
+use Rattle.epoch_core.specs.Sound.{IsCovered, IsDatedAt, IsHeld, IsKeptAt, IsListedAsDated, IsListedAt, IsNamed}
+use Rattle.epoch_core.specs.Sound.{IsSessionSound, IsSound}
 use Rattle.epoch_core.proofs.Lists.{set_same, set_else, same_pieces, listed_take}
 
 -- what a change of the world owes to each holder
@@ -66,6 +67,7 @@ pub record FreesNone (copy : PinCopy) (before after : BlockStatus) : Type 0 wher
   pub unused_before : is_used before ≡ false
   pub unused_after : is_used after ≡ false
   pub dated : (last : ℕ) → IsDated last after
+  pub listed : (w : World) (b : ℕ) → IsListedAsDated w b after
   pub not_kept : (n : ℕ) → IsCovered copy n → IsKept n before → ⊥
 
 pub frees_taken : (copy : PinCopy) (before after : BlockStatus) → taken before ≡ Some after → FreesNone copy before after
@@ -88,6 +90,7 @@ frees_recycled copy (Retired birth retirement) after is =
             unused_before = refl;
             unused_after = ap is_used free;
             dated = λ last. subst (IsDated last) (sym free) tt;
+            listed = λ w b. subst (IsListedAsDated w b) (sym free) tt;
             not_kept = λ n covered k. let needed : needs copy birth retirement ≡ true = covered birth retirement k.0 k.1 in cc;
           }
     ] refl is
@@ -138,6 +141,11 @@ sound_status w b before after sound found frees =
             (ap (slice_get (set w.status b after)) e ∙ set_same w.status b before after found)) (frees.dated (last_number w))
         | inr ne ↦ subst (IsDatedAt (last_number w)) (sym (set_else w.status b c after ne)) (sound.dated c)
       ];
+      listed = λ c. elim (cases_eq c b) [
+        | inl e ↦ subst (IsListedAt w c) (sym
+            (ap (slice_get (set w.status b after)) e ∙ set_same w.status b before after found)) (frees.listed w c)
+        | inr ne ↦ subst (IsListedAt w c) (sym (set_else w.status b c after ne)) (sound.listed c)
+      ];
       listed_once = sound.listed_once;
       shown = sound.shown;
       named = named_still w w.heap (set w.status b after) w.floor w.copy w.sessions sound;
@@ -166,6 +174,7 @@ sound_fill w b edges sound granted =
       copy_last = sound.copy_last;
       used = sound.used;
       dated = sound.dated;
+      listed = sound.listed;
       listed_once = sound.listed_once;
       shown = subst (λ es. AreEdgesOf es (last_graph w))
           (sym (same_pieces (edges_at (set w.heap b edges)) (edges_at w.heap) (last_blocks w)

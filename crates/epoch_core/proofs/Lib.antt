@@ -5,6 +5,7 @@ pub mod Posted
 pub mod Moves
 pub mod Steps
 pub mod Collected
+pub mod HeldBlocks
 pub mod Sizes
 pub mod Epochs
 pub mod Answering

@@ -1,5 +1,5 @@
 -- Each event keeps what is sound: the floor rises, and sessions move.
-use Rattle.std.proofs.Common.{◌≡◌, ◌≢◌, ℕ, ◌+◌, ◌<◌, ◌≤◌, Bool, true, false, not, inl, inr, List, [], ◌∷◌, ◌++◌, length, map}
+use Rattle.std.proofs.Common.{◌≡◌, ◌≢◌, ℕ, ◌<◌, ◌≤◌, Bool, true, false, not, inl, inr, List, ◌++◌, length, map}
 use Rattle.std.proofs.{Common.{replicate, get_or, set, refl, sym, ap, subst, ◌∙◌, arith, ◌-◌, IfSome}, lemmas.Grind.common_steps}
 use Rattle.std.proofs.lemmas.{Option.{slice_get_within, get_or_from_slice_get}, List.{get_or-set_same, get_or-set_other}}
 use Rattle.std.{proofs.{lemmas.Bool.cases_eq, Math.ListN.get_or-map}, specs.{Prelude.slice_get, Option.option_map}}
@@ -99,6 +99,7 @@ sound_beside w floor copy sessions sound low copied held = record {
   copy_last = copied;
   used = sound.used;
   dated = sound.dated;
+  listed = sound.listed;
   listed_once = sound.listed_once;
   shown = sound.shown;
   named = named_still w w.heap w.status floor copy sessions sound;

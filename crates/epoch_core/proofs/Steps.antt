@@ -1,5 +1,5 @@
 -- Each event keeps what is sound, and so does each run.
-use Rattle.std.proofs.Common.{◌≡◌, ◌||◌, ◌<◌, inl, inr, eqb, length, ℕ, zero, suc, ◌≤◌, Bool, true, false, List, [], ◌∷◌, get_or}
+use Rattle.std.proofs.Common.{◌≡◌, ◌||◌, ◌<◌, ◌+◌, inl, inr, eqb, length, ℕ, zero, suc, ◌≤◌, Bool, true, false, List, [], ◌∷◌, get_or}
 use Rattle.std.proofs.{Common.{replicate, refl, sym, ap, subst, ◌∙◌, arith}, lemmas.{Grind.common_steps, Bool.cases_lt}}
 use Rattle.std.{proofs.lemmas.List.length-replicate, specs.Prelude.slice_get, specs.Prelude.if◌then◌else◌, specs.Prelude.All}
 use Rattle.std.{proofs.lemmas.Option.slice_get_past, specs.Option.option_map, specs.Option.unwrap_or}
@@ -9,12 +9,13 @@ use Rattle.block_reclamation.specs.declared.status.BlockStatus.{BlockStatus, The
 use Rattle.block_reclamation.specs.Status.{is_at, is_listed, is_used, IsDated}
 use Rattle.epoch_core.specs.declared.{session_states.SessionState.TheVariants.Idle, events.Event.{Event, TheVariants.Reply}}
 use Rattle.epoch_core.specs.declared.events.Event.TheVariants.{Release, Take, Fill, Post, Floor, Recycle, Pin, Enter, Settle, Ask}
-use Rattle.epoch_core.specs.{declared.events.Event.TheVariants.Read, Posts.posted, Worlds.{IsStart, World, session_of, start}}
-use Rattle.epoch_core.specs.{Worlds.MachineState, Sound.{IsDatedAt, IsNamed, IsSound}, Blocks.{changed_at, taken, reclaimed}}
+use Rattle.epoch_core.specs.{declared.events.Event.TheVariants.Read, Posts.posted, Worlds.{IsStart, World, last_number, session_of, start}}
+use Rattle.epoch_core.specs.Versions.{blocks_at}
+use Rattle.epoch_core.specs.{Worlds.MachineState, Sound.{IsDatedAt, IsListedAsDated, IsListedAt, IsNamed, IsSound}, Blocks.{changed_at, taken, reclaimed}}
 use Rattle.epoch_core.specs.{Runs.{next_world, run}, Posting.can_post, Machine.{step, with_heap, with_status}}
 use Rattle.epoch_core.proofs.Lists.{true_or_false, option_map_some, ChangedAt, changed_at-some}
 use Rattle.epoch_core.proofs.Keeping.{FreesNone, frees_taken, frees_recycled, sound_status, Fills, fills, sound_fill}
-use Rattle.epoch_core.proofs.{Posted.sound_posted, Moves.floored, Moves.sound_move, Moves.keeps_pin}
+use Rattle.epoch_core.proofs.{Posted.sound_posted, Posted.below, Moves.floored, Moves.sound_move, Moves.keeps_pin}
 use Rattle.epoch_core.proofs.Moves.{keeps_enter, keeps_settle, keeps_ask, keeps_read, keeps_reply, keeps_release, sound_floor}
 
 sound_changed : (w after : World) (b : ℕ) (change : BlockStatus → Option BlockStatus) → IsSound w
@@ -101,11 +102,26 @@ used_start start b is =
 dated_start : (start : MachineState) (b : ℕ) → IsStart start → IsDatedAt 0 (slice_get start.world.status b)
 dated_start start b is = grind (arith, common_steps, cases_lt, dated_first, slice_get_past)
 
+-- version 0 lists the blocks that are used from it on
+listed_first : (w : World) (b : ℕ) (t : Bool) → is_listed b w.opening.blocks ≡ t → last_number w ≡ 0 → IsListedAsDated w b (at_first t)
+listed_first w b true is none = λ n low high.
+    let first : n ≡ 0 = omega arith in
+    ap (λ k. is_listed b (blocks_at w.opening w.versions k)) first ∙ is ∙ sym (below n (last_number w + 1) (omega arith))
+listed_first w b false is none = tt
+
+listed_start : (start : MachineState) (b : ℕ) → IsStart start → IsListedAt start.world b (slice_get start.world.status b)
+listed_start start b is =
+    elim (cases_lt b (length start.world.status)) [
+      | inl low ↦ subst (IsListedAt start.world b) (sym (is.status b low))
+          (listed_first start.world b (is_listed b start.world.opening.blocks) refl (ap length is.alone))
+      | inr past ↦ subst (IsListedAt start.world b) (sym (slice_get_past start.world.status b past)) tt
+    ]
+
 named_alone : (w : World) (n : ℕ) → n ≤ 0 → IsNamed w n
 named_alone w n h = grind (arith, common_steps)
 
 pub sound_start : (start : MachineState) → IsStart start → IsSound start.world
-sound_start start is = grind (arith, common_steps, used_start, dated_start, named_alone, idle_at)
+sound_start start is = grind (arith, common_steps, used_start, dated_start, listed_start, named_alone, idle_at)
 
 pub always_sound : (start : MachineState) (events : List Event) → IsStart start → IsSound (run events start.world)
 always_sound start events is = sound_run events start.world (sound_start start is)

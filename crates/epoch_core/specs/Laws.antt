@@ -2,6 +2,7 @@
 use Rattle.std.specs.{Prelude.◌≡◌, Prelude.◌↔◌, Prelude.ℕ, Prelude.List, Prelude.length, Prelude.IsTrue, List.AllZip}
 use Rattle.graph_types.specs.declared.batches.NamedOp.{NamedOp}
 use Rattle.epoch_core.specs.{declared.events.Event.Event, Collections.LeavesWhatPinsNeed, Collections.LeavesNoneUnpinned}
+use Rattle.epoch_core.specs.Collections.{LeavesWhatIsHeld, LeavesWhatMayBeHeld}
 use Rattle.epoch_core.specs.{declared.events.Event.TheVariants.Post, Posts.MayPost, Holdings.holdings, Holdings.questions}
 use Rattle.epoch_core.specs.{Worlds.World, Worlds.MachineState, Worlds.IsStart, Worlds.replies_of, Machine.Answers}
 use Rattle.epoch_core.specs.{Runs.run, Runs.Runs, Runs.is_done, Epochs.FillsNoHeldBlock, Epochs.PinsInOrder, Epochs.IsPartition}
@@ -40,6 +41,12 @@ CollectionsLeaveWhatPinsNeed = Always (λ blocks w. LeavesWhatPinsNeed w)
 
 abbrev pub CollectionsLeaveNoneUnpinned : Type 0
 CollectionsLeaveNoneUnpinned = Always (λ blocks w. LeavesNoneUnpinned w)
+
+abbrev pub CollectionsLeaveWhatIsHeld : Type 0
+CollectionsLeaveWhatIsHeld = Always (λ blocks w. LeavesWhatIsHeld w)
+
+abbrev pub CollectionsLeaveWhatMayBeHeld : Type 0
+CollectionsLeaveWhatMayBeHeld = Always (λ blocks w. LeavesWhatMayBeHeld w)
 
 -- in every world a Post is done exactly where its rule holds
 abbrev pub PostsByItsRule : Type 0

@@ -1,7 +1,8 @@
 -- What holds of the machine at every moment, and carries the laws.
-use Rattle.std.specs.Prelude.{true, ◌≡◌, ◌≢◌, ℕ, ◌≤◌, ◌<◌, length, take, slice_get, AllPairs, MatchOption, IsTrue}
+use Rattle.std.specs.Prelude.{true, ◌≡◌, ◌≢◌, ℕ, ◌≤◌, ◌<◌, ◌+◌, nat_lt, length, take, slice_get, AllPairs, MatchOption, IsTrue}
 use Rattle.std.specs.declared.option.Option.{Option}
 use Rattle.block_reclamation.specs.{declared.status.BlockStatus.BlockStatus, declared.copies.PinCopy.PinCopy, Copies.needs}
+use Rattle.block_reclamation.specs.declared.status.BlockStatus.TheVariants.{Used, Retired}
 use Rattle.block_reclamation.specs.Status.{is_at, is_used, is_listed, IsDated, IsKept}
 use Rattle.epoch_core.specs.declared.session_states.{Hold.Hold, SessionState.SessionState}
 use Rattle.epoch_core.specs.declared.session_states.SessionState.TheVariants.{Idle, Pinned, Holding, Asking}
@@ -14,6 +15,20 @@ IsDatedAt last status = MatchOption status (Unit {0}) (IsDated last)
 
 abbrev pub IsKeptAt : ℕ → Option BlockStatus → Type 0
 IsKeptAt n status = MatchOption status ⊥ (IsKept n)
+
+-- of the versions from number `first` on, those below number `end` list the block, and no other
+abbrev pub IsListedBetween : World → ℕ → ℕ → ℕ → Type 0
+IsListedBetween w b first end =
+    (n : ℕ) → first ≤ n → n ≤ last_number w → is_listed b (blocks_at w.opening w.versions n) ≡ nat_lt n end
+
+-- a used block is listed by each version from its birth on, a retired one by each from its birth to below its retirement
+abbrev pub IsListedAsDated : World → ℕ → BlockStatus → Type 0
+IsListedAsDated w b (Used birth) = IsListedBetween w b birth (last_number w + 1)
+IsListedAsDated w b (Retired birth retirement) = IsListedBetween w b birth retirement
+IsListedAsDated w b _ = Unit {0}
+
+abbrev pub IsListedAt : World → ℕ → Option BlockStatus → Type 0
+IsListedAt w b status = MatchOption status (Unit {0}) (IsListedAsDated w b)
 
 -- the copy needs each block that is kept for the holders of version n
 abbrev pub IsCovered : PinCopy → ℕ → Type 0
@@ -48,6 +63,7 @@ pub record IsSound (w : World) : Type 0 where
   pub copy_last : w.copy.last ≤ last_number w
   pub used : (b : ℕ) → is_at is_used (slice_get w.status b) ≡ is_listed b (last_blocks w)
   pub dated : (b : ℕ) → IsDatedAt (last_number w) (slice_get w.status b)
+  pub listed : (b : ℕ) → IsListedAt w b (slice_get w.status b)
   pub listed_once : AllPairs ◌≢◌ (last_blocks w)
   pub shown : AreEdgesOf (edges_of w.heap (last_blocks w)) (last_graph w)
   pub named : (n : ℕ) → n ≤ last_number w → IsNamed w n

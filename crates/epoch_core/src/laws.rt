@@ -2,7 +2,7 @@
 
 ghost use Rattle.epoch_core.specs.Laws.{RepliesAreAnswers, AgreeingRunsReplyAlike, AlwaysFillsNoHeldBlock, PinsAlwaysInOrder};
 ghost use Rattle.epoch_core.specs.Laws.{BlocksAlwaysPartitioned, CollectionsLeaveWhatPinsNeed, CollectionsLeaveNoneUnpinned};
-ghost use Rattle.epoch_core.specs.Laws.{PostsByItsRule};
+ghost use Rattle.epoch_core.specs.Laws.{CollectionsLeaveWhatIsHeld, CollectionsLeaveWhatMayBeHeld, PostsByItsRule};
 ghost use Rattle.epoch_core.specs.Examples.{AreExamples};
 
 /// Snapshot isolation, for machines of every size, every opening graph and all lists of events from a start.
@@ -42,6 +42,18 @@ pub fn law_epoch()
 pub fn law_collection()
     ensures left { CollectionsLeaveWhatPinsNeed }
     ensures none { CollectionsLeaveNoneUnpinned }
+{}
+
+/// A whole collection is exact by versions, at every moment of every list of events from a start: it frees as much as
+/// counting the holders of each block would, though it compares pins with births and retirements alone.
+///
+/// - `held`: where each pinned session has settled, a block is still retired exactly where some session's held version
+///   lists it and the last version doesn't.
+/// - `may_be_held`: with sessions that haven't settled, a retired block is left exactly where a held version lists it, or
+///   a version that such a session may come to hold: one from its pin on.
+pub fn law_exact_collection()
+    ensures held { CollectionsLeaveWhatIsHeld }
+    ensures may_be_held { CollectionsLeaveWhatMayBeHeld }
 {}
 
 /// The rule of a Post: in every world it is done exactly where there are fewer than 65,536 batches, each block is

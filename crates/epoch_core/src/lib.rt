@@ -31,7 +31,9 @@ pub use block_reclamation::PinCopy;
 pub use blocks::{fill_block, recycle_block, take_block};
 pub use contents::edges_at;
 pub use events::Event;
-pub use laws::{law_collection, law_epoch, law_examples, law_isolation, law_post};
+pub use laws::{
+    law_collection, law_epoch, law_exact_collection, law_examples, law_isolation, law_post,
+};
 pub use machine::{Core, run};
 pub use posting::plan_post;
 pub use states::{Opening, Version};

@@ -6,18 +6,9 @@ use Rattle.block_reclamation.specs.declared.{status.BlockStatus.{BlockStatus, Th
 use Rattle.block_reclamation.specs.Status.{is_free, is_reclaimable, is_at, is_listed}
 use Rattle.epoch_core.specs.{declared.session_states.{Hold.Hold, SessionState.SessionState}, Sound.{IsSound, IsSessionSound}}
 use Rattle.epoch_core.specs.{Sound.{IsHeld, IsCovered, IsKeptAt}, Versions.{AreEdgesOf, opening_graph, blocks_at, edges_of}}
-use Rattle.epoch_core.{specs.{Versions.graph_at, Worlds.{World, session_of, held_in}}, proofs.Steps.always_sound}
+use Rattle.epoch_core.{specs.{Versions.graph_at, Worlds.{World, session_of, held_in}}, proofs.{Steps.always_sound, HeldBlocks.Holder, HeldBlocks.holder_of}}
 use Rattle.store_steps.specs.{Desks.DeskView, Shown.ShowsWorld, Reached.world_by, Held.IsSnapshot}
 use Rattle.store_steps.{specs.Held.HeldIsSnapshot, proofs.Reached.same_count}
-
--- a session that holds a version holds it soundly
-pub record Holder (w : World) (n : ℕ) : Type 0 where
-  pub hold : Hold
-  pub version_is : hold.version ≡ n
-  pub held : IsHeld w hold
-
-holder_of : (w : World) (session : SessionState) (n : ℕ) → IsSessionSound w session → held_in session ≡ Some n → Holder w n
-holder_of w session n sound held = grind (arith, common_steps)
 
 -- a block that is kept for the holders of a version is neither free nor freed by a copy that covers it
 not_free : (n : ℕ) (s : Option BlockStatus) → IsKeptAt n s → is_at is_free s ≡ false
@@ -35,8 +26,9 @@ graph_first d w n shows =
     ap (λ bs. left_by bs (opening_graph w.opening)) (sym (take-map (λ v. v.batch) n w.versions) ∙ ap (take n) shows.batches)
     ∙ ap (left_by (take n d.last.batches)) shows.opening
 
-snapshot : (d : DeskView) (w : World) (copy : PinCopy) (n : ℕ) → ShowsWorld d w → w.copy ≡ copy → Holder w n → IsSnapshot d copy w n
-snapshot d w copy n shows same holder =
+snapshot : (d : DeskView) (w : World) (copy : PinCopy) (session : SessionState) (n : ℕ) → ShowsWorld d w → w.copy ≡ copy
+    → Holder w session n → IsSnapshot d copy w n
+snapshot d w copy session n shows same holder =
     let version = holder.version_is in
     let covered : IsCovered copy holder.hold.version =
     subst (λ k. IsCovered k holder.hold.version) same holder.held.covered in
@@ -59,4 +51,4 @@ pub held_is_snapshot : HeldIsSnapshot
 held_is_snapshot start events s seat n is_start r held =
     let w : World = world_by start.world events in
     let sound : IsSound w = always_sound start events is_start in
-    snapshot s.desk w s.copy n r.desk r.copied_is (holder_of w (session_of w seat) n (sound.sessions seat) held)
+    snapshot s.desk w s.copy (session_of w seat) n r.desk r.copied_is (holder_of w (session_of w seat) n (sound.sessions seat) held)

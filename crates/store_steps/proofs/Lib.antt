@@ -21,4 +21,5 @@ pub mod BatchLaws
 pub mod StatusCounts
 pub mod Examples
 pub mod Held
+pub mod ExactCollection
 pub mod Dated

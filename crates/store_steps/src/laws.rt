@@ -21,7 +21,7 @@ ghost use Rattle.store_steps.specs.Boards.{PinsAsMachine, SettlesAsMachine, Unpi
 ghost use Rattle.store_steps.specs.Histories.{DoneIsRun, ReadersAreUnseen};
 ghost use Rattle.store_steps.specs.Opening.{IsVersionZero, OpensAsMachine, OpensBlank, opened_desk};
 ghost use Rattle.store_steps.specs.Reached.{IsReached, StaysReached, opened_store};
-ghost use Rattle.store_steps.specs.Held.{HeldIsSnapshot};
+ghost use Rattle.store_steps.specs.Held.{CollectionIsExact, HeldIsSnapshot};
 ghost use Rattle.store_steps.specs.Dates.{AreDated};
 ghost use Rattle.store_steps.specs.Examples.{AreExamples};
 
@@ -121,12 +121,16 @@ pub fn law_stays_reached()
         → IsReached (start_world sessions blocks) [] (opened_store (opened_desk blocks empty_version)) }
 {}
 
-/// Held snapshots: where the desk and the board show what a run of the machine leaves, the blocks of the version that a
-/// session holds have, each once, the edges that the desk's first batches leave, as many batches as the version's number
-/// says, however many were accepted since; and none of these blocks is free, or would be freed by a collection by the
-/// copy made last.
+/// Held snapshots, where the desk and the board show what a run of the machine leaves.
+///
+/// - `snapshots`: the blocks of the version that a session holds have, each once, the edges that the desk's first batches
+///   leave, as many batches as the version's number says, however many were accepted since; and none of these blocks is
+///   free, or would be freed by a collection by the copy made last.
+/// - `collections`: where each pinned session has settled, and the floor is raised and the desk then collects by the copy
+///   made so, a block is still retired exactly where some session's held version lists it and the last version doesn't.
 pub fn law_held_versions()
-    ensures { HeldIsSnapshot }
+    ensures snapshots { HeldIsSnapshot }
+    ensures collections { CollectionIsExact }
 {}
 
 /// The numbers that a desk's blocks carry: no block is left granted, a birth is the number of a version that a batch left, or 0
