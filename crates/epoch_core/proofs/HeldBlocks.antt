@@ -11,6 +11,10 @@ use Rattle.epoch_core.specs.Collections.{IsHeldBlock, IsListedFromPin, IsPinned,
 use Rattle.epoch_core.specs.Sound.{IsDatedAt, IsHeld, IsKeptAt, IsListedAt, IsListedBetween, IsSessionSound, IsSound}
 use Rattle.epoch_core.proofs.{Collected.{IsRetiredAt, leaves_what_pins_need, pinned, pin_needs, retired_by}, Posted.below}
 
+-- a session that has settled, or has no pin, has no unsettled one
+none_unsettled : (session : SessionState) (pin : ℕ) → has_settled session ≡ true → unsettled_in session ≡ Some pin → ⊥
+none_unsettled session pin told is = grind (arith, common_steps)
+
 -- a session that holds a version holds it soundly, and its seat has its pin
 pub record Holder (w : World) (session : SessionState) (n : ℕ) : Type 0 where
   pub hold : Hold
@@ -154,10 +158,7 @@ leaves_what_may_be_held w sound blocks all b = (
       (then.is, pin_of w b then.birth then.retirement sound then.is h.1)),
 )
 
--- where each pinned session has settled there is no other pin
-none_unsettled : (session : SessionState) (pin : ℕ) → has_settled session ≡ true → unsettled_in session ≡ Some pin → ⊥
-none_unsettled session pin told is = grind (arith, common_steps)
-
+-- so only held versions count where each pinned session has settled
 pub held_alone : (w : World) (b : ℕ) → HaveSettled w → IsHeldBlock w b ⊎ IsListedFromPin w b → IsHeldBlock w b
 held_alone w b told (inl h) = h
 held_alone w b told (inr f) = absurd (none_unsettled (session_of w f.session) f.pin (told f.session) f.is_pin)
