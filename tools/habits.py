@@ -13,7 +13,7 @@
   it *so*.
 - docs/LIBRARY.md shows each program that stands on `misteluk`: its row of crates.txt, and each of its files as it is.
 - No definition, and no lemma with its name and type, stands twice in `specs/` and `proofs/`.
-- A wrong body names a file of its crate, and has pairs of an old line, which stands in that file once, and a new one.
+- A wrong body names files of its crate, and has pairs of an old line, which stands in its file once, and a new one.
 - A commit's subject has at most 72 characters.
 
 Its last line is 'N passed, M failed'.
@@ -208,20 +208,28 @@ def unshown_programs():
 def lost_edits(path):
     """An edit of text that its file no longer has, or has twice, tries nothing."""
     name = path.relative_to(TOP)
-    head, *pairs = path.read_text(encoding="utf-8").splitlines()
-    source = TOP / "crates" / name.parts[1] / head.removeprefix("file: ")
-    if not head.startswith("file: ") or not source.is_file():
-        yield f"{name}: no file that it names"
-        return
-    text = source.read_text(encoding="utf-8")
-    olds = [line[5:] for line in pairs if line.startswith("old:")]
-    news = [line[5:] for line in pairs if line.startswith("new:")]
-    if not olds or len(olds) != len(news):
-        yield f"{name}: {len(olds)} old lines and {len(news)} new ones"
-    for old, new in zip(olds, news):
-        if text.count(old) != 1:
-            yield f"{name}: its old line stands {text.count(old)} times in {head.removeprefix('file: ')}"
-        text = text.replace(old, new)
+    text, texts, old, olds, news = None, {}, "", 0, 0
+    for line in path.read_text(encoding="utf-8").splitlines():
+        word, _, rest = line.partition(": ")
+        if word == "file":
+            source = TOP / "crates" / name.parts[1] / rest
+            if not source.is_file():
+                yield f"{name}: no file that it names"
+                return
+            texts.setdefault(rest, source.read_text(encoding="utf-8"))
+            text = rest
+        elif text is None:
+            yield f"{name}: no file that it names"
+            return
+        elif word == "old":
+            olds, old = olds + 1, rest
+            if texts[text].count(old) != 1:
+                yield f"{name}: its old line stands {texts[text].count(old)} times in {text}"
+        elif line.startswith("new:"):
+            news += 1
+            texts[text] = texts[text].replace(old, rest, 1)
+    if not olds or olds != news:
+        yield f"{name}: {olds} old lines and {news} new ones"
 
 
 def long_subjects():

@@ -1,7 +1,8 @@
 //! The graph that the whole workspace speaks of, and slow functions that do to plain lists what its definitions say:
 //! [`plain_apply`] applies a batch, [`plain_reply`] answers a request. The fast layers are compared with them.
 //!
-//! The types and definitions stand in `graph_types`, which names no algorithm, and are handed on here. Levels, labels and core
+//! The types and definitions stand in `graph_types`, which names no algorithm, and are handed on here, as is the copy of the pins
+//! by which a collection goes. Levels, labels and core
 //! numbers over a content are each computed in a simple way. Their contracts are the definitions: the least length of a walk,
 //! the least vertex that a walk joins, and core numbers as Seidman has them (Network structure and minimum degree, 1983), over
 //! the edges that a filter lets through.
@@ -21,6 +22,7 @@ mod walks;
 
 pub use apply::{PlainError, plain_apply};
 pub use arcs::shows;
+pub use block_reclamation::PinCopy;
 pub use cores::plain_cores;
 pub use graph_types::{
     AskError, Batch, Content, Degree, Edge, EdgeChange, EdgeMarks, Filter, KindId, List, Name,

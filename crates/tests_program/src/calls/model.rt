@@ -4,7 +4,7 @@ ghost use Rattle.graph_types.specs.Graph.{IsContent};
 
 use graph_model::{
     AskError, Batch, Content, Degree, Edge, Filter, KindId, List, Name, NamedFilter, NamedOp,
-    Outcome, PlainError, PushError, Reply, Request, VertexId, is_kind_name, is_name, plain_apply,
+    Outcome, PinCopy, PlainError, PushError, Reply, Request, VertexId, is_kind_name, is_name, plain_apply,
     plain_reply,
 };
 use std::alloc::Global;
@@ -37,10 +37,24 @@ fn edge() -> (Edge, Filter) {
     (edge, filter)
 }
 
-fn pushes(alloc: Global, op: NamedOp) -> (Result<(), PushError>, usize, usize) {
+fn pushes(alloc: Global, op: NamedOp) -> (Result<(), PushError>, usize, usize, bool) {
     let mut batch = Batch::new(alloc);
     let pushed = batch.push(op);
-    (pushed, batch.len(), batch.ops().len())
+    (pushed, batch.len(), batch.ops().len(), batch.has_expire())
+}
+
+fn expires(time: u64) -> (NamedOp, Outcome) {
+    (NamedOp::Expire { time }, Outcome::Expired(0))
+}
+
+// The copy of the pins by which a collection goes.
+fn copies(pin: Option<u64>) -> (u64, bool) {
+    let copy = PinCopy {
+        last: 7,
+        settled: [pin; 16],
+        unsettled: [None; 16],
+    };
+    (copy.floor(), copy.needs(1, 2))
 }
 
 fn incr(kind: Name, source: Name, target: Name) -> NamedOp {

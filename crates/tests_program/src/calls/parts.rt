@@ -107,6 +107,12 @@ fn gives_back(pool: &mut Pool, number: u32, block: Option<Arc<Block>>)
     pool.give_back(number, block);
 }
 
+fn notes_births(pool: &mut Pool, number: u32, version: u64)
+    requires { is_in_use_at pool.old number ≡ true }
+{
+    pool.born(number, version);
+}
+
 fn retires(pool: &mut Pool, block: Arc<Block>, version: u64)
     requires { is_used_at pool.old (arc_value {X = Block} block).number ≡ true }
 {

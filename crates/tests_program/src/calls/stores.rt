@@ -14,7 +14,7 @@ use std::sync::{Arc, Wait};
 use std::thread::Threads;
 use stream_store::{
     ApplyError, BadConfig, Collected, Config, Desk, JournalEntry, Naming, OpenError, Opened,
-    PinnedSeat, Receipt, Seat, Session, Stat, Store, open_parts,
+    PinnedSeat, Receipt, Seat, Session, Stat, Store, open_parts, open_parts_from,
 };
 use version_shelf::{Board, SeatNo, ShelfError, ShelfReader, ShelfWriter, Told, shelf};
 
@@ -67,6 +67,18 @@ fn opens<R: Wait>(rt: &R, alloc: Global, config: Config) -> (Parts, Result<Opene
     (
         open_parts(rt, alloc, config),
         Store::open(rt, alloc, config),
+    )
+}
+
+fn opens_from<R: Wait>(
+    rt: &R,
+    alloc: Global,
+    config: Config,
+    version: &Version,
+) -> (Parts, Result<Opened, OpenError>) {
+    (
+        open_parts_from(rt, alloc, config, version),
+        Store::open_from(rt, alloc, config, version),
     )
 }
 

@@ -8,6 +8,9 @@ ghost use Rattle.graph_version.specs.Rows.{row_of};
 ghost use Rattle.batch_shards.specs.RowBlocks.{numbers_of};
 ghost use Rattle.graph_version.specs.Versions.{content, is_in};
 ghost use Rattle.graph_version.specs.Drafts.{IsWhole};
+ghost use Rattle.version_pages.specs.Sharing.{block_values};
+ghost use Rattle.graph_version.specs.Rebased.{AreCopies};
+ghost use Rattle.epoch_core.specs.Opened.{IsOpening};
 ghost use Rattle.batch_apply.specs.Planned.{IsPlan};
 
 use batch_apply::{Applied, Gate, PassAll, Plan, PlanError, apply, plan};
@@ -15,7 +18,9 @@ use edge_block::{Block, EdgeRef};
 use epoch_core::{Core, Event, OutOfMemory, Step, law_epoch, law_isolation, run};
 use graph_cores::{cores, degrees};
 use graph_levels::{LevelError, labels, levels};
-use graph_model::{AskError, Batch, Degree, Filter, KindId, Reply, VertexId};
+use graph_model::{
+    AskError, Batch, Content, Degree, Edge, Filter, KindId, List, PinCopy, Reply, VertexId,
+};
 use graph_version::{Version, VersionDraft};
 use std::alloc::{AllocError, Global};
 use std::sync::Arc;
@@ -72,6 +77,12 @@ fn finishes(draft: VersionDraft) -> Version
     draft.finish()
 }
 
+fn rebases(version: &Version, blocks: Vec<Arc<Block>>) -> (Result<Version, AllocError>, &Content)
+    requires { AreCopies version.now.rows (block_values blocks.items) }
+{
+    (version.rebased(blocks), version.opening())
+}
+
 fn plans(alloc: Global, version: &Version, batch: &Batch) -> Result<Plan, PlanError> {
     plan(alloc, version, batch, 8)
 }
@@ -126,6 +137,20 @@ fn machines(alloc: Global) -> Result<Core, OutOfMemory> {
     law_isolation();
     law_epoch();
     Core::new(alloc, 1, 2)
+}
+
+fn machines_over(
+    alloc: Global,
+    content: &Content,
+    lists: &[(u32, List<Edge>)],
+) -> Result<Core, OutOfMemory>
+    requires { IsOpening 2 content.now lists.now }
+{
+    Core::opened(alloc, 1, 2, content, lists)
+}
+
+fn copied(core: &Core) -> PinCopy {
+    core.copied()
 }
 
 type Stepped = (Result<Step, OutOfMemory>, Result<u32, OutOfMemory>);
