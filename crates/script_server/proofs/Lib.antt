@@ -6,3 +6,4 @@ pub mod RunTexts
 pub mod RunEnd
 pub mod OneText
 pub mod SomeText
+pub mod SessionLines

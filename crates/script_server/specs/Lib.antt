@@ -3,4 +3,5 @@ pub mod Writes
 pub mod Runs
 pub mod Executions
 pub mod Laws
+pub mod Sessions
 pub mod Examples

@@ -2,6 +2,7 @@
 
 ghost use Rattle.script_server.specs.Examples.{AreExamples};
 ghost use Rattle.script_server.specs.Laws.{HasOneText, HasSomeText};
+ghost use Rattle.script_server.specs.Sessions.{AgreeingSlotsAreToldAlike, LinesAreAnswers, TellsOfEachSlot};
 
 /// A script has one text: no definition leaves a choice, also where a request's answer is given by a relation.
 pub fn law_one_text()
@@ -11,6 +12,21 @@ pub fn law_one_text()
 /// A script of fewer than 1,000,000 records has a text: each record comes to something, in each state that a run reaches.
 pub fn law_some_text()
     ensures { HasSomeText }
+{}
+
+/// What the sessions of a slot are told, whatever other records stand between theirs.
+///
+/// - `each`: each text that a script prints says what befell each slot, and what the slot's requests came to.
+/// - `answers`, in one script: these are, one by one, the answers to the requests of the slot's holdings, each over what the
+///   batches up to the held version leave.
+/// - `alike`, in two scripts, over any set-ups: where two slots have as many holdings, of versions of equal content and with
+///   equal lists of requests, the k-th requests get one answer; at slots of one number the same lines or the same word, beside
+///   which an error line has its record's number. So records of others behind a slot's `open` change nothing of what the slot
+///   is told, but a `rebase`, which closes it.
+pub fn law_session_lines()
+    ensures each { TellsOfEachSlot }
+    ensures answers { LinesAreAnswers }
+    ensures alike { AgreeingSlotsAreToldAlike }
 {}
 
 /// The examples that are worked out by hand.

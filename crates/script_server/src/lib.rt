@@ -8,7 +8,7 @@ mod output;
 mod script;
 mod sink;
 
-pub use laws::{law_examples, law_one_text, law_some_text};
+pub use laws::{law_examples, law_one_text, law_session_lines, law_some_text};
 pub use output::write_text;
 pub use script::{ServeFault, Summary, run_script, serve};
 pub use script_commands::{Response, Server, Stop};
