@@ -1,5 +1,5 @@
 -- What a slot is told are the answers to the requests of its holdings.
-use Rattle.std.proofs.Common.{◌≡◌, ℕ, zero, suc, ◌+◌, ◌≤◌, ◌==◌, Bool, true, false, List, [], ◌∷◌, ◌++◌, length, map, replicate, take}
+use Rattle.std.proofs.Common.{◌≡◌, ℕ, zero, suc, ◌≤◌, ◌==◌, Bool, true, false, List, [], ◌∷◌, ◌++◌, length, map, replicate}
 use Rattle.std.proofs.Common.{refl, sym, ap, subst, ◌∙◌, arith}
 use Rattle.std.proofs.lemmas.{Bool.{eqb-true, eqb-false}, List.{length-append, take_all, take-append-le}}
 use Rattle.std.proofs.lemmas.List.Elements.{same_from_all_zip}
@@ -9,7 +9,7 @@ use Rattle.feed_csv.specs.declared.command.Command.TheVariants.{Op, Commit, Open
 use Rattle.graph_types.{proofs.OneAnswer.one_answer, specs.{Graph.Graph, Step.left_by, declared.requests.Request.Request}}
 use Rattle.epoch_core.specs.{Holdings.{Observation, Entered, Replied, Released, answered_first, holdings_of, questions}}
 use Rattle.epoch_core.{specs.Machine.Question, proofs.Lists.{set_same, set_else}}
-use Rattle.script_lines.specs.{declared.words.Word.Word, Lines.open_line}
+use Rattle.script_lines.specs.{declared.words.Word.Word}
 use Rattle.script_commands.specs.States.{Held, IsRecordResult, IsReplied, Progress, RecordResult, ServerState, Setup, after_commit}
 use Rattle.script_commands.specs.States.{after_item, after_record, answer_result, beginning, close_result, last_held, last_version}
 use Rattle.script_commands.specs.States.{lines_unless, open_refusal, rebase_result, rebased, version, version_in}
