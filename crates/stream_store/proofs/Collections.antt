@@ -46,6 +46,7 @@ opened_kept book blocks workers v zero_is some few = record {
   book_is = refl;
   opening_is = refl;
   posted_is = sym zero_is.alone;
+  shown_is = sym zero_is.alone;
   workers_some = some;
   workers_few = few;
   room_is = let none = marked_unretired (numbers_of (blocks_of v.rows)) (replicate blocks Free) (none_retired blocks) in omega

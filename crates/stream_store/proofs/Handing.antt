@@ -202,13 +202,14 @@ end_fits h end entries capacity before dropped is retired many fits =
     let room = end_room h end is in let ok = h.prepared.dropped.ok in omega (arith, ok.0)
 
 pub end_kept : (h : Handing) (new : DeskState) (shelf : ShelfView) (entries room : ℕ) → new.desk ≡ next_desk (application h)
-    → shelf.book ≡ new.book → shelf.opening ≡ h.old.last.opening → shelf.posted ≡ (version_of h).batches → 1 ≤ new.workers
-    → new.workers ≤ 8 → entries + count_by is_retired new.desk.pool ≤ room → IsDeskState new shelf entries room
-end_kept h new shelf entries room is book opening posted some few fits = record {
+    → shelf.book ≡ new.book → shelf.opening ≡ h.old.last.opening → shelf.posted ≡ (version_of h).batches
+    → shelf.shown ≡ (version_of h).batches → 1 ≤ new.workers → new.workers ≤ 8 → entries + count_by is_retired new.desk.pool ≤ room → IsDeskState new shelf entries room
+end_kept h new shelf entries room is book opening posted shown some few fits = record {
   desk = subst IsDesk (sym is) (made_desk (application h));
   book_is = book;
   opening_is = opening ∙ sym h.is_prepared.opening ∙ ap (λ (d : DeskView). d.last.opening) (sym is);
   posted_is = posted ∙ ap (λ (d : DeskView). d.last.batches) (sym is);
+  shown_is = shown ∙ ap (λ (d : DeskView). d.last.batches) (sym is);
   workers_some = some;
   workers_few = few;
   room_is = fits;

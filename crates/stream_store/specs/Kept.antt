@@ -28,13 +28,14 @@ state_of book workers opened last journal pool = record {
       record { opened = opened; last = last; journal = map entry_of journal; pool = pool };
 }
 
--- it is a desk, the shelf has posted the last version's batches, and the journal's spare room is never below the number
--- of retired blocks, so that a collection takes no memory
+-- it is a desk, the shelf has posted the last version's batches and readers find these, and the journal's spare room is never
+-- below the number of retired blocks, so that a collection takes no memory
 pub record IsDeskState (d : DeskState) (shelf : ShelfView) (entries room : ℕ) : Type 0 where
   pub desk : IsDesk d.desk
   pub book_is : shelf.book ≡ d.book
   pub opening_is : shelf.opening ≡ d.desk.last.opening
   pub posted_is : shelf.posted ≡ d.desk.last.batches
+  pub shown_is : shelf.shown ≡ d.desk.last.batches
   pub workers_some : 1 ≤ d.workers
   pub workers_few : d.workers ≤ 8
   pub room_is : entries + count_by is_retired d.desk.pool ≤ room

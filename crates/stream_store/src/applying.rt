@@ -213,6 +213,7 @@ fn post<R: Wait>(
 ) -> Result<Told, AllocError>
     requires { IsNext shelf.old (arc_value {X = Version} version.now) }
     ensures posted { OnOk result (shelf.new.posted ≡ (arc_value {X = Version} version.now).batches) }
+    ensures shown { OnOk result (shelf.new.shown ≡ (arc_value {X = Version} version.now).batches) }
     ensures told { IfOk result (λ told. told
         ≡ record { book = shelf.old.book; version = arc_value {X = Version} version.now }) }
     ensures same { (shelf.new.book ≡ shelf.old.book) × (shelf.new.opening ≡ shelf.old.opening) }
@@ -239,6 +240,7 @@ pub(crate) fn publish<R: Wait>(
     ensures room { OnOk result (vec_len journal.new + room ≤ vec_capacity journal.new) }
     ensures last { OnOk result (arc_value {X = Version} last.new ≡ arc_value {X = Version} version) }
     ensures posted { OnOk result (shelf.new.posted ≡ (arc_value {X = Version} version).batches) }
+    ensures shown { OnOk result (shelf.new.shown ≡ (arc_value {X = Version} version).batches) }
     ensures told { IfOk result (λ told. told ≡ record { book = shelf.old.book; version = arc_value {X = Version} version }) }
     ensures same { (shelf.new.book ≡ shelf.old.book) × (shelf.new.opening ≡ shelf.old.opening) }
     ensures unchanged { OnErr result ((journal.new.items ≡ journal.old.items) × (vec_len journal.new ≡ vec_len journal.old)

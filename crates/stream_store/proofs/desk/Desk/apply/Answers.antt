@@ -159,7 +159,7 @@ invariant_of-self-2 g c =
     c.move_blocks.ensures in
     let end = end_desk h c.self.inside.opened (arc_value {X = Version} c.publish.new.last) c.publish.new.journal.items c.self.inside.journal.items
     c.move_blocks.new.pool refl refl p.last p.entered pool in
-    end_kept h _ c.publish.new.shelf _ _ end refl (p.same.1 ∙ c.self.invariant.opening_is) p.posted
+    end_kept h _ c.publish.new.shelf _ _ end refl (p.same.1 ∙ c.self.invariant.opening_is) p.posted p.shown
     c.self.invariant.workers_some c.self.invariant.workers_few
     (end_fits h c.move_blocks.new.pool _ _ c.retired.result c.len.result pool c.retired.ensures.count c.len.ensures p.room)
 
