@@ -4,8 +4,8 @@ ghost use Rattle.graph_types.specs.Graph.{IsContent};
 
 use graph_model::{
     AskError, Batch, Content, Degree, Edge, Filter, KindId, List, Name, NamedFilter, NamedOp,
-    Outcome, PinCopy, PlainError, PushError, Reply, Request, VertexId, is_kind_name, is_name, plain_apply,
-    plain_reply,
+    Outcome, PinCopy, PlainError, PushError, Reply, Request, VertexId, is_kind_name, is_name,
+    plain_apply, plain_reply,
 };
 use std::alloc::Global;
 

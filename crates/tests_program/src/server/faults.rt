@@ -10,8 +10,8 @@ use super::{
 };
 use feed_csv::{Feed, FeedWord};
 use script_server::{
-    Config, ServeFault, Sink, Summary, Unwritten, law_examples, law_one_text, law_some_text,
-    run_script, write_text,
+    Config, ServeFault, Sink, Summary, Unwritten, law_examples, law_one_text, law_session_lines,
+    law_some_text, run_script, write_text,
 };
 use std::io::ErrorKind;
 use std::process::Abort;
@@ -105,6 +105,7 @@ fn counts_records_errors_and_pending_operations(rt: HostRuntime) {
     assert!(rt; writer.writes == 3 && writer.flushed, "one write a line");
     law_one_text();
     law_some_text();
+    law_session_lines();
     law_examples();
 }
 
