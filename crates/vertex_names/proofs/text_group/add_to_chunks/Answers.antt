@@ -1,8 +1,8 @@
 use Rattle.std.proofs.{Common.{◌≡◌, ◌∙◌, ◌/◌, ap, inl, inr, rules, arith}, lemmas.Result.IfErr-at_err}
 use Rattle.std.specs.{Result.IsOk, declared.sync.Arc.Arc, declared.alloc.Global.Global}
-use Rattle.vertex_names.specs.{Texts.names_in, declared.texts.Chunk.Chunk}
+use Rattle.vertex_names.specs.{Texts.names_in, declared.chunk.Chunk.Chunk}
 use Rattle.list_pieces.proofs.{Pieces.{begun_piece, last_there, same_last, pushed_last}, Shown.always-OnErr}
-use Rattle.vertex_names.proofs.texts.add_text.Goals as goal
+use Rattle.vertex_names.proofs.text_group.add_to_chunks.Goals as goal
 
 pub returns-then-len-eq0-clause-chunks : goal.returns-then-len-eq0-clause-chunks
 returns-then-len-eq0-clause-chunks c =
