@@ -140,10 +140,10 @@ fn names() -> impl Iterator<Item = String> {
     (10_000_000..).map(|number| format!("n{number}"))
 }
 
-/// Names as a stranger would choose them: their hashes are all in one of the 64 parts of a book's index, and come in falling
+/// Names as a stranger would choose them: their hashes are all in one of the 512 parts of a book's index, and come in falling
 /// order, so that each goes before all others, and each split leaves a piece half full.
 fn chosen_names() -> Vec<String> {
-    let mut found: Vec<_> = names().filter(|name| hash_of(name) % 64 == 0).take(NAMES).collect();
+    let mut found: Vec<_> = names().filter(|name| hash_of(name) % 512 == 0).take(NAMES).collect();
     found.sort_by_key(|name| std::cmp::Reverse(hash_of(name)));
     found
 }

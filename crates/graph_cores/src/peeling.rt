@@ -34,7 +34,7 @@ pub fn cores_over<E: ViewEdges>(alloc: Global, edges: &E) -> Result<Vec<u32>, Al
 fn peel(alloc: Global, rows: &Rows, count: usize) -> Result<Vec<u32>, AllocError>
     requires rows { IsRows count rows.now }
     requires few { count ≤ 65536 }
-    requires short { (v : ℕ) → length (row_of rows.now v) ≤ 65536 }
+    requires short { (v : ℕ) → length (row_of rows.now v) ≤ count }
     ensures { IfOk result (λ cores. (f : Filter) (g : Graph) → AreNeighbors f g (row_of rows.now)
         → IsTable count (IsCoreNumber f g) cores.items) }
 {
@@ -56,7 +56,8 @@ fn rounds(
     vertices: Vec<u32>,
 ) -> Result<(), AllocError>
     requires rows { IsRows (length cores.old) rows.now }
-    requires short { (v : ℕ) → length (row_of rows.now v) ≤ 65536 }
+    requires few { length cores.old ≤ 65536 }
+    requires short { (v : ℕ) → length (row_of rows.now v) ≤ length cores.old }
     requires alive { alive.old ≡ replicate (length cores.old) true }
     requires degrees_long { length degrees.old ≡ length cores.old }
     requires degrees { (v : ℕ) → at degrees.old v ≡ length (row_of rows.now v) }
@@ -68,7 +69,7 @@ fn rounds(
     let mut left = vertices;
     let mut more = Vec::with_capacity(alloc, cores.len())?;
     let mut stack = Vec::with_capacity(alloc, cores.len())?;
-    for k in 0..65537 {
+    for k in 0..cores.len() as u32 + 1 {
         if left.is_empty() {
             return Ok(());
         }

@@ -49,7 +49,7 @@ impl Model for VersionDraft {
 
 impl VersionDraft {
     /// A draft of a version like this one. It shares the rows, the batches and the names: one reference for each
-    /// 1,024 rows, one for each 1,024 batches, and one for all of a book's names.
+    /// 65,536 rows, one for each 8,192 batches, and one for all of a book's names.
     pub fn over(version: &Version) -> Result<VersionDraft, AllocError>
         ensures { IfOk result (λ draft. draft ≡ drafted_over version.now) }
     {

@@ -1,3 +1,4 @@
 pub mod Full
+pub mod Padded
 pub mod Pieces
 pub mod Shown

@@ -6,7 +6,7 @@ use Rattle.std.proofs.lemmas.List.Elements.{All-nil, All-push, All-append, All-h
 use Rattle.std.{proofs.Math.{ListN.get_or-eq_default, Nat.mul-le-mul_right}, specs.List.list_any}
 use Rattle.graph_types.specs.Step.{is_before}
 use Rattle.edge_block.specs.Slots.{BlockView, Slot, edges_in, has_before}
-use Rattle.list_pieces.{specs.Pieces.AreFull, proofs.Full.{long, at_piece}}
+use Rattle.list_pieces.{specs.Pieces.{AreFull, padded}, proofs.{Full.{long, at_piece}, Padded.{padded_at, padded_long}}}
 use Rattle.version_pages.specs.{Ages.is_old_row, Ages.AreSince, Ages.AreYoung, Rows.row_of}
 
 any_fewer : {X : Type 0} (p q : X → Bool) → ((x : X) → q x ≡ false → p x ≡ false) → (xs : List X)
@@ -126,14 +126,36 @@ none_past time from source rows young end s le =
 
 -- rows that are young so far, and so many more
 pub young_on : (time from source many : ℕ) (rows : List (List BlockView))
-    → ((s : ℕ) → from ≤ s → s < source → is_old_row time (row_of rows s) ≡ false) → AreYoung time rows source many
+    → ((s : ℕ) → from ≤ s → s < source → is_old_row time (row_of rows s) ≡ false)
+    → ((s : ℕ) → source ≤ s → s < source + many → is_old_row time (row_of rows s) ≡ false)
     → (s : ℕ) → from ≤ s → s < source + many → is_old_row time (row_of rows s) ≡ false
 young_on time from source many rows young more s le lt =
     elim (ltb s source) as (λ b. ltb s source ≡ b → is_old_row time (row_of rows s) ≡ false) [
       | true ↦ λ t. young s le (ltb-true s source t)
-      | false ↦ λ f. more.young s (ltb-false s source f) lt
+      | false ↦ λ f. more s (ltb-false s source f) lt
     ] refl
 
 -- rows without blocks
 pub bounded_blank : (t n : ℕ) → AreSince t (replicate n [])
 bounded_blank t n = All-replicate (λ (row : List BlockView). is_old_row t row ≡ false) n [] refl
+
+-- rows without blocks from a place on are young
+pub young_blank : (time place n : ℕ) (rows : List (List BlockView)) → length rows ≡ n → place < n
+    → ((s : ℕ) → place ≤ s → row_of rows s ≡ []) → AreYoung time rows place (n - place)
+young_blank time place n rows whole within blank = record {
+  within = omega arith;
+  young = λ s from to. ap (is_old_row time) (blank s from);
+  old = λ none. absurd (omega arith);
+}
+
+-- young rows are so with empty ones behind all
+pub young_padded : (time n place many : ℕ) (rows : List (List BlockView)) → length rows ≤ n → AreYoung time rows place many
+    → AreYoung time (padded n [] rows) place many
+young_padded time n place many rows le young =
+    let whole = padded_long n [] rows le in
+    let few = young.within in
+    record {
+      within = omega arith;
+      young = λ s from to. ap (is_old_row time) (padded_at n [] rows s) ∙ young.young s from to;
+      old = λ none. ap (is_old_row time) (padded_at n [] rows place) ∙ young.old none;
+    }

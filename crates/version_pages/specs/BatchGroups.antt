@@ -1,4 +1,4 @@
--- Batches in groups of 1,024.
+-- Batches in groups of 256.
 use Rattle.std.specs.{Prelude.{List, flat_map}, Arc.arc_value, declared.{sync.Arc.Arc, alloc.Global.Global}}
 use Rattle.graph_types.specs.declared.batches.NamedOp.{NamedOp}
 use Rattle.list_pieces.specs.Pieces.{ArePieces}
@@ -11,4 +11,4 @@ abbrev pub in_groups : List (Arc BatchGroup Global) → List (List NamedOp)
 in_groups groups = flat_map in_group groups
 
 abbrev pub AreGroups : List (Arc BatchGroup Global) → Type 0
-AreGroups groups = ArePieces 1024 in_group groups
+AreGroups groups = ArePieces 256 in_group groups

@@ -4,7 +4,9 @@ pub mod Ages
 pub mod Parts
 pub mod RowPages
 pub mod RowGroups
+pub mod RowHalls
 pub mod Batches
 pub mod BatchPages
 pub mod BatchGroups
+pub mod BatchHalls
 pub mod BatchLending

@@ -1,6 +1,6 @@
 -- Rows of blocks, one for each source. They are read by look-up alone: a row past the last is empty, so that
 -- empty rows at the end are never seen.
-use Rattle.std.specs.Prelude.{◌≡◌, ℕ, ◌==◌, List, [], get_or, map, flat_map, if◌then◌else◌}
+use Rattle.std.specs.Prelude.{◌≡◌, ◌≤◌, ℕ, ◌==◌, List, [], get_or, map, flat_map, if◌then◌else◌}
 use Rattle.edge_block.specs.Slots.{BlockView}
 
 -- a source's row
@@ -17,3 +17,7 @@ blocks_of rows = flat_map (λ row. row) rows
 
 abbrev pub numbers_of : List BlockView → List ℕ
 numbers_of blocks = map (λ b. b.number) blocks
+
+-- no source from one on has a block
+abbrev pub IsBlankFrom : ℕ → List (List BlockView) → Type 0
+IsBlankFrom from rows = (s : ℕ) → from ≤ s → row_of rows s ≡ []

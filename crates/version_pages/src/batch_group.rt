@@ -11,10 +11,13 @@ use std::marker::Model;
 use std::sync::Arc;
 use std::vec::VecCloneMethods;
 
-/// How many pages stand in one group.
-const PAGES: usize = 32;
+/// How many batches stand in one group.
+pub(crate) const GROUP: usize = 256;
 
-/// At most 1,024 batches that follow one another, in pages of 32 that copies share.
+/// How many pages stand in one group.
+const PAGES: usize = 16;
+
+/// At most 256 batches that follow one another, in pages of 16 that copies share.
 pub(crate) struct BatchGroup {
     len: usize,
     pages: Vec<Arc<BatchPage>>,

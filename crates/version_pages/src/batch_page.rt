@@ -10,9 +10,9 @@ use std::sync::Arc;
 use std::vec::VecCloneMethods;
 
 /// How many batches stand in one page.
-pub(crate) const PAGE: usize = 32;
+pub(crate) const PAGE: usize = 16;
 
-/// At most 32 batches that follow one another.
+/// At most 16 batches that follow one another.
 pub(crate) struct BatchPage {
     batches: Vec<Arc<Batch>>,
 }

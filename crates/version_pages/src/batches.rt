@@ -4,21 +4,21 @@ ghost use Rattle.std.specs.Prelude.{◌≡◌, ◌<◌, ◌≤◌, ◌^◌, ◌+
 ghost use Rattle.std.specs.Prelude.{MatchOption, OnOk, OnErr};
 ghost use Rattle.graph_types.specs.declared.batches.NamedOp.{NamedOp};
 ghost use Rattle.version_pages.specs.Batches.{batch_value};
-ghost use Rattle.version_pages.specs.BatchGroups.{in_groups, AreGroups};
+ghost use Rattle.version_pages.specs.BatchHalls.{in_halls, AreHalls};
 
-use crate::batch_group::BatchGroup;
+use crate::batch_hall::BatchHall;
 use graph_types::Batch;
 use std::alloc::{AllocError, Global};
 use std::marker::Model;
 use std::sync::Arc;
 
-/// How many batches stand in one group.
-const GROUP: usize = 1_024;
+/// How many batches stand in one hall.
+const HALL: usize = 8_192;
 
-/// Batches in order, in groups of 1,024 that copies share.
+/// Batches in order, in halls of 8,192 that copies share.
 pub struct BatchList {
     len: usize,
-    groups: Vec<Arc<BatchGroup>>,
+    halls: Vec<Arc<BatchHall>>,
 }
 
 // Written by hand: who lets one go rests on this function, and not on how each part is let go.
@@ -26,7 +26,7 @@ impl Drop for BatchList {
     fn drop(self) {
         let BatchList {
             len: _len,
-            groups: _groups,
+            halls: _halls,
         } = self;
     }
 }
@@ -34,13 +34,13 @@ impl Drop for BatchList {
 impl Model for BatchList {
     ghost use Rattle.std.specs.Prelude.{◌≡◌, ◌<◌, ◌^◌, List, length};
     ghost use Rattle.graph_types.specs.declared.batches.NamedOp.{NamedOp};
-    ghost use Rattle.version_pages.specs.BatchGroups.{in_groups, AreGroups};
+    ghost use Rattle.version_pages.specs.BatchHalls.{in_halls, AreHalls};
 
     ghost Value = { List (List NamedOp) };
 
-    ghost view = { λ list. in_groups list.groups.items };
+    ghost view = { λ list. in_halls list.halls.items };
 
-    ghost invariant = { λ list. (length (in_groups list.groups.items) ≡ list.len) × AreGroups list.groups.items
+    ghost invariant = { λ list. (length (in_halls list.halls.items) ≡ list.len) × AreHalls list.halls.items
         × (list.len < 2 ^ 64) };
 }
 
@@ -53,7 +53,7 @@ impl BatchList {
     {
         BatchList {
             len: 0,
-            groups: Vec::new(alloc),
+            halls: Vec::new(alloc),
         }
     }
 
@@ -69,7 +69,7 @@ impl BatchList {
         ensures batch { option_copied result ≡ slice_get self.now place }
         ensures few { length self.now < 2 ^ 64 }
     {
-        self.groups.get(place / GROUP)?.get(place % GROUP)
+        self.halls.get(place / HALL)?.get(place % HALL)
     }
 
     /// The last batch.
@@ -90,50 +90,50 @@ impl BatchList {
         }
     }
 
-    /// Adds a batch at the end: one page and its group's references are made or copied, and all else is shared. After
-    /// a refused growth the list is as before.
+    /// Adds a batch at the end: one page and the references of its group and hall are made or copied, and all else is
+    /// shared. After a refused growth the list is as before.
     pub fn push(&mut self, batch: Arc<Batch>) -> Result<(), AllocError>
         requires { length self.old < 2 ^ 32 }
         ensures pushed { OnOk result (self.new ≡ self.old ++ batch_value batch ∷ []) }
         ensures unchanged { OnErr result (self.new ≡ self.old) }
     {
-        let alloc = *self.groups.allocator();
-        add_to_groups(alloc, &mut self.groups, self.len, batch)?;
+        let alloc = *self.halls.allocator();
+        add_to_halls(alloc, &mut self.halls, self.len, batch)?;
         self.len += 1;
         Ok(())
     }
 
-    /// An equal list, all of whose groups are shared: one reference for each 1,024 batches.
+    /// An equal list, all of whose halls are shared: one reference for each 8,192 batches.
     pub fn share(&self) -> Result<BatchList, AllocError>
         ensures { IfOk result (λ copy. copy ≡ self.now) }
     {
         Ok(BatchList {
             len: self.len,
-            groups: self.groups.clone()?,
+            halls: self.halls.clone()?,
         })
     }
 }
 
-/// One more batch after the last: in a new group where all are full, and otherwise in the last group, or in a copy
+/// One more batch after the last: in a new hall where all are full, and otherwise in the last hall, or in a copy
 /// of it where other lists have it.
-fn add_to_groups(
+fn add_to_halls(
     alloc: Global,
-    groups: &mut Vec<Arc<BatchGroup>>,
+    halls: &mut Vec<Arc<BatchHall>>,
     len: usize,
     batch: Arc<Batch>,
 ) -> Result<(), AllocError>
-    requires len { length (in_groups groups.old.items) ≡ len }
-    requires groups { AreGroups groups.old.items }
-    ensures added { OnOk result (in_groups groups.new.items ≡ in_groups groups.old.items ++ batch_value batch ∷ []) }
-    ensures unchanged { OnErr result (in_groups groups.new.items ≡ in_groups groups.old.items) }
-    ensures groups { AreGroups groups.new.items }
+    requires len { length (in_halls halls.old.items) ≡ len }
+    requires halls { AreHalls halls.old.items }
+    ensures added { OnOk result (in_halls halls.new.items ≡ in_halls halls.old.items ++ batch_value batch ∷ []) }
+    ensures unchanged { OnErr result (in_halls halls.new.items ≡ in_halls halls.old.items) }
+    ensures halls { AreHalls halls.new.items }
 {
-    if len % GROUP == 0 {
-        let group = Arc::new(alloc, BatchGroup::of(alloc, batch)?)?;
-        groups.push(group)?;
+    if len % HALL == 0 {
+        let hall = Arc::new(alloc, BatchHall::of(alloc, batch)?)?;
+        halls.push(hall)?;
         return Ok(());
     }
-    Arc::make_mut(&mut groups[len / GROUP])?.push(batch)
+    Arc::make_mut(&mut halls[len / HALL])?.push(batch)
 }
 
 /// The batches of a list that are still to be lent, in order.

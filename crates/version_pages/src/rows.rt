@@ -4,41 +4,48 @@ ghost use Rattle.std.specs.Prelude.{◌≡◌, ◌*◌, ◌^◌, ◌<◌, ◌≤
 ghost use Rattle.version_pages.specs.Rows.{row_of, Replaces};
 ghost use Rattle.version_pages.specs.Sharing.{block_values};
 ghost use Rattle.version_pages.specs.Ages.{IsNextOld};
-ghost use Rattle.version_pages.specs.RowGroups.{in_groups, AreGroups};
+ghost use Rattle.version_pages.specs.RowHalls.{in_halls, AreHalls};
 
 use crate::row::Row;
-use crate::row_group::Group;
+use crate::row_hall::Hall;
 use edge_block::Block;
 use graph_types::VertexId;
 use std::alloc::{AllocError, Global};
 use std::marker::Model;
 use std::sync::Arc;
 
-/// How many rows stand in one group.
-const GROUP: usize = 1_024;
+/// How many rows stand in one hall.
+const HALL: usize = 65_536;
 
-/// The rows of all sources, in groups that versions share. They never change; a change makes new ones.
+/// The rows of all sources, in halls that versions share. They never change; a change makes new ones.
 pub struct Rows {
-    groups: Vec<Arc<Group>>,
+    len: usize,
+    halls: Vec<Arc<Hall>>,
 }
 
 // Written by hand: who lets one go rests on this function, and not on how each part is let go.
 impl Drop for Rows {
     fn drop(self) {
-        let Rows { groups: _groups } = self;
+        let Rows {
+            len: _len,
+            halls: _halls,
+        } = self;
     }
 }
 
 impl Model for Rows {
-    ghost use Rattle.std.specs.Prelude.{List, ◌≤◌, ◌^◌, length};
+    ghost use Rattle.std.specs.Prelude.{◌≤◌, ◌*◌, ◌^◌, List, length, take};
     ghost use Rattle.edge_block.specs.Slots.{BlockView};
-    ghost use Rattle.version_pages.specs.RowGroups.{in_groups, AreGroups};
+    ghost use Rattle.version_pages.specs.Rows.{IsBlankFrom};
+    ghost use Rattle.version_pages.specs.RowHalls.{in_halls, AreHalls};
 
     ghost Value = { List (List BlockView) };
 
-    ghost view = { λ rows. in_groups rows.groups.items };
+    ghost view = { λ rows. take rows.len (in_halls rows.halls.items) };
 
-    ghost invariant = { λ rows. AreGroups rows.groups.items × (length rows.groups.items ≤ 2 ^ 22) };
+    // (the rows of halls past the last one that was written are empty)
+    ghost invariant = { λ rows. AreHalls rows.halls.items × (length rows.halls.items ≤ 2 ^ 16)
+        × (rows.len ≤ length rows.halls.items * 65536) × IsBlankFrom rows.len (in_halls rows.halls.items) };
 }
 
 impl Rows {
@@ -47,7 +54,8 @@ impl Rows {
         ensures { result ≡ [] }
     {
         Rows {
-            groups: Vec::new(alloc),
+            len: 0,
+            halls: Vec::new(alloc),
         }
     }
 
@@ -56,7 +64,7 @@ impl Rows {
         ensures count { result ≡ length self.now }
         ensures few { length self.now ≤ 2 ^ 32 }
     {
-        self.groups.len() * GROUP
+        self.len
     }
 
     /// The blocks of a source's row, in order.
@@ -64,9 +72,9 @@ impl Rows {
         ensures { block_values result.now ≡ row_of self.now source.0 }
     {
         let source = source.0 as usize;
-        match self.groups.get(source / GROUP) {
+        match self.halls.get(source / HALL) {
             None => &[],
-            Some(group) => group.row(source % GROUP),
+            Some(hall) => hall.row(source % HALL),
         }
     }
 
@@ -78,8 +86,8 @@ impl Rows {
         ensures { IsNextOld time self.now from.0 result }
     {
         let mut source = from.0 as usize;
-        while let Some(group) = self.groups.get(source / GROUP) {
-            let young = group.young_from(source % GROUP, time);
+        while source < self.len {
+            let young = self.halls[source / HALL].young_from(source % HALL, time);
             if young == 0 {
                 return Some(VertexId(source as u32));
             }
@@ -88,63 +96,68 @@ impl Rows {
         None
     }
 
-    /// Equal rows, all of whose groups are shared: one reference for each 1,024 rows.
+    /// Equal rows, all of whose halls are shared: one reference for each 65,536 rows.
     pub fn share(&self) -> Result<Rows, AllocError>
         ensures { IfOk result (λ rows. rows ≡ self.now) }
     {
         Ok(Rows {
-            groups: self.groups.clone()?,
+            len: self.len,
+            halls: self.halls.clone()?,
         })
     }
 
-    /// The rows with these blocks as the row of a source. Other rows that share its group, page or part keep theirs.
+    /// The rows with these blocks as the row of a source. Other rows that share its hall, group, page or part keep theirs.
     ///
     /// After a refused growth the rows are given up.
-    pub fn replace_row(
-        mut self,
-        source: VertexId,
-        blocks: Vec<Arc<Block>>,
-    ) -> Result<Rows, AllocError>
+    pub fn replace_row(self, source: VertexId, blocks: Vec<Arc<Block>>) -> Result<Rows, AllocError>
         ensures { IfOk result (λ rows. Replaces source.0 (block_values blocks.items) self rows) }
     {
-        let alloc = *self.groups.allocator();
+        let alloc = *self.halls.allocator();
         let row = Row::of(alloc, blocks)?;
-        put_row(alloc, &mut self.groups, source.0 as usize, row)?;
-        Ok(self)
+        let source = source.0 as usize;
+        let Rows { len, mut halls } = self;
+        put_row(alloc, &mut halls, source, row)?;
+        Ok(Rows {
+            len: len.max(source + 1),
+            halls,
+        })
     }
 }
 
-/// Adds groups of empty rows up to a count.
-fn add_groups(alloc: Global, groups: &mut Vec<Arc<Group>>, count: usize) -> Result<(), AllocError>
-    requires groups { AreGroups groups.old.items }
-    requires few { length groups.old.items ≤ 2 ^ 22 }
-    requires count { count ≤ 2 ^ 22 }
-    ensures enough { OnOk result (count ≤ length groups.new.items) }
-    ensures same { (s : ℕ) → row_of (in_groups groups.new.items) s ≡ row_of (in_groups groups.old.items) s }
-    ensures groups { AreGroups groups.new.items }
-    ensures few { length groups.new.items ≤ 2 ^ 22 }
+/// Adds halls of empty rows up to a count.
+fn add_halls(alloc: Global, halls: &mut Vec<Arc<Hall>>, count: usize) -> Result<(), AllocError>
+    requires halls { AreHalls halls.old.items }
+    requires few { length halls.old.items ≤ 2 ^ 16 }
+    requires count { count ≤ 2 ^ 16 }
+    ensures enough { OnOk result (count ≤ length halls.new.items) }
+    ensures same { (s : ℕ) → row_of (in_halls halls.new.items) s ≡ row_of (in_halls halls.old.items) s }
+    ensures halls { AreHalls halls.new.items }
+    ensures more { length halls.old.items ≤ length halls.new.items }
+    ensures few { length halls.new.items ≤ 2 ^ 16 }
 {
-    while groups.len() < count {
-        let group = Arc::new(alloc, Group::blank(alloc)?)?;
-        groups.push(group)?;
+    while halls.len() < count {
+        let hall = Arc::new(alloc, Hall::blank(alloc))?;
+        halls.push(hall)?;
     }
     Ok(())
 }
 
-/// Writes a source's row into its group, page and part, into copies of these where other versions have them.
+/// Writes a source's row into its hall, group, page and part, into copies of these where other versions have them.
 fn put_row(
     alloc: Global,
-    groups: &mut Vec<Arc<Group>>,
+    halls: &mut Vec<Arc<Hall>>,
     source: usize,
     row: Row,
 ) -> Result<(), AllocError>
-    requires groups { AreGroups groups.old.items }
-    requires few { length groups.old.items ≤ 2 ^ 22 }
+    requires halls { AreHalls halls.old.items }
+    requires few { length halls.old.items ≤ 2 ^ 16 }
     requires source { source < 2 ^ 32 }
-    ensures rows { OnOk result (Replaces source row (in_groups groups.old.items) (in_groups groups.new.items)) }
-    ensures groups { AreGroups groups.new.items }
-    ensures few { length groups.new.items ≤ 2 ^ 22 }
+    ensures rows { OnOk result (Replaces source row (in_halls halls.old.items) (in_halls halls.new.items)) }
+    ensures enough { OnOk result (source < length halls.new.items * 65536) }
+    ensures halls { AreHalls halls.new.items }
+    ensures more { length halls.old.items ≤ length halls.new.items }
+    ensures few { length halls.new.items ≤ 2 ^ 16 }
 {
-    add_groups(alloc, groups, source / GROUP + 1)?;
-    Arc::make_mut(&mut groups[source / GROUP])?.put(source % GROUP, row)
+    add_halls(alloc, halls, source / HALL + 1)?;
+    Arc::make_mut(&mut halls[source / HALL])?.put(alloc, source % HALL, row)
 }

@@ -68,29 +68,29 @@ listed_at names j name distinct at =
     (listed, omega (arith, below, above))
 
 -- a listed name's number stands at its hash
-stands : (names : List (List ℕ)) (parts : List (List (ℕ × List (ℕ × ℕ)))) (others : List ℕ) (name : List ℕ)
-    → IsIndexed names parts others → IsTrue (is_listed names name) → Stands parts others (text_hash name) (number_of names name)
-stands names parts others name indexed listed =
+stands : (names : List (List ℕ)) (shelves : List (List (List (ℕ × List (ℕ × ℕ))))) (others : List ℕ) (name : List ℕ)
+    → IsIndexed names shelves others → IsTrue (is_listed names name) → Stands shelves others (text_hash name) (number_of names name)
+stands names shelves others name indexed listed =
     let there = at_number names name listed in
-    subst (λ (n : List ℕ). Stands parts others (text_hash n) (number_of names name))
+    subst (λ (n : List ℕ). Stands shelves others (text_hash n) (number_of names name))
     (get_or_from_slice_get names (number_of names name) name [] there)
     (indexed (number_of names name) (slice_get_within names (number_of names name) name there))
 
 -- where nothing stands at a name's hash, it is not listed
-pub none_listed : (names : List (List ℕ)) (parts : List (List (ℕ × List (ℕ × ℕ)))) (others : List ℕ) (name : List ℕ)
-    → IsIndexed names parts others → found_at parts (text_hash name) ≡ None → ¬ IsTrue (is_listed names name)
-none_listed names parts others name indexed none listed =
-    elim (stands names parts others name indexed listed) [
+pub none_listed : (names : List (List ℕ)) (shelves : List (List (List (ℕ × List (ℕ × ℕ))))) (others : List ℕ) (name : List ℕ)
+    → IsIndexed names shelves others → found_at shelves (text_hash name) ≡ None → ¬ IsTrue (is_listed names name)
+none_listed names shelves others name indexed none listed =
+    elim (stands names shelves others name indexed listed) [
       | inl at ↦ none-some (number_of names name) (sym none ∙ at)
       | inr among ↦ among.0 none
     ]
 
 -- where a name is neither at the number of its hash nor among the others, it is not listed
-pub not_among : (names : List (List ℕ)) (parts : List (List (ℕ × List (ℕ × ℕ)))) (others : List ℕ) (name : List ℕ) (first : ℕ)
-    → IsIndexed names parts others → found_at parts (text_hash name) ≡ Some first → ¬ (slice_get names first ≡ Some name)
+pub not_among : (names : List (List ℕ)) (shelves : List (List (List (ℕ × List (ℕ × ℕ))))) (others : List ℕ) (name : List ℕ) (first : ℕ)
+    → IsIndexed names shelves others → found_at shelves (text_hash name) ≡ Some first → ¬ (slice_get names first ≡ Some name)
     → All (λ number. slice_get names number ≢ Some name) others → ¬ IsTrue (is_listed names name)
-not_among names parts others name first indexed found other none listed =
-    elim (stands names parts others name indexed listed) [
+not_among names shelves others name first indexed found other none listed =
+    elim (stands names shelves others name indexed listed) [
       | inl at ↦
           let same : first ≡ number_of names name = same_Some _ _ (sym found ∙ at) in
           other (ap (λ n. slice_get names n) same ∙ at_number names name listed)
@@ -100,37 +100,37 @@ not_among names parts others name first indexed found other none listed =
     ]
 
 -- what a search of the others finds is the number
-pub SomeIff-among : (names : List (List ℕ)) (parts : List (List (ℕ × List (ℕ × ℕ)))) (others : List ℕ) (name : List ℕ) (first : ℕ)
-    (result : Option ℕ) → AllPairs (λ a b. a ≢ b) names → IsIndexed names parts others
-    → found_at parts (text_hash name) ≡ Some first → ¬ (slice_get names first ≡ Some name)
+pub SomeIff-among : (names : List (List ℕ)) (shelves : List (List (List (ℕ × List (ℕ × ℕ))))) (others : List ℕ) (name : List ℕ) (first : ℕ)
+    (result : Option ℕ) → AllPairs (λ a b. a ≢ b) names → IsIndexed names shelves others
+    → found_at shelves (text_hash name) ≡ Some first → ¬ (slice_get names first ≡ Some name)
     → IfSome result (λ number. slice_get names number ≡ Some name)
     → IfNone result (All (λ number. slice_get names number ≢ Some name) others)
     → SomeIff result (IsTrue (is_listed names name)) (number_of names name)
-SomeIff-among names parts others name first None distinct indexed found other is_there absent =
-    not_among names parts others name first indexed found other absent
-SomeIff-among names parts others name first (Some number) distinct indexed found other is_there absent =
+SomeIff-among names shelves others name first None distinct indexed found other is_there absent =
+    not_among names shelves others name first indexed found other absent
+SomeIff-among names shelves others name first (Some number) distinct indexed found other is_there absent =
     listed_at names number name distinct is_there
 
 -- another index that keeps what stands
-pub IsIndexed-kept : (names : List (List ℕ)) (parts kept : List (List (ℕ × List (ℕ × ℕ)))) (others more : List ℕ)
-    → IsIndexed names parts others → ((q i : ℕ) → Stands parts others q i → Stands kept more q i) → IsIndexed names kept more
-IsIndexed-kept names parts kept others more indexed keeps i lt = keeps (text_hash (get_or names i [])) i (indexed i lt)
+pub IsIndexed-kept : (names : List (List ℕ)) (shelves kept : List (List (List (ℕ × List (ℕ × ℕ))))) (others more : List ℕ)
+    → IsIndexed names shelves others → ((q i : ℕ) → Stands shelves others q i → Stands kept more q i) → IsIndexed names kept more
+IsIndexed-kept names shelves kept others more indexed keeps i lt = keeps (text_hash (get_or names i [])) i (indexed i lt)
 
 lt_or_last : (i n : ℕ) → i < n + 1 → (i < n) ⊎ (i ≡ n)
 lt_or_last i n lt = elim (eqb_tells i n) [ inl same ↦ inr same.1 | inr other ↦ inl (omega (arith, lt, other.1)) ]
 
 -- one more name, whose number stands
-pub IsIndexed-pushed : (names : List (List ℕ)) (parts : List (List (ℕ × List (ℕ × ℕ)))) (others : List ℕ) (name : List ℕ)
-    → IsIndexed names parts others → Stands parts others (text_hash name) (length names)
-    → IsIndexed (names ++ name ∷ []) parts others
-IsIndexed-pushed names parts others name indexed new i lt =
+pub IsIndexed-pushed : (names : List (List ℕ)) (shelves : List (List (List (ℕ × List (ℕ × ℕ))))) (others : List ℕ) (name : List ℕ)
+    → IsIndexed names shelves others → Stands shelves others (text_hash name) (length names)
+    → IsIndexed (names ++ name ∷ []) shelves others
+IsIndexed-pushed names shelves others name indexed new i lt =
     let long = length-append names (name ∷ []) in
     elim (lt_or_last i (length names) (omega arith)) [
-      | inl before ↦ subst (λ (n : List ℕ). Stands parts others (text_hash n) i)
+      | inl before ↦ subst (λ (n : List ℕ). Stands shelves others (text_hash n) i)
           (sym (get_or_append_left names (name ∷ []) [] i before)) (indexed i before)
       | inr last ↦
           let here : get_or (names ++ name ∷ []) i [] ≡ name =
           ap (λ n. get_or (names ++ name ∷ []) n []) last ∙ get_or-append_seam names name [] [] in
-          subst (λ (n : ℕ). Stands parts others (text_hash (get_or (names ++ name ∷ []) i [])) n) (sym last)
-          (subst (λ (n : List ℕ). Stands parts others (text_hash n) (length names)) (sym here) new)
+          subst (λ (n : ℕ). Stands shelves others (text_hash (get_or (names ++ name ∷ []) i [])) n) (sym last)
+          (subst (λ (n : List ℕ). Stands shelves others (text_hash n) (length names)) (sym here) new)
     ]

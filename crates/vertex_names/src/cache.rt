@@ -8,9 +8,6 @@ use std::sync::atomic::Ordering::Relaxed;
 /// How many slots a cache has at first.
 const FEWEST: usize = 16;
 
-/// How many slots a cache has at most.
-const MOST: usize = 1 << 15;
-
 /// Half of a word: a slot has a half of a name's short hash, and a number.
 const HALF: u64 = 1 << 32;
 
@@ -70,7 +67,7 @@ fn larger(alloc: Global, cache: &Option<Arc<Cache>>, names: usize) -> Option<Arc
         None => 0,
         Some(cache) => cache.slots.len(),
     };
-    if names < slots || slots >= MOST {
+    if names < slots {
         return None;
     }
     let cache = Cache::with_slots(alloc, slots.saturating_mul(2).max(FEWEST)).ok()?;

@@ -1,14 +1,14 @@
 ghost use Rattle.std.specs.Prelude.{◌≡◌, ◌≤◌, ◌%◌, ◌<◌, ℕ, [], length, get_or, nat_eq, Some, IfOk, OnOk, OnErr, if◌then◌else◌};
-ghost use Rattle.vertex_names.specs.Index.{text_hash, found_at, parts_of};
+ghost use Rattle.vertex_names.specs.Index.{text_hash, found_at, shelves_of};
 
-use crate::part::Part;
+use crate::shelf::Shelf;
 use std::alloc::{AllocError, Global};
 use std::hash::{DefaultHasher, Hasher};
 use std::marker::Model;
 use std::sync::Arc;
 
-/// How many parts there are.
-const PARTS: usize = 64;
+/// How many shelves there are.
+const SHELVES: usize = 32;
 
 /// The hash of a text. Everybody knows its keys, but two texts with one hash take some 2^32 trials to find, and each further
 /// pair more.
@@ -20,25 +20,25 @@ pub(crate) fn hash_of(text: &str) -> u64
     hasher.finish()
 }
 
-/// From hashes to numbers, in parts that copies share.
+/// From hashes to numbers, in shelves of parts that copies share.
 pub(crate) struct HashIndex {
-    parts: Vec<Arc<Part>>,
+    shelves: Vec<Arc<Shelf>>,
 }
 
 // By hand, so that who lets one go need not take it apart.
 impl Drop for HashIndex {
     fn drop(self) {
-        let HashIndex { parts: _parts } = self;
+        let HashIndex { shelves: _shelves } = self;
     }
 }
 
 impl Model for HashIndex {
     ghost use Rattle.std.specs.Prelude.{ℕ, List};
-    ghost use Rattle.vertex_names.specs.Index.{parts_of};
+    ghost use Rattle.vertex_names.specs.Index.{shelves_of};
 
-    ghost Value = { List (List (ℕ × List (ℕ × ℕ))) };
+    ghost Value = { List (List (List (ℕ × List (ℕ × ℕ)))) };
 
-    ghost view = { λ x. parts_of x.parts.items };
+    ghost view = { λ x. shelves_of x.shelves.items };
 }
 
 impl HashIndex {
@@ -47,7 +47,7 @@ impl HashIndex {
         ensures { result ≡ [] }
     {
         HashIndex {
-            parts: Vec::new(alloc),
+            shelves: Vec::new(alloc),
         }
     }
 
@@ -55,7 +55,7 @@ impl HashIndex {
     pub(crate) fn first(&self, hash: u64) -> Option<u32>
         ensures { result ≡ found_at self.now hash }
     {
-        self.parts.get((hash % 64) as usize)?.first(hash)
+        self.shelves.get((hash % 32) as usize)?.first(hash)
     }
 
     /// Puts a number at a hash.
@@ -63,8 +63,8 @@ impl HashIndex {
         ensures put { OnOk result ((q : ℕ) → found_at self.new q ≡ (if nat_eq hash q then Some number else found_at self.old q)) }
         ensures unchanged { OnErr result ((q : ℕ) → found_at self.new q ≡ found_at self.old q) }
     {
-        make_parts(alloc, &mut self.parts)?;
-        put_in(alloc, &mut self.parts, (hash % 64) as usize, hash, number)
+        make_shelves(alloc, &mut self.shelves)?;
+        put_in(alloc, &mut self.shelves, (hash % 32) as usize, hash, number)
     }
 
     /// An equal index.
@@ -72,36 +72,36 @@ impl HashIndex {
         ensures { IfOk result (λ copy. copy ≡ self.now) }
     {
         Ok(HashIndex {
-            parts: self.parts.clone()?,
+            shelves: self.shelves.clone()?,
         })
     }
 }
 
-/// Makes the parts that are not there.
-fn make_parts(alloc: Global, parts: &mut Vec<Arc<Part>>) -> Result<(), AllocError>
-    ensures whole { OnOk result (64 ≤ length parts.new.items) }
-    ensures same { (i : ℕ) → get_or (parts_of parts.new.items) i [] ≡ get_or (parts_of parts.old.items) i [] }
+/// Makes the shelves that are not there.
+fn make_shelves(alloc: Global, shelves: &mut Vec<Arc<Shelf>>) -> Result<(), AllocError>
+    ensures whole { OnOk result (32 ≤ length shelves.new.items) }
+    ensures same { (i : ℕ) → get_or (shelves_of shelves.new.items) i [] ≡ get_or (shelves_of shelves.old.items) i [] }
 {
-    while parts.len() < PARTS {
-        let part = Arc::new(alloc, Part::new(alloc))?;
-        parts.push(part)?;
+    while shelves.len() < SHELVES {
+        let shelf = Arc::new(alloc, Shelf::new(alloc))?;
+        shelves.push(shelf)?;
     }
     Ok(())
 }
 
-/// Puts a number into its part, into a copy of the part where others have it.
+/// Puts a number on its shelf, on a copy of the shelf where others have it.
 fn put_in(
     alloc: Global,
-    parts: &mut Vec<Arc<Part>>,
+    shelves: &mut Vec<Arc<Shelf>>,
     place: usize,
     hash: u64,
     number: u32,
 ) -> Result<(), AllocError>
-    requires place { place ≡ hash % 64 }
-    requires whole { 64 ≤ length parts.old.items }
-    ensures put { OnOk result ((q : ℕ) → found_at (parts_of parts.new.items) q
-        ≡ (if nat_eq hash q then Some number else found_at (parts_of parts.old.items) q)) }
-    ensures unchanged { OnErr result ((q : ℕ) → found_at (parts_of parts.new.items) q ≡ found_at (parts_of parts.old.items) q) }
+    requires place { place ≡ hash % 32 }
+    requires whole { 32 ≤ length shelves.old.items }
+    ensures put { OnOk result ((q : ℕ) → found_at (shelves_of shelves.new.items) q
+        ≡ (if nat_eq hash q then Some number else found_at (shelves_of shelves.old.items) q)) }
+    ensures unchanged { OnErr result ((q : ℕ) → found_at (shelves_of shelves.new.items) q ≡ found_at (shelves_of shelves.old.items) q) }
 {
-    Arc::make_mut(&mut parts[place])?.put(alloc, hash, number)
+    Arc::make_mut(&mut shelves[place])?.put(alloc, hash, number)
 }

@@ -10,11 +10,14 @@
 
 mod book;
 mod cache;
+mod chunk;
 mod index;
 mod part;
 mod piece;
 mod same;
+mod shelf;
 mod tables;
+mod text_group;
 mod texts;
 
 pub use book::{AddError, NameBook};

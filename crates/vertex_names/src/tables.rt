@@ -6,8 +6,9 @@ ghost use Rattle.graph_types.specs.Answer.{is_listed};
 ghost use Rattle.vertex_names.specs.Index.{text_hash, Stands};
 ghost use Rattle.vertex_names.specs.Tables.{names_of};
 
+use crate::chunk::Entry;
 use crate::index::HashIndex;
-use crate::texts::{Entry, Texts};
+use crate::texts::Texts;
 use std::alloc::{AllocError, Global};
 use std::marker::Model;
 use std::sync::Arc;

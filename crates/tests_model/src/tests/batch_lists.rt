@@ -19,7 +19,7 @@ fn batch(alloc: Global, time: u64) -> Result<Arc<Batch>, AllocError> {
 
 // Adds a batch of this time.
 fn add(alloc: Global, list: &mut BatchList, time: u64) -> Result<(), AllocError> {
-    if list.len() < 2000 {
+    if list.len() < 10_000 {
         list.push(batch(alloc, time)?)?;
     }
     Ok(())
@@ -83,9 +83,9 @@ fn check_next(rt: &impl Abort, alloc: Global, list: &BatchList, times: usize) {
 }
 
 #[test]
-fn adds_a_batch_at_the_ends_of_pages_and_groups(rt: HostRuntime) {
+fn adds_a_batch_at_the_ends_of_pages_groups_and_halls(rt: HostRuntime) {
     assert!(&rt; BatchList::new(rt.alloc()).last().is_none());
-    for times in [0, 1, 31, 32, 33, 1023, 1024] {
+    for times in [0, 1, 15, 16, 17, 255, 256, 8191, 8192] {
         let mut list = BatchList::new(rt.alloc());
         fill(rt.alloc(), &mut list, times).expect(&rt, "batches");
         check_next(&rt, rt.alloc(), &list, times as usize);

@@ -154,6 +154,33 @@ fn shares_at_the_end_of_a_chunk(rt: HostRuntime) {
     }
 }
 
+// The book has so many names 0, 1 .., looked up at both ends.
+fn check_ends(rt: &impl Abort, alloc: Global, book: &NameBook, len: u32) {
+    let last = len.saturating_sub(1);
+    assert_numbered(rt, book, "0", 0);
+    assert_numbered(rt, book, plain(rt, alloc, last).as_str(), last);
+    assert_absent(rt, book, plain(rt, alloc, len).as_str(), len);
+}
+
+// Adds the name of that number beside a book that shares the names before, which is as it was at its ends.
+fn check_group(rt: &impl Abort, alloc: Global, book: &mut NameBook, number: u32) {
+    let before = book.share().expect(rt, "a book");
+    add_plain(rt, alloc, book, number);
+    check_ends(rt, alloc, &before, number);
+    check_ends(rt, alloc, book, number.saturating_add(1));
+}
+
+#[test]
+fn shares_at_the_end_of_a_group(rt: HostRuntime) {
+    let mut book = NameBook::new(rt.alloc(), 40_000);
+    for number in 0..32_766u32 {
+        add_plain(&rt, rt.alloc(), &mut book, number);
+    }
+    for number in 32_766..32_770u32 {
+        check_group(&rt, rt.alloc(), &mut book, number);
+    }
+}
+
 #[test]
 fn refused_names_leave_the_book(rt: HostRuntime) {
     let mut book = NameBook::new(rt.alloc(), 5);

@@ -53,13 +53,7 @@ fn check_change(rt: &impl Abort, before: &Rows, after: &Rows, source: u32) {
     assert_row(rt, after, source, 5, 1);
     assert_row(rt, after, source.saturating_add(1), 6, 2);
     assert_row(rt, after, source.saturating_add(2), 0, 0);
-    same(
-        rt,
-        before.len(),
-        (source as usize / 1024)
-            .saturating_add(1)
-            .saturating_mul(1024),
-    );
+    same(rt, before.len(), (source as usize).saturating_add(1));
 }
 
 fn changed(
@@ -87,9 +81,11 @@ fn check_again(rt: &impl Abort, alloc: Global, before: &Rows) {
 }
 
 #[test]
-fn changes_one_row_at_the_ends_of_parts_pages_and_groups(rt: HostRuntime) {
+fn changes_one_row_at_the_ends_of_parts_pages_groups_and_halls(rt: HostRuntime) {
     let none = Rows::new(rt.alloc());
-    for source in [0, 7, 8, 63, 64, 65, 511, 512, 1023, 1024, 4096] {
+    for source in [
+        0, 7, 8, 63, 64, 65, 511, 512, 1023, 1024, 4096, 65534, 65535, 65536, 131071,
+    ] {
         let before = changed(&rt, rt.alloc(), &none, source, 5, 1);
         check_source(&rt, rt.alloc(), &before, source);
     }
@@ -177,7 +173,7 @@ fn check_next(rt: &impl Abort, rows: &Rows, source: u32, recent: u64) {
 #[test]
 fn finds_the_next_old_row_at_the_ends_of_pages_and_times(rt: HostRuntime) {
     let none = Rows::new(rt.alloc());
-    for source in [0, 63, 64, 1023, 1024, 65_535] {
+    for source in [0, 63, 64, 1023, 1024, 65_535, 65_536, 140_000] {
         for recent in [0, GREATEST] {
             let rows = touched(&rt, rt.alloc(), &none, source, 1, recent);
             check_next(&rt, &rows, source, recent);

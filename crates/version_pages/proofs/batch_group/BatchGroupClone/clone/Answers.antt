@@ -11,7 +11,7 @@ invariant_of-result c =
     subst (λ (xs : List (Arc BatchPage Global)). AllZip (λ x y. in_page y ≡ in_page x) xs ys) c.deref.ensures.value same in
     let whole : c.extend_from_slice.new.self.items ≡ ys = all ∙ ap (λ l. l ++ ys) c.in_ok-pages.ensures.items in (
       ap (λ l. length (flat_map in_page l)) whole ∙ ap length (zipped_flat in_page _ _ zipped) ∙ c.self.invariant.0,
-      subst ArePages (sym whole) (zipped_pieces 32 in_page _ _ zipped c.self.invariant.1),
+      subst ArePages (sym whole) (zipped_pieces 16 in_page _ _ zipped c.self.invariant.1),
     )
 
 pub returns : goal.returns

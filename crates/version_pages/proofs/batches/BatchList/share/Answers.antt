@@ -1,14 +1,14 @@
 use Rattle.std.proofs.Common.{◌∙◌, ap, length}
-use Rattle.version_pages.specs.BatchGroups.{in_group}
+use Rattle.version_pages.specs.BatchHalls.{in_hall}
 use Rattle.list_pieces.proofs.{Pieces.zipped_pieces, Shown.zipped_flat}
 use Rattle.version_pages.proofs.batches.BatchList.share.Goals as goal
 
 pub invariant_of-result : goal.invariant_of-result
 invariant_of-result c = (
-  ap length (zipped_flat in_group _ _ c.in_ok-clone.ensures.cases.0) ∙ c.self.invariant.0,
-  zipped_pieces 1024 in_group _ _ c.in_ok-clone.ensures.cases.0 c.self.invariant.1,
+  ap length (zipped_flat in_hall _ _ c.in_ok-clone.ensures.cases.0) ∙ c.self.invariant.0,
+  zipped_pieces 8192 in_hall _ _ c.in_ok-clone.ensures.cases.0 c.self.invariant.1,
   c.self.invariant.2,
 )
 
 pub returns : goal.returns
-returns c = rw (← c.self.view_is) (zipped_flat in_group _ _ c.in_ok-clone.ensures.cases.0)
+returns c = rw (← c.self.view_is) (zipped_flat in_hall _ _ c.in_ok-clone.ensures.cases.0)

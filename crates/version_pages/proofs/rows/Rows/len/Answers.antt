@@ -1,18 +1,20 @@
-use Rattle.std.proofs.Common.{◌≤◌, ◌^◌, length, arith}
-use Rattle.version_pages.specs.RowGroups.{in_group}
+use Rattle.std.proofs.{Common.{◌≤◌, ◌*◌, ◌^◌, length, arith, sym}, lemmas.List.length-take-le}
+use Rattle.version_pages.specs.RowHalls.{in_hall, in_halls}
 use Rattle.list_pieces.proofs.Full.{long}
 use Rattle.version_pages.proofs.rows.Rows.len.Goals as goal
 
-pub overflow_mul-result : goal.overflow_mul-result
-overflow_mul-result c = let few : length c.self.inside.groups.items ≤ 2 ^ 22 = c.self.invariant.1 in omega arith
-
 pub returns-clause-count : goal.returns-clause-count
 returns-clause-count c =
-    let whole = long 1024 in_group c.self.inside.groups.items c.self.invariant.0 in
-    rw (← c.self.view_is) (omega (arith, whole, c.len.ensures))
+    let halls = c.self.inside.halls.items in
+    let whole = long 65536 in_hall halls c.self.invariant.0 in
+    let within : c.self.inside.len ≤ length halls * 65536 = c.self.invariant.2 in
+    rw (← c.self.view_is) (sym (length-take-le c.self.inside.len (in_halls halls) (omega (arith, whole, within))))
 
 pub returns-clause-few : goal.returns-clause-few
 returns-clause-few c =
-    let whole = long 1024 in_group c.self.inside.groups.items c.self.invariant.0 in
-    let few : length c.self.inside.groups.items ≤ 2 ^ 22 = c.self.invariant.1 in
-    rw (← c.self.view_is) (omega (arith, whole, few))
+    let halls = c.self.inside.halls.items in
+    let whole = long 65536 in_hall halls c.self.invariant.0 in
+    let within : c.self.inside.len ≤ length halls * 65536 = c.self.invariant.2 in
+    let few : length halls ≤ 2 ^ 16 = c.self.invariant.1 in
+    let cut = length-take-le c.self.inside.len (in_halls halls) (omega (arith, whole, within)) in
+    rw (← c.self.view_is) (omega (arith, cut, within, few))

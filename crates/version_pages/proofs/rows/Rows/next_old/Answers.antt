@@ -1,57 +1,68 @@
-use Rattle.std.proofs.Common.{◌≡◌, ◌∙◌, ◌+◌, ◌≤◌, ◌<◌, ◌/◌, ◌%◌, ℕ, List, length, get_or, ap, sym, subst, arith}
-use Rattle.std.{proofs.lemmas.Bool.ltb-false, specs.declared.{sync.Arc.Arc, alloc.Global.Global}}
+use Rattle.std.proofs.Common.{◌≡◌, ◌∙◌, ◌≤◌, ◌<◌, ◌/◌, ◌%◌, ◌*◌, ℕ, [], List, length, get_or, take, ap, sym, subst, arith}
+use Rattle.std.{proofs.lemmas.List.length-take-le, specs.declared.{sync.Arc.Arc, alloc.Global.Global}}
 use Rattle.edge_block.specs.Slots.{BlockView}
-use Rattle.version_pages.specs.{Ages.AreYoung, RowGroups.{AreGroups, in_group, in_groups}, declared.row_group.Group.Group}
-use Rattle.version_pages.proofs.Ages.{none_past, young_in_pieces, young_on}
-use Rattle.list_pieces.proofs.Full.{long}
+use Rattle.version_pages.specs.{Ages.{AreYoung, is_old_row}, Rows.{row_of, IsBlankFrom}, RowHalls.{AreHalls, in_hall, in_halls}}
+use Rattle.version_pages.{specs.declared.row_hall.Hall.Hall, proofs.Ages.{none_past, young_in_pieces, young_on}}
+use Rattle.list_pieces.proofs.{Full.long, Padded.cut_at}
 use Rattle.version_pages.proofs.rows.Rows.next_old.Goals as goal
 
--- young rows of the group that a look-up found are so among all
-young_at : (time : ℕ) (groups lent : List (Arc Group Global)) (rows page : List (List BlockView)) (source many : ℕ)
-    (group : Arc Group Global) → AreGroups groups → in_groups groups ≡ rows → lent ≡ groups
-    → (source / 1024 < length lent) × ((d : Arc Group Global) → group ≡ get_or lent (source / 1024) d) → page ≡ in_group group
-    → AreYoung time page (source % 1024) many → AreYoung time rows source many
-young_at time groups lent rows page source many group are is same (lt, found) shown young =
-    let here : group ≡ get_or groups (source / 1024) group = found group ∙ ap (λ l. get_or l (source / 1024) group) same in
-    let within : source / 1024 < length groups = subst (λ (l : List (Arc Group Global)). source / 1024 < length l) same lt in
-    subst (λ (all : List (List BlockView)). AreYoung time all source many) is
-    (young_in_pieces in_group 1024 time groups source (source / 1024) (source % 1024) group many are (omega arith) within
-    (omega arith) (subst (λ (p : List (List BlockView)). AreYoung time p (source % 1024) many) (shown ∙ ap in_group here) young))
+-- young rows of a hall are so among all
+young_at : (time : ℕ) (halls : List (Arc Hall Global)) (page : List (List BlockView)) (source many : ℕ) (hall : Arc Hall Global)
+    → AreHalls halls → source / 65536 < length halls → hall ≡ get_or halls (source / 65536) hall → page ≡ in_hall hall
+    → AreYoung time page (source % 65536) many → AreYoung time (in_halls halls) source many
+young_at time halls page source many hall are within here shown young =
+    young_in_pieces in_hall 65536 time halls source (source / 65536) (source % 65536) hall many are (omega arith) within
+    (omega arith) (subst (λ (p : List (List BlockView)). AreYoung time p (source % 65536) many) (shown ∙ ap in_hall here) young)
+
+-- the rows that are shown are those of the halls
+same_row : (len : ℕ) (halls : List (Arc Hall Global)) (rows : List (List BlockView)) → take len (in_halls halls) ≡ rows
+    → IsBlankFrom len (in_halls halls) → (s : ℕ) → row_of rows s ≡ row_of (in_halls halls) s
+same_row len halls rows is blank s = ap (λ l. row_of l s) (sym is) ∙ cut_at len (in_halls halls) [] blank s
+
+same_len : (len : ℕ) (halls : List (Arc Hall Global)) (rows : List (List BlockView)) → take len (in_halls halls) ≡ rows
+    → AreHalls halls → len ≤ length halls * 65536 → length rows ≡ len
+same_len len halls rows is are le =
+    let whole = long 65536 in_hall halls are in
+    ap length (sym is) ∙ length-take-le len (in_halls halls) (omega (arith, whole, le))
 
 pub returns-then-young-eq0 : goal.returns-then-young-eq0
 returns-then-young-eq0 c =
-    let young = young_at c.args.time c.self.inside.groups.items c.deref.result.now c.args.self.now _ c.loop-group.source
-    c.young_from-young.result c.in-Some.group.now c.self.invariant.0 c.self.view_is c.deref.ensures.value
-    c.in-Some.ensures.lookup.3 c.deref-in-Some.ensures c.young_from-young.ensures in
-    (c.loop-group.invariant.from, young.old c.if-young-eq0.true, c.loop-group.invariant.young)
+    let halls : List (Arc Hall Global) = c.self.inside.halls.items in
+    let source : ℕ = c.loop-source.source in
+    let within : c.self.inside.len ≤ length halls * 65536 = c.self.invariant.2 in
+    let lt : source < c.self.inside.len = c.loop-source-test.true in
+    let young = young_at c.args.time halls c.deref.result.now source c.young_from-young.result c.index.result.now c.self.invariant.0
+    (omega (arith, within, lt)) c.index.ensures c.deref.ensures c.young_from-young.ensures in (
+      c.loop-source.invariant.from,
+      ap (is_old_row c.args.time) (same_row c.self.inside.len halls c.args.self.now c.self.view_is c.self.invariant.3 source)
+          ∙ young.old c.if-young-eq0.true,
+      c.loop-source.invariant.young,
+    )
 
-pub loop-group-smaller : goal.loop-group-smaller
-loop-group-smaller c =
-    let young = young_at c.args.time c.self.inside.groups.items c.deref.result.now c.args.self.now _ c.loop-group.source
-    c.young_from-young.result c.in-Some.group.now c.self.invariant.0 c.self.view_is c.deref.ensures.value
-    c.in-Some.ensures.lookup.3 c.deref-in-Some.ensures c.young_from-young.ensures in
-    let within : c.loop-group.source + c.young_from-young.result ≤ length c.args.self.now = young.within in
-    omega (arith, within, c.if-young-eq0.false)
+pub loop-source-smaller : goal.loop-source-smaller
+loop-source-smaller c =
+    let len = same_len c.self.inside.len c.self.inside.halls.items c.args.self.now c.self.view_is c.self.invariant.0 c.self.invariant.2 in
+    let lt : c.loop-source.source < c.self.inside.len = c.loop-source-test.true in
+    omega (arith, len, lt, c.if-young-eq0.false)
 
-pub loop-group-preserved : goal.loop-group-preserved
-loop-group-preserved c =
-    let young = young_at c.args.time c.self.inside.groups.items c.deref.result.now c.args.self.now _ c.loop-group.source
-    c.young_from-young.result c.in-Some.group.now c.self.invariant.0 c.self.view_is c.deref.ensures.value
-    c.in-Some.ensures.lookup.3 c.deref-in-Some.ensures c.young_from-young.ensures in
-    let from : c.args.from.0 ≤ c.loop-group.source = c.loop-group.invariant.from in
+pub loop-source-preserved : goal.loop-source-preserved
+loop-source-preserved c =
+    let halls : List (Arc Hall Global) = c.self.inside.halls.items in
+    let source : ℕ = c.loop-source.source in
+    let within : c.self.inside.len ≤ length halls * 65536 = c.self.invariant.2 in
+    let lt : source < c.self.inside.len = c.loop-source-test.true in
+    let young = young_at c.args.time halls c.deref.result.now source c.young_from-young.result c.index.result.now c.self.invariant.0
+    (omega (arith, within, lt)) c.index.ensures c.deref.ensures c.young_from-young.ensures in
+    let from : c.args.from.0 ≤ source = c.loop-source.invariant.from in
     record {
       from = omega arith;
-      young = young_on c.args.time c.args.from.0 c.loop-group.source c.young_from-young.result c.args.self.now
-          c.loop-group.invariant.young young;
+      young = young_on c.args.time c.args.from.0 source c.young_from-young.result c.args.self.now c.loop-source.invariant.young
+          (λ s ge less. ap (is_old_row c.args.time)
+          (same_row c.self.inside.len halls c.args.self.now c.self.view_is c.self.invariant.3 s) ∙ young.young s ge less);
     }
 
 pub returns : goal.returns
 returns c =
-    let source : ℕ = c.loop-group.source in
-    let groups : List (Arc Group Global) = c.self.inside.groups.items in
-    let past : length groups ≤ source / 1024 =
-    subst (λ (l : List (Arc Group Global)). length l ≤ source / 1024) c.deref.ensures.value
-    (ltb-false (source / 1024) (length c.deref.result.now) (sym c.in_default.ensures.lookup.0)) in
-    let whole = long 1024 in_group groups c.self.invariant.0 in
-    let same : length (in_groups groups) ≡ length c.args.self.now = ap length c.self.view_is in
-    none_past c.args.time c.args.from.0 source c.args.self.now c.loop-group.invariant.young (omega (arith, past, whole, same))
+    let len = same_len c.self.inside.len c.self.inside.halls.items c.args.self.now c.self.view_is c.self.invariant.0 c.self.invariant.2 in
+    none_past c.args.time c.args.from.0 c.loop-source.source c.args.self.now c.loop-source.invariant.young
+    (omega (arith, len, c.loop-source-test.false))

@@ -2,11 +2,11 @@ use Rattle.std.proofs.Common.{◌≡◌, ◌-◌, ◌≤◌, ◌<◌, ℕ, false
 use Rattle.version_pages.specs.{Ages.is_old_row, Rows.row_of}
 use Rattle.version_pages.proofs.rows.Rows.next_old.Given as goal
 
-abbrev pub invariant-loop-group : goal.invariant-loop-group
-invariant-loop-group l = record {
+abbrev pub invariant-loop-source : goal.invariant-loop-source
+invariant-loop-source l = record {
   from : l.fn.from.0 ≤ l.source;
   young : (s : ℕ) → l.fn.from.0 ≤ s → s < l.source → is_old_row l.time (row_of l.self s) ≡ false;
 }
 
-abbrev pub decreases-loop-group : goal.decreases-loop-group
-decreases-loop-group l = length l.self - l.source
+abbrev pub decreases-loop-source : goal.decreases-loop-source
+decreases-loop-source l = length l.self - l.source

@@ -1,29 +1,31 @@
 use Rattle.std.proofs.Common.{◌≡◌, ◌∙◌, ◌≤◌, ◌<◌, ◌/◌, ◌%◌, [], ap, sym, subst, List, length, get_or, arith}
 use Rattle.std.{proofs.lemmas.Bool.ltb-false, specs.declared.{sync.Arc.Arc, alloc.Global.Global}}
 use Rattle.edge_block.specs.Slots.{BlockView}
-use Rattle.version_pages.specs.{declared.row_group.Group.Group, RowGroups.in_group}
-use Rattle.list_pieces.proofs.Full.{at_piece, past_pieces}
+use Rattle.version_pages.specs.{declared.row_hall.Hall.Hall, RowHalls.{in_hall, in_halls}}
+use Rattle.list_pieces.proofs.{Full.{at_piece, past_pieces}, Padded.cut_at}
 use Rattle.version_pages.proofs.rows.Rows.row_blocks.Goals as goal
 
 pub returns-in-None : goal.returns-in-None
 returns-in-None c =
-    let past : length c.self.inside.groups.items ≤ c.args.source.0 / 1024 =
-    subst (λ (l : List (Arc Group Global)). length l ≤ c.args.source.0 / 1024) c.deref.ensures.value
-    (ltb-false (c.args.source.0 / 1024) (length c.deref.result.now) (sym c.in-None.ensures.lookup.0)) in
+    let past : length c.self.inside.halls.items ≤ c.args.source.0 / 65536 =
+    subst (λ (l : List (Arc Hall Global)). length l ≤ c.args.source.0 / 65536) c.deref.ensures.value
+    (ltb-false (c.args.source.0 / 65536) (length c.deref.result.now) (sym c.in-None.ensures.lookup.0)) in
     rw (← c.self.view_is)
-    (sym (past_pieces 1024 in_group c.self.inside.groups.items c.args.source.0 [] c.self.invariant.0 (omega arith)))
+    (sym (cut_at c.self.inside.len (in_halls c.self.inside.halls.items) [] c.self.invariant.3 c.args.source.0
+    ∙ past_pieces 65536 in_hall c.self.inside.halls.items c.args.source.0 [] c.self.invariant.0 (omega arith)))
 
 pub returns-in-Some : goal.returns-in-Some
 returns-in-Some c =
-    let groups : List (Arc Group Global) = c.self.inside.groups.items in
-    let lt : c.args.source.0 / 1024 < length groups =
-    subst (λ (l : List (Arc Group Global)). c.args.source.0 / 1024 < length l) c.deref.ensures.value c.in-Some.ensures.lookup.3.0 in
-    let group : Arc Group Global = c.in-Some.group.now in
-    let here : group ≡ get_or groups (c.args.source.0 / 1024) group =
-    c.in-Some.ensures.lookup.3.1 group ∙ ap (λ (l : List (Arc Group Global)). get_or l (c.args.source.0 / 1024) group)
+    let halls : List (Arc Hall Global) = c.self.inside.halls.items in
+    let lt : c.args.source.0 / 65536 < length halls =
+    subst (λ (l : List (Arc Hall Global)). c.args.source.0 / 65536 < length l) c.deref.ensures.value c.in-Some.ensures.lookup.3.0 in
+    let hall : Arc Hall Global = c.in-Some.hall.now in
+    let here : hall ≡ get_or halls (c.args.source.0 / 65536) hall =
+    c.in-Some.ensures.lookup.3.1 hall ∙ ap (λ (l : List (Arc Hall Global)). get_or l (c.args.source.0 / 65536) hall)
     c.deref.ensures.value in
     rw (← c.self.view_is)
-    (c.row.ensures ∙ ap (λ (p : List (List BlockView)). get_or p (c.args.source.0 % 1024) [])
-    (c.deref-in-Some.ensures ∙ ap in_group here)
-    ∙ sym (at_piece 1024 in_group groups c.args.source.0 (c.args.source.0 / 1024) (c.args.source.0 % 1024) group [] c.self.invariant.0
+    (c.row.ensures ∙ ap (λ (p : List (List BlockView)). get_or p (c.args.source.0 % 65536) [])
+    (c.deref-in-Some.ensures ∙ ap in_hall here)
+    ∙ sym (cut_at c.self.inside.len (in_halls halls) [] c.self.invariant.3 c.args.source.0
+    ∙ at_piece 65536 in_hall halls c.args.source.0 (c.args.source.0 / 65536) (c.args.source.0 % 65536) hall [] c.self.invariant.0
     (omega arith) lt (omega arith)))
