@@ -1,30 +1,21 @@
-//! A batch on its way to the desk: its plan and its blocks, what is made of it before anything changes, and its
-//! publication.
+//! A batch on its way to the desk, with workers: its plan, the next version, and its publication.
 
-ghost use Rattle.std.specs.Prelude.{◌≡◌, ◌≢◌, ◌+◌, ◌<◌, ◌≤◌, ◌^◌, ◌++◌, ◌∷◌, [], ℕ, List, length, IfOk, IfErr, OnOk, OnErr};
-ghost use Rattle.std.specs.Prelude.{AllPairs, All, false, count_by, vec_capacity, vec_len};
-ghost use Rattle.std.specs.List.{sum_by};
+ghost use Rattle.std.specs.Prelude.{◌≡◌, ◌+◌, ◌<◌, ℕ, length, count_by, IfOk, IfErr, OnOk, OnErr};
 ghost use Rattle.std.specs.Arc.{arc_value};
-ghost use Rattle.graph_types.specs.Limits.{batch_limit};
-ghost use Rattle.graph_version.specs.Rows as rows;
+ghost use Rattle.graph_types.specs.Step.{outcomes};
 ghost use Rattle.graph_version.specs.Batches.{batch_value};
-ghost use Rattle.graph_version.specs.Versions.{VersionView};
-ghost use Rattle.batch_apply.specs.Applied.{IsApplied};
-ghost use Rattle.batch_shards.specs.RowBlocks.{numbers_of};
+ghost use Rattle.graph_version.specs.Versions.{content};
 ghost use Rattle.graph_version.specs.declared.versions.Version.{Version};
-ghost use Rattle.block_reclamation.specs.Status.{is_listed, is_free, is_in_use};
-ghost use Rattle.block_pool.specs.Pools.{AreFree, marked};
-ghost use Rattle.block_reclamation.specs.declared.status.BlockStatus.TheVariants.{Granted};
+ghost use Rattle.block_reclamation.specs.Status.{is_free};
+ghost use Rattle.store_steps.specs.Steps.{Accepts};
 ghost use Rattle.version_shelf.specs.Shelves.{IsNext};
-ghost use Rattle.stream_store.specs.Applying.{IsPrepared};
-ghost use Rattle.stream_store.specs.Refusals.{Refuses, RefusesGrant, IsAdmitted, asked, workers_for};
+ghost use Rattle.desk.specs.Refusals.{Refuses, IsWithin};
+ghost use Rattle.stream_store.specs.Applying.{IsAdmitted, workers_for};
 
-use crate::entries::{JournalEntry, enter};
-use crate::receipts::ApplyError;
-use batch_apply::{Applied, Gate, Plan, PlanError, old_rows, plan_with};
-use block_pool::{Grant, Pool};
-use edge_block::Block;
-use graph_types::{Batch, List, Outcome};
+use crate::receipts::Receipt;
+use batch_apply::{Gate, Plan, PlanError, apply, old_rows, plan_with};
+use desk::{Accepted, ApplyError, Desk, Load, Ready};
+use graph_types::Batch;
 use graph_version::Version;
 use std::alloc::{AllocError, Global};
 use std::sync::{Arc, Wait};
@@ -72,137 +63,33 @@ pub(crate) fn plan_next<R: Threads + Sync>(
     }
 }
 
-/// How many blocks a batch asks for behind a version that uses so many.
-fn asked_by(batch: &Batch, used: u32) -> u32
-    requires { used ≤ 65536 }
-    ensures { result ≡ asked batch.now used }
-{
-    let more = if batch.has_expire() { used } else { 0 };
-    batch.len() as u32 + more
-}
-
-/// Grants as many blocks as a plan's shards may take, where all those are free that its batch asks for behind the version
-/// that uses the used ones.
-pub(crate) fn grant_blocks(pool: &mut Pool, batch: &Batch, plan: &Plan) -> Result<Grant, ApplyError>
-    requires { sum_by (λ n. n) plan.now.needs.items ≤ asked batch.now (count_by is_in_use pool.old) }
-    ensures numbers { IfOk result (λ g. AreFree pool.old g.numbers.items
-        × (length g.numbers.items ≡ sum_by (λ n. n) plan.now.needs.items)) }
-    ensures blocks { IfOk result (λ g. numbers_of g.blocks.items ≡ g.numbers.items) }
-    ensures used { IfOk result (λ g. pool.new ≡ marked g.numbers.items Granted pool.old) }
-    ensures enough { OnOk result (asked batch.now (count_by is_in_use pool.old) ≤ count_by is_free pool.old) }
-    ensures refused { IfErr result (RefusesGrant (asked batch.now (count_by is_in_use pool.old)) (count_by is_free pool.old)) }
-    ensures unchanged { OnErr result (pool.new ≡ pool.old) }
-{
-    let free = pool.free();
-    let asked = asked_by(batch, pool.used());
-    if asked > free {
-        return Err(ApplyError::PoolEmpty {
-            needed: asked,
-            free,
-        });
-    }
-    // So many are free, and so memory alone can be wanting.
-    let Ok(grant) = pool.grant(plan.blocks_needed() as u32) else {
-        return Err(ApplyError::OutOfMemory);
-    };
-    Ok(grant)
-}
-
-/// The number of the version after this one.
-pub(crate) fn next_number(last: &Version) -> u64
-    requires { length last.now.batches < batch_limit }
-    ensures { result ≡ length last.now.batches + 1 }
-{
-    last.number() + 1
-}
-
-/// What is made of a batch before anything of the desk changes.
-#[derive(Drop)]
-pub(crate) struct Prepared {
-    pub(crate) version: Arc<Version>,
-    pub(crate) outcomes: List<Outcome>,
-    pub(crate) batch: Arc<Batch>,
-    pub(crate) taken: List<u32>,
-    pub(crate) dropped_numbers: List<u32>,
-    pub(crate) dropped: Vec<Arc<Block>>,
-    pub(crate) unused: Vec<Arc<Block>>,
-}
-
-/// The numbers of blocks, in their order.
-fn numbers_in(alloc: Global, blocks: &[Arc<Block>]) -> Result<Vec<u32>, AllocError>
-    ensures { IfOk result (λ v. v.items ≡ numbers_of blocks.now) }
-{
-    let mut numbers = Vec::with_capacity(alloc, blocks.len())?;
-    for block in blocks {
-        numbers.push(block.number())?;
-    }
-    Ok(numbers)
-}
-
-/// Makes the next version and all that its acceptance needs.
-pub(crate) fn prepare<R: Threads + Sync, G: Gate + Sync>(
+/// Grants blocks for a batch of which this is the plan, and has workers make the next version; or gives the desk back as it was.
+pub(crate) fn make_ready<R: Threads + Sync, G: Gate + Sync>(
     rt: &R,
-    alloc: Global,
     gate: &G,
-    last: &Version,
+    desk: Desk,
+    batch: Arc<Batch>,
     plan: Plan,
-    batch: Batch,
-    blocks: Vec<Arc<Block>>,
-) -> Result<Prepared, AllocError>
-    requires admitted { (workers : ℕ) × IsAdmitted last.now workers batch plan }
-    requires blocks { sum_by (λ n. n) plan.needs.items ≤ length blocks.items }
-    requires distinct { AllPairs ◌≢◌ (numbers_of blocks.items) }
-    requires unlisted { All (λ n. is_listed n (rows.numbers_of (rows.blocks_of last.now.rows)) ≡ false)
-        (numbers_of blocks.items) }
-    ensures { IfOk result (IsPrepared last.now batch (numbers_of blocks.items)) }
+) -> Result<Ready, (Desk, ApplyError)>
+    requires admitted { (workers : ℕ) × IsAdmitted desk.last workers (batch_value batch) plan }
+    ensures begun { IfOk result (λ r. (r.old ≡ desk) × (r.ops ≡ batch_value batch)) }
+    ensures accepts { IfOk result (λ r. Accepts desk (batch_value batch) r.new) }
+    ensures within { OnOk result (IsWithin desk.last (count_by is_free desk.pool) (batch_value batch)) }
+    ensures refused { IfErr result (λ e. Refuses desk.last (count_by is_free desk.pool) (batch_value batch) e.1) }
+    ensures unchanged { IfErr result (λ e. e.0 ≡ desk) }
 {
-    let batch = Arc::new(alloc, batch)?;
-    let shared = Arc::try_clone(&batch)?;
-    let applied = batch_apply::apply(rt, alloc, gate, last, plan, shared, blocks)?;
-    made_of(alloc, applied, batch)
-}
-
-/// What is made of a batch that was applied. It stands apart from `prepare`: the fewer values a function owns at an exit, the
-/// cheaper its proof.
-fn made_of(alloc: Global, applied: Applied, batch: Arc<Batch>) -> Result<Prepared, AllocError>
-    ensures { IfOk result (λ p. (v : VersionView) (numbers : List ℕ) → IsApplied v (batch_value batch) numbers applied
-        → IsPrepared v (batch_value batch) numbers p) }
-{
-    let Applied {
-        version,
-        outcomes,
-        taken,
-        dropped,
-        unused,
-    } = applied;
-    let dropped_numbers = List::of(numbers_in(alloc, dropped.as_slice())?);
-    let version = Arc::new(alloc, version)?;
-    Ok(Prepared {
-        version,
-        outcomes: List::of(outcomes),
+    let alloc = desk.allocator();
+    let (granted, load) = desk.grant(batch, plan)?;
+    let Load {
+        plan,
         batch,
-        taken: List::of(taken),
-        dropped_numbers,
-        dropped,
-        unused,
-    })
-}
-
-/// Takes the version as the last, and appends its entry, for which there is room. It takes no memory.
-fn accept(
-    last: &mut Arc<Version>,
-    journal: &mut Vec<JournalEntry>,
-    version: Arc<Version>,
-    entry: JournalEntry,
-)
-    requires { vec_len journal.old < vec_capacity journal.old }
-    ensures last { arc_value {X = Version} last.new ≡ arc_value {X = Version} version }
-    ensures entered { journal.new.items ≡ journal.old.items ++ entry ∷ [] }
-    ensures len { vec_len journal.new ≡ vec_len journal.old + 1 }
-    ensures capacity { vec_capacity journal.old ≤ vec_capacity journal.new }
-{
-    enter(journal, entry);
-    *last = version;
+        blocks,
+    } = load;
+    let applied = apply(rt, alloc, gate, granted.last(), plan, batch, blocks);
+    match granted.ready(applied) {
+        Ok(ready) => Ok(ready),
+        Err(desk) => Err((desk, ApplyError::OutOfMemory)),
+    }
 }
 
 /// Posts a version, which its owner keeps too; or changes nothing.
@@ -224,31 +111,34 @@ fn post<R: Wait>(
     Ok(told)
 }
 
-/// Posts the version and enters it in the journal, with room for so many entries more; or changes nothing.
-pub(crate) fn publish<R: Wait>(
+/// Posts the version that is ready, and then accepts it; or changes nothing, and gives the desk of before back.
+pub(crate) fn post_and_finish<R: Wait>(
     rt: &R,
-    last: &mut Arc<Version>,
-    journal: &mut Vec<JournalEntry>,
+    ready: Ready,
     shelf: &mut ShelfWriter,
-    version: Arc<Version>,
-    entry: JournalEntry,
-    room: usize,
-) -> Result<Told, AllocError>
-    requires next { IsNext shelf.old (arc_value {X = Version} version) }
-    requires room { room + 1 < 2 ^ 64 }
-    ensures entered { OnOk result (journal.new.items ≡ journal.old.items ++ entry ∷ []) }
-    ensures room { OnOk result (vec_len journal.new + room ≤ vec_capacity journal.new) }
-    ensures last { OnOk result (arc_value {X = Version} last.new ≡ arc_value {X = Version} version) }
-    ensures posted { OnOk result (shelf.new.posted ≡ (arc_value {X = Version} version).batches) }
-    ensures shown { OnOk result (shelf.new.shown ≡ (arc_value {X = Version} version).batches) }
-    ensures told { IfOk result (λ told. told ≡ record { book = shelf.old.book; version = arc_value {X = Version} version }) }
+) -> Result<(Desk, Receipt), Desk>
+    requires { IsNext shelf.old ready.new.last }
+    ensures desk { IfOk result (λ r. r.0 ≡ ready.new) }
+    ensures number { IfOk result (λ r. r.1.number ≡ length ready.new.last.batches) }
+    ensures outcomes { IfOk result (λ r. r.1.outcomes ≡ outcomes ready.ops (content ready.old.last)) }
+    ensures told { IfOk result (λ r. r.1.told ≡ record { book = shelf.old.book; version = ready.new.last }) }
+    ensures posted { OnOk result (shelf.new.posted ≡ ready.new.last.batches) }
+    ensures shown { OnOk result (shelf.new.shown ≡ ready.new.last.batches) }
     ensures same { (shelf.new.book ≡ shelf.old.book) × (shelf.new.opening ≡ shelf.old.opening) }
-    ensures unchanged { OnErr result ((journal.new.items ≡ journal.old.items) × (vec_len journal.new ≡ vec_len journal.old)
-        × (last.new ≡ last.old) × (shelf.new ≡ shelf.old)) }
-    ensures capacity { vec_capacity journal.old ≤ vec_capacity journal.new }
+    ensures cancelled { IfErr result (λ d. d ≡ ready.old) }
+    ensures unchanged { OnErr result (shelf.new ≡ shelf.old) }
 {
-    journal.reserve(room + 1)?;
-    let told = post(rt, shelf, &version)?;
-    accept(last, journal, version, entry);
-    Ok(told)
+    let Ok(told) = post(rt, shelf, ready.version()) else {
+        return Err(ready.cancel());
+    };
+    let (desk, accepted) = ready.finish();
+    let Accepted { number, outcomes } = accepted;
+    Ok((
+        desk,
+        Receipt {
+            number,
+            outcomes,
+            told,
+        },
+    ))
 }
