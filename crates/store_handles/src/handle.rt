@@ -91,3 +91,14 @@ impl Handle {
         Loose { at, alloc }
     }
 }
+
+// The address is the handle's alone, and what lies there may be sent.
+unsafe impl Send for Handle {}
+
+/// A handle may go to another thread, with what it holds. It does nothing.
+pub fn law_handle_is_sent(handle: &Handle, held: &Held) {
+    may_be_sent(handle);
+    may_be_sent(held);
+}
+
+fn may_be_sent<T: Send>(_it: &T) {}

@@ -5,5 +5,5 @@ mod handle;
 mod held;
 mod loose;
 
-pub use handle::{Handle, Unseen};
+pub use handle::{Handle, Unseen, law_handle_is_sent};
 pub use held::Held;
