@@ -1,11 +1,11 @@
 -- What loops have done, with one more.
-use Rattle.std.proofs.Common.{◌≡◌, ℕ, ◌+◌, ◌≤◌, Bool, List, [], ◌∷◌, ◌++◌, length, get_or, count_by, set, take, drop, refl, sym}
-use Rattle.std.proofs.{Common.{ap, ◌∙◌, arith}, lemmas.List.{map-append, set_past, take-append-drop}}
+use Rattle.std.proofs.Common.{◌≡◌, ℕ, ◌+◌, Bool, List, [], ◌∷◌, ◌++◌, count_by, take, drop, refl, sym}
+use Rattle.std.proofs.{Common.{ap, ◌∙◌, arith}, lemmas.List.{map-append, take-append-drop}}
 use Rattle.std.{specs.declared.{sync.Arc.Arc, alloc.Global.Global, vec.Vec.Vec}, proofs.lemmas.Grind.common_steps}
-use Rattle.graph_types.specs.declared.{ids.VertexId.VertexId, batches.Outcome.Outcome, batches.Outcome.TheVariants.Absent}
-use Rattle.edge_block.specs.{declared.blocks.Block.Block, Batches.together}
+use Rattle.graph_types.specs.declared.{ids.VertexId.VertexId, batches.Outcome.Outcome}
+use Rattle.edge_block.specs.{declared.blocks.Block.Block}
 use Rattle.graph_version.specs.Drafts.{DraftView, ReplacesRow}
-use Rattle.batch_shards.specs.{RowBlocks.block_of, RowBlocks.blocks_of, RowBlocks.numbers_of, Closing.row_values, Groups.told}
+use Rattle.batch_shards.specs.{RowBlocks.block_of, RowBlocks.blocks_of, RowBlocks.numbers_of, Closing.row_values}
 use Rattle.batch_shards.{specs.declared.shard.ShardDone.ShardDone, proofs.Places.count_by-append}
 use Rattle.batch_apply.{specs.{Plans.written, Applied.{ReplacesRows, written_from}}, proofs.Placed.among_more}
 

@@ -1,6 +1,10 @@
 -- What shards leave together.
 use Rattle.std.specs.Prelude.{◌≡◌, ℕ, ◌+◌, List, ◌++◌, flat_map, replicate, count_by, Bool, ◌≢◌, ◌≤◌, map, length, AllPairs}
-use Rattle.std.specs.List.{AllZip}
+use Rattle.std.specs.{Prelude.{◌<◌, All, false, zip}, List.AllZip}
+use Rattle.graph_types.specs.{Limits.{batch_limit, operation_limit}, declared.batches.NamedOp.NamedOp}
+use Rattle.graph_version.specs.{Rows.{row_of, blocks_of, numbers_of}, Versions.{VersionView, content, is_in}}
+use Rattle.vertex_names.specs.Book.{Book}
+use Rattle.batch_apply.specs.{Planned.IsPlan, declared.plans.Plan.Plan}
 use Rattle.graph_types.specs.declared.batches.Outcome.TheVariants.{Absent}
 use Rattle.edge_block.specs.Slots.{BlockView}
 use Rattle.batch_shards.specs.RowBlocks as shared
@@ -40,3 +44,18 @@ pub record IsGathered (rows : ℕ → List BlockView) (planned : List (Shard × 
   pub taken_are : all.left.taken.items ≡ flat_map (λ d. d.left.taken.items) dones
   pub dropped_are : shared.blocks_of all.left.dropped.items ≡ flat_map (λ d. shared.blocks_of d.left.dropped.items) dones
   pub unused_are : shared.numbers_of all.left.unused.items ≡ rest ++ flat_map (λ d. shared.numbers_of d.left.unused.items) dones
+
+-- the shards of a plan were worked on with fresh blocks of these numbers, none of which the version has, and what they left was
+-- put together; the plan has these names and kinds
+pub record IsWorked (v : VersionView) (ops : List NamedOp) (names kinds : Book) (numbers : List ℕ) (all : Gathered) : Type 0 where
+  pub workers : ℕ
+  pub some : 0 < workers
+  pub plan : Plan
+  pub planned : IsPlan workers ops (content v) (row_of v.rows) plan
+  pub names_are : plan.names ≡ names
+  pub kinds_are : plan.kinds ≡ kinds
+  pub few : length v.batches < batch_limit
+  pub short : length ops ≤ operation_limit
+  pub gathered : IsGathered (row_of v.rows) (zip plan.shards.items plan.needs.items) numbers (length ops) all
+  pub distinct : AllPairs ◌≢◌ numbers
+  pub unlisted : All (λ n. is_in n (numbers_of (blocks_of v.rows)) ≡ false) numbers

@@ -15,10 +15,10 @@ ghost use Rattle.batch_shards.specs.Groups.{written};
 ghost use Rattle.batch_apply.specs.Gathered.{IsDealt, IsShard};
 ghost use Rattle.batch_apply.specs.Applied.{is_inserted, taken_away};
 ghost use Rattle.batch_apply.specs.Applied.{IsApplied, ReplacesRows, written_from};
-ghost use Rattle.batch_apply.specs.Gathered.{IsGathered};
+ghost use Rattle.batch_apply.specs.Gathered.{IsGathered, IsWorked};
 
 use crate::plans::Plan;
-use crate::workers::{Gate, Job, do_all, do_alone};
+use crate::workers::{Gate, Job, PassAll, do_all, do_alone};
 use batch_shards::{Leavings, Shard, ShardDone, write_outcomes};
 use edge_block::Block;
 use graph_types::{Batch, Outcome, VertexId};
@@ -26,6 +26,7 @@ use graph_version::{Version, VersionDraft};
 use std::alloc::{AllocError, Global};
 use std::sync::Arc;
 use std::thread::Threads;
+use vertex_names::NameBook;
 
 /// What a batch leaves of a version.
 #[derive(Drop)]
@@ -76,6 +77,58 @@ pub fn apply<R: Threads + Sync, G: Gate + Sync>(
         operations: batch.len(),
     };
     let all = work(rt, alloc, gate, version, load)?;
+    finish(version, names, kinds, batch, all)
+}
+
+/// As [`apply`], of a batch that was planned for one worker, who is the caller: it starts no thread, and tells no gate.
+///
+/// ```
+/// let plan = plan(alloc, &version, &batch, 1)?;
+/// let blocks = fresh_blocks(plan.blocks_needed())?;
+/// let applied = apply_alone(alloc, &version, plan, batch, blocks)?;
+/// ```
+pub fn apply_alone(
+    alloc: Global,
+    version: &Version,
+    plan: Plan,
+    batch: Arc<Batch>,
+    blocks: Vec<Arc<Block>>,
+) -> Result<Applied, AllocError>
+    requires plan { IsPlan 1 (batch_value batch) (content version.now) (row_of version.now.rows) plan }
+    requires few { length version.now.batches < 65536 }
+    requires blocks { sum_by (λ n. n) plan.needs.items ≤ length blocks.items }
+    requires distinct { AllPairs ◌≢◌ (numbers_of blocks.items) }
+    requires unlisted { All (λ n. is_in n (rows.numbers_of (rows.blocks_of version.now.rows)) ≡ false) (numbers_of blocks.items) }
+    ensures { IfOk result (IsApplied version.now (batch_value batch) (numbers_of blocks.items)) }
+{
+    let Plan {
+        names,
+        kinds,
+        shards,
+        needs,
+    } = plan;
+    let load = Workload {
+        shards,
+        needs,
+        blocks,
+        operations: batch.len(),
+    };
+    let all = work_alone(alloc, &PassAll, version, load)?;
+    finish(version, names, kinds, batch, all)
+}
+
+/// The next version, with these names, from what all shards left of the version.
+fn finish(
+    version: &Version,
+    names: NameBook,
+    kinds: NameBook,
+    batch: Arc<Batch>,
+    all: Gathered,
+) -> Result<Applied, AllocError>
+    requires { (numbers : List ℕ) × IsWorked version.now (batch_value batch) names kinds numbers all }
+    ensures { IfOk result (λ a. (numbers : List ℕ) → IsWorked version.now (batch_value batch) names kinds numbers all
+        → IsApplied version.now (batch_value batch) numbers a) }
+{
     let edges = edges_after(version.edge_count(), &all.outcomes);
     let draft = VersionDraft::over_named(version, names, kinds)?;
     let draft = replace_rows(draft, all.rows)?.push_batch(batch)?;

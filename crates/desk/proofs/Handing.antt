@@ -1,0 +1,245 @@
+-- A batch handed over: what the desk's call does with what was made of it.
+use Rattle.std.proofs.Common.{◌≡◌, ℕ, ◌+◌, ◌≤◌, true, false, List, [], ◌∷◌, ◌++◌, length, map, refl, sym, ap, subst, ◌∙◌, arith}
+use Rattle.std.proofs.{Common.{count_by, vec_len}, lemmas.{Grind.common_steps, List.{map-append, length-map}}}
+use Rattle.std.specs.{declared.{sync.Arc.Arc, alloc.Global.Global}, Prelude.All, List.sum_by, Arc.arc_value}
+use Rattle.graph_types.specs.declared.batches.NamedOp.{NamedOp}
+use Rattle.edge_block.specs.declared.blocks.Block.{Block}
+use Rattle.batch_shards.specs.RowBlocks.{block_of, blocks_of, numbers_of}
+use Rattle.graph_version.specs.{declared.versions.Version.Version, Versions.VersionView, Versions.content}
+use Rattle.block_reclamation.specs.{Status.{is_listed, is_free, is_retired, is_in_use}, declared.status.BlockStatus.BlockStatus}
+use Rattle.block_reclamation.specs.declared.status.BlockStatus.TheVariants.{Free, Granted, Used}
+use Rattle.block_pool.specs.Pools.{retired, marked, changed, AreFree}
+use Rattle.version_shelf.specs.Shelves.{ShelfView}
+use Rattle.store_steps.{specs.{Desks.{DeskView, IsDesk, FollowsLayout}, Steps.Accepts}, proofs.BatchLaws.accepted_steps}
+use Rattle.store_steps.proofs.Applications.{Application, next_desk, born_pool, retired_pool, moves_left}
+use Rattle.store_steps.proofs.{Accepting.{made_accepted, made_desk}, RetiredCounts.retired_room, GrantedBlocks.taken_granted}
+use Rattle.store_steps.proofs.GrantedBlocks.{taken_movable, dropped_movable, unused_movable, granted_movable, given_back}
+use Rattle.store_steps.proofs.GrantedBlocks.{born_movable, born_given_back}
+use Rattle.batch_apply.{specs.declared.plans.Plan.Plan, proofs.Asked.needs_within}
+use Rattle.desk.specs.declared.{entries.JournalEntry.JournalEntry, receipts.ApplyError.ApplyError}
+use Rattle.desk.specs.{declared.applying.Prepared.Prepared, Kept.{DeskState, IsDeskState, entry_of}, Applying.IsPrepared}
+use Rattle.desk.specs.{Applying.{AreUsedOnce, AreBornOnce}, Refusals.{Refuses, RefusesGrant, IsAdmitted, IsWithin, asked}}
+use Rattle.desk.{specs.Refusals.{block_count, workers_for}, proofs.UsedBlocks.used_blocks}
+use Rattle.graph_version.specs.Rows as rows
+use Rattle.desk.specs.declared.entries.JournalEntry.TheVariants as entries
+
+pub record Handing : Type 0 where
+  pub old : DeskView
+  pub ops : List NamedOp
+  pub numbers : List ℕ
+  pub handed : List ℕ
+  pub prepared : Prepared
+  pub pool : List BlockStatus
+  pub before : IsDesk old
+  pub free : AreFree old.pool numbers
+  pub same : handed ≡ numbers
+  pub is_prepared : IsPrepared old.last ops handed prepared
+  pub granted : pool ≡ marked numbers Granted old.pool
+
+numbers_mapped : (bs : List (Arc Block Global)) → rows.numbers_of (blocks_of bs) ≡ numbers_of bs
+numbers_mapped [] = refl
+numbers_mapped (b ∷ bs) = ap (λ ns. (block_of b).number ∷ ns) (numbers_mapped bs)
+
+abbrev pub version_of : Handing → VersionView
+version_of h = arc_value {X = Version} h.prepared.version
+
+abbrev pub application : Handing → Application
+application h = record {
+  old = h.old;
+  ops = h.ops;
+  numbers = h.numbers;
+  version = version_of h;
+  taken = h.prepared.taken;
+  dropped = blocks_of h.prepared.dropped.items;
+  unused = numbers_of h.prepared.unused.items;
+  before = h.before;
+  applied = record {
+    free = h.free;
+    version_is = h.is_prepared.version_is;
+    opening = h.is_prepared.opening;
+    batches = h.is_prepared.batches;
+    exchanged = h.is_prepared.exchanged;
+    handed = λ q. h.is_prepared.handed q ∙ ap (count_by q) h.same;
+    layout = subst (FollowsLayout h.old.last h.ops (version_of h) (length h.prepared.taken))
+        (sym (length-map h.prepared.dropped.items block_of)) h.is_prepared.layout;
+    births = h.is_prepared.births;
+  };
+}
+
+-- The grant is within what is asked for, since the used blocks are the last version's
+
+pub grant_within : (d : DeskView) (v : VersionView) (workers : ℕ) (ops : List NamedOp) (plan : Plan) → IsDesk d → v ≡ d.last
+    → IsAdmitted v workers ops plan → sum_by (λ n. n) plan.needs.items ≤ asked ops (count_by is_in_use d.pool)
+grant_within d v workers ops plan desk last admitted =
+    let used : block_count v ≡ count_by is_in_use d.pool = ap block_count last ∙ sym (used_blocks d desk) in
+    subst (λ n. sum_by (λ n. n) plan.needs.items ≤ asked ops n) used
+    (needs_within (workers_for workers (length ops + length admitted.old)) ops (content v) v.rows plan admitted.planned)
+
+-- as many blocks were granted as numbers
+pub granted_many : (blocks : List (Arc Block Global)) (numbers : List ℕ) (n : ℕ) → numbers_of blocks ≡ numbers
+    → length numbers ≡ n → n ≤ length blocks
+granted_many blocks numbers n same many = grind (arith, common_steps)
+
+-- The grant is given back
+
+pub back_used : (pool new : List BlockStatus) (numbers : List ℕ) → AreFree pool numbers → new ≡ marked numbers Granted pool
+    → AreUsedOnce numbers new
+back_used pool new numbers free is =
+    let m = granted_movable pool numbers free in subst (AreUsedOnce numbers) (sym is) (record { pass = m.pass; apart = m.apart })
+
+pub back_same : (pool new end : List BlockStatus) (numbers : List ℕ) → AreFree pool numbers → new ≡ marked numbers Granted pool
+    → end ≡ marked numbers Free new → end ≡ pool
+back_same pool new end numbers free is after = after ∙ ap (marked numbers Free) is ∙ given_back pool numbers free
+
+-- and so it is where some of the granted numbers were born meanwhile
+
+taken_within : (h : Handing) (m : ℕ) → is_listed m h.prepared.taken ≡ true → is_listed m h.numbers ≡ true
+taken_within h m is = taken_granted (application h) m is
+
+pub born_used : (h : Handing) (number : ℕ) (new : List BlockStatus) → new ≡ marked h.prepared.taken (Used number) h.pool
+    → AreUsedOnce h.numbers new
+born_used h number new is =
+    let m = born_movable h.old.pool h.numbers h.prepared.taken number h.free in
+    subst (AreUsedOnce h.numbers) (sym (is ∙ ap (marked h.prepared.taken (Used number)) h.granted))
+    (record { pass = m.pass; apart = m.apart })
+
+pub born_same : (h : Handing) (number : ℕ) (new end : List BlockStatus) → new ≡ marked h.prepared.taken (Used number) h.pool
+    → end ≡ marked h.numbers Free new → end ≡ h.old.pool
+born_same h number new end is after =
+    after ∙ ap (marked h.numbers Free) (is ∙ ap (marked h.prepared.taken (Used number)) h.granted)
+    ∙ born_given_back h.old.pool h.numbers h.prepared.taken number h.free (taken_within h)
+
+-- The granted blocks are none of the last version's
+
+pub unlisted : (d : DeskView) (numbers handed : List ℕ) (v : VersionView) → IsDesk d → AreFree d.pool numbers → handed ≡ numbers
+    → v ≡ d.last → All (λ n. is_listed n (rows.numbers_of (rows.blocks_of v.rows)) ≡ false) handed
+unlisted d numbers handed v desk free same at k e h = grind (arith, common_steps)
+
+-- The blocks' moves
+
+dropped_is : (h : Handing) → numbers_of h.prepared.dropped.items ≡ rows.numbers_of (blocks_of h.prepared.dropped.items)
+dropped_is h = sym (numbers_mapped h.prepared.dropped.items)
+
+born_is : (h : Handing) (number : ℕ) (born : List BlockStatus) → number ≡ length h.old.last.batches + 1
+    → born ≡ marked h.prepared.taken (Used number) h.pool → born ≡ born_pool (application h)
+born_is h number born is made = made ∙ (λ i. marked h.prepared.taken (Used (is i)) (h.granted i))
+
+retired_is : (h : Handing) (number : ℕ) (born : List BlockStatus) → number ≡ length h.old.last.batches + 1
+    → born ≡ marked h.prepared.taken (Used number) h.pool
+    → changed (retired number) (numbers_of h.prepared.dropped.items) born ≡ retired_pool (application h)
+retired_is h number born is made =
+    λ i. changed (retired (is i)) (dropped_is h i) (born_is h number born is made i)
+
+pub taken_once : (h : Handing) → AreUsedOnce h.prepared.taken h.pool
+taken_once h =
+    let m = taken_movable (application h) in
+    subst (AreUsedOnce h.prepared.taken) (sym h.granted) (record { pass = m.pass; apart = m.apart })
+
+pub dropped_once : (h : Handing) (number : ℕ) (born : List BlockStatus) → number ≡ length h.old.last.batches + 1
+    → born ≡ marked h.prepared.taken (Used number) h.pool → AreBornOnce (numbers_of h.prepared.dropped.items) born
+dropped_once h number born is made =
+    let m = dropped_movable (application h) in
+    let once : AreBornOnce (rows.numbers_of (blocks_of h.prepared.dropped.items)) (born_pool (application h)) =
+    record { pass = m.pass; apart = m.apart } in
+    subst (AreBornOnce (numbers_of h.prepared.dropped.items)) (sym (born_is h number born is made))
+    (subst (λ ns. AreBornOnce ns (born_pool (application h))) (sym (dropped_is h)) once)
+
+pub unused_once : (h : Handing) (number : ℕ) (born : List BlockStatus) → number ≡ length h.old.last.batches + 1
+    → born ≡ marked h.prepared.taken (Used number) h.pool
+    → AreUsedOnce (numbers_of h.prepared.unused.items) (changed (retired number) (numbers_of h.prepared.dropped.items) born)
+unused_once h number born is made =
+    let m = unused_movable (application h) in
+    subst (AreUsedOnce (numbers_of h.prepared.unused.items)) (sym (retired_is h number born is made))
+    (record { pass = m.pass; apart = m.apart })
+
+pub end_pool : (h : Handing) (number : ℕ) (born end : List BlockStatus) → number ≡ length h.old.last.batches + 1
+    → born ≡ marked h.prepared.taken (Used number) h.pool → end ≡ marked (numbers_of h.prepared.unused.items) Free
+    (changed (retired number) (numbers_of h.prepared.dropped.items) born) → end ≡ (next_desk (application h)).pool
+end_pool h number born end is made moved =
+    moved ∙ ap (marked (numbers_of h.prepared.unused.items) Free) (retired_is h number born is made) ∙ moves_left (application h)
+
+-- The desk afterwards
+
+abbrev pub entry_in : Handing → JournalEntry
+entry_in h = entries.Applied h.prepared.batch h.prepared.taken h.prepared.dropped_numbers
+
+abbrev pub desk_of : List ℕ → VersionView → List JournalEntry → List BlockStatus → DeskView
+desk_of opened last entries pool = record { opened = opened; last = last; journal = map entry_of entries; pool = pool }
+
+pub end_desk : (h : Handing) (opened : List ℕ) (last : VersionView) (entries old_entries : List JournalEntry)
+    (pool : List BlockStatus) → h.old.opened ≡ opened → map entry_of old_entries ≡ h.old.journal → last ≡ version_of h
+    → entries ≡ old_entries ++ entry_in h ∷ [] → pool ≡ (next_desk (application h)).pool
+    → desk_of opened last entries pool ≡ next_desk (application h)
+end_desk h opened last entries old_entries pool same_opened before same_last same_entries same_pool =
+    grind (arith, common_steps, dropped_is, map-append)
+
+pub end_accepts : (h : Handing) (new : DeskView) → new ≡ next_desk (application h) → Accepts h.old h.ops new
+end_accepts h new is =
+    let a : Application = application h in
+    let dropped : List ℕ = rows.numbers_of a.dropped in
+    subst (Accepts h.old h.ops) (sym is) (record {
+      taken = a.taken;
+      dropped = dropped;
+      accepted = made_accepted a;
+      steps = accepted_steps h.old (next_desk a) h.ops a.taken dropped h.before (made_desk a) (made_accepted a);
+    })
+
+pub end_room : (h : Handing) (end : List BlockStatus) → end ≡ (next_desk (application h)).pool
+    → count_by is_retired end ≤ count_by is_retired h.pool + length h.prepared.dropped.items
+end_room h end is =
+    let a = ap (count_by is_retired) is in
+    let b = ap (count_by is_retired) h.granted in
+    let many : length (blocks_of h.prepared.dropped.items) ≡ length h.prepared.dropped.items =
+    length-map h.prepared.dropped.items block_of in
+    let room = retired_room (application h) in
+    omega arith
+
+-- the journal's room for what is retired then, where as much was made as for what was retired and what was dropped
+pub end_fits : (h : Handing) (end : List BlockStatus) (entries capacity before dropped : ℕ) → end ≡ (next_desk (application h)).pool
+    → before ≡ count_by is_retired h.pool → dropped ≡ vec_len h.prepared.dropped → entries + (before + dropped) ≤ capacity
+    → entries + count_by is_retired end ≤ capacity
+end_fits h end entries capacity before dropped is retired many fits =
+    let room = end_room h end is in let ok = h.prepared.dropped.ok in omega (arith, ok.0)
+
+pub end_kept : (h : Handing) (new : DeskState) (shelf : ShelfView) (entries room : ℕ) → new.desk ≡ next_desk (application h)
+    → shelf.book ≡ new.book → shelf.opening ≡ h.old.last.opening → shelf.posted ≡ (version_of h).batches → 1 ≤ new.workers
+    → new.workers ≤ 8 → entries + count_by is_retired new.desk.pool ≤ room → IsDeskState new shelf entries room
+end_kept h new shelf entries room is book opening posted some few fits = record {
+  desk = subst IsDesk (sym is) (made_desk (application h));
+  book_is = book;
+  opening_is = opening ∙ sym h.is_prepared.opening ∙ ap (λ (d : DeskView). d.last.opening) (sym is);
+  posted_is = posted ∙ ap (λ (d : DeskView). d.last.batches) (sym is);
+  workers_some = some;
+  workers_few = few;
+  room_is = fits;
+}
+
+-- Refusals
+
+module _ (d : DeskView) (v : VersionView) (workers : ℕ) (ops : List NamedOp) (plan : Plan) (desk : IsDesk d) (last : v ≡ d.last)
+    (admitted : IsAdmitted v workers ops plan) where
+  pub desk_refuses : (e : ApplyError) → RefusesGrant (asked ops (count_by is_in_use d.pool)) (count_by is_free d.pool) e
+      → Refuses d.last (count_by is_free d.pool) ops e
+  desk_refuses e refuses = grind (arith, common_steps, used_blocks)
+
+  pub desk_admits : asked ops (count_by is_in_use d.pool) ≤ count_by is_free d.pool
+      → IsWithin d.last (count_by is_free d.pool) ops
+  desk_admits enough = grind (arith, common_steps, used_blocks)
+
+-- a batch handed over, by what is known of the version that was lent
+abbrev pub handing : (old : DeskView) (ops : List NamedOp) (numbers handed : List ℕ) (prepared : Prepared) (pool : List BlockStatus)
+    (v : VersionView) → IsDesk old → AreFree old.pool numbers → handed ≡ numbers → v ≡ old.last → IsPrepared v ops handed prepared
+    → pool ≡ marked numbers Granted old.pool → Handing
+handing old ops numbers handed prepared pool v before free same last is_prepared granted = record {
+  old = old;
+  ops = ops;
+  numbers = numbers;
+  handed = handed;
+  prepared = prepared;
+  pool = pool;
+  before = before;
+  free = free;
+  same = same;
+  is_prepared = subst (λ (w : VersionView). IsPrepared w ops handed prepared) last is_prepared;
+  granted = granted;
+}

@@ -1,0 +1,4 @@
+pub mod Handing
+pub mod Moving
+pub mod UsedBlocks
+pub mod Zeros

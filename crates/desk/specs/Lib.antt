@@ -1,0 +1,6 @@
+pub mod Applying
+pub mod Kept
+pub mod Openings
+pub mod Owned
+pub mod Ready
+pub mod Refusals

@@ -1,0 +1,67 @@
+-- A batch on its way: its blocks are granted, and then it is ready, with the next version and room in the journal.
+use Rattle.std.specs.{Prelude.{◌≡◌, ◌≢◌, ℕ, ◌+◌, ◌≤◌, List, length, count_by, vec_len, vec_capacity, All, AllPairs, false}, Arc.arc_value}
+use Rattle.std.specs.List.{sum_by}
+use Rattle.graph_types.specs.declared.batches.{Batch.Batch, NamedOp.NamedOp}
+use Rattle.graph_version.specs.{Batches.batch_value, declared.versions.Version.Version, Versions.{VersionView, is_in}}
+use Rattle.batch_apply.specs.declared.plans.Plan.{Plan}
+use Rattle.batch_shards.specs.RowBlocks.{blocks_of, numbers_of}
+use Rattle.block_reclamation.specs.{Status.is_retired, declared.status.BlockStatus.TheVariants.{Free, Granted}}
+use Rattle.block_pool.specs.Pools.{marked, AreFree}
+use Rattle.store_steps.specs.Desks.{DeskView, IsDesk, desk_after}
+use Rattle.desk.specs.{Applying.IsPrepared, Kept.desk_with, declared.{applying.Prepared.Prepared, desks.Parts.Parts, ready.Load.Load}}
+use Rattle.graph_version.specs.Rows as rows
+
+-- Granted
+
+-- the desk of before, the batch's operations, and the numbers of the blocks that were granted for it
+pub record GrantedView : Type 0 where
+  pub old : DeskView
+  pub ops : List NamedOp
+  pub numbers : List ℕ
+
+-- the desk of before: none of these numbers was granted yet
+abbrev pub old_of : Parts → List ℕ → DeskView
+old_of parts numbers = desk_with parts (marked numbers Free parts.pool)
+
+-- at least 16 blocks, of which these were granted to the desk of before, and the journal has room for as many entries as blocks
+-- are retired
+pub record IsGranted (parts : Parts) (numbers : List ℕ) : Type 0 where
+  pub before : IsDesk (old_of parts numbers)
+  pub blocks_some : 16 ≤ length parts.pool
+  pub free : AreFree (old_of parts numbers).pool numbers
+  pub granted : parts.pool ≡ marked numbers Granted (old_of parts numbers).pool
+  pub room_is : vec_len parts.journal + count_by is_retired parts.pool ≤ vec_capacity parts.journal
+
+-- what is needed to apply a batch to this version: the plan, the batch, and as many blocks as the plan's shards may take, each of
+-- another number and none of the version's
+pub record IsLoad (v : VersionView) (ops : List NamedOp) (plan : Plan) (load : Load) : Type 0 where
+  pub plan_is : load.plan ≡ plan
+  pub batch_is : batch_value load.batch ≡ ops
+  pub enough : sum_by (λ n. n) plan.needs.items ≤ length load.blocks.items
+  pub distinct : AllPairs ◌≢◌ (numbers_of load.blocks.items)
+  pub unlisted : All (λ n. is_in n (rows.numbers_of (rows.blocks_of v.rows)) ≡ false) (numbers_of load.blocks.items)
+
+-- Ready
+
+-- the desk of before, the batch's operations, and the desk that has accepted them
+pub record ReadyView : Type 0 where
+  pub old : DeskView
+  pub ops : List NamedOp
+  pub new : DeskView
+
+abbrev pub ops_of : Prepared → List NamedOp
+ops_of p = arc_value {X = Batch} p.batch
+
+abbrev pub new_of : DeskView → Prepared → DeskView
+new_of old p = desk_after old (ops_of p) (arc_value {X = Version} p.version) p.taken (blocks_of p.dropped.items)
+
+abbrev pub ready_of : Parts → List ℕ → Prepared → ReadyView
+ready_of parts numbers p =
+    record { old = old_of parts numbers; ops = ops_of p; new = new_of (old_of parts numbers) p }
+
+-- blocks were granted, the next version was prepared from them, and the journal has room for its entry, and then for as many as
+-- blocks are retired
+pub record IsReady (parts : Parts) (numbers : List ℕ) (p : Prepared) : Type 0 where
+  pub granted : IsGranted parts numbers
+  pub prepared : IsPrepared (old_of parts numbers).last (ops_of p) numbers p
+  pub room : vec_len parts.journal + (count_by is_retired parts.pool + vec_len p.dropped + 1) ≤ vec_capacity parts.journal

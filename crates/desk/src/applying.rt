@@ -1,0 +1,159 @@
+//! A batch on its way to the desk: its plan and its blocks, what is made of it before anything changes, and its
+//! publication.
+
+ghost use Rattle.std.specs.Prelude.{◌≡◌, ◌≢◌, ◌+◌, ◌<◌, ◌≤◌, ◌^◌, ◌++◌, ◌∷◌, [], ℕ, List, length, IfOk, IfErr, OnOk, OnErr};
+ghost use Rattle.std.specs.Prelude.{AllPairs, All, false, count_by, vec_capacity, vec_len};
+ghost use Rattle.std.specs.List.{sum_by};
+ghost use Rattle.std.specs.Arc.{arc_value};
+ghost use Rattle.graph_types.specs.Limits.{batch_limit};
+ghost use Rattle.graph_version.specs.Rows as rows;
+ghost use Rattle.graph_version.specs.Batches.{batch_value};
+ghost use Rattle.graph_version.specs.Versions.{VersionView};
+ghost use Rattle.batch_apply.specs.Applied.{IsApplied};
+ghost use Rattle.batch_shards.specs.RowBlocks.{numbers_of};
+ghost use Rattle.graph_version.specs.declared.versions.Version.{Version};
+ghost use Rattle.block_reclamation.specs.Status.{is_listed, is_free, is_in_use};
+ghost use Rattle.block_pool.specs.Pools.{AreFree, marked};
+ghost use Rattle.block_reclamation.specs.declared.status.BlockStatus.TheVariants.{Granted};
+ghost use Rattle.desk.specs.Applying.{IsPrepared};
+ghost use Rattle.desk.specs.Refusals.{Refuses, RefusesGrant, IsPlanned, asked};
+
+use crate::entries::{JournalEntry, enter};
+use crate::errors::ApplyError;
+use batch_apply::{Applied, Plan, PlanError, plan};
+use block_pool::{Grant, Pool};
+use edge_block::Block;
+use graph_types::{Batch, List, Outcome};
+use graph_version::Version;
+use std::alloc::{AllocError, Global};
+use std::sync::Arc;
+
+/// The plan of a batch after this version, for one worker.
+pub(crate) fn plan_next(alloc: Global, last: &Version, batch: &Batch) -> Result<Plan, ApplyError>
+    ensures planned { IfOk result (IsPlanned last.now 1 batch.now) }
+    ensures refused { IfErr result (λ e. (free : ℕ) → Refuses last.now free batch.now e) }
+{
+    if last.number() >= 65_536 {
+        return Err(ApplyError::BatchLimit);
+    }
+    match plan(alloc, last, batch, 1) {
+        Ok(plan) => Ok(plan),
+        Err(PlanError::NamesFull) => Err(ApplyError::NamesFull),
+        Err(PlanError::KindsFull) => Err(ApplyError::KindsFull),
+        Err(PlanError::OutOfMemory) => Err(ApplyError::OutOfMemory),
+    }
+}
+
+/// How many blocks a batch asks for behind a version that uses so many.
+fn asked_by(batch: &Batch, used: u32) -> u32
+    requires { used ≤ 65536 }
+    ensures { result ≡ asked batch.now used }
+{
+    let more = if batch.has_expire() { used } else { 0 };
+    batch.len() as u32 + more
+}
+
+/// Grants as many blocks as a plan's shards may take, where all those are free that its batch asks for behind the version
+/// that uses the used ones.
+pub(crate) fn grant_blocks(pool: &mut Pool, batch: &Batch, plan: &Plan) -> Result<Grant, ApplyError>
+    requires { sum_by (λ n. n) plan.now.needs.items ≤ asked batch.now (count_by is_in_use pool.old) }
+    ensures numbers { IfOk result (λ g. AreFree pool.old g.numbers.items
+        × (length g.numbers.items ≡ sum_by (λ n. n) plan.now.needs.items)) }
+    ensures blocks { IfOk result (λ g. numbers_of g.blocks.items ≡ g.numbers.items) }
+    ensures used { IfOk result (λ g. pool.new ≡ marked g.numbers.items Granted pool.old) }
+    ensures enough { OnOk result (asked batch.now (count_by is_in_use pool.old) ≤ count_by is_free pool.old) }
+    ensures refused { IfErr result (RefusesGrant (asked batch.now (count_by is_in_use pool.old)) (count_by is_free pool.old)) }
+    ensures unchanged { OnErr result (pool.new ≡ pool.old) }
+{
+    let free = pool.free();
+    let asked = asked_by(batch, pool.used());
+    if asked > free {
+        return Err(ApplyError::PoolEmpty {
+            needed: asked,
+            free,
+        });
+    }
+    // So many are free, and so memory alone can be wanting.
+    let Ok(grant) = pool.grant(plan.blocks_needed() as u32) else {
+        return Err(ApplyError::OutOfMemory);
+    };
+    Ok(grant)
+}
+
+/// The number of the version after this one.
+pub(crate) fn next_number(last: &Version) -> u64
+    requires { length last.now.batches < batch_limit }
+    ensures { result ≡ length last.now.batches + 1 }
+{
+    last.number() + 1
+}
+
+/// What is made of a batch before anything of the desk changes.
+#[derive(Drop)]
+pub(crate) struct Prepared {
+    pub(crate) version: Arc<Version>,
+    pub(crate) outcomes: List<Outcome>,
+    pub(crate) batch: Arc<Batch>,
+    pub(crate) taken: List<u32>,
+    pub(crate) dropped_numbers: List<u32>,
+    pub(crate) dropped: Vec<Arc<Block>>,
+    pub(crate) unused: Vec<Arc<Block>>,
+}
+
+/// The numbers of blocks, in their order.
+fn numbers_in(alloc: Global, blocks: &[Arc<Block>]) -> Result<Vec<u32>, AllocError>
+    ensures { IfOk result (λ v. v.items ≡ numbers_of blocks.now) }
+{
+    let mut numbers = Vec::with_capacity(alloc, blocks.len())?;
+    for block in blocks {
+        numbers.push(block.number())?;
+    }
+    Ok(numbers)
+}
+
+/// What is made of a batch that was applied. It stands apart: the fewer values a function owns at an exit, the cheaper
+/// its proof.
+pub(crate) fn made_of(
+    alloc: Global,
+    applied: Applied,
+    batch: Arc<Batch>,
+) -> Result<Prepared, AllocError>
+    ensures { IfOk result (λ p. (v : VersionView) (numbers : List ℕ) → IsApplied v (batch_value batch) numbers applied
+        → IsPrepared v (batch_value batch) numbers p) }
+{
+    let Applied {
+        version,
+        outcomes,
+        taken,
+        dropped,
+        unused,
+    } = applied;
+    let dropped_numbers = List::of(numbers_in(alloc, dropped.as_slice())?);
+    let version = Arc::new(alloc, version)?;
+    Ok(Prepared {
+        version,
+        outcomes: List::of(outcomes),
+        batch,
+        taken: List::of(taken),
+        dropped_numbers,
+        dropped,
+        unused,
+    })
+}
+
+/// Takes the version as the last, and appends its entry, for which there is room. It takes no memory.
+pub(crate) fn accept(
+    last: &mut Arc<Version>,
+    journal: &mut Vec<JournalEntry>,
+    version: Arc<Version>,
+    entry: JournalEntry,
+)
+    requires { vec_len journal.old < vec_capacity journal.old }
+    ensures last { arc_value {X = Version} last.new ≡ arc_value {X = Version} version }
+    ensures entered { journal.new.items ≡ journal.old.items ++ entry ∷ [] }
+    ensures len { vec_len journal.new ≡ vec_len journal.old + 1 }
+    ensures capacity { vec_capacity journal.old ≤ vec_capacity journal.new }
+{
+    enter(journal, entry);
+    *last = version;
+}

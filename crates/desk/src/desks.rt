@@ -1,0 +1,367 @@
+//! The desk.
+
+ghost use Rattle.std.specs.Prelude.{◌≡◌, ℕ, ◌+◌, ◌<◌, ◌≤◌, ◌++◌, length, map, count_by, vec_capacity, vec_len};
+ghost use Rattle.std.specs.Prelude.{IfOk, IfErr, OnOk, OnErr, Err};
+ghost use Rattle.std.specs.Arc.{arc_value};
+ghost use Rattle.std.specs.Coded.{codes};
+ghost use Rattle.graph_types.specs.Coded.{graph_code};
+ghost use Rattle.graph_types.specs.Step.{outcomes};
+ghost use Rattle.graph_version.specs.Batches.{batch_value};
+ghost use Rattle.graph_version.specs.declared.versions.Version.{Version};
+ghost use Rattle.graph_version.specs.Versions.{content, empty_version};
+ghost use Rattle.graph_version.specs.Rebased.{IsRebased};
+ghost use Rattle.graph_version.specs.Kept.{edge_total};
+ghost use Rattle.block_reclamation.specs.Status.{is_free, is_in_use, is_retired, is_reclaimable};
+ghost use Rattle.block_reclamation.specs.Copies.{floor_of};
+ghost use Rattle.store_steps.specs.Desks.{IsDesk, IsCollected, births_in, collections};
+ghost use Rattle.store_steps.specs.Dates.{AreDated};
+ghost use Rattle.store_steps.specs.Opening.{IsVersionZero, opened_desk};
+ghost use Rattle.store_steps.specs.Steps.{Accepts, TakesAt, recycling};
+ghost use Rattle.batch_shards.specs.RowBlocks.{numbers_of};
+ghost use Rattle.desk.specs.Ready.{IsLoad};
+ghost use Rattle.desk.specs.Refusals.{Refuses, IsWithin, IsPlanned, block_count};
+ghost use Rattle.desk.specs.Kept.{entry_of};
+ghost use Rattle.desk.specs.Openings.{OpensWith, RefusesOpening};
+
+use crate::applying::plan_next;
+use crate::entries::{JournalEntry, enter};
+use crate::errors::{ApplyError, OpenError};
+use crate::ready::{Accepted, Granted, Load, Ready, grant_for};
+use crate::zero::Zero;
+use batch_apply::{Plan, apply_alone};
+use block_pool::Pool;
+use block_reclamation::PinCopy;
+use core::mem::replace_with;
+use graph_types::{Batch, List};
+use graph_version::Version;
+use std::alloc::{AllocError, Global};
+use std::marker::Model;
+use std::sync::Arc;
+
+/// What a desk is made of.
+#[derive(Drop)]
+pub(crate) struct Parts {
+    pub(crate) alloc: Global,
+    /// The numbers of version 0's blocks, from which the journal replays.
+    pub(crate) opened: List<u32>,
+    pub(crate) last: Arc<Version>,
+    pub(crate) pool: Pool,
+    pub(crate) journal: Vec<JournalEntry>,
+}
+
+/// A desk: the last version, the pool of blocks, and the journal.
+///
+/// ```
+/// let mut desk = Desk::open(alloc, 1_024)?;
+/// let accepted = desk.apply(Arc::new(alloc, batch)?)?;
+/// assert_eq!(rt; desk.stat().number, accepted.number);
+/// ```
+pub struct Desk {
+    pub(crate) parts: Parts,
+}
+
+// Written by hand: who lets one go rests on this function, and not on how each part is let go.
+impl Drop for Desk {
+    fn drop(self) {
+        let Desk { parts: _parts } = self;
+    }
+}
+
+impl Model for Desk {
+    ghost use Rattle.std.specs.Prelude.{vec_len, vec_capacity};
+    ghost use Rattle.std.specs.Coded.{codes};
+    ghost use Rattle.graph_types.specs.Coded.{graph_code};
+    ghost use Rattle.store_steps.specs.Desks.{DeskView};
+    ghost use Rattle.desk.specs.Kept.{IsKept, desk_in};
+
+    ghost Value = { DeskView };
+
+    ghost coded = { Prim.hlevel (codes, graph_code) };
+
+    ghost view = { λ d. desk_in d.parts };
+
+    ghost invariant = { λ d. IsKept (desk_in d.parts) (vec_len d.parts.journal) (vec_capacity d.parts.journal) };
+}
+
+/// What a collection answers: its floor, how many blocks it recycled, and how many stay retired.
+#[derive(Clone, Copy, Debug, PartialEq, Eq)]
+pub struct Collected {
+    pub floor: u64,
+    pub recycled: u32,
+    pub retired: u32,
+}
+
+/// The counts of a desk: the last version's number, names and edges, and how many blocks are free, retired and used.
+#[derive(Clone, Copy, Debug, PartialEq, Eq)]
+pub struct Stat {
+    pub number: u64,
+    pub names: usize,
+    pub edges: u64,
+    pub free: u32,
+    pub retired: u32,
+    pub used: u32,
+}
+
+impl Desk {
+    /// A desk without edges, with so many blocks, all free: version 0, and an empty journal.
+    pub fn open(alloc: Global, blocks: u32) -> Result<Desk, AllocError>
+        requires least { 16 ≤ blocks }
+        requires most { blocks ≤ 65536 }
+        ensures { IfOk result (λ d. d ≡ opened_desk blocks empty_version) }
+    {
+        Ok(Desk::opened(alloc, blocks, Zero::blank(alloc, blocks)?))
+    }
+
+    /// A desk with what a version holds, for which it copies the version's blocks: version 0 begins with the version's content,
+    /// its rows are laid out as the version's, and all blocks but its own are free.
+    ///
+    /// `PoolEmpty` exactly where the version has more blocks than the desk.
+    pub fn open_over(alloc: Global, blocks: u32, version: &Version) -> Result<Desk, OpenError>
+        requires least { 16 ≤ blocks }
+        requires most { blocks ≤ 65536 }
+        ensures zero { IfOk result (λ d. IsVersionZero blocks d.last) }
+        ensures rebased { IfOk result (λ d. IsRebased version.now d.last) }
+        ensures desk { IfOk result (λ d. d ≡ opened_desk blocks d.last) }
+        ensures refused { IfErr result (RefusesOpening (block_count version.now) blocks) }
+        ensures exact { blocks < block_count version.now
+            → result ≡ Err (OpenError.PoolEmpty (block_count version.now) blocks) }
+    {
+        let needed = version.block_count();
+        if needed > blocks as usize {
+            return Err(OpenError::PoolEmpty {
+                needed,
+                free: blocks,
+            });
+        }
+        let zero = Zero::over(alloc, blocks, version)?;
+        Ok(Desk::opened(alloc, blocks, zero))
+    }
+
+    /// The desk at its opening, over version 0. It takes no memory.
+    fn opened(alloc: Global, blocks: u32, zero: Zero) -> Desk
+        requires least { 16 ≤ blocks }
+        requires zero { OpensWith blocks zero }
+        ensures { result ≡ opened_desk blocks (arc_value {X = Version} zero.version) }
+    {
+        let Zero {
+            version,
+            numbers,
+            pool,
+        } = zero;
+        Desk {
+            parts: Parts {
+                alloc,
+                opened: numbers,
+                last: version,
+                pool,
+                journal: Vec::new(alloc),
+            },
+        }
+    }
+
+    /// Grants blocks for a batch that was planned over the last version; or refuses it, and gives the desk back as it was. What is
+    /// then needed to apply the batch goes to whoever does that, with workers or without; [`Granted::ready`] takes what comes of
+    /// it. Who wants a refused batch back keeps a shared copy of it.
+    ///
+    /// `PoolEmpty` where fewer blocks are free than the batch asks for, and `OutOfMemory` where a growth was refused.
+    ///
+    /// ```
+    /// let (granted, Load { plan, batch, blocks }) = desk.grant(batch, plan)?;
+    /// let applied = apply(rt, alloc, &PassAll, granted.last(), plan, batch, blocks);
+    /// let ready = granted.ready(applied)?;
+    /// ```
+    pub fn grant(self, batch: Arc<Batch>, plan: Plan) -> Result<(Granted, Load), (Desk, ApplyError)>
+        requires planned { (workers : ℕ) × IsPlanned self.last workers (batch_value batch) plan }
+        ensures granted { IfOk result (λ r. r.0
+            ≡ record { old = self; ops = batch_value batch; numbers = numbers_of r.1.blocks.items }) }
+        ensures load { IfOk result (λ r. IsLoad self.last (batch_value batch) plan r.1) }
+        ensures within { OnOk result (IsWithin self.last (count_by is_free self.pool) (batch_value batch)) }
+        ensures refused { IfErr result (λ e. Refuses self.last (count_by is_free self.pool) (batch_value batch) e.1) }
+        ensures unchanged { IfErr result (λ e. e.0 ≡ self) }
+    {
+        let Desk { mut parts } = self;
+        match grant_for(&mut parts, &batch, plan) {
+            Ok((numbers, load)) => Ok((Granted::of(parts, numbers, batch), load)),
+            Err(error) => Err((Desk { parts }, error)),
+        }
+    }
+
+    /// Plans a batch and makes the next version, by the caller alone, with all the memory that its acceptance takes; or refuses
+    /// the batch, and gives the desk back as it was. Who wants a refused batch back keeps a shared copy of it.
+    ///
+    /// Refused are, in this order: a batch after 65,536 others, one that would leave more than 65,536 vertex names, one
+    /// that would leave more than 64 kinds, and one that asks for more blocks than are free. Want of memory refuses it
+    /// too, at any place.
+    ///
+    /// ```
+    /// let desk = match desk.begin(batch) {
+    ///     Ok(ready) => ready.finish().0,
+    ///     Err((desk, _error)) => desk,
+    /// };
+    /// ```
+    pub fn begin(self, batch: Arc<Batch>) -> Result<Ready, (Desk, ApplyError)>
+        ensures begun { IfOk result (λ r. (r.old ≡ self) × (r.ops ≡ batch_value batch)) }
+        ensures accepts { IfOk result (λ r. Accepts self (batch_value batch) r.new) }
+        ensures within { OnOk result (IsWithin self.last (count_by is_free self.pool) (batch_value batch)) }
+        ensures refused { IfErr result (λ e. Refuses self.last (count_by is_free self.pool) (batch_value batch) e.1) }
+        ensures unchanged { IfErr result (λ e. e.0 ≡ self) }
+    {
+        let alloc = self.parts.alloc;
+        let plan = match plan_next(alloc, &self.parts.last, &batch) {
+            Ok(plan) => plan,
+            Err(error) => return Err((self, error)),
+        };
+        let (granted, load) = self.grant(batch, plan)?;
+        let Load {
+            plan,
+            batch,
+            blocks,
+        } = load;
+        let applied = apply_alone(alloc, granted.last(), plan, batch, blocks);
+        match granted.ready(applied) {
+            Ok(ready) => Ok(ready),
+            Err(desk) => Err((desk, ApplyError::OutOfMemory)),
+        }
+    }
+
+    /// Applies a batch, by the caller alone, and accepts it; or refuses it, and leaves all as it was, as `begin` does.
+    pub fn apply(&mut self, batch: Arc<Batch>) -> Result<Accepted, ApplyError>
+        ensures accepted { OnOk result (Accepts self.old (batch_value batch) self.new) }
+        ensures number { IfOk result (λ a. a.number ≡ length self.new.last.batches) }
+        ensures outcomes { IfOk result (λ a. a.outcomes ≡ outcomes (batch_value batch) (content self.old.last)) }
+        ensures within { OnOk result (IsWithin self.old.last (count_by is_free self.old.pool) (batch_value batch)) }
+        ensures refused { IfErr result (Refuses self.old.last (count_by is_free self.old.pool) (batch_value batch)) }
+        ensures unchanged { OnErr result (self.new ≡ self.old) }
+    {
+        replace_with(self, batch, Desk::applied)
+    }
+
+    /// As `apply`, by value.
+    fn applied(self, batch: Arc<Batch>) -> (Desk, Result<Accepted, ApplyError>)
+        ensures accepted { OnOk result.1 (Accepts self (batch_value batch) result.0) }
+        ensures number { IfOk result.1 (λ a. a.number ≡ length result.0.last.batches) }
+        ensures outcomes { IfOk result.1 (λ a. a.outcomes ≡ outcomes (batch_value batch) (content self.last)) }
+        ensures within { OnOk result.1 (IsWithin self.last (count_by is_free self.pool) (batch_value batch)) }
+        ensures refused { IfErr result.1 (Refuses self.last (count_by is_free self.pool) (batch_value batch)) }
+        ensures unchanged { OnErr result.1 (result.0 ≡ self) }
+    {
+        match self.begin(batch) {
+            Ok(ready) => {
+                let (desk, accepted) = ready.finish();
+                (desk, Ok(accepted))
+            }
+            Err((desk, error)) => (desk, Err(error)),
+        }
+    }
+
+    /// Recycles each retired block that the copy of the pins doesn't need; its last number is at most the desk's. It
+    /// takes no memory.
+    pub fn collect(&mut self, copy: &PinCopy) -> Collected
+        requires { copy.now.last ≤ length self.old.last.batches }
+        ensures collected { IsCollected self.old copy.now self.new }
+        ensures births { (source : ℕ) → births_in self.new source ≡ births_in self.old source }
+        ensures steps { TakesAt copy.now self.old (recycling copy.now self.old.pool) self.new }
+        ensures floor { result.floor ≡ floor_of copy.now }
+        ensures recycled { result.recycled ≡ count_by (is_reclaimable copy.now) self.old.pool }
+        ensures retired { result.retired ≡ count_by is_retired self.new.pool }
+    {
+        let recycled = self.parts.pool.recycle(copy);
+        enter_collection(&mut self.parts.journal, *copy, recycled);
+        let retired = self.parts.pool.retired();
+        Collected {
+            floor: copy.floor(),
+            recycled,
+            retired,
+        }
+    }
+
+    /// Ends the desk: the last version comes back, and all else is given back.
+    pub fn close(self) -> Arc<Version>
+        ensures { arc_value {X = Version} result ≡ self.last }
+    {
+        let Desk { parts } = self;
+        let Parts {
+            alloc: _alloc,
+            opened: _opened,
+            last,
+            pool: _pool,
+            journal: _journal,
+        } = parts;
+        last
+    }
+
+    /// The last version.
+    pub fn last(&self) -> &Arc<Version>
+        ensures { arc_value {X = Version} result.now ≡ self.now.last }
+    {
+        &self.parts.last
+    }
+
+    /// Where the desk takes its memory.
+    pub fn allocator(&self) -> Global {
+        self.parts.alloc
+    }
+
+    /// How many blocks the desk has.
+    pub fn blocks(&self) -> u32
+        ensures count { result ≡ length self.now.pool }
+        ensures limits { (16 ≤ result) × (result ≤ 65536) }
+    {
+        self.parts.pool.free() + self.parts.pool.used() + self.parts.pool.retired()
+    }
+
+    /// The counts.
+    pub fn stat(&self) -> Stat
+        ensures number { result.number ≡ length self.now.last.batches }
+        ensures names { result.names ≡ length (content self.now.last).names }
+        ensures edges { result.edges ≡ edge_total self.now.last }
+        ensures free { result.free ≡ count_by is_free self.now.pool }
+        ensures retired { result.retired ≡ count_by is_retired self.now.pool }
+        ensures used { result.used ≡ count_by is_in_use self.now.pool }
+    {
+        let Parts { last, pool, .. } = &self.parts;
+        Stat {
+            number: last.number(),
+            names: last.names().len(),
+            edges: last.edge_count(),
+            free: pool.free(),
+            retired: pool.retired(),
+            used: pool.used(),
+        }
+    }
+
+    /// What is true of every desk, for a proof that cites it: its journal replays legally, to the last version's batches and to
+    /// what each block is. So no block was born or retired with a number above the last version's, and the used blocks are those
+    /// of the last version. It does nothing.
+    pub fn facts(&self)
+        ensures replays { IsDesk self.now }
+        ensures dated { AreDated self.now.opened (length self.now.last.batches) self.now.pool }
+        ensures used { count_by is_in_use self.now.pool ≡ block_count self.now.last }
+    {
+        let _ = &self.parts;
+    }
+
+    /// What the desk did, in order. It replays legally, to the last version's batches and to what each block is. So no block
+    /// was born or retired with a number above the last version's, and the used blocks are those of the last version.
+    pub fn journal(&self) -> &[JournalEntry]
+        ensures entries { map entry_of result.now ≡ self.now.journal }
+        ensures replays { IsDesk self.now }
+        ensures dated { AreDated self.now.opened (length self.now.last.batches) self.now.pool }
+        ensures used { count_by is_in_use self.now.pool ≡ block_count self.now.last }
+    {
+        self.facts();
+        self.parts.journal.as_slice()
+    }
+}
+
+/// Enters a collection that recycled a block, for which there is room.
+fn enter_collection(journal: &mut Vec<JournalEntry>, copy: PinCopy, recycled: u32)
+    requires { 0 < recycled → vec_len journal.old < vec_capacity journal.old }
+    ensures entries { map entry_of journal.new.items ≡ map entry_of journal.old.items ++ collections copy recycled }
+    ensures len { vec_len journal.new ≤ vec_len journal.old + recycled }
+    ensures capacity { vec_capacity journal.old ≤ vec_capacity journal.new }
+{
+    if recycled > 0 {
+        enter(journal, JournalEntry::Collected { copy, recycled });
+    }
+}

@@ -1,0 +1,28 @@
+//! The desk, where batches are applied and blocks collected: the last version, the pool of blocks, and the journal. It has no
+//! lock, starts no thread and waits for nobody.
+//!
+//! A batch is applied in two steps: [`Desk::begin`] plans it and makes the next version, with all the memory that its
+//! acceptance takes; [`Ready::finish`] accepts it, or [`Ready::cancel`] leaves the desk of before. Who has workers for it begins
+//! with [`Desk::grant`], and has them plan and apply it. [`OwnedDesk`] is a desk for one owner, who holds versions by their
+//! numbers.
+//!
+//! The store is STINGER's (Ediger, McColl, Riedy, Bader; IEEE HPEC 2012) with held versions as Aspen has them (Dhulipala,
+//! Blelloch, Shun; PLDI 2019).
+#![tactic(auto)]
+
+mod applying;
+mod desks;
+mod entries;
+mod errors;
+mod moves;
+mod opening;
+mod owned;
+mod ready;
+mod seats;
+mod zero;
+
+pub use desks::{Collected, Desk, Stat};
+pub use entries::JournalEntry;
+pub use errors::{ApplyError, HoldError, OpenError, ReleaseError};
+pub use owned::{Held, Hold, OwnedDesk};
+pub use ready::{Accepted, Granted, Load, Ready};

@@ -1,0 +1,68 @@
+//! Moves of blocks between the pool's sets, in time by their count. None of these takes memory.
+
+ghost use Rattle.std.specs.Prelude.{◌≡◌};
+ghost use Rattle.block_pool.specs.Pools.{marked, changed, retired};
+ghost use Rattle.block_reclamation.specs.declared.status.BlockStatus.TheVariants.{Free, Used};
+ghost use Rattle.batch_shards.specs.RowBlocks.{numbers_of};
+ghost use Rattle.desk.specs.Applying.{AreUsedOnce, AreBornOnce};
+
+use block_pool::Pool;
+use edge_block::Block;
+use std::sync::Arc;
+
+/// Gives back what was granted, without the blocks: the one that was granted last is given back first.
+pub(crate) fn give_back_numbers(pool: &mut Pool, mut numbers: Vec<u32>)
+    requires { AreUsedOnce numbers.items pool.old }
+    ensures { pool.new ≡ marked numbers.items Free pool.old }
+{
+    while let Some(number) = numbers.pop() {
+        pool.give_back(number, None);
+    }
+}
+
+/// Gives back what was granted, with the blocks.
+pub(crate) fn give_back_blocks(pool: &mut Pool, mut blocks: Vec<Arc<Block>>)
+    requires { AreUsedOnce (numbers_of blocks.items) pool.old }
+    ensures { pool.new ≡ marked (numbers_of blocks.items) Free pool.old }
+{
+    while let Some(block) = blocks.pop() {
+        pool.give_back(block.number(), Some(block));
+    }
+}
+
+/// Notes the version that first lists these blocks.
+pub(crate) fn born_blocks(pool: &mut Pool, taken: &[u32], version: u64)
+    requires { AreUsedOnce taken.now pool.old }
+    ensures { pool.new ≡ marked taken.now (Used version) pool.old }
+{
+    let mut rest = taken;
+    while let [number, others @ ..] = rest {
+        pool.born(*number, version);
+        rest = others;
+    }
+}
+
+/// Retires blocks with the number of the version that leaves them out.
+pub(crate) fn retire_blocks(pool: &mut Pool, mut blocks: Vec<Arc<Block>>, version: u64)
+    requires { AreBornOnce (numbers_of blocks.items) pool.old }
+    ensures { pool.new ≡ changed (retired version) (numbers_of blocks.items) pool.old }
+{
+    while let Some(block) = blocks.pop() {
+        pool.retire(block, version);
+    }
+}
+
+/// Moves the blocks that a version dropped and those that it didn't need: they are retired with its number, or given back.
+pub(crate) fn move_blocks(
+    pool: &mut Pool,
+    dropped: Vec<Arc<Block>>,
+    unused: Vec<Arc<Block>>,
+    version: u64,
+)
+    requires dropped { AreBornOnce (numbers_of dropped.items) pool.old }
+    requires unused { AreUsedOnce (numbers_of unused.items) (changed (retired version) (numbers_of dropped.items) pool.old) }
+    ensures { pool.new ≡ marked (numbers_of unused.items) Free (changed (retired version) (numbers_of dropped.items) pool.old) }
+{
+    retire_blocks(pool, dropped, version);
+    give_back_blocks(pool, unused);
+}

@@ -1,0 +1,64 @@
+//! Version 0 of a store, before there is a desk.
+
+ghost use Rattle.std.specs.Prelude.{◌≡◌, ◌≤◌, IfOk};
+ghost use Rattle.std.specs.Arc.{arc_value};
+ghost use Rattle.graph_version.specs.declared.versions.Version.{Version};
+ghost use Rattle.graph_version.specs.Versions.{empty_version};
+ghost use Rattle.graph_version.specs.Rebased.{IsRebased};
+ghost use Rattle.desk.specs.Openings.{OpensWith};
+ghost use Rattle.desk.specs.Refusals.{block_count};
+
+use crate::moves::born_blocks;
+use block_pool::{Grant, Pool};
+use graph_types::List;
+use graph_version::Version;
+use std::alloc::{AllocError, Global};
+use std::sync::Arc;
+
+/// Version 0 of a store with the pool that its blocks are of, and their numbers.
+#[derive(Drop)]
+pub(crate) struct Zero {
+    pub(crate) version: Arc<Version>,
+    pub(crate) numbers: List<u32>,
+    pub(crate) pool: Pool,
+}
+
+impl Zero {
+    /// The version without batches and blocks, and a pool whose blocks are all free.
+    pub(crate) fn blank(alloc: Global, blocks: u32) -> Result<Zero, AllocError>
+        requires least { 16 ≤ blocks }
+        requires most { blocks ≤ 65536 }
+        ensures opens { IfOk result (OpensWith blocks) }
+        ensures version { IfOk result (λ zero. arc_value {X = Version} zero.version ≡ empty_version) }
+    {
+        Ok(Zero {
+            version: Arc::new(alloc, Version::empty(alloc))?,
+            numbers: List::of(Vec::new(alloc)),
+            pool: Pool::new(alloc, blocks)?,
+        })
+    }
+
+    /// A version that begins with what this one holds, over copies of its blocks.
+    pub(crate) fn over(alloc: Global, blocks: u32, version: &Version) -> Result<Zero, AllocError>
+        requires least { 16 ≤ blocks }
+        requires most { blocks ≤ 65536 }
+        requires room { block_count version.now ≤ blocks }
+        ensures opens { IfOk result (OpensWith blocks) }
+        ensures rebased { IfOk result (λ zero. IsRebased version.now (arc_value {X = Version} zero.version)) }
+    {
+        let mut pool = Pool::new(alloc, blocks)?;
+        // So many are free, and so memory alone can be wanting.
+        let Ok(Grant { numbers, blocks }) = pool.grant(version.block_count() as u32) else {
+            return Err(AllocError);
+        };
+        let zero = version.rebased(version.copied_into(blocks)?)?;
+        // A version's contract says with its number that it is one.
+        let number = zero.number();
+        born_blocks(&mut pool, numbers.as_slice(), number);
+        Ok(Zero {
+            version: Arc::new(alloc, zero)?,
+            numbers: List::of(numbers),
+            pool,
+        })
+    }
+}

@@ -1,5 +1,0 @@
-use Rattle.stream_store.proofs.entries.enter.Goals as goal
-
--- Its search is long where it fails.
-pub returns-clause-entered : goal.returns-clause-entered
-returns-clause-entered c = c.in-Ok.ensures.items
