@@ -1,6 +1,6 @@
 -- A desk with one owner, who holds versions by their numbers: each number that is held has one seat, and a count.
 use Rattle.std.specs.Prelude.{◌≡◌, ◌≢◌, ◌⊎◌, ℕ, ◌+◌, ◌-◌, ◌<◌, ◌≤◌, List, length, Option, Some, None, replicate, slice_index_or, slice_set}
-use Rattle.std.specs.Prelude.{if◌then◌else◌, ◌==◌}
+use Rattle.std.specs.Prelude.{if◌then◌else◌, ◌==◌, true}
 use Rattle.block_reclamation.specs.declared.copies.{Pin.Pin, PinCopy.PinCopy, TheConstants.SEATS}
 use Rattle.block_reclamation.specs.{Board.{BoardState, IsBoard, no_pins, with_pin}, Copies.{pin_at, copy_of}}
 use Rattle.store_steps.specs.Desks.{DeskView}

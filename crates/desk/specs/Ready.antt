@@ -7,8 +7,8 @@ use Rattle.batch_apply.specs.declared.plans.Plan.{Plan}
 use Rattle.batch_shards.specs.RowBlocks.{blocks_of, numbers_of}
 use Rattle.block_reclamation.specs.{Status.is_retired, declared.status.BlockStatus.TheVariants.{Free, Granted}}
 use Rattle.block_pool.specs.Pools.{marked, AreFree}
-use Rattle.store_steps.specs.Desks.{DeskView, IsDesk, desk_after}
-use Rattle.desk.specs.{Applying.IsPrepared, Kept.desk_with, declared.{applying.Prepared.Prepared, desks.Parts.Parts, ready.Load.Load}}
+use Rattle.store_steps.specs.Desks.{DeskView, desk_after}
+use Rattle.desk.specs.{Applying.IsPrepared, Kept.{IsKept, desk_with}, declared.{applying.Prepared.Prepared, desks.Parts.Parts, ready.Load.Load}}
 use Rattle.graph_version.specs.Rows as rows
 
 -- Granted
@@ -23,14 +23,11 @@ pub record GrantedView : Type 0 where
 abbrev pub old_of : Parts → List ℕ → DeskView
 old_of parts numbers = desk_with parts (marked numbers Free parts.pool)
 
--- at least 16 blocks, of which these were granted to the desk of before, and the journal has room for as many entries as blocks
--- are retired
+-- blocks of these numbers were granted to the desk of before, with which all that it keeps would be kept
 pub record IsGranted (parts : Parts) (numbers : List ℕ) : Type 0 where
-  pub before : IsDesk (old_of parts numbers)
-  pub blocks_some : 16 ≤ length parts.pool
+  pub before : IsKept (old_of parts numbers) (vec_len parts.journal) (vec_capacity parts.journal)
   pub free : AreFree (old_of parts numbers).pool numbers
   pub granted : parts.pool ≡ marked numbers Granted (old_of parts numbers).pool
-  pub room_is : vec_len parts.journal + count_by is_retired parts.pool ≤ vec_capacity parts.journal
 
 -- what is needed to apply a batch to this version: the plan, the batch, and as many blocks as the plan's shards may take, each of
 -- another number and none of the version's

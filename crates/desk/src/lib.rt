@@ -15,7 +15,6 @@ mod desks;
 mod entries;
 mod errors;
 mod moves;
-mod opening;
 mod owned;
 mod ready;
 mod seats;

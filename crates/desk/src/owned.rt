@@ -92,11 +92,18 @@ impl OwnedDesk {
     pub fn over(desk: Desk) -> OwnedDesk
         ensures { result ≡ opened_owned desk 0 }
     {
+        OwnedDesk::opened(desk, 0)
+    }
+
+    /// A desk at this opening, of which nothing is held.
+    fn opened(desk: Desk, opening: u64) -> OwnedDesk
+        ensures { result ≡ opened_owned desk opening }
+    {
         OwnedDesk {
             desk,
             board: Board::new(),
             counts: [0; SEATS],
-            opening: 0,
+            opening,
         }
     }
 
@@ -212,10 +219,7 @@ impl OwnedDesk {
             return Err(AllocError);
         };
         let opened = reopened(&self.desk)?;
-        *self = OwnedDesk {
-            opening,
-            ..OwnedDesk::over(opened)
-        };
+        *self = OwnedDesk::opened(opened, opening);
         Ok(())
     }
 

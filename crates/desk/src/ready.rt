@@ -11,7 +11,7 @@ ghost use Rattle.graph_version.specs.Versions.{VersionView, content};
 ghost use Rattle.batch_shards.specs.RowBlocks.{numbers_of};
 ghost use Rattle.batch_apply.specs.Applied.{IsApplied};
 ghost use Rattle.block_reclamation.specs.Status.{is_free, is_retired};
-ghost use Rattle.block_reclamation.specs.declared.status.BlockStatus.TheVariants.{Granted};
+ghost use Rattle.block_reclamation.specs.declared.status.BlockStatus.TheVariants as statuses;
 ghost use Rattle.block_pool.specs.Pools.{AreFree, marked};
 ghost use Rattle.store_steps.specs.Steps.{Accepts};
 ghost use Rattle.store_steps.specs.Desks.{IsDesk};
@@ -194,7 +194,8 @@ fn made_with_room(
     ensures len { vec_len parts.new.journal ≡ vec_len parts.old.journal }
     ensures capacity { vec_capacity parts.old.journal ≤ vec_capacity parts.new.journal }
 {
-    let prepared = made_of(parts.alloc, applied?, batch)?;
+    let applied = applied?;
+    let prepared = made_of(parts.alloc, applied, batch)?;
     let room = parts.pool.retired() as usize + prepared.dropped.len() + 1;
     parts.journal.reserve(room)?;
     Ok(prepared)
@@ -209,7 +210,7 @@ pub(crate) fn grant_for(
     requires desk { IsDesk (desk_in parts.old) }
     requires planned { (workers : ℕ) × IsPlanned (desk_in parts.old).last workers (batch_value batch.now) plan }
     ensures free { IfOk result (λ r. AreFree parts.old.pool r.0.items) }
-    ensures granted { IfOk result (λ r. parts.new.pool ≡ marked r.0.items Granted parts.old.pool) }
+    ensures granted { IfOk result (λ r. parts.new.pool ≡ marked r.0.items statuses.Granted parts.old.pool) }
     ensures numbers { IfOk result (λ r. r.0.items ≡ numbers_of r.1.blocks.items) }
     ensures load { IfOk result (λ r. IsLoad (desk_in parts.old).last (batch_value batch.now) plan r.1) }
     ensures within { OnOk result (IsWithin (desk_in parts.old).last (count_by is_free parts.old.pool) (batch_value batch.now)) }

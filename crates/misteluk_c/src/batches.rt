@@ -8,6 +8,7 @@ use crate::codes::{HELD_ALREADY, MEMORY, NO_HANDLE, OK, push_code};
 use batch_columns::{push_add, push_expire, push_insert, push_remove};
 use graph_types::Batch;
 use std::alloc::Global;
+use std::sync::Arc;
 use store_handles::{Handle, Held};
 
 /// Makes an empty batch.
@@ -18,7 +19,10 @@ pub extern "C" fn misteluk_batch_new(alloc: Global, out: &mut Handle) -> u32
     if !out.is_empty() {
         return HELD_ALREADY;
     }
-    let Ok(boxed) = Box::new(alloc, Held::Batch(Batch::new(alloc))) else {
+    let Ok(batch) = Arc::new(alloc, Batch::new(alloc)) else {
+        return MEMORY;
+    };
+    let Ok(boxed) = Box::new(alloc, Held::Batch(batch)) else {
         return MEMORY;
     };
     out.put(boxed);
@@ -74,7 +78,10 @@ pub extern "C" fn misteluk_batch_insert(
         return NO_HANDLE;
     };
     let code = match &mut *held {
-        Held::Batch(batch) => push_code(push_insert(alloc, batch, kind, source, target, weight, time)),
+        Held::Batch(batch) => match Arc::make_mut(batch) {
+            Ok(batch) => push_code(push_insert(alloc, batch, kind, source, target, weight, time)),
+            Err(_) => MEMORY,
+        },
         _ => NO_HANDLE,
     };
     batch.put(held);
@@ -99,7 +106,10 @@ pub extern "C" fn misteluk_batch_add(
         return NO_HANDLE;
     };
     let code = match &mut *held {
-        Held::Batch(batch) => push_code(push_add(alloc, batch, kind, source, target, amount, time)),
+        Held::Batch(batch) => match Arc::make_mut(batch) {
+            Ok(batch) => push_code(push_add(alloc, batch, kind, source, target, amount, time)),
+            Err(_) => MEMORY,
+        },
         _ => NO_HANDLE,
     };
     batch.put(held);
@@ -122,7 +132,10 @@ pub extern "C" fn misteluk_batch_remove(
         return NO_HANDLE;
     };
     let code = match &mut *held {
-        Held::Batch(batch) => push_code(push_remove(alloc, batch, kind, source, target)),
+        Held::Batch(batch) => match Arc::make_mut(batch) {
+            Ok(batch) => push_code(push_remove(alloc, batch, kind, source, target)),
+            Err(_) => MEMORY,
+        },
         _ => NO_HANDLE,
     };
     batch.put(held);
@@ -138,7 +151,10 @@ pub extern "C" fn misteluk_batch_expire(alloc: Global, batch: &mut Handle, time:
         return NO_HANDLE;
     };
     let code = match &mut *held {
-        Held::Batch(batch) => push_code(push_expire(batch, time)),
+        Held::Batch(batch) => match Arc::make_mut(batch) {
+            Ok(batch) => push_code(push_expire(batch, time)),
+            Err(_) => MEMORY,
+        },
         _ => NO_HANDLE,
     };
     batch.put(held);
