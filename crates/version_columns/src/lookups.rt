@@ -57,17 +57,17 @@ fn bytes_in(book: &NameBook) -> u64
 {
     let mut bytes = 0_u64;
     for number in 0..book.len() {
-        bytes += name_of(book, number).len() as u64;
+        bytes += name_of(book, number as u32).len() as u64;
     }
     bytes
 }
 
 /// The bytes of a name of a book.
-pub(crate) fn name_of(book: &NameBook, number: usize) -> &[u8]
+pub(crate) fn name_of(book: &NameBook, number: u32) -> &[u8]
     requires { number < length book.now.names }
     ensures { slice_get book.now.names number ≡ Some result.now }
 {
-    match book.name(number as u32) {
+    match book.name(number) {
         Some(name) => name.as_bytes(),
         None => &[],
     }

@@ -1,6 +1,6 @@
 //! Names in one text.
 
-ghost use Rattle.std.specs.Prelude.{length};
+ghost use Rattle.std.specs.Prelude.{◌≡◌, ◌+◌, ◌≤◌, ◌++◌, length, take, drop};
 ghost use Rattle.version_columns.specs.Texts.{WritesNames};
 
 use crate::lookups::name_of;
@@ -32,14 +32,25 @@ pub fn write_names(
         return Err(TextError::Fewer);
     }
     let mut at = 0;
-    for (place, end) in ends.iter_mut().enumerate() {
-        let name = name_of(book, first + place);
+    for place in 0..ends.len() {
+        let name = name_of(book, (first + place) as u32);
         if name.len() > text.len() - at {
             return Err(TextError::NoRoom);
         }
-        text[at..at + name.len()].copy_from_slice(name);
-        at += name.len();
-        *end = at as u64;
+        at = put_text(text, at, name);
+        ends[place] = at as u64;
     }
     Ok(())
+}
+
+/// Writes bytes from a place on, and tells the place behind them.
+fn put_text(text: &mut [u8], at: usize, bytes: &[u8]) -> usize
+    requires { at + length bytes.now ≤ length text.old }
+    ensures bytes { take (at + length bytes.now) text.new ≡ take at text.old ++ bytes.now }
+    ensures rest { drop (at + length bytes.now) text.new ≡ drop (at + length bytes.now) text.old }
+    ensures end { result ≡ at + length bytes.now }
+{
+    let end = at + bytes.len();
+    text[at..end].copy_from_slice(bytes);
+    end
 }

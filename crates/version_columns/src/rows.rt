@@ -72,7 +72,7 @@ fn count_block(block: &Block, view: &Filter) -> usize
 
 /// How many edges of a view blocks have.
 pub(crate) fn count_blocks(blocks: &[Arc<Block>], view: &Filter) -> usize
-    requires { length blocks.now ≤ 2 ^ 32 }
+    requires { length blocks.now ≤ 2 ^ 58 }
     ensures { result ≡ length (edges_of view.now (block_values blocks.now)) }
 {
     let mut count = 0_usize;
