@@ -13,11 +13,14 @@ printable_ascii (byte ∷ bytes) all =
     let each = and_parts (is_printable byte) (list_all is_printable bytes) all in
     λ i. elim i as (λ i. get_or (byte ∷ bytes) i 0 < 128) [ zero ↦ below_128 byte each.0 | suc i ↦ printable_ascii bytes each.1 i ]
 
-no_name : (b : Bool) → (b ≡ true → ⊥) → b ≡ false
-no_name true none = absurd (none refl)
-no_name false none = refl
+-- a test that can't be true is false
+pub never_true : (b : Bool) → (b ≡ true → ⊥) → b ≡ false
+never_true true none = absurd (none refl)
+never_true false none = refl
+
+pub name_text : (bytes : List ℕ) → is_name bytes ≡ true → IsUtf8 bytes
+name_text bytes name = IsUtf8-from_ascii bytes (printable_ascii bytes (and_parts _ _ name).1)
 
 -- bytes that are no text are no name
 pub no_text_no_name : (bytes : List ℕ) → (IsUtf8 bytes → ⊥) → is_name bytes ≡ false
-no_text_no_name bytes none =
-    no_name (is_name bytes) (λ name. none (IsUtf8-from_ascii bytes (printable_ascii bytes (and_parts _ _ name).1)))
+no_text_no_name bytes none = never_true (is_name bytes) (λ name. none (name_text bytes name))

@@ -32,6 +32,6 @@ abbrev pub edge_at : Graph → ℕ → ℕ → ℕ → Result Marks ColumnError
 edge_at g kind source target =
     if nat_lt kind (length g.kinds)
     then (if nat_lt source (length g.names) && nat_lt target (length g.names)
-      then marks_of (get g.edges (record { kind = kind; source = source; target = target }))
-      else Err NoVertex)
+    then marks_of (get g.edges (record { kind = kind; source = source; target = target }))
+    else Err NoVertex)
     else Err NoKind

@@ -134,7 +134,7 @@ WritesEdges v view old new count (Err NoKind) = filter_of (content v) view ≡ N
 WritesEdges v view old new count (Err BadLength) =
     (f : Filter) × (filter_of (content v) view ≡ Some f) × (new.source ≡ old.source)
     × (((length old.sources == length old.columns.kinds) && are_long (length old.columns.kinds) old.columns ≡ false)
-      ⊎ IsTooLong f v old.source (length old.columns.kinds) count)
+    ⊎ IsTooLong f v old.source (length old.columns.kinds) count)
 WritesEdges v view old new count (Err _) = ⊥
 
 abbrev pub edge_columns : ℕ → List ℕ → Columns → EdgeColumns

@@ -32,5 +32,5 @@ pub record AreDegrees (f : Filter) (g : Graph) (outgoing incoming : List ℕ) (w
 abbrev pub WritesDegrees : Graph → View → List ℕ → List ℕ → List ℤ → Result (Unit {0}) ColumnError → Type 0
 WritesDegrees g view outgoing incoming weights result =
     IsWritten (first_refusal (filter_of g view) true
-      ((length outgoing == length g.names) && (length incoming == length g.names) && (length weights == length g.names)))
+    ((length outgoing == length g.names) && (length incoming == length g.names) && (length weights == length g.names)))
     ((f : Filter) × (filter_of g view ≡ Some f) × AreDegrees f g outgoing incoming weights) result

@@ -14,8 +14,8 @@ abbrev pub filter_of : Graph → View → Option Filter
 filter_of g view =
     if view.kind == no_number then Some (record { kind = None; lo = view.from; hi = view.to })
     else (if nat_lt view.kind (length g.kinds)
-      then Some (record { kind = Some (record { 0 = view.kind }); lo = view.from; hi = view.to })
-      else None)
+    then Some (record { kind = Some (record { 0 = view.kind }); lo = view.from; hi = view.to })
+    else None)
 
 -- the first refusal that holds, of the kind, the vertex and the lengths
 abbrev pub first_refusal : Option Filter → Bool → Bool → Option ColumnError

@@ -53,7 +53,9 @@ fn write_rows(
         if count_blocks(blocks, view) > kinds.len() - count {
             break;
         }
-        let end = write_blocks(blocks, view, count, kinds, targets, weights, firsts, recents);
+        let end = write_blocks(
+            blocks, view, count, kinds, targets, weights, firsts, recents,
+        );
         fill(sources, count, end, next);
         count = end;
         next += 1;

@@ -91,8 +91,12 @@ pub fn kind(version: &Version, name: &[u8]) -> Option<u32>
 fn number_in(book: &NameBook, name: &[u8]) -> Option<u32>
     ensures { SomeIff result (IsTrue (is_listed book.now.names name.now)) (number_of book.now.names name.now) }
 {
-    let name = str::from_utf8(name).ok()?;
-    book.number(name)
+    // Who asks for the length learns that the names are names, and so text.
+    let _length = book.len();
+    match str::from_utf8(name) {
+        Ok(name) => book.number(name),
+        Err(_) => None,
+    }
 }
 
 /// One edge by its numbers: `NoKind`, `NoVertex`, `NoEdge` in this order. It takes no memory.

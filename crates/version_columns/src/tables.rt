@@ -99,6 +99,7 @@ fn put_levels(levels: &[Option<u32>], column: &mut [u32])
 
 /// Writes for each vertex how many edges of the view leave it, how many enter it, and the sum of the weights of those that
 /// leave it. `NoKind`, `BadLength`, or want of memory.
+#[tactic(auto, using(crate::proofs::Columns::degrees_long))]
 pub fn write_degrees(
     alloc: Global,
     version: &Version,
@@ -124,12 +125,7 @@ pub fn write_degrees(
 }
 
 /// Writes degrees column by column.
-fn put_degrees(
-    table: &[Degree],
-    outgoing: &mut [u32],
-    incoming: &mut [u32],
-    weights: &mut [i64],
-)
+fn put_degrees(table: &[Degree], outgoing: &mut [u32], incoming: &mut [u32], weights: &mut [i64])
     requires outgoing { length outgoing.old ≡ length table.now }
     requires incoming { length incoming.old ≡ length table.now }
     requires weights { length weights.old ≡ length table.now }

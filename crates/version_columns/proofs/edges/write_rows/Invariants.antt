@@ -9,7 +9,7 @@ invariant-loop-next l = record {
   counted : l.count ≡ length (rows_from l.view l.version l.source (l.next - l.source));
   fits : l.count ≤ length l.kinds;
   edges : columns l.kinds l.targets l.weights l.firsts l.recents
-    ≡ with_edges 0 (rows_from l.view l.version l.source (l.next - l.source))
+      ≡ with_edges 0 (rows_from l.view l.version l.source (l.next - l.source))
       (columns l.fn.kinds l.fn.targets l.fn.weights l.fn.firsts l.fn.recents);
   sources_are : l.sources ≡ with_values 0 (sources_from l.view l.version l.source (l.next - l.source)) l.fn.sources;
 }

@@ -13,6 +13,9 @@ loop-block-preserved c =
     let i = c.loop-block.block-index in
     let block : Arc Block Global = c.block-item.result in
     let old = columns c.loop-block.kinds c.loop-block.targets c.loop-block.weights c.loop-block.firsts c.loop-block.recents in
+    let new =
+    columns c.write_block-at.new.kinds c.write_block-at.new.targets c.write_block-at.new.weights c.write_block-at.new.firsts
+    c.write_block-at.new.recents in
     let item : block ≡ get_or blocks i block = c.block-item.is in
     let same : block_value (get_or blocks i block) ≡ c.deref.result.now = ap block_value (sym item) ∙ sym c.deref.ensures in
     let piece = block_edges f c.deref.result.now in
@@ -22,7 +25,7 @@ loop-block-preserved c =
     let wrote = c.write_block-at.ensures.columns in
     let end = c.write_block-at.ensures.end in
     record {
-      written = ap (λ n. with_edges n rest _) end ∙ ap (with_edges (c.loop-block.at + length piece) rest) wrote
+      written = ap (λ n. with_edges n rest new) end ∙ ap (with_edges (c.loop-block.at + length piece) rest) wrote
           ∙ sym (with_edges-append c.loop-block.at piece rest old)
           ∙ ap (λ (es : List LentEdge). with_edges c.loop-block.at es old) (sym split) ∙ c.loop-block.invariant.written;
       left = omega (arith, end, c.loop-block.invariant.left, ap length split, length-append piece rest);

@@ -7,8 +7,8 @@ abbrev pub invariant-loop-block : goal.invariant-loop-block
 invariant-loop-block l = record {
   written : with_edges l.at (edges_of l.view (block_values (drop l.block-index l.blocks)))
       (columns l.kinds l.targets l.weights l.firsts l.recents)
-    ≡ with_edges l.fn.at (edges_of l.view (block_values l.blocks))
+      ≡ with_edges l.fn.at (edges_of l.view (block_values l.blocks))
       (columns l.fn.kinds l.fn.targets l.fn.weights l.fn.firsts l.fn.recents);
   left : l.at + length (edges_of l.view (block_values (drop l.block-index l.blocks)))
-    ≡ l.fn.at + length (edges_of l.view (block_values l.blocks));
+      ≡ l.fn.at + length (edges_of l.view (block_values l.blocks));
 }
