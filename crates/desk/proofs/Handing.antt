@@ -9,17 +9,17 @@ use Rattle.graph_version.specs.{declared.versions.Version.Version, Versions.Vers
 use Rattle.block_reclamation.specs.{Status.{is_listed, is_free, is_retired, is_in_use}, declared.status.BlockStatus.BlockStatus}
 use Rattle.block_reclamation.specs.declared.status.BlockStatus.TheVariants.{Free, Granted, Used}
 use Rattle.block_pool.specs.Pools.{retired, marked, changed, AreFree}
-use Rattle.version_shelf.specs.Shelves.{ShelfView}
 use Rattle.store_steps.{specs.{Desks.{DeskView, IsDesk, FollowsLayout}, Steps.Accepts}, proofs.BatchLaws.accepted_steps}
 use Rattle.store_steps.proofs.Applications.{Application, next_desk, born_pool, retired_pool, moves_left}
 use Rattle.store_steps.proofs.{Accepting.{made_accepted, made_desk}, RetiredCounts.retired_room, GrantedBlocks.taken_granted}
 use Rattle.store_steps.proofs.GrantedBlocks.{taken_movable, dropped_movable, unused_movable, granted_movable, given_back}
-use Rattle.store_steps.proofs.GrantedBlocks.{born_movable, born_given_back}
+use Rattle.store_steps.proofs.{GrantedBlocks.{born_movable, born_given_back}, ChangedLists.length-changed}
+use Rattle.block_pool.proofs.Grants.{length-marked}
 use Rattle.batch_apply.{specs.declared.plans.Plan.Plan, proofs.Asked.needs_within}
-use Rattle.desk.specs.declared.{entries.JournalEntry.JournalEntry, receipts.ApplyError.ApplyError}
-use Rattle.desk.specs.{declared.applying.Prepared.Prepared, Kept.{DeskState, IsDeskState, entry_of}, Applying.IsPrepared}
-use Rattle.desk.specs.{Applying.{AreUsedOnce, AreBornOnce}, Refusals.{Refuses, RefusesGrant, IsAdmitted, IsWithin, asked}}
-use Rattle.desk.{specs.Refusals.{block_count, workers_for}, proofs.UsedBlocks.used_blocks}
+use Rattle.desk.specs.declared.{entries.JournalEntry.JournalEntry, errors.ApplyError.ApplyError}
+use Rattle.desk.specs.{declared.applying.Prepared.Prepared, Kept.{IsKept, desk_of, entry_of}, Applying.IsPrepared}
+use Rattle.desk.specs.{Applying.{AreUsedOnce, AreBornOnce}, Refusals.{Refuses, RefusesGrant, IsPlanned, IsWithin, asked}}
+use Rattle.desk.{specs.Refusals.block_count, proofs.UsedBlocks.used_blocks}
 use Rattle.graph_version.specs.Rows as rows
 use Rattle.desk.specs.declared.entries.JournalEntry.TheVariants as entries
 
@@ -69,11 +69,11 @@ application h = record {
 -- The grant is within what is asked for, since the used blocks are the last version's
 
 pub grant_within : (d : DeskView) (v : VersionView) (workers : ℕ) (ops : List NamedOp) (plan : Plan) → IsDesk d → v ≡ d.last
-    → IsAdmitted v workers ops plan → sum_by (λ n. n) plan.needs.items ≤ asked ops (count_by is_in_use d.pool)
+    → IsPlanned v workers ops plan → sum_by (λ n. n) plan.needs.items ≤ asked ops (count_by is_in_use d.pool)
 grant_within d v workers ops plan desk last admitted =
     let used : block_count v ≡ count_by is_in_use d.pool = ap block_count last ∙ sym (used_blocks d desk) in
     subst (λ n. sum_by (λ n. n) plan.needs.items ≤ asked ops n) used
-    (needs_within (workers_for workers (length ops + length admitted.old)) ops (content v) v.rows plan admitted.planned)
+    (needs_within workers ops (content v) v.rows plan admitted.planned)
 
 -- as many blocks were granted as numbers
 pub granted_many : (blocks : List (Arc Block Global)) (numbers : List ℕ) (n : ℕ) → numbers_of blocks ≡ numbers
@@ -160,11 +160,15 @@ end_pool h number born end is made moved =
 
 -- The desk afterwards
 
+-- it has as many blocks
+next_long : (a : Application) → length (next_desk a).pool ≡ length a.old.pool
+next_long a =
+    length-changed (retired (length a.old.last.batches + 1)) (rows.numbers_of a.dropped)
+    (marked a.taken (Used (length a.old.last.batches + 1)) a.old.pool)
+    ∙ length-marked a.taken (Used (length a.old.last.batches + 1)) a.old.pool
+
 abbrev pub entry_in : Handing → JournalEntry
 entry_in h = entries.Applied h.prepared.batch h.prepared.taken h.prepared.dropped_numbers
-
-abbrev pub desk_of : List ℕ → VersionView → List JournalEntry → List BlockStatus → DeskView
-desk_of opened last entries pool = record { opened = opened; last = last; journal = map entry_of entries; pool = pool }
 
 pub end_desk : (h : Handing) (opened : List ℕ) (last : VersionView) (entries old_entries : List JournalEntry)
     (pool : List BlockStatus) → h.old.opened ≡ opened → map entry_of old_entries ≡ h.old.journal → last ≡ version_of h
@@ -201,23 +205,21 @@ pub end_fits : (h : Handing) (end : List BlockStatus) (entries capacity before d
 end_fits h end entries capacity before dropped is retired many fits =
     let room = end_room h end is in let ok = h.prepared.dropped.ok in omega (arith, ok.0)
 
-pub end_kept : (h : Handing) (new : DeskState) (shelf : ShelfView) (entries room : ℕ) → new.desk ≡ next_desk (application h)
-    → shelf.book ≡ new.book → shelf.opening ≡ h.old.last.opening → shelf.posted ≡ (version_of h).batches → 1 ≤ new.workers
-    → new.workers ≤ 8 → entries + count_by is_retired new.desk.pool ≤ room → IsDeskState new shelf entries room
-end_kept h new shelf entries room is book opening posted some few fits = record {
+pub end_kept : (h : Handing) (new : DeskView) (entries room : ℕ) → new ≡ next_desk (application h) → 16 ≤ length h.old.pool
+    → entries + count_by is_retired new.pool ≤ room → IsKept new entries room
+end_kept h new entries room is some fits = record {
   desk = subst IsDesk (sym is) (made_desk (application h));
-  book_is = book;
-  opening_is = opening ∙ sym h.is_prepared.opening ∙ ap (λ (d : DeskView). d.last.opening) (sym is);
-  posted_is = posted ∙ ap (λ (d : DeskView). d.last.batches) (sym is);
-  workers_some = some;
-  workers_few = few;
+  blocks_some =
+      let same = ap (λ (d : DeskView). length d.pool) is in
+      let as_many = next_long (application h) in
+      omega arith;
   room_is = fits;
 }
 
 -- Refusals
 
 module _ (d : DeskView) (v : VersionView) (workers : ℕ) (ops : List NamedOp) (plan : Plan) (desk : IsDesk d) (last : v ≡ d.last)
-    (admitted : IsAdmitted v workers ops plan) where
+    (admitted : IsPlanned v workers ops plan) where
   pub desk_refuses : (e : ApplyError) → RefusesGrant (asked ops (count_by is_in_use d.pool)) (count_by is_free d.pool) e
       → Refuses d.last (count_by is_free d.pool) ops e
   desk_refuses e refuses = grind (arith, common_steps, used_blocks)

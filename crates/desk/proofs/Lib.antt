@@ -1,4 +1,7 @@
+pub mod Collections
 pub mod Handing
 pub mod Moving
+pub mod OwnedLaws
 pub mod UsedBlocks
 pub mod Zeros
+pub mod Readied

@@ -1,5 +1,5 @@
 -- What a desk keeps.
-use Rattle.std.specs.{Prelude.{◌≡◌, ℕ, ◌+◌, ◌≤◌, List, length, map, count_by, vec_len, vec_capacity}, Arc.arc_value}
+use Rattle.std.specs.{Prelude.{ℕ, ◌+◌, ◌≤◌, List, length, map, count_by}, Arc.arc_value}
 use Rattle.graph_types.specs.declared.batches.Batch.{Batch}
 use Rattle.graph_version.specs.{declared.versions.Version.Version, Versions.VersionView}
 use Rattle.block_reclamation.specs.{declared.status.BlockStatus.BlockStatus, Status.is_retired}

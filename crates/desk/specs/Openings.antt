@@ -1,5 +1,5 @@
 -- What a desk opens with, and why none opens.
-use Rattle.std.specs.{Prelude.◌≡◌, Prelude.ℕ, Prelude.◌<◌, Prelude.◌≤◌, Arc.arc_value}
+use Rattle.std.specs.{Prelude.◌≡◌, Prelude.ℕ, Prelude.◌<◌, Arc.arc_value}
 use Rattle.graph_version.specs.{Rows.blocks_of, Rows.numbers_of, declared.versions.Version.Version}
 use Rattle.store_steps.specs.Opening.{IsVersionZero, opened_desk}
 use Rattle.desk.specs.declared.{zero.Zero.Zero, errors.OpenError.OpenError}

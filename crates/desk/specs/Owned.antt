@@ -2,7 +2,7 @@
 use Rattle.std.specs.Prelude.{◌≡◌, ◌≢◌, ◌⊎◌, ℕ, ◌+◌, ◌-◌, ◌<◌, ◌≤◌, List, length, Option, Some, None, replicate, slice_index_or, slice_set}
 use Rattle.std.specs.Prelude.{if◌then◌else◌, ◌==◌, true}
 use Rattle.block_reclamation.specs.declared.copies.{Pin.Pin, PinCopy.PinCopy, TheConstants.SEATS}
-use Rattle.block_reclamation.specs.{Board.{BoardState, IsBoard, no_pins, with_pin}, Copies.{pin_at, copy_of}}
+use Rattle.block_reclamation.specs.{Board.{BoardState, no_pins, with_pin}, Copies.{pin_at, copy_of}}
 use Rattle.store_steps.specs.Desks.{DeskView}
 use Rattle.desk.specs.declared.{errors.HoldError.{HoldError, TheVariants.{NoSeat, OutOfMemory}}, owned.Hold.Hold}
 
@@ -28,6 +28,7 @@ IsCounted last (Some pin) count = (0 < count) × (pin ≡ held_pin pin.number) �
 
 -- each seat's pin is counted, no number has two seats, and the floor isn't past the last version
 pub record IsOwned (o : OwnedView) : Type 0 where
+  pub pins : length o.board.pins ≡ SEATS
   pub seats : length o.counts ≡ SEATS
   pub floor_low : o.board.floor ≤ length o.desk.last.batches
   pub counted : (seat : ℕ) → seat < SEATS

@@ -5,8 +5,9 @@ use Rattle.feed_csv.specs.{Commands.item_of, Records.Row, declared.command.Comma
 use Rattle.feed_csv.specs.declared.command.Command.TheVariants.{Op, Commit, OpenSlot, CloseSlot, Query, Collect, Stat, Rebase}
 use Rattle.graph_types.{proofs.OneAnswer.one_answer, specs.declared.requests.Request.Request}
 use Rattle.script_lines.specs.{declared.words.Word.Word, Lines.end_line}
-use Rattle.stream_store.specs.{Refusals.{Attempt, BatchRefusal, IsAdmissible}, declared.receipts.ApplyError.ApplyError}
-use Rattle.stream_store.specs.declared.receipts.ApplyError.TheVariants as refused
+use Rattle.stream_store.specs.Refusals.{Attempt, BatchRefusal, IsAdmissible}
+use Rattle.desk.specs.declared.errors.ApplyError.{ApplyError}
+use Rattle.desk.specs.declared.errors.ApplyError.TheVariants as refused
 use Rattle.script_commands.specs.States.{IsCommitted, attempt, batch_word, answer_result, beginning, printed, version, version_in}
 use Rattle.script_commands.specs.States.{Held, IsRecordResult, IsReplied, Progress, RecordResult, Setup, ServerState, after_record}
 use Rattle.script_server.specs.Executions.{Executes, IsFullText}

@@ -1,7 +1,7 @@
 -- What a drive tells.
 use Rattle.std.specs.Prelude.{◌≡◌, ℕ, ◌*◌, ◌≤◌, List, codes}
-use Rattle.stream_store.specs.declared.receipts.ApplyError.{ApplyError}
-use Rattle.stream_store.specs.declared.receipts.ApplyError.TheVariants as errors
+use Rattle.desk.specs.declared.errors.ApplyError.{ApplyError}
+use Rattle.desk.specs.declared.errors.ApplyError.TheVariants as errors
 use Rattle.graph_model.specs.declared.apply.PlainError.{PlainError}
 use Rattle.graph_model.specs.declared.apply.PlainError.TheVariants as plain
 use Rattle.store_drive.specs.declared.reports.{DriveCounts.DriveCounts, DriveReport.DriveReport, DriveWord.DriveWord}

@@ -1,4 +1,4 @@
--- Seats: a pin set twice, and the seats of an opening.
+-- The seats of an opening.
 use Rattle.std.proofs.Common.{◌≡◌, ℕ, zero, suc, ◌+◌, ◌<◌, List, [], ◌∷◌, ◌++◌, length, map, take, drop, refl, sym, ap, subst}
 use Rattle.std.proofs.{Common.{◌∙◌, arith}, lemmas.List.{map-append, length-append, Elements.{All-head, All-tail, All-cons}}}
 use Rattle.std.{proofs.lemmas.Grind.common_steps, specs.{List.range_with_len, Prelude.{All, Option, slice_set, slice_index_or}}}
@@ -7,14 +7,6 @@ use Rattle.graph_version.specs.Versions.{VersionView}
 use Rattle.version_shelf.specs.Shelves.{ToldView}
 use Rattle.block_reclamation.specs.{Board.BoardState, Board.with_pin, declared.copies.Pin.Pin}
 use Rattle.stream_store.specs.Seats.{SeatView, HasSeen}
-
-set_again : {X : Type 0} (xs : List X) (i : ℕ) (x y : X) → slice_set (slice_set xs i x) i y ≡ slice_set xs i y
-set_again [] i x y = refl
-set_again (z ∷ zs) zero x y = refl
-set_again (z ∷ zs) (suc i) x y = ap (λ ws. z ∷ ws) (set_again zs i x y)
-
-pub pin_twice : (b : BoardState) (s : ℕ) (x y : Option Pin) → with_pin (with_pin b s x) s y ≡ with_pin b s y
-pin_twice b s x y = λ i. record { floor = b.floor; pins = set_again b.pins s x y i }
 
 abbrev IsNew : Book → VersionView → ToldView → Type 0
 IsNew book version x = x ≡ record { book = book; version = version }

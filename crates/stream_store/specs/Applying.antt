@@ -1,29 +1,25 @@
--- What is made of a batch, and what its receipt says.
-use Rattle.std.specs.{Prelude.{◌≡◌, ℕ, ◌+◌, List, [], ◌∷◌, ◌++◌, length, count_by, Bool, true, slice_get}, Arc.arc_value}
-use Rattle.std.specs.List.{list_all}
-use Rattle.graph_types.specs.{Step.outcomes, declared.batches.{Batch.Batch, NamedOp.NamedOp, Outcome.Outcome}}
-use Rattle.batch_shards.specs.{RowBlocks.blocks_of, RowBlocks.numbers_of, Births.CarriesBirths, Done.Exchanges}
-use Rattle.graph_version.specs.{declared.versions.Version.Version, Versions.VersionView, Versions.IsVersion, Versions.content}
+-- What a batch is planned for, and what its receipt says.
+use Rattle.std.specs.Prelude.{◌≡◌, ℕ, ◌+◌, ◌<◌, nat_lt, if◌then◌else◌, List, length}
+use Rattle.graph_types.specs.{Limits.batch_limit, Step.outcomes, declared.batches.{NamedOp.NamedOp, Outcome.Outcome}}
+use Rattle.graph_version.specs.{Rows.row_of, Versions.VersionView, Versions.content}
+use Rattle.batch_apply.specs.{OldRows.AreOldRows, OldRows.expiry_time, declared.old.OldRow.OldRow}
+use Rattle.batch_apply.specs.{Planned.IsPlan, Planned.MeetsNeitherLimit, declared.plans.Plan.Plan}
 use Rattle.version_shelf.specs.Shelves.{ToldView}
-use Rattle.store_steps.specs.Desks.{FollowsLayout}
-use Rattle.stream_store.specs.{Kept.DeskState, declared.applying.Prepared.Prepared}
-use Rattle.graph_version.specs.Rows as rows
-use Rattle.epoch_core.specs.Blocks.{all_differ}
-use Rattle.block_reclamation.specs.{declared.status.BlockStatus.BlockStatus, Status.is_in_use, Status.is_used, Status.is_at}
+use Rattle.stream_store.specs.Kept.{DeskState}
 
--- the next version was made of this version and batch, from blocks of these numbers
-pub record IsPrepared (v : VersionView) (ops : List NamedOp) (numbers : List ℕ) (p : Prepared) : Type 0 where
-  pub version_is : IsVersion (arc_value {X = Version} p.version)
-  pub opening : (arc_value {X = Version} p.version).opening ≡ v.opening
-  pub batches : (arc_value {X = Version} p.version).batches ≡ v.batches ++ ops ∷ []
-  pub outcomes_are : p.outcomes ≡ outcomes ops (content v)
-  pub exchanged : Exchanges (rows.blocks_of v.rows) (rows.blocks_of (arc_value {X = Version} p.version).rows) p.taken
-      (blocks_of p.dropped.items)
-  pub handed : (q : ℕ → Bool) → count_by q p.taken + count_by q (numbers_of p.unused.items) ≡ count_by q numbers
-  pub layout : FollowsLayout v ops (arc_value {X = Version} p.version) (length p.taken) (length p.dropped.items)
-  pub births : CarriesBirths v ops (arc_value {X = Version} p.version) p.taken (blocks_of p.dropped.items)
-  pub batch_is : arc_value {X = Batch} p.batch ≡ ops
-  pub dropped_are : p.dropped_numbers ≡ numbers_of p.dropped.items
+-- how many of these workers a batch is shared by: one with fewer than 2,048 operations, and rows from which its expiries may
+-- take edges, is one worker's
+abbrev pub workers_for : ℕ → ℕ → ℕ
+workers_for workers many = if nat_lt many 2048 then 1 else workers
+
+-- a batch that the version's limits admit, and its plan for as many of these workers as share it
+pub record IsAdmitted (v : VersionView) (workers : ℕ) (ops : List NamedOp) (plan : Plan) : Type 0 where
+  pub few : length v.batches < batch_limit
+  pub limits : MeetsNeitherLimit ops (content v)
+  pub old : List OldRow
+  pub old_are : AreOldRows (expiry_time ops) (row_of v.rows) old
+  pub some : 0 < workers_for workers (length ops + length old)
+  pub planned : IsPlan (workers_for workers (length ops + length old)) ops (content v) (row_of v.rows) plan
 
 -- a receipt names the version that the batch left, its number, and the operation rule's outcomes
 pub record IsReceipt (old : DeskState) (ops : List NamedOp) (new : DeskState) (number : ℕ) (results : List Outcome)
@@ -31,14 +27,3 @@ pub record IsReceipt (old : DeskState) (ops : List NamedOp) (new : DeskState) (n
   pub told_is : told ≡ record { book = old.book; version = new.desk.last }
   pub number_is : number ≡ length new.desk.last.batches
   pub outcomes_are : results ≡ outcomes ops (content old.desk.last)
-
--- each of the numbers has a status that passes, and none stands twice
-pub record AreOnce (test : BlockStatus → Bool) (numbers : List ℕ) (pool : List BlockStatus) : Type 0 where
-  pub pass : list_all (λ n. is_at test (slice_get pool n)) numbers ≡ true
-  pub apart : all_differ numbers ≡ true
-
-abbrev pub AreUsedOnce : List ℕ → List BlockStatus → Type 0
-AreUsedOnce numbers pool = AreOnce is_in_use numbers pool
-
-abbrev pub AreBornOnce : List ℕ → List BlockStatus → Type 0
-AreBornOnce numbers pool = AreOnce is_used numbers pool

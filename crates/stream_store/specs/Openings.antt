@@ -1,15 +1,13 @@
--- What a store opens with, and why none opens.
-use Rattle.std.specs.{Prelude.◌≡◌, Prelude.ℕ, Prelude.◌<◌, Arc.arc_value}
-use Rattle.graph_version.specs.{Rows.blocks_of, Rows.numbers_of, declared.versions.Version.Version}
-use Rattle.store_steps.specs.Opening.{IsVersionZero, opened_desk}
-use Rattle.stream_store.specs.declared.{zero.Zero.Zero, opening.OpenError.OpenError}
-use Rattle.stream_store.specs.declared.opening.OpenError.TheVariants.{PoolEmpty, NoReader, OutOfMemory}
+-- Why no store opens.
+use Rattle.std.specs.{Prelude.◌≡◌, Prelude.ℕ, Prelude.◌<◌}
+use Rattle.stream_store.specs.declared.opening.OpenError.{OpenError, TheVariants.{PoolEmpty, NoReader, OutOfMemory}}
+use Rattle.desk.specs.declared.errors.OpenError as errors
+use Rattle.desk.specs.declared.errors.OpenError.TheVariants as kept
 
--- a store of so many blocks may open with this version, whose blocks are those of the pool that aren't free, each born with it
-pub record OpensWith (blocks : ℕ) (zero : Zero) : Type 0 where
-  pub version : IsVersionZero blocks (arc_value {X = Version} zero.version)
-  pub numbers : zero.numbers ≡ numbers_of (blocks_of (arc_value {X = Version} zero.version).rows)
-  pub pool : zero.pool ≡ (opened_desk blocks (arc_value {X = Version} zero.version)).pool
+-- a desk's error, as the store tells it
+abbrev pub store_error : errors.OpenError → OpenError
+store_error (kept.PoolEmpty needed free) = PoolEmpty needed free
+store_error kept.OutOfMemory = OutOfMemory
 
 -- why no store of so many blocks opens with a version that has `needed`; no reader's place, or want of memory, may come at any place
 abbrev pub RefusesOpening : ℕ → ℕ → OpenError → Type 0

@@ -6,9 +6,8 @@ use Rattle.graph_types.specs.{Step.outcomes, Step.left_by, declared.batches.Name
 use Rattle.graph_version.specs.Versions.{VersionView, IsVersion}
 use Rattle.batch_apply.specs.Planned.{MeetsNeitherLimit}
 use Rattle.version_shelf.specs.Shelves.{ToldView}
-use Rattle.block_reclamation.specs.{declared.copies.PinCopy.PinCopy, Board.BoardState, Copies.copy_of}
-use Rattle.store_steps.specs.Desks.{DeskView}
-use Rattle.stream_store.specs.{Refusals.Refuses, Seats.SeatView, declared.receipts.ApplyError.ApplyError}
+use Rattle.desk.specs.{Refusals.Refuses, declared.errors.ApplyError.ApplyError}
+use Rattle.stream_store.specs.Seats.{SeatView}
 
 -- a version of the shelf of this book, which began with this graph
 pub record IsOfOpening (book : Book) (opening : Graph) (x : ToldView) : Type 0 where
@@ -38,5 +37,4 @@ pub record IsRefusalOf (opening : Graph) (ops : List NamedOp) (e : ApplyError) :
   pub refuses : Refuses last free ops e
 
 -- the copy of a desk's last number and the pins of a board
-abbrev pub copied : DeskView → BoardState → PinCopy
-copied desk board = copy_of (length desk.last.batches) board.pins
+pub use Rattle.desk.specs.Owned.{copied}

@@ -4,23 +4,20 @@
 
 mod applying;
 mod config;
-mod desk;
-mod entries;
 mod laws;
-mod moves;
 mod opened;
 mod opening;
+mod posting;
 mod receipts;
 mod seats;
 mod store;
-mod zero;
 
 pub use config::{BadConfig, Config};
-pub use desk::{Collected, Desk, Stat};
-pub use entries::JournalEntry;
+pub use desk::{ApplyError, Collected, JournalEntry, Stat};
 pub use laws::law_equal_answers;
 pub use opened::Opened;
 pub use opening::{OpenError, open_parts, open_parts_from};
-pub use receipts::{ApplyError, Receipt};
+pub use posting::Desk;
+pub use receipts::Receipt;
 pub use seats::{PinnedSeat, Seat, Session};
 pub use store::{Naming, Store};

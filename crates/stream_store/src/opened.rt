@@ -8,12 +8,12 @@ ghost use Rattle.graph_version.specs.Rebased.{IsRebased};
 ghost use Rattle.store_steps.specs.Opening.{IsVersionZero, opened_desk};
 ghost use Rattle.stream_store.specs.Opened.{IsOpeningOf};
 ghost use Rattle.stream_store.specs.Openings.{RefusesOpening};
-ghost use Rattle.stream_store.specs.Refusals.{block_count};
+ghost use Rattle.desk.specs.Refusals.{block_count};
 ghost use Rattle.stream_store.specs.Seats.{SeatView, HasSeen, IsNewSeat};
 ghost use Rattle.stream_store.specs.Stores.{IsSeatOf};
 
 use crate::config::Config;
-use crate::desk::Desk;
+use crate::posting::Desk;
 use crate::opening::{OpenError, open_parts, open_parts_from};
 use crate::seats::Seat;
 use crate::store::{Naming, Store};

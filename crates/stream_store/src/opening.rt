@@ -5,18 +5,17 @@ ghost use Rattle.std.specs.List.{range_with_len};
 ghost use Rattle.std.specs.Arc.{arc_value};
 ghost use Rattle.block_reclamation.specs.Board.{no_pins};
 ghost use Rattle.graph_version.specs.declared.versions.Version.{Version};
-ghost use Rattle.graph_version.specs.Versions.{empty_version};
+ghost use Rattle.graph_version.specs.Versions.{VersionView, empty_version};
 ghost use Rattle.graph_version.specs.Rebased.{IsRebased};
 ghost use Rattle.version_shelf.specs.Shelves.{opened_shelf};
 ghost use Rattle.store_steps.specs.Opening.{IsVersionZero, opened_desk};
-ghost use Rattle.stream_store.specs.Openings.{OpensWith, RefusesOpening};
-ghost use Rattle.stream_store.specs.Refusals.{block_count};
+ghost use Rattle.stream_store.specs.Openings.{RefusesOpening};
+ghost use Rattle.desk.specs.Refusals.{block_count};
 ghost use Rattle.stream_store.specs.Seats.{SeatView, HasSeen, IsNewSeat};
 
 use crate::config::Config;
-use crate::desk::Desk;
+use crate::posting::Desk;
 use crate::seats::Seat;
-use crate::zero::Zero;
 use block_reclamation::{Board, SeatNo};
 use graph_version::Version;
 use std::alloc::{AllocError, Global};
@@ -46,6 +45,20 @@ impl From<AllocError> for OpenError {
     }
 }
 
+impl From<desk::OpenError> for OpenError {
+    ghost use Rattle.std.specs.Prelude.{◌≡◌};
+    ghost use Rattle.stream_store.specs.Openings.{store_error};
+
+    ghost from_gives = { λ error e. e ≡ store_error error };
+
+    fn from(error: desk::OpenError) -> OpenError {
+        match error {
+            desk::OpenError::PoolEmpty { needed, free } => OpenError::PoolEmpty { needed, free },
+            desk::OpenError::OutOfMemory => OpenError::OutOfMemory,
+        }
+    }
+}
+
 /// A desk, a board and the seats, numbered from 0, all of one opening: version 0, an empty journal, all blocks free, no
 /// pins, and seats that have seen version 0. It waits for nobody.
 pub fn open_parts<R: Wait>(
@@ -60,7 +73,7 @@ pub fn open_parts<R: Wait>(
     ensures numbers { IfOk result (λ r. map (λ (s : SeatView). s.number) r.2.items ≡ range_with_len 0 (length r.2.items)) }
     ensures refused { IfErr result (RefusesOpening 0 config.blocks) }
 {
-    open_over(rt, alloc, config, Zero::blank(alloc, config.blocks())?)
+    open_over(rt, alloc, config, desk::Desk::open(alloc, config.blocks())?)
 }
 
 /// The same with what a version holds, for which it copies the version's blocks: version 0 begins with the version's
@@ -84,36 +97,27 @@ pub fn open_parts_from<R: Wait>(
     ensures exact { config.blocks < block_count version.now
         → result ≡ Err (OpenError.PoolEmpty (block_count version.now) config.blocks) }
 {
-    let needed = version.block_count();
-    let free = config.blocks();
-    if needed > free as usize {
-        return Err(OpenError::PoolEmpty { needed, free });
-    }
-    open_over(rt, alloc, config, Zero::over(alloc, free, version)?)
+    open_over(rt, alloc, config, desk::Desk::open_over(alloc, config.blocks(), version)?)
 }
 
-/// The parts of a store over this version 0.
+/// The parts of a store with this desk, which has just opened.
 fn open_over<R: Wait>(
     rt: &R,
     alloc: Global,
     config: Config,
-    zero: Zero,
+    kept: desk::Desk,
 ) -> Result<(Desk, Board, Vec<Seat>), OpenError>
-    requires { OpensWith config.blocks zero }
-    ensures desk { IfOk result (λ r. r.0 ≡ record {
-      book = r.0.book;
-      workers = config.workers;
-      desk = opened_desk config.blocks (arc_value {X = Version} zero.version);
-    }) }
+    requires { (v : VersionView) × IsVersionZero config.blocks v × (kept ≡ opened_desk config.blocks v) }
+    ensures desk { IfOk result (λ r. r.0 ≡ record { book = r.0.book; workers = config.workers; desk = kept }) }
     ensures board { IfOk result (λ r. r.1 ≡ no_pins) }
     ensures seats { IfOk result (λ r. (length r.2.items ≡ config.seats)
-        × All (HasSeen r.0.book (arc_value {X = Version} zero.version)) r.2.items) }
+        × All (HasSeen r.0.book kept.last) r.2.items) }
     ensures numbers { IfOk result (λ r. map (λ (s : SeatView). s.number) r.2.items ≡ range_with_len 0 (length r.2.items)) }
     ensures refused { IfErr result (λ e. (needed : ℕ) → RefusesOpening needed config.blocks e) }
 {
-    let (writer, seats) = shelf_and_seats(rt, alloc, &zero.version, config.seats())?;
+    let (writer, seats) = shelf_and_seats(rt, alloc, kept.last(), config.seats())?;
     Ok((
-        Desk::opened(alloc, config, zero, writer),
+        Desk::opened(config, kept, writer),
         Board::new(),
         seats,
     ))

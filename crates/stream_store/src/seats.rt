@@ -15,7 +15,7 @@ ghost use Rattle.version_shelf.specs.Shelves.{Begins, IsOfOneShelf};
 ghost use Rattle.version_answers.specs.Numbered.{IsNumberedAnswer};
 ghost use Rattle.stream_store.specs.Seats.{SeatView, SessionView, held_version, held_graph, lent_to, seat_of};
 
-use crate::desk::Desk;
+use crate::posting::Desk;
 use crate::receipts::Receipt;
 use crate::store::{Naming, Store};
 use block_reclamation::{Board, SeatNo};

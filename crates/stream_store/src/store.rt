@@ -17,13 +17,14 @@ ghost use Rattle.block_reclamation.specs.Board.{IsLeast};
 ghost use Rattle.store_steps.specs.Desks.{IsCollected, births_in};
 ghost use Rattle.store_steps.specs.Steps.{Accepts, TakesAt, recycling};
 ghost use Rattle.stream_store.specs.Applying.{IsReceipt};
-ghost use Rattle.stream_store.specs.Refusals.{Refuses, IsWithin};
+ghost use Rattle.desk.specs.Refusals.{Refuses, IsWithin};
 ghost use Rattle.stream_store.specs.Stores.{IsReceiptOf, IsRefusalOf, IsOfOpening, copied};
 
-use crate::desk::{Collected, Desk, Stat};
-use crate::receipts::{ApplyError, Receipt};
+use crate::posting::Desk;
+use crate::receipts::Receipt;
 use batch_apply::Gate;
 use block_reclamation::{Board, PinCopy, SeatNo};
+use desk::{ApplyError, Collected, Stat};
 use graph_types::Batch;
 use graph_version::Version;
 use std::alloc::AllocError;

@@ -9,6 +9,7 @@ mod gates;
 mod handed;
 mod learnt;
 mod limits;
+mod owned;
 mod places;
 mod players;
 mod plays;

@@ -22,9 +22,14 @@ fn push_outcome(text: &mut String, outcome: Outcome) -> Result<(), AllocError> {
     }
 }
 
-fn push_receipt(text: &mut String, receipt: &Receipt) -> Result<(), AllocError> {
-    push_item(text, receipt.number, " ")?;
-    for outcome in receipt.outcomes.as_slice() {
+/// The number of the version that a batch left, and the first letters of the outcomes.
+pub(super) fn push_done(
+    text: &mut String,
+    number: u64,
+    outcomes: &[Outcome],
+) -> Result<(), AllocError> {
+    push_item(text, number, " ")?;
+    for outcome in outcomes {
         push_outcome(text, *outcome)?;
     }
     Ok(())
@@ -36,7 +41,7 @@ pub(super) fn push_told(
     told: Result<Receipt, ApplyError>,
 ) -> Result<(), AllocError> {
     match told {
-        Ok(receipt) => push_receipt(text, &receipt),
+        Ok(receipt) => push_done(text, receipt.number, receipt.outcomes.as_slice()),
         Err(error) => push_item(text, error, ""),
     }
 }

@@ -1,0 +1,62 @@
+-- What a desk keeps at its opening, and over a collection.
+use Rattle.std.proofs.Common.{◌≡◌, ℕ, zero, suc, ◌+◌, ◌≤◌, List, [], ◌∷◌, replicate, length, ap, arith, count_by, ◌∙◌}
+use Rattle.std.{proofs.lemmas.{Grind.common_steps, List.length-map}, specs.Prelude.slice_set}
+use Rattle.graph_version.specs.{Rows.blocks_of, Rows.numbers_of, Versions.VersionView}
+use Rattle.block_pool.{specs.Pools.marked, proofs.Grants.length-marked}
+use Rattle.block_reclamation.specs.declared.status.BlockStatus.{BlockStatus, TheVariants.Free, TheVariants.Used}
+use Rattle.block_reclamation.specs.{Status.{is_retired, recycled}, declared.copies.PinCopy.PinCopy}
+use Rattle.store_steps.{specs.Opening.IsVersionZero, specs.Opening.opened_desk, specs.Desks.DeskView}
+use Rattle.store_steps.proofs.{OpeningShown.opened_is_desk, CollectedDesk.{desk_collected, is_collected, collected_is_desk}}
+use Rattle.desk.specs.Kept.{IsKept}
+use Rattle.edge_block.proofs.Counts.{count_more}
+
+-- what is kept holds of equal values too
+pub kept_same : (d e : DeskView) (entries room others more : ℕ) → IsKept d entries room → e ≡ d → others ≡ entries → room ≤ more
+    → IsKept e others more
+kept_same d e entries room others more kept same len grows = grind (arith, common_steps)
+
+-- no block is retired at an opening
+none_retired : (n : ℕ) → count_by is_retired (replicate n Free) ≡ 0
+none_retired n = grind (arith, common_steps)
+
+set_unretired : (xs : List BlockStatus) (n : ℕ) → count_by is_retired xs ≡ 0 → count_by is_retired (slice_set xs n (Used 0)) ≡ 0
+set_unretired [] n none = none
+set_unretired (s ∷ xs) zero none =
+    let a = count_more is_retired s xs in let b = count_more is_retired (Used 0) xs in omega arith
+set_unretired (s ∷ xs) (suc n) none =
+    let a = count_more is_retired s xs in
+    let b = count_more is_retired s (slice_set xs n (Used 0)) in
+    let rest = set_unretired xs n (omega arith) in
+    omega arith
+
+marked_unretired : (ns : List ℕ) (xs : List BlockStatus) → count_by is_retired xs ≡ 0 → count_by is_retired (marked ns (Used 0) xs) ≡ 0
+marked_unretired [] xs none = none
+marked_unretired (n ∷ ns) xs none = marked_unretired ns (slice_set xs n (Used 0)) (set_unretired xs n none)
+
+long_replicate : (n : ℕ) → length (replicate n Free) ≡ n
+long_replicate n = grind (arith, common_steps)
+
+-- an opened desk
+pub opened_kept : (blocks : ℕ) (v : VersionView) → IsVersionZero blocks v → 16 ≤ blocks → IsKept (opened_desk blocks v) 0 0
+opened_kept blocks v zero_is some = record {
+  desk = opened_is_desk blocks v zero_is;
+  blocks_some =
+      let long : length (marked (numbers_of (blocks_of v.rows)) (Used 0) (replicate blocks Free)) ≡ blocks =
+      length-marked (numbers_of (blocks_of v.rows)) (Used 0) (replicate blocks Free) ∙ long_replicate blocks in
+      omega arith;
+  room_is = let none = marked_unretired (numbers_of (blocks_of v.rows)) (replicate blocks Free) (none_retired blocks) in omega
+      arith;
+}
+
+-- the desk after a collection
+pub collection_kept : (d e : DeskView) (copy : PinCopy) (entries capacity others room : ℕ) → IsKept d entries capacity
+    → copy.last ≤ length d.last.batches → e ≡ desk_collected d copy → others + count_by is_retired e.pool ≤ room
+    → IsKept e others room
+collection_kept d e copy entries capacity others room kept low is fits = record {
+  desk = collected_is_desk d e copy kept.desk low (is_collected d e copy is);
+  blocks_some =
+      let long : length e.pool ≡ length d.pool = ap (λ (x : DeskView). length x.pool) is ∙ length-map d.pool (recycled copy) in
+      let some = kept.blocks_some in
+      omega arith;
+  room_is = fits;
+}

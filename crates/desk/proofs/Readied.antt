@@ -1,0 +1,87 @@
+-- A batch that is ready, as one handed over.
+use Rattle.std.proofs.Common.{◌≡◌, ℕ, ◌+◌, ◌≤◌, List, map, refl, sym, ap, subst, ◌∙◌, count_by, vec_len, vec_capacity}
+use Rattle.std.specs.Arc.{arc_value}
+use Rattle.graph_types.specs.declared.batches.NamedOp.{NamedOp}
+use Rattle.graph_version.specs.{declared.versions.Version.Version, Rows.row_of, Versions.{VersionView, content}}
+use Rattle.batch_apply.specs.{Planned.IsPlan, declared.plans.Plan.Plan}
+use Rattle.block_reclamation.specs.{Status.is_retired, declared.status.BlockStatus.{BlockStatus, TheVariants.{Free, Granted}}}
+use Rattle.block_pool.specs.Pools.{marked, AreFree}
+use Rattle.store_steps.{specs.Desks.DeskView, proofs.GrantedBlocks.given_back}
+use Rattle.desk.specs.{Applying.IsPrepared, Kept.{IsKept, desk_in, entry_of}, declared.{applying.Prepared.Prepared, desks.Parts.Parts}}
+use Rattle.desk.specs.Ready.{IsGranted, IsReady, old_of, ops_of}
+use Rattle.desk.proofs.{Handing.Handing, Collections.kept_same}
+
+abbrev pub handing_of : (parts : Parts) (numbers : List ℕ) (p : Prepared) → IsReady parts numbers p → Handing
+handing_of parts numbers p r = record {
+  old = old_of parts numbers;
+  ops = ops_of p;
+  numbers = numbers;
+  handed = numbers;
+  prepared = p;
+  pool = parts.pool;
+  before = r.granted.before.desk;
+  free = r.granted.free;
+  same = refl;
+  is_prepared = r.prepared;
+  granted = r.granted.granted;
+}
+
+-- parts that differ in room alone
+module _ (p q : Parts) (numbers : List ℕ) (opened : q.opened ≡ p.opened) (last : q.last ≡ p.last) (pool : q.pool ≡ p.pool)
+    (items : q.journal.items ≡ p.journal.items) where
+  pub same_old : old_of q numbers ≡ old_of p numbers
+  same_old = λ i. record {
+    opened = opened i;
+    last = arc_value {X = Version} (last i);
+    journal = map entry_of (items i);
+    pool = marked numbers Free (pool i);
+  }
+
+  pub granted_same : IsGranted p numbers → vec_len q.journal ≡ vec_len p.journal → vec_capacity p.journal ≤ vec_capacity q.journal
+      → IsGranted q numbers
+  granted_same is len grows = record {
+    before = kept_same (old_of p numbers) (old_of q numbers) _ _ _ _ is.before same_old len grows;
+    free = subst (λ (d : DeskView). AreFree d.pool numbers) (sym same_old) is.free;
+    granted = pool ∙ is.granted ∙ ap (λ (d : DeskView). marked numbers Granted d.pool) (sym same_old);
+  }
+
+  pub ready_from : (ops : List NamedOp) (made : Prepared) → IsGranted p numbers → vec_len q.journal ≡ vec_len p.journal
+      → vec_capacity p.journal ≤ vec_capacity q.journal → IsPrepared (old_of p numbers).last ops numbers made
+      → vec_len q.journal + (count_by is_retired q.pool + vec_len made.dropped + 1) ≤ vec_capacity q.journal
+      → IsReady q numbers made
+  ready_from ops made is len grows prepared room = record {
+    granted = granted_same is len grows;
+    prepared = subst (λ (d : DeskView). IsPrepared d.last (ops_of made) numbers made) (sym same_old)
+        (subst (λ xs. IsPrepared (old_of p numbers).last xs numbers made) (sym prepared.batch_is) prepared);
+    room = room;
+  }
+
+-- parts after a grant: the desk of before is that of the parts of before
+module _ (p q : Parts) (numbers : List ℕ) (free : AreFree p.pool numbers) (granted : q.pool ≡ marked numbers Granted p.pool)
+    (opened : q.opened ≡ p.opened) (last : q.last ≡ p.last) (journal : q.journal ≡ p.journal) where
+  back : marked numbers Free q.pool ≡ p.pool
+  back = ap (marked numbers Free) granted ∙ given_back p.pool numbers free
+
+  pub old_same : old_of q numbers ≡ desk_in p
+  old_same = λ i. record {
+    opened = opened i;
+    last = arc_value {X = Version} (last i);
+    journal = map entry_of (journal i).items;
+    pool = back i;
+  }
+
+  pub granted_from : IsKept (desk_in p) (vec_len p.journal) (vec_capacity p.journal) → IsGranted q numbers
+  granted_from is = record {
+    before = subst (λ (d : DeskView). IsKept d (vec_len q.journal) (vec_capacity q.journal)) (sym old_same)
+        (subst (λ j. IsKept (desk_in p) (vec_len j) (vec_capacity j)) (sym journal) is);
+    free = subst (λ (xs : List BlockStatus). AreFree xs numbers) (sym back) free;
+    granted = granted ∙ ap (marked numbers Granted) (sym back);
+  }
+
+-- a plan of equal values
+pub plan_same : (workers : ℕ) (v w : VersionView) (ops xs : List NamedOp) (p q : Plan) → v ≡ w → ops ≡ xs → p ≡ q
+    → IsPlan workers ops (content v) (row_of v.rows) p → IsPlan workers xs (content w) (row_of w.rows) q
+plan_same workers v w ops xs p q same_version same_ops same_plan is =
+    subst (λ (x : VersionView). IsPlan workers xs (content x) (row_of x.rows) q) same_version
+    (subst (λ ys. IsPlan workers ys (content v) (row_of v.rows) q) same_ops
+    (subst (λ r. IsPlan workers ops (content v) (row_of v.rows) r) same_plan is))

@@ -1,0 +1,65 @@
+use Rattle.std.proofs.Common.{◌≡◌, ℕ, ◌≤◌, length, sym, ap, subst, ◌∙◌, arith, count_by}
+use Rattle.std.{proofs.lemmas.Grind.common_steps, specs.Arc.arc_value}
+use Rattle.graph_version.specs.declared.versions.Version.{Version}
+use Rattle.block_reclamation.specs.Status.{is_reclaimable, is_retired}
+use Rattle.store_steps.{specs.{Desks.{DeskView, IsCollected, births_in}, Steps.{TakesAt, recycling}}, proofs.Collecting.collected_takes}
+use Rattle.store_steps.proofs.CollectedDesk.{past_and_left, is_collected, births_collected, desk_collected}
+use Rattle.desk.{specs.Kept.desk_of, proofs.desks.Desk.collect.Goals.After-enter_collection}
+use Rattle.desk.proofs.Collections.{collection_kept}
+use Rattle.desk.proofs.desks.Desk.collect.Goals as goal
+
+pub enter_collection-requires : goal.enter_collection-requires
+enter_collection-requires c = λ some.
+    let past = past_and_left c.args.copy.now c.self.inside.parts.pool in
+    let room = c.self.invariant.room_is in
+    let count = c.recycle-recycled.ensures.count in
+    omega arith
+
+-- the desk as it was, and once the collection is entered
+abbrev old : After-enter_collection → DeskView
+old c =
+    let p = c.self.inside.parts in desk_of p.opened (arc_value {X = Version} p.last) p.journal.items p.pool
+
+abbrev new : After-enter_collection → DeskView
+new c =
+    let p = c.self.inside.parts in
+    desk_of p.opened (arc_value {X = Version} p.last) c.enter_collection.new.journal.items c.recycle-recycled.new.self
+
+is_new : (c : After-enter_collection) → new c ≡ desk_collected (old c) c.args.copy.now
+is_new c = grind (arith, common_steps)
+
+collected : (c : After-enter_collection) → IsCollected (old c) c.args.copy.now (new c)
+collected c = is_collected (old c) (new c) c.args.copy.now (is_new c)
+
+pub invariant_of-self : goal.invariant_of-self
+invariant_of-self c =
+    let a = (goal.at.invariant_of-self c).After-enter_collection in
+    let low : c.args.copy.now.last ≤ length (arc_value {X = Version} c.self.inside.parts.last).batches =
+    subst (λ (d : DeskView). c.args.copy.now.last ≤ length d.last.batches) (sym c.self.view_is) c.requires in
+    let past = past_and_left c.args.copy.now c.self.inside.parts.pool in
+    let left = ap (count_by is_retired) c.recycle-recycled.ensures.pool in
+    let room = c.self.invariant.room_is in
+    let count = c.recycle-recycled.ensures.count in
+    collection_kept (old a) (new a) c.args.copy.now _ _ _ _ c.self.invariant low (is_new a)
+    (omega (arith, past, left, room, count, c.enter_collection.ensures.len, c.enter_collection.ensures.capacity))
+
+pub returns-clause-steps : goal.returns-clause-steps
+returns-clause-steps c =
+    let a = (goal.at.returns-clause-steps c).After-enter_collection in
+    subst (λ (d : DeskView). TakesAt c.args.copy.now d (recycling c.args.copy.now d.pool) (new a)) c.self.view_is
+    (collected_takes (old a) (new a) c.args.copy.now (collected a))
+
+pub returns-clause-collected : goal.returns-clause-collected
+returns-clause-collected c =
+    let a = (goal.at.returns-clause-collected c).After-enter_collection in
+    subst (λ (d : DeskView). IsCollected d c.args.copy.now (new a)) c.self.view_is (collected a)
+
+pub returns-clause-births : goal.returns-clause-births
+returns-clause-births c =
+    let a = (goal.at.returns-clause-births c).After-enter_collection in
+    subst (λ (d : DeskView). (source : ℕ) → births_in (new a) source ≡ births_in d source) c.self.view_is
+    (births_collected (old a) (new a) c.args.copy.now c.self.invariant.desk (collected a))
+
+pub returns-clause-recycled : goal.returns-clause-recycled
+returns-clause-recycled c =
+    c.recycle-recycled.ensures.count ∙ ap (λ (d : DeskView). count_by (is_reclaimable c.args.copy.now) d.pool) c.self.view_is

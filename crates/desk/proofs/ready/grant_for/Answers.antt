@@ -1,0 +1,35 @@
+use Rattle.std.proofs.Common.{◌≤◌, List, refl, sym, subst, count_by}
+use Rattle.std.specs.{Arc.arc_value, List.sum_by}
+use Rattle.graph_types.specs.declared.batches.NamedOp.{NamedOp}
+use Rattle.graph_version.specs.{Batches.batch_value, declared.versions.Version.Version}
+use Rattle.block_reclamation.specs.Status.{is_free, is_in_use}
+use Rattle.batch_apply.proofs.Names.{err_then}
+use Rattle.desk.specs.{Kept.desk_in, Refusals.{Refuses, RefusesGrant, asked}}
+use Rattle.desk.proofs.Handing.{grant_within, desk_refuses, desk_admits}
+use Rattle.desk.proofs.ready.grant_for.Goals as goal
+
+pub grant_blocks-requires : goal.grant_blocks-requires
+grant_blocks-requires c =
+    let p = c.args.parts.now in
+    subst (λ ops. sum_by (λ n. n) c.args.plan.needs.items ≤ asked ops (count_by is_in_use p.pool)) (sym c.deref.ensures)
+    (grant_within (desk_in p) (arc_value {X = Version} p.last) c.requires.planned.0 (batch_value c.args.batch.now) c.args.plan
+    c.requires.desk refl c.requires.planned.1)
+
+pub returns-in_err-numbers-clause-refused : goal.returns-in_err-numbers-clause-refused
+returns-in_err-numbers-clause-refused c =
+    let p = c.args.parts.now in
+    let last = arc_value {X = Version} p.last in
+    err_then c.from_residual-in_err-numbers.result (Refuses last (count_by is_free p.pool) (batch_value c.args.batch.now))
+    c.in_err-numbers.field-0.0 c.from_residual-in_err-numbers.ensures.1
+    (desk_refuses (desk_in p) last c.requires.planned.0 (batch_value c.args.batch.now) c.args.plan c.requires.desk refl
+    c.requires.planned.1 c.in_err-numbers.field-0.0
+    (subst (λ (ops : List NamedOp). RefusesGrant (asked ops (count_by is_in_use p.pool)) (count_by is_free p.pool)
+    c.in_err-numbers.field-0.0) c.deref.ensures c.in_err-numbers.ensures.refused))
+
+pub returns-clause-within : goal.returns-clause-within
+returns-clause-within c =
+    let p = c.args.parts.now in
+    desk_admits (desk_in p) (arc_value {X = Version} p.last) c.requires.planned.0 (batch_value c.args.batch.now) c.args.plan
+    c.requires.desk refl c.requires.planned.1
+    (subst (λ (ops : List NamedOp). asked ops (count_by is_in_use p.pool) ≤ count_by is_free p.pool) c.deref.ensures
+    c.in_ok-numbers.ensures.enough)
