@@ -1,0 +1,51 @@
+-- How many of a batch's operations had each outcome.
+use Rattle.std.specs.Prelude.{◌≡◌, ℕ, ◌+◌, ◌%◌, ◌^◌, List, [], ◌∷◌, Bool, true, false, length, count_by, sum_by}
+use Rattle.graph_types.specs.declared.batches.Outcome.{Outcome, TheVariants.{Inserted, Updated, Removed, Absent, Overflow, Expired}}
+use Rattle.desk_columns.specs.declared.counts.Counts.{Counts}
+
+abbrev pub is_inserted : Outcome → Bool
+is_inserted Inserted = true
+is_inserted _ = false
+
+abbrev pub is_updated : Outcome → Bool
+is_updated Updated = true
+is_updated _ = false
+
+abbrev pub is_removed : Outcome → Bool
+is_removed Removed = true
+is_removed _ = false
+
+abbrev pub is_absent : Outcome → Bool
+is_absent Absent = true
+is_absent _ = false
+
+abbrev pub is_overflow : Outcome → Bool
+is_overflow Overflow = true
+is_overflow _ = false
+
+-- how many edges an outcome says that an expiry took away
+abbrev pub expired_in : Outcome → ℕ
+expired_in (Expired count) = count
+expired_in _ = 0
+
+-- numbers as 64 bits have them
+abbrev pub wrapped : ℕ → ℕ
+wrapped n = n % 2 ^ 64
+
+-- counts with those of outcomes more, of the version with this number
+abbrev pub with_outcomes : Counts → ℕ → List Outcome → Counts
+with_outcomes c version outcomes =
+    record {
+      version = version;
+      inserted = wrapped (c.inserted + count_by is_inserted outcomes);
+      updated = wrapped (c.updated + count_by is_updated outcomes);
+      removed = wrapped (c.removed + count_by is_removed outcomes);
+      absent = wrapped (c.absent + count_by is_absent outcomes);
+      overflowed = wrapped (c.overflowed + count_by is_overflow outcomes);
+      expired = wrapped (c.expired + sum_by expired_in outcomes);
+    }
+
+-- none counted yet
+abbrev pub none_counted : ℕ → Counts
+none_counted version =
+    record { version = version; inserted = 0; updated = 0; removed = 0; absent = 0; overflowed = 0; expired = 0 }

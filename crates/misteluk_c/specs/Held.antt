@@ -1,0 +1,55 @@
+-- What a handle holds, and what a call tells of it.
+use Rattle.std.specs.Prelude.{◌≡◌, ◌⊎◌, ℕ, List, Option, Some, None, Result, MatchBool, MatchResult}
+use Rattle.std.specs.Arc.{arc_value}
+use Rattle.graph_types.specs.{Answer.is_listed, Step.number_of, declared.batches.NamedOp.NamedOp, declared.batches.PushError.PushError}
+use Rattle.graph_version.specs.declared.versions.Version.{Version}
+use Rattle.graph_version.specs.Versions.{VersionView}
+use Rattle.version_columns.specs.declared.{views.ColumnError.ColumnError, names.TextError.TextError, lookups.Marks.Marks}
+use Rattle.version_columns.specs.Texts.{WritesNames}
+use Rattle.batch_columns.specs.Dictionaries.{IsPushed}
+use Rattle.store_handles.specs.declared.held.Held.{Held, TheVariants as held}
+use Rattle.misteluk_c.specs.Codes.{column_code, columns_code, push_code, names_code}
+
+-- the version, and the batch, that a handle holds
+abbrev pub version_in : Option Held → Option VersionView
+version_in None = None
+version_in (Some (held.Version version)) = Some (arc_value {X = Version} version)
+version_in (Some (held.Batch batch)) = None
+
+abbrev pub batch_in : Option Held → Option (List NamedOp)
+batch_in None = None
+batch_in (Some (held.Version version)) = None
+batch_in (Some (held.Batch batch)) = Some batch
+
+-- a call about what a handle holds tells so of it; where the handle holds no such thing, the code says that
+abbrev pub Asks : {X : Type 0} → Option X → ℕ → (X → Type 0) → Type 0
+Asks None code Tells = code ≡ 2
+Asks (Some x) code Tells = Tells x
+
+-- a call that makes something in a handle: made, or not for want of memory; and the handle is as it was where it holds something
+abbrev pub Makes : Option Held → Option Held → ℕ → (Option Held → Type 0) → Type 0
+Makes None new code Made = ((code ≡ 0) × Made new) ⊎ ((code ≡ 1) × (new ≡ None))
+Makes (Some held) new code Made = (code ≡ 3) × (new ≡ Some held)
+
+-- the code tells the answer of a call that writes columns
+abbrev pub Tells : ℕ → (Result (Unit {0}) ColumnError → Type 0) → Type 0
+Tells code Answers = (answer : Result (Unit {0}) ColumnError) × (code ≡ columns_code answer) × Answers answer
+
+-- the code tells whether an operation was appended
+abbrev pub TellsPush : NamedOp → List NamedOp → Option Held → ℕ → Type 0
+TellsPush op old new code =
+    (answer : Result (Unit {0}) PushError) × (ops : List NamedOp) × (batch_in new ≡ Some ops) × (code ≡ push_code answer) × IsPushed op old ops answer
+
+-- the number of a name that is listed, or the code that it is missing
+abbrev pub TellsNumber : ℕ → List (List ℕ) → List ℕ → ℕ → ℕ → Type 0
+TellsNumber missing names name code number =
+    MatchBool (is_listed names name) ((code ≡ 0) × (number ≡ number_of names name)) (code ≡ missing)
+
+-- names in one text
+abbrev pub TellsNames : ℕ → List (List ℕ) → ℕ → List ℕ → List ℕ → List ℕ → ℕ → Type 0
+TellsNames missing names first old new ends code =
+    (answer : Result (Unit {0}) TextError) × (code ≡ names_code missing answer) × WritesNames names first old new ends answer
+
+-- one edge
+abbrev pub TellsEdge : Result Marks ColumnError → ℕ → Marks → Type 0
+TellsEdge edge code marks = MatchResult edge (λ found. (code ≡ 0) × (marks ≡ found)) (λ error. code ≡ column_code error)

@@ -1,0 +1,20 @@
+//! The store in a caller's process, for C: what `include/misteluk.h` declares.
+//!
+//! A handle is null until something is made in it. Each call tests all that it is given but for what C owes: that pointers lead to as
+//! much memory as the lengths beside them say, and that no two of them overlap. Every refusal is a code.
+#![tactic(auto)]
+
+ghost use Rattle.std.specs.Prelude.{◌≡◌};
+
+mod batches;
+mod codes;
+mod desks;
+mod versions;
+
+/// The number of the interface that the header declares.
+#[unsafe(no_mangle)]
+pub extern "C" fn misteluk_interface() -> u32
+    ensures { result ≡ 1 }
+{
+    1
+}

@@ -1,0 +1,75 @@
+-- Edges and values written one after another, and rows side by side.
+use Rattle.std.proofs.Common.{◌≡◌, ℕ, ◌+◌, ◌≤◌, ◌<◌, ◌^◌, List, [], ◌∷◌, ◌++◌, zero, suc, length, get_or, drop, replicate}
+use Rattle.std.proofs.Common.{refl, sym, ap, ◌∙◌, arith, add-zero, add-one, append_assoc, append-nil, length-append}
+use Rattle.std.proofs.{Math.Seq.drop-cons, lemmas.List.{FromFn.length-map-range_with_len, length-replicate}}
+use Rattle.std.specs.declared.{sync.Arc.Arc, alloc.Global.Global}
+use Rattle.graph_types.specs.declared.ids.Filter.{Filter}
+use Rattle.graph_types.specs.{Graph.Graph, Answer.{degree_at, degree_table}}
+use Rattle.edge_block.specs.{Slots.BlockView, Lending.LentEdge, declared.blocks.Block.Block}
+use Rattle.version_pages.specs.Rows.{row_of, blocks_of}
+use Rattle.graph_version.specs.{Sharing.{block_value, block_values}, Versions.{VersionView, IsVersion}}
+use Rattle.graph_version.proofs.BlockCounts.{few_blocks}
+use Rattle.version_columns.specs.Rows.{Columns, with_edge, with_edges, with_values, block_edges, edges_of, row_edges, rows_from, sources_from}
+
+-- edges behind others, and values
+pub with_edges-append : (at : ℕ) (xs ys : List LentEdge) (c : Columns)
+    → with_edges at (xs ++ ys) c ≡ with_edges (at + length xs) ys (with_edges at xs c)
+with_edges-append at [] ys c = ap (λ n. with_edges n ys c) (sym (add-zero at))
+with_edges-append at (x ∷ xs) ys c =
+    let same : (at + 1) + length xs ≡ at + suc (length xs) = omega arith in
+    with_edges-append (at + 1) xs ys (with_edge at x c) ∙ ap (λ n. with_edges n ys (with_edges (at + 1) xs (with_edge at x c))) same
+
+pub with_values-append : (at : ℕ) (xs ys c : List ℕ)
+    → with_values at (xs ++ ys) c ≡ with_values (at + length xs) ys (with_values at xs c)
+with_values-append at [] ys c = ap (λ n. with_values n ys c) (sym (add-zero at))
+with_values-append at (x ∷ xs) ys c =
+    let same : (at + 1) + length xs ≡ at + suc (length xs) = omega arith in
+    with_values-append (at + 1) xs ys _ ∙ ap (λ n. with_values n ys (with_values at (x ∷ xs) c)) same
+
+-- the blocks that are left begin with the next one
+pub next_edges : (f : Filter) (blocks : List (Arc Block Global)) (i : ℕ) (d : Arc Block Global) → i < length blocks
+    → edges_of f (block_values (drop i blocks)) ≡ block_edges f (block_value (get_or blocks i d))
+    ++ edges_of f (block_values (drop (i + 1) blocks))
+next_edges f blocks i d within =
+    ap (λ (bs : List (Arc Block Global)). edges_of f (block_values bs)) (drop-cons blocks i d within)
+    ∙ ap (λ n. block_edges f (block_value (get_or blocks i d)) ++ edges_of f (block_values (drop n blocks))) (sym (add-one i))
+
+-- a row is among all blocks
+row_within : (rows : List (List BlockView)) (source : ℕ) → length (row_of rows source) ≤ length (blocks_of rows)
+row_within [] source = omega arith
+row_within (row ∷ rows) zero = omega (arith, length-append row (blocks_of rows))
+row_within (row ∷ rows) (suc source) = omega (arith, length-append row (blocks_of rows), row_within rows source)
+
+pub few_in_row : (v : VersionView) (source : ℕ) → IsVersion v → length (row_of v.rows source) ≤ 2 ^ 58
+few_in_row v source is = omega (arith, few_blocks v is, row_within v.rows source)
+
+-- one row more
+pub rows_from-more : (f : Filter) (v : VersionView) (source n : ℕ)
+    → rows_from f v source (suc n) ≡ rows_from f v source n ++ row_edges f v (source + n)
+rows_from-more f v source zero = append-nil _ ∙ ap (row_edges f v) (sym (add-zero source))
+rows_from-more f v source (suc n) =
+    let same : (source + 1) + n ≡ source + suc n = omega arith in
+    ap (λ es. row_edges f v source ++ es) (rows_from-more f v (source + 1) n ∙ ap (λ s. rows_from f v (source + 1) n ++ row_edges f v s) same)
+    ∙ sym (append_assoc (row_edges f v source) (rows_from f v (source + 1) n) (row_edges f v (source + suc n)))
+
+pub sources_from-more : (f : Filter) (v : VersionView) (source n : ℕ)
+    → sources_from f v source (suc n) ≡ sources_from f v source n ++ replicate (length (row_edges f v (source + n))) (source + n)
+sources_from-more f v source zero = append-nil _ ∙ ap (λ s. replicate (length (row_edges f v s)) s) (sym (add-zero source))
+sources_from-more f v source (suc n) =
+    let same : (source + 1) + n ≡ source + suc n = omega arith in
+    let last : ℕ → List ℕ = λ s. replicate (length (row_edges f v s)) s in
+    ap (λ es. last source ++ es) (sources_from-more f v (source + 1) n ∙ ap (λ s. sources_from f v (source + 1) n ++ last s) same)
+    ∙ sym (append_assoc (last source) (sources_from f v (source + 1) n) (last (source + suc n)))
+
+-- one degree for each vertex
+pub degrees_long : (f : Filter) (g : Graph) → length (degree_table f g) ≡ length g.names
+degrees_long f g = length-map-range_with_len (degree_at f g) 0 (length g.names)
+
+-- each edge has a source
+pub sources_long : (f : Filter) (v : VersionView) (source n : ℕ) → length (sources_from f v source n) ≡ length (rows_from f v source n)
+sources_long f v source zero = refl
+sources_long f v source (suc n) =
+    let here = length-append (row_edges f v source) (rows_from f v (source + 1) n) in
+    let each = length-append (replicate (length (row_edges f v source)) source) (sources_from f v (source + 1) n) in
+    let long = length-replicate (length (row_edges f v source)) source in
+    omega (arith, here, each, long, sources_long f v (source + 1) n)

@@ -1,0 +1,141 @@
+-- Edges in columns: rows of a version, as far as a filter lets them through.
+use Rattle.std.specs.Prelude.{◌≡◌, ◌≤◌, ◌<◌, ◌==◌, ◌&&◌, ◌⊎◌, ℕ, ℤ, ◌+◌, ◌-◌, suc, zero, List, [], ◌∷◌, ◌++◌, length, map, flat_map, replicate}
+use Rattle.std.specs.Prelude.{slice_set, nat_lt, nat_le, true, Bool, Option, Some, None, Result, Ok, Err, OnOk, OnErr, false}
+use Rattle.graph_types.specs.{declared.ids.Filter.Filter}
+use Rattle.edge_block.specs.{Slots.BlockView, Lending.{LentEdge, lent_of}}
+use Rattle.version_pages.specs.Rows.{row_of}
+use Rattle.graph_version.specs.{Versions.{VersionView, content}, Shown.shown}
+use Rattle.version_columns.specs.declared.views.{View.View, ColumnError.ColumnError}
+use Rattle.version_columns.specs.declared.views.ColumnError.TheVariants.{NoKind, BadLength}
+use Rattle.version_columns.specs.Views.{filter_of, first_refusal}
+
+-- the edges of a block that a filter lets through, in slot order, and those of blocks
+abbrev pub block_edges : Filter → BlockView → List LentEdge
+block_edges f b = map lent_of (shown f b)
+
+abbrev pub edges_of : Filter → List BlockView → List LentEdge
+edges_of f blocks = flat_map (block_edges f) blocks
+
+-- those of a source, in the order of its row
+abbrev pub row_edges : Filter → VersionView → ℕ → List LentEdge
+row_edges f v source = edges_of f (row_of v.rows source)
+
+-- the columns that edges are written to
+pub record Columns : Type 0 where
+  pub kinds : List ℕ
+  pub targets : List ℕ
+  pub weights : List ℤ
+  pub firsts : List ℕ
+  pub recents : List ℕ
+
+-- with an edge at a place
+abbrev pub with_edge : ℕ → LentEdge → Columns → Columns
+with_edge at e c =
+    record {
+      kinds = slice_set c.kinds at e.kind;
+      targets = slice_set c.targets at e.target;
+      weights = slice_set c.weights at e.stamp.weight;
+      firsts = slice_set c.firsts at e.stamp.first;
+      recents = slice_set c.recents at e.stamp.recent;
+    }
+
+-- with edges one after another from a place on, and all else as it was
+abbrev pub with_edges : ℕ → List LentEdge → Columns → Columns
+with_edges at [] c = c
+with_edges at (e ∷ es) c = with_edges (at + 1) es (with_edge at e c)
+
+abbrev pub columns : List ℕ → List ℕ → List ℤ → List ℕ → List ℕ → Columns
+columns kinds targets weights firsts recents =
+    record { kinds = kinds; targets = targets; weights = weights; firsts = firsts; recents = recents }
+
+-- all have the length
+abbrev pub AreLong : ℕ → Columns → Type 0
+AreLong n c = (length c.kinds ≡ n) × (length c.targets ≡ n) × (length c.weights ≡ n) × (length c.firsts ≡ n) × (length c.recents ≡ n)
+
+abbrev pub are_long : ℕ → Columns → Bool
+are_long n c = (length c.kinds == n) && (length c.targets == n) && (length c.weights == n) && (length c.firsts == n) && (length c.recents == n)
+
+-- what a column has with values one after another from a place on, and all else as it was
+abbrev pub with_values : ℕ → List ℕ → List ℕ → List ℕ
+with_values at [] column = column
+with_values at (x ∷ xs) column = with_values (at + 1) xs (slice_set column at x)
+
+-- the edges of so many sources from one on, row after row, and the source of each
+abbrev pub rows_from : Filter → VersionView → ℕ → ℕ → List LentEdge
+rows_from f v source zero = []
+rows_from f v source (suc n) = row_edges f v source ++ rows_from f v (source + 1) n
+
+abbrev pub sources_from : Filter → VersionView → ℕ → ℕ → List ℕ
+sources_from f v source zero = []
+sources_from f v source (suc n) = replicate (length (row_edges f v source)) source ++ sources_from f v (source + 1) n
+
+-- one row
+
+-- whether so many places are enough for the edges of a source
+abbrev pub fits_row : Option Filter → VersionView → ℕ → ℕ → Bool
+fits_row None v source room = true
+fits_row (Some f) v source room = nat_le (length (row_edges f v source)) room
+
+-- a result that is this refusal, if there is one
+abbrev pub outcome : Option ColumnError → Result (Unit {0}) ColumnError
+outcome None = Ok tt
+outcome (Some error) = Err error
+
+-- the row is written, or refused by the first refusal that holds and then nothing is
+pub record WritesRow (v : VersionView) (view : View) (source : ℕ) (old new : Columns) (result : Result (Unit {0}) ColumnError) : Type 0 where
+  pub answer : result ≡ outcome (first_refusal (filter_of (content v) view) (nat_lt source (length (content v).names))
+      (are_long (length old.kinds) old && fits_row (filter_of (content v) view) v source (length old.kinds)))
+  pub written : OnOk result ((f : Filter) × (filter_of (content v) view ≡ Some f) × (new ≡ with_edges 0 (row_edges f v source) old))
+  pub same : OnErr result (new ≡ old)
+
+-- how many edges a source has, where the kind and the vertex are there
+abbrev pub IsRowCount : VersionView → View → ℕ → ℕ → Type 0
+IsRowCount v view source count = (f : Filter) → filter_of (content v) view ≡ Some f → source < length (content v).names
+    → count ≡ length (row_edges f v source)
+
+-- several rows
+
+-- the rows of the sources from one to below the next have so many edges, which have room; there are no more sources, or the
+-- next row has none
+pub record AreRows (f : Filter) (v : VersionView) (source next room count : ℕ) : Type 0 where
+  pub onward : source ≤ next
+  pub counted : count ≡ length (rows_from f v source (next - source))
+  pub fits : count ≤ room
+  pub whole : (length (content v).names ≤ next) ⊎ (room < count + length (row_edges f v next))
+
+-- they are written, with their sources
+pub record WrittenRows (f : Filter) (v : VersionView) (source next : ℕ) (old new : Columns) (old_sources new_sources : List ℕ) : Type 0 where
+  pub edges : new ≡ with_edges 0 (rows_from f v source (next - source)) old
+  pub sources : new_sources ≡ with_values 0 (sources_from f v source (next - source)) old_sources
+
+-- not even the next row that has an edge fits
+pub record IsTooLong (f : Filter) (v : VersionView) (source room count : ℕ) : Type 0 where
+  pub next : ℕ
+  pub onward : source ≤ next
+  pub there : next < length (content v).names
+  pub empty : rows_from f v source (next - source) ≡ []
+  pub long : room < length (row_edges f v next)
+  pub counted : count ≡ length (row_edges f v next)
+
+-- what `write_edges` comes to, from what it was given and what stands there then
+pub record EdgeColumns : Type 0 where
+  pub source : ℕ
+  pub sources : List ℕ
+  pub columns : Columns
+
+abbrev pub WritesEdges : VersionView → View → EdgeColumns → EdgeColumns → ℕ → Result (Unit {0}) ColumnError → Type 0
+WritesEdges v view old new count (Ok _) =
+    (f : Filter) × (filter_of (content v) view ≡ Some f)
+    × ((length old.sources == length old.columns.kinds) && are_long (length old.columns.kinds) old.columns ≡ true)
+    × AreRows f v old.source new.source (length old.columns.kinds) count
+    × WrittenRows f v old.source new.source old.columns new.columns old.sources new.sources
+    × ((0 < count) ⊎ (length (content v).names ≤ new.source))
+WritesEdges v view old new count (Err NoKind) = filter_of (content v) view ≡ None
+WritesEdges v view old new count (Err BadLength) =
+    (f : Filter) × (filter_of (content v) view ≡ Some f) × (new.source ≡ old.source)
+    × (((length old.sources == length old.columns.kinds) && are_long (length old.columns.kinds) old.columns ≡ false)
+    ⊎ IsTooLong f v old.source (length old.columns.kinds) count)
+WritesEdges v view old new count (Err _) = ⊥
+
+abbrev pub edge_columns : ℕ → List ℕ → Columns → EdgeColumns
+edge_columns source sources columns = record { source = source; sources = sources; columns = columns }
