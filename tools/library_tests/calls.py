@@ -2,10 +2,11 @@
 from __future__ import annotations
 
 import array
+import itertools
 import pathlib
 import sys
 from ctypes import c_uint32, c_uint64, create_string_buffer
-from typing import Dict, List, Optional, Sequence, Tuple
+from typing import Any, Dict, Iterator, List, Optional, Sequence, Tuple
 
 TOP = pathlib.Path(__file__).resolve().parent.parent.parent
 sys.dont_write_bytecode = True
@@ -13,6 +14,8 @@ sys.path.insert(0, str(TOP / "python"))
 from misteluk.engine import interface  # noqa: E402
 from misteluk.engine.interface import ANY_KIND, NOT_REACHED, Code, Library  # noqa: E402
 
+__all__ = ["ANY_KIND", "EVER", "NOT_REACHED", "TOP", "Batch", "Code", "Desk", "Library", "Owner", "Refused", "Version", "at", "column", "fields",
+           "interface", "must", "view", "whole"]
 EVER = (0, (1 << 64) - 1)
 # A row of a table of edges: kind, source, target, weight, first and recent time.
 Row = Tuple[int, int, int, int, int, int]
@@ -42,9 +45,22 @@ def view(kind: Optional[int] = None, window: Tuple[int, int] = EVER) -> interfac
     return interface.View(*window, ANY_KIND if kind is None else kind)
 
 
-class Batch:
+class Owner:
+    """What has a handle, and ends what it holds."""
+
     def __init__(self, library: Library) -> None:
-        self.library, self.handle = library, interface.Batch()
+        self.library = library
+        # (a list of columns is given as so many words, which a checker of types can't count)
+        self.calls: Any = library
+
+    def free(self) -> None:
+        raise NotImplementedError
+
+
+class Batch(Owner):
+    def __init__(self, library: Library) -> None:
+        super().__init__(library)
+        self.handle = interface.Batch()
         must(library.batch_new(self.handle))
 
     def insert(self, kind: bytes, source: bytes, target: bytes, weight: int, time: int) -> None:
@@ -70,11 +86,12 @@ class Batch:
         self.handle = interface.Batch()
 
 
-class Version:
+class Version(Owner):
     """A version that is held. Where it came of a hold, `hold` is for its release."""
 
     def __init__(self, library: Library, handle: interface.Version, hold: Optional[interface.Hold] = None) -> None:
-        self.library, self.handle, self.hold = library, handle, hold
+        super().__init__(library)
+        self.handle, self.hold = handle, hold
         self.size = interface.Size()
         must(library.version_size(handle, self.size))
 
@@ -137,14 +154,14 @@ class Version:
     def row(self, seen: interface.View, source: int) -> List[Row]:
         """One source's edges, in columns that are as long as they have to be: the length is asked for with none."""
         none, count = column("Q", 0), c_uint64()
-        code = self.library.version_row(self.handle, seen, source, *[at(none), 0] * 5, count)
+        code = self.calls.version_row(self.handle, seen, source, *[at(none), 0] * 5, count)
         if code != Code.BAD_LENGTH:
             must(code)
         kinds, targets, weights, firsts, recents = (column(it, count.value) for it in "IIqQQ")
         length = count.value
         must(self.library.version_row(self.handle, seen, source, at(kinds), length, at(targets), length, at(weights), length,
                                       at(firsts), length, at(recents), length, count))
-        rows = zip(kinds, [source] * length, targets, weights, firsts, recents)
+        rows: Iterator[Row] = zip(kinds, [source] * length, targets, weights, firsts, recents)  # type: ignore[assignment]
         return list(rows)
 
     def edges(self, seen: interface.View, room: int) -> List[Row]:
@@ -154,14 +171,16 @@ class Version:
         table = [column(it, room) for it in "IIIqQQ"]
         while source.value < self.size.vertices:
             columns = [it for each in table for it in (at(each), room)]
-            must(self.library.version_edges(self.handle, seen, source, *columns, count))
-            found += [it for it, _ in zip(zip(*table), range(count.value))]
+            must(self.calls.version_edges(self.handle, seen, source, *columns, count))
+            rows: Iterator[Row] = zip(*table)  # type: ignore[assignment]
+            found += itertools.islice(rows, count.value)
         return found
 
 
-class Desk:
+class Desk(Owner):
     def __init__(self, library: Library, blocks: int) -> None:
-        self.library, self.handle = library, interface.Desk()
+        super().__init__(library)
+        self.handle = interface.Desk()
         must(library.desk_new(blocks, self.handle))
 
     def free(self) -> None:
@@ -183,7 +202,7 @@ class Desk:
         columns = [array.array(it, [edge[place] for edge in edges]) for place, it in enumerate("IIqQ")]
         counts, done = interface.Counts(), c_uint64()
         told = [it for each in columns for it in (at(each if each else none), len(edges))]
-        code = self.library.desk_insert_columns(self.handle, kind, len(kind), text, len(text), at(ends), len(names), *told, counts,
+        code = self.calls.desk_insert_columns(self.handle, kind, len(kind), text, len(text), at(ends), len(names), *told, counts,
                                                 done)
         return Code(code), done.value, counts
 

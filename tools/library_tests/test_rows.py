@@ -2,20 +2,22 @@
 import unittest
 from typing import Dict, List, Tuple
 
-from calls import Batch, Code, Desk, Refused, Version, fields, view
+from calls import Batch, Code, Desk, Owner, Refused, Version, fields, view
 from places import library
 
 
 def push(batch: Batch, record: str) -> None:
     """Appends an operation that is written as a record of a script."""
     word, *told = record.split(",")
-    names = [it.encode() for it in told[:3]]
     if word == "x":
         batch.expire(int(told[0]))
-    elif word == "r":
-        batch.remove(*names)
+        return
+    kind, source, target = (it.encode() for it in told[:3])
+    if word == "r":
+        batch.remove(kind, source, target)
     else:
-        (batch.insert if word == "i" else batch.add)(*names, *map(int, told[3:]))
+        weight, time = map(int, told[3:])
+        (batch.insert if word == "i" else batch.add)(kind, source, target, weight, time)
 
 
 class Rows(unittest.TestCase):
@@ -200,14 +202,14 @@ class Holds(unittest.TestCase):
         self.assertEqual(caught.exception.code, Code.NO_SEAT)
         for it in held[:2]:
             desk.release(it)
-        held[:2] = [desk.hold()]
+        held = [desk.hold(), *held[2:]]
         self.assertEqual([it.size.version for it in held], [16, *(it // 2 for it in range(2, 32))])
-        with self.assertRaises(Refused):
-            held[1].hold = held[0].hold
-            held[0].hold and desk.release(held[0])
-            desk.release(held[1])
-        for it in [*held, batch, desk]:
-            it.free()
+        last = held[0].hold
+        assert last
+        self.assertEqual([library().desk_release(desk.handle, last) for _ in range(2)], [Code.OK, Code.NO_SEAT])
+        owners: List[Owner] = [*held, batch, desk]
+        for each in owners:
+            each.free()
 
     def test_a_hold_of_a_former_opening_is_given_back(self) -> None:
         desk, batch = Desk(library(), 16), Batch(library())
