@@ -14,8 +14,8 @@ sys.path.insert(0, str(TOP / "python"))
 from misteluk.engine import interface  # noqa: E402
 from misteluk.engine.interface import ANY_KIND, NOT_REACHED, Code, Library  # noqa: E402
 
-__all__ = ["ANY_KIND", "EVER", "NOT_REACHED", "TOP", "Batch", "Code", "Desk", "Library", "Owner", "Refused", "Version", "at", "column", "fields",
-           "interface", "must", "view", "whole"]
+__all__ = ["ANY_KIND", "EVER", "NOT_REACHED", "TOP", "Batch", "Code", "Desk", "Library", "Owner", "Refused", "Version", "at",
+           "column", "fields", "interface", "must", "view", "whole"]
 EVER = (0, (1 << 64) - 1)
 # A row of a table of edges: kind, source, target, weight, first and recent time.
 Row = Tuple[int, int, int, int, int, int]

@@ -72,11 +72,13 @@ class Hostile(unittest.TestCase):
             it.desk_insert_columns(desk, *name, *name, *[where, 1] * 5, counts, number),
             it.desk_hold(desk, none, interface.Hold()), it.desk_release(desk, interface.Hold()), it.desk_rebase(desk),
             it.version_clone(none, interface.Version()), it.version_size(none, interface.Size()),
-            it.version_vertex(none, *name, few), it.version_kind(none, *name, few), it.version_names(none, 0, where, 1, where, 1),
-            it.version_kind_names(none, 0, where, 1, where, 1), it.version_edge(none, 0, 0, 0, interface.Edge()),
+            it.version_vertex(none, *name, few), it.version_kind(none, *name, few),
+            it.version_names(none, 0, where, 1, where, 1), it.version_kind_names(none, 0, where, 1, where, 1),
+            it.version_edge(none, 0, 0, 0, interface.Edge()),
             it.version_degrees(none, view(), *[where, 1] * 3), it.version_levels(none, view(), 0, where, 1),
             it.version_labels(none, view(), where, 1), it.version_cores(none, view(), where, 1),
-            it.version_row(none, view(), 0, *[where, 1] * 5, number), it.version_edges(none, view(), few, *[where, 1] * 6, number),
+            it.version_row(none, view(), 0, *[where, 1] * 5, number),
+            it.version_edges(none, view(), few, *[where, 1] * 6, number),
         ]
         self.assertEqual(codes, [Code.NO_HANDLE] * len(codes))
         self.assertEqual([desk.at, batch.at, none.at], [None] * 3)

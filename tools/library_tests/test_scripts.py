@@ -14,8 +14,8 @@ from calls import Batch, Code, Desk, Refused, Version, fields, interface, view
 from places import library, program
 
 WORDS = {Code.BAD_NAME: "BadName", Code.BAD_WEIGHT: "BadWeight", Code.BAD_TIME: "BadTime", Code.BATCH_FULL: "BatchFull",
-         Code.BATCHES_FULL: "BatchLimit", Code.NAMES_FULL: "NamesFull", Code.KINDS_FULL: "KindsFull", Code.BLOCKS_FULL: "PoolEmpty",
-         Code.NO_KIND: "NoKind", Code.NO_VERTEX: "NoVertex", Code.NO_SEAT: "NotOpen"}
+         Code.BATCHES_FULL: "BatchLimit", Code.NAMES_FULL: "NamesFull", Code.KINDS_FULL: "KindsFull",
+         Code.BLOCKS_FULL: "PoolEmpty", Code.NO_KIND: "NoKind", Code.NO_VERTEX: "NoVertex", Code.NO_SEAT: "NotOpen"}
 MOST_WEIGHT, MOST_TIME = 1 << 40, (1 << 63) - 1
 NAMES = [f"v{it}".encode() for it in range(12)] + [b"a,b", b'say"x"', b"z" * 64, b"!", b"~"]
 # No names: too short, too long, a space, DEL, no UTF-8, no ASCII.
@@ -54,7 +54,9 @@ class Play:
         return True
 
     def name(self) -> bytes:
-        return self.random.choice(NO_NAMES) if self.random.random() < 0.01 else NAMES[int(len(NAMES) * self.random.random() ** 2)]
+        if self.random.random() < 0.01:
+            return self.random.choice(NO_NAMES)
+        return NAMES[int(len(NAMES) * self.random.random() ** 2)]
 
     def kind(self) -> bytes:
         return self.random.choice([*NO_NAMES, b"*"]) if self.random.random() < 0.01 else self.random.choice(self.kinds)
@@ -62,7 +64,9 @@ class Play:
     def some_time(self) -> int:
         self.time += self.random.random() < 0.7
         far = [MOST_TIME, MOST_TIME + 1, 0]
-        return self.random.choice(far) if self.random.random() < 0.03 else self.random.randrange(max(0, self.time - 9), self.time + 1)
+        if self.random.random() < 0.03:
+            return self.random.choice(far)
+        return self.random.randrange(max(0, self.time - 9), self.time + 1)
 
     def weight(self) -> int:
         far = [MOST_WEIGHT, -MOST_WEIGHT, MOST_WEIGHT + 1, -MOST_WEIGHT - 1, 0]
@@ -182,8 +186,9 @@ class Play:
         assert [it for vertex in range(len(names)) for it in held.row(seen, vertex)] == found
         numbers = [value for _, value in rows]
         parts = sum(vertex == value for vertex, value in rows)
-        self.lines.append(f"{word} {slot} " + {"bfs": f"reached={len(rows)}", "comp": f"parts={parts}", "deg": f"edges={len(found)}",
-                                               "core": f"max={max(numbers, default=0)}"}[word])
+        heads = {"bfs": f"reached={len(rows)}", "comp": f"parts={parts}", "core": f"max={max(numbers, default=0)}",
+                 "deg": f"edges={len(found)}"}
+        self.lines.append(f"{word} {slot} {heads[word]}")
         for vertex, value in rows:
             told = names[value] if word == "comp" else value
             self.lines.append(" ".join([names[vertex], *map(str, held.degrees(seen)[vertex] if word == "deg" else [told])]))

@@ -19,7 +19,8 @@ def edges(seed: int, count: int) -> List[Tuple[int, int, int, int]]:
 
 def tables(version: Version) -> Tuple[object, ...]:
     every = view()
-    return version.cores(every), version.labels(every), version.degrees(every), version.levels(every, 0), version.edges(every, 8192)
+    told = version.cores(every), version.labels(every), version.degrees(every), version.levels(every, 0)
+    return (*told, version.edges(every, 8192))
 
 
 class Threads(unittest.TestCase):
