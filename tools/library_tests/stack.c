@@ -1,12 +1,12 @@
 /* How many bytes of stack each call took, at the most, over a long path, a star and many versions: each call runs on a
- * stack that was filled with one byte before, and what isn't that byte any more was taken. */
+ * stack that was filled with one byte before, and what isn't that byte any more was taken. It fails past what docs/C.md says. */
 #include <misteluk.h>
 #include <pthread.h>
 #include <stdio.h>
 #include <stdlib.h>
 #include <string.h>
 
-enum { VERTICES = 65536, PATH = 30000, BATCH = 4096, STACK = 1 << 20, FILL = 0xA5 };
+enum { VERTICES = 65536, PATH = 30000, BATCH = 4096, STACK = 1 << 20, PROMISED = 32 << 10, FILL = 0xA5 };
 
 static const misteluk_view every = {0, UINT64_MAX, MISTELUK_ANY_KIND};
 static misteluk_desk desk;
@@ -148,6 +148,6 @@ int main(void)
     measure("desk_apply", apply);
     measure("desk_collect", collect);
     measure("the ends of all", free_all);
-    printf("most: %zu\n", most);
-    return 0;
+    printf("most: %zu bytes of stack\n", most);
+    return most <= PROMISED ? 0 : 1;
 }
