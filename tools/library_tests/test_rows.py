@@ -177,6 +177,18 @@ class Rows(unittest.TestCase):
         desk.rebase()
         self.assertEqual(self.commit(desk), (1, 0, 0, 0, 0, 0))
 
+    def test_a_load_keeps_the_batches_before_a_refusal(self) -> None:
+        """Of 9,000 edges the 8,501st is too heavy: two batches of 4,096 are in. And 16 blocks are too few for one."""
+        names, edges = [f"t{it}".encode() for it in range(9_000)], [(0, it, 1, 1) for it in range(9_000)]
+        edges[8_500] = (0, 8_500, (1 << 40) + 1, 1)
+        desk = self.open(65_536)
+        code, done, counts = desk.insert_columns(b"k", names, edges)
+        self.assertEqual((code, done, fields(counts)), (Code.BAD_WEIGHT, 8_192, (2, 8_192, 0, 0, 0, 0, 0)))
+        self.assertEqual(self.stat(desk)[:3], (2, 8_192, 8_192))
+        self.assertEqual(self.hold(desk).names(), names[:8_192])
+        code, done, _ = self.open(16).insert_columns(b"k", names, edges)
+        self.assertEqual((code, done), (Code.BLOCKS_FULL, 0))
+
     def test_an_expiry(self) -> None:
         """Edges whose recent time is before it go, one of that time stays; and it asks for as many blocks as are used."""
         desk = self.open()
