@@ -192,10 +192,10 @@ class Releases(Case):
 
     def from_the_archive(self, there):
         """The client of the archive finds its program by itself."""
-        env = {it: value for it, value in os.environ.items() if it != "MISTELUK_PROGRAM"} | {"PYTHONPATH": "python"}
-        told = run(sys.executable, "-c", "import misteluk; print(misteluk.find_program()); print(misteluk.Store().stat().free)",
-                   cwd=there, env=env, stderr=subprocess.DEVNULL).stdout
-        self.assertEqual(told, f"{there}/bin/stinger\n16384\n")
+        env = {it: value for it, value in os.environ.items() if not it.startswith("MISTELUK_")} | {"PYTHONPATH": "python"}
+        code = "import misteluk; print(misteluk.find_program()); print(misteluk.Store(blocks=64).stat().free)"
+        told = run(sys.executable, "-c", code, cwd=there, env=env, stderr=subprocess.DEVNULL).stdout
+        self.assertEqual(told, f"{there}/bin/stinger\n64\n")
 
     def c_from_the_archive(self, there):
         """Header, libraries and what pkg-config reads: the example is compiled as the archive's page says."""
@@ -223,7 +223,7 @@ class Releases(Case):
         done = run(sys.executable, "-m", "pip", "--python", home / "bin/python", "install", "--no-index", "--quiet",
                    "--disable-pip-version-check", wheel, cwd="/")
         self.assertEqual(done.returncode, 0, done.stdout)
-        env = {"PATH": "", "HOME": str(self.room), "MISTELUK_PROGRAM": ""}
+        env = {"PATH": "", "HOME": str(self.room), "MISTELUK_PROGRAM": "", "MISTELUK_LIBRARY": ""}
         told = run(home / "bin/misteluk", "--help", cwd="/", env=env)
         self.assertEqual((told.returncode, told.stdout.split()[:2]), (0, ["usage:", "misteluk"]), told.stdout)
         code = ("import misteluk; print(misteluk.find_program()); s = misteluk.Store(blocks=16); s.insert('k', 'a', 'b', 2); "
@@ -240,11 +240,11 @@ class Releases(Case):
         with tarfile.open(archive) as tar:
             tar.extractall(self.room / "there")
         (there,) = (self.room / "there").iterdir()
-        env = {it: value for it, value in os.environ.items() if it != "MISTELUK_PROGRAM"} | {"PYTHON": sys.executable}
+        env = {it: value for it, value in os.environ.items() if not it.startswith("MISTELUK_")} | {"PYTHON": sys.executable}
         done = run(there / "python/check", "records", "release", "lint", env=env)
         self.assertEqual(done.returncode, 0, done.stdout)
         self.assertIn(f" runs {there}/bin/stinger\n", done.stdout)
-        self.assertRegex(done.stdout, r"(?m)^release: \d+ s, \d+ passed over: this is no repository, but a released archive$")
+        self.assertRegex(done.stdout, r"(?m)^release\b.*: \d+ s, \d+ passed over: this is no repository, but a released archive$")
         self.assertRegex(done.stdout, r"(?m)^[1-9]\d* passed, 0 failed$")
 
     def refused(self, told: str, *words):
