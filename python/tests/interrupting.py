@@ -106,8 +106,7 @@ class Scene:
         return True
 
     def end(self):
-        self.store._talk.kill()
-        self.store._closed = True
+        self.store.kill()
 
 
 def rebase(scene):
@@ -307,5 +306,4 @@ class Model:
         assert interrupted or stat.edges == len(self.weights)
 
     def end(self):
-        self.store._talk.kill()
-        self.store._closed = True
+        self.store.kill()

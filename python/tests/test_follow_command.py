@@ -18,9 +18,9 @@ from unittest import mock
 from support import HERE, Case, find_program
 from test_following import Model, some_rows, text_of
 
-from misteluk.__main__ import main
-from misteluk.asking import Asking
-from misteluk.questions import question
+from misteluk.command.main import main
+from misteluk.engine.asking import Asking
+from misteluk.command.questions import question
 
 OF_ROWS = ("--add", "--source", "1", "--target", "2", "--weight", "3", "--time", "4")
 

@@ -21,7 +21,8 @@ from interrupting import (CALLS, KNOWN, Model, Scene, after, at_line, elsewhere,
 from support import Case
 
 import misteluk
-from misteluk import Store, calls, program
+from misteluk import Store
+from misteluk.engine import calls, conversation as program
 
 
 class Interrupts(Case):
@@ -40,14 +41,12 @@ class Interrupts(Case):
             self.assertGreater(len(self.lines("edges", 6)[1]), 2)
         with mock.patch.object(weakref, "ref", lambda it: lambda: it):
             self.assertGreater(len(self.lines("open")[1]), 0)
-        with mock.patch.object(program.Conversation, "take_up", forget):
-            self.assertGreater(len(self.lines("edge")[1]), 2)
 
     def waiting(self, name, interrupt):
         """A scene whose call is interrupted while it waits for the program, which stands still meanwhile."""
         scene = Scene()
         self.addCleanup(scene.end)
-        process = scene.store._talk.process
+        process = scene.store.engine.talk.process
         process.send_signal(signal.SIGSTOP)
         try:
             interrupt(lambda: CALLS[name](scene), lambda: process.send_signal(signal.SIGCONT))
@@ -107,7 +106,7 @@ class Interrupts(Case):
             while is_more:
                 at += 1
                 store = Store(timeout=5)
-                process = store._talk.process
+                process = store.engine.talk.process
                 is_more = at_line(at, lambda: call(store))
                 self.forget(store)
                 del store
@@ -123,14 +122,14 @@ class Interrupts(Case):
     def test_what_a_close_loses_is_told(self):
         """Also by the second one, where the first was interrupted while it waited."""
         scene = Scene()
-        scene.store._talk.process.send_signal(signal.SIGSTOP)
+        scene.store.engine.talk.process.send_signal(signal.SIGSTOP)
         with handler(interrupt_now):
             self.by_timer(scene.store.close, None)
-        scene.store._talk.process.send_signal(signal.SIGCONT)
+        scene.store.engine.talk.process.send_signal(signal.SIGCONT)
         with self.assertRaises(misteluk.Uncommitted) as told:
             scene.store.close()
         self.assertEqual(told.exception.operations, ["a,l,a,b,1,2\n"] * 3)
-        self.assertTrue(has_ended(scene.store._talk.process))
+        self.assertTrue(has_ended(scene.store.engine.talk.process))
 
     def test_the_beginning(self):
         """A store whose making is interrupted has no program, and leaves no thread that waits for more than its end."""
@@ -194,7 +193,7 @@ class Interrupts(Case):
         self.assertGreater(model.steps, 300)
 
     def test_three_hundred_find_a_fault(self):
-        for where, name, fault in ((calls.Calls, "make", made_at_once), (program.Conversation, "take_up", forget)):
+        for where, name, fault in ((calls.Calls, "make", made_at_once),):
             with mock.patch.object(where, name, fault), handler(interrupt_in_a_call), self.assertRaises(Exception):
                 model = Model()
                 self.addCleanup(model.end)

@@ -8,7 +8,8 @@ from datetime import datetime, timezone
 from support import HERE, Case
 
 import misteluk
-from misteluk import Columns, Feed, notations
+from misteluk import Columns, Feed
+from misteluk.feeds import notations
 
 ONE_TO_FOUR = Columns(1, 2, weight=3, time=4)
 

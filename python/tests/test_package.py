@@ -176,6 +176,7 @@ class Help(Case):
     def test_options_have_names(self):
         """A load's options, for completion: those that a feed is opened by, in each of the calls that take them."""
         opened = set(inspect.signature(misteluk.open_feed).parameters)
+        self.assertLess(set(misteluk.ReadAs._fields), opened)
         for call in (misteluk.load, misteluk.survey, misteluk.Store.load):
             told = inspect.signature(call).parameters
             self.assertEqual(opened - set(told), {"data"} if call == misteluk.Store.load else set())

@@ -17,14 +17,16 @@ from support import Case, optional
 
 import misteluk
 from misteluk import (BadRows, BadWeight, Columns, FeedFault, Fleet, NoAnswer, NoVertex, OperationsRefused, OverLimit,
-                      PartsFailed, Place, PoolEmpty, ProgramEnded, StoreError, parting, records)
+                      PartsFailed, Place, PoolEmpty, ProgramEnded, StoreError)
+from misteluk.fleet import parted as parting
+from misteluk.values import records
 from misteluk.errors import Missing, refusal
-from misteluk.parts import CALLS
+from misteluk.fleet.parts import CALLS
 
 
 def program_of(session):
     """The program's process."""
-    return session.store._talk.process.pid
+    return session.store.engine.talk.process.pid
 
 
 def change(session):

@@ -13,8 +13,9 @@ from unittest import mock
 from support import HERE, Case
 
 import misteluk
-from misteluk import Store, finding, program
-from misteluk import store as store_module
+from misteluk import Store
+from misteluk.engine import finding, conversation as program
+from misteluk.engine import program as engine_program
 
 
 SAID, WAIT = "sys.stdin.readline(); ", "; sys.stdin.read()"
@@ -29,7 +30,7 @@ class Programs(Case):
         self.assertRegex(str(fault.exception), told)
         with contextlib.suppress(misteluk.StoreError):
             store.close()
-        self.assertIsNotNone(store._talk.process.poll())
+        self.assertIsNotNone(store.engine.talk.process.poll())
 
     def test_silence(self):
         told = r"neither read nor wrote for 0.3 s \(record 2 isn't answered\)"
@@ -78,7 +79,7 @@ class Programs(Case):
         self.fault(misteluk.Refused, r"NewWord \(record 2\): stat", SAID + "print('error 2 NewWord', flush=True)" + WAIT)
 
     def test_an_end_without_an_answer_at_the_start(self):
-        with mock.patch.object(store_module, "START_SECONDS", 5):
+        with mock.patch.object(engine_program, "START_SECONDS", 5):
             with self.assertRaisesRegex(misteluk.ProgramEnded, "before record 1 was answered"):
                 Store(program="/bin/true")
 
@@ -90,10 +91,10 @@ class Programs(Case):
 
     def test_a_stop_is_told_and_the_call_can_be_made_again(self):
         store = Store(timeout=0.3)
-        store._talk.process.send_signal(signal.SIGSTOP)
+        store.engine.talk.process.send_signal(signal.SIGSTOP)
         self.assertRaises(misteluk.NoAnswer, store.stat)
-        store._talk.process.send_signal(signal.SIGCONT)
-        store._talk.timeout = 30
+        store.engine.talk.process.send_signal(signal.SIGCONT)
+        store.engine.talk.timeout = 30
         self.assertEqual(store.stat().free, 16_384)
         store.close()
 
@@ -109,7 +110,7 @@ class Programs(Case):
         self.assertRaises(misteluk.NoAnswer, store.rebase, session)
         self.assertRaises(misteluk.SessionClosed, session.degrees)
         gate.touch()
-        store._talk.timeout = 30
+        store.engine.talk.timeout = 30
         self.assertEqual(store.rebase(session), misteluk.Rebased(0, 0, 0, 0))
         self.assertEqual(store.records_sent, 4)
         self.assertRaises(misteluk.SessionClosed, store.rebase, session)
@@ -131,12 +132,12 @@ class Programs(Case):
         self.assertEqual(run.communicate(timeout=60), ("1\n", None))
 
     def stop(self, store: Store) -> None:
-        store._talk.timeout = 0.3
-        store._talk.process.send_signal(signal.SIGSTOP)
+        store.engine.talk.timeout = 0.3
+        store.engine.talk.process.send_signal(signal.SIGSTOP)
 
     def go_on(self, store: Store) -> None:
-        store._talk.process.send_signal(signal.SIGCONT)
-        store._talk.timeout = 30
+        store.engine.talk.process.send_signal(signal.SIGCONT)
+        store.engine.talk.timeout = 30
 
     def test_a_batch_that_was_sent_is_sent_no_second_time(self):
         store = self.store()
@@ -179,7 +180,7 @@ class Programs(Case):
 
     def test_a_killed_program(self):
         store = Store()
-        store._talk.process.kill()
+        store.engine.talk.process.kill()
         for _ in range(2):
             with self.assertRaisesRegex(misteluk.ProgramEnded, "ended by signal 9"):
                 store.stat()

@@ -14,7 +14,9 @@ from graphs import NAMES, Play
 from support import Case, find_program
 
 import misteluk
-from misteluk import Edge, Store, copying, names, records, saving
+from misteluk import Edge, Store, names, saving
+from misteluk.engine import copies as copying
+from misteluk.values import records
 
 WINDOWS = ((0, records.MOST_TIME), (30, records.MOST_TIME), (10, 40))
 ENDINGS = ("", ".gz", ".xz", ".bz2")
@@ -96,7 +98,7 @@ class Saving(Case):
             done = session.save(self.room / "s.csv.gz")
             script = gzip.open(self.room / "s.csv.gz").read()
             self.assertEqual((done.records, done.edges, done.names), (script.count(b"\n"), len(graph), len(graph.names)))
-            to_program = session.store._terms.names.to_program
+            to_program = session.store.ledger.terms.names.to_program
             whole = f"*,0,{records.MOST_TIME}"
             edges = [records.record(("edge", "0", *map(to_program, it))).strip() for it in graph]
             told, status = run_alone(script, "open,0", *(f"{it},0,{whole}" for it in ("deg", "comp", "core")), *edges, "stat")
@@ -197,12 +199,12 @@ class Limits(Case):
     def test_records_of_the_run(self):
         store = self.store("insert k a b 1 1", "insert k b c 2 2", "insert l b c 2 2")
         session, before = store.open(), store.records_sent
-        store._fewer_records = before + 5
+        store.engine.most_records = before + 5
         wanted = f"in 6 records, and this run has had {before} of {before + 5}. Nothing"
         with self.assertRaisesRegex(misteluk.RecordLimit, wanted):
             session.save(self.room / "s.csv")
         self.assertEqual((store.records_sent, os.listdir(self.room)), (before, []))
-        store._fewer_records = before + 6
+        store.engine.most_records = before + 6
         session.save(self.room / "s.csv")
         self.assertEqual(store.records_sent, before + 6)
 
@@ -212,7 +214,7 @@ class Limits(Case):
         count = session.save(self.room / "s.csv").records
         self.assertGreater(count, 40)
         with mock.patch.object(records, "MOST_RECORDS", count - 1):
-            store._fewer_records = 999_999
+            store.engine.most_records = 999_999
             wanted = (f"with 21 names and 20 edges, takes {count} records, where a run takes {count - 1}: .* two records. "
                       "Nothing was written")
             with self.assertRaisesRegex(misteluk.OverLimit, wanted) as told:

@@ -155,7 +155,7 @@ class Faults(Case):
         os.remove(self.room / part)
         store = self.store("insert k a b 1 1", blocks=64)
         session = store.open()
-        store._talk.process.kill()
+        store.engine.talk.process.kill()
         with self.assertRaises(misteluk.ProgramEnded):
             session.save(self.path)
         self.assertTrue(self.is_old())

@@ -7,7 +7,8 @@ from unittest import mock
 from support import Case
 
 import misteluk
-from misteluk import Commit, Degree, Edge, Rebased, Stat, Store, records
+from misteluk import Commit, Degree, Edge, Rebased, Stat, Store
+from misteluk.values import records
 
 FUNNEL = ("insert transfer ana funnel 980 1", "insert transfer ben funnel 950 1", "insert transfer cyd funnel 990 2",
           "insert transfer dan funnel 970 2", "insert transfer funnel offshore 3850 3")
@@ -253,7 +254,7 @@ class Stores(Case):
 
     def test_a_store_that_is_forgotten_ends_its_program(self):
         store = Store()
-        process = store._talk.process
+        process = store.engine.talk.process
         with warnings.catch_warnings(record=True) as told:
             warnings.simplefilter("always")
             del store

@@ -12,7 +12,9 @@ from interrupting import Scene, at_line, made_at_once
 from support import Case, optional
 
 import misteluk
-from misteluk import Edge, Neighbor, Session, Store, calls, records, walking
+from misteluk import Edge, Neighbor, Session, Store, walking
+from misteluk.engine import calls
+from misteluk.values import records
 
 networkx = optional("networkx")
 pandas = optional("pandas")
@@ -165,8 +167,8 @@ class Walks(Case):
         """Should a candidate be lost, calls that need all edges say so, and a path that would need it too."""
         store = self.store("insert k a b 1 1", "insert k b c 1 1")
         session = store.open()
-        right = store._index.candidates(None)
-        store._index._folded = right.__class__(right.kinds, right.names, right.keys[:1], right.latest[:1], right.gone)
+        right = store.engine.index.candidates(None)
+        store.engine.index._folded = right.__class__(right.kinds, right.names, right.keys[:1], right.latest[:1], right.gone)
         edges = session.edges()
         self.assertEqual(next(edges), ("k", "a", "b", Edge(1, 1, 1)))
         for call in (lambda: next(edges), session.weights_in, lambda: session.to_csv(self.room / "x"),
