@@ -9,7 +9,7 @@ from typing import TYPE_CHECKING, Any, Callable, Dict, Iterable, Iterator, List,
 
 from .engine.finding import Path
 from .engine.protocol import Arrays, Denied, Scope, Version
-from .errors import BadName, Missing, NoKind, NoVertex, SessionClosed, refusal
+from .errors import BadName, Incomplete, Missing, NoKind, NoVertex, SessionClosed, refusal
 from .files import whole_text
 from .values import records
 from .values.answers import Answer, Column, Degree, Edge, Neighbor, degrees
@@ -85,7 +85,7 @@ class Session:
         begin = int(terms.units.time_to_program(str(since)))
         end = int(terms.units.time_to_program(str(until), is_end=True))
         if begin > end:
-            raise refusal("BadWindow", ",".join(map(shown, asked)))
+            raise refusal("BadWindow", f"{','.join(map(shown, asked))}: since {since} is after until {until}")
         of_kind = None if kind in (None, records.ANY) else terms.names.to_program(str(kind), keep=False)
         return Scope(of_kind, begin, end), asked
 
@@ -331,8 +331,12 @@ class Session:
         walk: List[Told] = []
         at = target
         while levels[at] > 0:
-            walk.append(next(it for it in self.edges_into(at, kind, since, until) if levels.get(it[1]) == levels[at] - 1))
-            at = walk[-1][1]
+            step = next((it for it in self.edges_into(at, kind, since, until) if levels.get(it[1]) == levels[at] - 1), None)
+            if step is None:
+                raise Incomplete(f"{at!r} has an edge from a vertex {levels[at] - 1} steps off, by the levels, and the client knows "
+                                 "of none")
+            walk.append(step)
+            at = step[1]
         walk.reverse()
         if edges:
             return walk
@@ -362,6 +366,8 @@ class Session:
                 found.update(dict.fromkeys(it[2] for it in self.edges_out_of(name, kind, since, until)))
                 found.update(dict.fromkeys(it[1] for it in self.edges_into(name, kind, since, until)))
             front = [it for it in found if it not in near]
+            if not front:
+                break
             near.update(dict.fromkeys(front, hop))
         return near
 

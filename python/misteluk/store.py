@@ -275,7 +275,7 @@ class Store:
                 warnings.warn(f"{lost} operations were pending and are not applied", stacklevel=2)
 
     def __del__(self) -> None:
-        if not self._is_closed and not sys.is_finalizing() and not self.engine.is_elsewhere:
+        if not getattr(self, "_is_closed", True) and not sys.is_finalizing() and not self.engine.is_elsewhere:
             warnings.warn("a store was let go without close()", ResourceWarning, stacklevel=2)
 
     def __repr__(self) -> str:

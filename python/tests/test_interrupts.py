@@ -18,10 +18,10 @@ from unittest import mock
 
 from interrupting import (CALLS, KNOWN, Model, Scene, after, at_line, elsewhere, forget, handler, has_ended, interrupt_in_a_call,
                           interrupt_now, lines, made_at_once)
-from support import Case
+from support import ENGINE, OF_PIPES, Case
 
 import misteluk
-from misteluk import Store
+from misteluk import Store, ledger
 from misteluk.engine import calls, conversation as program
 
 
@@ -37,10 +37,13 @@ class Interrupts(Case):
                 self.assertEqual(wrong, [])
 
     def test_each_line_finds_a_fault(self):
-        with mock.patch.object(calls.Calls, "make", made_at_once):
-            self.assertGreater(len(self.lines("edges", 6)[1]), 2)
+        if ENGINE == "program":
+            with mock.patch.object(calls.Calls, "make", made_at_once):
+                self.assertGreater(len(self.lines("edges", 6)[1]), 2)
         with mock.patch.object(weakref, "ref", lambda it: lambda: it):
             self.assertGreater(len(self.lines("open")[1]), 0)
+        with mock.patch.object(ledger.Ledger, "_land", lambda _: None):
+            self.assertGreater(len(self.lines("commit")[1]), 0)
 
     def waiting(self, name, interrupt):
         """A scene whose call is interrupted while it waits for the program, which stands still meanwhile."""
@@ -76,6 +79,7 @@ class Interrupts(Case):
         thread.join()
         self.assertEqual(told, ["interrupted"])
 
+    @unittest.skipUnless(ENGINE == "program", OF_PIPES)
     def test_while_it_waits(self):
         with handler(interrupt_now):
             for name in CALLS:
@@ -96,6 +100,7 @@ class Interrupts(Case):
                 if not interrupted:
                     break
 
+    @unittest.skipUnless(ENGINE == "program", OF_PIPES)
     def test_the_end(self):
         """A store that is closed, or left by a `with`, at whatever line it is interrupted: its program is ended."""
         def leave(store):
@@ -119,6 +124,7 @@ class Interrupts(Case):
             warnings.simplefilter("ignore")
             store.close()
 
+    @unittest.skipUnless(ENGINE == "program", OF_PIPES)
     def test_what_a_close_loses_is_told(self):
         """Also by the second one, where the first was interrupted while it waited."""
         scene = Scene()
@@ -131,6 +137,7 @@ class Interrupts(Case):
         self.assertEqual(told.exception.operations, ["a,l,a,b,1,2\n"] * 3)
         self.assertTrue(has_ended(scene.store.engine.talk.process))
 
+    @unittest.skipUnless(ENGINE == "program", OF_PIPES)
     def test_the_beginning(self):
         """A store whose making is interrupted has no program, and leaves no thread that waits for more than its end."""
         started, real, at, is_more = [], subprocess.Popen, 0, True
@@ -193,7 +200,8 @@ class Interrupts(Case):
         self.assertGreater(model.steps, 300)
 
     def test_three_hundred_find_a_fault(self):
-        for where, name, fault in ((calls.Calls, "make", made_at_once),):
+        for where, name, fault in ((ledger.Ledger, "_land", lambda _: None), *(
+                [(calls.Calls, "make", made_at_once)] if ENGINE == "program" else [])):
             with mock.patch.object(where, name, fault), handler(interrupt_in_a_call), self.assertRaises(Exception):
                 model = Model()
                 self.addCleanup(model.end)

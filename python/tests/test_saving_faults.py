@@ -12,7 +12,7 @@ import warnings
 from unittest import mock
 
 from interrupting import at_line, has_ended
-from support import HERE, Case
+from support import ENGINE, HERE, OF_PIPES, Case
 
 import misteluk
 from misteluk import Store, files, saving
@@ -111,6 +111,7 @@ class Faults(Case):
                     it.close()
         return len(processes), sum(not has_ended(it, 1 if step > 9 else 5) for it in processes)
 
+    @unittest.skipUnless(ENGINE == "program", OF_PIPES)
     def test_an_interrupted_restore_leaves_no_program(self):
         count, left = self.left(2)
         self.assertGreater(count, 30)
@@ -145,6 +146,7 @@ class Faults(Case):
         with files_of_at_most(20), self.assertRaisesRegex(OSError, "File too large: '.*/e.csv'$"):
             self.session.to_csv(self.room / "e.csv")
 
+    @unittest.skipUnless(ENGINE == "program", OF_PIPES)
     def test_what_is_killed(self):
         """The program while it is asked; and the process that saves, before the file has its name."""
         code = ("import os, sys, misteluk; os.replace = lambda *_: os.kill(os.getpid(), 9); store = misteluk.Store(blocks=64); "

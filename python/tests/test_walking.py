@@ -9,11 +9,12 @@ from unittest import mock
 
 from graphs import NAMES, Play
 from interrupting import Scene, at_line, made_at_once
-from support import Case, optional
+from support import ENGINE, OF_PIPES, Case, optional
 
 import misteluk
-from misteluk import Edge, Neighbor, Session, Store, walking
+from misteluk import Edge, Neighbor, Session, Store
 from misteluk.engine import calls
+from misteluk.engine.protocol import Arrays
 from misteluk.values import records
 
 networkx = optional("networkx")
@@ -157,21 +158,20 @@ class Walks(Case):
         self.planted("path", Session, "path", lambda walk: None)
         self.planted("edges", Session, "edges", lambda found: [(*ends, edge._replace(first=0)) for *ends, edge in found])
         self.planted("in", Session, "__contains__", lambda found: True)
-        self.planted("within either way", walking.View, "out_of", lambda found: ())
-        self.planted("incomplete", walking.View, "into", lambda found: ())
-        self.planted("incomplete", walking.View, "has", lambda found: True)
+        self.planted("within either way", Session, "edges_out_of", lambda found: found[:0])
+        self.planted("edges", Arrays, "places", lambda found: found[1:])
+        self.planted("incomplete", Session, "edges_into", lambda found: found[:0])
         if networkx:
             self.planted("to_networkx", Session, "to_networkx", lambda it: it.reverse(), beside=self.beside_networkx)
 
+    @unittest.skipUnless(ENGINE == "program", OF_PIPES)
     def test_an_edge_that_the_client_does_not_know_is_told(self):
         """Should a candidate be lost, calls that need all edges say so, and a path that would need it too."""
         store = self.store("insert k a b 1 1", "insert k b c 1 1")
         session = store.open()
         right = store.engine.index.candidates(None)
         store.engine.index._folded = right.__class__(right.kinds, right.names, right.keys[:1], right.latest[:1], right.gone)
-        edges = session.edges()
-        self.assertEqual(next(edges), ("k", "a", "b", Edge(1, 1, 1)))
-        for call in (lambda: next(edges), session.weights_in, lambda: session.to_csv(self.room / "x"),
+        for call in (session.edges, session.weights_in, lambda: session.to_csv(self.room / "x"),
                      lambda: session.path("a", "c")):
             with self.assertRaises(misteluk.Incomplete):
                 call()
@@ -179,13 +179,16 @@ class Walks(Case):
 
 
 class Calls(Case):
+    @unittest.skipUnless(ENGINE == "program", OF_PIPES)
     def test_records_by_degree(self):
-        """As many records as a vertex has edges, whatever else there is."""
+        """As many records as a vertex has edges, whatever else there is, once the kinds are known; none once all edges are."""
         store = self.store(*(f"insert k s{it} t{it % 10} 1 1" for it in range(300)))
         session = store.open()
+        session.out_of("s0")
         for call, count in ((lambda: session.into("t3"), 30), (lambda: session.out_of("s7"), 1),
-                            (lambda: session.neighbors("t3"), 30), (lambda: session.path("s3", "t3"), 2),
-                            (lambda: session.within("s3", 2, directed=False), 1 + 1 + 29)):
+                            (lambda: session.neighbors("t3"), 30), (lambda: session.path("s3", "t3"), 1 + 30),
+                            (lambda: session.within("s3", 2, directed=False), 1 + 1 + 30), (session.edges, 300 + 1),
+                            (session.edges, 0), (lambda: session.into("t3"), 0)):
             before = store.records_sent
             call()
             self.assertEqual(store.records_sent - before, count)
@@ -240,7 +243,8 @@ class Calls(Case):
         self.refused(TypeError, "may be in a session", lambda: 3 in session)
         edges = session.edges()
         session.close()
-        for call in (session.edges, lambda: session.out_of("a"), lambda: list(edges), lambda: len(session),
+        self.assertEqual(list(edges), [("k", "a", "b", Edge(1, 1, 1))])
+        for call in (session.edges, lambda: session.out_of("a"), lambda: len(session),
                      lambda: "a" in session):
             self.refused(misteluk.SessionClosed, "version 1 is closed", call)
 
@@ -258,14 +262,16 @@ class Calls(Case):
                      lambda: misteluk.view(session, 1)):
             self.refused(TypeError, "a kind and a name are texts, and not 1", call)
 
+    @unittest.skipUnless(ENGINE == "program", OF_PIPES)
     def test_more_than_a_run_takes_is_told_before_anything_is_sent(self):
         store = self.store(*(f"insert k a t{it} 1 1" for it in range(9)))
         session = store.open()
+        session.out_of("t1")
         sent = store.records_sent
-        with mock.patch.object(records, "MOST_RECORDS", sent + 8):
-            for call in (session.edges, session.weights_in, session.edges_frame if pandas else session.edges,
-                         lambda: session.out_of("a"), lambda: session.to_csv(self.room / "x")):
-                self.refused(misteluk.RecordLimit, f"a run takes {sent + 8} records; this one had {sent}, and ", call)
+        store.engine.most_records = sent + 8
+        for call in (session.edges, session.weights_in, session.edges_frame if pandas else session.edges,
+                     lambda: session.out_of("a"), lambda: session.to_csv(self.room / "x")):
+            self.refused(misteluk.RecordLimit, f"a run takes {sent + 8} records; this one had {sent}, and ", call)
         self.assertEqual((store.records_sent, os.listdir(self.room)), (sent, []))
 
     def test_units(self):
@@ -351,6 +357,7 @@ class Calls(Case):
         self.assertEqual(session.path("a", "c", "k"), ["a", "b", "c"])
         self.assertEqual(store.stat().edges, 3)
 
+    @unittest.skipUnless(ENGINE == "program", OF_PIPES)
     def test_each_line_interrupted_finds_a_fault(self):
         scene = Scene()
         self.addCleanup(scene.end)

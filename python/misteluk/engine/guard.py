@@ -10,16 +10,19 @@ import functools
 import os
 import sys
 import threading
+import weakref
 from collections import deque
 from itertools import repeat
+from operator import attrgetter
 from types import FrameType
-from typing import Any, Callable, Deque, List, Optional, TypeVar, cast
+from typing import Any, Callable, Deque, Dict, List, Optional, TypeVar, cast
 
 from ..errors import StoreError
 
 F = TypeVar("F", bound=Callable[..., Any])
 # Sets an attribute and gives nothing: in an expression it is one line with what is given then.
 put: Any = setattr
+_RAW = attrgetter("raw")
 
 
 class Step:
@@ -37,35 +40,59 @@ class Step:
         return self.gave[0]
 
 
-def give_all(notes: Deque[Any], call: Callable[..., Any], *before: Any) -> None:
-    """Calls a function in C for each of the notes, and takes it out in the same step."""
-    try:
-        deque(map(call, *map(repeat, before), iter(notes.popleft, None)), 0)
-    except IndexError:  # (there are no more)
-        pass
+class Note(weakref.ref):  # type: ignore[type-arg]
+    """What is to be given back once its owner is gone, or lets it go."""
 
-
-def move(tokens: List[Any], notes: Deque[Any]) -> None:
-    """Takes what is in a list to the notes, in one step: so it is noted once, whoever asks for it, and however often."""
-    try:
-        notes.extend(iter(tokens.pop, None))
-    except IndexError:
-        pass
+    __slots__ = ("raw",)
+    raw: Any
 
 
 class Owned:
-    """A handle in C. Whoever drops it only notes that it's to be freed."""
+    """A handle in C, which its notes know of."""
 
-    __slots__ = ("raw", "notes")
+    __slots__ = ("raw", "__weakref__")
 
-    def __init__(self, raw: Any, notes: Deque[Any]) -> None:
-        self.notes = notes
+    def __init__(self, raw: Any, notes: "Notes") -> None:
         self.raw = raw
+        notes.know(self, raw)
 
-    def __del__(self) -> None:
-        raw = getattr(self, "raw", None)
-        if raw is not None and raw.at:
-            self.notes.append(raw)
+
+class Notes:
+    """What is to be given back, each once. Python itself notes what became of an owner that is forgotten, by a function in C: an
+    interrupt that came in a finalizer would be lost, and so would what it was to give back."""
+
+    def __init__(self) -> None:
+        self._known: Dict[Note, Note] = {}
+        self._pop: Callable[..., Optional[Note]] = self._known.pop
+        self._gone: Deque[Note] = deque()
+        self._left: Deque[Note] = deque()
+
+    def know(self, owner: object, raw: Any) -> Note:
+        note = Note(owner, self._gone.append)  # type: ignore[arg-type]
+        note.raw = raw
+        self._known[note] = note
+        return note
+
+    def let_go(self, *notes: Note) -> None:
+        """Notes that this is to be given back now. A second time it isn't known any more."""
+        self._left.extend(filter(None, map(self._pop, notes, repeat(None))))
+
+    def give_back(self, call: Callable[..., Any], *before: Any) -> None:
+        """Gives back what was noted, by a function in C."""
+        while self._gone or self._left:
+            try:
+                self._left.extend(filter(None, map(self._pop, iter(self._gone.popleft, None), repeat(None))))
+            except IndexError:  # (there are no more)
+                pass
+            try:
+                deque(map(call, *map(repeat, before), map(_RAW, iter(self._left.popleft, None))), 0)
+            except IndexError:
+                pass
+
+    def forget(self) -> None:
+        """Gives nothing back of what was noted."""
+        self._gone.clear()
+        self._left.clear()
 
 
 class Guard:

@@ -11,21 +11,22 @@ import threading
 import time
 import weakref
 from array import array
-from collections import deque
 from ctypes import c_uint32, c_uint64
 from itertools import accumulate, chain
-from typing import Any, Deque, Dict, List, NamedTuple, Optional, Sequence, Tuple, Union
+from typing import Any, Dict, List, NamedTuple, Optional, Sequence, Tuple, Union
 
 from . import interface
 from .copies import Content, content_of, operations_of
 from .finding import find_library
-from .guard import Guard, Owned, Step, alone, give_all, move
+from .guard import Guard, Notes, Owned, Step, alone
 from .interface import Code, Library
 from .protocol import WHOLE, Arrays, Batch, Denied, Ends, Marks, Receipt, Scope
 from ..errors import LibraryNotFound, NoMemory, NoSeat, SessionClosed, StoreError
 from ..values import records
 from ..values.answers import Collected, Commit, Rebased, Renewed, Stat
 
+# What no hold has.
+NO_HOLD = (1 << 64) - 1
 # How many edges of a vertex are asked for at first.
 A_ROW = 32
 # The words of codes that the client's users know.
@@ -33,15 +34,15 @@ WORDS = {Code.BATCHES_FULL: "BatchLimit", Code.NAMES_FULL: "NamesFull", Code.KIN
          Code.NO_VERTEX: "NoVertex", Code.NO_KIND: "NoKind"}
 # What a copy without idle names helps against.
 HELPED_BY_COPY = (Code.NAMES_FULL, Code.KINDS_FULL)
-_OPENED: "Dict[Tuple[str, int], Tuple[Library, Notes]]" = {}
+_OPENED: "Dict[Tuple[str, int], Tuple[Library, Handles]]" = {}
 
 
-def opened(path: str) -> "Tuple[Library, Notes]":
+def opened(path: str) -> "Tuple[Library, Handles]":
     """The library, which a process loads once. Raises `LibraryNotFound` where it isn't one of this package."""
     key = path, os.getpid()  # (a fork frees nothing of what its parent has)
     if key not in _OPENED:
         try:
-            _OPENED[key] = Library(path), Notes(deque(), deque(), deque())
+            _OPENED[key] = Library(path), Handles(Notes(), Notes(), Notes())
         except OSError as fault:
             raise LibraryNotFound(f"no library can be loaded: {fault}") from fault
     return _OPENED[key]
@@ -80,18 +81,17 @@ def texts_of(text: "array[int]", ends: "array[int]") -> List[str]:
     return found
 
 
-class Notes(NamedTuple):
-    """What finalizers noted: handles of this process that are to be freed."""
+class Handles(NamedTuple):
+    """The handles of this process that are to be freed, by what they are."""
 
-    versions: Deque[Any]
-    batches: Deque[Any]
-    desks: Deque[Any]
+    versions: Notes
+    batches: Notes
+    desks: Notes
 
-    def sweep(self, library: Library) -> None:
-        """Frees what was noted."""
-        give_all(self.versions, library.version_free)
-        give_all(self.batches, library.batch_free)
-        give_all(self.desks, library.desk_free)
+    def give_back(self, library: Library) -> None:
+        self.versions.give_back(library.version_free)
+        self.batches.give_back(library.batch_free)
+        self.desks.give_back(library.desk_free)
 
 
 class Known(NamedTuple):
@@ -111,7 +111,7 @@ class Opening(NamedTuple):
     versions were made before; its names; and the version at which it is about to begin anew, with the step by which it does."""
 
     desk: Owned
-    holds: Deque[Any]
+    holds: Notes
     before: int
     known: Known
     anew: Optional[Tuple[int, Step]] = None
@@ -120,10 +120,10 @@ class Opening(NamedTuple):
 class Flight:
     """A batch on its way: in a handle of C, which is emptied as it is applied."""
 
-    def __init__(self, library: Library, notes: Notes, batch: Batch, collect: bool) -> None:
+    def __init__(self, library: Library, handles: Handles, batch: Batch, collect: bool) -> None:
         self.batch, self.collect = batch, collect
         self.cut: List[None] = []
-        self.owned, self.counts = Owned(interface.Batch(), notes.batches), interface.Counts()
+        self.owned, self.counts = Owned(interface.Batch(), handles.batches), interface.Counts()
         self.step: Optional[Step] = None
         check(library.batch_new(self.owned.raw))
         fill(library, self.owned.raw, batch.text.decode("ascii"), batch.size)
@@ -167,12 +167,12 @@ class HeldVersion:
 
     def __init__(self, engine: "LibraryEngine", opening: Opening, slot: int) -> None:
         self.slot, self._engine, self._library = slot, engine, engine.library
-        self._notes, self._known, self._before = engine.notes, opening.known, opening.before
+        self._versions, self._known, self._before = engine.handles.versions, opening.known, opening.before
         self.desk, self._holds = opening.desk, opening.holds
-        self._first = Owned(interface.Version(), self._notes.versions)
-        # (the hold is given back once: the token of it is moved, and not copied)
-        self._tokens = [interface.Hold()]
-        self.step = Step(self._library.desk_hold, self.desk.raw, self._first.raw, self._tokens[0])
+        self._first = Owned(interface.Version(), self._versions)
+        hold = interface.Hold(NO_HOLD, NO_HOLD)
+        self._hold = self._holds.know(self, hold)
+        self.step = Step(self._library.desk_hold, self.desk.raw, self._first.raw, hold)
         self._idle: List[Owned] = []
         self._is_open = False
         self.number = self.count = 0
@@ -188,14 +188,6 @@ class HeldVersion:
         self._bytes, self._kind_bytes, self._kind_count = size.name_bytes, size.kind_bytes, size.kinds
         self._is_open = True
 
-    def __del__(self) -> None:
-        self.let_hold_go()
-
-    def let_hold_go(self) -> None:
-        """Notes that the hold is to be given back, once."""
-        if self.step.gave == [Code.OK]:
-            move(self._tokens, self._holds)
-
     @property
     def is_open(self) -> bool:
         return self._is_open and not self._engine.is_closed
@@ -207,9 +199,9 @@ class HeldVersion:
     def end(self) -> None:
         """Lets the hold go, and the handles that nobody asks by now; the others go with those who do so."""
         self._is_open = False
-        self.let_hold_go()
+        self._holds.let_go(self._hold)
         self._idle.clear()
-        self._first = Owned(interface.Version(), self._notes.versions)
+        self._first = Owned(interface.Version(), self._versions)
         self._all = self._by_target = self._names = None
 
     # How it is asked.
@@ -231,7 +223,7 @@ class HeldVersion:
             return self._clone()
 
     def _clone(self) -> Owned:
-        handle = Owned(interface.Version(), self._notes.versions)
+        handle = Owned(interface.Version(), self._versions)
         with self._known.lock:
             first = self._first  # (which isn't freed while it is here)
             code = self._library.version_clone(first.raw, handle.raw)
@@ -378,20 +370,20 @@ class LibraryEngine:
 
     def __init__(self, blocks: int, seats: int, endless: bool, library: "Optional[str | os.PathLike[str]]" = None) -> None:
         self.path = find_library(library)
-        self.library, self.notes = opened(self.path)
+        self.library, self.handles = opened(self.path)
         self.blocks, self.seats, self._endless = blocks, seats, endless
         self.is_closed = False
         self.guard = self._guard = Guard()
         self._held: "Dict[int, weakref.ref[HeldVersion]]" = {}
-        self._versions: "weakref.WeakSet[HeldVersion]" = weakref.WeakSet()
+        self._versions: "List[weakref.ref[HeldVersion]]" = []
         self._rebased: Optional[Tuple[HeldVersion, Rebased]] = None
         self._opening = self._new(0)
 
     def _new(self, version: int) -> Opening:
         """An opening with an empty desk, of so many versions before."""
-        desk = Owned(interface.Desk(), self.notes.desks)
+        desk = Owned(interface.Desk(), self.handles.desks)
         check(self.library.desk_new(self.blocks, desk.raw))
-        return Opening(desk, deque(), version, Known.nothing())
+        return Opening(desk, Notes(), version, Known.nothing())
 
     @property
     def is_elsewhere(self) -> bool:
@@ -414,13 +406,13 @@ class LibraryEngine:
             begun = step.gave == [Code.OK]
             opening = opening._replace(anew=None, before=version if begun else opening.before)
             if begun:
-                opening.holds.clear()
+                opening.holds.forget()
                 self._held.clear()
             self._opening = opening
-        give_all(opening.holds, self.library.desk_release, opening.desk.raw)
+        opening.holds.give_back(self.library.desk_release, opening.desk.raw)
         for at in [at for at, it in self._held.items() if it() is None]:
             del self._held[at]
-        self.notes.sweep(self.library)
+        self.handles.give_back(self.library)
         return opening
 
     def _stat(self, opening: Opening) -> Stat:
@@ -437,7 +429,7 @@ class LibraryEngine:
     # Batches.
 
     def flight(self, batch: Batch, collect: bool) -> Flight:
-        return Flight(self.library, self.notes, batch, collect)
+        return Flight(self.library, self.handles, batch, collect)
 
     @alone
     def landed(self, flight: Flight) -> Optional[Receipt]:
@@ -509,7 +501,7 @@ class LibraryEngine:
             raise NoSeat()
         check(code)
         version.begin()
-        self._versions.add(version)
+        self._versions = [*(it for it in self._versions if it() is not None), weakref.ref(version)]
         return version
 
     @alone
@@ -522,8 +514,10 @@ class LibraryEngine:
             self._settle()
 
     def _close_versions(self) -> None:
-        for version in list(self._versions):
-            version.end()
+        for it in self._versions:
+            version = it()
+            if version is not None:
+                version.end()
         self._held.clear()
 
     # Beginning anew.
@@ -590,9 +584,9 @@ class LibraryEngine:
             return
         self._close_versions()
         opening, self.is_closed = self._opening, True
-        self._opening = Opening(Owned(interface.Desk(), self.notes.desks), deque(), opening.before, Known.nothing())
+        self._opening = opening._replace(desk=Owned(interface.Desk(), self.handles.desks))
         del opening
-        self.notes.sweep(self.library)
+        self.handles.give_back(self.library)
 
     def kill(self) -> None:
         self.close()
