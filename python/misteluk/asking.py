@@ -79,10 +79,13 @@ class Asking:
     def _most_records(self) -> int:
         return self._fewer_records or records.MOST_RECORDS
 
-    def _make_room(self, count: int) -> None:
-        """Raises where a run would be given more records than it takes."""
+    def _must_not_be_closed(self) -> None:
         if self._closed:
             raise StoreError("the store is closed")
+
+    def _make_room(self, count: int) -> None:
+        """Raises where a run would be given more records than it takes."""
+        self._must_not_be_closed()
         if self._talk.records + count > self._most_records:
             raise self._limit_reached(count)
 

@@ -65,12 +65,14 @@ class Batches(Asking):
 
         Its batch asks for as many free blocks more as are used.
         """
+        self._must_not_be_closed()
         record = self._terms.record(["x", str(time)])
         self._units_are_set = True
         self._pending.append(record)
 
     def _keep(self, fields: Sequence[object], plain: str) -> None:
         """Keeps an operation. `plain` is its record, where that needs no quotes; most are seen to be right so."""
+        self._must_not_be_closed()
         must_be_texts(fields[1:4])
         if not (records.is_plain_operation(plain) and self._terms.is_as_it_is(plain)):
             plain = self._terms.record([str(it) for it in fields])

@@ -251,6 +251,14 @@ class Stores(Case):
             self.assertEqual(store.discard(), 1)
         self.refused(misteluk.StoreError, "the store is closed", store.stat)
 
+    def test_a_closed_store_takes_no_operation(self):
+        store = Store()
+        store.close()
+        for call in (lambda: store.insert("k", "a", "b"), lambda: store.add("k", "a", "b"), lambda: store.remove("k", "a", "b"),
+                     lambda: store.expire(3)):
+            self.refused(misteluk.StoreError, "the store is closed", call)
+        self.assertEqual(store.pending, 0)
+
     def test_a_store_that_is_forgotten_ends_its_program(self):
         store = Store()
         process = store._talk.process
