@@ -66,6 +66,13 @@ def _widen(pipe: int) -> None:
         pass
 
 
+def _can_be_read(pipe: int, seconds: float) -> bool:
+    """Whether a pipe has something to be read, or its end, within so many seconds. (`select` takes no number above 1,023.)"""
+    poll = select.poll()
+    poll.register(pipe, select.POLLIN)
+    return bool(poll.poll(seconds * 1000))
+
+
 def one_line(_: str) -> int:
     """How many rows follow a first line that stands alone."""
     return 0
@@ -314,7 +321,7 @@ class Conversation:
 
     def _drain(self) -> None:
         """Reads what the program still said on standard error."""
-        while self._err in self._open and select.select([self._err], [], [], 0)[0] and self._read(self._err):
+        while self._err in self._open and _can_be_read(self._err, 0.0) and self._read(self._err):
             pass
 
     def _wait(self, seconds: float) -> Optional[int]:
@@ -349,7 +356,7 @@ class Conversation:
         """Reads the lines behind the last answer: refusals of operations, and others."""
         text = self._rest
         while self._out in self._open:
-            if not select.select([self._out], [], [], self.timeout)[0]:
+            if not _can_be_read(self._out, self.timeout):
                 raise NoAnswer(f"the program did not end its output within {self.timeout:g} s of the end of its input")
             more = os.read(self._out, MOST_READ)
             text += more.decode("ascii", "replace")

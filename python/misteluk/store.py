@@ -236,12 +236,11 @@ class Store(Renewing):
     # The end.
 
     def close(self) -> None:
-        """Closes sessions and ends the program. Raises `Uncommitted` where operations are pending, and `ProgramEnded` where
-        the program tells of a fault."""
+        """Closes sessions and ends the program. Raises `Uncommitted` where operations are pending, also where the program fails
+        (its text says both), and else `ProgramEnded` where the program tells of a fault."""
         lost = self._end()
         if lost:
-            text = f"{len(lost)} operations were pending and are not applied (the error has them): commit or discard first"
-            raise Uncommitted(text, lost)
+            raise Uncommitted(f"{_lost(len(lost))}: commit or discard first", lost)
 
     def _end(self) -> List[str]:
         """Ends the program, also where the call is interrupted, and returns what was pending. A fork ends nothing."""
@@ -254,12 +253,24 @@ class Store(Renewing):
         self._closed = True
         self._forget_sessions()
         self._end_formers()
+        try:
+            self._end_program()
+        except StoreError as fault:
+            if not self._pending:
+                raise
+            raise Uncommitted(f"{fault}; and {_lost(len(self._pending))}", self._told_pending()) from fault
+        return self._told_pending()
+
+    def _end_program(self) -> None:
+        """Ends the program, and takes what it still answers."""
         status, left = self._talk.end()
         flight = self._flight
         if flight and flight.from_pending and flight.done.head is not None:
             del self._pending[:flight.size]
         if status != (1 if self._talk.refusals else 0) or left:
             raise ProgramEnded(f"the program {how_ended(status)}" + "".join(f"; {it}" for it in left), status)
+
+    def _told_pending(self) -> List[str]:
         return [f"{self._terms.told(it)}\n" for it in self._pending]
 
     def _forget_sessions(self) -> None:
@@ -295,3 +306,7 @@ class Store(Renewing):
     def __repr__(self) -> str:
         state = "closed" if self._closed else f"{len(self._sessions)} of {self.seats} seats open, {self.pending} pending"
         return f"<Store of {self.blocks} blocks: {state}>"
+
+
+def _lost(count: int) -> str:
+    return f"{count} operations were pending and are not applied (the error has them)"

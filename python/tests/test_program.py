@@ -2,6 +2,7 @@
 import contextlib
 import io
 import os
+import resource
 import signal
 import subprocess
 import sys
@@ -184,6 +185,40 @@ class Programs(Case):
             with self.assertRaisesRegex(misteluk.ProgramEnded, "ended by signal 9"):
                 store.stat()
         self.assertRaises(misteluk.ProgramEnded, store.close)
+
+    def test_a_store_among_many_open_files(self):
+        """Its pipes have numbers that `select` takes none of."""
+        least, most = resource.getrlimit(resource.RLIMIT_NOFILE)
+        resource.setrlimit(resource.RLIMIT_NOFILE, (min(2_048, most), most))
+        self.addCleanup(resource.setrlimit, resource.RLIMIT_NOFILE, (least, most))
+        with contextlib.ExitStack() as opened:
+            for _ in range(1_024):
+                opened.callback(os.close, os.open(os.devnull, os.O_RDONLY))
+            store = Store()
+            self.assertGreater(store._talk._out, 1_023)
+            store.insert("k", "a", "b")
+            self.assertEqual(store.commit().inserted, 1)
+            store.close()
+            killed = Store()
+            killed._talk.process.kill()
+            self.assertRaises(misteluk.ProgramEnded, killed.stat)
+            self.assertRaises(misteluk.ProgramEnded, killed.close)
+
+    def test_what_is_pending_where_the_program_fails_is_told(self):
+        store = Store()
+        store.insert("k", "a", "b")
+        store._talk.process.kill()
+        with self.assertRaises(misteluk.Uncommitted) as told:
+            store.close()
+        self.assertEqual(told.exception.operations, ["i,k,a,b,1,0\n"])
+        self.assertRegex(str(told.exception), "ended by signal 9; and 1 operations were pending and are not applied")
+        self.assertIsInstance(told.exception.__cause__, misteluk.ProgramEnded)
+        with self.assertWarnsRegex(UserWarning, "2 operations were pending"), self.assertRaises(misteluk.ProgramEnded):
+            with Store() as store:
+                store.insert("k", "a", "b")
+                store.insert("k", "a", "c")
+                store._talk.process.kill()
+                store.stat()
 
     def test_more_refusals_than_a_pipe_holds(self):
         talk = program.Conversation([finding.find_program(), "run"], 30)
