@@ -188,6 +188,18 @@ class Calls(Case):
             call()
             self.assertEqual(store.records_sent - before, count)
 
+    def test_a_path_whose_step_has_many_edges_that_are_gone(self):
+        """17 vertices stand a level below the last one, and the edges of the first 16 to it have expired; an earlier session
+        holds them, so the client knows of them still. The same in a window that has the last edge alone."""
+        ways = [(f"insert k a s{it} 1 9", f"insert k s{it} t 1 {9 if it == 16 else 1}") for it in range(17)]
+        store = self.store(*(it for way in ways for it in way))
+        held = store.open()
+        store.expire(5)
+        self.assertEqual(store.commit().expired, 16)
+        self.assertEqual(held.path("a", "t"), ["a", "s0", "t"])
+        self.assertEqual(held.path("a", "t", since=5), ["a", "s16", "t"])
+        self.assertEqual(store.open().path("a", "t"), ["a", "s16", "t"])
+
     def test_one_vertex(self):
         session = self.store("insert k a b 3 1", "insert l a b 4 5", "insert k b a 1 2", "insert k a a 9 3",
                              "insert k c c 1 1").open()
