@@ -122,8 +122,9 @@ class Batches(Asking):
 
     @talks
     def discard(self) -> int:
-        """Lets the pending operations go, and returns how many they were; those that were sent and not answered stay."""
-        sent = self._flight.size if self._flight and self._flight.from_pending else 0
+        """Lets the pending operations go, and returns how many they were; those that were sent and may still be answered stay."""
+        is_awaited = self._flight is not None and self._flight.from_pending and not self._talk.has_ended
+        sent = self._flight.size if self._flight and is_awaited else 0
         count = len(self._pending) - sent
         del self._pending[sent:sent + count]
         return count

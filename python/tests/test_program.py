@@ -105,8 +105,9 @@ class Programs(Case):
                  "sys.stdin.readline()",
                  f"while not os.path.exists({str(gate)!r}): time.sleep(0.01)",
                  "print('rebase v=0 names=0 edges=0 used=0', flush=True)", "sys.stdin.read()")
-        store = Store(program=self.stand_in("sys.stdin.readline(); sys.stdin.readline()\n" + "\n".join(lines)), timeout=0.3)
+        store = Store(program=self.stand_in("sys.stdin.readline(); sys.stdin.readline()\n" + "\n".join(lines)))
         session = store.open()
+        store._talk.timeout = 0.3
         self.assertRaises(misteluk.NoAnswer, store.rebase, session)
         self.assertRaises(misteluk.SessionClosed, session.degrees)
         gate.touch()
@@ -219,6 +220,17 @@ class Programs(Case):
                 store.insert("k", "a", "c")
                 store._talk.process.kill()
                 store.stat()
+
+    def test_what_no_answer_comes_of_can_be_discarded(self):
+        store = Store()
+        store.insert("k", "a", "b")
+        self.stop(store)
+        self.assertRaises(misteluk.NoAnswer, store.commit)
+        self.assertEqual(store.discard(), 0)
+        store._talk.process.kill()
+        self.assertRaises(misteluk.ProgramEnded, store.commit)
+        self.assertEqual(store.discard(), 1)
+        self.assertRaises(misteluk.ProgramEnded, store.close)
 
     def test_more_refusals_than_a_pipe_holds(self):
         talk = program.Conversation([finding.find_program(), "run"], 30)
