@@ -254,7 +254,7 @@ class Endless(Case):
             feed.step()
             session, process = feed.store.open(), feed.store._talk.process
             feed.store.renew()
-            self.assertEqual((len(feed.store._formers), has_ended(process, 0.0)), (1, False))
+            self.assertEqual((len(feed.store._formers), process.returncode), (1, None))
             if how == "close":
                 session.close()
             session = None
@@ -377,7 +377,7 @@ class Endless(Case):
 
     def test_programs_that_are_silent(self):
         """The one in use is waited for by the next commit; a new one is let go."""
-        feed, read, fill = Feed(self, timeout=0.5), renewing.content_of, renewing.fill
+        feed, read, fill = Feed(self), renewing.content_of, renewing.fill
         feed.step()
 
         def read_of_the_silent(*given):
@@ -385,15 +385,16 @@ class Endless(Case):
             return read(*given)
 
         def fill_the_silent(talk, operations):
+            talk.timeout = 0.5
             talk.process.send_signal(signal.SIGSTOP)
             return fill(talk, operations)
         feed.store._most_batches = 2
         feed.step()
         operations, time = feed.put()
-        with mock.patch.object(renewing, "content_of", read_of_the_silent):
+        with mock.patch.object(renewing, "content_of", read_of_the_silent), mock.patch.object(feed.store._talk, "timeout", 0.5):
             self.assertRaises(misteluk.NoAnswer, feed.store.commit)
         feed.store._talk.process.send_signal(signal.SIGCONT)
-        with mock.patch.object(renewing, "fill", fill_the_silent), mock.patch.object(renewing, "LEAST_TIMEOUT", 0.5):
+        with mock.patch.object(renewing, "fill", fill_the_silent):
             self.assertRaisesRegex(misteluk.NotRenewed, "neither read nor wrote for 0.5 s", feed.store.commit)
         self.assertEqual((feed.store.pending, feed.store.stat().version, len(feed.store._talks)), (151, 2, 1))
         feed.store._most_batches = 1_000

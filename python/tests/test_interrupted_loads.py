@@ -7,7 +7,7 @@ import signal
 import unittest
 from unittest import mock
 
-from interrupting import handler, interrupt_now, lines, made_at_once
+from interrupting import PATIENCE, SOON, alarm_as_soon_as, handler, interrupt_now, is_calling, lines, made_at_once
 from support import Case
 
 from misteluk import Columns, Store, calls, load, load_in_steps, loading, survey
@@ -25,7 +25,7 @@ class Scene:
 
     def __init__(self, by):
         self.by, self.told = by, []
-        self.store = Store(blocks=64, seats=2, timeout=0.5)
+        self.store = Store(blocks=64, seats=2, **PATIENCE)
         self.store.insert("l", "a", "b", 5, 1)
         self.store.commit()
         self.session = self.store.open()
@@ -91,7 +91,7 @@ class Empty:
     """A store that nothing was told of, and a feed in cents that says its units, and was counted before."""
 
     def __init__(self, _):
-        self.store = Store(blocks=64, timeout=0.5)
+        self.store = Store(blocks=64, **PATIENCE)
         self.found = survey(ROWS, by="add", batch=ROWS_A_BATCH, columns=COLUMNS, weight_scale=100)
 
     def load(self):
@@ -140,14 +140,14 @@ class Loads(Case):
             steps, process = scene.steps(), scene.store._talk.process
             scene.told += itertools.islice(steps, batches)
             process.send_signal(signal.SIGSTOP)
-            with handler(interrupt_now), self.assertRaises(KeyboardInterrupt):
-                signal.setitimer(signal.ITIMER_REAL, 0.02)
+            with handler(interrupt_now), self.assertRaises(KeyboardInterrupt), \
+                    alarm_as_soon_as(lambda: is_calling(scene.store)):
                 next(steps)
             process.send_signal(signal.SIGCONT)
             scene.is_right()
 
     def test_each_line_finds_a_fault(self):
-        with mock.patch.object(calls.Calls, "make", made_at_once):
+        with mock.patch.dict(PATIENCE, SOON), mock.patch.object(calls.Calls, "make", made_at_once):
             self.assertGreater(len(self.lines("add", step=5)[1]), 5)
             self.assertGreater(len(self.lines("add", Ahead.count, Ahead, step=5)[1]), 2)
 

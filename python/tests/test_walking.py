@@ -8,7 +8,7 @@ import warnings
 from unittest import mock
 
 from graphs import NAMES, Play
-from interrupting import Scene, at_line, made_at_once
+from interrupting import PATIENCE, SOON, Scene, at_line, made_at_once
 from support import Case, optional
 
 import misteluk
@@ -362,7 +362,8 @@ class Calls(Case):
         self.assertEqual(store.stat().edges, 3)
 
     def test_each_line_interrupted_finds_a_fault(self):
-        scene = Scene()
+        with mock.patch.dict(PATIENCE, SOON):
+            scene = Scene()
         self.addCleanup(scene.end)
         with mock.patch.object(calls.Calls, "make", made_at_once):
             self.assertGreater(len(self.wrong_lines(scene.session, lambda: scene.session.neighbors("b"), 17)[0]), 2)
