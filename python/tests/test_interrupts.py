@@ -15,8 +15,8 @@ import warnings
 import weakref
 from unittest import mock
 
-from interrupting import (CALLS, KNOWN, PATIENCE, SOON, Model, Scene, after, alarm_as_soon_as, at_line, elsewhere, forget, handler,
-                          has_ended, interrupt_in_a_call, interrupt_now, is_calling, lines, made_at_once)
+from interrupting import (CALLS, KNOWN, PATIENCE, SOON, Model, Scene, after, alarm_as_soon_as, at_line, elsewhere, forget,
+                          handler, has_ended, interrupt_in_a_call, interrupt_now, is_calling, lines, made_at_once)
 from support import Case, as_soon_as
 
 import misteluk
