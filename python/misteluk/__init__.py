@@ -13,9 +13,9 @@ Python's standard library is enough; pandas, networkx, matplotlib and tqdm are u
 from .answers import Answer, Collected, Commit, Degree, Edge, Neighbor, Rebased, Stat
 from .delimited import delimited
 from .errors import (AlreadyOpen, BadCommand, BadFields, BadName, BadRows, BadSlot, BadTime, BadWeight, BadWindow, BatchFull,
-                     BatchLimit, FeedFault, Incomplete, KindsFull, Misread, Missing, NamesFull, NearLimit, NoAnswer, NoKind,
-                     NoSeat, NotOpen, NotRenewed, NoVertex, OperationsRefused, OutOfMemory, OverLimit, PartsFailed, Place,
-                     PoolEmpty, ProgramEnded, ProgramNotFound, RecordLimit, Refused, SaveFault, SessionClosed, StoreError,
+                     BatchLimit, FeedFault, Incomplete, KindsFull, LeftOut, Misread, Missing, NamesFull, NearLimit, NoAnswer,
+                     NoKind, NoSeat, NotOpen, NotRenewed, NoVertex, OperationsRefused, OutOfMemory, OverLimit, PartsFailed,
+                     Place, PoolEmpty, ProgramEnded, ProgramNotFound, RecordLimit, Refused, SaveFault, SessionClosed, StoreError,
                      Uncommitted)
 from .feeds import Columns, Feed, matrix_market, snap
 from .finding import find_program
@@ -40,7 +40,7 @@ __all__ = [
     "Answer", "Collected", "Commit", "Degree", "Edge", "Neighbor", "Rebased", "Renewed", "Saved", "Stat", "view", "View", "lint",
     "find_program",
     "StoreError", "Refused", "Place", "AlreadyOpen", "BadCommand", "BadFields", "BadName", "BadRows", "BadSlot", "BadTime",
-    "BadWeight", "BadWindow", "BatchFull", "BatchLimit", "FeedFault", "Incomplete", "KindsFull", "Misread", "Missing",
+    "BadWeight", "BadWindow", "BatchFull", "BatchLimit", "FeedFault", "Incomplete", "KindsFull", "LeftOut", "Misread", "Missing",
     "NamesFull", "NearLimit", "NoAnswer", "NoKind", "NoSeat", "NoVertex", "NotOpen", "NotRenewed", "OperationsRefused",
     "OutOfMemory", "OverLimit", "PartsFailed", "PoolEmpty", "ProgramEnded", "ProgramNotFound", "RecordLimit", "SaveFault",
     "SessionClosed", "Uncommitted",

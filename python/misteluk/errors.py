@@ -232,6 +232,10 @@ class NearLimit(UserWarning):
     """An endless store has nearly as many edges as can go into a new program, or more."""
 
 
+class LeftOut(UserWarning):
+    """A graph has nodes without an edge: a store has the names of edges alone, and they aren't loaded."""
+
+
 class Uncommitted(StoreError):
     """The store was closed while operations were pending, or a feed was to be loaded; `operations` has them as records."""
 
