@@ -4,7 +4,7 @@ from __future__ import annotations
 from typing import Callable, Dict, List, NamedTuple, Optional, Sequence
 
 from . import records
-from .answers import Commit, Stat, committed
+from .answers import Collected, Commit, Stat, committed, numbers
 from .asking import Asking, within
 from .calls import talks
 from .errors import OperationsRefused, Place, PoolEmpty, Refused, refusal
@@ -31,6 +31,13 @@ class Flight(NamedTuple):
     def expires(self) -> bool:
         """Whether an operation expires edges; then the batch asks for the used blocks too."""
         return any(line.startswith(b"x,") for line in self.operations.split(b"\n"))
+
+    @property
+    def has_freed(self) -> bool:
+        """Whether the collection behind the batch freed blocks; where the batch was refused it may be sent once more then."""
+        if self.last is self.done or self.last.word:
+            return False
+        return Collected(*numbers(self.last.head or "", "collect", 3)).recycled > 0
 
     def refusal_of(self, number: int, word: str, terms: Terms) -> Refused:
         at = number - self.before - 1
@@ -129,10 +136,12 @@ class Batches(Asking):
         del self._pending[sent:sent + count]
         return count
 
-    def commit(self, *, collect: bool = False, batch: int = records.MOST_OPERATIONS) -> Commit:
+    def commit(self, *, collect: bool = True, batch: int = records.MOST_OPERATIONS) -> Commit:
         """Applies the pending operations, in batches of at most `batch` (4,096 at most), and also where there are none.
 
-        With `collect` each batch is followed by a collection. A refused batch, and all behind it, stay pending: `PoolEmpty`,
+        Each batch is followed by a collection, as in a load, so that blocks that nobody needs are free for the next one; where
+        the collection behind a refused batch frees some, as those of a session that was closed, the batch is sent once more.
+        `collect=False` leaves both out. A refused batch, and all behind it, stay pending: `PoolEmpty`,
         `NamesFull`, `KindsFull`, `BatchLimit` say why, and what the batches before it did stands: the exception has it as
         `applied`. Where `NoAnswer` or an interrupt broke a commit off, the batch that was sent goes on and those behind it stay
         pending. The next commit waits for that batch, sends it no second time, and has in its sums what was not told.
@@ -229,6 +238,9 @@ class Batches(Asking):
             self._index.refused()
             if self._helps_against(flight.done.word):
                 return self._land_anew(flight)
+            if flight.done.word == PoolEmpty.word and flight.has_freed:
+                self._launch(flight.operations, flight.size, True, flight.place, flight.from_pending)
+                return self._land()
             raise self._refused_commit(flight)
         if flight.from_pending:
             del self._pending[:flight.size]

@@ -151,9 +151,35 @@ class Stores(Case):
         self.assertEqual((store.stat().version, store.pending), (1, 30))
         self.assertEqual(told.exception.applied, Commit(1, 10, 0, 0, 0, 0, 1))
 
+    def test_a_commit_collects(self):
+        """Each one of the fifth's size replaces as many blocks as the first one took; nobody needs those before."""
+        store = self.store()
+        for at in range(1, 7):
+            for it in range(4_096):
+                store.add("k", f"s{it}", "t")
+            self.assertEqual(store.commit().version, at)
+        self.assertEqual(store.stat().used, 4_096)
+        for it in range(60_000):
+            store.add("k", f"s{it % 4_096}", "t")
+        self.assertEqual(store.commit(), Commit(21, 0, 60_000, 0, 0, 0, 15))
+
+    def test_a_commit_behind_a_session_that_was_closed(self):
+        """The blocks of its version are retired, and freed behind the batch that finds no other ones; it is sent once more."""
+        for load in (False, True):
+            store = self.store(*(f"insert k s{it} t 1 1" for it in range(10)), blocks=32)
+            with store.open():
+                self.feed(store, *(f"add k s{it} t 1 1" for it in range(10)))
+                self.assertEqual((store.stat().free, store.stat().retired), (12, 10))
+            for it in range(0 if load else 15):
+                store.add("k", f"s{it % 10}", "t")
+            done = store.load([(f"s{it % 10}", "t", 1, 0, "k") for it in range(15)], by="add").commit if load else store.commit()
+            self.assertEqual(done, Commit(3, 0, 15, 0, 0, 0, 1))
+            self.assertEqual(store.open().edge("k", "s0", "t"), Edge(4, 1, 0))
+
     def test_collect(self):
         store = self.store("insert k a b 1 1")
-        self.feed(store, "insert k a b 2 1")
+        store.insert("k", "a", "b", 2, 1)
+        store.commit(collect=False)
         self.assertEqual(store.stat().retired, 1)
         store.collect()
         self.assertEqual(store.stat().retired, 0)
@@ -211,7 +237,7 @@ class Stores(Case):
     def test_refused_requests(self):
         store = self.store("insert k a b 1 1")
         session = store.open()
-        self.refused(misteluk.NoVertex, "NoVertex (record 6): edge,0,k,a,z", lambda: session.edge("k", "a", "z"))
+        self.refused(misteluk.NoVertex, "NoVertex (record 7): edge,0,k,a,z", lambda: session.edge("k", "a", "z"))
         self.refused(misteluk.NoKind, "no edge of this kind", lambda: session.degrees("other"))
         self.refused(misteluk.BadWindow, "bfs,0,a,*,3,2", lambda: session.levels("a", since=3, until=2))
         self.refused(misteluk.BadName, "source ''", lambda: session.levels(""))
@@ -270,12 +296,12 @@ class Stores(Case):
         self.assertIsNotNone(process.poll())
 
     def test_a_run_takes_so_many_records(self):
-        with mock.patch.object(records, "MOST_RECORDS", 10):
+        with mock.patch.object(records, "MOST_RECORDS", 12):
             store = self.store("insert k a b 1 1")
             for it in range(6):
                 store.insert("k", "a", f"b{it}")
             store.commit()
-            self.refused(misteluk.RecordLimit, "this one had 10, and 1 more were to be sent", store.stat)
+            self.refused(misteluk.RecordLimit, "this one had 12, and 1 more were to be sent", store.stat)
 
     def test_operations_that_only_the_program_refuses(self):
         store = self.store()
