@@ -12,7 +12,7 @@ from .index import Rows
 from .names import must_be_texts
 from .program import Awaited
 from .terms import Terms
-from .units import Amount, Moment, Units
+from .units import Amount, Moment, Units, whole_text
 
 
 class Flight(NamedTuple):
@@ -73,7 +73,7 @@ class Batches(Asking):
         Its batch asks for as many free blocks more as are used.
         """
         self._must_not_be_closed()
-        record = self._terms.record(["x", str(time)])
+        record = self._terms.record(["x", whole_text(time)])
         self._units_are_set = True
         self._pending.append(record)
 
@@ -82,7 +82,7 @@ class Batches(Asking):
         self._must_not_be_closed()
         must_be_texts(fields[1:4])
         if not (records.is_plain_operation(plain) and self._terms.is_as_it_is(plain)):
-            plain = self._terms.record([str(it) for it in fields])
+            plain = self._terms.record([whole_text(it) for it in fields])
         self._units_are_set = True
         self._kinds.setdefault(str(fields[1]))
         self._pending.append(plain)

@@ -9,6 +9,7 @@ from . import feeds
 from .delimited import Picked
 from .errors import FeedFault, LeftOut
 from .feeds import USUAL_KIND, Block, Columns, Feed, Row, Table, parts_of
+from .units import whole_text
 
 
 def is_missing(value: Any) -> bool:
@@ -28,7 +29,7 @@ def text_of(value: Any) -> str:
         return value
     if is_missing(value):
         return ""
-    return str(int(value)) if isinstance(value, float) and value.is_integer() else str(value)
+    return whole_text(value)
 
 
 def from_networkx(graph: Any, *, kind: str = USUAL_KIND, weight: str = "weight", time: str = "time", kind_of: str = "kind",

@@ -74,7 +74,7 @@ class Store(Renewing):
         within("workers", workers, 1, records.MOST_WORKERS)
         if not timeout > 0:
             raise ValueError(f"timeout is a number of seconds above 0, and not {timeout}")
-        self._terms = Terms(units=Units(weight_scale or 1, times or "number", decimals))
+        self._terms = Terms(units=Units(1 if weight_scale is None else weight_scale, times or "number", decimals))
         self._units_are_set = weight_scale is not None or times is not None
         self.program = find_program(program)
         options = ["--blocks", str(blocks), "--seats", str(seats + endless), "--workers", str(workers)]

@@ -19,6 +19,11 @@ _A_DAY = re.compile(r"\d{4}-\d{2}-\d{2}")
 MOST_SIGNS = 400
 
 
+def whole_text(value: object) -> str:
+    """The value as a text; of a float that is whole that of the whole number, as 5 of 5.0."""
+    return str(int(value)) if isinstance(value, float) and value.is_integer() else str(value)
+
+
 def _places_of(scale: int) -> Optional[int]:
     """How many decimal places a part of so many has: 2 for a hundredth, 3 for an eighth; `None` where they have no end."""
     return next((it for it in range(64) if 10 ** it % scale == 0), None)

@@ -219,9 +219,21 @@ class Stores(Case):
         self.refused(misteluk.BadWeight, "amount '1099511627777': a weight is from",
                      lambda: store.add("k", "a", "b", 1 << 40 | 1))
         self.refused(misteluk.BadTime, "time '-1'", lambda: store.insert("k", "a", "b", 1, -1))
-        self.refused(misteluk.BadWeight, "weight '5.0'", lambda: store.insert("k", "a", "b", 5.0))
+        self.refused(misteluk.BadWeight, "weight '5.5'", lambda: store.insert("k", "a", "b", 5.5))
+        self.refused(misteluk.BadWeight, "weight 'inf'", lambda: store.insert("k", "a", "b", float("inf")))
         self.refused(TypeError, "a kind and a name are texts, and not 7", lambda: store.insert("k", "a", 7))
         self.assertEqual((store.pending, store.records_sent), (0, 1))
+
+    def test_floats_that_are_whole(self):
+        """A float that is a whole number is that number, as in a row."""
+        store = self.store()
+        store.insert("k", "a", "b", 1.0, 3.0)
+        store.add("k", "a", "b", 2.0, 4.0)
+        store.commit()
+        store.load([("a", "c", 1.0, 3.0, "k")], by="set")
+        self.assertEqual(store.open().edges([("k", "a", "b"), ("k", "a", "c")]), [Edge(3, 3, 4), Edge(1, 3, 3)])
+        store.expire(4.0)
+        self.assertEqual(store.commit().expired, 1)
 
     def test_operations_at_the_limits(self):
         store = self.store()
@@ -258,7 +270,8 @@ class Stores(Case):
         store.open().close()
 
     def test_arguments(self):
-        for wrong in ({"blocks": 15}, {"blocks": 65_537}, {"seats": 17}, {"workers": 0}, {"timeout": 0}):
+        for wrong in ({"blocks": 15}, {"blocks": 65_537}, {"seats": 17}, {"workers": 0}, {"timeout": 0}, {"weight_scale": 0},
+                      {"weight_scale": -1}, {"weight_scale": 3}):
             with self.assertRaises(ValueError):
                 Store(**wrong)
         self.assertEqual(self.store("insert k a b 1 1", blocks=16, seats=16, workers=8).open(15).version, 1)
