@@ -145,6 +145,11 @@ class Following(Iterator[Followed]):
         """Takes the line of progress from the terminal, so that another one can stand there."""
         self._progress.clear()
 
+    @property
+    def cord(self) -> int:
+        """The descriptor that wakes the waiting for a step where something is written to it."""
+        return self._source.cord
+
     def stop(self) -> None:
         """Has what was read go in, and then ends the steps."""
         self._is_stopped = True
