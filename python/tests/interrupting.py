@@ -6,6 +6,7 @@ import random
 import signal
 import sys
 import threading
+import time
 
 from support import as_soon_as
 
@@ -172,10 +173,12 @@ def handler(of_alarms):
         signal.signal(signal.SIGALRM, before)
 
 
-def has_ended(process):
-    """Waits until the process came to its end, and was waited for."""
-    as_soon_as(lambda: process.returncode is not None)
-    return True
+def has_ended(process, seconds=120.0):
+    """Waits until the process came to its end, and was waited for; tells whether it did so."""
+    end = time.monotonic() + seconds
+    while process.returncode is None and time.monotonic() < end:
+        time.sleep(0.01)
+    return process.returncode is not None
 
 
 def is_calling(store):

@@ -220,7 +220,7 @@ class Advice(Case):
 
     def advised(self, store, advice, **options) -> None:
         with self.assertRaises(misteluk.PoolEmpty) as told:
-            store.commit(**options)
+            store.commit(collect=False, **options)
         self.assertEqual(told.exception.advice, advice)
 
     def test_none_of_a_feed_that_was_followed(self):
