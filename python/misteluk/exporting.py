@@ -3,7 +3,7 @@ from __future__ import annotations
 
 import csv
 from datetime import datetime
-from typing import TYPE_CHECKING, Any, Iterable, Iterator, List, Optional, Tuple, Union, overload
+from typing import TYPE_CHECKING, Any, Iterable, Iterator, List, Optional, Sequence, Tuple, Union, overload
 
 from . import records
 from .answers import Edge
@@ -31,23 +31,30 @@ class Exporting(Walking):
     def edges(self, asked: Iterable[Tuple[str, str, str]], *, missing: Any = RAISE) -> "List[Any]": ...
 
     @overload
+    def edges(self, asked: str, *, since: Moment = 0, until: Moment = records.MOST_TIME) -> "Told": ...
+
+    @overload
     def edges(self, asked: None = None, *, kind: Optional[str] = None, since: Moment = 0,
               until: Moment = records.MOST_TIME) -> "Told": ...
 
-    def edges(self, asked: Optional[Iterable[Tuple[str, str, str]]] = None, *, missing: Any = RAISE, kind: Optional[str] = None,
-              since: Moment = 0, until: Moment = records.MOST_TIME) -> "Union[List[Any], Told]":
+    def edges(self, asked: Union[str, Iterable[Tuple[str, str, str]], None] = None, *, missing: Any = RAISE,
+              kind: Optional[str] = None, since: Moment = 0, until: Moment = records.MOST_TIME) -> "Union[List[Any], Told]":
         """All edges, or those that are asked for.
 
-        Without `asked` an iterator of (kind, source, target, `Edge`), of a kind and a window where they are said. Behind the
-        last one `Incomplete` is raised should they not be as many as the program counts.
+        Without `asked`, or where it is a text, a kind, an iterator of (kind, source, target, `Edge`), of a kind and a window
+        where they are said. Behind the last one `Incomplete` is raised should they not be as many as the program counts.
 
         With `asked` a list, for each kind, source and target an `Edge`, or `None` where the version has the names and not the
         edge. Raises `NoKind` or `NoVertex` for names that it doesn't have; `missing=` is given in place of such an edge."""
+        if isinstance(asked, str):
+            if kind is not None:
+                raise ValueError(f"a kind is said once, and here are two: {asked!r} and {kind!r}")
+            asked, kind = None, asked
         if asked is None:
             return self._told_edges(kind, since, until)
         if kind is not None or since != 0 or until != records.MOST_TIME:
             raise ValueError("kind, since and until are for all edges, and not for those that are asked for one by one")
-        found = self._edges([tuple(it) for it in asked], missing)
+        found = self._edges(list(map(_ends, asked)), missing)
         return [self._told(it) if isinstance(it, Edge) else it for it in found]
 
     def _told_edges(self, kind: Optional[str], since: Moment, until: Moment) -> "Told":
@@ -114,6 +121,13 @@ class Exporting(Walking):
     def __bool__(self) -> bool:
         """True: a session without edges is a session."""
         return True
+
+
+def _ends(edge: Sequence[str]) -> Tuple[str, ...]:
+    """An edge that is asked for; raises `TypeError` where it is no kind, source and target."""
+    if isinstance(edge, str) or len(edge) != 3:
+        raise TypeError(f"an edge is asked for by its kind, source and target, and not by {edge!r}")
+    return tuple(edge)
 
 
 def _time_text(time: Any) -> str:

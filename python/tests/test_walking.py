@@ -219,6 +219,16 @@ class Calls(Case):
         self.assertEqual(session.within("b", 10 ** 18, directed=False), {"b": 0, "a": 1})
         self.assertEqual(session.within("b", 0, directed=False), {"b": 0})
 
+    def test_edges_of_a_kind(self):
+        """The kind comes first, as in other calls."""
+        session = self.store("insert k a b 3 1", "insert l a b 4 5", "insert l b c 4 7").open()
+        self.assertEqual(list(session.edges("l")), list(session.edges(kind="l")))
+        self.assertEqual(list(session.edges("l", since=6)), [("l", "b", "c", Edge(4, 7, 7))])
+        self.refused(misteluk.NoKind, "nix", lambda: session.edges("nix"))
+        self.refused(ValueError, "a kind is said once", lambda: session.edges("l", kind="k"))
+        for wrong in (["lab"], [("l", "a")], [("l", "a", "b", "c")]):
+            self.refused(TypeError, f"by its kind, source and target, and not by {wrong[0]!r}", lambda: session.edges(wrong))
+
     def test_an_empty_session(self):
         session = self.store().open()
         self.assertEqual((len(session), bool(session), list(session.edges()), session.weights_in()), (0, True, [], {}))
