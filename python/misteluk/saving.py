@@ -32,6 +32,8 @@ FORM = 1
 KIND = "misteluk"
 _OPENING, _REBASE = "open,0\n", "commit\nrebase,0\n"
 _BEGINNING = re.compile(rb"open,0\ni,misteluk,form:(\d{1,9}),([0-9a-f]{64}),0,0\n")
+# How many bytes that has at most: the rest of a packed file isn't unpacked before it is seen to be one.
+_MOST_BEGINNING = 200
 # The head's last insertion, and what comes behind it.
 _END = f"i,{KIND},end,of-head,0,0\n{_REBASE}"
 _WRITTEN_AT_ONCE = 1 << 20
@@ -187,13 +189,12 @@ def read(path: Path) -> Found:
 
 def found_in(data: bytes, name: str) -> Found:
     """What a saved file has, whose bytes these are. Raises `SaveFault` where it is none, or isn't as it was written."""
-    data = files.unpacked(data, name)
-    found = _BEGINNING.match(data)
+    found = _BEGINNING.match(files.unpacked(data, name, _MOST_BEGINNING))
     if not found:
         raise SaveFault(f"{name} is no saved version: it doesn't begin as those that Session.save writes. Nothing is restored")
     if int(found[1]) != FORM:
         raise SaveFault(f"{name} is of form {int(found[1])}, and this package knows form {FORM}. Nothing is restored")
-    told = data[found.end():]
+    told = files.unpacked(data, name)[found.end():]
     if hashlib.sha256(told).hexdigest().encode("ascii") != found[2]:
         raise SaveFault(f"{name} is damaged or cut: its digest is another than that of what it has. Nothing is restored")
     head, _, body = told.decode("ascii").partition(_END)

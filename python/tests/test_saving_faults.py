@@ -7,6 +7,7 @@ import resource
 import stat
 import subprocess
 import sys
+import tracemalloc
 import unittest
 import warnings
 from unittest import mock
@@ -109,7 +110,7 @@ class Faults(Case):
                 is_more = at_line(at, lambda: stores.append(Store.restore(self.path, blocks=64)))
                 for it in stores:
                     it.close()
-        return len(processes), sum(not has_ended(it, 1 if step > 9 else 5) for it in processes)
+        return len(processes), sum(not has_ended(it, 1 if step > 9 else 120) for it in processes)
 
     def test_an_interrupted_restore_leaves_no_program(self):
         count, left = self.left(2)
@@ -144,6 +145,30 @@ class Faults(Case):
                 self.session.save(self.path)
         with files_of_at_most(20), self.assertRaisesRegex(OSError, "File too large: '.*/e.csv'$"):
             self.session.to_csv(self.room / "e.csv")
+
+    def test_a_name_of_another_packing(self):
+        """What nothing here packs is refused before anything is asked, and an ending is one in capitals too."""
+        sent = self.saver.records_sent
+        for name in ("s.zip", "s.tar", "s.csv.7z", "S.ZIP", "s.lz4"):
+            with self.assertRaisesRegex(ValueError, "ends in .*, and nothing here packs so: names that end in .gz"):
+                self.session.save(self.room / name)
+        self.assertEqual((self.saver.records_sent, self.is_old()), (sent, True))
+        self.session.save(self.room / "S.CSV.GZ")
+        self.assertEqual((self.room / "S.CSV.GZ").read_bytes(), self.new)
+
+    def test_a_packed_file_that_is_none(self):
+        """Of one that isn't a saved version no more than the beginning is unpacked: 64 MB else, of some 60 KB."""
+        for ending in ENDINGS[1:]:
+            path = self.room / f"zeros{ending}"
+            with open(path, "wb") as file, files.packer(file, ending) as packed:
+                for _ in range(64):
+                    packed.write(bytes(1 << 20))
+            tracemalloc.start()
+            with self.assertRaisesRegex(misteluk.SaveFault, "is no saved version"):
+                Store.restore(path)
+            peak = tracemalloc.get_traced_memory()[1]
+            tracemalloc.stop()
+            self.assertLess(peak, 16 << 20, ending)  # (xz has a dictionary of 8 MB)
 
     def test_what_is_killed(self):
         """The program while it is asked; and the process that saves, before the file has its name."""
