@@ -38,7 +38,7 @@ def form_of_feed(words: argparse.Namespace) -> Dict[str, Any]:
 
 
 def read(words: argparse.Namespace, ahead: Optional[Ahead] = None) -> Survey:
-    found = survey(words.file, batch=words.batch, ahead=ahead, **form_of_feed(words))
+    found = survey(words.file, batch=words.batch, ahead=ahead, rounding=words.rounding, **form_of_feed(words))
     check(found, skip_bad=words.skip_bad)
     return found
 
@@ -149,7 +149,8 @@ def run_fleet(words: argparse.Namespace) -> int:
 
 
 def run_follow(words: argparse.Namespace) -> int:
-    with Store(blocks=words.blocks or records.MOST_BLOCKS, program=words.program, timeout=words.timeout, endless=True) as store:
+    with Store(blocks=words.blocks or records.MOST_BLOCKS, program=words.program, timeout=words.timeout, endless=True,
+               rounding=words.rounding) as store:
         return telling.follow(words, store, form_of_feed(words))
 
 

@@ -106,7 +106,8 @@ class Batches(Asking):
         """The terms of a feed that is to be loaded in the units that are said, or in the store's. Raises `ValueError` where the
         store has others."""
         mine = self._terms.units
-        said = Units(mine.weight_scale if weight_scale is None else weight_scale, times or mine.times, mine.decimals)
+        said = Units(mine.weight_scale if weight_scale is None else weight_scale, times or mine.times, mine.decimals,
+                     mine.rounding)
         self._must_agree(said)
         return Terms(self._terms.names, said)
 
@@ -119,7 +120,7 @@ class Batches(Asking):
         """Takes the names and units of a feed that is loaded."""
         self._must_agree(terms.units)
         self._terms.names.take(terms.names)
-        self._terms.units = terms.units._replace(decimals=self._terms.units.decimals)
+        self._terms.units = terms.units._replace(decimals=self._terms.units.decimals, rounding=self._terms.units.rounding)
         self._units_are_set = True
 
     @property

@@ -35,8 +35,8 @@ def ending_of(path: Path) -> str:
     name = os.fspath(path).lower()
     other = next((it for it in _OTHERS if name.endswith(it)), None)
     if other:
-        raise ValueError(f"{os.fspath(path)} ends in {other}, and nothing here packs so: names that end in .gz, .xz, .bz2 and .zst "
-                         "are packed, and others are plain text")
+        raise ValueError(f"{os.fspath(path)} ends in {other}, and nothing here packs so: names that end in .gz, .xz, .bz2 and "
+                         ".zst are packed, and others are plain text")
     ending = next((it for it in _BEGINNINGS if name.endswith(it)), "")
     if ending in _MODULES:
         _module(ending)

@@ -268,16 +268,16 @@ def survey(data: Any, *, by: str, batch: int = records.MOST_OPERATIONS, progress
            ahead: "Optional[Ahead]" = None, terms: Optional[Terms] = None, format: Optional[str] = None,
            columns: Columns = Columns(), delimiter: Optional[str] = None, header: Optional[bool] = None,
            third: Optional[str] = None, both_ways: bool = True, encoding: str = "utf-8", decimal: str = ".",
-           dates: Optional[str] = None) -> Survey:
+           dates: Optional[str] = None, rounding: Optional[str] = None) -> Survey:
     """Reads a feed whole, counts and checks it: what it holds, how many blocks it needs, which rows are bad. Nothing is sent,
     unless something is to be sent ahead. The options are those of `load`; a store that is loaded with it takes its units.
-    `terms` are those of a store that is to take it, and stand for its units."""
+    `rounding` is as in `Store`. `terms` are those of a store that is to take it, and stand for its units and rounding."""
     must_be_way(by, batch)
     opened = open_feed(data, format=format, columns=columns, delimiter=delimiter, header=header, third=third, both_ways=both_ways,
                        encoding=encoding, decimal=decimal, dates=dates)
     feed = turned(opened, names=names)
     times = "iso" if dates else times
-    terms = terms or Terms(units=Units(1 if weight_scale is None else weight_scale, times or "number"))
+    terms = terms or Terms(units=Units(1 if weight_scale is None else weight_scale, times or "number", rounding=rounding))
     counter, told = Count(feed.name, by, batch, terms, decimal), Progress(f"reading {feed.name}", None, progress)
     with no_collection():
         for block in feed.blocks():

@@ -61,6 +61,9 @@ def add_feed_options(parser: argparse.ArgumentParser, blocks: Optional[str] = BL
     if edge_lists:
         feed.add_argument("--third", choices=("weight", "time"), help="what the third field of an edge list is")
     feed.add_argument("--weight-scale", type=int, metavar="N", help="weights are decimals of so many parts: 100 takes 12.50")
+    if edge_lists:
+        feed.add_argument("--rounding", choices=("half-even",), help="round weights that have more decimals than --weight-scale "
+                          "takes; else such a row is bad")
     feed.add_argument("--times", choices=("number", "iso"), help="iso: times are dates, here and in what is asked and told")
     feed.add_argument("--names", choices=("plain", "escape"), default="plain", help="any text is a name; escape: with %%20 for a "
                       "space and so on, which a script has else as an id")

@@ -48,7 +48,8 @@ class Store(Renewing):
     Any text is a name, of a vertex or a kind, but an empty one; `*` alone is no kind. See `misteluk.names`.
 
     `weight_scale`: weights are decimal numbers of so many parts, as 100 for cents; else whole numbers. It divides a power of ten.
-    A weight is an int, a `Decimal`, a float as it is printed, or a text; `BadWeight` where it is no whole number of parts.
+    A weight is an int, a `Decimal`, a float as it is printed, or a text; `BadWeight` where it is no whole number of parts, unless
+    `rounding="half-even"` rounds it to the nearest one (of two equally near ones to the even one), also in loads.
     `times`: "iso" where times are dates, from 1970 (also where none is said) to 9999; else whole numbers. A date is a `datetime`,
     a `date` or a text, in UTC where it has no zone; `BadTime` where it is finer than microseconds. `decimals`: answers have
     weights as "decimal" (`Decimal`) or "float". Where neither of the first two is said, the first load says both, unless an
@@ -68,13 +69,13 @@ class Store(Renewing):
     def __init__(self, *, blocks: int = records.USUAL_BLOCKS, seats: int = records.USUAL_SEATS,
                  workers: int = records.USUAL_WORKERS, program: Optional[Path] = None, timeout: float = 60.0,
                  weight_scale: Optional[int] = None, times: Optional[str] = None, decimals: str = "decimal",
-                 endless: bool = False) -> None:
+                 endless: bool = False, rounding: Optional[str] = None) -> None:
         self.blocks = within("blocks", blocks, records.LEAST_BLOCKS, records.MOST_BLOCKS)
         self.seats = within("seats", seats, 1, records.MOST_SEATS - endless)
         within("workers", workers, 1, records.MOST_WORKERS)
         if not timeout > 0:
             raise ValueError(f"timeout is a number of seconds above 0, and not {timeout}")
-        self._terms = Terms(units=Units(1 if weight_scale is None else weight_scale, times or "number", decimals))
+        self._terms = Terms(units=Units(1 if weight_scale is None else weight_scale, times or "number", decimals, rounding))
         self._units_are_set = weight_scale is not None or times is not None
         self.program = find_program(program)
         options = ["--blocks", str(blocks), "--seats", str(seats + endless), "--workers", str(workers)]
@@ -141,7 +142,8 @@ class Store(Renewing):
     @classmethod
     def restore(cls, path: Path, *, blocks: Optional[int] = None, seats: int = records.USUAL_SEATS,
                 workers: int = records.USUAL_WORKERS, program: Optional[Path] = None, timeout: float = 60.0,
-                decimals: str = "decimal", endless: bool = False, progress: Optional[bool] = None) -> "Store":
+                decimals: str = "decimal", endless: bool = False, progress: Optional[bool] = None,
+                rounding: Optional[str] = None) -> "Store":
         """A store with the version that `Session.save` wrote into the file. Every request of it is answered as that version's
         were; its own versions count anew. It has the units and names of the store that was saved, and as many blocks, or more
         where the copy finds no room in them, unless `blocks` says how many. The other options are those of `Store`. The records
@@ -154,7 +156,7 @@ class Store(Renewing):
 
         def make(found: int, weight_scale: Optional[int], times: Optional[str]) -> "Store":
             return cls(blocks=found, seats=seats, workers=workers, program=program, timeout=timeout, weight_scale=weight_scale,
-                       times=times, decimals=decimals, endless=endless)
+                       times=times, decimals=decimals, endless=endless, rounding=rounding)
         return restore(path, make, blocks, progress)
 
     # Requests.

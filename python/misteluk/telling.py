@@ -23,7 +23,8 @@ AT_ONCE = 0.2
 @contextmanager
 def ended_by_signals(stop: Callable[[], None], cord: int) -> Iterator[None]:
     """Ctrl-C and SIGTERM call `stop` meanwhile; another of them that comes behind it ends the process at once. Each wakes those
-    that wait for something to be written to `cord`: the system may give it to another thread, as where the process stood still."""
+    that wait for something to be written to `cord`: the system may give it to another thread, as where the process stood
+    still."""
     before = {it: signal.getsignal(it) for it in SIGNALS}
     heard: List[float] = []
 
