@@ -1,6 +1,7 @@
 """Requests of a store: what is sent for one, and what is made of its answer."""
 from __future__ import annotations
 
+import warnings
 import weakref
 from typing import TYPE_CHECKING, Callable, Dict, List, Optional, Sequence, Tuple
 
@@ -8,7 +9,7 @@ from . import records
 from .answers import Stat, numbers
 from .calls import Calls, talks
 from .candidates import Candidates
-from .errors import RecordLimit, StoreError, refusal
+from .errors import NearLimit, RecordLimit, StoreError, refusal
 from .index import Index
 from .names import must_be_texts, shown
 from .program import Awaited, Conversation, one_line
@@ -17,6 +18,8 @@ from .terms import Terms
 if TYPE_CHECKING:
     from .session import Session
 
+# What an export or a save of all edges takes beside a record for each edge: its session, its table and kinds.
+FOR_AN_EXPORT = 100
 # How many requests are sent at once where many are asked.
 ASK_AT_ONCE = 4_096
 
@@ -39,6 +42,8 @@ class Asking:
     _sessions: "Dict[int, weakref.ref[Session]]"
     _orphans: List[Tuple[int, Awaited]]
     _index: Index
+    # Whether it was told that few records are left.
+    _is_near = False
     # How many records a run is given at most, where that is fewer than it takes.
     _fewer_records: Optional[int] = None
 
@@ -89,6 +94,24 @@ class Asking:
         if self._talk.records + count > self._most_records:
             raise self._limit_reached(count)
 
+    def _begin_many(self, count: int) -> int:
+        """Is called before so many records are sent in parts, of which the rest has to find room behind the first; gives the
+        count."""
+        return count
+
+    def _warn_of_records(self, count: int) -> None:
+        """Warns once where so many records more leave enough to ask for all edges, and not for that twice."""
+        left = self._most_records - self._talk.records - count
+        if self._is_near or left >= 2 * (self._index.most + FOR_AN_EXPORT):
+            return
+        needed = len(self._candidates()) + FOR_AN_EXPORT
+        if needed <= left < 2 * needed:
+            self._is_near = True
+            warnings.warn(NearLimit(f"{left} of this run's {self._most_records} records are left then, and a session that asks "
+                                    f"for all edges, also by a save, takes {needed - FOR_AN_EXPORT}: that can be once more, and "
+                                    "not twice. A session that has asked asks no second time; an endless store "
+                                    "(Store(endless=True)) goes on"), stacklevel=2)
+
     def _limit_reached(self, count: int) -> RecordLimit:
         return RecordLimit(f"a run takes {self._most_records} records; this one had {self._talk.records}, and {count} more were "
                            "to be sent: begin a new store, or make it endless (Store(endless=True))")
@@ -126,6 +149,7 @@ class Asking:
     def _ask_all(self, texts: Sequence[str]) -> List[Awaited]:
         """Asks many requests of one line each, thousands at once; what was refused the answers tell."""
         self._make_room(len(texts))
+        self._warn_of_records(len(texts))
         answers: List[Awaited] = []
         for at in range(0, len(texts), ASK_AT_ONCE):
             if self._calls.is_left:

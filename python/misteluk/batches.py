@@ -128,6 +128,12 @@ class Batches(Asking):
         """How many records this run has had; it takes 999,999."""
         return self._talk.records
 
+    @property
+    def records_left(self) -> int:
+        """How many records this run still takes: each operation, batch and request is one, and so is each edge that a session
+        asks for the first time. An endless store goes on in a new program before none is left."""
+        return self._most_records - self._talk.records
+
     @talks
     def discard(self) -> int:
         """Lets the pending operations go, and returns how many they were; those that were sent and may still be answered stay."""
@@ -198,6 +204,8 @@ class Batches(Asking):
         where all its operations are insertions or additions."""
         self._go_on(count + 1 + collect, count)
         self._make_room(count + 1 + collect)
+        if rows is None:  # (a load has told how many its edges are, and numbers that wait cost time to be folded)
+            self._warn_of_records(count + 1 + collect)
         before = self._talk.records
         self._index.tell(operations, count, rows)
         self._talk.tell(operations, count)

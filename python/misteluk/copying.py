@@ -7,17 +7,23 @@ doesn't come in its order gets a loop edge, which is inserted and removed.
 """
 from __future__ import annotations
 
-from typing import TYPE_CHECKING, Callable, Dict, Iterable, Iterator, List, NamedTuple, Sequence, Tuple
+from typing import TYPE_CHECKING, Callable, Dict, Iterable, Iterator, List, NamedTuple, Optional, Sequence, Tuple
 
 from . import records
+from .answers import Edge
+from .asking import ASK_AT_ONCE
 from .errors import StoreError
+from .feeds import parts_of
 from .program import Awaited
+from .tables import edge_of
 
 if TYPE_CHECKING:
     from .session import Session
 
 # An edge's kind, source, target, weight, first and recent time, in the program's terms.
 Held = Tuple[str, str, str, int, int, int]
+# An edge's kind, source and target, in the program's names.
+Ends = Tuple[str, str, str]
 # Asks many requests of one line each, and gives their answers.
 Ask = Callable[[Sequence[str]], List[Awaited]]
 WHOLE = f"{records.ANY},0,{records.MOST_TIME}"
@@ -53,30 +59,33 @@ def rows_of(table: Sequence[str]) -> List[Row]:
     return [Row(name, int(out), int(into), int(weight)) for name, out, into, weight in fields]
 
 
-def content_of(slot: int, table: Sequence[str], kinds: Sequence[str], candidates: Iterable[Tuple[str, str, str]],
-               ask: Ask) -> Content:
+def content_of(slot: int, table: Sequence[str], kinds: Sequence[str], candidates: Iterable[Ends], ask: Ask,
+               told: Optional[Callable[[Sequence[Ends]], List[Optional[Edge]]]] = None) -> Content:
     """What the version holds whose session is in the slot. `table` are the lines of its degrees over all kinds and times, `kinds`
-    and `candidates` all that it may have. Raises `StoreError` where its edges are others than what was found."""
+    and `candidates` all that it may have; `told` gives its edges, where some were told before. Raises `StoreError` where its
+    edges are others than what was found."""
     rows = rows_of(table)
     quoted = Quoted()
     asked = list(candidates)
-    answers = ask([f"edge,{slot},{quoted[kind]},{quoted[source]},{quoted[target]}\n" for kind, source, target in asked])
-    edges: List[Held] = []
-    for (kind, source, target), it in zip(asked, answers):
-        fields = (it.head or "").split(" ")[2:]
-        if len(fields) == 3:
-            weight, first, recent = map(int, fields)
-            edges.append((kind, source, target, weight, first, recent))
+    found = told(asked) if told else _edges_of(slot, asked, ask, quoted)
+    edges = [(*ends, edge.weight, edge.first, edge.recent) for ends, edge in zip(asked, found) if edge is not None]
     _must_be_all(rows, edges)
     known = _known_kinds(slot, rows, kinds, ask, quoted)
     return Content(known, [it.name for it in rows], edges)
+
+
+def _edges_of(slot: int, asked: Sequence[Ends], ask: Ask, quoted: "Quoted") -> List[Optional[Edge]]:
+    """The edges; `None` for those that the version hasn't."""
+    answers = ask([f"edge,{slot},{quoted[kind]},{quoted[source]},{quoted[target]}\n" for kind, source, target in asked])
+    return [None if it.word else edge_of(it.head or "") for it in answers]
 
 
 def content_of_session(session: "Session") -> Content:
     """What the version holds that a session holds."""
     table = session._ask(("deg", str(session.slot), *WHOLE.split(",")), lambda _: session.names).rows
     candidates = session.store._candidates()
-    return content_of(session.slot, table, candidates.kinds, candidates, session._ask_all)
+    return content_of(session.slot, table, candidates.kinds, candidates, session._ask_all,
+                      lambda asked: [edge for part in parts_of(asked, ASK_AT_ONCE) for edge in session._asked(part)])
 
 
 def _known_kinds(slot: int, rows: Sequence[Row], kinds: Sequence[str], ask: Ask, quoted: "Quoted") -> List[str]:

@@ -28,6 +28,9 @@ class Former(Asking):
     def __getattr__(self, name: str) -> Any:
         return getattr(self.__dict__["store"], name)
 
+    def _warn_of_records(self, count: int) -> None:
+        """Tells nothing: a new session has another program's records."""
+
     def _limit_reached(self, count: int) -> RecordLimit:
         return RecordLimit(f"the program that holds this session has had {self._talk.records} records of {self._most_records}, "
                            f"and {count} more were to be sent: open a new session, which the program in use now holds")

@@ -1,10 +1,12 @@
 """What a feed can't be loaded for, told before anything is sent, and what to do about it."""
 from __future__ import annotations
 
+import warnings
 from typing import TYPE_CHECKING
 
 from . import records
-from .errors import BadRows, OverLimit, PoolEmpty
+from .asking import FOR_AN_EXPORT
+from .errors import BadRows, NearLimit, OverLimit, PoolEmpty
 
 if TYPE_CHECKING:
     from .loading import Survey
@@ -47,6 +49,18 @@ def check_room(store: "Store", found: "Survey", used: int, count: int) -> None:
     if not store._endless and store.records_sent + count > records.MOST_RECORDS:
         raise OverLimit(f"{found.feed} takes {count} records, and this run has had {store.records_sent} of "
                         f"{records.MOST_RECORDS}. Nothing was sent", found.counts())
+    _warn_of_records(store, found, store.records_left - count)
+
+
+def _warn_of_records(store: "Store", found: "Survey", left: int) -> None:
+    """Warns before a load that leaves too few records to ask for all its edges twice, or once."""
+    needed = found.edges + FOR_AN_EXPORT
+    if not store._endless and not store._is_near and left < 2 * needed:
+        store._is_near = True
+        warnings.warn(NearLimit(f"{found.feed} leaves {left} of the run's {records.MOST_RECORDS} records, and a session that "
+                                f"asks for all its {found.edges} edges, also by a save, takes one for each: that can't be "
+                                f"{'twice' if needed <= left else 'done'}. An endless store (Store(endless=True)) goes on"),
+                      stacklevel=2)
 
 
 def _room_advice(store: "Store", found: "Survey", used: int) -> str:

@@ -142,7 +142,7 @@ class Looking:
     def _ask(self, ends: Iterable[Key]) -> None:
         """Asks for edges, as the program names them, but for those that were asked for, and keeps those that are there."""
         asked = list(dict.fromkeys(it for it in ends if it[1] not in self._looked and it[2] not in self._looked))
-        self.session.store._make_room(len(asked))
+        self.session._make_room_for(lambda: asked)
         to_user = self.terms.names.to_user
         for (kind, source, target), edge in self.session._found(asked, self.view):
             self.edges[to_user(kind), to_user(source), to_user(target)] = self.terms.told_edge(edge)

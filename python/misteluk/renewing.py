@@ -9,13 +9,14 @@ from __future__ import annotations
 import time
 import warnings
 from functools import partial
-from typing import TYPE_CHECKING, Callable, List, NamedTuple, Optional, Sequence, Tuple
+from typing import TYPE_CHECKING, Callable, Dict, List, NamedTuple, Optional, Sequence, Tuple
 
 from . import records
-from .answers import Commit, Rebased, Stat, numbers
+from .answers import Commit, Edge, Rebased, Stat, numbers
 from .asking import Asking
 from .batches import Batches, Flight
 from .calls import talks
+from .candidates import Candidates
 from .copying import WHOLE, Content, Row, content_of, operations_of, rows_of
 from .errors import (BatchLimit, KindsFull, Misread, NamesFull, NearLimit, NoAnswer, NotRenewed, OverLimit, ProgramEnded,
                      RecordLimit, StoreError, refusal)
@@ -146,6 +147,15 @@ class Renewing(Batches):
         edges = len(self._candidates())
         return left < 2 * edges and since > edges
 
+    def _begin_many(self, count: int) -> int:
+        if count:
+            self._go_on(count, 0)
+        return count
+
+    def _warn_of_records(self, count: int) -> None:
+        if not self._endless:
+            super()._warn_of_records(count)
+
     def _renewed_or_not(self, must: bool) -> Asking:
         """Begins a new program, unless the last version is too large: then this one goes on to its end, and that is told. What
         else speaks against it is told where it must be, by a commit."""
@@ -221,9 +231,19 @@ class Renewing(Batches):
         except StoreError as fault:
             raise NotRenewed(f"the last version couldn't be read for a new program: {fault}. {STANDS}") from fault
         self._orphans.remove((at, opened))
+        self._tell_sessions(found.version + self._made_before(), candidates, content)
         active = content.without_idle_names()
         kept = set(active.names)
         return found.version + self._made_before(), active, [it for it in rows_of(table) if it.name in kept]
+
+    def _tell_sessions(self, version: int, candidates: Candidates, content: Content) -> None:
+        """Tells the sessions that hold this version its edges: the reading took the records by which they would have asked."""
+        sessions = [it for it in (held() for held in self._sessions.values()) if it is not None and it.version == version]
+        if sessions:
+            kept: Dict[Tuple[str, str, str], Optional[Edge]] = dict.fromkeys(candidates)
+            kept.update(((kind, source, target), Edge(*told)) for kind, source, target, *told in content.edges)
+            for it in sessions:
+                it._kept = kept
 
     def _must_fit(self, operations: int, edges: int) -> None:
         """Raises where a copy and the reading of the next one leave no records for a feed."""

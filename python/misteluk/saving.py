@@ -130,11 +130,12 @@ def save(session: "Session", path: Path) -> Saved:
 def _must_have_room(session: "Session") -> None:
     """Raises where the run can't take a record for each edge and kind that is to be asked for."""
     session._must_be_open()
-    store, candidates = session.store, session.store._candidates()
-    needed = 1 + len(candidates) + len(candidates.kinds)
-    sent, most = store._talk.records, store._most_records
+    candidates = session.store._candidates()
+    session.store._begin_many(1 + session._unasked(candidates) + len(candidates.kinds))
+    needed = 1 + session._unasked(candidates) + len(candidates.kinds)
+    sent, most = session.store._talk.records, session.store._most_records
     if sent + needed > most:
-        raise RecordLimit(f"a save asks for each edge that the store was told of, in {needed} records, and this run has had "
+        raise RecordLimit(f"a save asks for each edge that the session wasn't told of, in {needed} records, and this run has had "
                           f"{sent} of {most}. Nothing was asked or written")
 
 

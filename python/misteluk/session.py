@@ -21,14 +21,18 @@ class Session(Exporting):
     store's units; a date without a time of day begins a window with its day, and ends one with its day's end.
 
     Neighbors, paths and all edges are asked for edge by edge: one record of the run for each edge of the vertex, or of the graph,
-    that the last version or an open session's may have. `RecordLimit` says beforehand where too few are left (`within` with
-    `directed=False` says so at each step). The client keeps each edge, in 27 to 37 bytes, until it is gone from all open
-    sessions; what a rebase undid stays, and so do late edges whose times were once greater.
+    that the last version or an open session's may have. A session keeps what it was told until it is closed, in some 200 bytes
+    an edge, so a second export, another window or a save takes no record for it. `Store.records_left` says how many are left, a
+    warning (`NearLimit`) that all edges can be asked for once more and not twice, and `RecordLimit` beforehand that too few are
+    left (`within` with `directed=False` says so at each step). The client keeps which edges there may be, in 27 to 37 bytes
+    each, until they are gone from all open sessions; what a rebase undid stays, and so do late edges whose times were once
+    greater.
     """
 
     def __init__(self, store: "Store", slot: int, version: int, names: int) -> None:
         self.store, self.slot, self.version, self.names = store, slot, version, names
         self._is_open = True
+        self._kept = {}
 
     def save(self, path: Path) -> "Saved":
         """Writes the version as one file, of which `Store.restore` makes a store again, and which `stinger run` takes as a
@@ -38,10 +42,11 @@ class Session(Exporting):
         was there, and a killed program perhaps a file beside it that ends in .part. Links and a file's rights stay. It has all
         that answers depend on, and the store's units and names. Pending operations and other versions aren't in it.
 
-        Each edge that the store was told of is asked for, one record each. A copy takes two records for an edge whose times
-        differ, for a name that has no edge in its place, and for each batch. `RecordLimit` says before anything is asked that
-        this run has no room for that, and `OverLimit` before anything is written that the copy is more than a run takes. Raises
-        `OSError` where the file can't be written, and `Missing` where nothing here packs it."""
+        Each edge that the session wasn't told of yet is asked for, one record each. A copy takes two records for an edge whose
+        times differ, for a name that has no edge in its place, and for each batch. `RecordLimit` says before anything is asked
+        that this run has no room for that, and `OverLimit` before anything is written that the copy is more than a run takes.
+        Raises `OSError` where the file can't be written, `Missing` where nothing here packs it, and `ValueError` for a name that
+        says another packing, as .zip."""
         from .saving import save
         return save(self, path)
 
@@ -52,6 +57,7 @@ class Session(Exporting):
 
     @talks
     def _close(self) -> None:
+        self._kept = {}
         if self._is_open:
             self._is_open = False
             self.store._sessions.pop(self.slot, None)

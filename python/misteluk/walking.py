@@ -2,7 +2,7 @@
 from __future__ import annotations
 
 from itertools import islice
-from typing import Any, Dict, Iterable, Iterator, List, NamedTuple, Optional, Sequence, Tuple
+from typing import Any, Callable, Dict, Iterable, Iterator, List, NamedTuple, Optional, Sequence, Tuple
 
 from . import records
 from .answers import Answer, Degree, Edge, Neighbor
@@ -42,7 +42,10 @@ class View(NamedTuple):
 
 
 class Walking(Tables):
-    """Calls that go from vertex to vertex. Each edge that there may be is asked for, one record each."""
+    """Calls that go from vertex to vertex. Each edge that there may be is asked for, one record each, and once."""
+
+    # What the session was told: the version's edge, with the program's numbers, or `None` where it has none.
+    _kept: Dict[Ends, Optional[Edge]]
 
     def out_of(self, source: str, kind: Optional[str] = None, since: Moment = 0,
                until: Moment = records.MOST_TIME) -> Dict[str, Edge]:
@@ -117,7 +120,7 @@ class Walking(Tables):
         while last and hop < hops:
             hop += 1
             asked = [it for name in last for it in (*view.out_of(name), *view.into(name)) if not reached.issuperset(it[1:])]
-            self.store._make_room(len(asked))
+            self._make_room_for(lambda: asked)
             found = dict.fromkeys(name for it, _ in self._found(asked, view) for name in it[1:])
             last = [it for it in found if it not in reached]
             reached.update(last)
@@ -148,7 +151,7 @@ class Walking(Tables):
         view = self._view(vertex, kind, since, until)
         name = self.store._terms.names.to_program(vertex, keep=False)
         asked = list(dict.fromkeys([*(view.out_of(name) if is_out else ()), *(view.into(name) if is_in else ())]))
-        self.store._make_room(len(asked))
+        self._make_room_for(lambda: asked)
         out: Dict[str, Edge] = {}
         into: Dict[str, Edge] = {}
         for (_, source, target), edge in self._found(asked, view):
@@ -173,14 +176,29 @@ class Walking(Tables):
                     yield ends, edge
 
     def _asked(self, ends: Sequence[Ends]) -> List[Optional[Edge]]:
-        """The edges with the program's names and numbers; `None` where the version has none, or not the names."""
+        """The edges with the program's names and numbers; `None` where the version has none, or not the names. Those that were
+        told before aren't asked for."""
         self._must_be_open()
-        questions = [("edge", str(self.slot), *it) for it in ends]
-        answers = self._ask_all(list(map(records.record, questions)))
+        kept = self._kept
+        new = [it for it in ends if it not in kept]
+        questions = [("edge", str(self.slot), *it) for it in new]
+        answers = self._ask_all(list(map(records.record, questions))) if new else []
         for it, question in zip(answers, questions):
             if it.word not in (None, NoKind.word, NoVertex.word):
                 self.store._check(it, question)
-        return [None if it.word else edge_of(it.head or "") for it in answers]
+        kept.update(zip(new, [None if it.word else edge_of(it.head or "") for it in answers]))
+        return [kept[it] for it in ends]
+
+    def _unasked(self, ends: Iterable[Ends]) -> int:
+        """How many of the edges the session wasn't told of."""
+        return sum(it not in self._kept for it in ends)
+
+    @talks
+    def _make_room_for(self, ends: Callable[[], Iterable[Ends]], more: int = 0) -> None:
+        """Raises where the run can't take a record for each of the edges that the session wasn't told of, and so many more. Where
+        an endless store is to go on in a new program it does so before, and a session of the last version is told its edges."""
+        if self.store._begin_many(self._unasked(ends()) + more):
+            self.store._make_room(self._unasked(ends()) + more)
 
     def _every_edge(self, kind: Optional[str], since: Moment,
                     until: Moment) -> "Tuple[Answer[Degree], Iterator[Tuple[Ends, Edge]]]":
@@ -188,7 +206,7 @@ class Walking(Tables):
         anything is sent; they are asked for as they are taken. Raises `Incomplete` behind the last where they aren't as many as
         the program says, and so not all."""
         view = self._view(None, kind, since, until)
-        self.store._make_room(view.candidates.count(view.kinds) + 1)
+        self._make_room_for(lambda: view.candidates.of_kinds(view.kinds), 1)
         degrees = self.degrees(kind, since, until)
         found = self._found(view.candidates.of_kinds(view.kinds), view)
         return degrees, self._counted(found, sum(it.out for it in degrees.values()))

@@ -12,7 +12,7 @@ from interrupting import handler, has_ended, interrupt_in_a_call, made_at_once
 from support import Case
 
 import misteluk
-from misteluk import Store, calls, renewing
+from misteluk import Store, calls, renewing, walking
 
 KINDS = ("truck", "rail")
 
@@ -229,6 +229,28 @@ class Endless(Case):
                 self.assertEqual(session.into(it, "rail"), into)
                 reached = dict(model.levels(model.view(None, 0, 1 << 40), it))
                 self.assertEqual({other: len(session.path(it, other)) - 1 for other in reached}, reached)
+
+    def test_all_edges_where_a_new_program_is_due(self):
+        """They are asked for in parts. The new program is begun before the first: a session of the last version is told what was
+        read for it, and one of an earlier version is refused at once where the rest can't be asked for."""
+        for is_last in (True, False):
+            store = self.store(*(f"insert k s{it} t 1 1" for it in range(600)), seats=3, endless=True)
+            session = store.open()
+            if not is_last:
+                self.feed(store, "insert k s0 t 2 2")
+            store._fewer_records = 3_000
+            with mock.patch.object(walking, "ASK_AT_ONCE", 50), mock.patch.object(renewing, "FOR_SESSIONS", 1_000):
+                while store.records_left > 720:
+                    store.stat()
+                self.assertEqual(store.renewals, [])
+                if is_last:
+                    self.assertEqual([len(list(session.edges())) for _ in range(3)], [600] * 3)
+                    self.assertEqual(session.save(self.room / "s").edges, 600)
+                else:
+                    self.assertRaisesRegex(misteluk.RecordLimit, "open a new session", session.edges)
+                    self.assertRaisesRegex(misteluk.RecordLimit, "Nothing was asked or written", session.save, self.room / "s")
+                self.assertEqual(len(store.renewals), 1)
+                self.assertEqual(len(list(store.open().edges())), 600)
 
     def test_a_fault_is_found(self):
         """Records of a copy that are lost, and sessions that are left with the store."""
@@ -521,8 +543,11 @@ class Endless(Case):
             self.assertLess(len(store.renewals), most)
 
     def test_the_end_of_a_session_s_program_is_found(self):
-        with mock.patch.object(renewing.Renewing, "_is_short", lambda *_: False), self.assertRaises(misteluk.RecordLimit):
-            self.test_all_edges_of_each_session()
+        """Where no new program is begun as a session is opened, and its own is read by another amid its asking."""
+        with mock.patch.object(renewing.Renewing, "_tell_sessions", lambda *_: None):
+            self.assertRaises(misteluk.RecordLimit, self.test_all_edges_where_a_new_program_is_due)
+            with mock.patch.object(renewing.Renewing, "_is_short", lambda *_: False), self.assertRaises(misteluk.RecordLimit):
+                self.test_all_edges_of_each_session()
 
     def test_a_load(self):
         """One that this program has no records for any more goes into the next."""

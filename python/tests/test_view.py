@@ -246,8 +246,8 @@ class Views(Case):
         view(first, "funnel", 2)  # (the degrees, the edges that funnel has in a version, and the boss's)
         self.assertEqual(first.store.records_sent - before, 1 + 4 + 1)
         before = first.store.records_sent
-        view(first, "boss", 1, beside=last)
-        self.assertEqual(first.store.records_sent - before, 4)
+        view(first, "boss", 1, beside=last)  # (the degrees of both, and in the last version the boss's edge)
+        self.assertEqual(first.store.records_sent - before, 3)
 
     def test_two_stores(self):
         """The first session's stands before the other's, whatever their versions are."""

@@ -178,15 +178,80 @@ class Walks(Case):
 
 class Calls(Case):
     def test_records_by_degree(self):
-        """As many records as a vertex has edges, whatever else there is."""
+        """As many records as a vertex has edges, whatever else there is; none for those that the session was told of."""
         store = self.store(*(f"insert k s{it} t{it % 10} 1 1" for it in range(300)))
-        session = store.open()
-        for call, count in ((lambda: session.into("t3"), 30), (lambda: session.out_of("s7"), 1),
-                            (lambda: session.neighbors("t3"), 30), (lambda: session.path("s3", "t3"), 2),
-                            (lambda: session.within("s3", 2, directed=False), 1 + 1 + 29)):
+        for call, count, again in (
+                (lambda it: it.into("t3"), 30, 0), (lambda it: it.out_of("s7"), 1, 0), (lambda it: it.neighbors("t3"), 30, 0),
+                (lambda it: it.path("s3", "t3"), 2, 1), (lambda it: it.within("s3", 2, directed=False), 1 + 1 + 29, 1)):
+            with store.open() as session:
+                for wanted in (count, again):
+                    before = store.records_sent
+                    call(session)
+                    self.assertEqual(store.records_sent - before, wanted)
+
+    def test_an_edge_is_asked_for_once(self):
+        """A second export, another window and a save take a table each, and no record for an edge that was told. What is committed
+        meanwhile, or asked of another session, changes nothing."""
+        store = self.store(*(f"insert k s{it} t{it % 10} {it} {it}" for it in range(300)), "insert l a b 1 1")
+        session, left = store.open(), store.records_left
+        wanted = sorted(session.edges())
+        self.assertEqual((len(wanted), left - store.records_left), (301, 302))
+        self.feed(store, *(f"insert k s{it} t{it % 10} 9 999" for it in range(300)), "insert k new newer 1 1", "remove l a b")
+        calls_ = [(lambda: sorted(session.edges()), wanted, 2), (lambda: sorted(session.edges("k", since=100, until=200)),
+                  [it for it in wanted if it[0] == "k" and 100 <= it[3].recent <= 200], 2),
+                  (lambda: session.out_of("s7"), {"t7": Edge(7, 7, 7)}, 0), (lambda: session.to_csv(self.room / "x"), 301, 2),
+                  (lambda: session.save(self.room / "s").edges, 301, 4)]
+        calls_ += [(lambda: len(session.edges_frame()), 301, 1)] if pandas else []
+        calls_ += [(lambda: session.to_networkx().number_of_edges(), 301, 1)] if networkx else []
+        for call, told, most in calls_:
             before = store.records_sent
-            call()
-            self.assertEqual(store.records_sent - before, count)
+            self.assertEqual(call(), told)
+            self.assertLessEqual(store.records_sent - before, most)
+        with store.open() as last:
+            self.assertEqual(last.edge("k", "s7", "t7"), Edge(9, 7, 999))
+            self.assertEqual(last.out_of("s7"), {"t7": Edge(9, 7, 999)})
+        self.assertEqual(session.out_of("s7"), {"t7": Edge(7, 7, 7)})
+
+    def test_exports_where_records_are_few(self):
+        """As where 500,000 rows leave 499,000 records: they go on as long as the first one found room."""
+        store = self.store(*(f"insert k s{it} t 1 1" for it in range(300)))
+        session = store.open()
+        store._fewer_records = store.records_sent + 320
+        for _ in range(5):
+            self.assertEqual((len(list(session.edges())), session.weights_in()["t"], session.save(self.room / "s").edges),
+                             (300, 300, 300))
+            self.assertLess(store.records_left, 20)
+            store._fewer_records += 4
+
+    def test_it_is_told_while_one_export_can_be_made(self):
+        """Once: when the records that are left are enough for one session's reading of all edges, and not for two."""
+        store = self.store(*(f"insert k s{it} t 1 1" for it in range(300)))
+        store._fewer_records = store.records_sent + 1_150  # (an export takes 304 with its session)
+        with warnings.catch_warnings():
+            warnings.simplefilter("error")
+            with store.open() as session:
+                self.assertEqual(len(list(session.edges())), 300)
+        self.assertEqual(store.records_left, 1_150 - 304)
+        with self.assertWarnsRegex(misteluk.NearLimit, "records are left then, and a session that asks for all edges, also by a "
+                                   "save, takes 300: that can be once more, and not twice") as told, store.open() as session:
+            self.assertEqual(len(list(session.edges())), 300)
+        self.assertRegex(str(told.warning), rf"^{store.records_left + 1} of this run's {store._fewer_records} ")
+        with warnings.catch_warnings():
+            warnings.simplefilter("error")
+            with store.open() as session:
+                self.assertEqual(len(list(session.edges())), 300)
+            with store.open() as session:
+                self.refused(misteluk.RecordLimit, "begin a new store", session.edges)
+
+    def test_a_load_tells_beforehand_that_records_will_be_few(self):
+        rows = [(f"s{it}", "t") for it in range(300)]
+        for most, told in ((1_050, "leaves 746 of the run's 1050 records.*all its 300 edges.*that can't be twice"),
+                           (650, "leaves 346 of .*: that can't be done. An endless store")):
+            with mock.patch.object(records, "MOST_RECORDS", most), self.assertWarnsRegex(misteluk.NearLimit, told):
+                self.store().load(rows, by="set")
+        with mock.patch.object(records, "MOST_RECORDS", 1_150), warnings.catch_warnings():
+            warnings.simplefilter("error")
+            self.store().load(rows, by="set")
 
     def test_a_path_whose_step_has_many_edges_that_are_gone(self):
         """17 vertices stand a level below the last one, and the edges of the first 16 to it have expired; an earlier session
@@ -345,6 +410,7 @@ class Calls(Case):
         most; and how many lines it runs."""
         right, edges, wrong, at = call(), list(session.edges()), [], 1
         while len(wrong) < 3:
+            session._kept.clear()  # (it would have the answers already)
             try:
                 if not at_line(at, call):
                     break
