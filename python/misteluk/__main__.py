@@ -19,10 +19,11 @@ from .loading import Ahead, Survey, check, load, load_in_steps, survey
 from .names import shown
 from .options import columns_of, make_parser
 from .questions import Question, all_lines
-from .saving import size_of
+from .saving import is_saved, size_of
 from .session import Session
 from .store import Store
 from .telling import leave_output
+from .viewing import view
 
 
 # The status that a shell tells of a command whose output lost its reader.
@@ -57,9 +58,10 @@ def run_load(words: argparse.Namespace) -> int:
     """Loads a file and asks. The program works while the file is still counted, where none says how many blocks it is to have."""
     if words.interactive and words.file == STANDARD_INPUT:
         raise ValueError("--interactive reads standard input, which is the file here")
-    if words.save and (words.script or words.dry_run):
-        raise ValueError("--save is for what was loaded, and --script and --dry-run load nothing")
+    if (words.save or words.edges) and (words.script or words.dry_run):
+        raise ValueError("--save and --edges are for what was loaded, and --script and --dry-run load nothing")
     must_be_place(words.save)
+    must_be_place(words.edges)
     with ExitStack() as stack:
         def start(blocks: int = records.MOST_BLOCKS) -> Store:
             return stack.enter_context(Store(blocks=blocks, program=words.program, timeout=words.timeout))
@@ -78,6 +80,7 @@ def run_load(words: argparse.Namespace) -> int:
 
 def run_restore(words: argparse.Namespace) -> int:
     must_be_place(words.save)
+    must_be_place(words.edges)
     with Store.restore(words.file, blocks=words.blocks, program=words.program, timeout=words.timeout) as store:
         stat = store.stat()
         print(f"{words.file}: {size_of(stat.names, stat.edges)} restored in {stat.used} of {store.blocks} blocks", flush=True)
@@ -97,6 +100,9 @@ def do_then(words: argparse.Namespace, store: Store) -> None:
     with store.open() as session:
         if words.save:
             print(session.save(words.save), flush=True)
+        if words.edges:
+            count = session.to_csv(words.edges, **window(words))
+            print(f"{words.edges}: {count} edge{'s' * (count != 1)} of version {session.version}", flush=True)
         for line in answer(words, session):
             print(line)
         if words.interactive:
@@ -176,9 +182,23 @@ def run_picture(words: argparse.Namespace) -> int:
 
 def run_around(words: argparse.Namespace) -> int:
     around.check(words)
+    if words.by is None:
+        return run_around_saved(words)
     found = read(words)
     with make_store(words, found, holds=True) as store:
         page = around.draw(words, store, found, window(words))
+    page.save(words.output)
+    print(f"{words.output}: {page}")
+    return 0
+
+
+def run_around_saved(words: argparse.Namespace) -> int:
+    """The page of the version that a file has which --save wrote."""
+    if words.at is not None or words.at_line is not None:
+        raise ValueError("a saved file has one version: --at and --at-line are for the rows of a feed")
+    with Store.restore(words.file, blocks=words.blocks, program=words.program, timeout=words.timeout) as store:
+        page = view(store.open(), words.around, words.hops, most=words.most, title=words.title, labels=("the saved version", ""),
+                    **window(words))
     page.save(words.output)
     print(f"{words.output}: {page}")
     return 0
@@ -227,6 +247,14 @@ def draw_versions(words: argparse.Namespace, store: Store, found: Survey) -> Any
                                  words.title or "Weight that goes out, in two sessions", "weight out")
 
 
+def may_be_saved(words: argparse.Namespace) -> bool:
+    """Whether a picture is of a saved file, or of one that can't be read, which is told later."""
+    try:
+        return bool(words.what == "around" and words.file != STANDARD_INPUT and is_saved(words.file))
+    except OSError:
+        return bool(words.what == "around")
+
+
 @contextmanager
 def plain_warnings() -> Iterator[None]:
     """What is warned of is told as a fault is, without a line of the client's sources."""
@@ -239,7 +267,10 @@ def plain_warnings() -> Iterator[None]:
 
 @plain_warnings()
 def main(words: Optional[List[str]] = None) -> int:
-    parsed = make_parser().parse_args(words)
+    parser = make_parser()
+    parsed = parser.parse_args(words)
+    if parsed.command == "picture" and parsed.by is None and not may_be_saved(parsed):
+        parser.error("one of the arguments --set --add is required, but for the page around a name in a saved file")
     for it in (sys.stdout, sys.stderr):
         if isinstance(it, io.TextIOWrapper):  # (a name that the terminal has no signs for)
             it.reconfigure(errors="backslashreplace")

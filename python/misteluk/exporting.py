@@ -92,8 +92,8 @@ class Exporting(Walking):
 
     def to_csv(self, path: Path, kind: Optional[str] = None, since: Moment = 0, until: Moment = records.MOST_TIME) -> int:
         """Writes all edges as CSV in UTF-8 with a header, kind, source, target, weight, first and recent, and gives how many they
-        are. The file is written beside and renamed when it is whole: a fault or an interrupt leaves what was there. See
-        `edges`."""
+        are. It is packed as its name says, as by `save`. The file is written beside and renamed when it is whole: a fault or an
+        interrupt leaves what was there. See `edges`."""
         edges, count = self.edges(kind=kind, since=since, until=until), 0
         with whole_text(path) as file:
             write = csv.writer(file, lineterminator="\n").writerow

@@ -120,9 +120,10 @@ def whole(path: Path) -> "Iterator[BinaryIO]":
 
 @contextlib.contextmanager
 def whole_text(path: Path) -> "Iterator[TextIO]":
-    """The same for a file of text, in UTF-8; ends of lines are written as they are."""
-    with whole(path) as raw:
-        file = io.TextIOWrapper(raw, encoding="utf-8", newline="")
+    """The same for a file of text, in UTF-8, packed as its name says; ends of lines are written as they are."""
+    ending = ending_of(path)
+    with whole(path) as raw, packer(raw, ending) as packed:
+        file = io.TextIOWrapper(cast(BinaryIO, packed), encoding="utf-8", newline="")
         yield file
         file.detach()
 

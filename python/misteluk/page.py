@@ -185,8 +185,8 @@ class Page:
         it, told = self.it, []
         if self._is_part():
             turns = "in turn those with an edge gone, with a new one, with one that changed and without, and "
-            told.append(f"{self._drawn()}: the nearest, {turns if self.is_two else ''}of these the heaviest, by the edges that join "
-                        "them to nearer ones.")
+            told.append(f"{self._drawn()}: the nearest, {turns if self.is_two else ''}of these the heaviest, by the edges that "
+                        "join them to nearer ones.")
         if len(it.names) > MOST_VERTICES:
             told.append(f"The table has {MOST_VERTICES:,} of {counted(len(it.names), 'vertex')}.")
         if len(self.states) > MOST_EDGES:

@@ -15,7 +15,7 @@ from urllib.parse import unquote
 
 from . import files, records
 from .copying import Content, content_of_session, operations_of
-from .errors import OverLimit, PoolEmpty, RecordLimit, SaveFault, StoreError
+from .errors import Missing, OverLimit, PoolEmpty, RecordLimit, SaveFault, StoreError
 from .feeds import escaped, parts_of
 from .finding import Path
 from .names import MARK
@@ -181,6 +181,16 @@ def _pieces(text: str) -> List[str]:
 
 
 # What is read.
+
+def is_saved(path: Path) -> bool:
+    """Whether a file begins as those that `save` writes do. Raises `OSError` where there is none."""
+    with open(path, "rb") as file:
+        data = file.read()
+    try:
+        return _BEGINNING.match(files.unpacked(data, os.fspath(path), _MOST_BEGINNING)) is not None
+    except (SaveFault, Missing):
+        return False
+
 
 def read(path: Path) -> Found:
     """What a saved file has."""
