@@ -6,7 +6,7 @@ from datetime import datetime
 from decimal import Decimal
 from typing import Any, Dict, Iterator, List, NamedTuple, Optional, Tuple
 
-from .answers import Edge
+from .answers import Edge, Neighbor
 from .errors import NoKind, NoVertex
 from .names import shown
 from .session import Session
@@ -94,6 +94,14 @@ def _weight(row: Tuple[str, Edge]) -> Any:
     return row[1].weight
 
 
+def _weight_either_way(row: Tuple[str, Neighbor]) -> Any:
+    return sum(edge.weight for edge in row[1] if edge)
+
+
+def _weight_of_edge(row: Tuple[str, str, str, Edge]) -> Any:
+    return row[3].weight
+
+
 def _path(it: Question, session: Session, _: int, __: str, window: Dict[str, Any]) -> Dict[str, Any]:
     source, target = it.names
     return {"path": session.path(source, target, **_window(it, window))}
@@ -108,7 +116,7 @@ def _edge(it: Question, session: Session, _: int, __: str, ___: Dict[str, Any]) 
 def _neighbors(it: Question, session: Session, top: int, _: str, window: Dict[str, Any]) -> Dict[str, Any]:
     """The neighbors with the most weight either way first."""
     found = session.neighbors(it.names[0], **_window(it, window))
-    most = sorted(found.items(), key=lambda row: sum(edge.weight for edge in row[1] if edge), reverse=True)[:top]
+    most = sorted(found.items(), key=_weight_either_way, reverse=True)[:top]
     return {"neighbors": len(found), "most": [{"name": name, **{way: None if edge is None else edge._asdict() for way, edge in
                                                                  both._asdict().items()}} for name, both in most]}
 
@@ -123,7 +131,7 @@ def _within(it: Question, session: Session, top: int, _: str, window: Dict[str, 
 def _edges(it: Question, session: Session, top: int, _: str, window: Dict[str, Any]) -> Dict[str, Any]:
     """The edges with the greatest weights."""
     found = list(session.edges(**_window(it, window)))
-    most = sorted(found, key=lambda row: row[3].weight, reverse=True)[:top]
+    most = sorted(found, key=_weight_of_edge, reverse=True)[:top]
     rows = [{"kind": kind, "source": source, "target": target, **edge._asdict()} for kind, source, target, edge in most]
     return {"edges": len(found), "most": rows}
 
