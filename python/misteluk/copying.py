@@ -15,6 +15,7 @@ from .asking import ASK_AT_ONCE
 from .errors import StoreError
 from .feeds import parts_of
 from .program import Awaited
+from .progress import told_of
 from .tables import edge_of
 
 if TYPE_CHECKING:
@@ -80,12 +81,14 @@ def _edges_of(slot: int, asked: Sequence[Ends], ask: Ask, quoted: "Quoted") -> L
     return [None if it.word else edge_of(it.head or "") for it in answers]
 
 
-def content_of_session(session: "Session") -> Content:
+def content_of_session(session: "Session", progress: Optional[bool] = None) -> Content:
     """What the version holds that a session holds."""
+    def told(asked: Sequence[Ends]) -> List[Optional[Edge]]:
+        ends = told_of(asked, "asking for edges", len(asked), progress)
+        return [edge for part in parts_of(ends, ASK_AT_ONCE) for edge in session._asked(part)]
     table = session._ask(("deg", str(session.slot), *WHOLE.split(",")), lambda _: session.names).rows
     candidates = session.store._candidates()
-    return content_of(session.slot, table, candidates.kinds, candidates, session._ask_all,
-                      lambda asked: [edge for part in parts_of(asked, ASK_AT_ONCE) for edge in session._asked(part)])
+    return content_of(session.slot, table, candidates.kinds, candidates, session._ask_all, told)
 
 
 def _known_kinds(slot: int, rows: Sequence[Row], kinds: Sequence[str], ask: Ask, quoted: "Quoted") -> List[str]:

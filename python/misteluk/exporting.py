@@ -3,13 +3,14 @@ from __future__ import annotations
 
 import csv
 from datetime import datetime
-from typing import TYPE_CHECKING, Any, Iterable, Iterator, List, Optional, Sequence, Tuple, Union, overload
+from typing import TYPE_CHECKING, Any, Iterable, Iterator, List, Mapping, Optional, Sequence, Tuple, Union, overload
 
 from . import records
-from .answers import Edge
+from .answers import Degree, Edge
 from .errors import BadName, Missing
 from .files import whole_text
 from .finding import Path
+from .progress import told_of
 from .tables import RAISE
 from .units import Moment
 from .walking import Ends, Walking
@@ -65,20 +66,24 @@ class Exporting(Walking):
         to_user, told = self.store._terms.names.to_user, self.store._terms.told_edge
         return ((to_user(kind), to_user(source), to_user(target), told(edge)) for (kind, source, target), edge in edges)
 
-    def edges_frame(self, kind: Optional[str] = None, since: Moment = 0, until: Moment = records.MOST_TIME) -> "pandas.DataFrame":
+    def edges_frame(self, kind: Optional[str] = None, since: Moment = 0, until: Moment = records.MOST_TIME, *,
+                    progress: Optional[bool] = None) -> "pandas.DataFrame":
         """All edges as a pandas frame: kind, source, target, weight, first, recent; see `edges`. Decimal weights are objects,
-        which pandas can't sum as numbers, unless the store has `decimals="float"`."""
+        which pandas can't sum as numbers, unless the store has `decimals="float"`. `progress` shows or hides a bar; without it
+        a terminal has one where there are many edges."""
         try:
             import pandas
         except ImportError:
             raise Missing("pandas", "a frame") from None
-        rows: Any = [(*ends, *edge) for *ends, edge in self.edges(kind=kind, since=since, until=until)]
+        degrees, edges = self._every_edge(kind, since, until)
+        told = told_of(edges, "asking for edges", _count(degrees), progress)
+        rows: Any = [(*ends, *edge) for *ends, edge in self._in_terms(told)]
         return pandas.DataFrame(rows, columns=list(HEADER))
 
-    def to_networkx(self, kind: Optional[str] = None, since: Moment = 0,
-                    until: Moment = records.MOST_TIME) -> "networkx.MultiDiGraph":
+    def to_networkx(self, kind: Optional[str] = None, since: Moment = 0, until: Moment = records.MOST_TIME, *,
+                    progress: Optional[bool] = None) -> "networkx.MultiDiGraph":
         """All edges as a networkx graph, with every name of the version as a node, in order. An edge's key is its kind; it has
-        the attributes `kind`, `weight`, `first` and `recent`. See `edges`."""
+        the attributes `kind`, `weight`, `first` and `recent`. See `edges`, and for `progress` `edges_frame`."""
         try:
             import networkx
         except ImportError:
@@ -87,18 +92,20 @@ class Exporting(Walking):
         graph = networkx.MultiDiGraph(version=self.version)
         graph.add_nodes_from(degrees)
         graph.add_edges_from((source, target, it, {"kind": it, **edge._asdict()})
-                             for it, source, target, edge in self._in_terms(edges))
+                             for it, source, target, edge in
+                             self._in_terms(told_of(edges, "asking for edges", _count(degrees), progress)))
         return graph
 
-    def to_csv(self, path: Path, kind: Optional[str] = None, since: Moment = 0, until: Moment = records.MOST_TIME) -> int:
+    def to_csv(self, path: Path, kind: Optional[str] = None, since: Moment = 0, until: Moment = records.MOST_TIME, *,
+               progress: Optional[bool] = None) -> int:
         """Writes all edges as CSV in UTF-8 with a header, kind, source, target, weight, first and recent, and gives how many they
         are. It is packed as its name says, as by `save`. The file is written beside and renamed when it is whole: a fault or an
-        interrupt leaves what was there. See `edges`."""
-        edges, count = self.edges(kind=kind, since=since, until=until), 0
+        interrupt leaves what was there. See `edges`, and for `progress` `edges_frame`."""
+        (degrees, edges), count = self._every_edge(kind, since, until), 0
         with whole_text(path) as file:
             write = csv.writer(file, lineterminator="\n").writerow
             write(HEADER)
-            for *ends, edge in edges:
+            for *ends, edge in self._in_terms(told_of(edges, "asking for edges", _count(degrees), progress)):
                 write((*ends, edge.weight, *map(_time_text, edge[1:])))
                 count += 1
         return count
@@ -121,6 +128,10 @@ class Exporting(Walking):
     def __bool__(self) -> bool:
         """True: a session without edges is a session."""
         return True
+
+
+def _count(degrees: Mapping[str, Degree]) -> int:
+    return sum(it.out for it in degrees.values())
 
 
 def _ends(edge: Sequence[str]) -> Tuple[str, ...]:

@@ -21,6 +21,7 @@ from typing import Collection, DefaultDict, Dict, Iterator, List, NamedTuple, Op
 from . import records
 from .candidates import BITS, KIND, MASK, Candidates, Names, keys_of, place_of, turned, with_more, without
 from .feeds import Block
+from .progress import MANY, Progress
 
 # How many bytes of operations wait at most until they are folded. Rows of loads wait as numbers, some 20 bytes each, until
 # somebody asks, and are at most as many as a run takes: to fold them costs more time than a load has to spare.
@@ -292,9 +293,12 @@ class Index:
         return self._folded
 
     def _fold(self, floor: Optional[int]) -> None:
-        fold = Fold(self._folded, sum(it.size for it in self._log))
+        size = sum(it.size for it in self._log)
+        fold, told = Fold(self._folded, size), Progress("sorting edges", size, None if size >= MANY else False, "operations")
         for it in self._log:
             fold.put(it)
+            told.step(it.size)
+        told.end()
         self._folded = fold.candidates(floor)
         self._log = [it for it in self._log if it is self._flight]
         self._waiting = sum(it.bytes for it in self._log)

@@ -109,12 +109,12 @@ class Room:
         return size
 
 
-def save(session: "Session", path: Path) -> Saved:
+def save(session: "Session", path: Path, progress: Optional[bool] = None) -> Saved:
     """Writes the version that the session holds as one file. See `Session.save`."""
     ending = files.ending_of(path)
     files.place_of(path)
     _must_have_room(session)
-    content = content_of_session(session)
+    content = content_of_session(session, progress)
     operations = list(operations_of(content))
     room = Room(operations)
     blocks = room.fitting()

@@ -1,7 +1,7 @@
 """A session, which holds a version of a store."""
 from __future__ import annotations
 
-from typing import TYPE_CHECKING
+from typing import TYPE_CHECKING, Optional
 
 from .calls import talks
 from .exporting import Exporting
@@ -34,7 +34,7 @@ class Session(Exporting):
         self._is_open = True
         self._kept = {}
 
-    def save(self, path: Path) -> "Saved":
+    def save(self, path: Path, *, progress: Optional[bool] = None) -> "Saved":
         """Writes the version as one file, of which `Store.restore` makes a store again, and which `stinger run` takes as a
         script. It is packed where its name ends in .gz, .xz or .bz2, or .zst where the package zstandard is there.
 
@@ -46,9 +46,9 @@ class Session(Exporting):
         times differ, for a name that has no edge in its place, and for each batch. `RecordLimit` says before anything is asked
         that this run has no room for that, and `OverLimit` before anything is written that the copy is more than a run takes.
         Raises `OSError` where the file can't be written, `Missing` where nothing here packs it, and `ValueError` for a name that
-        says another packing, as .zip."""
+        says another packing, as .zip. `progress` is as in `edges_frame`."""
         from .saving import save
-        return save(self, path)
+        return save(self, path, progress)
 
     def close(self) -> None:
         """Lets the version go."""

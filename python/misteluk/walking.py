@@ -11,6 +11,7 @@ from .calls import talks
 from .candidates import Candidates
 from .errors import Incomplete, NoKind, NoVertex, refusal
 from .names import must_be_texts
+from .progress import told_of
 from .tables import Tables, edge_of
 from .units import Moment
 
@@ -65,11 +66,14 @@ class Walking(Tables):
         out, into = map(self._told_ends, self._ends(vertex, kind, since, until, is_out=True, is_in=True))
         return {it: Neighbor(out.get(it), into.get(it)) for it in {**out, **into}}
 
-    def weights_in(self, kind: Optional[str] = None, since: Moment = 0, until: Moment = records.MOST_TIME) -> "Answer[Any]":
-        """For each vertex the weight that comes in: one record for each edge that the store was told of (see `edges`)."""
+    def weights_in(self, kind: Optional[str] = None, since: Moment = 0, until: Moment = records.MOST_TIME, *,
+                   progress: Optional[bool] = None) -> "Answer[Any]":
+        """For each vertex the weight that comes in: one record for each edge that the store was told of (see `edges`).
+        `progress` shows or hides a bar; without it a terminal has one where there are many edges."""
         degrees, edges = self._every_edge(kind, since, until)
         weights, to_user = dict.fromkeys(degrees, 0), self.store._terms.names.to_user
-        for (_, _, target), edge in edges:
+        count = sum(it.out for it in degrees.values())
+        for (_, _, target), edge in told_of(edges, "asking for edges", count, progress):
             weights[to_user(target)] += edge.weight
         told = self.store._terms.units.all_weights_to_user(list(weights.values()))
         return self._answer("weight_in", ("weights_in", kind or records.ANY, str(since), str(until)), dict(zip(weights, told)))

@@ -2,9 +2,11 @@
 expiries, windows, loads, held sessions and rebases. Comparisons are made again with faults that are planted, and have to find
 them."""
 import csv
+import io
 import os
 import unittest
 import warnings
+from contextlib import redirect_stderr
 from unittest import mock
 
 from graphs import NAMES, Play
@@ -328,6 +330,33 @@ class Calls(Case):
         for call in (session.edges, lambda: session.out_of("a"), lambda: list(edges), lambda: len(session),
                      lambda: "a" in session):
             self.refused(misteluk.SessionClosed, "version 1 is closed", call)
+
+    def test_progress(self):
+        """At a terminal it is told of many edges: while they are sorted for the first question, and while they are asked for."""
+        class Terminal(io.StringIO):
+            def isatty(self):
+                return True
+        store = self.store()
+        store.load([(f"s{it % 300}", f"t{it}") for it in range(25_000)], by="set", progress=False)
+        session = store.open()
+        calls_ = [("sorting edges", lambda **how: session.into("t7") and None), ("asking for edges", session.weights_in)]
+        for word, call in calls_:
+            with redirect_stderr(Terminal()) as told:
+                call()
+            self.assertIn(word, told.getvalue())
+        calls_ = [session.weights_in, lambda **how: session.to_csv(self.room / "x", **how),
+                  lambda **how: session.save(self.room / "s", **how)]
+        calls_ += [session.edges_frame] if pandas else []
+        calls_ += [session.to_networkx] if networkx else []
+        for call in calls_:
+            for how, is_told in (({}, False), ({"progress": True}, True)):
+                with redirect_stderr(io.StringIO()) as told:
+                    call(**how)
+                self.assertEqual("asking for edges" in told.getvalue(), is_told)
+        with redirect_stderr(Terminal()) as told:
+            self.assertEqual(len(list(session.edges())), 25_000)
+            self.store("insert k a b 1 1").open().weights_in()
+        self.assertEqual(told.getvalue(), "")  # (what goes through edges may print itself; and few edges take no time)
 
     def test_a_name_is_a_text(self):
         """A frame's numbers are loaded as texts, so they are asked for as texts."""
