@@ -54,8 +54,8 @@ class Commands(CommandCase):
 
     def test_load_and_ask_of_a_vertex_and_of_all(self):
         """Neighbors have an edge out, an edge in, or both; within is along edges; edges are all, the heaviest first."""
-        self.load("neighbors a: 2 neighbors\n  b out weight 5 first 10 recent 13, in none\n  c out weight 2 first 11 recent 11, in "
-                  "none", "--add", "--ask", "neighbors a")
+        self.load("neighbors a: 2 neighbors\n  b out weight 5 first 10 recent 13, in none\n  c out weight 2 first 11 recent 11, "
+                  "in none", "--add", "--ask", "neighbors a")
         self.load("neighbors c link: 2 neighbors\n  d out weight 3 first 12 recent 12, in none", "--add", "--ask",
                   "neighbors c link", "--top", "1")
         self.load("within a 1: 3 reached\n  a 0\n  b 1\n  c 1\nwithin a 2 link: 4 reached\n  a 0\n  b 1\n  c 1\n  d 2", "--add",
@@ -80,7 +80,8 @@ class Commands(CommandCase):
         status, out, _ = self.run_it("restore", saved, "--edges", packed, "--since", "14")
         self.assertEqual((status, out.splitlines()[1]), (0, f"{packed}: 1 edge of version 1"))
         self.assertEqual(gzip.open(packed, "rt").read().splitlines(), [wanted[0], wanted[4]])
-        for wrong in (("--edges", self.room / "e.zip"), ("--edges", self.room / "none" / "e.csv"), ("--edges", path, "--dry-run")):
+        for wrong in (("--edges", self.room / "e.zip"), ("--edges", self.room / "none" / "e.csv"),
+                      ("--edges", path, "--dry-run")):
             status, out, err = self.run_it("load", self.file("p.csv", PAIRS), *OF_PAIRS, "--add", *wrong)
             self.assertEqual((status, out), (1, ""), err)
 
@@ -144,7 +145,8 @@ class Commands(CommandCase):
                                 "load", self.file("a.csv", ""), "--add")),
                             ("blocks is from 16", ("load", path, *OF_PAIRS, "--add", "--blocks", "7")),
                             ("NoVertex (record", ("load", path, *OF_PAIRS, "--add", "--levels", "z")),
-                            ("--save and --edges are for what was loaded", ("load", path, *OF_PAIRS, "--add", "--dry-run", "--save", "x")),
+                            ("--save and --edges are for what was loaded",
+                             ("load", path, *OF_PAIRS, "--add", "--dry-run", "--save", "x")),
                             ("No such file", ("load", path, *OF_PAIRS, "--add", "--save", "/no/such/x")),
                             ("No such file", ("restore", "/no/such")),
                             ("wants --edge", ("picture", "edge", path, *OF_PAIRS, "--add", "-o", "x.svg"))):

@@ -461,12 +461,13 @@ class Browsers(Case):
         self.assertEqual(seen["order"], ["1", "1", "1", "1", "0", "–"])
 
     def test_no_border_cuts_a_name(self):
-        """Whether it is seen always, while it is pointed at, or bold: of 300 vertices with the widest names, most have no room."""
+        """Whether it is seen always, while it is pointed at, or bold: of 300 vertices with the widest names most have no room."""
         store = self.store(*(f"insert k hub {'W' * 20}{it} 1 1" for it in range(299)))
         page = view(store.open(), "hub", most=300).html
         look = ("<script>const cut = [];\nfor (const it of document.querySelectorAll('.picture .name')) {\n"
                 "    it.style.fontWeight = 600;\n    const box = it.getBBox();\n"
-                "    if (box.x < 0 || box.x + box.width > it.ownerSVGElement.viewBox.baseVal.width) cut.push(it.textContent);\n}\n"
+                "    const wide = it.ownerSVGElement.viewBox.baseVal.width;\n"
+                "    if (box.x < 0 || box.x + box.width > wide) cut.push(it.textContent);\n}\n"
                 "const count = document.querySelectorAll('.picture .name').length;\n"
                 "document.body.textContent = JSON.stringify({cut, count});</script>")
         dumped = browse(self.file("wide.html", page.replace("</body>", look + "</body>")), "--dump-dom", WIDE)

@@ -192,8 +192,8 @@ class Calls(Case):
                     self.assertEqual(store.records_sent - before, wanted)
 
     def test_an_edge_is_asked_for_once(self):
-        """A second export, another window and a save take a table each, and no record for an edge that was told. What is committed
-        meanwhile, or asked of another session, changes nothing."""
+        """A second export, another window and a save take a table each, and no record for an edge that was told. What is
+        committed meanwhile, or asked of another session, changes nothing."""
         store = self.store(*(f"insert k s{it} t{it % 10} {it} {it}" for it in range(300)), "insert l a b 1 1")
         session, left = store.open(), store.records_left
         wanted = sorted(session.edges())
