@@ -44,7 +44,7 @@ def read(words: argparse.Namespace, ahead: Optional[Ahead] = None) -> Survey:
     return found
 
 
-def make_store(words: argparse.Namespace, found: Survey, holds: bool = False) -> Store:
+def make_store(words: argparse.Namespace, found: Survey, holds: bool = False) -> Store[Any, Any]:
     """A store with the blocks that are said, or else enough; as many as there can be where old versions are held."""
     blocks = words.blocks or (records.MOST_BLOCKS if holds else found.fitting())
     return Store(blocks=blocks, program=words.program, timeout=words.timeout)
@@ -63,7 +63,7 @@ def run_load(words: argparse.Namespace) -> int:
     must_be_place(words.save)
     must_be_place(words.edges)
     with ExitStack() as stack:
-        def start(blocks: int = records.MOST_BLOCKS) -> Store:
+        def start(blocks: int = records.MOST_BLOCKS) -> Store[Any, Any]:
             return stack.enter_context(Store(blocks=blocks, program=words.program, timeout=words.timeout))
 
         only_counts = words.script or words.dry_run
@@ -95,7 +95,7 @@ def must_be_place(path: Optional[str]) -> None:
         files.place_of(path)
 
 
-def do_then(words: argparse.Namespace, store: Store) -> None:
+def do_then(words: argparse.Namespace, store: Store[Any, Any]) -> None:
     """Saves and asks what is to be saved and asked of the last version, and gives a prompt where one is wanted."""
     with store.open() as session:
         if words.save:
@@ -124,7 +124,7 @@ def tell(words: argparse.Namespace, found: Survey) -> None:
             print(f"  {len(found.terms.names)} names and kinds stand in it as ids, ~~ and 20 signs")
 
 
-def answer(words: argparse.Namespace, session: Session, is_part: bool = False) -> Iterator[str]:
+def answer(words: argparse.Namespace, session: Session[Any, Any], is_part: bool = False) -> Iterator[str]:
     """The lines of what is asked for. A part of a fleet needn't have the names."""
     questions: List[Question] = [*words.ask]
     questions += [Question(f"levels from {shown(it)}", "levels", (it,)) for it in words.levels]
@@ -204,7 +204,7 @@ def run_around_saved(words: argparse.Namespace) -> int:
     return 0
 
 
-def draw_last(words: argparse.Namespace, store: Store, found: Survey) -> Any:
+def draw_last(words: argparse.Namespace, store: Store[Any, Any], found: Survey) -> Any:
     store.load(found, by=words.by, skip_bad=words.skip_bad)
     more = {} if words.title is None else {"title": words.title}
     with store.open() as session:
@@ -223,7 +223,7 @@ def named_edge(text: str) -> List[str]:
     return edge
 
 
-def draw_versions(words: argparse.Namespace, store: Store, found: Survey) -> Any:
+def draw_versions(words: argparse.Namespace, store: Store[Any, Any], found: Survey) -> Any:
     """Pictures that need more than the last version: sessions are opened between batches."""
     steps = load_in_steps(store, found, skip_bad=words.skip_bad)
     if words.what == "edge":
@@ -234,7 +234,7 @@ def draw_versions(words: argparse.Namespace, store: Store, found: Survey) -> Any
                 it = session.edges([(edge[0], edge[1], edge[2])], missing=None)[0]
                 weights.append((session.version, it.weight if it else None))
         return pictures.edge_weights(weights, words.title or f"{edge[1]} to {edge[2]} ({edge[0]})")
-    first: Optional[Session] = None
+    first: Optional[Session[Any, Any]] = None
     for at, _ in enumerate(steps, 1):
         if at == (words.first or max(1, len(found.parts) // 2)):
             first = store.open()

@@ -3,7 +3,7 @@ from __future__ import annotations
 
 import warnings
 import weakref
-from typing import TYPE_CHECKING, Callable, Dict, List, Optional, Sequence, Tuple
+from typing import TYPE_CHECKING, Any, Callable, Dict, List, Optional, Sequence, Tuple
 
 from . import records
 from .answers import Stat, numbers
@@ -39,7 +39,7 @@ class Asking:
     _calls: Calls
     _terms: Terms
     _closed: bool
-    _sessions: "Dict[int, weakref.ref[Session]]"
+    _sessions: "Dict[int, weakref.ref[Session[Any, Any]]]"
     _orphans: List[Tuple[int, Awaited]]
     _index: Index
     # Whether it was told that few records are left.

@@ -7,7 +7,7 @@ doesn't come in its order gets a loop edge, which is inserted and removed.
 """
 from __future__ import annotations
 
-from typing import TYPE_CHECKING, Callable, Dict, Iterable, Iterator, List, NamedTuple, Optional, Sequence, Tuple
+from typing import TYPE_CHECKING, Any, Callable, Dict, Iterable, Iterator, List, NamedTuple, Optional, Sequence, Tuple
 
 from . import records
 from .answers import Edge
@@ -61,7 +61,7 @@ def rows_of(table: Sequence[str]) -> List[Row]:
 
 
 def content_of(slot: int, table: Sequence[str], kinds: Sequence[str], candidates: Iterable[Ends], ask: Ask,
-               told: Optional[Callable[[Sequence[Ends]], List[Optional[Edge]]]] = None) -> Content:
+               told: Optional[Callable[[Sequence[Ends]], List[Optional[Edge[int, int]]]]] = None) -> Content:
     """What the version holds whose session is in the slot. `table` are the lines of its degrees over all kinds and times, `kinds`
     and `candidates` all that it may have; `told` gives its edges, where some were told before. Raises `StoreError` where its
     edges are others than what was found."""
@@ -75,15 +75,15 @@ def content_of(slot: int, table: Sequence[str], kinds: Sequence[str], candidates
     return Content(known, [it.name for it in rows], edges)
 
 
-def _edges_of(slot: int, asked: Sequence[Ends], ask: Ask, quoted: "Quoted") -> List[Optional[Edge]]:
+def _edges_of(slot: int, asked: Sequence[Ends], ask: Ask, quoted: "Quoted") -> List[Optional[Edge[int, int]]]:
     """The edges; `None` for those that the version hasn't."""
     answers = ask([f"edge,{slot},{quoted[kind]},{quoted[source]},{quoted[target]}\n" for kind, source, target in asked])
     return [None if it.word else edge_of(it.head or "") for it in answers]
 
 
-def content_of_session(session: "Session", progress: Optional[bool] = None) -> Content:
+def content_of_session(session: "Session[Any, Any]", progress: Optional[bool] = None) -> Content:
     """What the version holds that a session holds."""
-    def told(asked: Sequence[Ends]) -> List[Optional[Edge]]:
+    def told(asked: Sequence[Ends]) -> List[Optional[Edge[int, int]]]:
         ends = told_of(asked, "asking for edges", len(asked), progress)
         return [edge for part in parts_of(ends, ASK_AT_ONCE) for edge in session._asked(part)]
     table = session._ask(("deg", str(session.slot), *WHOLE.split(",")), lambda _: session.names).rows

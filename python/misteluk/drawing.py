@@ -179,7 +179,7 @@ class Drawing:
         return (f'<svg class="picture{many}" viewBox="0 0 {WIDTH:.0f} {HEIGHT:.0f}" role="group" aria-label="{escape(told)}">\n'
                 f"<g>\n{''.join(edges)}</g>\n<g>\n{''.join(vertices)}</g>\n</svg>")
 
-    def _edge(self, key: Key, edge: Edge) -> str:
+    def _edge(self, key: Key, edge: Edge[Any, Any]) -> str:
         kind, source, target = key
         state, drawn = self.states[key], self.curves[key]
         told = f"{shown(source)} \N{RIGHTWARDS ARROW} {shown(target)}: {text_of(edge.weight)}\n{shown(kind)}, first " \

@@ -3,10 +3,10 @@ from __future__ import annotations
 
 import csv
 from datetime import datetime
-from typing import TYPE_CHECKING, Any, Iterable, Iterator, List, Mapping, Optional, Sequence, Tuple, Union, overload
+from typing import TYPE_CHECKING, Any, Iterable, Iterator, List, Mapping, Optional, Sequence, Tuple, TypeVar, Union, overload
 
 from . import records
-from .answers import Degree, Edge
+from .answers import Degree, Edge, T, W
 from .errors import BadName, Missing
 from .files import whole_text
 from .finding import Path
@@ -19,27 +19,31 @@ if TYPE_CHECKING:
     import networkx
     import pandas
 
+M = TypeVar("M")
 # Edges as they are told, one after another.
-Told = Iterator[Tuple[str, str, str, Edge]]
+Told = Iterator[Tuple[str, str, str, "Edge[W, T]"]]
 HEADER = ("kind", "source", "target", *Edge._fields)
 
 
-class Exporting(Walking):
+class Exporting(Walking[W, T]):
     """The edges of a version. All of them take one record for each that the store was told of; a call says at once, with the
     numbers, where a run's records aren't enough for that."""
 
     @overload
-    def edges(self, asked: Iterable[Tuple[str, str, str]], *, missing: Any = RAISE) -> "List[Any]": ...
+    def edges(self, asked: str, *, since: Moment = 0, until: Moment = records.MOST_TIME) -> "Told[W, T]": ...
 
     @overload
-    def edges(self, asked: str, *, since: Moment = 0, until: Moment = records.MOST_TIME) -> "Told": ...
+    def edges(self, asked: Iterable[Tuple[str, str, str]]) -> "List[Optional[Edge[W, T]]]": ...
+
+    @overload
+    def edges(self, asked: Iterable[Tuple[str, str, str]], *, missing: M) -> "List[Union[Edge[W, T], None, M]]": ...
 
     @overload
     def edges(self, asked: None = None, *, kind: Optional[str] = None, since: Moment = 0,
-              until: Moment = records.MOST_TIME) -> "Told": ...
+              until: Moment = records.MOST_TIME) -> "Told[W, T]": ...
 
     def edges(self, asked: Union[str, Iterable[Tuple[str, str, str]], None] = None, *, missing: Any = RAISE,
-              kind: Optional[str] = None, since: Moment = 0, until: Moment = records.MOST_TIME) -> "Union[List[Any], Told]":
+              kind: Optional[str] = None, since: Moment = 0, until: Moment = records.MOST_TIME) -> "Union[List[Any], Told[W, T]]":
         """All edges, or those that are asked for.
 
         Without `asked`, or where it is a text, a kind, an iterator of (kind, source, target, `Edge`), of a kind and a window
@@ -58,11 +62,11 @@ class Exporting(Walking):
         found = self._edges(list(map(_ends, asked)), missing)
         return [self._told(it) if isinstance(it, Edge) else it for it in found]
 
-    def _told_edges(self, kind: Optional[str], since: Moment, until: Moment) -> "Told":
+    def _told_edges(self, kind: Optional[str], since: Moment, until: Moment) -> "Told[W, T]":
         """All edges in the user's terms. (A generator would look for room at its first step alone.)"""
         return self._in_terms(self._every_edge(kind, since, until)[1])
 
-    def _in_terms(self, edges: "Iterator[Tuple[Ends, Edge]]") -> "Told":
+    def _in_terms(self, edges: "Iterator[Tuple[Ends, Edge[int, int]]]") -> "Told[W, T]":
         to_user, told = self.store._terms.names.to_user, self.store._terms.told_edge
         return ((to_user(kind), to_user(source), to_user(target), told(edge)) for (kind, source, target), edge in edges)
 
@@ -130,7 +134,7 @@ class Exporting(Walking):
         return True
 
 
-def _count(degrees: Mapping[str, Degree]) -> int:
+def _count(degrees: "Mapping[str, Degree[Any]]") -> int:
     return sum(it.out for it in degrees.values())
 
 

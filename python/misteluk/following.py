@@ -106,7 +106,7 @@ class Following(Iterator[Followed]):
     goes on behind it. `stop` may be called by any thread and a signal's handler: what was read goes in, and the steps end.
     """
 
-    def __init__(self, store: "Store", incoming: Incoming, count: Count, pace: Pace, progress: Optional[bool]) -> None:
+    def __init__(self, store: "Store[Any, Any]", incoming: Incoming, count: Count, pace: Pace, progress: Optional[bool]) -> None:
         self.store, self.name = store, incoming.name
         self._incoming, self._source, self._count, self._pace = incoming, incoming.source, count, pace
         # Rows that were read, the lines of those that are pending, and since when the first of these is.
@@ -305,7 +305,7 @@ class Following(Iterator[Followed]):
         return f"<Following of {self.name}: {self._in} rows in, {len(self._lines)} pending>"
 
 
-def follow(store: "Store", feed: Union[Path, Opened], *, by: str, every: Span = 1.0, keep: Optional[Span] = None,
+def follow(store: "Store[Any, Any]", feed: Union[Path, Opened], *, by: str, every: Span = 1.0, keep: Optional[Span] = None,
            batch: int = records.MOST_OPERATIONS, until_end: bool = False, skip_bad: bool = False,
            progress: Optional[bool] = None, weight_scale: Optional[int] = None, times: Optional[str] = None,
            names: str = "plain", format: Optional[str] = None, columns: Columns = Columns(), delimiter: Optional[str] = None,

@@ -2,7 +2,7 @@
 from __future__ import annotations
 
 import warnings
-from typing import TYPE_CHECKING
+from typing import TYPE_CHECKING, Any
 
 from . import records
 from .asking import FOR_AN_EXPORT
@@ -38,7 +38,7 @@ def check(found: "Survey", *, skip_bad: bool = False, collect: bool = True) -> N
         raise OverLimit(f"{found.feed} has {'; '.join(over)}. Nothing is loaded", found.counts())
 
 
-def check_room(store: "Store", found: "Survey", used: int, count: int) -> None:
+def check_room(store: "Store[Any, Any]", found: "Survey", used: int, count: int) -> None:
     """Raises where the store's blocks can't be enough: the edges before a batch take at least those that they need alone, or
     those in use now."""
     needed = found.needed_beside(used)
@@ -52,7 +52,7 @@ def check_room(store: "Store", found: "Survey", used: int, count: int) -> None:
     _warn_of_records(store, found, store.records_left - count)
 
 
-def _warn_of_records(store: "Store", found: "Survey", left: int) -> None:
+def _warn_of_records(store: "Store[Any, Any]", found: "Survey", left: int) -> None:
     """Warns before a load that leaves too few records to ask for all its edges twice, or once."""
     needed = found.edges + FOR_AN_EXPORT
     if not store._endless and not store._is_near and left < 2 * needed:
@@ -63,7 +63,7 @@ def _warn_of_records(store: "Store", found: "Survey", left: int) -> None:
                       stacklevel=2)
 
 
-def _room_advice(store: "Store", found: "Survey", used: int) -> str:
+def _room_advice(store: "Store[Any, Any]", found: "Survey", used: int) -> str:
     """What helps where a store has too few blocks: more of them where there can be, and smaller batches where they fit."""
     needed = found.needed_beside(used)
     more = f"Make the store with blocks={needed} or more" if needed <= records.MOST_BLOCKS else ""

@@ -292,7 +292,7 @@ def survey(data: Any, *, by: str, batch: int = records.MOST_OPERATIONS, progress
     return counter.survey()
 
 
-def load(store: "Store", data: Any, *, by: str, batch: int = records.MOST_OPERATIONS, collect: bool = True,
+def load(store: "Store[Any, Any]", data: Any, *, by: str, batch: int = records.MOST_OPERATIONS, collect: bool = True,
          skip_bad: bool = False, progress: Optional[bool] = None, ahead: Optional[Ahead] = None,
          weight_scale: Optional[int] = None, times: Optional[str] = None, names: str = "plain", format: Optional[str] = None,
          columns: Columns = Columns(), delimiter: Optional[str] = None, header: Optional[bool] = None,
@@ -335,7 +335,7 @@ def load(store: "Store", data: Any, *, by: str, batch: int = records.MOST_OPERAT
     return Loaded(store._sum(receipts) if receipts else None, found, found.records(collect), found.seconds + sending, sending)
 
 
-def load_in_steps(store: "Store", found: Survey, *, collect: bool = True, skip_bad: bool = False,
+def load_in_steps(store: "Store[Any, Any]", found: Survey, *, collect: bool = True, skip_bad: bool = False,
                   ahead: Optional[Ahead] = None) -> Iterator[Commit]:
     """Loads a survey batch by batch: what each did is given before the next is sent, so that sessions can be opened between."""
     check(found, skip_bad=skip_bad, collect=collect)
@@ -350,13 +350,13 @@ def load_in_steps(store: "Store", found: Survey, *, collect: bool = True, skip_b
         yield store._calls.make(partial(_send, store, found, at, collect, at == sent))
 
 
-def _tell(store: "Store", found: Survey) -> None:
+def _tell(store: "Store[Any, Any]", found: Survey) -> None:
     """Tells a store the names, units and kinds of a feed."""
     store._take_terms(found.terms)
     store._kinds.update(dict.fromkeys(found.kinds))
 
 
-def _send(store: "Store", found: Survey, at: int, collect: bool, is_first: bool) -> Commit:
+def _send(store: "Store[Any, Any]", found: Survey, at: int, collect: bool, is_first: bool) -> Commit:
     """Sends one batch of a feed, and waits for what it did. The store has the feed's terms with the first one, or not at all."""
     if is_first:
         _tell(store, found)
@@ -364,7 +364,7 @@ def _send(store: "Store", found: Survey, at: int, collect: bool, is_first: bool)
     return land(store, found.feed, found.parts, at)
 
 
-def _prepare(store: "Store", found: Survey, collect: bool) -> None:
+def _prepare(store: "Store[Any, Any]", found: Survey, collect: bool) -> None:
     """Raises where the store can't take the feed as it is."""
     if store.pending:
         text = f"{store.pending} operations are pending: commit or discard them before a load"

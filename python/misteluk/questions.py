@@ -27,7 +27,7 @@ class Question(NamedTuple):
     names: Tuple[str, ...] = ()
     kind: Optional[str] = None
 
-    def asked(self, session: Session, top: int, column: str, window: Dict[str, Any]) -> Dict[str, Any]:
+    def asked(self, session: Session[Any, Any], top: int, column: str, window: Dict[str, Any]) -> Dict[str, Any]:
         """The answer, with at most `top` rows of a table; what went wrong where the version has no such name or kind."""
         try:
             return _ANSWERS[self.what](self, session, top, column, window)
@@ -59,7 +59,7 @@ def _window(it: Question, window: Dict[str, Any]) -> Dict[str, Any]:
     return {**window, "kind": it.kind} if it.kind else window
 
 
-def _table(it: Question, session: Session, top: int, column: str, window: Dict[str, Any]) -> Dict[str, Any]:
+def _table(it: Question, session: Session[Any, Any], top: int, column: str, window: Dict[str, Any]) -> Dict[str, Any]:
     table: Any = getattr(session, it.what)(**_window(it, window))
     by = None if it.what == "cores" else column
     rows = [{"name": name, **(value._asdict() if by else {"core": value})} for name, value in table.most(top, by)]
@@ -67,7 +67,7 @@ def _table(it: Question, session: Session, top: int, column: str, window: Dict[s
     return {"names": len(table), **told, "most": rows}
 
 
-def _components(it: Question, session: Session, top: int, _: str, window: Dict[str, Any]) -> Dict[str, Any]:
+def _components(it: Question, session: Session[Any, Any], top: int, _: str, window: Dict[str, Any]) -> Dict[str, Any]:
     labels = session.components(**_window(it, window))
     sizes: Dict[str, int] = {}
     for label in labels.values():
@@ -76,7 +76,7 @@ def _components(it: Question, session: Session, top: int, _: str, window: Dict[s
     return {"components": len(sizes), "names": len(labels), "most": [{"name": name, "size": size} for name, size in most]}
 
 
-def _levels(it: Question, session: Session, _: int, __: str, window: Dict[str, Any]) -> Dict[str, Any]:
+def _levels(it: Question, session: Session[Any, Any], _: int, __: str, window: Dict[str, Any]) -> Dict[str, Any]:
     levels = session.levels(it.names[0], **_window(it, window))
     counts = [0] * (max(levels.values()) + 1)
     for level in levels.values():
@@ -84,36 +84,36 @@ def _levels(it: Question, session: Session, _: int, __: str, window: Dict[str, A
     return {"reached": len(levels), "levels": counts}
 
 
-def _beside(it: Question, session: Session, top: int, _: str, window: Dict[str, Any]) -> Dict[str, Any]:
-    edges: Dict[str, Edge] = getattr(session, it.what)(it.names[0], **_window(it, window))
+def _beside(it: Question, session: Session[Any, Any], top: int, _: str, window: Dict[str, Any]) -> Dict[str, Any]:
+    edges: Dict[str, Edge[Any, Any]] = getattr(session, it.what)(it.names[0], **_window(it, window))
     most = sorted(edges.items(), key=_weight, reverse=True)[:top]
     return {"edges": len(edges), "most": [{"name": name, **edge._asdict()} for name, edge in most]}
 
 
-def _weight(row: Tuple[str, Edge]) -> Any:
+def _weight(row: Tuple[str, Edge[Any, Any]]) -> Any:
     return row[1].weight
 
 
-def _weight_either_way(row: Tuple[str, Neighbor]) -> Any:
+def _weight_either_way(row: Tuple[str, Neighbor[Any, Any]]) -> Any:
     return sum(edge.weight for edge in row[1] if edge)
 
 
-def _weight_of_edge(row: Tuple[str, str, str, Edge]) -> Any:
+def _weight_of_edge(row: Tuple[str, str, str, Edge[Any, Any]]) -> Any:
     return row[3].weight
 
 
-def _path(it: Question, session: Session, _: int, __: str, window: Dict[str, Any]) -> Dict[str, Any]:
+def _path(it: Question, session: Session[Any, Any], _: int, __: str, window: Dict[str, Any]) -> Dict[str, Any]:
     source, target = it.names
     return {"path": session.path(source, target, **_window(it, window))}
 
 
-def _edge(it: Question, session: Session, _: int, __: str, ___: Dict[str, Any]) -> Dict[str, Any]:
+def _edge(it: Question, session: Session[Any, Any], _: int, __: str, ___: Dict[str, Any]) -> Dict[str, Any]:
     kind, source, target = it.names
     edge = session.edge(kind, source, target)
     return {"edge": None if edge is None else edge._asdict()}
 
 
-def _neighbors(it: Question, session: Session, top: int, _: str, window: Dict[str, Any]) -> Dict[str, Any]:
+def _neighbors(it: Question, session: Session[Any, Any], top: int, _: str, window: Dict[str, Any]) -> Dict[str, Any]:
     """The neighbors with the most weight either way first."""
     found = session.neighbors(it.names[0], **_window(it, window))
     most = sorted(found.items(), key=_weight_either_way, reverse=True)[:top]
@@ -121,14 +121,14 @@ def _neighbors(it: Question, session: Session, top: int, _: str, window: Dict[st
                                                                  both._asdict().items()}} for name, both in most]}
 
 
-def _within(it: Question, session: Session, top: int, _: str, window: Dict[str, Any]) -> Dict[str, Any]:
+def _within(it: Question, session: Session[Any, Any], top: int, _: str, window: Dict[str, Any]) -> Dict[str, Any]:
     """The vertices that are reached, the nearest first."""
     found = session.within(it.names[0], int(it.names[1]), **_window(it, window))
     nearest = sorted(found.items(), key=lambda row: row[1])[:top]
     return {"reached": len(found), "most": [{"name": name, "level": level} for name, level in nearest]}
 
 
-def _edges(it: Question, session: Session, top: int, _: str, window: Dict[str, Any]) -> Dict[str, Any]:
+def _edges(it: Question, session: Session[Any, Any], top: int, _: str, window: Dict[str, Any]) -> Dict[str, Any]:
     """The edges with the greatest weights."""
     found = list(session.edges(**_window(it, window)))
     most = sorted(found, key=_weight_of_edge, reverse=True)[:top]
@@ -199,6 +199,6 @@ def for_json(value: Any) -> Any:
     raise TypeError(f"{type(value).__name__} has no form in JSON")
 
 
-def all_lines(asked: Question, session: Session, top: int, column: str, window: Dict[str, Any]) -> List[str]:
+def all_lines(asked: Question, session: Session[Any, Any], top: int, column: str, window: Dict[str, Any]) -> List[str]:
     """The lines of an answer, where each name and kind has to be there."""
     return list(lines(asked, _ANSWERS[asked.what](asked, session, top, column, window), top))

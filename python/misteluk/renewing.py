@@ -9,7 +9,7 @@ from __future__ import annotations
 import time
 import warnings
 from functools import partial
-from typing import TYPE_CHECKING, Callable, Dict, List, NamedTuple, Optional, Sequence, Tuple
+from typing import TYPE_CHECKING, Any, Callable, Dict, List, NamedTuple, Optional, Sequence, Tuple
 
 from . import records
 from .answers import Commit, Edge, Rebased, Stat, numbers
@@ -68,10 +68,10 @@ class Renewing(Batches):
     # copy took.
     _edges = _versions_before = _copied = 0
     # A rebase that was sent, and whether what it did is counted.
-    _rebasing: "Optional[Tuple[Session, Awaited]]" = None
+    _rebasing: "Optional[Tuple[Session[Any, Any], Awaited]]" = None
     _is_rebase_counted = False
     # What began anew with a session of a former program, and wasn't told.
-    _begun: "Optional[Tuple[Session, Rebased]]" = None
+    _begun: "Optional[Tuple[Session[Any, Any], Rebased]]" = None
     # How many edges were too many to go on in a new program, or 0.
     _too_many = 0
     _is_sent_anew = _has_failed = _is_warned = False
@@ -240,7 +240,7 @@ class Renewing(Batches):
         """Tells the sessions that hold this version its edges: the reading took the records by which they would have asked."""
         sessions = [it for it in (held() for held in self._sessions.values()) if it is not None and it.version == version]
         if sessions:
-            kept: Dict[Tuple[str, str, str], Optional[Edge]] = dict.fromkeys(candidates)
+            kept: Dict[Tuple[str, str, str], Optional[Edge[int, int]]] = dict.fromkeys(candidates)
             kept.update(((kind, source, target), Edge(*told)) for kind, source, target, *told in content.edges)
             for it in sessions:
                 it._kept = kept
@@ -293,7 +293,7 @@ class Renewing(Batches):
         former.let_go()
         return former
 
-    def _begin_anew_with(self, session: "Session") -> Rebased:
+    def _begin_anew_with(self, session: "Session[Any, Any]") -> Rebased:
         """Begins anew, in a new program, with all that a session of a former one holds, as version 0. Closes all sessions. What
         was not told, since an interrupt came, the same call tells the next time."""
         if self._begun is not None and self._begun[0] is session:

@@ -10,7 +10,7 @@ import hashlib
 import os
 import re
 from array import array
-from typing import TYPE_CHECKING, Callable, Dict, List, NamedTuple, Optional, Sequence, Set, Tuple
+from typing import TYPE_CHECKING, Any, Callable, Dict, List, NamedTuple, Optional, Sequence, Set, Tuple
 from urllib.parse import unquote
 
 from . import files, records
@@ -109,7 +109,7 @@ class Room:
         return size
 
 
-def save(session: "Session", path: Path, progress: Optional[bool] = None) -> Saved:
+def save(session: "Session[Any, Any]", path: Path, progress: Optional[bool] = None) -> Saved:
     """Writes the version that the session holds as one file. See `Session.save`."""
     ending = files.ending_of(path)
     files.place_of(path)
@@ -127,7 +127,7 @@ def save(session: "Session", path: Path, progress: Optional[bool] = None) -> Sav
     return done
 
 
-def _must_have_room(session: "Session") -> None:
+def _must_have_room(session: "Session[Any, Any]") -> None:
     """Raises where the run can't take a record for each edge and kind that is to be asked for."""
     session._must_be_open()
     candidates = session.store._candidates()
@@ -158,7 +158,7 @@ def _script(head: str, operations: Sequence[str], size: int) -> bytes:
     return f"{_OPENING}i,{KIND},form:{FORM},{hashlib.sha256(told).hexdigest()},0,0\n".encode("ascii") + told
 
 
-def _head(session: "Session", content: Content, needed: int) -> str:
+def _head(session: "Session[Any, Any]", content: Content, needed: int) -> str:
     """What is told of the file behind its digest. It goes in batches, of which each is let go before the next one, so that few
     names and blocks are enough."""
     store, units = session.store, session.store.units
@@ -223,8 +223,8 @@ def _told(head: str) -> Tuple[Dict[str, str], Dict[str, str]]:
     return facts, {it: unquote(text) for it, text in pieces.items() if it.startswith(MARK)}
 
 
-def restore(path: Path, make: "Callable[[int, Optional[int], Optional[str]], Store]", blocks: Optional[int],
-            progress: Optional[bool]) -> "Store":
+def restore(path: Path, make: "Callable[[int, Optional[int], Optional[str]], Store[Any, Any]]", blocks: Optional[int],
+            progress: Optional[bool]) -> "Store[Any, Any]":
     """A store of a saved file. `make` makes it, with so many blocks, and a weight scale and times where those are said. See
     `Store.restore`."""
     found = read(path)
@@ -233,7 +233,7 @@ def restore(path: Path, make: "Callable[[int, Optional[int], Optional[str]], Sto
         blocks = found.count("blocks") if room.batch(found.count("blocks")) else room.fitting()
     size = _batch(os.fspath(path), found, room, blocks)
     scale = int(found.facts["weight_scale"]) if "weight_scale" in found.facts else None
-    store: Optional[Store] = None
+    store: Optional[Store[Any, Any]] = None
     try:
         store = make(blocks, scale, found.facts.get("times"))
         _fill(store, found, size, Progress(f"restoring {os.fspath(path)}", len(found.operations), progress))
@@ -247,7 +247,7 @@ def restore(path: Path, make: "Callable[[int, Optional[int], Optional[str]], Sto
         raise
 
 
-def _fill(store: "Store", found: Found, size: int, told: Progress) -> None:
+def _fill(store: "Store[Any, Any]", found: Found, size: int, told: Progress) -> None:
     """Applies a file's operations, in batches of this size, to an empty store, and takes its names and kinds."""
     store._terms.names.put(found.texts)
     # (an endless store would go on in a new program without names that have no edge yet)

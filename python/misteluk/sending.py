@@ -20,9 +20,9 @@ class Ahead:
     it has is of no use where the rest of the feed can't be taken.
     """
 
-    def __init__(self, start: "Callable[[], Store]", skip_bad: bool = False) -> None:
+    def __init__(self, start: "Callable[[], Store[Any, Any]]", skip_bad: bool = False) -> None:
         self.start, self.skip_bad = start, skip_bad
-        self.store: "Optional[Store]" = None
+        self.store: "Optional[Store[Any, Any]]" = None
         self.sent = 0
         self.receipts: List[Commit] = []
         self.fault: Optional[StoreError] = None
@@ -36,7 +36,7 @@ class Ahead:
             self.store = self.store or self.start()
             self.store._calls.make(partial(self._send, self.store, count.feed, count.parts[self.sent]))
 
-    def _send(self, store: "Store", feed: str, part: Part) -> None:
+    def _send(self, store: "Store[Any, Any]", feed: str, part: Part) -> None:
         """Sends the next batch and counts it, in one call, so that no interrupt comes between the two."""
         launch(store, feed, part, True)
         self.sent += 1
@@ -62,12 +62,12 @@ class Ahead:
             raise self.fault
 
 
-def launch(store: "Store", feed: str, part: Part, collect: bool) -> None:
+def launch(store: "Store[Any, Any]", feed: str, part: Part, collect: bool) -> None:
     """Sends one batch of a feed."""
     store._launch(part.text, len(part.lines), collect, lambda it: Place(feed, part.lines[it]), rows=part.rows)
 
 
-def land(store: "Store", feed: str, parts: List[Part], at: int) -> Commit:
+def land(store: "Store[Any, Any]", feed: str, parts: List[Part], at: int) -> Commit:
     """What one batch of a feed did that was sent; a refusal says which lines are not in."""
     part = parts[at]
     try:

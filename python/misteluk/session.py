@@ -3,6 +3,7 @@ from __future__ import annotations
 
 from typing import TYPE_CHECKING, Optional
 
+from .answers import T, W
 from .calls import talks
 from .exporting import Exporting
 from .finding import Path
@@ -12,7 +13,7 @@ if TYPE_CHECKING:
     from .store import Store
 
 
-class Session(Exporting):
+class Session(Exporting[W, T]):
     """Holds a version: every answer is that version's, whatever is committed meanwhile. Close it, or use it in a `with`: a
     session that is open keeps blocks from being freed.
 
@@ -29,7 +30,7 @@ class Session(Exporting):
     greater.
     """
 
-    def __init__(self, store: "Store", slot: int, version: int, names: int) -> None:
+    def __init__(self, store: "Store[W, T]", slot: int, version: int, names: int) -> None:
         self.store, self.slot, self.version, self.names = store, slot, version, names
         self._is_open = True
         self._kept = {}
@@ -63,7 +64,7 @@ class Session(Exporting):
             self.store._sessions.pop(self.slot, None)
             self.store._ask(("close", str(self.slot)))
 
-    def __enter__(self) -> "Session":
+    def __enter__(self) -> "Session[W, T]":
         return self
 
     def __exit__(self, *_: object) -> None:

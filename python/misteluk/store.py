@@ -3,12 +3,14 @@ from __future__ import annotations
 
 import warnings
 import weakref
+from datetime import datetime
+from decimal import Decimal
 from functools import partial
 from types import TracebackType
-from typing import TYPE_CHECKING, Any, Dict, List, Optional, Sequence, Tuple, Type
+from typing import TYPE_CHECKING, Any, Dict, Generic, List, Literal, Optional, Sequence, Tuple, Type, overload
 
 from . import records
-from .answers import Collected, Commit, Rebased, Stat, numbers
+from .answers import Collected, Commit, Rebased, Stat, T, W, numbers
 from .asking import within
 from .batches import Flight
 from .calls import Calls, talks
@@ -31,7 +33,7 @@ if TYPE_CHECKING:
 START_SECONDS = 900.0
 
 
-class Store(Renewing):
+class Store(Renewing, Generic[W, T]):
     """A graph that changes by batches, in a program of its own; sessions hold versions of it.
 
         with Store() as store:
@@ -66,6 +68,55 @@ class Store(Renewing):
     A fork can't use the store, and leaves its program alone.
     """
 
+    # What a type checker knows of weights and times: all where the store says its units. Where it says none, the first load may.
+    @overload
+    def __init__(self: "Store[int, int]", *, weight_scale: Literal[1], times: Optional[Literal["number"]] = None,
+                 decimals: str = "decimal", blocks: int = ..., seats: int = ..., workers: int = ...,
+                 program: Optional[Path] = None, timeout: float = ..., endless: bool = False,
+                 rounding: Optional[str] = None) -> None: ...
+
+    @overload
+    def __init__(self: "Store[int, int]", *, weight_scale: Optional[Literal[1]] = None, times: Literal["number"],
+                 decimals: str = "decimal", blocks: int = ..., seats: int = ..., workers: int = ...,
+                 program: Optional[Path] = None, timeout: float = ..., endless: bool = False,
+                 rounding: Optional[str] = None) -> None: ...
+
+    @overload
+    def __init__(self: "Store[int, datetime]", *, weight_scale: Optional[Literal[1]] = None, times: Literal["iso"],
+                 decimals: str = "decimal", blocks: int = ..., seats: int = ..., workers: int = ...,
+                 program: Optional[Path] = None, timeout: float = ..., endless: bool = False,
+                 rounding: Optional[str] = None) -> None: ...
+
+    @overload
+    def __init__(self: "Store[Decimal, int]", *, weight_scale: int, times: Optional[Literal["number"]] = None,
+                 decimals: Literal["decimal"] = "decimal", blocks: int = ..., seats: int = ..., workers: int = ...,
+                 program: Optional[Path] = None, timeout: float = ..., endless: bool = False,
+                 rounding: Optional[str] = None) -> None: ...
+
+    @overload
+    def __init__(self: "Store[Decimal, datetime]", *, weight_scale: int, times: Literal["iso"],
+                 decimals: Literal["decimal"] = "decimal", blocks: int = ..., seats: int = ..., workers: int = ...,
+                 program: Optional[Path] = None, timeout: float = ..., endless: bool = False,
+                 rounding: Optional[str] = None) -> None: ...
+
+    @overload
+    def __init__(self: "Store[float, int]", *, weight_scale: int, times: Optional[Literal["number"]] = None,
+                 decimals: Literal["float"], blocks: int = ..., seats: int = ..., workers: int = ...,
+                 program: Optional[Path] = None, timeout: float = ..., endless: bool = False,
+                 rounding: Optional[str] = None) -> None: ...
+
+    @overload
+    def __init__(self: "Store[float, datetime]", *, weight_scale: int, times: Literal["iso"],
+                 decimals: Literal["float"], blocks: int = ..., seats: int = ..., workers: int = ...,
+                 program: Optional[Path] = None, timeout: float = ..., endless: bool = False,
+                 rounding: Optional[str] = None) -> None: ...
+
+    @overload
+    def __init__(self: "Store[Any, Any]", *, weight_scale: Optional[int] = None, times: Optional[str] = None,
+                 decimals: str = "decimal", blocks: int = ..., seats: int = ..., workers: int = ...,
+                 program: Optional[Path] = None, timeout: float = ..., endless: bool = False,
+                 rounding: Optional[str] = None) -> None: ...
+
     def __init__(self, *, blocks: int = records.USUAL_BLOCKS, seats: int = records.USUAL_SEATS,
                  workers: int = records.USUAL_WORKERS, program: Optional[Path] = None, timeout: float = 60.0,
                  weight_scale: Optional[int] = None, times: Optional[str] = None, decimals: str = "decimal",
@@ -86,7 +137,7 @@ class Store(Renewing):
         self._pending: List[str] = []
         self._untold: List[Commit] = []
         self._unsaid: List[str] = []
-        self._sessions: Dict[int, "weakref.ref[Session]"] = {}
+        self._sessions: Dict[int, "weakref.ref[Session[Any, Any]]"] = {}
         self._kinds: Dict[str, None] = {}
         self._flight: Optional[Flight] = None
         self._orphans: List[Tuple[int, Awaited]] = []
@@ -143,7 +194,7 @@ class Store(Renewing):
     def restore(cls, path: Path, *, blocks: Optional[int] = None, seats: int = records.USUAL_SEATS,
                 workers: int = records.USUAL_WORKERS, program: Optional[Path] = None, timeout: float = 60.0,
                 decimals: str = "decimal", endless: bool = False, progress: Optional[bool] = None,
-                rounding: Optional[str] = None) -> "Store":
+                rounding: Optional[str] = None) -> "Store[Any, Any]":
         """A store with the version that `Session.save` wrote into the file. Every request of it is answered as that version's
         were; its own versions count anew. It has the units and names of the store that was saved, and as many blocks, or more
         where the copy finds no room in them, unless `blocks` says how many. The other options are those of `Store`. The records
@@ -154,7 +205,7 @@ class Store(Renewing):
         shows or hides a bar; without it a terminal has one."""
         from .saving import restore
 
-        def make(found: int, weight_scale: Optional[int], times: Optional[str]) -> "Store":
+        def make(found: int, weight_scale: Optional[int], times: Optional[str]) -> "Store[Any, Any]":
             return cls(blocks=found, seats=seats, workers=workers, program=program, timeout=timeout, weight_scale=weight_scale,
                        times=times, decimals=decimals, endless=endless, rounding=rounding)
         return restore(path, make, blocks, progress)
@@ -168,7 +219,7 @@ class Store(Renewing):
         found = Collected(*numbers(self._ask(("collect",)).head or "", "collect", 3))
         return found._replace(floor=found.floor + self._made_before())
 
-    def rebase(self, session: "Session") -> Rebased:
+    def rebase(self, session: "Session[Any, Any]") -> Rebased:
         """Begins the store anew with the graph of the version that the session holds, which is version 0 from then on.
 
         What was applied before is let go, with its memory, and batches are counted anew. All sessions are closed, and what is
@@ -185,7 +236,7 @@ class Store(Renewing):
             self._rebasing = session, answers[0]
         return self._calls.make(lambda: self._rebase(session, answers), untaken=keep)
 
-    def _rebase(self, session: "Session", answers: List[Awaited]) -> Rebased:
+    def _rebase(self, session: "Session[Any, Any]", answers: List[Awaited]) -> Rebased:
         if self._rebasing is None or self._rebasing[0] is not session:
             self._send_rebase(session)
         assert self._rebasing
@@ -195,7 +246,7 @@ class Store(Renewing):
         self._check(answers[0], ("rebase", str(session.slot)))
         return Rebased(*numbers(answers[0].head or "", "rebase", 4))
 
-    def _send_rebase(self, session: "Session") -> None:
+    def _send_rebase(self, session: "Session[Any, Any]") -> None:
         """Sends a rebase, which closes all sessions: none is asked behind it."""
         if session.store is not self:
             raise ValueError(f"{session!r} is another store's")
@@ -210,7 +261,7 @@ class Store(Renewing):
         self._is_rebase_counted = False
 
     @talks
-    def open(self, slot: Optional[int] = None) -> "Session":
+    def open(self, slot: Optional[int] = None) -> "Session[W, T]":
         """A session that holds the last version, in the first free slot or in that one. One that nobody has any more, as where
         an interrupt came before it was given, is closed by the next `open`, `commit` or `collect`."""
         self._let_orphans_go()
@@ -231,7 +282,7 @@ class Store(Renewing):
         self._orphans.pop()
         self._check(opened, ("open", str(at)))
         names = Stat(*numbers(stat.head or "", "stat", 6)).names
-        session = Session(self, at, numbers(opened.head or "", "open", 1)[0] + self._made_before(), names)
+        session: "Session[W, T]" = Session(self, at, numbers(opened.head or "", "open", 1)[0] + self._made_before(), names)
         self._sessions[at] = weakref.ref(session)
         return session
 
@@ -281,7 +332,7 @@ class Store(Renewing):
                 session._is_open = False
         self._sessions.clear()
 
-    def __enter__(self) -> "Store":
+    def __enter__(self) -> "Store[W, T]":
         return self
 
     def __exit__(self, kind: Optional[Type[BaseException]], fault: Optional[BaseException],

@@ -1,10 +1,10 @@
 """Requests of a version that a session holds, and the tables that answer them."""
 from __future__ import annotations
 
-from typing import TYPE_CHECKING, Any, Callable, Dict, List, Optional, Sequence, Tuple, TypeVar
+from typing import TYPE_CHECKING, Any, Callable, Dict, Generic, List, Optional, Sequence, Tuple, TypeVar
 
 from . import records
-from .answers import Answer, Degree, Edge, numbers
+from .answers import Answer, Degree, Edge, T, W, numbers
 from .calls import Calls, talks
 from .errors import Misread, NoKind, NoVertex, SessionClosed
 from .program import Awaited, Exchange, one_line
@@ -17,10 +17,10 @@ V = TypeVar("V")
 RAISE: Any = object()
 
 
-class Tables:
+class Tables(Generic[W, T]):
     """What a session asks by, one request each."""
 
-    store: "Store"
+    store: "Store[W, T]"
     slot: int
     version: int
     names: int
@@ -45,7 +45,7 @@ class Tables:
         names, cores = self._columns(self._table(asked), 2)
         return self._answer("core", asked, dict(zip(names, map(int, cores))))
 
-    def degrees(self, kind: Optional[str] = None, since: Moment = 0, until: Moment = records.MOST_TIME) -> Answer[Degree]:
+    def degrees(self, kind: Optional[str] = None, since: Moment = 0, until: Moment = records.MOST_TIME) -> "Answer[Degree[W]]":
         """For each vertex how many edges go out and come in, and the weight that goes out."""
         asked = ("deg", str(self.slot), kind or records.ANY, str(since), str(until))
         names, *counts = self._columns(self._table(asked), 4)
@@ -53,7 +53,7 @@ class Tables:
         weights = self.store._terms.units.all_weights_to_user(sums)
         return self._answer("degree", asked, dict(zip(names, map(Degree, out, into, weights))))
 
-    def edge(self, kind: str, source: str, target: str) -> Optional[Edge]:
+    def edge(self, kind: str, source: str, target: str) -> "Optional[Edge[W, T]]":
         """One edge, or `None`. Raises `NoKind` or `NoVertex` for names that the version doesn't have."""
         asked = ("edge", str(self.slot), kind, source, target)
         now = self._calls.at_once(self._ask_now, asked)
@@ -69,7 +69,7 @@ class Tables:
                 self.store._check(it, question)
         return [missing if it.word else edge_of(it.head or "") for it in answers]
 
-    def _told(self, edge: Optional[Edge]) -> Optional[Edge]:
+    def _told(self, edge: "Optional[Edge[int, int]]") -> "Optional[Edge[W, T]]":
         """The edge in the store's units."""
         return None if edge is None else self.store._terms.told_edge(edge)
 
@@ -126,6 +126,6 @@ def _columns(rows: List[str], count: int) -> List[List[str]]:
     return [fields[at::count] for at in range(count)]
 
 
-def edge_of(head: str) -> Optional[Edge]:
+def edge_of(head: str) -> "Optional[Edge[int, int]]":
     fields = head.split(" ")[2:]
     return None if fields == ["none"] else Edge(*map(int, fields))

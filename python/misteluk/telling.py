@@ -64,7 +64,7 @@ def leave_output() -> None:
 class Teller:
     """Tells of the steps of a feed that is followed, and asks behind each."""
 
-    def __init__(self, words: argparse.Namespace, store: Store, following: Following) -> None:
+    def __init__(self, words: argparse.Namespace, store: Store[Any, Any], following: Following) -> None:
         self.words, self.store, self.following = words, store, following
         self.units = store.units
         self.within = kept_time(words.within, self.units, "within")
@@ -125,7 +125,7 @@ class Teller:
         self.faults_told = len(faults)
 
 
-def follow(words: argparse.Namespace, store: Store, how: Dict[str, Any]) -> int:
+def follow(words: argparse.Namespace, store: Store[Any, Any], how: Dict[str, Any]) -> int:
     """Follows a feed and tells of it, until it ends or is ended."""
     with store.follow(words.file, every=words.every, keep=words.keep, until_end=words.until_end, skip_bad=words.skip_bad,
                       batch=words.batch, **how) as following:

@@ -1,7 +1,7 @@
 """What a store's user says and is told, and what the program has for it: names by a table, weights and times by units."""
 from __future__ import annotations
 
-from typing import Callable, Dict, List, Optional, Sequence, Tuple
+from typing import Any, Callable, Dict, List, Optional, Sequence, Tuple
 
 from . import records
 from .answers import Edge
@@ -92,7 +92,7 @@ class Terms:
             self.units.time_to_user if field in records.TIME_FIELDS else None)
         return value if turn is None else str(turn(int(value)))
 
-    def told_edge(self, edge: Edge) -> Edge:
+    def told_edge(self, edge: Edge[int, int]) -> Edge[Any, Any]:
         """The edge, with its weight and times in the units."""
         if self.units.are_plain:
             return edge

@@ -5,7 +5,7 @@ from itertools import islice
 from typing import Any, Callable, Dict, Iterable, Iterator, List, NamedTuple, Optional, Sequence, Tuple
 
 from . import records
-from .answers import Answer, Degree, Edge, Neighbor
+from .answers import Answer, Degree, Edge, Neighbor, T, W
 from .asking import ASK_AT_ONCE
 from .calls import talks
 from .candidates import Candidates
@@ -30,7 +30,7 @@ class View(NamedTuple):
     since: int
     until: int
 
-    def has(self, edge: Edge) -> bool:
+    def has(self, edge: "Edge[int, int]") -> bool:
         return bool(self.since <= edge.recent <= self.until)
 
     def out_of(self, name: str) -> Iterator[Ends]:
@@ -42,32 +42,32 @@ class View(NamedTuple):
             yield from ((kind, it, name) for it in self.candidates.into(kind, name))
 
 
-class Walking(Tables):
+class Walking(Tables[W, T]):
     """Calls that go from vertex to vertex. Each edge that there may be is asked for, one record each, and once."""
 
     # What the session was told: the version's edge, with the program's numbers, or `None` where it has none.
-    _kept: Dict[Ends, Optional[Edge]]
+    _kept: "Dict[Ends, Optional[Edge[int, int]]]"
 
     def out_of(self, source: str, kind: Optional[str] = None, since: Moment = 0,
-               until: Moment = records.MOST_TIME) -> Dict[str, Edge]:
+               until: Moment = records.MOST_TIME) -> "Dict[str, Edge[W, T]]":
         """The edges that go out of the source, by target: one record for each that the store was told of. Of several kinds to one
         target the weights are summed, with the least first time and the greatest recent one."""
         return self._told_ends(self._ends(source, kind, since, until, is_out=True)[0])
 
     def into(self, target: str, kind: Optional[str] = None, since: Moment = 0,
-             until: Moment = records.MOST_TIME) -> Dict[str, Edge]:
+             until: Moment = records.MOST_TIME) -> "Dict[str, Edge[W, T]]":
         """Who sends to the target: the edges that come in, by source; as `out_of`."""
         return self._told_ends(self._ends(target, kind, since, until, is_in=True)[1])
 
     def neighbors(self, vertex: str, kind: Optional[str] = None, since: Moment = 0,
-                  until: Moment = records.MOST_TIME) -> Dict[str, Neighbor]:
+                  until: Moment = records.MOST_TIME) -> "Dict[str, Neighbor[W, T]]":
         """The vertices that an edge joins to this one, in either direction, each with the edge to it and the edge from it; as
         `out_of` and `into`."""
         out, into = map(self._told_ends, self._ends(vertex, kind, since, until, is_out=True, is_in=True))
         return {it: Neighbor(out.get(it), into.get(it)) for it in {**out, **into}}
 
     def weights_in(self, kind: Optional[str] = None, since: Moment = 0, until: Moment = records.MOST_TIME, *,
-                   progress: Optional[bool] = None) -> "Answer[Any]":
+                   progress: Optional[bool] = None) -> "Answer[W]":
         """For each vertex the weight that comes in: one record for each edge that the store was told of (see `edges`).
         `progress` shows or hides a bar; without it a terminal has one where there are many edges."""
         degrees, edges = self._every_edge(kind, since, until)
@@ -150,14 +150,14 @@ class Walking(Tables):
 
     @talks
     def _ends(self, vertex: str, kind: Optional[str], since: Moment, until: Moment, is_out: bool = False,
-              is_in: bool = False) -> Tuple[Dict[str, Edge], Dict[str, Edge]]:
+              is_in: bool = False) -> "Tuple[Dict[str, Edge[int, int]], Dict[str, Edge[int, int]]]":
         """The edges out of a vertex by target, and those into it by source, in the program's names and numbers."""
         view = self._view(vertex, kind, since, until)
         name = self.store._terms.names.to_program(vertex, keep=False)
         asked = list(dict.fromkeys([*(view.out_of(name) if is_out else ()), *(view.into(name) if is_in else ())]))
         self._make_room_for(lambda: asked)
-        out: Dict[str, Edge] = {}
-        into: Dict[str, Edge] = {}
+        out: "Dict[str, Edge[int, int]]" = {}
+        into: "Dict[str, Edge[int, int]]" = {}
         for (_, source, target), edge in self._found(asked, view):
             if is_out and source == name:
                 out[target] = _both(out[target], edge) if target in out else edge
@@ -167,11 +167,11 @@ class Walking(Tables):
             self._must_have(vertex, view.kinds)
         return out, into
 
-    def _told_ends(self, found: Dict[str, Edge]) -> Dict[str, Edge]:
+    def _told_ends(self, found: "Dict[str, Edge[int, int]]") -> "Dict[str, Edge[W, T]]":
         terms = self.store._terms
         return {terms.names.to_user(name): terms.told_edge(edge) for name, edge in found.items()}
 
-    def _found(self, asked: Iterable[Ends], view: View) -> Iterator[Tuple[Ends, Edge]]:
+    def _found(self, asked: Iterable[Ends], view: View) -> "Iterator[Tuple[Ends, Edge[int, int]]]":
         """Those edges that the version has, with the program's numbers. Names that it doesn't have are those of others."""
         given = iter(asked)
         for part in iter(lambda: list(islice(given, ASK_AT_ONCE)), []):
@@ -179,7 +179,7 @@ class Walking(Tables):
                 if edge is not None and view.has(edge):
                     yield ends, edge
 
-    def _asked(self, ends: Sequence[Ends]) -> List[Optional[Edge]]:
+    def _asked(self, ends: Sequence[Ends]) -> "List[Optional[Edge[int, int]]]":
         """The edges with the program's names and numbers; `None` where the version has none, or not the names. Those that were
         told before aren't asked for."""
         self._must_be_open()
@@ -205,7 +205,7 @@ class Walking(Tables):
             self.store._make_room(self._unasked(ends()) + more)
 
     def _every_edge(self, kind: Optional[str], since: Moment,
-                    until: Moment) -> "Tuple[Answer[Degree], Iterator[Tuple[Ends, Edge]]]":
+                    until: Moment) -> "Tuple[Answer[Degree[W]], Iterator[Tuple[Ends, Edge[int, int]]]]":
         """The degrees of a view, and all its edges, with the program's names and numbers. Room for them is looked for before
         anything is sent; they are asked for as they are taken. Raises `Incomplete` behind the last where they aren't as many as
         the program says, and so not all."""
@@ -215,7 +215,7 @@ class Walking(Tables):
         found = self._found(view.candidates.of_kinds(view.kinds), view)
         return degrees, self._counted(found, sum(it.out for it in degrees.values()))
 
-    def _counted(self, edges: Iterator[Tuple[Ends, Edge]], count: int) -> Iterator[Tuple[Ends, Edge]]:
+    def _counted(self, edges: "Iterator[Tuple[Ends, Edge[int, int]]]", count: int) -> "Iterator[Tuple[Ends, Edge[int, int]]]":
         found = 0
         for found, it in enumerate(edges, 1):
             yield it
@@ -238,6 +238,6 @@ class Walking(Tables):
         return NoKind.word if len(kinds) == 1 and words == [NoKind.word] else NoVertex.word
 
 
-def _both(edge: Edge, other: Edge) -> Edge:
+def _both(edge: "Edge[int, int]", other: "Edge[int, int]") -> "Edge[int, int]":
     """Two edges of one source and target as one."""
     return Edge(edge.weight + other.weight, min(edge.first, other.first), max(edge.recent, other.recent))
