@@ -229,7 +229,12 @@ class NotRenewed(StoreError):
 
 
 class NearLimit(UserWarning):
-    """An endless store has nearly as many edges as can go into a new program, or more."""
+    """All edges can be asked for once more by a session, or not any more, and the run's records are then too few; or an endless
+    store has nearly as many edges as can go into a new program, or more."""
+
+
+class LeftOut(UserWarning):
+    """A graph has nodes without an edge: a store has the names of edges alone, and they aren't loaded."""
 
 
 class Uncommitted(StoreError):

@@ -14,7 +14,7 @@ from .values import records
 from .values.answers import Commit, Stat
 from .values.names import must_be_texts
 from .values.terms import Terms
-from .values.units import Units
+from .values.units import Units, whole_text
 
 
 # What a store takes of a feed: its terms and kinds.
@@ -53,7 +53,7 @@ class Ledger:
             raise StoreError("the store is closed")
         must_be_texts(fields[1:4] if len(fields) > 2 else ())
         if not (records.is_plain_operation(plain) and self.terms.is_as_it_is(plain)):
-            plain = self.terms.record([str(it) for it in fields])
+            plain = self.terms.record([whole_text(it) for it in fields])
         self.units_are_set = True
         if len(fields) > 2:
             self.kinds.setdefault(str(fields[1]))
@@ -78,7 +78,8 @@ class Ledger:
     def terms_for(self, weight_scale: Optional[int], times: Optional[str]) -> Terms:
         """The terms of a feed in the units that are said, or in the store's. Raises `ValueError` where the store has others."""
         mine = self.terms.units
-        said = Units(mine.weight_scale if weight_scale is None else weight_scale, times or mine.times, mine.decimals)
+        said = Units(mine.weight_scale if weight_scale is None else weight_scale, times or mine.times, mine.decimals,
+                     mine.rounding)
         self.must_agree(said)
         return Terms(self.terms.names, said)
 
@@ -94,7 +95,7 @@ class Ledger:
 
     def _take(self, terms: Terms, kinds: Sequence[str] = ()) -> None:
         self.terms.names.take(terms.names)
-        self.terms.units = terms.units._replace(decimals=self.terms.units.decimals)
+        self.terms.units = terms.units._replace(decimals=self.terms.units.decimals, rounding=self.terms.units.rounding)
         self.units_are_set = True
         self.kinds.update(dict.fromkeys(kinds))
 

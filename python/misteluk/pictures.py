@@ -61,7 +61,7 @@ def save(figure: Any, path: Union[str, "os.PathLike[str]"]) -> None:
         figure.savefig(path, format=form, bbox_inches="tight", dpi=150, metadata={"Date": None} if form == "svg" else None)
 
 
-def degree_distribution(degrees: Mapping[str, Degree], title: str = "Degrees") -> Any:
+def degree_distribution(degrees: Mapping[str, Degree[Any]], title: str = "Degrees") -> Any:
     """How many vertices have each degree, out and in, on logarithmic axes; degree 0 is said in the legend."""
     figure, axes = _figure(title, "edges at a vertex", "vertices")
     for way, color, mark in (("out", FIRST, "o"), ("into", SECOND, "x")):

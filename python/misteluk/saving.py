@@ -10,7 +10,7 @@ import hashlib
 import os
 import re
 from array import array
-from typing import TYPE_CHECKING, Callable, Dict, List, NamedTuple, Optional, Sequence, Set, Tuple
+from typing import TYPE_CHECKING, Any, Callable, Dict, List, NamedTuple, Optional, Sequence, Set, Tuple
 from urllib.parse import unquote
 
 from . import files
@@ -18,7 +18,7 @@ from . import files
 from .values import records
 from .engine.copies import Content, content_of, operations_of
 from .engine.protocol import Batch
-from .errors import OverLimit, PoolEmpty, SaveFault, StoreError
+from .errors import Missing, OverLimit, PoolEmpty, SaveFault, StoreError
 from .feeds.feed import escaped, parts_of
 from .engine.finding import Path
 from .values.names import MARK
@@ -35,6 +35,8 @@ FORM = 1
 KIND = "misteluk"
 _OPENING, _REBASE = "open,0\n", "commit\nrebase,0\n"
 _BEGINNING = re.compile(rb"open,0\ni,misteluk,form:(\d{1,9}),([0-9a-f]{64}),0,0\n")
+# How many bytes that has at most: the rest of a packed file isn't unpacked before it is seen to be one.
+_MOST_BEGINNING = 200
 # The head's last insertion, and what comes behind it.
 _END = f"i,{KIND},end,of-head,0,0\n{_REBASE}"
 _WRITTEN_AT_ONCE = 1 << 20
@@ -110,7 +112,7 @@ class Room:
         return size
 
 
-def save(session: "Session", path: Path) -> Saved:
+def save(session: "Session[Any, Any]", path: Path, progress: Optional[bool] = None) -> Saved:
     """Writes the version that the session holds as one file. See `Session.save`."""
     ending = files.ending_of(path)
     files.place_of(path)
@@ -135,7 +137,7 @@ def _script(head: str, operations: Sequence[str], size: int) -> bytes:
     return f"{_OPENING}i,{KIND},form:{FORM},{hashlib.sha256(told).hexdigest()},0,0\n".encode("ascii") + told
 
 
-def _head(session: "Session", content: Content, needed: int) -> str:
+def _head(session: "Session[Any, Any]", content: Content, needed: int) -> str:
     """What is told of the file behind its digest. It goes in batches, of which each is let go before the next one, so that few
     names and blocks are enough."""
     store, units = session.store, session.store.units
@@ -159,6 +161,16 @@ def _pieces(text: str) -> List[str]:
 
 # What is read.
 
+def is_saved(path: Path) -> bool:
+    """Whether a file begins as those that `save` writes do. Raises `OSError` where there is none."""
+    with open(path, "rb") as file:
+        data = file.read()
+    try:
+        return _BEGINNING.match(files.unpacked(data, os.fspath(path), _MOST_BEGINNING)) is not None
+    except (SaveFault, Missing):
+        return False
+
+
 def read(path: Path) -> Found:
     """What a saved file has."""
     with open(path, "rb") as file:
@@ -167,13 +179,12 @@ def read(path: Path) -> Found:
 
 def found_in(data: bytes, name: str) -> Found:
     """What a saved file has, whose bytes these are. Raises `SaveFault` where it is none, or isn't as it was written."""
-    data = files.unpacked(data, name)
-    found = _BEGINNING.match(data)
+    found = _BEGINNING.match(files.unpacked(data, name, _MOST_BEGINNING))
     if not found:
         raise SaveFault(f"{name} is no saved version: it doesn't begin as those that Session.save writes. Nothing is restored")
     if int(found[1]) != FORM:
         raise SaveFault(f"{name} is of form {int(found[1])}, and this package knows form {FORM}. Nothing is restored")
-    told = data[found.end():]
+    told = files.unpacked(data, name)[found.end():]
     if hashlib.sha256(told).hexdigest().encode("ascii") != found[2]:
         raise SaveFault(f"{name} is damaged or cut: its digest is another than that of what it has. Nothing is restored")
     head, _, body = told.decode("ascii").partition(_END)
@@ -191,8 +202,8 @@ def _told(head: str) -> Tuple[Dict[str, str], Dict[str, str]]:
     return facts, {it: unquote(text) for it, text in pieces.items() if it.startswith(MARK)}
 
 
-def restore(path: Path, make: "Callable[[int, Optional[int], Optional[str]], Store]", blocks: Optional[int],
-            progress: Optional[bool]) -> "Store":
+def restore(path: Path, make: "Callable[[int, Optional[int], Optional[str]], Store[Any, Any]]", blocks: Optional[int],
+            progress: Optional[bool]) -> "Store[Any, Any]":
     """A store of a saved file. `make` makes it, with so many blocks, and a weight scale and times where those are said. See
     `Store.restore`."""
     found = read(path)
@@ -201,7 +212,7 @@ def restore(path: Path, make: "Callable[[int, Optional[int], Optional[str]], Sto
         blocks = found.count("blocks") if room.batch(found.count("blocks")) else room.fitting()
     size = _batch(os.fspath(path), found, room, blocks)
     scale = int(found.facts["weight_scale"]) if "weight_scale" in found.facts else None
-    store: Optional[Store] = None
+    store: Optional[Store[Any, Any]] = None
     try:
         store = make(blocks, scale, found.facts.get("times"))
         _must_fit(store, os.fspath(path), found, size)
@@ -216,7 +227,7 @@ def restore(path: Path, make: "Callable[[int, Optional[int], Optional[str]], Sto
         raise
 
 
-def _fill(store: "Store", found: Found, size: int, told: Progress) -> None:
+def _fill(store: "Store[Any, Any]", found: Found, size: int, told: Progress) -> None:
     """Applies a file's operations, in batches of this size, to an empty store, and takes its names and kinds."""
     ledger = store.ledger
     ledger.terms.names.put(found.texts)
@@ -237,7 +248,7 @@ def _batch(name: str, found: Found, room: Room, blocks: int) -> int:
     return size
 
 
-def _must_fit(store: "Store", name: str, found: Found, size: int) -> None:
+def _must_fit(store: "Store[Any, Any]", name: str, found: Found, size: int) -> None:
     """Raises where a program's records aren't enough."""
     count, left = len(found.operations) + 2 * -(-len(found.operations) // (size or 1)) + 2, store.records_left
     if left is not None and count > left:

@@ -5,14 +5,14 @@ import csv
 from array import array
 from datetime import datetime
 from operator import add
-from typing import TYPE_CHECKING, Any, Callable, Dict, Iterable, Iterator, List, Optional, Sequence, Tuple, TypeVar, Union, overload
+from typing import TYPE_CHECKING, Any, Callable, Dict, Generic, Iterable, Iterator, List, Optional, Sequence, Tuple, TypeVar, Union, overload
 
 from .engine.finding import Path
 from .engine.protocol import Arrays, Denied, Scope, Version
 from .errors import BadName, Incomplete, Missing, NoKind, NoVertex, SessionClosed, refusal
 from .files import whole_text
 from .values import records
-from .values.answers import Answer, Column, Degree, Edge, Neighbor, degrees
+from .values.answers import Answer, Column, Degree, Edge, Neighbor, T, W, degrees
 from .values.edges import HEADER, Diff, Edges, Told
 from .values.names import must_be_texts, shown
 from .values.terms import Terms
@@ -27,13 +27,13 @@ if TYPE_CHECKING:
     from .saving import Saved
     from .store import Store
 
-T = TypeVar("T")
+R = TypeVar("R")
 RAISE: Any = object()
 # An edge with its ends, as a user names them.
 Ends = Tuple[str, str, str]
 
 
-class Session:
+class Session(Generic[W, T]):
     """Holds a version: every answer is that version's, whatever is committed meanwhile. Close it, or use it in a `with`: a
     session that is open keeps blocks from being freed.
 
@@ -46,7 +46,7 @@ class Session:
     beforehand where too few are left. What was told of all edges once is kept, and costs no record again.
     """
 
-    def __init__(self, store: "Store", held: Version) -> None:
+    def __init__(self, store: "Store[W, T]", held: Version) -> None:
         self.store, self.held = store, held
         self.slot, self.version, self.names = held.slot, held.number, held.count
         self._names: Optional[List[str]] = None
@@ -65,7 +65,7 @@ class Session:
 
     # How the version is asked.
 
-    def _asked(self, call: Callable[..., T], fields: Sequence[str], *given: Any) -> T:
+    def _asked(self, call: Callable[..., R], fields: Sequence[str], *given: Any) -> R:
         """What a call gives. What it denies is told in the user's terms: `fields` say what was asked."""
         try:
             return call(*given)
@@ -126,13 +126,13 @@ class Session:
         scope, asked = self._scope("core", kind, since, until)
         return self._answer("core", asked, {"core": Column(self._asked(self.held.cores, asked, scope))})
 
-    def degrees(self, kind: Optional[str] = None, since: Moment = 0, until: Moment = records.MOST_TIME) -> Answer[Degree]:
+    def degrees(self, kind: Optional[str] = None, since: Moment = 0, until: Moment = records.MOST_TIME) -> Answer[Degree[W]]:
         """For each vertex how many edges go out and come in, and the weight that goes out."""
         scope, asked = self._scope("deg", kind, since, until)
         found = self._asked(self.held.degrees, asked, scope)
         return self._answer("degree", asked, degrees(*found, self._terms.units.weights_told))
 
-    def weights_in(self, kind: Optional[str] = None, since: Moment = 0, until: Moment = records.MOST_TIME) -> "Answer[Any]":
+    def weights_in(self, kind: Optional[str] = None, since: Moment = 0, until: Moment = records.MOST_TIME) -> Answer[W]:
         """For each vertex the weight that comes in."""
         scope, asked = self._scope("deg", kind, since, until)
         found = self._asked(self.held.edges, asked, scope)
@@ -144,7 +144,7 @@ class Session:
 
     # One edge, and all.
 
-    def edge(self, kind: str, source: str, target: str) -> Optional[Edge]:
+    def edge(self, kind: str, source: str, target: str) -> Optional[Edge[W, T]]:
         """One edge, or `None`. Raises `NoKind` or `NoVertex` for names that the version doesn't have."""
         asked = ("edge", str(self.slot), kind, source, target)
         marks = self._asked(self.held.edge, asked, self._ends(asked))
@@ -163,14 +163,14 @@ class Session:
         return kind, source, target
 
     @overload
-    def edges(self, asked: Iterable[Ends], *, missing: T) -> "List[Union[Edge, T, None]]": ...
+    def edges(self, asked: Iterable[Ends], *, missing: R) -> "List[Union[Edge[W, T], R, None]]": ...
 
     @overload
-    def edges(self, asked: Iterable[Ends]) -> "List[Optional[Edge]]": ...
+    def edges(self, asked: Iterable[Ends]) -> "List[Optional[Edge[W, T]]]": ...
 
     @overload
     def edges(self, asked: None = None, *, kind: Optional[str] = None, since: Moment = 0,
-              until: Moment = records.MOST_TIME) -> "Iterator[Told]": ...
+              until: Moment = records.MOST_TIME) -> "Iterator[Tuple[str, str, str, Edge[W, T]]]": ...
 
     def edges(self, asked: Any = None, *, missing: Any = RAISE, kind: Optional[str] = None, since: Moment = 0,
               until: Moment = records.MOST_TIME) -> Any:
@@ -263,7 +263,7 @@ class Session:
                 write((*ends, edge.weight, *map(_time_text, edge[1:])))
         return len(edges)
 
-    def diff(self, later: "Session", kind: Optional[str] = None, since: Moment = 0, until: Moment = records.MOST_TIME) -> Diff:
+    def diff(self, later: "Session[Any, Any]", kind: Optional[str] = None, since: Moment = 0, until: Moment = records.MOST_TIME) -> Diff:
         """What became of this version's edges in a later one, or in another store's with the same units: which are gone, which
         are new, and which have another weight or time. See `misteluk.Diff`."""
         if later.store.units != self.store.units:
@@ -294,18 +294,18 @@ class Session:
         return self._beside(target, kind, since, until, False)
 
     def out_of(self, source: str, kind: Optional[str] = None, since: Moment = 0,
-               until: Moment = records.MOST_TIME) -> Dict[str, Edge]:
+               until: Moment = records.MOST_TIME) -> Dict[str, Edge[W, T]]:
         """The edges that go out of the source, by target. Of several kinds to one target the weights are summed, with the least
         first time and the greatest recent one."""
         return _summed(self.edges_out_of(source, kind, since, until), 2)
 
     def into(self, target: str, kind: Optional[str] = None, since: Moment = 0,
-             until: Moment = records.MOST_TIME) -> Dict[str, Edge]:
+             until: Moment = records.MOST_TIME) -> Dict[str, Edge[W, T]]:
         """Who sends to the target: the edges that come in, by source; as `out_of`."""
         return _summed(self.edges_into(target, kind, since, until), 1)
 
     def neighbors(self, vertex: str, kind: Optional[str] = None, since: Moment = 0,
-                  until: Moment = records.MOST_TIME) -> Dict[str, Neighbor]:
+                  until: Moment = records.MOST_TIME) -> Dict[str, Neighbor[W, T]]:
         """The vertices that an edge joins to this one, in either direction, each with the edge to it and the edge from it; as
         `out_of` and `into`."""
         out, into = self.out_of(vertex, kind, since, until), self.into(vertex, kind, since, until)
@@ -399,7 +399,7 @@ class Session:
         """True: a session without edges is a session."""
         return True
 
-    def save(self, path: Path) -> "Saved":
+    def save(self, path: Path, *, progress: Optional[bool] = None) -> "Saved":
         """Writes the version as one file, of which `Store.restore` makes a store again, and which `stinger run` takes as a
         script, unless it has more than 999,999 records. It is packed where its name ends in .gz, .xz or .bz2, or .zst where the
         package zstandard is there.
@@ -411,14 +411,14 @@ class Session:
         A copy takes two records for an edge whose times differ, for a name that has no edge in its place, and for each batch.
         Raises `OSError` where the file can't be written, and `Missing` where nothing here packs it."""
         from .saving import save
-        return save(self, path)
+        return save(self, path, progress)
 
     def close(self) -> None:
         """Lets the version go."""
         if not self.store.engine.is_elsewhere and not self.store.is_closed:
             self.held.close()
 
-    def __enter__(self) -> "Session":
+    def __enter__(self) -> "Session[W, T]":
         return self
 
     def __exit__(self, *_: object) -> None:
@@ -428,9 +428,9 @@ class Session:
         return f"<Session of version {self.version} in slot {self.slot}: {'open' if self.is_open else 'closed'}>"
 
 
-def _summed(edges: Edges, end: int) -> Dict[str, Edge]:
+def _summed(edges: Edges, end: int) -> Dict[str, Edge[Any, Any]]:
     """Edges by one of their ends; those of several kinds are one."""
-    found: Dict[str, Edge] = {}
+    found: Dict[str, Edge[Any, Any]] = {}
     for *ends, edge in edges:
         name: Any = ends[end]
         other = found.get(name)

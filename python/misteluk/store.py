@@ -3,8 +3,10 @@ from __future__ import annotations
 
 import sys
 import warnings
+from datetime import datetime
+from decimal import Decimal
 from types import TracebackType
-from typing import TYPE_CHECKING, Any, List, Optional, Type
+from typing import TYPE_CHECKING, Any, Generic, List, Literal, Optional, Type, overload
 
 from .engine.finding import Path
 from .engine.guard import put
@@ -15,7 +17,7 @@ from .errors import NoSeat, StoreError, Uncommitted
 from .ledger import Ledger
 from .session import Session
 from .values import records
-from .values.answers import Collected, Commit, Rebased, Renewed, Stat
+from .values.answers import Collected, Commit, Rebased, Renewed, Stat, T, W
 from .values.limits import within
 from .values.units import Amount, Moment, Units
 
@@ -24,7 +26,7 @@ if TYPE_CHECKING:
     from .feeds.loading import Loaded
 
 
-class Store:
+class Store(Generic[W, T]):
     """A graph that changes by batches; sessions hold versions of it.
 
         with Store() as store:
@@ -46,7 +48,8 @@ class Store:
     Any text is a name, of a vertex or a kind, but an empty one; `*` alone is no kind. See `misteluk.names`.
 
     `weight_scale`: weights are decimal numbers of so many parts, as 100 for cents; else whole numbers. It divides a power of ten.
-    A weight is an int, a `Decimal`, a float as it is printed, or a text; `BadWeight` where it is no whole number of parts.
+    A weight is an int, a `Decimal`, a float as it is printed, or a text; `BadWeight` where it is no whole number of parts, unless
+    `rounding="half-even"` rounds it to the nearest one (of two equally near ones to the even one), also in loads.
     `times`: "iso" where times are dates, from 1970 (also where none is said) to 9999; else whole numbers. A date is a `datetime`,
     a `date` or a text, in UTC where it has no zone; `BadTime` where it is finer than microseconds. `decimals`: answers have
     weights as "decimal" (`Decimal`) or "float". Where neither of the first two is said, the first load says both, unless an
@@ -59,17 +62,65 @@ class Store:
     the program: what was applied is known to the next call. A fork can't use the store.
     """
 
+    @overload
+    def __init__(self: "Store[int, int]", *, weight_scale: Literal[1], times: Optional[Literal["number"]] = None,
+                 decimals: str = "decimal", blocks: Optional[int] = None, seats: int = ..., workers: int = ...,
+                 program: Optional[Path] = None, timeout: float = ..., endless: bool = False,
+                 rounding: Optional[str] = None, engine: Optional[str] = None) -> None: ...
+
+    @overload
+    def __init__(self: "Store[int, int]", *, weight_scale: Optional[Literal[1]] = None, times: Literal["number"],
+                 decimals: str = "decimal", blocks: Optional[int] = None, seats: int = ..., workers: int = ...,
+                 program: Optional[Path] = None, timeout: float = ..., endless: bool = False,
+                 rounding: Optional[str] = None, engine: Optional[str] = None) -> None: ...
+
+    @overload
+    def __init__(self: "Store[int, datetime]", *, weight_scale: Optional[Literal[1]] = None, times: Literal["iso"],
+                 decimals: str = "decimal", blocks: Optional[int] = None, seats: int = ..., workers: int = ...,
+                 program: Optional[Path] = None, timeout: float = ..., endless: bool = False,
+                 rounding: Optional[str] = None, engine: Optional[str] = None) -> None: ...
+
+    @overload
+    def __init__(self: "Store[Decimal, int]", *, weight_scale: int, times: Optional[Literal["number"]] = None,
+                 decimals: Literal["decimal"] = "decimal", blocks: Optional[int] = None, seats: int = ..., workers: int = ...,
+                 program: Optional[Path] = None, timeout: float = ..., endless: bool = False,
+                 rounding: Optional[str] = None, engine: Optional[str] = None) -> None: ...
+
+    @overload
+    def __init__(self: "Store[Decimal, datetime]", *, weight_scale: int, times: Literal["iso"],
+                 decimals: Literal["decimal"] = "decimal", blocks: Optional[int] = None, seats: int = ..., workers: int = ...,
+                 program: Optional[Path] = None, timeout: float = ..., endless: bool = False,
+                 rounding: Optional[str] = None, engine: Optional[str] = None) -> None: ...
+
+    @overload
+    def __init__(self: "Store[float, int]", *, weight_scale: int, times: Optional[Literal["number"]] = None,
+                 decimals: Literal["float"], blocks: Optional[int] = None, seats: int = ..., workers: int = ...,
+                 program: Optional[Path] = None, timeout: float = ..., endless: bool = False,
+                 rounding: Optional[str] = None, engine: Optional[str] = None) -> None: ...
+
+    @overload
+    def __init__(self: "Store[float, datetime]", *, weight_scale: int, times: Literal["iso"],
+                 decimals: Literal["float"], blocks: Optional[int] = None, seats: int = ..., workers: int = ...,
+                 program: Optional[Path] = None, timeout: float = ..., endless: bool = False,
+                 rounding: Optional[str] = None, engine: Optional[str] = None) -> None: ...
+
+    @overload
+    def __init__(self: "Store[Any, Any]", *, weight_scale: Optional[int] = None, times: Optional[str] = None,
+                 decimals: str = "decimal", blocks: Optional[int] = None, seats: int = ..., workers: int = ...,
+                 program: Optional[Path] = None, timeout: float = ..., endless: bool = False,
+                 rounding: Optional[str] = None, engine: Optional[str] = None) -> None: ...
+
     def __init__(self, *, blocks: Optional[int] = None, seats: int = records.USUAL_SEATS, workers: int = records.USUAL_WORKERS,
                  program: Optional[Path] = None, timeout: float = 60.0, weight_scale: Optional[int] = None,
                  times: Optional[str] = None, decimals: str = "decimal", endless: bool = False,
-                 engine: Optional[str] = None) -> None:
+                 rounding: Optional[str] = None, engine: Optional[str] = None) -> None:
         self._is_closed = True
-        units = Units(1 if weight_scale is None else weight_scale, times or "number", decimals).checked()
+        units = Units(1 if weight_scale is None else weight_scale, times or "number", decimals, rounding).checked()
         self.engine = make_engine(engine, blocks, seats, workers, program, timeout, endless)
         self.blocks, self.seats = self.engine.blocks, self.engine.seats
         self.ledger = Ledger(self.engine, units, weight_scale is not None or times is not None)
         self._renewals: List[Renewed] = []
-        self._rebasing: Optional[Session] = None
+        self._rebasing: Optional[Session[Any, Any]] = None
         self._is_closed = False
 
     # Operations.
@@ -114,11 +165,11 @@ class Store:
         """Lets the pending operations go, and returns how many they were; those that were sent and not answered stay."""
         return self.ledger.discard()
 
-    def commit(self, *, collect: bool = False, batch: int = records.MOST_OPERATIONS) -> Commit:
+    def commit(self, *, collect: bool = True, batch: int = records.MOST_OPERATIONS) -> Commit:
         """Applies the pending operations, in batches of at most `batch` (4,096 at most), and also where there are none.
 
-        With `collect` each batch is followed by a collection; else blocks are collected where too few are free. A refused batch,
-        and all behind it, stay pending: `PoolEmpty`, `NamesFull`, `KindsFull`, `BatchLimit` say why, and what the batches before
+        Each batch is followed by a collection, as in a load, unless `collect=False` leaves that out. A refused batch, and all
+        behind it, stay pending: `PoolEmpty`, `NamesFull`, `KindsFull`, `BatchLimit` say why, and what the batches before
         it did stands: the exception has it as `applied`. Where an interrupt or `NoAnswer` broke a commit off, a batch that was
         begun is applied once, and those behind it stay pending; the next commit has in its sums what was not told.
         """
@@ -144,7 +195,7 @@ class Store:
                       progress=progress, **read_as)
 
     @classmethod
-    def restore(cls, path: Path, *, blocks: Optional[int] = None, progress: Optional[bool] = None, **options: Any) -> "Store":
+    def restore(cls, path: Path, *, blocks: Optional[int] = None, progress: Optional[bool] = None, **options: Any) -> "Store[Any, Any]":
         """A store with the version that `Session.save` wrote into the file. Every request of it is answered as that version's
         were; its own versions count anew. It has the units and names of the store that was saved, and as many blocks, or more
         where the copy finds no room in them, unless `blocks` says how many. The other options are those of `Store`.
@@ -154,7 +205,7 @@ class Store:
         or hides a bar; without it a terminal has one."""
         from .saving import restore
 
-        def make(found: int, weight_scale: Optional[int], times: Optional[str]) -> "Store":
+        def make(found: int, weight_scale: Optional[int], times: Optional[str]) -> "Store[Any, Any]":
             return cls(blocks=found, weight_scale=weight_scale, times=times, **options)
         return restore(path, make, blocks, progress)
 
@@ -168,7 +219,7 @@ class Store:
         """Frees each replaced block that no open session's version has."""
         return self.engine.collect()
 
-    def open(self, slot: Optional[int] = None) -> Session:
+    def open(self, slot: Optional[int] = None) -> Session[W, T]:
         """A session that holds the last version, in the first free slot or in that one. One that nobody has any more, as where
         an interrupt came before it was given, is closed by the next `open`, `commit` or `collect`."""
         self.ledger.settle()
@@ -183,7 +234,7 @@ class Store:
         except Denied as fault:
             raise self.ledger.terms.denied(fault, ("open", str(slot))) from None
 
-    def rebase(self, session: Session) -> Rebased:
+    def rebase(self, session: Session[Any, Any]) -> Rebased:
         """Begins the store anew with the graph of the version that the session holds, which is version 0 from then on.
 
         What was applied before is let go, with its memory, and batches are counted anew. All sessions are closed, and what is
@@ -257,7 +308,7 @@ class Store:
         self._is_closed = True
         self.engine.kill()
 
-    def __enter__(self) -> "Store":
+    def __enter__(self) -> "Store[W, T]":
         return self
 
     def __exit__(self, kind: Optional[Type[BaseException]], fault: Optional[BaseException],

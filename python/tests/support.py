@@ -9,9 +9,10 @@ import stat
 import subprocess
 import sys
 import tempfile
+import time
 import unittest
 from contextlib import redirect_stderr, redirect_stdout
-from typing import Any, Dict, List, Tuple
+from typing import Any, Callable, Dict, List, Tuple
 
 # Which engine the tests run over: each file of them runs over the one and the other, but those of pipes alone.
 ENGINE = os.environ.setdefault("MISTELUK_ENGINE", "library")
@@ -40,6 +41,15 @@ def words_of(script: bytes) -> Dict[int, str]:
     run = subprocess.run([find_program(), "run", "--blocks", "16"], input=script, stdout=subprocess.PIPE,
                          stderr=subprocess.DEVNULL, timeout=60)
     return {int(number): word.decode() for number, word in re.findall(rb"(?m)^error (\d+) ([A-Z][A-Za-z]+)$", run.stdout)}
+
+
+def as_soon_as(is_so: Callable[[], object], seconds: float = 120.0) -> None:
+    """Waits until that is so. A busy machine may take long; what never comes fails."""
+    end = time.monotonic() + seconds
+    while not is_so():
+        if time.monotonic() > end:
+            raise AssertionError(f"what is waited for didn't come within {seconds:g} s")
+        time.sleep(0.002)
 
 
 class Case(unittest.TestCase):

@@ -11,7 +11,7 @@ from unittest import mock
 
 import interrupting
 from interrupting import handler, interrupt_in_a_call, made_at_once
-from support import ENGINE, OF_PIPES, Case
+from support import ENGINE, OF_PIPES, Case, as_soon_as
 
 import misteluk
 from misteluk import Columns, delimited
@@ -222,21 +222,21 @@ class Following(Case):
                 at.append(time.monotonic())
         thread = threading.Thread(target=run)
         thread.start()
-        begun = time.monotonic()
-        for it in range(40):
-            os.write(write, f"a,b{it},1,{it}\n".encode())
+        begun, rows = time.monotonic(), 0
+        while len(told) < 2:
+            self.assertLess(time.monotonic() - begun, 120)
+            os.write(write, f"a,b{rows},1,{rows}\n".encode())
+            rows += 1
             time.sleep(0.02)
-        while not told or told[-1].rows < 40:
-            self.assertLess(time.monotonic() - begun, 30)
-            time.sleep(0.01)
+        as_soon_as(lambda: told[-1].rows == rows)
         count = len(told)
         time.sleep(2 * every)
         self.assertEqual(len(told), count)
         os.close(write)
-        thread.join(30)
+        thread.join(120)
+        self.assertEqual((len(told), thread.is_alive()), (count, False))
         self.assertGreaterEqual(at[0] - begun, every)
         self.assertTrue(all(after - before >= every for before, after in zip(at, at[1:])), at)
-        self.assertTrue(1 < count < 5, count)
 
     def test_bad_rows(self):
         text = "a,b,1,1\nb,c,2,2\nb,,3,3\nc,d,x,4\nd,e,5,5\n"

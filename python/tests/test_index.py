@@ -11,8 +11,6 @@ from support import ENGINE, OF_PIPES, Case
 
 import misteluk
 from misteluk.engine import candidates, index
-from misteluk.feeds import feed as feeds, loading
-from misteluk.values import records
 from misteluk.engine.candidates import Names
 
 
@@ -174,13 +172,13 @@ class Indexes(Case):
 
     def test_a_batch_without_an_answer(self):
         """Its edges are candidates, and what it removes is still one; when its answer is there it isn't."""
-        store = self.store("insert k a b 1 1", timeout=0.2)
+        store = self.store("insert k a b 1 1")
         store.insert("k", "a", "c")
         store.remove("k", "a", "b")
         process = store.engine.talk.process
         os.kill(process.pid, 19)
         try:
-            with self.assertRaises(misteluk.NoAnswer):
+            with mock.patch.object(store.engine.talk, "timeout", 0.2), self.assertRaises(misteluk.NoAnswer):
                 store.commit()
             self.assertEqual(set(told(store)), {("k", "a", "b"), ("k", "a", "c")})
         finally:
@@ -190,12 +188,12 @@ class Indexes(Case):
 
     def test_a_batch_that_is_refused_after_a_question(self):
         """What was asked before its answer came has its edges, and keeps what it was to remove."""
-        store = self.store(*(f"insert k s{it} t 1 1" for it in range(14)), blocks=16, timeout=0.2)
+        store = self.store(*(f"insert k s{it} t 1 1" for it in range(14)), blocks=16)
         for it in ("s0", "s1", "s2"):
             store.remove("k", it, "t")
         os.kill(store.engine.talk.process.pid, 19)
         try:
-            with self.assertRaises(misteluk.NoAnswer):
+            with mock.patch.object(store.engine.talk, "timeout", 0.2), self.assertRaises(misteluk.NoAnswer):
                 store.commit()
             self.assertEqual(len(told(store)), 14)
         finally:

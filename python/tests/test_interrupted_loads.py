@@ -7,7 +7,7 @@ import signal
 import unittest
 from unittest import mock
 
-from interrupting import handler, interrupt_now, lines
+from interrupting import PATIENCE, alarm_as_soon_as, handler, is_calling, interrupt_now, lines
 from support import ENGINE, OF_PIPES, Case
 
 from misteluk import ledger, Columns, Store, load_in_steps, survey
@@ -26,7 +26,7 @@ class Scene:
 
     def __init__(self, by):
         self.by, self.told = by, []
-        self.store = Store(blocks=64, seats=2, timeout=0.5)
+        self.store = Store(blocks=64, seats=2, **PATIENCE)
         self.store.insert("l", "a", "b", 5, 1)
         self.store.commit()
         self.session = self.store.open()
@@ -75,7 +75,7 @@ class Empty:
     """A store that nothing was told of, and a feed in cents that says its units, and was counted before."""
 
     def __init__(self, _):
-        self.store = Store(blocks=64, timeout=0.5)
+        self.store = Store(blocks=64, **PATIENCE)
         self.found = survey(ROWS, by="add", batch=ROWS_A_BATCH, columns=COLUMNS, weight_scale=100)
 
     def load(self):
@@ -119,8 +119,8 @@ class Loads(Case):
             steps, process = scene.steps(), scene.store.engine.talk.process
             scene.told += itertools.islice(steps, batches)
             process.send_signal(signal.SIGSTOP)
-            with handler(interrupt_now), self.assertRaises(KeyboardInterrupt):
-                signal.setitimer(signal.ITIMER_REAL, 0.02)
+            with handler(interrupt_now), self.assertRaises(KeyboardInterrupt), \
+                    alarm_as_soon_as(lambda: is_calling(scene.store)):
                 next(steps)
             process.send_signal(signal.SIGCONT)
             scene.is_right()

@@ -227,10 +227,11 @@ class Few(Case):
         def stop(session):
             if session.degrees()["ana"].weight_out == 7:
                 os.kill(program_of(session), signal.SIGSTOP)
+                session.store.engine.talk.timeout = 0.5
             return program_of(session), session.degrees()["ana"].weight_out
         found = []
         with self.assertRaisesRegex(PartsFailed, "1 of 3 parts gave no answer\n  part 'y': NoAnswer: ") as told:
-            found += self.fleet(self.file("few.csv", self.LINES), timeout=2.0, alive=1).ask(stop)
+            found += self.fleet(self.file("few.csv", self.LINES), alive=1).ask(stop)
         self.assertIsInstance(told.exception.faults["y"], NoAnswer)
         self.assertEqual([(key, answer[1]) for key, answer in found], [("x", 5), ("z", 2)])
 

@@ -2,6 +2,7 @@
 import contextlib
 import io
 import os
+import resource
 import signal
 import subprocess
 import sys
@@ -10,7 +11,7 @@ import unittest
 from contextlib import redirect_stderr
 from unittest import mock
 
-from support import HERE, Case
+from support import ENGINE, HERE, OF_PIPES, Case
 
 import misteluk
 from misteluk import Store
@@ -21,6 +22,7 @@ from misteluk.engine import program as engine_program
 SAID, WAIT = "sys.stdin.readline(); ", "; sys.stdin.read()"
 
 
+@unittest.skipUnless(ENGINE == "program", OF_PIPES)
 class Programs(Case):
     def fault(self, wanted: type, told: str, body: str, call=lambda store: store.stat(), timeout: float = 30) -> None:
         """Whether a stand-in that does as `body` says makes this call raise, and closing the store end the program."""
@@ -105,8 +107,9 @@ class Programs(Case):
                  "sys.stdin.readline()",
                  f"while not os.path.exists({str(gate)!r}): time.sleep(0.01)",
                  "print('rebase v=0 names=0 edges=0 used=0', flush=True)", "sys.stdin.read()")
-        store = Store(program=self.stand_in("sys.stdin.readline(); sys.stdin.readline()\n" + "\n".join(lines)), timeout=0.3)
+        store = Store(program=self.stand_in("sys.stdin.readline(); sys.stdin.readline()\n" + "\n".join(lines)))
         session = store.open()
+        store.engine.talk.timeout = 0.3
         self.assertRaises(misteluk.NoAnswer, store.rebase, session)
         self.assertRaises(misteluk.SessionClosed, session.degrees)
         gate.touch()
@@ -184,6 +187,51 @@ class Programs(Case):
         for _ in range(2):
             with self.assertRaisesRegex(misteluk.ProgramEnded, "ended by signal 9"):
                 store.stat()
+        self.assertRaises(misteluk.ProgramEnded, store.close)
+
+    def test_a_store_among_many_open_files(self):
+        """Its pipes have numbers that `select` takes none of."""
+        least, most = resource.getrlimit(resource.RLIMIT_NOFILE)
+        resource.setrlimit(resource.RLIMIT_NOFILE, (min(2_048, most), most))
+        self.addCleanup(resource.setrlimit, resource.RLIMIT_NOFILE, (least, most))
+        with contextlib.ExitStack() as opened:
+            for _ in range(1_024):
+                opened.callback(os.close, os.open(os.devnull, os.O_RDONLY))
+            store = Store()
+            self.assertGreater(store.engine.talk._out, 1_023)
+            store.insert("k", "a", "b")
+            self.assertEqual(store.commit().inserted, 1)
+            store.close()
+            killed = Store()
+            killed._talk.process.kill()
+            self.assertRaises(misteluk.ProgramEnded, killed.stat)
+            self.assertRaises(misteluk.ProgramEnded, killed.close)
+
+    def test_what_is_pending_where_the_program_fails_is_told(self):
+        store = Store()
+        store.insert("k", "a", "b")
+        store.engine.talk.process.kill()
+        with self.assertRaises(misteluk.Uncommitted) as told:
+            store.close()
+        self.assertEqual(told.exception.operations, ["i,k,a,b,1,0\n"])
+        self.assertRegex(str(told.exception), "ended by signal 9; and 1 operations were pending and are not applied")
+        self.assertIsInstance(told.exception.__cause__, misteluk.ProgramEnded)
+        with self.assertWarnsRegex(UserWarning, "2 operations were pending"), self.assertRaises(misteluk.ProgramEnded):
+            with Store() as store:
+                store.insert("k", "a", "b")
+                store.insert("k", "a", "c")
+                store.engine.talk.process.kill()
+                store.stat()
+
+    def test_what_no_answer_comes_of_can_be_discarded(self):
+        store = Store()
+        store.insert("k", "a", "b")
+        self.stop(store)
+        self.assertRaises(misteluk.NoAnswer, store.commit)
+        self.assertEqual(store.discard(), 0)
+        store.engine.talk.process.kill()
+        self.assertRaises(misteluk.ProgramEnded, store.commit)
+        self.assertEqual(store.discard(), 1)
         self.assertRaises(misteluk.ProgramEnded, store.close)
 
     def test_more_refusals_than_a_pipe_holds(self):

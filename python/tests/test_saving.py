@@ -14,7 +14,7 @@ from graphs import NAMES, Play
 from support import ENGINE, OF_PIPES, Case, find_program
 
 import misteluk
-from misteluk import Edge, Store, names, saving
+from misteluk import Store, names, saving
 from misteluk.engine import copies as copying, program as engine_program
 from misteluk.engine.protocol import Batch
 from misteluk.values import records

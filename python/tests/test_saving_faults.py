@@ -109,7 +109,7 @@ class Faults(Case):
                 is_more = at_line(at, lambda: stores.append(Store.restore(self.path, blocks=64)))
                 for it in stores:
                     it.close()
-        return len(processes), sum(not has_ended(it, 1 if step > 9 else 5) for it in processes)
+        return len(processes), sum(not has_ended(it, 1 if step > 9 else 120) for it in processes)
 
     @unittest.skipUnless(ENGINE == "program", OF_PIPES)
     def test_an_interrupted_restore_leaves_no_program(self):

@@ -16,7 +16,7 @@ from support import ENGINE, HERE, OF_PIPES, Case
 import misteluk
 from misteluk import Edge, Store, view
 from misteluk.page.drawing import Drawing, curve
-from misteluk.page.layout import HEIGHT, WIDTH, labels, place
+from misteluk.page.layout import HEIGHT, WIDTH, label_within, labels, place
 from misteluk.page.neighborhood import CHANGED, GONE, KEPT, NEW
 
 # What is gone, new, changed and kept is seen by eye: ben's edge goes, zed's comes, funnel's changes.
@@ -374,6 +374,15 @@ class Layouts(unittest.TestCase):
         found, _ = labels(at, [6.0] * 60, [f"account {it}" for it in range(60)])
         self.assertLess(sum(it is None for it in found), 4)
 
+    def test_a_label_without_room_is_within(self):
+        """Where it stands while its vertex is pointed at, no border cuts it: at each corner, and at each side."""
+        for text in ("WWWWWWWWWWWWWWWWWWWWWW", "MUELLER & SOEHNE GMBH", "account 17"):
+            for at in ((74.0, 30.0), (606.0, 30.0), (74.0, 510.0), (606.0, 510.0), (340.0, 30.0), (74.0, 270.0)):
+                it = label_within(at, 9.0, text)
+                wide = {"W": 11.4, "M": 10.0}.get(text[0], 6.7) * (22 if text[0] == "W" else 0.85 * len(text))
+                left = it.x - {"start": 0.0, "middle": wide / 2, "end": wide}[it.anchor]
+                self.assertTrue(0 <= left and left + wide <= WIDTH and 10 <= it.y <= HEIGHT, (text, at, it))
+
     def test_few(self):
         for count in (1, 2, 3):
             at = place([0, 1, 1][:count], [(0, it) for it in range(1, count)])
@@ -440,6 +449,20 @@ class Browsers(Case):
         self.assertEqual((seen["row"]["lit"], seen["row"]["edges"]), (["ben", "funnel"], 1))
         self.assertTrue(1.8 < seen["larger"] < 2.2, seen["larger"])
         self.assertEqual(seen["order"], ["1", "1", "1", "1", "0", "–"])
+
+    def test_no_border_cuts_a_name(self):
+        """Whether it is seen always, while it is pointed at, or bold: of 300 vertices with the widest names most have no room."""
+        store = self.store(*(f"insert k hub {'W' * 20}{it} 1 1" for it in range(299)))
+        page = view(store.open(), "hub", most=300).html
+        look = ("<script>const cut = [];\nfor (const it of document.querySelectorAll('.picture .name')) {\n"
+                "    it.style.fontWeight = 600;\n    const box = it.getBBox();\n"
+                "    const wide = it.ownerSVGElement.viewBox.baseVal.width;\n"
+                "    if (box.x < 0 || box.x + box.width > wide) cut.push(it.textContent);\n}\n"
+                "const count = document.querySelectorAll('.picture .name').length;\n"
+                "document.body.textContent = JSON.stringify({cut, count});</script>")
+        dumped = browse(self.file("wide.html", page.replace("</body>", look + "</body>")), "--dump-dom", WIDE)
+        seen = json.loads(html.unescape(re.search(r"<body[^>]*>(.*)</body>", dumped, re.S)[1]))
+        self.assertEqual((seen["count"], seen["cut"]), (300, []))
 
     def test_colors(self):
         """Gone edges are red in the picture before and not in the one after, new ones blue after and not before; the one that

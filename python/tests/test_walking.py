@@ -2,13 +2,15 @@
 expiries, windows, loads, held sessions and rebases. Comparisons are made again with faults that are planted, and have to find
 them."""
 import csv
+import io
 import os
 import unittest
 import warnings
+from contextlib import redirect_stderr
 from unittest import mock
 
 from graphs import NAMES, Play
-from interrupting import Scene, at_line, made_at_once
+from interrupting import PATIENCE, SOON, Scene, at_line, made_at_once
 from support import ENGINE, OF_PIPES, Case, optional
 
 import misteluk
@@ -190,8 +192,65 @@ class Calls(Case):
                             (lambda: session.within("s3", 2, directed=False), 1 + 1 + 30), (session.edges, 300 + 1),
                             (session.edges, 0), (lambda: session.into("t3"), 0)):
             before = store.records_sent
-            call()
-            self.assertEqual(store.records_sent - before, count)
+            self.assertEqual(call(), told)
+            self.assertLessEqual(store.records_sent - before, most)
+        with store.open() as last:
+            self.assertEqual(last.edge("k", "s7", "t7"), Edge(9, 7, 999))
+            self.assertEqual(last.out_of("s7"), {"t7": Edge(9, 7, 999)})
+        self.assertEqual(session.out_of("s7"), {"t7": Edge(7, 7, 7)})
+
+    def test_exports_where_records_are_few(self):
+        """As where 500,000 rows leave 499,000 records: they go on as long as the first one found room."""
+        store = self.store(*(f"insert k s{it} t 1 1" for it in range(300)))
+        session = store.open()
+        store.engine.most_records = store.records_sent + 320
+        for _ in range(5):
+            self.assertEqual((len(list(session.edges())), session.weights_in()["t"], session.save(self.room / "s").edges),
+                             (300, 300, 300))
+            self.assertLess(store.records_left, 20)
+            store.engine.most_records += 4
+
+    def test_it_is_told_while_one_export_can_be_made(self):
+        """Once: when the records that are left are enough for one session's reading of all edges, and not for two."""
+        store = self.store(*(f"insert k s{it} t 1 1" for it in range(300)))
+        store.engine.most_records = store.records_sent + 1_150  # (an export takes 304 with its session)
+        with warnings.catch_warnings():
+            warnings.simplefilter("error")
+            with store.open() as session:
+                self.assertEqual(len(list(session.edges())), 300)
+        self.assertEqual(store.records_left, 1_150 - 304)
+        with self.assertWarnsRegex(misteluk.NearLimit, "records are left then, and a session that asks for all edges, also by a "
+                                   "save, takes 300: that can be once more, and not twice") as told, store.open() as session:
+            self.assertEqual(len(list(session.edges())), 300)
+        self.assertRegex(str(told.warning), rf"^{store.records_left + 1} of this run's {store.engine.most_records} ")
+        with warnings.catch_warnings():
+            warnings.simplefilter("error")
+            with store.open() as session:
+                self.assertEqual(len(list(session.edges())), 300)
+            with store.open() as session:
+                self.refused(misteluk.RecordLimit, "begin a new store", session.edges)
+
+    def test_a_load_tells_beforehand_that_records_will_be_few(self):
+        rows = [(f"s{it}", "t") for it in range(300)]
+        for most, told in ((1_050, "leaves 746 of the run's 1050 records.*all its 300 edges.*that can't be twice"),
+                           (650, "leaves 346 of .*: that can't be done. An endless store")):
+            with mock.patch.object(records, "MOST_RECORDS", most), self.assertWarnsRegex(misteluk.NearLimit, told):
+                self.store().load(rows, by="set")
+        with mock.patch.object(records, "MOST_RECORDS", 1_150), warnings.catch_warnings():
+            warnings.simplefilter("error")
+            self.store().load(rows, by="set")
+
+    def test_a_path_whose_step_has_many_edges_that_are_gone(self):
+        """17 vertices stand a level below the last one, and the edges of the first 16 to it have expired; an earlier session
+        holds them, so the client knows of them still. The same in a window that has the last edge alone."""
+        ways = [(f"insert k a s{it} 1 9", f"insert k s{it} t 1 {9 if it == 16 else 1}") for it in range(17)]
+        store = self.store(*(it for way in ways for it in way))
+        held = store.open()
+        store.expire(5)
+        self.assertEqual(store.commit().expired, 16)
+        self.assertEqual(held.path("a", "t"), ["a", "s0", "t"])
+        self.assertEqual(held.path("a", "t", since=5), ["a", "s16", "t"])
+        self.assertEqual(store.open().path("a", "t"), ["a", "s16", "t"])
 
     def test_one_vertex(self):
         session = self.store("insert k a b 3 1", "insert l a b 4 5", "insert k b a 1 2", "insert k a a 9 3",
@@ -211,6 +270,16 @@ class Calls(Case):
         self.assertEqual(session.out_of("b", "l"), {})
         self.assertEqual(session.within("b", 10 ** 18, directed=False), {"b": 0, "a": 1})
         self.assertEqual(session.within("b", 0, directed=False), {"b": 0})
+
+    def test_edges_of_a_kind(self):
+        """The kind comes first, as in other calls."""
+        session = self.store("insert k a b 3 1", "insert l a b 4 5", "insert l b c 4 7").open()
+        self.assertEqual(list(session.edges("l")), list(session.edges(kind="l")))
+        self.assertEqual(list(session.edges("l", since=6)), [("l", "b", "c", Edge(4, 7, 7))])
+        self.refused(misteluk.NoKind, "nix", lambda: session.edges("nix"))
+        self.refused(ValueError, "a kind is said once", lambda: session.edges("l", kind="k"))
+        for wrong in (["lab"], [("l", "a")], [("l", "a", "b", "c")]):
+            self.refused(TypeError, f"by its kind, source and target, and not by {wrong[0]!r}", lambda: session.edges(wrong))
 
     def test_an_empty_session(self):
         session = self.store().open()
@@ -247,6 +316,33 @@ class Calls(Case):
         for call in (session.edges, lambda: session.out_of("a"), lambda: len(session),
                      lambda: "a" in session):
             self.refused(misteluk.SessionClosed, "version 1 is closed", call)
+
+    def test_progress(self):
+        """At a terminal it is told of many edges: while they are sorted for the first question, and while they are asked for."""
+        class Terminal(io.StringIO):
+            def isatty(self):
+                return True
+        store = self.store()
+        store.load([(f"s{it % 300}", f"t{it}") for it in range(25_000)], by="set", progress=False)
+        session = store.open()
+        calls_ = [("sorting edges", lambda **how: session.into("t7") and None), ("asking for edges", session.weights_in)]
+        for word, call in calls_:
+            with redirect_stderr(Terminal()) as told:
+                call()
+            self.assertIn(word, told.getvalue())
+        calls_ = [session.weights_in, lambda **how: session.to_csv(self.room / "x", **how),
+                  lambda **how: session.save(self.room / "s", **how)]
+        calls_ += [session.edges_frame] if pandas else []
+        calls_ += [session.to_networkx] if networkx else []
+        for call in calls_:
+            for how, is_told in (({}, False), ({"progress": True}, True)):
+                with redirect_stderr(io.StringIO()) as told:
+                    call(**how)
+                self.assertEqual("asking for edges" in told.getvalue(), is_told)
+        with redirect_stderr(Terminal()) as told:
+            self.assertEqual(len(list(session.edges())), 25_000)
+            self.store("insert k a b 1 1").open().weights_in()
+        self.assertEqual(told.getvalue(), "")  # (what goes through edges may print itself; and few edges take no time)
 
     def test_a_name_is_a_text(self):
         """A frame's numbers are loaded as texts, so they are asked for as texts."""
@@ -331,6 +427,7 @@ class Calls(Case):
         most; and how many lines it runs."""
         right, edges, wrong, at = call(), list(session.edges()), [], 1
         while len(wrong) < 3:
+            session._kept.clear()  # (it would have the answers already)
             try:
                 if not at_line(at, call):
                     break
@@ -359,7 +456,8 @@ class Calls(Case):
 
     @unittest.skipUnless(ENGINE == "program", OF_PIPES)
     def test_each_line_interrupted_finds_a_fault(self):
-        scene = Scene()
+        with mock.patch.dict(PATIENCE, SOON):
+            scene = Scene()
         self.addCleanup(scene.end)
         with mock.patch.object(calls.Calls, "make", made_at_once):
             self.assertGreater(len(self.wrong_lines(scene.session, lambda: scene.session.neighbors("b"), 17)[0]), 2)

@@ -33,7 +33,7 @@ def check(words: argparse.Namespace) -> None:
         raise ValueError(f"a page's name ends in .html, and not as {words.output!r}")
 
 
-def draw(words: argparse.Namespace, store: Store, found: Survey, window: Dict[str, Any]) -> View:
+def draw(words: argparse.Namespace, store: Store[Any, Any], found: Survey, window: Dict[str, Any]) -> View:
     """Loads the file, and makes the page of its last version, beside an earlier one where that is asked for."""
     label, at = "", 0
     if words.at is not None or words.at_line is not None:
@@ -41,7 +41,7 @@ def draw(words: argparse.Namespace, store: Store, found: Survey, window: Dict[st
         found, at = _cut(found, _rows_before(words, found))
         if at in (0, len(found.parts)):
             raise ValueError(f"{found.feed} has {'all its rows' if at else 'no row'} {label}: there is nothing to show beside")
-    before: Optional[Session] = None
+    before: Optional[Session[Any, Any]] = None
     for done, _ in enumerate(load_in_steps(store, found, skip_bad=words.skip_bad), 1):
         if done == at:
             before = store.open()

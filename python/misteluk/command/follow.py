@@ -21,8 +21,10 @@ AT_ONCE = 0.2
 
 
 @contextmanager
-def ended_by_signals(stop: Callable[[], None]) -> Iterator[None]:
-    """Ctrl-C and SIGTERM call `stop` meanwhile; another of them that comes behind it ends the process at once."""
+def ended_by_signals(stop: Callable[[], None], cord: int) -> Iterator[None]:
+    """Ctrl-C and SIGTERM call `stop` meanwhile; another of them that comes behind it ends the process at once. Each wakes those
+    that wait for something to be written to `cord`: the system may give it to another thread, as where the process stood
+    still."""
     before = {it: signal.getsignal(it) for it in SIGNALS}
     heard: List[float] = []
 
@@ -35,9 +37,11 @@ def ended_by_signals(stop: Callable[[], None]) -> Iterator[None]:
             os.kill(os.getpid(), number)
     for it in SIGNALS:
         signal.signal(it, hear)
+    woken = signal.set_wakeup_fd(cord, warn_on_full_buffer=False)
     try:
         yield
     finally:
+        signal.set_wakeup_fd(woken)
         if heard:
             time.sleep(max(0.0, heard[0] + AT_ONCE - time.monotonic()))
         for it, how in before.items():
@@ -60,7 +64,7 @@ def leave_output() -> None:
 class Teller:
     """Tells of the steps of a feed that is followed, and asks behind each."""
 
-    def __init__(self, words: argparse.Namespace, store: Store, following: Following) -> None:
+    def __init__(self, words: argparse.Namespace, store: Store[Any, Any], following: Following) -> None:
         self.words, self.store, self.following = words, store, following
         self.units = store.units
         self.within = kept_time(words.within, self.units, "within")
@@ -121,12 +125,12 @@ class Teller:
         self.faults_told = len(faults)
 
 
-def follow(words: argparse.Namespace, store: Store, how: Dict[str, Any]) -> int:
+def follow(words: argparse.Namespace, store: Store[Any, Any], how: Dict[str, Any]) -> int:
     """Follows a feed and tells of it, until it ends or is ended."""
     with store.follow(words.file, every=words.every, keep=words.keep, until_end=words.until_end, skip_bad=words.skip_bad,
                       batch=words.batch, **how) as following:
         try:
-            with ended_by_signals(following.stop):
+            with ended_by_signals(following.stop, following.cord):
                 Teller(words, store, following).run()
         except BrokenPipeError:
             leave_output()

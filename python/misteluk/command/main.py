@@ -24,7 +24,8 @@ from ..feeds.loading import Survey, check, load, load_in_steps, survey
 from ..values.names import shown
 from .options import columns_of, make_parser
 from .questions import Question, all_lines
-from ..saving import size_of
+from ..page.view import view
+from ..saving import is_saved, size_of
 from ..session import Session
 from ..store import Store
 
@@ -42,7 +43,7 @@ def form_of_feed(words: argparse.Namespace) -> Dict[str, Any]:
 
 
 def read(words: argparse.Namespace) -> Survey:
-    found = survey(words.file, batch=words.batch, **form_of_feed(words))
+    found = survey(words.file, batch=words.batch, rounding=words.rounding, **form_of_feed(words))
     check(found, skip_bad=words.skip_bad)
     return found
 
@@ -52,7 +53,7 @@ def engine_of(words: argparse.Namespace) -> Dict[str, Any]:
     return {"engine": words.engine, "program": words.program, "timeout": words.timeout}
 
 
-def make_store(words: argparse.Namespace, found: Survey, holds: bool = False) -> Store:
+def make_store(words: argparse.Namespace, found: Survey, holds: bool = False) -> Store[Any, Any]:
     """A store with the blocks that are said, or else enough; as many as there can be where old versions are held."""
     blocks = words.blocks or (records.MOST_BLOCKS if holds else found.fitting())
     return Store(blocks=blocks, **engine_of(words))
@@ -66,9 +67,10 @@ def run_load(words: argparse.Namespace) -> int:
     """Loads a file and asks."""
     if words.interactive and words.file == STANDARD_INPUT:
         raise ValueError("--interactive reads standard input, which is the file here")
-    if words.save and (words.script or words.dry_run):
-        raise ValueError("--save is for what was loaded, and --script and --dry-run load nothing")
+    if (words.save or words.edges) and (words.script or words.dry_run):
+        raise ValueError("--save and --edges are for what was loaded, and --script and --dry-run load nothing")
     must_be_place(words.save)
+    must_be_place(words.edges)
     found = read(words)
     tell(words, found)
     if words.script or words.dry_run:
@@ -81,6 +83,7 @@ def run_load(words: argparse.Namespace) -> int:
 
 def run_restore(words: argparse.Namespace) -> int:
     must_be_place(words.save)
+    must_be_place(words.edges)
     with Store.restore(words.file, blocks=words.blocks, **engine_of(words)) as store:
         stat = store.stat()
         print(f"{words.file}: {size_of(stat.names, stat.edges)} restored in {stat.used} of {store.blocks} blocks", flush=True)
@@ -95,11 +98,14 @@ def must_be_place(path: Optional[str]) -> None:
         files.place_of(path)
 
 
-def do_then(words: argparse.Namespace, store: Store) -> None:
+def do_then(words: argparse.Namespace, store: Store[Any, Any]) -> None:
     """Saves and asks what is to be saved and asked of the last version, and gives a prompt where one is wanted."""
     with store.open() as session:
         if words.save:
             print(session.save(words.save), flush=True)
+        if words.edges:
+            count = session.to_csv(words.edges, **window(words))
+            print(f"{words.edges}: {count} edge{'s' * (count != 1)} of version {session.version}", flush=True)
         for line in answer(words, session):
             print(line)
         if words.interactive:
@@ -121,7 +127,7 @@ def tell(words: argparse.Namespace, found: Survey) -> None:
             print(f"  {len(found.terms.names)} names and kinds stand in it as ids, ~~ and 20 signs")
 
 
-def answer(words: argparse.Namespace, session: Session, is_part: bool = False) -> Iterator[str]:
+def answer(words: argparse.Namespace, session: Session[Any, Any], is_part: bool = False) -> Iterator[str]:
     """The lines of what is asked for. A part of a fleet needn't have the names."""
     questions: List[Question] = [*words.ask]
     questions += [Question(f"levels from {shown(it)}", "levels", (it,)) for it in words.levels]
@@ -153,7 +159,7 @@ def run_fleet(words: argparse.Namespace) -> int:
 
 def run_follow(words: argparse.Namespace) -> int:
     is_endless = choose(words.engine, words.program)[0] == LIBRARY
-    with Store(blocks=words.blocks or records.MOST_BLOCKS, endless=is_endless, **engine_of(words)) as store:
+    with Store(blocks=words.blocks or records.MOST_BLOCKS, endless=is_endless, rounding=words.rounding, **engine_of(words)) as store:
         return telling.follow(words, store, form_of_feed(words))
 
 
@@ -185,6 +191,8 @@ def run_picture(words: argparse.Namespace) -> int:
 
 def run_around(words: argparse.Namespace) -> int:
     around.check(words)
+    if words.by is None:
+        return run_around_saved(words)
     found = read(words)
     with make_store(words, found, holds=True) as store:
         page = around.draw(words, store, found, window(words))
@@ -193,7 +201,19 @@ def run_around(words: argparse.Namespace) -> int:
     return 0
 
 
-def draw_last(words: argparse.Namespace, store: Store, found: Survey) -> Any:
+def run_around_saved(words: argparse.Namespace) -> int:
+    """The page of the version that a file has which --save wrote."""
+    if words.at is not None or words.at_line is not None:
+        raise ValueError("a saved file has one version: --at and --at-line are for the rows of a feed")
+    with Store.restore(words.file, blocks=words.blocks, **engine_of(words)) as store:
+        page = view(store.open(), words.around, words.hops, most=words.most, title=words.title, labels=("the saved version", ""),
+                    **window(words))
+    page.save(words.output)
+    print(f"{words.output}: {page}")
+    return 0
+
+
+def draw_last(words: argparse.Namespace, store: Store[Any, Any], found: Survey) -> Any:
     store.load(found, by=words.by, skip_bad=words.skip_bad)
     more = {} if words.title is None else {"title": words.title}
     with store.open() as session:
@@ -212,7 +232,7 @@ def named_edge(text: str) -> List[str]:
     return edge
 
 
-def draw_versions(words: argparse.Namespace, store: Store, found: Survey) -> Any:
+def draw_versions(words: argparse.Namespace, store: Store[Any, Any], found: Survey) -> Any:
     """Pictures that need more than the last version: sessions are opened between batches."""
     steps = load_in_steps(store, found, skip_bad=words.skip_bad)
     if words.what == "edge":
@@ -223,7 +243,7 @@ def draw_versions(words: argparse.Namespace, store: Store, found: Survey) -> Any
                 it = session.edges([(edge[0], edge[1], edge[2])], missing=None)[0]
                 weights.append((session.version, it.weight if it else None))
         return pictures.edge_weights(weights, words.title or f"{edge[1]} to {edge[2]} ({edge[0]})")
-    first: Optional[Session] = None
+    first: Optional[Session[Any, Any]] = None
     for at, _ in enumerate(steps, 1):
         if at == (words.first or max(1, len(found.parts) // 2)):
             first = store.open()
@@ -246,9 +266,20 @@ def plain_warnings() -> Iterator[None]:
         warnings.formatwarning = before
 
 
+def may_be_saved(words: argparse.Namespace) -> bool:
+    """Whether a picture is of a saved file, or of one that can't be read, which is told later."""
+    try:
+        return bool(words.what == "around" and words.file != STANDARD_INPUT and is_saved(words.file))
+    except OSError:
+        return bool(words.what == "around")
+
+
 @plain_warnings()
 def main(words: Optional[List[str]] = None) -> int:
-    parsed = make_parser().parse_args(words)
+    parser = make_parser()
+    parsed = parser.parse_args(words)
+    if parsed.command == "picture" and parsed.by is None and not may_be_saved(parsed):
+        parser.error("one of the arguments --set --add is required, but for the page around a name in a saved file")
     for it in (sys.stdout, sys.stderr):
         if isinstance(it, io.TextIOWrapper):  # (a name that the terminal has no signs for)
             it.reconfigure(errors="backslashreplace")

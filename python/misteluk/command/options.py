@@ -38,14 +38,16 @@ def asked(text: str) -> Question:
 BLOCKS = "as many as are needed, and no fewer than 16,384"
 
 
-QUESTIONS = ("degrees, components or cores, with a kind behind them or none; 'levels NAME', 'into NAME', 'out_of NAME', 'path "
-             "SOURCE TARGET' or 'edge KIND SOURCE TARGET'")
+QUESTIONS = ("degrees, components, cores or edges, with a kind behind them or none; 'levels NAME', 'into NAME', 'out_of NAME', "
+             "'neighbors NAME', 'within NAME HOPS', 'path SOURCE TARGET' or 'edge KIND SOURCE TARGET'")
 
 
-def add_feed_options(parser: argparse.ArgumentParser, blocks: Optional[str] = BLOCKS, edge_lists: bool = True) -> None:
-    parser.add_argument("file", help="a delimited file, an edge list (SNAP), or a Matrix Market file; .gz is unpacked; - is "
-                        "standard input")
-    way = parser.add_mutually_exclusive_group(required=True)
+def add_feed_options(parser: argparse.ArgumentParser, blocks: Optional[str] = BLOCKS, edge_lists: bool = True,
+                     saved: str = "") -> None:
+    """Options of a feed; `saved` says what a saved file in its place is for, where it may be one."""
+    parser.add_argument("file", help=f"a delimited file, an edge list (SNAP), or a Matrix Market file; .gz is unpacked; - is "
+                        f"standard input{saved}")
+    way = parser.add_mutually_exclusive_group(required=not saved)
     way.add_argument("--set", dest="by", action="store_const", const="set", help="a later row sets the weight of its edge anew")
     way.add_argument("--add", dest="by", action="store_const", const="add", help="a later row adds to the weight of its edge")
     feed = parser.add_argument_group("what the file is")
@@ -65,6 +67,9 @@ def add_feed_options(parser: argparse.ArgumentParser, blocks: Optional[str] = BL
     if edge_lists:
         feed.add_argument("--third", choices=("weight", "time"), help="what the third field of an edge list is")
     feed.add_argument("--weight-scale", type=int, metavar="N", help="weights are decimals of so many parts: 100 takes 12.50")
+    if edge_lists:
+        feed.add_argument("--rounding", choices=("half-even",), help="round weights that have more decimals than --weight-scale "
+                          "takes; else such a row is bad")
     feed.add_argument("--times", choices=("number", "iso"), help="iso: times are dates, here and in what is asked and told")
     feed.add_argument("--names", choices=("plain", "escape"), default="plain", help="any text is a name; escape: with %%20 for a "
                       "space and so on, which a script has else as an id")
@@ -98,6 +103,8 @@ def add_questions(group: Any) -> None:
 def add_what_then(parser: argparse.ArgumentParser, ask: Any) -> None:
     ask.add_argument("--save", metavar="PATH", help="save the graph as one file, which `misteluk restore` takes; packed where "
                      "its name ends in .gz, .xz or .bz2")
+    ask.add_argument("--edges", metavar="PATH", help="write all edges of --of-kind, --since and --until as CSV with a header; "
+                     "packed as --save is")
     add_questions(ask)
     ask.add_argument("--interactive", action="store_true", help="then a Python prompt with `store` and `session`")
     add_window(parser)
@@ -164,7 +171,7 @@ def add_picture(picture: argparse.ArgumentParser) -> None:
     picture.add_argument("what", choices=("degrees", "components", "cores", "edge", "compare", "around"),
                          help="edge: a weight over versions, one a batch; compare: two sessions' weights going out; around: a "
                          "page of a vertex's neighborhood")
-    add_feed_options(picture)
+    add_feed_options(picture, saved="; around: also one that --save wrote, without --set or --add")
     picture.add_argument("-o", "--output", required=True, metavar="PICTURE", help="a name that ends in .svg or .png; that of a "
                          "page in .html")
     picture.add_argument("--title", help="what stands above the picture (else what it shows)")
@@ -179,7 +186,7 @@ def make_parser() -> argparse.ArgumentParser:
     parser = argparse.ArgumentParser(prog="misteluk", description="Loads data into Misteluk, and asks.",
                                      epilog="Status: 0, 1 after a fault, 2 for wrong arguments, 130 after Ctrl-C, and 141 where "
                                      "the output lost its reader, as by `| head` (of follow 0).")
-    parser.add_argument("--version", action="version", version=f"misteluk {VERSION}")
+    parser.add_argument("-V", "--version", action="version", version=f"misteluk {VERSION}")
     commands = parser.add_subparsers(dest="command", required=True)
     load = commands.add_parser("load", help="load a file, and ask; nothing is kept unless it is saved")
     add_feed_options(load)

@@ -116,6 +116,11 @@ class Conversation:
             self._exchange(lambda: awaited.done)
         return awaited
 
+    @property
+    def has_ended(self) -> bool:
+        """Whether it is known that no answer comes any more."""
+        return self._fault is not None
+
     def take_refused(self) -> List[Tuple[int, str]]:
         """The operations that were refused since the last call, each as its number and the word."""
         refused, self._refused = self._refused, []

@@ -18,6 +18,7 @@ from itertools import chain, count, repeat
 from typing import Collection, Dict, Iterator, List, Optional, Sequence, Tuple
 
 from ..values import records
+from ..feeds.progress import MANY, Progress
 from .candidates import BITS, KIND, MASK, Candidates, Names, keys_of, place_of, turned, with_more, without
 
 # How many bytes of operations wait at most until they are folded: as many as a run's records have, since to fold them costs more
@@ -240,9 +241,12 @@ class Index:
         return self._folded
 
     def _fold(self, floor: Optional[int]) -> None:
-        fold = Fold(self._folded, sum(it.size for it in self._log))
+        size = sum(it.size for it in self._log)
+        fold, told = Fold(self._folded, size), Progress("sorting edges", size, None if size >= MANY else False, "operations")
         for it in self._log:
             fold.put(it)
+            told.step(it.size)
+        told.end()
         self._folded = fold.candidates(floor)
         self._log = [it for it in self._log if it is self._flight]
         self._waiting = sum(it.bytes for it in self._log)

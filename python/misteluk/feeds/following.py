@@ -104,7 +104,7 @@ class Following(Iterator[Followed]):
     goes on behind it. `stop` may be called by any thread and a signal's handler: what was read goes in, and the steps end.
     """
 
-    def __init__(self, store: "Store", incoming: Incoming, count: Count, pace: Pace, progress: Optional[bool]) -> None:
+    def __init__(self, store: "Store[Any, Any]", incoming: Incoming, count: Count, pace: Pace, progress: Optional[bool]) -> None:
         self.store, self.name, self._ledger = store, incoming.name, store.ledger
         self._incoming, self._source, self._count, self._pace = incoming, incoming.source, count, pace
         # Rows that were read, the lines of those that are pending, and since when the first of these is.
@@ -143,6 +143,11 @@ class Following(Iterator[Followed]):
     def clear_progress(self) -> None:
         """Takes the line of progress from the terminal, so that another one can stand there."""
         self._progress.clear()
+
+    @property
+    def cord(self) -> int:
+        """The descriptor that wakes the waiting for a step where something is written to it."""
+        return self._source.cord
 
     def stop(self) -> None:
         """Has what was read go in, and then ends the steps."""
@@ -301,7 +306,7 @@ class Following(Iterator[Followed]):
 
 
 @reads
-def follow(store: "Store", feed: Union[Path, Opened], *, by: str, every: Span = 1.0, keep: Optional[Span] = None,
+def follow(store: "Store[Any, Any]", feed: Union[Path, Opened], *, by: str, every: Span = 1.0, keep: Optional[Span] = None,
            batch: int = records.MOST_OPERATIONS, until_end: bool = False, skip_bad: bool = False,
            progress: Optional[bool] = None, **read_as: Any) -> Following:
     """Follows a feed into a store: a file that grows, standard input (`-`), or what has a descriptor, as a pipe. Each step of

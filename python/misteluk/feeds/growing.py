@@ -55,6 +55,12 @@ class Growing:
         self._bell, self._cord = os.pipe()
         os.set_blocking(self._cord, False)
 
+    @property
+    def cord(self) -> int:
+        """The descriptor of the bell's cord, for `signal.set_wakeup_fd`: Python then rings it for each signal that comes, also
+        for one that the system gives to another thread than the one that waits."""
+        return self._cord
+
     def ring(self) -> None:
         """Ends the waiting of whoever waits for more."""
         try:

@@ -1,10 +1,14 @@
 """What a feed can't be loaded for, told before anything is sent, and what to do about it."""
 from __future__ import annotations
 
-from typing import TYPE_CHECKING
+import warnings
+from typing import TYPE_CHECKING, Any
 
 from ..values import records
-from ..errors import BadRows, OverLimit, PoolEmpty
+from ..errors import BadRows, NearLimit, OverLimit, PoolEmpty
+
+# How many records an export takes beside one for each edge: its table, and its kinds.
+FOR_AN_EXPORT = 100
 
 if TYPE_CHECKING:
     from .loading import Survey
@@ -32,7 +36,7 @@ def check(found: "Survey", *, skip_bad: bool = False) -> None:
         raise OverLimit(f"{found.feed} has {'; '.join(over)}. Nothing is loaded", found.counts())
 
 
-def check_room(store: "Store", found: "Survey", used: int, count: int) -> None:
+def check_room(store: "Store[Any, Any]", found: "Survey", used: int, count: int) -> None:
     """Raises where the store's blocks can't be enough: the edges before a batch take at least those that they need alone, or
     those in use now. And where a program's records can't."""
     needed, left = found.needed_beside(used), store.records_left
@@ -44,9 +48,22 @@ def check_room(store: "Store", found: "Survey", used: int, count: int) -> None:
         text = (f"{found.feed} needs at least {needed} blocks in batches of {max(len(it.lines) for it in found.parts)}, and the "
                 f"store was made with {store.blocks}; nothing was sent")
         raise PoolEmpty(needed=needed, free=store.blocks - used, text=text, advice=_room_advice(store, found, used))
+    if left is not None:
+        _warn_of_records(found, left - count)
 
 
-def _room_advice(store: "Store", found: "Survey", used: int) -> str:
+def _warn_of_records(found: "Survey", left: int) -> None:
+    """Warns before a load that leaves a program too few records to ask for all its edges twice, or once. (The sessions of a
+    version keep what they were told, but for those of other versions it is asked again.)"""
+    needed = found.edges + FOR_AN_EXPORT
+    if left < 2 * needed:
+        warnings.warn(NearLimit(f"{found.feed} leaves {left} of the run's {records.MOST_RECORDS} records, and a session that "
+                                f"asks for all its {found.edges} edges, also by a save, takes one for each: that can't be "
+                                f"{'twice' if needed <= left else 'done'}. A store in this process has no such limit "
+                                "(engine='library')"), stacklevel=2)
+
+
+def _room_advice(store: "Store[Any, Any]", found: "Survey", used: int) -> str:
     """What helps where a store has too few blocks: more of them where there can be, and smaller batches where they fit."""
     needed = found.needed_beside(used)
     more = f"Make the store with blocks={needed} or more" if needed <= records.MOST_BLOCKS else ""

@@ -285,7 +285,7 @@ def survey(data: Any, *, by: str, batch: int = records.MOST_OPERATIONS, progress
     must_be_way(by, batch)
     feed = turned(how.feed(data), names=how.names)
     scale, times = how.units_said
-    terms = terms or Terms(units=Units(1 if scale is None else scale, times or "number"))
+    terms = terms or Terms(units=Units(1 if scale is None else scale, times or "number", rounding=how.rounding))
     counter, told = Count(feed.name, by, batch, terms, how.decimal), Progress(f"reading {feed.name}", None, progress)
     with no_collection():
         for block in feed.blocks():
@@ -297,7 +297,7 @@ def survey(data: Any, *, by: str, batch: int = records.MOST_OPERATIONS, progress
 
 
 @reads
-def load(store: "Store", data: Any, *, by: str, batch: int = records.MOST_OPERATIONS, collect: bool = True,
+def load(store: "Store[Any, Any]", data: Any, *, by: str, batch: int = records.MOST_OPERATIONS, collect: bool = True,
          skip_bad: bool = False, progress: Optional[bool] = None, **read_as: Any) -> Loaded:
     """Loads a feed into a store: a file's path (`-` is standard input), a networkx graph, a pandas frame, columns by name, rows,
     a `Feed`, or a `Survey` made before (in its own batches).
@@ -330,7 +330,7 @@ def load(store: "Store", data: Any, *, by: str, batch: int = records.MOST_OPERAT
     return Loaded(sum_of(receipts) if receipts else None, found, found.records(collect), found.seconds + sending, sending)
 
 
-def load_in_steps(store: "Store", found: Survey, *, collect: bool = True, skip_bad: bool = False) -> Iterator[Commit]:
+def load_in_steps(store: "Store[Any, Any]", found: Survey, *, collect: bool = True, skip_bad: bool = False) -> Iterator[Commit]:
     """Loads a survey batch by batch: what each did is given before the next is applied, so that sessions can be opened between."""
     check(found, skip_bad=skip_bad)
     store.ledger.settle()
@@ -345,7 +345,7 @@ def load_in_steps(store: "Store", found: Survey, *, collect: bool = True, skip_b
         yield _apply(store, found, at, collect)
 
 
-def _apply(store: "Store", found: Survey, at: int, collect: bool) -> Commit:
+def _apply(store: "Store[Any, Any]", found: Survey, at: int, collect: bool) -> Commit:
     """Applies one batch of a feed; a refusal says which lines are not in."""
     part = found.parts[at]
     try:

@@ -1,13 +1,15 @@
 """Graphs of networkx, pandas frames, columns and rows of Python as feeds."""
 from __future__ import annotations
 
+import warnings
 from itertools import chain, count
 from typing import Any, Dict, Iterable, Iterator, List, Mapping, Sequence, Tuple
 
 from . import feed as feeds
 from .delimited import Picked
-from ..errors import FeedFault
+from ..errors import FeedFault, LeftOut
 from .feed import USUAL_KIND, Block, Columns, Feed, Row, Table, parts_of
+from ..values.units import whole_text
 
 
 def is_missing(value: Any) -> bool:
@@ -27,26 +29,36 @@ def text_of(value: Any) -> str:
         return value
     if is_missing(value):
         return ""
-    return str(int(value)) if isinstance(value, float) and value.is_integer() else str(value)
+    return whole_text(value)
 
 
 def from_networkx(graph: Any, *, kind: str = USUAL_KIND, weight: str = "weight", time: str = "time", kind_of: str = "kind",
                   both_ways: bool = True) -> Feed:
-    """A networkx graph. An edge's weight, time and kind are its attributes of these names, or else 1, 0 and `kind`. An edge of
-    an undirected graph is one either way, or with `both_ways=False` one way alone. Nodes are named by `str`. An edge of which a
-    node or an attribute is missing (`None`, not a number) is a bad row."""
+    """A networkx graph. An edge's weight, time and kind are its attributes of these names, or else 1, 0 and `kind`; the time of
+    one that has none, but both times that `to_networkx` writes, is its `recent`. An edge of an undirected graph is one either
+    way, or with `both_ways=False` one way alone. Nodes are named by `str`; those without an edge are left out, which a warning
+    tells (`LeftOut`). An edge of which a node or an attribute is missing (`None`, not a number) is a bad row."""
     names: Dict[Any, str] = {it: "" if is_missing(it) else str(it) for it in graph}
     known = [it for it in names.values() if it]
     if len(set(known)) < len(known):
         raise FeedFault("two nodes of the graph have one name: rename them (networkx.relabel_nodes)")
+    _warn_of_idle([str(it) for it, degree in graph.degree() if not degree])
 
     def rows() -> Iterator[Row]:
         for at, (source, target, told) in enumerate(graph.edges(data=True), 1):
-            rest = text_of(told.get(weight, 1)), text_of(told.get(time, 0))
+            usual = told["recent"] if time == "time" and "first" in told and "recent" in told else 0
+            rest = text_of(told.get(weight, 1)), text_of(told.get(time, usual))
             yield (at, text_of(told.get(kind_of, kind)), names[source], names[target], *rest)
             if both_ways and not graph.is_directed() and source != target:
                 yield (at, text_of(told.get(kind_of, kind)), names[target], names[source], *rest)
     return Feed(f"graph {graph.name}".strip(), rows())
+
+
+def _warn_of_idle(names: Sequence[str]) -> None:
+    if names:
+        what = f"1 node of the graph, {names[0]!r}, has" if len(names) == 1 else f"{len(names)} nodes of the graph, as " \
+                                                                                 f"{names[0]!r}, have"
+        warnings.warn(LeftOut(f"{what} no edge: a store has the names of edges alone, and these aren't loaded"), stacklevel=3)
 
 
 def from_pandas(frame: Any, columns: Columns = Columns()) -> Feed:

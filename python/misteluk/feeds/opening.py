@@ -31,7 +31,8 @@ class ReadAs(NamedTuple):
     them since 1970. They are read as with `times="iso"`.
 
     `names="escape"` writes names with escapes (see `turned`). `weight_scale` and `times` say the units of a store that has none
-    yet (see `Store`), and must be those of one that has; without them the feed is in the store's.
+    yet (see `Store`), and must be those of one that has; without them the feed is in the store's. `rounding` is for a survey:
+    a store has its own.
     """
 
     columns: Columns = Columns()
@@ -46,6 +47,7 @@ class ReadAs(NamedTuple):
     names: str = "plain"
     weight_scale: Optional[int] = None
     times: Optional[str] = None
+    rounding: Optional[str] = None
 
     @property
     def notation(self) -> Notation:

@@ -44,7 +44,7 @@ class Question(NamedTuple):
                 raise TypeError(f"{self.what} can't be asked so: {fault}") from None
         return self
 
-    def put_to(self, session: Session) -> Any:
+    def put_to(self, session: Session[Any, Any]) -> Any:
         try:
             what = getattr(session, self.what) if isinstance(self.what, str) else partial(self.what, session)
             answer = what(*self.given, **self.named)
@@ -67,7 +67,7 @@ class Answered(NamedTuple):
 class Made:
     """A part's store as it was loaded, of as many blocks as its rows need."""
 
-    def __init__(self, store: Store, bad: int) -> None:
+    def __init__(self, store: Store[Any, Any], bad: int) -> None:
         self.store, self.bad = store, bad
         self.is_as_loaded = True
         self._loaded = store.stat()
@@ -84,7 +84,7 @@ class Made:
         self._look(session)
         return answer
 
-    def _look(self, session: Session) -> None:
+    def _look(self, session: Session[Any, Any]) -> None:
         """Looks whether the question left the store as it was, with no version, operation or session of its own."""
         store = self.store
         if session.is_open and not store.pending:

@@ -7,7 +7,7 @@ from math import sqrt
 from typing import Any, Dict, List, NamedTuple, Optional, Sequence, Tuple
 
 from ..values.answers import Edge
-from .layout import HEIGHT, WIDTH, Box, Label, Point, free_place, labels, place, short
+from .layout import HEIGHT, WIDTH, Box, Label, Point, free_place, label_within, labels, place, short
 from ..values.names import shown
 from .neighborhood import CHANGED, Key, Neighborhood, Side
 
@@ -179,7 +179,7 @@ class Drawing:
         return (f'<svg class="picture{many}" viewBox="0 0 {WIDTH:.0f} {HEIGHT:.0f}" role="group" aria-label="{escape(told)}">\n'
                 f"<g>\n{''.join(edges)}</g>\n<g>\n{''.join(vertices)}</g>\n</svg>")
 
-    def _edge(self, key: Key, edge: Edge) -> str:
+    def _edge(self, key: Key, edge: Edge[Any, Any]) -> str:
         kind, source, target = key
         state, drawn = self.states[key], self.curves[key]
         told = f"{shown(source)} \N{RIGHTWARDS ARROW} {shown(target)}: {text_of(edge.weight)}\n{shown(kind)}, first " \
@@ -209,9 +209,10 @@ class Drawing:
         """The vertex's name; where there is no room, it is to be seen while the vertex is pointed at."""
         found: Optional[Label] = self.labels[at]
         hidden = "" if found else " hidden"
-        where = found or Label(self.at[at][0], self.at[at][1] - self.radii[at] - 4, "middle")
-        return (f'<text class="name{hidden}" x="{where.x:.1f}" y="{where.y:.1f}" text-anchor="{where.anchor}">'
-                f"{escape(short(shown(name)))}</text>")
+        text = short(shown(name))
+        where = found or label_within(self.at[at], self.radii[at], text)
+        return (f'<text class="name{hidden}" x="{where.x:.1f}" y="{where.y:.1f}" text-anchor="{where.anchor}">{escape(text)}'
+                "</text>")
 
 
 def sample(state: str) -> str:

@@ -19,6 +19,8 @@ MOST_ROUNDS, MOST_PAIRS = 320, 1_200_000
 # A label is wider than high, so vertices that stand beside each other are kept farther apart than those above each other.
 BESIDE = 1.45
 LETTER, LINE = 6.7, 13.0
+# Letters and signs that are wider than others, capitals aside.
+BROAD = "mwMW@%\N{EM DASH}"
 MOST_SIGNS = 22
 # How much of a label may be covered, as a part of it; one that would be covered more is not written.
 MOST_COVERED = 0.12
@@ -170,7 +172,8 @@ def width_of(text: str) -> float:
     """About how wide a label is."""
     wide = sum(unicodedata.east_asian_width(it) in "WF" for it in text)
     other = sum(it > "\u02ff" for it in text) - wide
-    return LETTER * (len(text) + 0.9 * wide + 0.12 * max(other, 0)) + 2
+    broad = 0.25 * sum(map(str.isupper, text)) + 0.45 * sum(it in BROAD for it in text)
+    return LETTER * (len(text) + 0.9 * wide + 0.12 * max(other, 0) + broad) + 2
 
 
 def _box(label: Label, width: float) -> Box:
@@ -193,6 +196,17 @@ def _choices(point: Point, radius: float) -> List[Label]:
     return [*(sides[:1] + ends[:1] if is_flat else ends[:1] + sides[:1]), ends[1], sides[1], *corners]
 
 
+def _is_out(box: Box) -> bool:
+    """Whether a border of the picture cuts it."""
+    return box.left < 2 or box.right > WIDTH - 2 or box.top < 2 or box.bottom > HEIGHT - 2
+
+
+def label_within(at: Point, radius: float, text: str) -> Label:
+    """A place within the picture for a label that has no room beside the others, and stands over them while it is to be seen."""
+    choices = _choices(at, radius)
+    return next((it for it in choices if not _is_out(_box(it, 1.15 * width_of(text)))), choices[0])
+
+
 def labels(at: Sequence[Point], radii: Sequence[float], texts: Sequence[str],
            lines: Sequence[Point] = ()) -> Tuple[List[Optional[Label]], List[Box]]:
     """A place for each vertex's label, those of the first vertices first, or `None` where there is no room beside the vertices
@@ -204,8 +218,7 @@ def labels(at: Sequence[Point], radii: Sequence[float], texts: Sequence[str],
         best: Tuple[float, Optional[Label]] = (width * LINE * MOST_COVERED + 6.0 * len(lines) if it else 1e9, None)
         for rank, choice in enumerate(_choices(at[it], radii[it])):
             box = _box(choice, width)
-            is_out = box.left < 2 or box.right > WIDTH - 2 or box.top < 2 or box.bottom > HEIGHT - 2
-            cost = 2.0 * rank + 1e6 * is_out + sum(map(box.shared, taken)) + 6.0 * _covered(box, lines)
+            cost = 2.0 * rank + 1e6 * _is_out(box) + sum(map(box.shared, taken)) + 6.0 * _covered(box, lines)
             best = min(best, (cost, choice), key=lambda it: it[0])
         if best[1] is not None:
             taken.append(_box(best[1], width))

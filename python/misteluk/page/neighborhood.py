@@ -45,8 +45,8 @@ class Side(NamedTuple):
 
     label: str
     hops: Dict[str, int]
-    degrees: Dict[str, Degree]
-    edges: Dict[Key, Edge]
+    degrees: Dict[str, Degree[Any]]
+    edges: Dict[Key, Edge[Any, Any]]
 
 
 class Neighborhood(NamedTuple):
@@ -79,7 +79,7 @@ class Neighborhood(NamedTuple):
         return {it: found[it] for it in STATES}
 
 
-def state_of(before: Optional[Edge], after: Optional[Edge]) -> str:
+def state_of(before: Optional[Edge[Any, Any]], after: Optional[Edge[Any, Any]]) -> str:
     """What became of an edge: it is changed where its weight or one of its times is another."""
     if before is None or after is None:
         return GONE if after is None else NEW
@@ -101,17 +101,17 @@ class Looking:
     """Asks one session for a neighborhood: the edges beside the vertices that are nearer than the farthest, and those among
     the farthest."""
 
-    def __init__(self, session: "Session", window: Window) -> None:
+    def __init__(self, session: "Session[Any, Any]", window: Window) -> None:
         self.session, self.window = session, window
         self.has_kind = True
         self.degrees = self._degrees(window)
-        self.edges: Dict[Key, Edge] = {}
+        self.edges: Dict[Key, Edge[Any, Any]] = {}
         self.hops: Dict[str, int] = {}
         self.is_whole = True
         # The vertices whose edges were all asked for.
         self._looked: Dict[str, None] = {}
 
-    def _degrees(self, window: Window) -> Mapping[str, Degree]:
+    def _degrees(self, window: Window) -> Mapping[str, Degree[Any]]:
         try:
             return self.session.degrees(*window)
         except NoKind:  # (the version has the vertices, and no edge of the kind)
@@ -173,7 +173,7 @@ class Looking:
                     {name: self.degrees[name] for name in names if name in self.degrees}, edges)
 
 
-def gather(sessions: Sequence["Session"], labels: Sequence[str], around: str, hops: int, window: Window,
+def gather(sessions: Sequence["Session[Any, Any]"], labels: Sequence[str], around: str, hops: int, window: Window,
            most: int) -> Neighborhood:
     """The neighborhood in each session's version. Raises `NoVertex` where none has such a vertex, and `NoKind` where none has the
     kind."""

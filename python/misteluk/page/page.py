@@ -112,9 +112,17 @@ class Page:
         within = f"within {counted(self.it.hops, 'hop')} of {shown(self.it.around)}, direction ignored"
         about = f"{_begun(sides)}. {counted(self.it.found, 'vertex')} {within}; {self.it.window}."
         large = '<button id="large" type="button" aria-pressed="false">Larger</button>' if self.is_two else ""
-        return (f'<header>\n<div><h1>{escape(self.title)}</h1><p class="about">{escape(about)}</p></div>\n'
+        drawn = f'<p class="drawn" id="drawn">{escape(self._drawn())}: which, is told below.</p>' if self._is_part() else ""
+        return (f'<header>\n<div><h1>{escape(self.title)}</h1><p class="about">{escape(about)}</p>{drawn}</div>\n'
                 '<div class="search"><output id="told"></output><input id="search" type="search" autocomplete="off" '
                 f'placeholder="Find a name" aria-label="Find a name">{large}</div>\n</header>\n')
+
+    def _is_part(self) -> bool:
+        """Whether some of the vertices aren't drawn."""
+        return self.it.drawn < self.it.found
+
+    def _drawn(self) -> str:
+        return f"Drawn are {self.it.drawn:,} of {counted(self.it.found, 'vertex')}"
 
     def _legend(self) -> str:
         """What marks mean, with how many edges have each."""
@@ -175,10 +183,10 @@ class Page:
 
     def _notes(self) -> str:
         it, told = self.it, []
-        if it.drawn < it.found:
+        if self._is_part():
             turns = "in turn those with an edge gone, with a new one, with one that changed and without, and "
-            told.append(f"Drawn are {it.drawn:,} of {counted(it.found, 'vertex')}: the nearest, {turns if self.is_two else ''}of "
-                        "these the heaviest, by the edges that join them to nearer ones.")
+            told.append(f"{self._drawn()}: the nearest, {turns if self.is_two else ''}of these the heaviest, by the edges that "
+                        "join them to nearer ones.")
         if len(it.names) > MOST_VERTICES:
             told.append(f"The table has {MOST_VERTICES:,} of {counted(len(it.names), 'vertex')}.")
         if len(self.states) > MOST_EDGES:

@@ -2,7 +2,7 @@
 from __future__ import annotations
 
 from html import escape
-from typing import TYPE_CHECKING, Dict, Optional, Tuple
+from typing import TYPE_CHECKING, Any, Dict, Optional, Tuple
 
 from ..values import records
 from ..values.limits import within
@@ -57,9 +57,9 @@ class View:
         return f"<View of {self}>"
 
 
-def view(session: "Session", around: str, hops: int = 2, beside: "Optional[Session]" = None, *, kind: Optional[str] = None,
-         since: Moment = 0, until: Moment = records.MOST_TIME, most: int = USUAL_DRAWN, title: Optional[str] = None,
-         labels: Optional[Tuple[str, str]] = None) -> View:
+def view(session: "Session[Any, Any]", around: str, hops: int = 2, beside: "Optional[Session[Any, Any]]" = None, *,
+         kind: Optional[str] = None, since: Moment = 0, until: Moment = records.MOST_TIME, most: int = USUAL_DRAWN,
+         title: Optional[str] = None, labels: Optional[Tuple[str, str]] = None) -> View:
     """A page of the vertices within `hops` edges of `around`, direction ignored, and of the edges among them, in the version that
     the session holds; and with `beside` in that session's version too, so that edges gone and edges new are seen.
 
@@ -83,7 +83,7 @@ def view(session: "Session", around: str, hops: int = 2, beside: "Optional[Sessi
     return View(gather(sessions, named, around, hops, Window(kind, since, until), most), title)
 
 
-def _must_fit(first: "Session", second: "Session") -> None:
+def _must_fit(first: "Session[Any, Any]", second: "Session[Any, Any]") -> None:
     """Raises where the weights and times of two stores don't mean the same."""
     mine, other = first.store.units, second.store.units
     if mine != other:

@@ -15,6 +15,9 @@ if TYPE_CHECKING:
     import pandas
 
 V = TypeVar("V")
+# What weights and times are, by the units of a store.
+W = TypeVar("W")
+T = TypeVar("T")
 # How many rows of a table a notebook shows.
 ROWS_SHOWN = 10
 
@@ -76,28 +79,47 @@ class Renewed(NamedTuple):
         return f"began anew at version {self.version}: {self.edges} edges and {self.names} names went along, in {self.seconds:.1f} s"
 
 
-class Degree(NamedTuple):
-    """How many edges go out of a vertex and how many come in, and the sum of the weights of those that go out: a whole number,
-    or a decimal one in a store that has a `weight_scale`."""
+# Before Python 3.11 a named tuple has no parameters where it runs: those of these three are for a type checker, which is told of
+# them in the same words.
+if TYPE_CHECKING:
+    class Degree(NamedTuple, Generic[W]):
+        out: int
+        into: int
+        weight_out: W
 
-    out: int
-    into: int
-    weight_out: Any
+    class Edge(NamedTuple, Generic[W, T]):
+        weight: W
+        first: T
+        recent: T
 
+    class Neighbor(NamedTuple, Generic[W, T]):
+        out: "Optional[Edge[W, T]]"
+        into: "Optional[Edge[W, T]]"
+else:
+    class Degree(NamedTuple):
+        """How many edges go out of a vertex and how many come in, and the sum of the weights of those that go out: a whole
+        number, or a decimal one in a store that has a `weight_scale`. For a type checker it is a `Degree[W]`, of weights that are
+        W."""
 
-class Edge(NamedTuple):
-    """An edge's weight, the time of its first insertion, and that of the last operation that touched it; in the store's units."""
+        out: int
+        into: int
+        weight_out: Any
 
-    weight: Any
-    first: Any
-    recent: Any
+    class Edge(NamedTuple):
+        """An edge's weight, the time of the operation that added it, and that of the last one that touched it. These are whole
+        numbers; in a store that has units the weight is a decimal number, and a time a `datetime` in UTC. For a type checker it
+        is an `Edge[W, T]`, of weights that are W and times that are T."""
 
+        weight: Any
+        first: Any
+        recent: Any
 
-class Neighbor(NamedTuple):
-    """The edge to a neighbor and the edge from it, as sums over kinds; `None` where there is none."""
+    class Neighbor(NamedTuple):
+        """A vertex's edge to a neighbor, and its edge from it; `None` where there is none. For a type checker it is a
+        `Neighbor[W, T]`, as an `Edge` is."""
 
-    out: Optional[Edge]
-    into: Optional[Edge]
+        out: Optional[Edge]
+        into: Optional[Edge]
 
 
 # The columns of degrees as they are named on a command line.

@@ -15,7 +15,7 @@ if TYPE_CHECKING:
 
 HEADER = ("kind", "source", "target", *Edge._fields)
 # An edge as a user is told it.
-Told = Tuple[str, str, str, Edge]
+Told = Tuple[str, str, str, Any]
 
 
 class Edges(Sequence[Told]):
@@ -49,7 +49,7 @@ class Edges(Sequence[Told]):
         kinds, names = self.kinds.__getitem__, self.names.__getitem__
         return zip(map(kinds, self.kind), map(names, self.source), map(names, self.target), self.edges())
 
-    def edges(self) -> Iterator[Edge]:
+    def edges(self) -> Iterator[Edge[Any, Any]]:
         """The edges alone, in the store's units."""
         return map(Edge, *self.told())
 
@@ -99,8 +99,8 @@ class Changed(NamedTuple):
     kind: str
     source: str
     target: str
-    before: Edge
-    after: Edge
+    before: Any
+    after: Any
 
 
 class Diff:

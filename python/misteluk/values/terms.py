@@ -1,7 +1,7 @@
 """What a store's user says and is told, and what the program has for it: names by a table, weights and times by units."""
 from __future__ import annotations
 
-from typing import Callable, Dict, List, Optional, Sequence, Tuple
+from typing import Any, Callable, Dict, List, Optional, Sequence, Tuple
 
 from . import records
 from ..errors import Refused, refusal

@@ -4,6 +4,7 @@ from __future__ import annotations
 import re
 from datetime import date, datetime, timedelta, timezone
 from decimal import Decimal, InvalidOperation
+from fractions import Fraction
 from typing import Any, Callable, NamedTuple, Optional, Sequence, Union
 
 from . import records
@@ -14,10 +15,16 @@ Moment = Union[int, str, date]
 EPOCH = datetime(1970, 1, 1, tzinfo=timezone.utc)
 MICROSECOND = timedelta(microseconds=1)
 NUMBER, ISO = "number", "iso"
+HALF_EVEN = "half-even"
 _WITH_FRACTION = re.compile(r"([^.,]*[T ]\d\d:\d\d:\d\d)[.,](\d+)((?:[Zz]|[+-][^.,]*)?)", re.A)
 _A_DAY = re.compile(r"\d{4}-\d{2}-\d{2}")
 # How many signs a number may have that is looked at: a longer one is beyond every limit, and takes long.
 MOST_SIGNS = 400
+
+
+def whole_text(value: object) -> str:
+    """The value as a text; of a float that is whole that of the whole number, as 5 of 5.0."""
+    return str(int(value)) if isinstance(value, float) and value.is_integer() else str(value)
 
 
 def _places_of(scale: int) -> Optional[int]:
@@ -45,16 +52,21 @@ class Units(NamedTuple):
     `weight_scale`: the program's weights are so many parts of one, as 100 for cents; 1 leaves them whole numbers. It divides a
     power of ten, so that each weight is a decimal number. `times`: "number", or "iso" for dates, which the program has as
     microseconds since 1970. `decimals`: whether answers have weights as "decimal" (`decimal.Decimal`, exact) or "float".
+    `rounding`: "half-even" where a weight that is no whole number of parts is rounded to the nearest, or of two that are equally
+    near to the even one; else such a weight is refused.
     """
 
     weight_scale: int = 1
     times: str = NUMBER
     decimals: str = "decimal"
+    rounding: Optional[str] = None
 
     def checked(self) -> "Units":
         """Itself; raises `ValueError` where these are no units."""
         if self.times not in (NUMBER, ISO) or self.decimals not in ("decimal", "float"):
             raise ValueError("times is 'number' or 'iso', decimals is 'decimal' or 'float'")
+        if self.rounding not in (None, HALF_EVEN):
+            raise ValueError(f"rounding is 'half-even' or None, and not {self.rounding!r}")
         if not 1 <= self.weight_scale <= records.MOST_WEIGHT or _places_of(self.weight_scale) is None:
             raise ValueError(f"weight_scale is from 1 to 2^40, and divides a power of ten; {self.weight_scale} doesn't")
         return self
@@ -78,7 +90,7 @@ class Units(NamedTuple):
     # To the program: texts, of which each is the program's number; those that are none raise `ValueError` with the reason.
 
     def weight_to_program(self, text: str) -> str:
-        if self.weight_scale == 1:
+        if self.weight_scale == 1 and self.rounding is None:
             return text
         try:
             value = Decimal(text.strip()) if len(text) <= MOST_SIGNS else None
@@ -89,10 +101,10 @@ class Units(NamedTuple):
         limit = Decimal(records.MOST_WEIGHT) / self.weight_scale
         if not -limit <= value <= limit:
             raise ValueError(f"a weight is from -{limit} to {limit} (2^40 parts, of which one has {self.weight_scale})")
-        over, under = value.as_integer_ratio()
-        if over * self.weight_scale % under:
+        parts = Fraction(value) * self.weight_scale
+        if parts.denominator != 1 and self.rounding is None:
             raise ValueError(f"a weight is a whole number of parts, of which one has {self.weight_scale} (weight_scale)")
-        return str(over * self.weight_scale // under)
+        return str(round(parts))  # (of a Fraction: to the nearest, or the even one of two)
 
     def time_to_program(self, text: str, *, is_end: bool = False) -> str:
         """Of a day that ends a window its last microsecond. 0 is the time of what has none, and the first; the greatest time is
@@ -138,7 +150,7 @@ class Units(NamedTuple):
         """How a column of weights is told, where that isn't as it is."""
         return None if self.weight_scale == 1 else self.all_weights_to_user
 
-    def edge_to_user(self, weight: int, first: int, recent: int) -> Edge:
+    def edge_to_user(self, weight: int, first: int, recent: int) -> Edge[Any, Any]:
         """The edge, with its weight and times in these units."""
         if self.are_plain:
             return Edge(weight, first, recent)
