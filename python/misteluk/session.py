@@ -169,21 +169,22 @@ class Session(Generic[W, T]):
     def edges(self, asked: Iterable[Ends]) -> "List[Optional[Edge[W, T]]]": ...
 
     @overload
-    def edges(self, asked: None = None, *, kind: Optional[str] = None, since: Moment = 0,
+    def edges(self, asked: Optional[str] = None, *, kind: Optional[str] = None, since: Moment = 0,
               until: Moment = records.MOST_TIME) -> "Iterator[Tuple[str, str, str, Edge[W, T]]]": ...
 
     def edges(self, asked: Any = None, *, missing: Any = RAISE, kind: Optional[str] = None, since: Moment = 0,
               until: Moment = records.MOST_TIME) -> Any:
         """All edges, or those that are asked for.
 
-        Without `asked` an iterator of (kind, source, target, `Edge`), of a kind and a window where they are said.
+        Without `asked`, or with a kind in its place, an iterator of (kind, source, target, `Edge`), of a kind and a window where
+        they are said.
 
         With `asked` a list, for each kind, source and target an `Edge`, or `None` where the version has the names and not the
         edge. Raises `NoKind` or `NoVertex` for names that it doesn't have; `missing=` is given in place of such an edge."""
-        if asked is None:
-            return iter(self.edges_columns(kind, since, until))
-        if isinstance(asked, str):
-            raise TypeError(f"edges takes a list of (kind, source, target), or kind={asked!r} for all edges of a kind")
+        if isinstance(asked, str) and kind is not None:
+            raise ValueError(f"a kind is said once, and here are two: {asked!r} and {kind!r}")
+        if asked is None or isinstance(asked, str):
+            return iter(self.edges_columns(kind if asked is None else asked, since, until))
         if kind is not None or since != 0 or until != records.MOST_TIME:
             raise ValueError("kind, since and until are for all edges, and not for those that are asked for one by one")
         return self._some_edges([("edge", str(self.slot), *it) for it in asked], missing)

@@ -181,8 +181,8 @@ def has_ended(process, seconds=120.0):
 
 
 def is_calling(store):
-    """Whether a call of the store has begun: by its thread, or by a caller that has the turn."""
-    return bool(store._calls._made or store._calls.turn._holder)
+    """Whether a call of a store over a program has begun."""
+    return bool(store.engine.calls._made)
 
 
 @contextlib.contextmanager

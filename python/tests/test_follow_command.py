@@ -221,7 +221,7 @@ class FollowCommand(Case):
         text = text_of([(f"s{it}", f"t{it}", 1, it) for it in range(30)])
         status, out, err = self.run_it(text, "--blocks", "16")
         self.assertEqual((status, out), (1, []))
-        self.assertIn("misteluk: PoolEmpty (record 32): 30 rows of standard input, lines 1 to 30, are not in, and pending still; "
+        self.assertIn("30 rows of standard input, lines 1 to 30, are not in, and pending still; "
                       "0 rows before them are in. The batch needs 30 free blocks, and 16 are free. ", err)
         status, out, err = self.run_it("a,b,1,1\nb,c,x,2\n")
         self.assertEqual((status, len(out)), (1, 1))

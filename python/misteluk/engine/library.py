@@ -193,8 +193,7 @@ class HeldVersion:
         return self._is_open and not self._engine.is_closed
 
     def close(self) -> None:
-        if self.is_open:
-            self._engine.release(self)
+        self._engine.release(self)
 
     def end(self) -> None:
         """Lets the hold go, and the handles that nobody asks by now; the others go with those who do so."""
@@ -506,12 +505,13 @@ class LibraryEngine:
 
     @alone
     def release(self, version: HeldVersion) -> None:
+        held = self._held.get(version.slot)
+        if self.is_closed or not (version.is_open or held is not None and held() is version):
+            return
         version.end()
-        if not self.is_closed:
-            held = self._held.get(version.slot)
-            if held is not None and held() is version:
-                del self._held[version.slot]
-            self._settle()
+        if held is not None and held() is version:
+            del self._held[version.slot]
+        self._settle()
 
     def _close_versions(self) -> None:
         for it in self._versions:
