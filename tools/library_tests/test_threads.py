@@ -5,7 +5,7 @@ import threading
 import unittest
 from typing import List, Tuple
 
-from calls import Code, Desk, Version, view
+from calls import Code, Desk, Refused, Version, view
 from places import library
 
 VERTICES, EDGES = 3_000, 20_000
@@ -35,22 +35,27 @@ class Threads(unittest.TestCase):
         rounds = [0] * len(held)
 
         def ask(place: int, mine: Version) -> None:
-            while not is_over.is_set():
-                if tables(mine) != wanted[place]:
-                    faults.append(place)
-                rounds[place] += 1
+            try:
+                while not is_over.is_set():
+                    if tables(mine) != wanted[place]:
+                        faults.append(place)
+                    rounds[place] += 1
+            except Refused:
+                faults.append(place)
             mine.free()
 
         askers = [threading.Thread(target=ask, args=(place, it.clone())) for place, it in enumerate(held)]
         for asker in askers:
             asker.start()
         seed = 3
-        while min(rounds) < 3 and not faults:
-            self.assertEqual(desk.insert_columns(b"k", NAMES, edges(seed, EDGES))[0], Code.OK)
-            seed += 1
-        is_over.set()
-        for asker in askers:
-            asker.join()
+        try:
+            while min(rounds) < 3 and not faults:
+                self.assertEqual(desk.insert_columns(b"k", NAMES, edges(seed, EDGES))[0], Code.OK)
+                seed += 1
+        finally:
+            is_over.set()
+            for asker in askers:
+                asker.join()
         self.assertEqual(faults, [])
         self.assertEqual([tables(it) for it in held], wanted)
         self.assertGreater(desk.stat().version, held[-1].size.version)
