@@ -9,9 +9,10 @@ from typing import Dict, List, Type
 
 from calls import ANY_KIND, NOT_REACHED, TOP, Code, interface
 
-STRUCTS: Dict[str, Type[ctypes.Structure]] = {name.lower(): it for name, it in vars(interface).items()
-                                              if isinstance(it, type) and issubclass(it, ctypes.Structure) and name != "Structure"}
-NUMBERS = {**{it.name: it.value for it in Code}, "INTERFACE": interface.INTERFACE, "ANY_KIND": ANY_KIND, "NOT_REACHED": NOT_REACHED}
+KINDS = [it for it in vars(interface).values() if isinstance(it, type) and issubclass(it, ctypes.Structure)]
+STRUCTS: Dict[str, Type[ctypes.Structure]] = {it.__name__.lower(): it for it in KINDS if it is not ctypes.Structure}
+NUMBERS = {it.name: it.value for it in Code}
+NUMBERS |= {"INTERFACE": interface.INTERFACE, "ANY_KIND": ANY_KIND, "NOT_REACHED": NOT_REACHED}
 
 
 def lines() -> Dict[str, int]:
