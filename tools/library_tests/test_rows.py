@@ -219,6 +219,10 @@ class Holds(unittest.TestCase):
         desk.rebase()
         again = desk.hold()
         self.assertEqual((held.size.version, held.size.edges, again.size.version, again.size.edges), (1, 1, 0, 1))
+        former, later = held.hold, again.hold
+        assert former and later
+        codes = [library().desk_release(desk.handle, it) for it in (former, former, later, later)]
+        self.assertEqual(codes, [Code.OK, Code.OK, Code.OK, Code.NO_SEAT])
         desk.free()
         self.assertEqual(held.edges(view(), 1), again.edges(view(), 1))
         for it in (held, again, batch):
