@@ -1,8 +1,9 @@
-/* Memory for the library that is refused at the calls that a test names; and a count of the calls. */
-#include <stddef.h>
+/* Memory for the library that is refused at the calls that a test names; and a count of the calls. It needs no header, so that the
+ * toolchain's own compiler makes it where there is no other. */
+typedef __SIZE_TYPE__ length;
 
-void *__real_malloc(size_t size);
-void *__real_realloc(void *at, size_t size);
+void *__real_malloc(length size);
+void *__real_realloc(void *at, length size);
 
 static unsigned long asked, first_refused, last_refused;
 
@@ -26,12 +27,12 @@ static int is_refused(void)
     return first_refused <= asked && asked <= last_refused;
 }
 
-void *__wrap_malloc(size_t size)
+void *__wrap_malloc(length size)
 {
-    return is_refused() ? NULL : __real_malloc(size);
+    return is_refused() ? 0 : __real_malloc(size);
 }
 
-void *__wrap_realloc(void *at, size_t size)
+void *__wrap_realloc(void *at, length size)
 {
-    return is_refused() ? NULL : __real_realloc(at, size);
+    return is_refused() ? 0 : __real_realloc(at, size);
 }
