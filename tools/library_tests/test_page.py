@@ -31,7 +31,7 @@ class Page(unittest.TestCase):
             self.assertEqual(says_it, takes_a_handle, name)
 
     def test_each_code_has_its_number(self) -> None:
-        self.assertEqual(rows("Codes"), [[f"`{it.name}`", str(it.value)] for it in Code])
+        self.assertEqual([it[:2] for it in rows("Codes")], [[f"`{it.name}`", str(it.value)] for it in Code])
 
     @unittest.skipUnless(shutil.which("cc"), "there is no cc: what the page shows was passed over")
     def test_what_is_typed_prints_what_stands_there(self) -> None:
