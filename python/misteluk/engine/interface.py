@@ -1,5 +1,5 @@
-"""The C interface of the store, for ctypes. `tools/interface` writes this from include/misteluk.h, which says what each call
-does, and what a caller owes: nothing here tests it."""
+"""The C interface of the store, for ctypes. `tools/interface` writes this from include/misteluk.h, which says what each
+call does, and what a caller owes: nothing here tests it."""
 import enum
 from ctypes import CDLL, POINTER, Array, Structure, c_int64, c_size_t, c_uint32, c_uint64, c_void_p
 from typing import Any, Callable, Dict, List, Tuple, Union
