@@ -331,3 +331,11 @@ class Model:
 
     def end(self):
         self.store.kill()
+
+
+if __name__ == "__main__":  # python3 interrupting.py 10000: so many interrupts by a timer, beside the model
+    with handler(interrupt_in_a_call):
+        MODEL = Model(int(sys.argv[2]) if len(sys.argv) > 2 else 7)
+        MODEL.run(int(sys.argv[1]))
+        MODEL.end()
+    print(f"{MODEL.interrupts} interrupts in {MODEL.steps} steps, over the {misteluk.Store(blocks=64).engine.name}: nothing wrong")

@@ -37,14 +37,17 @@ def find_program(program: Optional[Path] = None) -> str:
 
 def find_library(library: Optional[Path] = None) -> str:
     """The library that is loaded: the one that is named, else that of the variable MISTELUK_LIBRARY, else the one that was
-    installed with this package, else the repository's, proved or else compiled, or that of the archive that it stands in."""
+    installed with this package, else the repository's, proved or compiled, which is the later one, or that of the archive that it
+    stands in."""
     named = library or os.environ.get(OF_LIBRARY)
     if named:
         return os.path.abspath(named)
     here = pathlib.Path(__file__).resolve().parents[1]
     top = here.parents[1]
-    for it in (here / "lib", top / "crates" / "misteluk_c" / "out", top / "out" / "compiled", top / "lib"):
-        if (it / LIBRARY).is_file():
-            return str(it / LIBRARY)
+    made = [it / LIBRARY for it in (top / "crates" / "misteluk_c" / "out", top / "out" / "compiled") if (it / LIBRARY).is_file()]
+    made.sort(key=lambda it: it.stat().st_mtime, reverse=True)  # (the later one is of the sources as they are, if any is)
+    for it in (here / "lib" / LIBRARY, *made, top / "lib" / LIBRARY):
+        if it.is_file():
+            return str(it)
     raise LibraryNotFound(f"no {LIBRARY} is here: ./stinger library makes it in the repository, and the variable {OF_LIBRARY} names "
                           "another")

@@ -6,6 +6,7 @@ version keeps the edges that were found. A run takes 999,999 records in all.
 """
 from __future__ import annotations
 
+import warnings
 import weakref
 from array import array
 from typing import Any, Callable, Dict, Iterable, List, NamedTuple, Optional, Sequence, Tuple, Union
@@ -16,7 +17,8 @@ from .conversation import Awaited, Conversation, how_ended, one_line
 from .guard import Guard
 from .index import Index
 from .protocol import WHOLE, Arrays, Batch, Denied, Ends, Marks, Receipt, Scope
-from ..errors import Incomplete, Misread, NoSeat, NotRenewed, ProgramEnded, RecordLimit, SessionClosed, StoreError
+from ..errors import Incomplete, Misread, NearLimit, NoSeat, NotRenewed, ProgramEnded, RecordLimit, SessionClosed, StoreError
+from ..feeds.progress import MANY, Progress
 from ..values import records
 from ..values.answers import Collected, Commit, Rebased, Renewed, Stat
 
@@ -189,7 +191,7 @@ class HeldVersion:
         self._must_have(scope)
         if self._all is None:
             candidates = self._engine.candidates()
-            self._engine.make_room(len(candidates) + len(candidates.kinds) + 1)
+            self._engine.make_room_for_all(len(candidates) + len(candidates.kinds) + 1)
             found = self._edges_of(list(candidates), WHOLE)
             self._must_be_all(found)
             order = sorted(range(found.size), key=lambda at: (found.kinds[at], found.sources[at], found.targets[at]))
@@ -265,7 +267,7 @@ class ProgramEngine:
         self._held: "Dict[int, weakref.ref[HeldVersion]]" = {}
         self._orphans: List[Tuple[int, Awaited]] = []
         self._rebasing: Optional[Tuple[HeldVersion, Awaited]] = None
-        self.is_closed = False
+        self.is_closed = self._is_near = False
         try:
             self.calls.make(lambda: self._start(timeout), untaken=Conversation.kill)
         except BaseException:
@@ -316,6 +318,15 @@ class ProgramEngine:
             raise RecordLimit(f"a run takes {self.most_records} records; this one had {self.talk.records}, and {count} more were "
                               "to be sent: begin a new store, or one in this process, which has no such limit (engine='library')")
 
+    def make_room_for_all(self, count: int) -> None:
+        """The same for a reading of all edges. Warns once, where a second one would find too few records."""
+        self.make_room(count)
+        if not self._is_near and self.records_left < 2 * count:
+            self._is_near = True
+            warnings.warn(NearLimit(f"{self.records_left} of this run's {self.most_records} records are left, and a session that "
+                                    f"asks for all edges, also by a save, takes {count}: that can be once, and not twice. A store "
+                                    "in this process has no such limit (engine='library')"), stacklevel=2)
+
     def ask(self, fields: Sequence[str], rows_behind: Callable[[str], int] = one_line) -> Awaited:
         """Asks, and waits for the answer; a refusal is raised."""
         self.make_room(1)
@@ -330,11 +341,16 @@ class ProgramEngine:
         """Asks many requests of one line each, thousands at once; what was refused the answers tell."""
         self.make_room(len(texts))
         answers: List[Awaited] = []
-        for at in range(0, len(texts), ASK_AT_ONCE):
-            if self.calls.is_left:
-                raise StoreError("nobody waits for the answers")
-            answers += [self.talk.ask(it) for it in texts[at:at + ASK_AT_ONCE]]
-            self.talk.settle(answers[-1])
+        told = Progress("asking for edges", len(texts), None if len(texts) >= MANY else False, "edges")
+        try:
+            for at in range(0, len(texts), ASK_AT_ONCE):
+                if self.calls.is_left:
+                    raise StoreError("nobody waits for the answers")
+                answers += [self.talk.ask(it) for it in texts[at:at + ASK_AT_ONCE]]
+                self.talk.settle(answers[-1])
+                told.step(len(answers) - at)
+        finally:
+            told.end()
         return answers
 
     def candidates(self) -> Candidates:
