@@ -141,7 +141,8 @@ def library_here() -> Files:
     top = HERE.parent
     path = top / "lib/libmisteluk.so"
     if (top / "stinger").is_file():
-        where = subprocess.run([top / "stinger", "library", "--where"], stdout=subprocess.PIPE, stderr=subprocess.DEVNULL, text=True)
+        where = subprocess.run([top / "stinger", "library", "--where"], stdout=subprocess.PIPE, stderr=subprocess.DEVNULL,
+                               text=True)
         path = pathlib.Path(where.stdout.strip() or path)
     return {LIBRARY: (path.read_bytes(), False)} if path.is_file() else {}
 

@@ -12,8 +12,8 @@ Python's standard library is enough; pandas, networkx, matplotlib and tqdm are u
 """
 from .engine.finding import find_library, find_program
 from .errors import (AlreadyOpen, BadCommand, BadFields, BadName, BadRows, BadSlot, BadTime, BadWeight, BadWindow, BatchFull,
-                     BatchLimit, FeedFault, Incomplete, KindsFull, LeftOut, LibraryNotFound, Misread, Missing, NamesFull, NearLimit,
-                     NoAnswer, NoKind, NoMemory, NoSeat, NotOpen, NotRenewed, NoVertex, OperationsRefused, OutOfMemory,
+                     BatchLimit, FeedFault, Incomplete, KindsFull, LeftOut, LibraryNotFound, Misread, Missing, NamesFull,
+                     NearLimit, NoAnswer, NoKind, NoMemory, NoSeat, NotOpen, NotRenewed, NoVertex, OperationsRefused, OutOfMemory,
                      OverLimit, PartsFailed, Place, PoolEmpty, ProgramEnded, ProgramNotFound, RecordLimit, Refused, SaveFault,
                      SessionClosed, StoreError, Uncommitted)
 from .feeds.delimited import delimited
@@ -42,8 +42,8 @@ __all__ = [
     "Stat", "view", "View", "lint",
     "find_library", "find_program",
     "StoreError", "Refused", "Place", "AlreadyOpen", "BadCommand", "BadFields", "BadName", "BadRows", "BadSlot", "BadTime",
-    "BadWeight", "BadWindow", "BatchFull", "BatchLimit", "FeedFault", "Incomplete", "KindsFull", "LeftOut", "LibraryNotFound", "Misread",
-    "Missing", "NamesFull", "NearLimit", "NoAnswer", "NoKind", "NoMemory", "NoSeat", "NoVertex", "NotOpen", "NotRenewed",
+    "BadWeight", "BadWindow", "BatchFull", "BatchLimit", "FeedFault", "Incomplete", "KindsFull", "LeftOut", "LibraryNotFound",
+    "Misread", "Missing", "NamesFull", "NearLimit", "NoAnswer", "NoKind", "NoMemory", "NoSeat", "NoVertex", "NotOpen", "NotRenewed",
     "OperationsRefused", "OutOfMemory", "OverLimit", "PartsFailed", "PoolEmpty", "ProgramEnded", "ProgramNotFound", "RecordLimit",
     "SaveFault", "SessionClosed", "Uncommitted",
 ]

@@ -8,7 +8,7 @@ from __future__ import annotations
 from typing import Dict, List, NamedTuple, Optional, Sequence, Tuple
 
 from .engine.guard import Guard, alone
-from .engine.protocol import Batch, Denied, Engine, Flight, Receipt
+from .engine.protocol import Operations, Denied, Engine, Flight, Receipt
 from .errors import OperationsRefused, PoolEmpty, Refused, StoreError, refusal
 from .values import records
 from .values.answers import Commit, Stat
@@ -113,7 +113,7 @@ class Ledger:
             left = len(self.pending)
             while left or not self._books.untold:
                 part = self.pending[:min(batch, left)]
-                self._fly(Batch("".join(part).encode("ascii"), len(part)), collect, True)
+                self._fly(Operations("".join(part).encode("ascii"), len(part)), collect, True)
                 left -= len(part)
         except Refused as fault:
             if self._books.untold:
@@ -130,7 +130,7 @@ class Ledger:
         del self.taken[:count]
 
     @alone
-    def apply(self, batch: Batch, collect: bool, feed: Optional[Feed] = None) -> Commit:
+    def apply(self, batch: Operations, collect: bool, feed: Optional[Feed] = None) -> Commit:
         """Applies a batch of its own, as one of a load, whose terms the store takes with it, or not at all. What commits did
         before isn't told any more."""
         if self.is_closed:
@@ -160,7 +160,7 @@ class Ledger:
         """Takes no more operations."""
         self.is_closed = True
 
-    def _fly(self, batch: Batch, collect: bool, of_pending: bool, feed: Optional[Feed] = None) -> Receipt:
+    def _fly(self, batch: Operations, collect: bool, of_pending: bool, feed: Optional[Feed] = None) -> Receipt:
         flight = self.engine.flight(batch, collect)
         self._books = Books(self._books.untold, flight, of_pending, feed)
         try:
@@ -199,13 +199,13 @@ class Ledger:
             raise OperationsRefused(receipt.commit.version, told)
         return receipt
 
-    def _refusal(self, batch: Batch, at: int, word: str) -> Refused:
+    def _refusal(self, batch: Operations, at: int, word: str) -> Refused:
         line = self.terms.told(batch.text.decode("ascii").split("\n")[at])
         return refusal(word, line, place=batch.place(at) if batch.place else None)
 
     # What is refused.
 
-    def _refused(self, fault: Denied, batch: Batch, of_pending: bool) -> Refused:
+    def _refused(self, fault: Denied, batch: Operations, of_pending: bool) -> Refused:
         place = batch.place(0) if batch.place and batch.size else None
         if fault.stat is not None:
             needed = batch.size + (fault.stat.used if batch.expires else 0)

@@ -17,7 +17,7 @@ from . import files
 
 from .values import records
 from .engine.copies import Content, content_of, operations_of
-from .engine.protocol import Batch
+from .engine.protocol import Operations
 from .errors import Missing, OverLimit, PoolEmpty, SaveFault, StoreError
 from .feeds.feed import escaped, parts_of
 from .engine.finding import Path
@@ -232,7 +232,7 @@ def _fill(store: "Store[Any, Any]", found: Found, size: int, told: Progress) -> 
     ledger = store.ledger
     ledger.terms.names.put(found.texts)
     for part in parts_of(found.operations, size or 1):
-        ledger.apply(Batch("".join(part).encode("ascii"), len(part)), True)
+        ledger.apply(Operations("".join(part).encode("ascii"), len(part)), True)
         told.step(len(part))
     told.end()
     kinds = dict.fromkeys(records.split_record(it)[1] for it in found.operations)
@@ -252,5 +252,5 @@ def _must_fit(store: "Store[Any, Any]", name: str, found: Found, size: int) -> N
     """Raises where a program's records aren't enough."""
     count, left = len(found.operations) + 2 * -(-len(found.operations) // (size or 1)) + 2, store.records_left
     if left is not None and count > left:
-        raise OverLimit(f"{name} takes {count} records in batches of {size}, for which {store.blocks} blocks have room, where a run "
-                        f"takes {records.MOST_RECORDS}: with more blocks they are fewer. Nothing is restored", {"records": count})
+        raise OverLimit(f"{name} takes {count} records in batches of {size}, for which {store.blocks} blocks have room, where a "
+                        f"run takes {records.MOST_RECORDS}: with more blocks they are fewer. Nothing is restored", {"records": count})

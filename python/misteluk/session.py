@@ -1,19 +1,17 @@
 """A session, which holds a version of a store and answers questions about it."""
 from __future__ import annotations
 
-import csv
 from array import array
-from datetime import datetime
 from operator import add
-from typing import TYPE_CHECKING, Any, Callable, Dict, Generic, Iterable, Iterator, List, Optional, Sequence, Tuple, TypeVar, Union, overload
+from typing import (TYPE_CHECKING, Any, Callable, Dict, Generic, Iterable, Iterator, List, Optional, Sequence, Tuple, TypeVar,
+                    Union, overload)
 
 from .engine.finding import Path
-from .engine.protocol import Arrays, Denied, Scope, Version
-from .errors import BadName, Incomplete, Missing, NoKind, NoVertex, SessionClosed, refusal
-from .files import whole_text
+from .engine.protocol import Arrays, Denied, Scope, Held
+from .errors import BadName, Incomplete, NoKind, NoVertex, SessionClosed, refusal
 from .values import records
-from .values.answers import Answer, Column, Degree, Edge, Neighbor, T, W, degrees
-from .values.edges import HEADER, Diff, Edges, Told
+from .values.answers import Answer, Values, Degree, Edge, Neighbor, T, W, degrees
+from .values.edges import Diff, Edges, Told
 from .values.names import must_be_texts, shown
 from .values.terms import Terms
 from .values.units import Moment
@@ -46,7 +44,7 @@ class Session(Generic[W, T]):
     beforehand where too few are left. What was told of all edges once is kept, and costs no record again.
     """
 
-    def __init__(self, store: "Store[W, T]", held: Version) -> None:
+    def __init__(self, store: "Store[W, T]", held: Held) -> None:
         self.store, self.held = store, held
         self.slot, self.version, self.names = held.slot, held.number, held.count
         self._names: Optional[List[str]] = None
@@ -72,7 +70,8 @@ class Session(Generic[W, T]):
         except Denied as fault:
             raise self._terms.denied(fault, fields) from None
 
-    def _scope(self, command: str, kind: Optional[str], since: Moment, until: Moment, *names: str) -> "Tuple[Scope, Sequence[str]]":
+    def _scope(self, command: str, kind: Optional[str], since: Moment, until: Moment,
+               *names: str) -> "Tuple[Scope, Sequence[str]]":
         """Which edges count, and what is asked as fields. Raises where a name is none, the kind none, or the window no window."""
         self.must_be_open()
         asked = (command, str(self.slot), *names, kind or records.ANY, str(since), str(until))
@@ -95,7 +94,7 @@ class Session(Generic[W, T]):
             self._names = list(self._terms.names.all_to_user(self.held.names()))
         return self._names
 
-    def _answer(self, value: str, asked: Sequence[str], columns: Dict[str, Column],
+    def _answer(self, value: str, asked: Sequence[str], columns: Dict[str, Values],
                 names: Optional[Sequence[str]] = None) -> "Answer[Any]":
         names = self._all_names() if names is None else names
         return Answer.of(names, columns, self.version, ",".join(asked), value)
@@ -106,25 +105,26 @@ class Session(Generic[W, T]):
 
     # Tables.
 
-    def levels(self, source: str, kind: Optional[str] = None, since: Moment = 0, until: Moment = records.MOST_TIME) -> Answer[int]:
+    def levels(self, source: str, kind: Optional[str] = None, since: Moment = 0,
+               until: Moment = records.MOST_TIME) -> Answer[int]:
         """The least number of edges on a walk from the source, for each vertex that one reaches."""
         scope, asked = self._scope("bfs", kind, since, until, source)
         name = self._terms.names.to_program(source, keep=False)
         reached, levels = self._asked(self.held.levels, asked, scope, name)
         names = self._all_names()
         names = names if len(reached) == len(names) else list(map(names.__getitem__, reached))
-        return self._answer("level", asked, {"level": Column(levels)}, names)
+        return self._answer("level", asked, {"level": Values(levels)}, names)
 
     def components(self, kind: Optional[str] = None, since: Moment = 0, until: Moment = records.MOST_TIME) -> Answer[str]:
         """A label for each vertex: the first of the vertices that walks join to it, direction ignored."""
         scope, asked = self._scope("comp", kind, since, until)
         labels, names = self._asked(self.held.labels, asked, scope), self._all_names()
-        return self._answer("label", asked, {"label": Column(labels, lambda it: list(map(names.__getitem__, it)))})
+        return self._answer("label", asked, {"label": Values(labels, lambda it: list(map(names.__getitem__, it)))})
 
     def cores(self, kind: Optional[str] = None, since: Moment = 0, until: Moment = records.MOST_TIME) -> Answer[int]:
         """Core numbers (Seidman 1983): the greatest k so that the vertex is in a set of which each has k neighbors in it."""
         scope, asked = self._scope("core", kind, since, until)
-        return self._answer("core", asked, {"core": Column(self._asked(self.held.cores, asked, scope))})
+        return self._answer("core", asked, {"core": Values(self._asked(self.held.cores, asked, scope))})
 
     def degrees(self, kind: Optional[str] = None, since: Moment = 0, until: Moment = records.MOST_TIME) -> Answer[Degree[W]]:
         """For each vertex how many edges go out and come in, and the weight that goes out."""
@@ -140,7 +140,7 @@ class Session(Generic[W, T]):
         for target, weight in zip(found.targets, found.weights):
             weights[target] += weight
         asked = ("weights_in", *asked[2:])
-        return self._answer("weight_in", asked, {"weight_in": Column(weights, self._terms.units.weights_told)})
+        return self._answer("weight_in", asked, {"weight_in": Values(weights, self._terms.units.weights_told)})
 
     # One edge, and all.
 
@@ -212,59 +212,26 @@ class Session(Generic[W, T]):
                     until: Moment = records.MOST_TIME) -> "networkx.MultiDiGraph":
         """All edges as a networkx graph, with every name of the version as a node, in order. An edge's key is its kind; it has
         the attributes `kind`, `weight`, `first` and `recent`."""
-        try:
-            import networkx
-        except ImportError:
-            raise Missing("networkx", "a graph") from None
-        edges = self.edges_columns(kind, since, until)
-        graph = networkx.MultiDiGraph(version=self.version)
-        graph.add_nodes_from(edges.names)
-        graph.add_edges_from((source, target, it, {"kind": it, "weight": edge[0], "first": edge[1], "recent": edge[2]})
-                             for it, source, target, edge in edges)
-        return graph
+        return self.edges_columns(kind, since, until).to_networkx(version=self.version)
 
     def to_igraph(self, kind: Optional[str] = None, since: Moment = 0, until: Moment = records.MOST_TIME) -> "igraph.Graph":
         """All edges as a directed igraph graph, whose vertices have the version's numbers, and its names as `name`. Edges have
         `kind`, `weight`, `first` and `recent`."""
-        try:
-            import igraph
-        except ImportError:
-            raise Missing("igraph", "a graph") from None
-        edges = self.edges_columns(kind, since, until)
-        graph = igraph.Graph(len(edges.names), list(zip(edges.source, edges.target)), directed=True)
-        graph["version"] = self.version
-        graph.vs["name"] = edges.names
-        graph.es["kind"] = list(map(edges.kinds.__getitem__, edges.kind))
-        for name, values in zip(Edge._fields, edges.told()):
-            graph.es[name] = list(values)
-        return graph
+        return self.edges_columns(kind, since, until).to_igraph(version=self.version)
 
     def to_scipy(self, kind: Optional[str] = None, since: Moment = 0,
                  until: Moment = records.MOST_TIME) -> "scipy.sparse.csr_matrix":
-        """The weights as a sparse matrix: row and column are the numbers of source and target, whose names `edges_columns().names`
-        has. Of several kinds the weights are summed. Weights are in the parts that the store counts (`units.weight_scale`)."""
-        try:
-            import numpy
-            import scipy.sparse
-        except ImportError:
-            raise Missing("scipy", "a sparse matrix") from None
-        edges = self.edges_columns(kind, since, until)
-        ends = numpy.asarray(edges.source).astype("int64"), numpy.asarray(edges.target).astype("int64")
-        size = len(edges.names)
-        return scipy.sparse.csr_matrix((numpy.asarray(edges.weight).astype("int64"), ends), shape=(size, size))
+        """The weights as a sparse matrix: row and column are the numbers of source and target, whose names
+        `edges_columns().names` has. Of several kinds the weights are summed. Weights are in the parts that the store counts (`units.weight_scale`)."""
+        return self.edges_columns(kind, since, until).to_scipy()
 
     def to_csv(self, path: Path, kind: Optional[str] = None, since: Moment = 0, until: Moment = records.MOST_TIME) -> int:
         """Writes all edges as CSV in UTF-8 with a header, kind, source, target, weight, first and recent, and gives how many they
         are. The file is written beside and renamed when it is whole: a fault or an interrupt leaves what was there."""
-        edges = self.edges_columns(kind, since, until)
-        with whole_text(path) as file:
-            write = csv.writer(file, lineterminator="\n").writerow
-            write(HEADER)
-            for *ends, edge in edges:
-                write((*ends, edge.weight, *map(_time_text, edge[1:])))
-        return len(edges)
+        return self.edges_columns(kind, since, until).to_csv(path)
 
-    def diff(self, later: "Session[Any, Any]", kind: Optional[str] = None, since: Moment = 0, until: Moment = records.MOST_TIME) -> Diff:
+    def diff(self, later: "Session[Any, Any]", kind: Optional[str] = None, since: Moment = 0,
+             until: Moment = records.MOST_TIME) -> Diff:
         """What became of this version's edges in a later one, or in another store's with the same units: which are gone, which
         are new, and which have another weight or time. See `misteluk.Diff`."""
         if later.store.units != self.store.units:
@@ -285,7 +252,8 @@ class Session(Generic[W, T]):
         name = self._terms.names.to_program(vertex, keep=False)
         return self._edges(self._asked(self.held.out_of if is_out else self.held.into, asked, scope, name))
 
-    def edges_out_of(self, source: str, kind: Optional[str] = None, since: Moment = 0, until: Moment = records.MOST_TIME) -> Edges:
+    def edges_out_of(self, source: str, kind: Optional[str] = None, since: Moment = 0,
+                     until: Moment = records.MOST_TIME) -> Edges:
         """The edges that go out of the source, each kind's apart, as arrays with names."""
         return self._beside(source, kind, since, until, True)
 
@@ -334,8 +302,8 @@ class Session(Generic[W, T]):
         while levels[at] > 0:
             step = next((it for it in self.edges_into(at, kind, since, until) if levels.get(it[1]) == levels[at] - 1), None)
             if step is None:
-                raise Incomplete(f"{at!r} has an edge from a vertex {levels[at] - 1} steps off, by the levels, and the client knows "
-                                 "of none")
+                raise Incomplete(f"{at!r} has an edge from a vertex {levels[at] - 1} steps off, by the levels, and the client "
+                                 "knows of none")
             walk.append(step)
             at = step[1]
         walk.reverse()
@@ -355,7 +323,7 @@ class Session(Generic[W, T]):
         else:
             near = self._reached(vertex, hops, kind, since, until)
         asked = ("within", vertex, str(hops), kind or records.ANY, str(since), str(until))
-        rows = list(near), {"level": Column(array("I", near.values()))}
+        rows = list(near), {"level": Values(array("I", near.values()))}
         return Answer.of(*rows, self.version, ",".join(asked), "level")
 
     def _reached(self, vertex: str, hops: int, kind: Optional[str], since: Moment, until: Moment) -> Dict[str, int]:
@@ -438,7 +406,3 @@ def _summed(edges: Edges, end: int) -> Dict[str, Edge[Any, Any]]:
         found[name] = edge if other is None else Edge(add(other.weight, edge.weight), min(other.first, edge.first),
                                                       max(other.recent, edge.recent))
     return found
-
-
-def _time_text(time: Any) -> str:
-    return time.isoformat() if isinstance(time, datetime) else str(time)

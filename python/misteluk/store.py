@@ -195,7 +195,8 @@ class Store(Generic[W, T]):
                       progress=progress, **read_as)
 
     @classmethod
-    def restore(cls, path: Path, *, blocks: Optional[int] = None, progress: Optional[bool] = None, **options: Any) -> "Store[Any, Any]":
+    def restore(cls, path: Path, *, blocks: Optional[int] = None, progress: Optional[bool] = None,
+                **options: Any) -> "Store[Any, Any]":
         """A store with the version that `Session.save` wrote into the file. Every request of it is answered as that version's
         were; its own versions count anew. It has the units and names of the store that was saved, and as many blocks, or more
         where the copy finds no room in them, unless `blocks` says how many. The other options are those of `Store`.
@@ -229,7 +230,8 @@ class Store(Generic[W, T]):
         try:
             return Session(self, self.engine.hold(slot))
         except NoSeat:
-            more = f", or make the store with more seats ({records.MOST_SEATS} at most)" if self.seats < records.MOST_SEATS else ""
+            most = records.MOST_SEATS
+            more = f", or make the store with more seats ({most} at most)" if self.seats < most else ""
             raise NoSeat(f"all {self.seats} seats hold sessions: close one{more}") from None
         except Denied as fault:
             raise self.ledger.terms.denied(fault, ("open", str(slot))) from None

@@ -338,4 +338,4 @@ if __name__ == "__main__":  # python3 interrupting.py 10000: so many interrupts 
         MODEL = Model(int(sys.argv[2]) if len(sys.argv) > 2 else 7)
         MODEL.run(int(sys.argv[1]))
         MODEL.end()
-    print(f"{MODEL.interrupts} interrupts in {MODEL.steps} steps, over the {misteluk.Store(blocks=64).engine.name}: nothing wrong")
+    print(f"{MODEL.interrupts} interrupts in {MODEL.steps} steps, over the {MODEL.store.engine.name}: nothing wrong")

@@ -21,7 +21,8 @@ ONCE = ("lint", "package", "records", "release", "types")
 
 
 def engines() -> List[str]:
-    """The engines that the tests run over: that of the variable MISTELUK_ENGINE, else the library where it is, and the program."""
+    """The engines that the tests run over: that of the variable MISTELUK_ENGINE, else the library, where it is, and the
+    program."""
     if NAMED:
         return [NAMED]
     try:

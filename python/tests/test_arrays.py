@@ -60,8 +60,10 @@ class EdgesOfAVersion(Case):
         edges = self.store(*ROADS).open().edges_columns()
         told = {tuple(it) for it in zip(map(edges.kinds.__getitem__, edges.kind), map(edges.names.__getitem__, edges.source),
                                         map(edges.names.__getitem__, edges.target), edges.weight, edges.first, edges.recent)}
-        self.assertEqual(told, {("road", "ulm", "kiel", 5, 1, 1), ("road", "kiel", "bonn", 7, 2, 2), ("rail", "ulm", "bonn", 3, 3, 3)})
-        self.assertEqual((len(edges), edges[0], list(edges[1:]), list(edges)[-1]), (3, next(iter(edges)), list(edges)[1:], edges[-1]))
+        self.assertEqual(told, {("road", "ulm", "kiel", 5, 1, 1), ("road", "kiel", "bonn", 7, 2, 2),
+                                ("rail", "ulm", "bonn", 3, 3, 3)})
+        self.assertEqual((len(edges), edges[0], list(edges[1:]), list(edges)[-1]),
+                         (3, next(iter(edges)), list(edges)[1:], edges[-1]))
         self.assertEqual(edges.top(2), [("road", "kiel", "bonn", Edge(7, 2, 2)), ("road", "ulm", "kiel", Edge(5, 1, 1))])
         self.assertEqual(edges.top(1, "recent"), [("rail", "ulm", "bonn", Edge(3, 3, 3))])
         self.assertRaises(ValueError, edges.top, 1, "first time")
@@ -79,7 +81,8 @@ class EdgesOfAVersion(Case):
     def test_a_path_s_edges(self):
         session = self.store(*ROADS, "insert road bonn trier 1 9").open()
         self.assertEqual(session.path("ulm", "trier", "road", edges=True), [
-            ("road", "ulm", "kiel", Edge(5, 1, 1)), ("road", "kiel", "bonn", Edge(7, 2, 2)), ("road", "bonn", "trier", Edge(1, 9, 9))])
+            ("road", "ulm", "kiel", Edge(5, 1, 1)), ("road", "kiel", "bonn", Edge(7, 2, 2)),
+            ("road", "bonn", "trier", Edge(1, 9, 9))])
         self.assertEqual((session.path("ulm", "ulm", edges=True), session.path("trier", "ulm", edges=True)), ([], None))
 
     def test_diff(self):

@@ -145,7 +145,8 @@ class Commands(CommandCase):
                                 "load", self.file("a.csv", ""), "--add")),
                             ("blocks is from 16", ("load", path, *OF_PAIRS, "--add", "--blocks", "7")),
                             ("NoVertex", ("load", path, *OF_PAIRS, "--add", "--levels", "z")),
-                            ("--save and --edges are for what was loaded", ("load", path, *OF_PAIRS, "--add", "--dry-run", "--save", "x")),
+                            ("--save and --edges are for what was loaded", (
+                                "load", path, *OF_PAIRS, "--add", "--dry-run", "--save", "x")),
                             ("No such file", ("load", path, *OF_PAIRS, "--add", "--save", "/no/such/x")),
                             ("No such file", ("restore", "/no/such")),
                             ("wants --edge", ("picture", "edge", path, *OF_PAIRS, "--add", "-o", "x.svg"))):

@@ -8,7 +8,7 @@ from support import ENGINE, OF_PIPES, Case
 import misteluk
 from misteluk.engine import copies as copying
 from misteluk.engine.copies import content_of, operations_of
-from misteluk.engine.protocol import Batch
+from misteluk.engine.protocol import Operations
 
 KINDS = ("road", 'a,"kind"', "rail")
 WINDOWS = ({}, {"since": 30}, {"until": 40}, {"since": 20, "until": 50}, {"since": 61, "until": 61})
@@ -53,7 +53,7 @@ class Copies(Case):
         operations = list(operations_of(content))
         for at in range(0, len(operations), 4):
             part = operations[at:at + 4]
-            store.ledger.apply(Batch("".join(part).encode(), len(part)), True)
+            store.ledger.apply(Operations("".join(part).encode(), len(part)), True)
         return store.open()
 
     def differ(self, seed):

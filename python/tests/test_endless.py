@@ -1,4 +1,4 @@
-"""Feeds without end, in this process: a store begins anew where it is full, and what is held, pending or counted stays as it is."""
+"""Feeds without end, in this process: a store begins anew where it is full, and what is held, pending or counted stays."""
 import unittest
 from unittest import mock
 

@@ -14,7 +14,7 @@ from support import ENGINE, HERE, Case
 
 import misteluk
 from misteluk import Edge, Store
-from misteluk.engine import interface, library, making
+from misteluk.engine import calling, interface, making
 from misteluk.engine.finding import OF_LIBRARY, find_library
 from misteluk.engine.guard import Guard, Notes, Owned, Step, alone
 
@@ -162,8 +162,8 @@ class Choice(Case):
         """One that lacks a function, and one of another interface."""
         with mock.patch.dict(os.environ, {OF_LIBRARY: _ctypes.__file__}):
             self.assertRaisesRegex(misteluk.LibraryNotFound, "has no function misteluk_", Store, engine="library")
-        with mock.patch.object(interface, "INTERFACE", 99), mock.patch.dict(library._OPENED, clear=True):
-            self.assertRaisesRegex(misteluk.LibraryNotFound, "has interface 1, and this needs 99", library.opened, find_library())
+        with mock.patch.object(interface, "INTERFACE", 99), mock.patch.dict(calling._OPENED, clear=True):
+            self.assertRaisesRegex(misteluk.LibraryNotFound, "has interface 1, and this needs 99", calling.opened, find_library())
 
     def test_what_is_said(self):
         self.assertRaisesRegex(ValueError, "engine is 'library' or 'program'", Store, engine="pipes")

@@ -16,7 +16,7 @@ from support import ENGINE, OF_PIPES, Case, find_program
 import misteluk
 from misteluk import Store, names, saving
 from misteluk.engine import copies as copying, program as engine_program
-from misteluk.engine.protocol import Batch
+from misteluk.engine.protocol import Operations
 from misteluk.values import records
 
 WINDOWS = ((0, records.MOST_TIME), (30, records.MOST_TIME), (10, 40))
@@ -231,7 +231,7 @@ class Limits(Case):
             room, store = saving.Room(operations), self.store(blocks=64)
             for at in range(0, len(operations), 5):
                 part = operations[at:at + 5]
-                store.ledger.apply(Batch("".join(part).encode("ascii"), len(part)), True)
+                store.ledger.apply(Operations("".join(part).encode("ascii"), len(part)), True)
                 self.assertEqual(store.stat().used, room.behind[at + len(part)])
 
     def test_a_graph_of_all_blocks(self):

@@ -276,7 +276,8 @@ class Views(Case):
         with mock.patch("misteluk.page.neighborhood.MOST_ASKED", 20):
             self.assertEqual(view(session, "hub", 1).neighborhood.counts()[KEPT], 40)
         # The first ten are the hub and v20 to v12, with eight edges of the ring.
-        with mock.patch("misteluk.page.neighborhood.MOST_ASKED", 19), mock.patch("misteluk.page.neighborhood.MOST_VERTICES", 10), \
+        with mock.patch("misteluk.page.neighborhood.MOST_ASKED", 19), \
+                mock.patch("misteluk.page.neighborhood.MOST_VERTICES", 10), \
                 mock.patch("misteluk.page.neighborhood.Looking.reach", lambda it, *_: reached(it)):
             found = view(session, "hub", 1)
         self.assertEqual(str(found), "hub, 1 hop, version 1: 21 vertices; 17 edges among the nearest 10")

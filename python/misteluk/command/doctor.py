@@ -8,7 +8,7 @@ from typing import List, Optional, Tuple
 
 from ..engine import interface
 from ..engine.finding import OF_LIBRARY, VARIABLE as OF_PROGRAM, Path, find_library, find_program
-from ..engine.library import opened
+from ..engine.calling import opened
 from ..engine.making import LIBRARY, PROGRAM, VARIABLE, choose
 from ..errors import StoreError
 from ..store import Store
@@ -17,8 +17,8 @@ from ..version import VERSION
 
 
 def made(path: str) -> str:
-    """Whether the library or program at this path was proved: the repository's proved crates have it in their `out`, and a wheel or
-    an archive a note beside it."""
+    """Whether the library or program at this path was proved: the repository's proved crates have it in their `out`, and a wheel
+    or an archive has a note beside it."""
     place = pathlib.Path(path).resolve()
     note = place.parent / "PROVED"
     if note.is_file():
@@ -52,10 +52,10 @@ def look(engine: Optional[str], program: Optional[Path]) -> Tuple[List[str], boo
             store.commit()
             with store.open() as session:
                 is_well = session.edge("kind", "a", "b") == (1, 0, 0)
-            told.append(f"a store of {store.blocks} blocks and {store.seats} seats " + ("answers" if is_well else "answers WRONGLY"))
+            told.append(f"a store of {store.blocks} blocks and {store.seats} seats answers{'' if is_well else ' WRONGLY'}")
     except StoreError as fault:
         return [*told, f"no store can be made: {fault}"], False
+    of_run = "" if name == LIBRARY else f"; a run takes {records.MOST_RECORDS:,} records and {records.MOST_BATCHES:,} batches"
     told.append(f"limits: {records.MOST_NAMES:,} vertices, {records.MOST_KINDS} kinds, {records.MOST_BLOCKS:,} blocks, batches of "
-                f"{records.MOST_OPERATIONS:,}" + ("" if name == LIBRARY else f"; a run takes {records.MOST_RECORDS:,} records and "
-                                                  f"{records.MOST_BATCHES:,} batches"))
+                f"{records.MOST_OPERATIONS:,}{of_run}")
     return told, is_well

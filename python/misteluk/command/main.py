@@ -159,7 +159,8 @@ def run_fleet(words: argparse.Namespace) -> int:
 
 def run_follow(words: argparse.Namespace) -> int:
     is_endless = choose(words.engine, words.program)[0] == LIBRARY
-    with Store(blocks=words.blocks or records.MOST_BLOCKS, endless=is_endless, rounding=words.rounding, **engine_of(words)) as store:
+    with Store(blocks=words.blocks or records.MOST_BLOCKS, endless=is_endless, rounding=words.rounding,
+               **engine_of(words)) as store:
         return telling.follow(words, store, form_of_feed(words))
 
 

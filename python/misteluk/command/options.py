@@ -116,8 +116,8 @@ def add_engine(store: Any) -> None:
 
 
 def add_program_alone(store: Any) -> None:
-    store.add_argument("--program", help="the program to run in place of the library; which one --engine program runs, MISTELUK_PROGRAM "
-                       "says, or else the repository or the path")
+    store.add_argument("--program", help="the program to run in place of the library; which one --engine program runs, "
+                       "MISTELUK_PROGRAM says, or else the repository or the path")
 
 
 def add_program(store: Any) -> None:

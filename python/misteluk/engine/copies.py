@@ -8,11 +8,11 @@ from __future__ import annotations
 
 from typing import Any, Dict, Iterator, List, NamedTuple, Tuple
 
-from .protocol import WHOLE, Version
+from .protocol import WHOLE, Held
 from ..values import records
 
 # An edge's kind, source, target, weight, first and recent time, in the engine's terms.
-Held = Tuple[str, str, str, int, int, int]
+Row = Tuple[str, str, str, int, int, int]
 
 
 class Content(NamedTuple):
@@ -21,7 +21,7 @@ class Content(NamedTuple):
 
     kinds: List[str]
     names: List[str]
-    edges: List[Held]
+    edges: List[Row]
 
     def without_idle_names(self) -> "Content":
         """The same without names and kinds that have no edge."""
@@ -30,11 +30,11 @@ class Content(NamedTuple):
         return Content([it for it in self.kinds if it in kinds], [it for it in self.names if it in names], self.edges)
 
 
-def content_of(version: Version) -> Content:
+def content_of(version: Held) -> Content:
     """What a version holds."""
     names, kinds, edges = version.names(), version.kinds(), version.edges(WHOLE)
-    rows: Any = zip(map(kinds.__getitem__, edges.kinds), map(names.__getitem__, edges.sources), map(names.__getitem__, edges.targets),
-               edges.weights, edges.firsts, edges.recents)
+    rows: Any = zip(map(kinds.__getitem__, edges.kinds), map(names.__getitem__, edges.sources),
+                    map(names.__getitem__, edges.targets), edges.weights, edges.firsts, edges.recents)
     return Content(kinds, names, list(rows))
 
 
@@ -68,10 +68,10 @@ def operations_of(content: Content) -> Iterator[str]:
             groups[at + 1].insert(0, groups[at + 1].pop(both))
 
 
-def _by_later_end(content: Content) -> List[List[Held]]:
+def _by_later_end(content: Content) -> List[List[Row]]:
     """The edges by the later one of their ends, in the order of names; behind them is an empty list."""
     rank = {name: at for at, name in enumerate(content.names)}
-    groups: List[List[Held]] = [[] for _ in range(len(content.names) + 1)]
+    groups: List[List[Row]] = [[] for _ in range(len(content.names) + 1)]
     for it in content.edges:
         groups[max(rank[it[1]], rank[it[2]])].append(it)
     return groups
@@ -83,7 +83,7 @@ def _loop(kind: str, name: str) -> Iterator[str]:
     yield f"r,{kind},{name},{name}\n"
 
 
-def _edge(edge: Held, quoted: Quoted) -> Iterator[str]:
+def _edge(edge: Row, quoted: Quoted) -> Iterator[str]:
     kind, source, target, weight, first, recent = edge
     ends = f"i,{quoted[kind]},{quoted[source]},{quoted[target]},{weight}"
     yield f"{ends},{first}\n"

@@ -49,5 +49,5 @@ def find_library(library: Optional[Path] = None) -> str:
     for it in (here / "lib" / LIBRARY, *made, top / "lib" / LIBRARY):
         if it.is_file():
             return str(it)
-    raise LibraryNotFound(f"no {LIBRARY} is here: ./stinger library makes it in the repository, and the variable {OF_LIBRARY} names "
-                          "another")
+    raise LibraryNotFound(f"no {LIBRARY} is here: ./stinger library makes it in the repository, and the variable {OF_LIBRARY} "
+                          "names another")

@@ -1,7 +1,8 @@
 """Which edges a store was told of. They are candidates: whether a version has one, the program is asked each time.
 
-Each batch that is sent is kept here first, so no version has an edge that is no candidate. A batch waits as it was sent; those that
-wait are folded into sorted arrays when they are many, or when somebody asks. What is touched again and again is one candidate.
+Each batch that is sent is kept here first, so no version has an edge that is no candidate. A batch waits as it was sent; those
+that wait are folded into sorted arrays when they are many, or when somebody asks. What is touched again and again is one
+candidate.
 
 A candidate is let go where no version has it that a session holds, or that one can be opened of. A removal in a version tells so,
 and an expiry of a version by a time later than that of all its operations, since an edge's recent time is that of one of them.

@@ -7,356 +7,25 @@ next call of the engine frees it. At the end of the process nothing is freed, an
 from __future__ import annotations
 
 import os
-import threading
 import time
 import weakref
-from array import array
-from ctypes import c_uint32, c_uint64
-from itertools import accumulate, chain
-from typing import Any, Dict, List, NamedTuple, Optional, Sequence, Tuple, Union
+from ctypes import c_uint64
+from typing import Any, Dict, List, Optional, Tuple
 
 from . import interface
+from .calling import Known, LibraryFlight, check, opened, refusal_of
 from .copies import Content, content_of, operations_of
 from .finding import find_library
 from .guard import Guard, Notes, Owned, Step, alone
-from .interface import Code, Library
-from .protocol import WHOLE, Arrays, Batch, Denied, Ends, Marks, Receipt, Scope
-from ..errors import LibraryNotFound, NoMemory, NoSeat, SessionClosed, StoreError
+from .held import LibraryVersion, Opening
+from .interface import Code
+from .protocol import Operations, Denied, Receipt
+from ..errors import NoSeat, StoreError
 from ..values import records
 from ..values.answers import Collected, Commit, Rebased, Renewed, Stat
 
-# What no hold has.
-NO_HOLD = (1 << 64) - 1
-# How many edges of a vertex are asked for at first.
-A_ROW = 32
-# The words of codes that the client's users know.
-WORDS = {Code.BATCHES_FULL: "BatchLimit", Code.NAMES_FULL: "NamesFull", Code.KINDS_FULL: "KindsFull", Code.BLOCKS_FULL: "PoolEmpty",
-         Code.NO_VERTEX: "NoVertex", Code.NO_KIND: "NoKind"}
 # What a copy without idle names helps against.
 HELPED_BY_COPY = (Code.NAMES_FULL, Code.KINDS_FULL)
-_OPENED: "Dict[Tuple[str, int], Tuple[Library, Handles]]" = {}
-
-
-def opened(path: str) -> "Tuple[Library, Handles]":
-    """The library, which a process loads once. Raises `LibraryNotFound` where it isn't one of this package."""
-    key = path, os.getpid()  # (a fork frees nothing of what its parent has)
-    if key not in _OPENED:
-        try:
-            _OPENED[key] = Library(path), Handles(Notes(), Notes(), Notes())
-        except OSError as fault:
-            raise LibraryNotFound(f"no library can be loaded: {fault}") from fault
-    return _OPENED[key]
-
-
-def refusal_of(code: int) -> Exception:
-    """What is raised where a call was refused."""
-    if code == Code.MEMORY:
-        return NoMemory("the library found no memory for this call, and left all as it was")
-    if code in WORDS:
-        return Denied(WORDS[Code(code)])
-    return StoreError(f"the library refused a call by {Code(code).name}, for which this package knows no reason")
-
-
-def check(code: int) -> None:
-    """Raises where a call was refused."""
-    if code != Code.OK:
-        raise refusal_of(code)
-
-
-def room(code: str, count: int) -> "array[int]":
-    """An array of so many items, zeros; of none it has a place nevertheless, since it has to have an address."""
-    return array(code, bytes(max(count, 1) * array(code).itemsize))
-
-
-def address(column: "array[int]") -> int:
-    return column.buffer_info()[0]
-
-
-def texts_of(text: "array[int]", ends: "array[int]") -> List[str]:
-    """Names that stand one after another."""
-    told, at, found = text.tobytes().decode("ascii"), 0, []
-    for end in ends:
-        found.append(told[at:end])
-        at = end
-    return found
-
-
-class Handles(NamedTuple):
-    """The handles of this process that are to be freed, by what they are."""
-
-    versions: Notes
-    batches: Notes
-    desks: Notes
-
-    def give_back(self, library: Library) -> None:
-        self.versions.give_back(library.version_free)
-        self.batches.give_back(library.batch_free)
-        self.desks.give_back(library.desk_free)
-
-
-class Known(NamedTuple):
-    """The names and kinds of an opening by number, as far as they were asked for. Those that are known stay as they are."""
-
-    names: List[str]
-    kinds: List[str]
-    lock: Any
-
-    @staticmethod
-    def nothing() -> "Known":
-        return Known([], [], threading.RLock())
-
-
-class Opening(NamedTuple):
-    """What an engine has from one beginning anew to the next: its desk, and the holds that are to be given back there; how many
-    versions were made before; its names; and the version at which it is about to begin anew, with the step by which it does."""
-
-    desk: Owned
-    holds: Notes
-    before: int
-    known: Known
-    anew: Optional[Tuple[int, Step]] = None
-
-
-class Flight:
-    """A batch on its way: in a handle of C, which is emptied as it is applied."""
-
-    def __init__(self, library: Library, handles: Handles, batch: Batch, collect: bool) -> None:
-        self.batch, self.collect = batch, collect
-        self.cut: List[None] = []
-        self.owned, self.counts = Owned(interface.Batch(), handles.batches), interface.Counts()
-        self.step: Optional[Step] = None
-        check(library.batch_new(self.owned.raw))
-        fill(library, self.owned.raw, batch.text.decode("ascii"), batch.size)
-
-
-def fill(library: Library, raw: interface.Batch, text: str, size: int) -> None:
-    """Puts records of operations into a batch."""
-    fields = text[:-1].replace("\n", ",").split(",")
-    # (where each sixth field is an insertion's or addition's command, each operation is one)
-    if size and '"' not in text and len(fields) == 6 * size and set(fields[::6]) <= {"i", "a"}:
-        _fill_at_once(library, raw, text.encode("ascii")[:-1].replace(b"\n", b",").split(b","))
-        return
-    for line in text.splitlines():
-        command, *given = records.split_record(line)
-        names: Any = list(chain.from_iterable((it.encode("ascii"), len(it)) for it in given[:3])) if command != "x" else []
-        code = 0
-        if command == "x":
-            code = library.batch_expire(raw, int(given[0]))
-        elif command == "r":
-            code = library.batch_remove(raw, *names)
-        else:
-            call: Any = library.batch_insert if command == "i" else library.batch_add
-            code = call(raw, *names, int(given[3]), int(given[4]))
-        check(code)
-
-
-def _fill_at_once(library: Library, raw: interface.Batch, fields: List[bytes]) -> None:
-    """The same for operations that are all insertions or additions without quotes."""
-    kinds, sources, targets = fields[1::6], fields[2::6], fields[3::6]
-    calls: Any = map({b"i": library.batch_insert, b"a": library.batch_add}.__getitem__, fields[::6])
-    given = zip(kinds, map(len, kinds), sources, map(len, sources), targets, map(len, targets), map(int, fields[4::6]),
-                map(int, fields[5::6]))
-    for call, it in zip(calls, given):
-        code = call(raw, *it)
-        if code:
-            check(code)
-
-
-class HeldVersion:
-    """A version that is held. Each thread that asks takes a handle of its own: a copy of the first one, which is never asked."""
-
-    def __init__(self, engine: "LibraryEngine", opening: Opening, slot: int) -> None:
-        self.slot, self._engine, self._library = slot, engine, engine.library
-        self._versions, self._known, self._before = engine.handles.versions, opening.known, opening.before
-        self.desk, self._holds = opening.desk, opening.holds
-        self._first = Owned(interface.Version(), self._versions)
-        hold = interface.Hold(NO_HOLD, NO_HOLD)
-        self._hold = self._holds.know(self, hold)
-        self.step = Step(self._library.desk_hold, self.desk.raw, self._first.raw, hold)
-        self._idle: List[Owned] = []
-        self._is_open = False
-        self.number = self.count = 0
-        self._names: Optional[List[str]] = None
-        self._all: Optional[Arrays] = None
-        self._by_target: "Optional[Tuple[Sequence[int], array[int]]]" = None
-
-    def begin(self) -> None:
-        """Asks what it holds."""
-        size = interface.Size()
-        check(self._library.version_size(self._first.raw, size))
-        self.number, self.count, self._edges = size.version + self._before, size.vertices, size.edges
-        self._bytes, self._kind_bytes, self._kind_count = size.name_bytes, size.kind_bytes, size.kinds
-        self._is_open = True
-
-    @property
-    def is_open(self) -> bool:
-        return self._is_open and not self._engine.is_closed
-
-    def close(self) -> None:
-        self._engine.release(self)
-
-    def end(self) -> None:
-        """Lets the hold go, and the handles that nobody asks by now; the others go with those who do so."""
-        self._is_open = False
-        self._holds.let_go(self._hold)
-        self._idle.clear()
-        self._first = Owned(interface.Version(), self._versions)
-        self._all = self._by_target = self._names = None
-
-    # How it is asked.
-
-    def _ask(self, call: Any, *given: Any) -> int:
-        handle = self._take()
-        code: int = call(handle.raw, *given)
-        self._idle.append(handle)
-        return code
-
-    def _take(self) -> Owned:
-        """A handle that nobody else has."""
-        self._engine.guard.check()
-        if not self.is_open:
-            raise SessionClosed(f"the session of version {self.number} is closed")
-        try:
-            return self._idle.pop()
-        except IndexError:
-            return self._clone()
-
-    def _clone(self) -> Owned:
-        handle = Owned(interface.Version(), self._versions)
-        with self._known.lock:
-            first = self._first  # (which isn't freed while it is here)
-            code = self._library.version_clone(first.raw, handle.raw)
-        if code == Code.NO_HANDLE:
-            raise SessionClosed(f"the session of version {self.number} is closed")
-        check(code)
-        return handle
-
-    def _view(self, scope: Scope) -> interface.View:
-        kind = interface.ANY_KIND if scope.kind is None else self._kind(scope.kind)
-        return interface.View(scope.since, scope.until, kind)
-
-    def _kind(self, name: str) -> int:
-        found = c_uint32()
-        check(self._ask(self._library.version_kind, name.encode("ascii"), len(name), found))
-        return found.value
-
-    def _vertex(self, name: str) -> int:
-        found = c_uint32()
-        check(self._ask(self._library.version_vertex, name.encode("ascii"), len(name), found))
-        return found.value
-
-    def names(self) -> List[str]:
-        if self._names is None:
-            self._names = self._told(self._known.names, self._library.version_names, self.count, self._bytes)
-        return self._names
-
-    def kinds(self) -> List[str]:
-        return self._told(self._known.kinds, self._library.version_kind_names, self._kind_count, self._kind_bytes)
-
-    def _told(self, known: List[str], call: Any, count: int, size: int) -> List[str]:
-        """The first names, so many; those that aren't known yet are asked for."""
-        with self._known.lock:
-            first = len(known)
-            if first < count:
-                text, ends = room("B", size), room("Q", count - first)
-                check(self._ask(call, first, address(text), size, address(ends), count - first))
-                known[first:] = texts_of(text, ends)
-        return known[:count]
-
-    # What it answers.
-
-    def _table(self, call: Any, codes: str, *given: Any) -> "List[array[int]]":
-        columns = [room(it, self.count) for it in codes]
-        places = chain.from_iterable((address(it), self.count) for it in columns)
-        check(self._ask(call, *given, *places))
-        return columns if self.count else [array(it) for it in codes]
-
-    def degrees(self, scope: Scope) -> "Tuple[array[int], array[int], array[int]]":
-        out, into, weights = self._table(self._library.version_degrees, "IIq", self._view(scope))
-        return out, into, weights
-
-    def labels(self, scope: Scope) -> "array[int]":
-        return self._table(self._library.version_labels, "I", self._view(scope))[0]
-
-    def cores(self, scope: Scope) -> "array[int]":
-        return self._table(self._library.version_cores, "I", self._view(scope))[0]
-
-    def levels(self, scope: Scope, source: str) -> "Tuple[Sequence[int], array[int]]":
-        found = self._table(self._library.version_levels, "I", self._view(scope), self._vertex(source))[0]
-        reached = [at for at, it in enumerate(found) if it != interface.NOT_REACHED]
-        return reached, found if len(reached) == len(found) else array("I", map(found.__getitem__, reached))
-
-    def edge(self, ends: Ends) -> Optional[Marks]:
-        kind, source, target = ends
-        marks = interface.Edge()
-        numbers = self._kind(kind), self._vertex(source), self._vertex(target)
-        code = self._ask(self._library.version_edge, *numbers, marks)
-        if code == Code.NO_EDGE:
-            return None
-        check(code)
-        return marks.weight, marks.first, marks.recent
-
-    def found(self, ends: Sequence[Ends]) -> "List[Union[Marks, Denied, None]]":
-        return [self._edge_or_not(it) for it in ends]
-
-    def _edge_or_not(self, ends: Ends) -> "Union[Marks, Denied, None]":
-        try:
-            return self.edge(ends)
-        except Denied as fault:
-            return fault
-
-    def edges(self, scope: Scope) -> Arrays:
-        view = self._view(scope)
-        if self._all is not None:
-            return self._all if scope == WHOLE else self._all.at(self._all.places(None if scope.kind is None else view.kind, scope))
-        found = self._read(view)
-        if scope == WHOLE:
-            self._all = found
-        return found
-
-    def _read(self, view: interface.View) -> Arrays:
-        """All edges of a view, in one call: none is longer than the version."""
-        if not self._edges:
-            return Arrays.none()
-        found, count, source = Arrays.of(self._edges), c_uint64(), c_uint32()
-        places = chain.from_iterable((address(it), self._edges) for it in found)
-        check(self._ask(self._library.version_edges, view, source, *places, count))
-        for it in found:
-            del it[count.value:]
-        return found
-
-    def out_of(self, scope: Scope, name: str) -> Arrays:
-        view, source, size, count = self._view(scope), self._vertex(name), A_ROW, c_uint64()
-        while True:
-            found = Arrays.of(size)
-            columns = (found.kinds, found.targets, found.weights, found.firsts, found.recents)
-            places = chain.from_iterable((address(it), size) for it in columns)
-            code = self._ask(self._library.version_row, view, source, *places, count)
-            if code != Code.BAD_LENGTH:
-                break
-            size = count.value
-        check(code)
-        found.sources[:] = array("I", [source]) * size
-        order = sorted(range(count.value), key=lambda at: (found.kinds[at], found.targets[at]))
-        return found.at(order)
-
-    def into(self, scope: Scope, name: str) -> Arrays:
-        view, target = self._view(scope), self._vertex(name)
-        if self._by_target is None:
-            self._by_target = by_target(self.edges(WHOLE), self.count)
-        order, ends = self._by_target
-        all_ = self.edges(WHOLE)
-        found = all_.at(order[ends[target]:ends[target + 1]])
-        places = found.places(None if scope.kind is None else view.kind, scope)
-        return found.at(sorted(places, key=lambda at: (found.kinds[at], found.sources[at])))
-
-
-def by_target(edges: Arrays, count: int) -> "Tuple[Sequence[int], array[int]]":
-    """The places of edges in order of their targets, and where those of each target begin."""
-    counts = [0] * (count + 1)
-    for it in edges.targets:
-        counts[it + 1] += 1
-    return array("I", sorted(range(edges.size), key=edges.targets.__getitem__)), array("I", accumulate(counts))
 
 
 class LibraryEngine:
@@ -373,9 +42,9 @@ class LibraryEngine:
         self.blocks, self.seats, self._endless = blocks, seats, endless
         self.is_closed = False
         self.guard = self._guard = Guard()
-        self._held: "Dict[int, weakref.ref[HeldVersion]]" = {}
-        self._versions: "List[weakref.ref[HeldVersion]]" = []
-        self._rebased: Optional[Tuple[HeldVersion, Rebased]] = None
+        self._held: "Dict[int, weakref.ref[LibraryVersion]]" = {}
+        self._versions: "List[weakref.ref[LibraryVersion]]" = []
+        self._rebased: Optional[Tuple[LibraryVersion, Rebased]] = None
         self._opening = self._new(0)
 
     def _new(self, version: int) -> Opening:
@@ -427,16 +96,16 @@ class LibraryEngine:
 
     # Batches.
 
-    def flight(self, batch: Batch, collect: bool) -> Flight:
-        return Flight(self.library, self.handles, batch, collect)
+    def flight(self, batch: Operations, collect: bool) -> LibraryFlight:
+        return LibraryFlight(self.library, self.handles, batch, collect)
 
     @alone
-    def landed(self, flight: Flight) -> Optional[Receipt]:
+    def landed(self, flight: LibraryFlight) -> Optional[Receipt]:
         opening = self._settle()
         return self._receipt(opening, flight) if flight.step and flight.step.gave == [Code.OK] else None
 
     @alone
-    def fly(self, flight: Flight) -> Receipt:
+    def fly(self, flight: LibraryFlight) -> Receipt:
         opening, is_more = self._settle(), True
         while True:
             if flight.step is None or flight.step.gave not in ([], [Code.OK]):
@@ -450,7 +119,7 @@ class LibraryEngine:
                 raise Denied("PoolEmpty", stat=self._stat(opening)) if code == Code.BLOCKS_FULL else refusal_of(code)
             opening, is_more = helped
 
-    def _receipt(self, opening: Opening, flight: Flight) -> Receipt:
+    def _receipt(self, opening: Opening, flight: LibraryFlight) -> Receipt:
         it = flight.counts
         if flight.collect:
             self._collect(opening)
@@ -482,7 +151,7 @@ class LibraryEngine:
         return Collected(min(numbers, default=stat.version), freed, stat.retired)
 
     @alone
-    def hold(self, slot: Optional[int]) -> HeldVersion:
+    def hold(self, slot: Optional[int]) -> LibraryVersion:
         opening = self._settle()
         free = [it for it in range(self.seats) if it not in self._held]
         if slot is None and not free:
@@ -493,8 +162,8 @@ class LibraryEngine:
         self._held[version.slot] = weakref.ref(version)
         return version
 
-    def _hold(self, opening: Opening, slot: int) -> HeldVersion:
-        version = HeldVersion(self, opening, slot)
+    def _hold(self, opening: Opening, slot: int) -> LibraryVersion:
+        version = LibraryVersion(self, opening, slot)
         code = version.step.make()
         if code == Code.NO_SEAT:
             raise NoSeat()
@@ -504,7 +173,7 @@ class LibraryEngine:
         return version
 
     @alone
-    def release(self, version: HeldVersion) -> None:
+    def release(self, version: LibraryVersion) -> None:
         held = self._held.get(version.slot)
         if self.is_closed or not (version.is_open or held is not None and held() is version):
             return
@@ -537,7 +206,7 @@ class LibraryEngine:
         operations = list(operations_of(content))
         for at in range(0, len(operations), records.MOST_OPERATIONS):
             part = operations[at:at + records.MOST_OPERATIONS]
-            flight = self.flight(Batch("".join(part).encode("ascii"), len(part)), True)
+            flight = self.flight(Operations("".join(part).encode("ascii"), len(part)), True)
             check(self.library.desk_apply(opening.desk.raw, flight.owned.raw, flight.counts))
             self._collect(opening)
         check(self.library.desk_rebase(opening.desk.raw))

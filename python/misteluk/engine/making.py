@@ -5,7 +5,8 @@ import os
 from typing import Optional, Tuple
 
 from .finding import Path, find_library, find_program
-from .library import LibraryEngine, opened
+from .calling import opened
+from .library import LibraryEngine
 from .program import ProgramEngine
 from .protocol import Engine
 from ..errors import LibraryNotFound

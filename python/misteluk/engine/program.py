@@ -8,16 +8,15 @@ from __future__ import annotations
 
 import warnings
 import weakref
-from array import array
-from typing import Any, Callable, Dict, Iterable, List, NamedTuple, Optional, Sequence, Tuple, Union
+from typing import Any, Callable, Dict, List, NamedTuple, Optional, Sequence, Tuple
 
+from .asked import ProgramVersion, numbers
 from .calls import Calls, talks
 from .candidates import Candidates
 from .conversation import Awaited, Conversation, how_ended, one_line
-from .guard import Guard
 from .index import Index
-from .protocol import WHOLE, Arrays, Batch, Denied, Ends, Marks, Receipt, Scope
-from ..errors import Incomplete, Misread, NearLimit, NoSeat, NotRenewed, ProgramEnded, RecordLimit, SessionClosed, StoreError
+from .protocol import Operations, Denied, Receipt
+from ..errors import NearLimit, NoSeat, NotRenewed, ProgramEnded, RecordLimit, SessionClosed, StoreError
 from ..feeds.progress import MANY, Progress
 from ..values import records
 from ..values.answers import Collected, Commit, Rebased, Renewed, Stat
@@ -26,20 +25,6 @@ from ..values.answers import Collected, Commit, Rebased, Renewed, Stat
 ASK_AT_ONCE = 4_096
 # How long the program may take to be there: `./stinger` compiles it at its first call.
 START_SECONDS = 900.0
-# The words for what a version lacks.
-LACKS = ("NoKind", "NoVertex")
-
-
-def numbers(head: str, command: str, fields: int) -> List[int]:
-    """The numbers of a line `command name=number ..`, of which there are so many."""
-    try:
-        word, *rest = head.split(" ")
-        found = [int(it.partition("=")[2]) for it in rest if "=" in it]
-    except ValueError:
-        word, found = "", []
-    if word != command or len(found) < fields:
-        raise Misread(f"no answer to {command}: {head!r}")
-    return found[:fields]
 
 
 def committed(head: str) -> Commit:
@@ -56,200 +41,14 @@ class Sent(NamedTuple):
     last: Awaited
 
 
-class Flight:
+class ProgramFlight:
     """A batch on its way to the program."""
 
-    def __init__(self, batch: Batch, collect: bool) -> None:
+    def __init__(self, batch: Operations, collect: bool) -> None:
         self.batch, self.collect = batch, collect
         self.cut: List[None] = []
         self.sent: Optional[Sent] = None
         self.receipt: Optional[Receipt] = None
-
-
-class HeldVersion:
-    """A version that the program holds in a slot. All edges are told once, and kept."""
-
-    def __init__(self, engine: "ProgramEngine", slot: int, number: int, count: int) -> None:
-        self.slot, self.number, self.count, self._engine = slot, number, count, engine
-        self._calls = engine.calls
-        self._is_open = True
-        self._names: Optional[List[str]] = None
-        self._places: Optional[Dict[str, int]] = None
-        self._kinds: Optional[List[str]] = None
-        self._all: Optional[Arrays] = None
-
-    @property
-    def is_open(self) -> bool:
-        return self._is_open
-
-    @talks
-    def close(self) -> None:
-        if self._is_open:
-            self._is_open = False
-            self._engine.let_go(self)
-
-    def end(self) -> None:
-        self._is_open = False
-
-    def _must_be_open(self) -> None:
-        if not self._is_open:
-            raise SessionClosed(f"the session of version {self.number} is closed")
-
-    # Tables.
-
-    def _table(self, columns: int, command: str, *given: str, rows: Optional[Callable[[str], int]] = None) -> List[List[str]]:
-        """A table by column; each row has so many fields."""
-        self._must_be_open()
-        answer = self._engine.ask((command, str(self.slot), *given), rows or (lambda _: self.count))
-        fields = " ".join(answer.rows).split(" ") if answer.rows else []
-        if len(fields) != len(answer.rows) * columns:
-            raise Misread(f"a table whose rows haven't all {columns} fields")
-        found = [fields[at::columns] for at in range(columns)]
-        if rows is None and self._names is None:
-            self._names = found[0]
-        return found
-
-    def _window(self, scope: Scope) -> Tuple[str, str, str]:
-        return scope.kind or records.ANY, str(scope.since), str(scope.until)
-
-    @talks
-    def names(self) -> List[str]:
-        if self._names is None:
-            self.degrees(WHOLE)
-        return self._names or []
-
-    def _place(self, name: str) -> int:
-        """The number of a vertex; -1 where there is none."""
-        if self._places is None:
-            self._places = {name: at for at, name in enumerate(self.names())}
-        return self._places.get(name, -1)
-
-    @talks
-    def kinds(self) -> List[str]:
-        """Those that the program knows by a question for a loop: of others it knows nothing."""
-        if self._kinds is None:
-            known = self._engine.candidates().kinds
-            loop = self.names()[:1] * 2
-            answers = self._asked([(kind, loop[0], loop[1]) for kind in known]) if loop else []
-            self._kinds = [kind for kind, it in zip(known, answers) if it is None or not isinstance(it, Denied)]
-        return self._kinds
-
-    @talks
-    def degrees(self, scope: Scope) -> "Tuple[array[int], array[int], array[int]]":
-        _, out, into, weights = self._table(4, "deg", *self._window(scope))
-        return array("I", map(int, out)), array("I", map(int, into)), array("q", map(int, weights))
-
-    @talks
-    def labels(self, scope: Scope) -> "array[int]":
-        labels = self._table(2, "comp", *self._window(scope))[1]
-        return array("I", map(self._place, labels))
-
-    @talks
-    def cores(self, scope: Scope) -> "array[int]":
-        return array("I", map(int, self._table(2, "core", *self._window(scope))[1]))
-
-    @talks
-    def levels(self, scope: Scope, source: str) -> "Tuple[Sequence[int], array[int]]":
-        asked = source, *self._window(scope)
-        names, levels = self._table(2, "bfs", *asked, rows=lambda head: numbers(head, "bfs", 1)[0])
-        return list(map(self._place, names)), array("I", map(int, levels))
-
-    # Edges.
-
-    @talks
-    def edge(self, ends: Ends) -> Optional[Marks]:
-        self._must_be_open()
-        return marks_of(self._engine.ask(("edge", str(self.slot), *ends)).head or "")
-
-    @talks
-    def found(self, ends: Sequence[Ends]) -> "List[Union[Marks, Denied, None]]":
-        return self._asked(ends)
-
-    def _asked(self, ends: Iterable[Ends]) -> "List[Union[Marks, Denied, None]]":
-        self._must_be_open()
-        answers = self._engine.ask_all([records.record(("edge", str(self.slot), *it)) for it in ends])
-        strange = next((it for it in answers if it.word not in (None, *LACKS)), None)
-        if strange is not None:
-            raise Denied(strange.word or "", strange.number)
-        return [Denied(it.word, it.number) if it.word else marks_of(it.head or "") for it in answers]
-
-    def _edges_of(self, ends: Sequence[Ends], scope: Scope) -> Arrays:
-        """Those of the edges that are there, and in the scope. Names that the version doesn't have are those of others."""
-        marks = self._asked(ends)
-        kinds = {it: at for at, it in enumerate(self.kinds())}
-        there = [(it, mark) for it, mark in zip(ends, marks)
-                 if mark is not None and not isinstance(mark, Denied) and scope.since <= mark[2] <= scope.until]
-        of_kinds, sources, targets = ([it[at] for it, _ in there] for at in range(3))
-        weights, firsts, recents = ([mark[at] for _, mark in there] for at in range(3))
-        return Arrays(array("I", map(kinds.__getitem__, of_kinds)), array("I", map(self._place, sources)),
-                      array("I", map(self._place, targets)), array("q", weights), array("Q", firsts), array("Q", recents))
-
-    @talks
-    def edges(self, scope: Scope) -> Arrays:
-        """Room for a record for each is looked for before anything is sent. Raises `Incomplete` where they aren't as many as the
-        program says, and so not all."""
-        self._must_have(scope)
-        if self._all is None:
-            candidates = self._engine.candidates()
-            self._engine.make_room_for_all(len(candidates) + len(candidates.kinds) + 1)
-            found = self._edges_of(list(candidates), WHOLE)
-            self._must_be_all(found)
-            order = sorted(range(found.size), key=lambda at: (found.kinds[at], found.sources[at], found.targets[at]))
-            self._all = found.at(order)
-        if scope == WHOLE:
-            return self._all
-        kind = None if scope.kind is None else self.kinds().index(scope.kind)
-        return self._all.at(self._all.places(kind, scope))
-
-    def _must_have(self, scope: Scope) -> None:
-        if scope.kind is not None and scope.kind not in self.kinds():
-            raise Denied("NoKind")
-
-    def _must_be_all(self, found: Arrays) -> None:
-        """Raises where these aren't the edges that the program counts, vertex by vertex."""
-        out, into, weights = self.degrees(WHOLE)
-        wrong = sum(out) - found.size
-        for source, target, weight in zip(found.sources, found.targets, found.weights):
-            out[source] -= 1
-            into[target] -= 1
-            weights[source] -= weight
-        if wrong or any(out) or any(into) or any(weights):
-            raise Incomplete(f"version {self.number} has {found.size + wrong} edges, and the client knows of {found.size} that "
-                             "may be others")
-
-    @talks
-    def out_of(self, scope: Scope, name: str) -> Arrays:
-        return self._beside(scope, name, True)
-
-    @talks
-    def into(self, scope: Scope, name: str) -> Arrays:
-        return self._beside(scope, name, False)
-
-    def _beside(self, scope: Scope, name: str, is_out: bool) -> Arrays:
-        self._must_have(scope)
-        if self._place(name) < 0:
-            raise Denied("NoVertex")
-        if self._all is not None:
-            mine, ends = self._place(name), self._all.sources if is_out else self._all.targets
-            kind = None if scope.kind is None else self.kinds().index(scope.kind)
-            found = self._all.at([at for at in self._all.places(kind, scope) if ends[at] == mine])
-        else:
-            candidates = self._engine.candidates()
-            kinds = candidates.kinds if scope.kind is None else [scope.kind]
-            asked = [(kind, name, it) if is_out else (kind, it, name)
-                     for kind in kinds for it in (candidates.out if is_out else candidates.into)(kind, name)]
-            self._engine.make_room(len(asked))
-            found = self._edges_of(asked, scope)
-        others = found.targets if is_out else found.sources
-        return found.at(sorted(range(found.size), key=lambda at: (found.kinds[at], others[at])))
-
-
-def marks_of(head: str) -> Optional[Marks]:
-    fields = head.split(" ")[2:]
-    if fields == ["none"]:
-        return None
-    weight, first, recent = map(int, fields)
-    return weight, first, recent
 
 
 class ProgramEngine:
@@ -264,9 +63,9 @@ class ProgramEngine:
         self.most_records = records.MOST_RECORDS
         self.calls = self._calls = Calls()
         self.index = Index()
-        self._held: "Dict[int, weakref.ref[HeldVersion]]" = {}
+        self._held: "Dict[int, weakref.ref[ProgramVersion]]" = {}
         self._orphans: List[Tuple[int, Awaited]] = []
-        self._rebasing: Optional[Tuple[HeldVersion, Awaited]] = None
+        self._rebasing: Optional[Tuple[ProgramVersion, Awaited]] = None
         self.is_closed = self._is_near = False
         try:
             self.calls.make(lambda: self._start(timeout), untaken=Conversation.kill)
@@ -324,8 +123,8 @@ class ProgramEngine:
         if not self._is_near and self.records_left < 2 * count:
             self._is_near = True
             warnings.warn(NearLimit(f"{self.records_left} of this run's {self.most_records} records are left, and a session that "
-                                    f"asks for all edges, also by a save, takes {count}: that can be once, and not twice. A store "
-                                    "in this process has no such limit (engine='library')"), stacklevel=2)
+                                    f"asks for all edges, also by a save, takes {count}: that can be once, and not twice. A "
+                                    "store in this process has no such limit (engine='library')"), stacklevel=2)
 
     def ask(self, fields: Sequence[str], rows_behind: Callable[[str], int] = one_line) -> Awaited:
         """Asks, and waits for the answer; a refusal is raised."""
@@ -376,21 +175,21 @@ class ProgramEngine:
 
     # Batches.
 
-    def flight(self, batch: Batch, collect: bool) -> Flight:
-        return Flight(batch, collect)
+    def flight(self, batch: Operations, collect: bool) -> ProgramFlight:
+        return ProgramFlight(batch, collect)
 
     @talks
-    def landed(self, flight: Flight) -> Optional[Receipt]:
+    def landed(self, flight: ProgramFlight) -> Optional[Receipt]:
         return None if flight.sent is None else self._land(flight)
 
     @talks
-    def fly(self, flight: Flight) -> Receipt:
+    def fly(self, flight: ProgramFlight) -> Receipt:
         if flight.sent is None:
             self._let_orphans_go()
             self._launch(flight)
         return self._land(flight)
 
-    def _launch(self, flight: Flight) -> None:
+    def _launch(self, flight: ProgramFlight) -> None:
         batch = flight.batch
         self.make_room(batch.size + 1 + flight.collect)
         before = self.talk.records
@@ -399,7 +198,7 @@ class ProgramEngine:
         done = self.talk.ask("commit\n")
         flight.sent = Sent(before, done, self.talk.ask("collect\n") if flight.collect else done)
 
-    def _land(self, flight: Flight) -> Receipt:
+    def _land(self, flight: ProgramFlight) -> Receipt:
         """Waits for what the batch did that was sent."""
         sent = flight.sent
         assert sent
@@ -409,6 +208,10 @@ class ProgramEngine:
             if sent.done.word:
                 self.index.refused()
                 flight.sent = None
+                if sent.done.word == "PoolEmpty" and sent.last is not sent.done and not sent.last.word and numbers(
+                        sent.last.head or "", "collect", 3)[1]:  # (there is more room now than there was for it)
+                    self._launch(flight)
+                    return self._land(flight)
                 raise Denied(sent.done.word, sent.done.number, self._stat() if sent.done.word == "PoolEmpty" else None)
             receipt = committed(sent.done.head or "")
             self.index.landed(receipt.version, {number - sent.before - 1 for number, _ in refused}, self._floor())
@@ -430,7 +233,7 @@ class ProgramEngine:
         return Collected(*numbers(self.ask(("collect",)).head or "", "collect", 3))
 
     @talks
-    def hold(self, slot: Optional[int]) -> HeldVersion:
+    def hold(self, slot: Optional[int]) -> ProgramVersion:
         self._let_orphans_go()
         free = [it for it in range(self.seats) if it not in self._held]
         if slot is None and not free:
@@ -443,11 +246,11 @@ class ProgramEngine:
         self._orphans.pop()
         self._checked(opened)
         names = Stat(*numbers(stat.head or "", "stat", 6)).names
-        version = HeldVersion(self, at, numbers(opened.head or "", "open", 1)[0], names)
+        version = ProgramVersion(self, at, numbers(opened.head or "", "open", 1)[0], names)
         self._held[at] = weakref.ref(version)
         return version
 
-    def let_go(self, version: HeldVersion) -> None:
+    def let_go(self, version: ProgramVersion) -> None:
         """Closes a version's slot."""
         self._held.pop(version.slot, None)
         self.ask(("close", str(version.slot)))

@@ -67,7 +67,7 @@ class Arrays(NamedTuple):
         return found
 
 
-class Batch(NamedTuple):
+class Operations(NamedTuple):
     """Operations that go in together: their records, how many they are, and where each came from, by its place."""
 
     text: bytes
@@ -99,11 +99,11 @@ class Denied(Exception):
 class Flight(Protocol):
     """A batch on its way. `cut` notes that its operations are pending no more."""
 
-    batch: Batch
+    batch: Operations
     cut: List[None]
 
 
-class Version(Protocol):
+class Held(Protocol):
     """A version that is held, until it is closed. Each call raises `Denied` (NoKind, NoVertex) for names that it doesn't have,
     and `SessionClosed` once it is closed. It may be asked from several threads."""
 
@@ -175,7 +175,7 @@ class Engine(Protocol):
     @property
     def records_left(self) -> Optional[int]: ...
 
-    def flight(self, batch: Batch, collect: bool) -> Any:
+    def flight(self, batch: Operations, collect: bool) -> Any:
         """A batch that can be applied, with a collection behind it or not. Nothing is done yet."""
 
     def fly(self, flight: Any) -> Receipt:
@@ -188,10 +188,10 @@ class Engine(Protocol):
 
     def collect(self) -> Collected: ...
 
-    def hold(self, slot: Optional[int]) -> Version:
+    def hold(self, slot: Optional[int]) -> Held:
         """Holds the last version. Raises `NoSeat`, or `Denied`."""
 
-    def rebase(self, version: Version) -> Rebased:
+    def rebase(self, version: Held) -> Rebased:
         """Begins anew with what the version holds, and closes all versions."""
 
     def renew(self) -> Renewed:

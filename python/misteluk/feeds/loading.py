@@ -14,7 +14,7 @@ from .limits import check as check, check_room
 from .opening import ReadAs, reads
 from .progress import Progress, no_collection
 from ..engine.candidates import BITS, keys_of
-from ..engine.protocol import Batch
+from ..engine.protocol import Operations
 from ..errors import NoAnswer, Place, PoolEmpty, Refused, Uncommitted, refusal
 from ..ledger import sum_of
 from ..values import records
@@ -30,7 +30,7 @@ COMMANDS = {"set": "i", "add": "a"}
 MOST_FAULTS = 10
 
 
-class Table:
+class Numbers:
     """The kinds and names of a feed by number, which its batches share."""
 
     def __init__(self) -> None:
@@ -184,7 +184,7 @@ class Count:
         # operations and less before it.
         self.full: "Optional[array[int]]" = None
         # The edges, by their numbers.
-        self.table = Table()
+        self.table = Numbers()
         self.edges: Set[int] = set()
         self.bad = self.rows = 0
         self.faults: List[Refused] = []
@@ -331,7 +331,7 @@ def load(store: "Store[Any, Any]", data: Any, *, by: str, batch: int = records.M
 
 
 def load_in_steps(store: "Store[Any, Any]", found: Survey, *, collect: bool = True, skip_bad: bool = False) -> Iterator[Commit]:
-    """Loads a survey batch by batch: what each did is given before the next is applied, so that sessions can be opened between."""
+    """Loads a survey batch by batch: what each did is given before the next is applied: sessions can be opened between."""
     check(found, skip_bad=skip_bad)
     store.ledger.settle()
     if store.pending:
@@ -349,11 +349,11 @@ def _apply(store: "Store[Any, Any]", found: Survey, at: int, collect: bool) -> C
     """Applies one batch of a feed; a refusal says which lines are not in."""
     part = found.parts[at]
     try:
-        batch = Batch(part.text, len(part.lines), lambda it: Place(found.feed, part.lines[it]))
+        batch = Operations(part.text, len(part.lines), lambda it: Place(found.feed, part.lines[it]))
         return store.ledger.apply(batch, collect, (found.terms, found.kinds) if at == 0 else None)
     except NoAnswer as fault:
-        raise NoAnswer(f"{fault}; lines {part.lines[0]} to {part.lines[-1]} of {found.feed} were sent, all before them are in, and "
-                       "none behind them was sent") from fault
+        raise NoAnswer(f"{fault}; lines {part.lines[0]} to {part.lines[-1]} of {found.feed} were sent, all before them are in, "
+                       "and none behind them was sent") from fault
     except Refused as fault:
         done = sum(len(it.lines) for it in found.parts[:at])
         text = (f"the batch of lines {part.lines[0]} to {part.lines[-1]} was refused, and neither it nor what comes behind it is "

@@ -20,7 +20,7 @@ from ..engine.finding import find_program
 from ..engine.making import PROGRAM, VARIABLE
 from ..feeds.opening import ReadAs, reads
 from .parted import Parted, rows_in
-from .parts import Answered, Part, Question, Recipe, ask_elsewhere
+from .parts import Answered, FleetPart, FleetQuestion, Recipe, ask_elsewhere
 from ..feeds.progress import Progress
 from ..values.units import Units
 
@@ -35,12 +35,12 @@ _NO_WORD: Any = object()
 class Threads:
     """Asks parts in threads of this process, each of which waits for a program."""
 
-    def __init__(self, workers: int, parts: Dict[str, Part]) -> None:
+    def __init__(self, workers: int, parts: Dict[str, FleetPart]) -> None:
         self._parts = parts
         self._pool = ThreadPoolExecutor(workers, "misteluk")
         self.ahead = 4 * workers
 
-    def begin(self, key: str, question: Question) -> Any:
+    def begin(self, key: str, question: FleetQuestion) -> Any:
         return self._pool.submit(self._parts[key].ask, question)
 
     def end(self, begun: Iterable[Any]) -> None:
@@ -56,7 +56,7 @@ class Cluster:
         self._client, self._parted, self._recipe = client, parted, recipe
         self.ahead = 4 * max(1, sum(client.ncores().values()))
 
-    def begin(self, key: str, question: Question) -> Any:
+    def begin(self, key: str, question: FleetQuestion) -> Any:
         pieces = list(self._parted.pieces(key))
         with warnings.catch_warnings():
             warnings.filterwarnings("ignore", "Large object|Sending large graph")  # (which is so on purpose)
@@ -96,8 +96,8 @@ class Fleet:
     `engine` is "program" where nothing else is said, here or by the variable MISTELUK_ENGINE: each part then has a process of its
     own. With "library" all parts are in this one.
 
-    `by` is "set" or "add", and further options are those of `Store` and of `ReadAs`. Raises `FeedFault`, `OSError`, `ValueError` as
-    a load does.
+    `by` is "set" or "add", and further options are those of `Store` and of `ReadAs`. Raises `FeedFault`, `OSError`, `ValueError`
+    as a load does.
     """
 
     @reads
@@ -132,7 +132,7 @@ class Fleet:
         self.parts: Dict[str, int] = self._parted.counts
         self.bad: Dict[str, int] = {"": self._parted.bad} if self._parted.bad else {}
         seats = threading.Semaphore(alive)
-        self._stores = {it: Part(self._recipe, partial(self._rows, it), seats) for it in self.parts}
+        self._stores = {it: FleetPart(self._recipe, partial(self._rows, it), seats) for it in self.parts}
         self._is_closed = False
 
     def _rows(self, key: str) -> Iterator[Any]:
@@ -160,7 +160,7 @@ class Fleet:
         Answers are worked out as they are taken, a few parts ahead. An interrupt, or the end of the loop, leaves what was begun
         to its end, and begins no more.
         """
-        asked = Question(question, given, named, () if unknown is _NO_WORD else (unknown,)).checked()
+        asked = FleetQuestion(question, given, named, () if unknown is _NO_WORD else (unknown,)).checked()
         if isinstance(keys, str):
             raise TypeError(f"keys is a list of keys, as [{keys!r}], and not a text")
         wanted = list(self.parts) if keys is None else list(keys)
@@ -170,7 +170,7 @@ class Fleet:
         self._must_be_open()
         return self._answers(asked, wanted)
 
-    def _answers(self, question: Question, keys: List[str]) -> Iterator[Tuple[str, Any]]:
+    def _answers(self, question: FleetQuestion, keys: List[str]) -> Iterator[Tuple[str, Any]]:
         self._must_be_open()
         told = Progress("asking", len(keys), self._progress, of="parts")
         by = self._begins()

@@ -22,7 +22,7 @@ CALLS = tuple(dict.fromkeys(name for base in reversed(Session.__mro__) for name,
                             if callable(it) and not name.startswith("_") and name not in _WRITING))
 
 
-class Question(NamedTuple):
+class FleetQuestion(NamedTuple):
     """What parts are asked: a function of a session, or the name of a session's call, and its arguments. `unknown` has what
     stands for the answer of a part that has no such name or kind, where that is said."""
 
@@ -31,7 +31,7 @@ class Question(NamedTuple):
     named: Dict[str, Any] = {}
     unknown: Tuple[Any, ...] = ()
 
-    def checked(self) -> "Question":
+    def checked(self) -> "FleetQuestion":
         """Itself; raises where nothing can be asked by it."""
         if isinstance(self.what, str) and self.what not in CALLS:
             raise ValueError(f"a session has no call {self.what!r} to be asked by; it has {', '.join(CALLS)}")
@@ -72,7 +72,7 @@ class Made:
         self.is_as_loaded = True
         self._loaded = store.stat()
 
-    def ask(self, question: Question) -> Any:
+    def ask(self, question: FleetQuestion) -> Any:
         """What a question answers of a version that is held for it."""
         self.is_as_loaded = False
         session = self.store.open()
@@ -147,7 +147,7 @@ class Recipe(NamedTuple):
             raise
 
 
-class Part:
+class FleetPart:
     """A part, and its store where that is kept. `seats` says how many parts may be kept; `rows` gives its rows, each time that
     its store is made. It is asked by one thread at a time."""
 
@@ -157,7 +157,7 @@ class Part:
         self._lock = threading.Lock()
         self._is_closed = False
 
-    def ask(self, question: Question) -> Answered:
+    def ask(self, question: FleetQuestion) -> Answered:
         """The answer. Where the program ended, the part is made again and asked again, once."""
         with self._lock:
             try:
@@ -165,7 +165,7 @@ class Part:
             except (ProgramEnded, RecordLimit):
                 return self._ask(question)._replace(made_again=True)
 
-    def _ask(self, question: Question) -> Answered:
+    def _ask(self, question: FleetQuestion) -> Answered:
         if self._is_closed:
             raise StoreError("the fleet is closed")
         made, was_kept = self._made or self.recipe.make(self.rows()), self._made is not None
@@ -198,6 +198,6 @@ class Part:
                 self._let_go(made, True)
 
 
-def ask_elsewhere(recipe: Recipe, pieces: Sequence[bytes], question: Question) -> Answered:
+def ask_elsewhere(recipe: Recipe, pieces: Sequence[bytes], question: FleetQuestion) -> Answered:
     """Makes a part of its pieces, asks it and lets it go: what a worker of a cluster does."""
-    return Part(recipe, lambda: rows_in(pieces), threading.Semaphore(0)).ask(question)
+    return FleetPart(recipe, lambda: rows_in(pieces), threading.Semaphore(0)).ask(question)

@@ -76,7 +76,8 @@ class Renewed(NamedTuple):
     seconds: float
 
     def __str__(self) -> str:
-        return f"began anew at version {self.version}: {self.edges} edges and {self.names} names went along, in {self.seconds:.1f} s"
+        return (f"began anew at version {self.version}: {self.edges} edges and {self.names} names went along, in "
+                f"{self.seconds:.1f} s")
 
 
 # Before Python 3.11 a named tuple has no parameters where it runs: those of these three are for a type checker, which is told of
@@ -126,7 +127,7 @@ else:
 BY_COLUMN = {"out": "out", "incoming": "into", "weight": "weight_out"}
 
 
-class Column(NamedTuple):
+class Values(NamedTuple):
     """The values of a table's column: as arrays have them, and how a user is told them, where that is something else."""
 
     values: Sequence[int]
@@ -147,13 +148,13 @@ class Answer(Mapping[str, V], Generic[V]):
     def __init__(self, *given: Any, version: int = 0, request: str = "", value: str = "value", **named: Any) -> None:
         self.version, self.request, self.value = version, request, value
         self.names: Sequence[str] = ()
-        self.columns: Dict[str, Column] = {}
+        self.columns: Dict[str, Values] = {}
         self._rows: "Optional[Dict[str, V]]" = dict(*given, **named)
         if self._rows:
             self.names = list(self._rows)
 
     @classmethod
-    def of(cls, names: Sequence[str], columns: Dict[str, Column], version: int, request: str, value: str) -> "Answer[V]":
+    def of(cls, names: Sequence[str], columns: Dict[str, Values], version: int, request: str, value: str) -> "Answer[V]":
         """The answer that has these columns; of degrees there are several."""
         answer = cls(version=version, request=request, value=value)
         answer.names, answer.columns, answer._rows = names, columns, None
@@ -198,7 +199,7 @@ class Answer(Mapping[str, V], Generic[V]):
 
     def __reduce__(self) -> Any:
         """What pickles it: its columns, with the values as a user is told them."""
-        told = {name: Column(it.all_told()) for name, it in self.columns.items()}
+        told = {name: Values(it.all_told()) for name, it in self.columns.items()}
         if self._rows is not None and not told:
             return _with_rows, (self._rows, self.version, self.request, self.value)
         return Answer.of, (self.names, told, self.version, self.request, self.value)
@@ -263,9 +264,9 @@ class Answer(Mapping[str, V], Generic[V]):
     most = top
 
 
-def degrees(out: "array[int]", into: "array[int]", weights: "array[int]", told: Any) -> Dict[str, Column]:
+def degrees(out: "array[int]", into: "array[int]", weights: "array[int]", told: Any) -> Dict[str, Values]:
     """The columns of a table of degrees."""
-    return {"out": Column(out), "into": Column(into), "weight_out": Column(weights, told)}
+    return {"out": Values(out), "into": Values(into), "weight_out": Values(weights, told)}
 
 
 def _with_rows(rows: Any, version: int, request: str, value: str) -> "Answer[Any]":

@@ -1,17 +1,24 @@
 """Edges as arrays with names, and what became of edges from one version to another."""
 from __future__ import annotations
 
+import csv
 import heapq
 from array import array
+from datetime import datetime
 from typing import TYPE_CHECKING, Any, Dict, Iterator, List, NamedTuple, Sequence, Tuple
 
 from .answers import Edge
 from .units import Units
+from ..engine.finding import Path
 from ..errors import Missing
+from ..files import whole_text
 
 if TYPE_CHECKING:
+    import igraph
+    import networkx
     import numpy
     import pandas
+    import scipy.sparse
 
 HEADER = ("kind", "source", "target", *Edge._fields)
 # An edge as a user is told it.
@@ -81,6 +88,56 @@ class Edges(Sequence[Told]):
         for name, values, column in zip(Edge._fields, self.told(), (self.weight, self.first, self.recent)):
             found[name] = numpy.asarray(column).astype("int64") if values is column else list(values)
         return pandas.DataFrame(found, columns=list(HEADER))
+
+    def to_networkx(self, **about: Any) -> "networkx.MultiDiGraph":
+        """The edges as a networkx graph, with every name as a node, in order. An edge's key is its kind; it has the attributes
+        `kind`, `weight`, `first` and `recent`. The graph has what is said about it."""
+        try:
+            import networkx
+        except ImportError:
+            raise Missing("networkx", "a graph") from None
+        graph = networkx.MultiDiGraph(**about)
+        graph.add_nodes_from(self.names)
+        graph.add_edges_from((source, target, it, {"kind": it, "weight": edge[0], "first": edge[1], "recent": edge[2]})
+                             for it, source, target, edge in self)
+        return graph
+
+    def to_igraph(self, **about: Any) -> "igraph.Graph":
+        """The edges as a directed igraph graph, whose vertices have the numbers here, and the names as `name`. Edges have `kind`,
+        `weight`, `first` and `recent`. The graph has what is said about it."""
+        try:
+            import igraph
+        except ImportError:
+            raise Missing("igraph", "a graph") from None
+        graph = igraph.Graph(len(self.names), list(zip(self.source, self.target)), directed=True)
+        for name, value in about.items():
+            graph[name] = value
+        graph.vs["name"] = list(self.names)
+        graph.es["kind"] = list(map(self.kinds.__getitem__, self.kind))
+        for name, values in zip(Edge._fields, self.told()):
+            graph.es[name] = list(values)
+        return graph
+
+    def to_scipy(self) -> "scipy.sparse.csr_matrix":
+        """The weights, in parts, as a sparse matrix: row and column are the numbers of source and target. Of several kinds the
+        weights are summed."""
+        try:
+            import numpy
+            import scipy.sparse
+        except ImportError:
+            raise Missing("scipy", "a sparse matrix") from None
+        ends = numpy.asarray(self.source).astype("int64"), numpy.asarray(self.target).astype("int64")
+        size = len(self.names)
+        return scipy.sparse.csr_matrix((numpy.asarray(self.weight).astype("int64"), ends), shape=(size, size))
+
+    def to_csv(self, path: Path) -> int:
+        """Writes the edges as CSV in UTF-8 with a header, and gives how many they are. See `Session.to_csv`."""
+        with whole_text(path) as file:
+            write = csv.writer(file, lineterminator="\n").writerow
+            write(HEADER)
+            for *ends, edge in self:
+                write((*ends, edge.weight, *map(_time_text, edge[1:])))
+        return len(self)
 
     def top(self, count: int = 10, by: str = "weight") -> List[Told]:
         """The edges with the greatest values, greatest first: by "weight", "first" or "recent"."""
@@ -158,3 +215,7 @@ class Diff:
 def _some(edges: Edges, places: Sequence[int]) -> Edges:
     columns = [array(it.typecode, map(it.__getitem__, places)) for it in edges.columns.values()]
     return Edges(edges.kinds, edges.names, edges.units, columns)
+
+
+def _time_text(time: Any) -> str:
+    return time.isoformat() if isinstance(time, datetime) else str(time)
