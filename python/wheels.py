@@ -1,8 +1,10 @@
 """Makes the wheel of this package by Python's standard library alone, for `pip install ./python` (PEP 517). Nothing is written
 beside the package, so that a clone stays clean.
 
-A wheel that pip asks for has the program of where it stands: the archive's `bin/stinger`, or the clone's proved one. Where
-nothing is proved yet, it has a script that runs the clone's `./stinger`.
+A wheel that pip asks for has the library and the program of where it stands: the archive's, or the clone's proved ones, and else
+its compiled library. Where
+nothing is proved yet, it has a script that runs the clone's `./stinger`: such a wheel is of use on this machine alone, as long as
+the clone stands there, so its tags say the machine, and its version the clone.
 """
 from __future__ import annotations
 
@@ -14,13 +16,16 @@ import pathlib
 import re
 import shlex
 import subprocess
+import sys
 import tarfile
 import time
 import zipfile
 from typing import Any, Dict, List, NamedTuple, Optional, Tuple
 
 HERE = pathlib.Path(__file__).resolve().parent
-PROGRAM = "misteluk/bin/stinger"
+PROGRAM, LIBRARY = "misteluk/bin/stinger", "misteluk/lib/libmisteluk.so"
+# How a script begins that stands for the program and runs a clone's.
+SCRIPT = b"#!/bin/sh\n# This runs the program of the clone that the package was installed from.\n"
 # A file of a wheel or archive: its bytes, and whether it can be run.
 Files = Dict[str, Tuple[bytes, bool]]
 
@@ -78,15 +83,21 @@ def package() -> Files:
     return {it.relative_to(HERE).as_posix(): (it.read_bytes(), False) for it in found}
 
 
+def clone_of(program: bytes) -> str:
+    """What marks the version of a wheel whose program is a script that runs a clone's: a word made of the clone's place."""
+    return "" if not program.startswith(SCRIPT) else f"+clone.{hashlib.sha256(program).hexdigest()[:8]}"
+
+
 def write_wheel(folder: "str | os.PathLike[str]", files: Files, version: Optional[str] = None,
                 seconds: Optional[int] = None) -> pathlib.Path:
     """Writes a wheel of these files and of what tells of them: with a program for its kind of machine, else for any."""
     it = project()
-    version = version or it.version
     program = files.get(PROGRAM, (b"", False))[0]
-    tag = "py3-none-linux_x86_64" if program.startswith(b"\x7fELF") else "py3-none-any"
+    version = version or it.version + clone_of(program)
+    is_of_here = program.startswith((b"\x7fELF", SCRIPT)) or LIBRARY in files
+    tag = f"py3-none-linux_{os.uname().machine}" if is_of_here else "py3-none-any"
     about = f"{it.name}-{version}.dist-info"
-    pure = "false" if program.startswith(b"\x7fELF") else "true"
+    pure = "false" if is_of_here else "true"
     told: Files = {
         f"{about}/METADATA": (metadata(version), False),
         f"{about}/WHEEL": (f"Wheel-Version: 1.0\nGenerator: misteluk\nRoot-Is-Purelib: {pure}\nTag: {tag}\n".encode(), False),
@@ -125,6 +136,17 @@ def _record(files: Files, itself: str) -> str:
     return "\n".join([*lines, f"{itself},,", ""])
 
 
+def library_here() -> Files:
+    """The library of the archive or clone that the package stands in, as it was made of the sources as they are, or nothing."""
+    top = HERE.parent
+    path = top / "lib/libmisteluk.so"
+    if (top / "stinger").is_file():
+        where = subprocess.run([top / "stinger", "library", "--where"], stdout=subprocess.PIPE, stderr=subprocess.DEVNULL,
+                               text=True)
+        path = pathlib.Path(where.stdout.strip() or path)
+    return {LIBRARY: (path.read_bytes(), False)} if path.is_file() else {}
+
+
 def program_here() -> Files:
     """The program of the archive or clone that the package stands in, or a script that runs the clone's, or nothing."""
     top = HERE.parent
@@ -135,14 +157,16 @@ def program_here() -> Files:
     if (top / "bin/stinger").is_file():
         return {PROGRAM: ((top / "bin/stinger").read_bytes(), True)}
     if (top / "stinger").is_file():
-        return {PROGRAM: (f'#!/bin/sh\nexec {shlex.quote(str(top / "stinger"))} "$@"\n'.encode(), True)}
+        print(f"misteluk: this wheel has no program, but runs {top / 'stinger'}: it is for this machine, as long as that stands "
+              "there. ./prove makes the program that a wheel for others has", file=sys.stderr)
+        return {PROGRAM: (SCRIPT + f'exec {shlex.quote(str(top / "stinger"))} "$@"\n'.encode(), True)}
     return {}
 
 
 # What pip calls.
 
 def build_wheel(wheel_directory: str, config_settings: Any = None, metadata_directory: Optional[str] = None) -> str:
-    return write_wheel(wheel_directory, {**package(), **program_here()}).name
+    return write_wheel(wheel_directory, {**package(), **library_here(), **program_here()}).name
 
 
 def build_editable(wheel_directory: str, config_settings: Any = None, metadata_directory: Optional[str] = None) -> str:

@@ -12,10 +12,12 @@ import zlib
 from typing import IO, Any, BinaryIO, Iterator, NoReturn, TextIO, Tuple, Type, cast
 
 from .errors import Missing, SaveFault
-from .finding import Path
+from .engine.finding import Path
 
 # How packed files begin, by the end of their names.
 _BEGINNINGS = {".gz": b"\x1f\x8b", ".xz": b"\xfd7zXZ\0", ".bz2": b"BZh", ".zst": b"\x28\xb5\x2f\xfd"}
+# Ends of names that say another packing, or an archive.
+_OTHERS = (".zip", ".7z", ".rar", ".tar", ".tgz", ".tbz2", ".txz", ".lz", ".lz4", ".lzma", ".zstd", ".br", ".z")
 _MODULES = {".xz": "lzma", ".bz2": "bz2", ".zst": "zstandard"}
 
 
@@ -29,8 +31,13 @@ def _module(ending: str) -> Any:
 
 def ending_of(path: Path) -> str:
     """How the file is packed: ".gz", ".xz", ".bz2", ".zst", or "" where its name ends otherwise. Raises `Missing` where nothing
-    here packs such a file."""
-    ending = next((it for it in _BEGINNINGS if os.fspath(path).endswith(it)), "")
+    here packs such a file, and `ValueError` where the name says a packing that nothing here writes, as .zip."""
+    name = os.fspath(path).lower()
+    other = next((it for it in _OTHERS if name.endswith(it)), None)
+    if other:
+        raise ValueError(f"{os.fspath(path)} ends in {other}, and nothing here packs so: names that end in .gz, .xz, .bz2 and "
+                         ".zst are packed, and others are plain text")
+    ending = next((it for it in _BEGINNINGS if name.endswith(it)), "")
     if ending in _MODULES:
         _module(ending)
     return ending
@@ -50,18 +57,20 @@ def packer(file: BinaryIO, ending: str) -> "contextlib.AbstractContextManager[IO
     return cast("contextlib.AbstractContextManager[IO[bytes]]", made)
 
 
-def unpacked(data: bytes, name: str) -> bytes:
-    """What a packed file has, by how it begins. Raises `SaveFault` where it is damaged."""
+def unpacked(data: bytes, name: str, most: int = -1) -> bytes:
+    """What a packed file has, by how it begins; its first bytes, where at most so many are wanted. Raises `SaveFault` where it is
+    damaged."""
     ending = next((it for it, begin in _BEGINNINGS.items() if data.startswith(begin)), "")
     if not ending:
-        return data
+        return data if most < 0 else data[:most]
     module = gzip if ending == ".gz" else _module(ending)
     faults = {".xz": "LZMAError", ".zst": "ZstdError"}
     known: Tuple[Type[Exception], ...] = (OSError, EOFError, ValueError, zlib.error,
                                           getattr(module, faults.get(ending, ""), EOFError))
     try:
-        return cast(bytes, module.ZstdDecompressor().decompressobj().decompress(data) if ending == ".zst" else
-                    module.decompress(data))
+        packed = io.BytesIO(data)
+        with module.ZstdDecompressor().stream_reader(packed) if ending == ".zst" else module.open(packed) as file:
+            return cast(bytes, file.read(most))
     except known as fault:
         raise SaveFault(f"{name} can't be unpacked: it is damaged or cut ({fault}). Nothing is restored") from fault
 
@@ -111,9 +120,10 @@ def whole(path: Path) -> "Iterator[BinaryIO]":
 
 @contextlib.contextmanager
 def whole_text(path: Path) -> "Iterator[TextIO]":
-    """The same for a file of text, in UTF-8; ends of lines are written as they are."""
-    with whole(path) as raw:
-        file = io.TextIOWrapper(raw, encoding="utf-8", newline="")
+    """The same for a file of text, in UTF-8, packed as its name says; ends of lines are written as they are."""
+    ending = ending_of(path)
+    with whole(path) as raw, packer(raw, ending) as packed:
+        file = io.TextIOWrapper(cast(BinaryIO, packed), encoding="utf-8", newline="")
         yield file
         file.detach()
 

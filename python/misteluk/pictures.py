@@ -8,9 +8,9 @@ import os
 from collections import Counter
 from typing import Any, Iterable, Mapping, Sequence, Tuple, Union
 
-from .answers import Degree
+from .values.answers import Degree
 from .errors import Missing
-from .names import shown
+from .values.names import shown
 
 FIRST, SECOND, GRAY = "#1f5fa8", "#d9822b", "#777777"
 # Texts stay texts, and a figure that is drawn again has the same bytes.
@@ -61,7 +61,7 @@ def save(figure: Any, path: Union[str, "os.PathLike[str]"]) -> None:
         figure.savefig(path, format=form, bbox_inches="tight", dpi=150, metadata={"Date": None} if form == "svg" else None)
 
 
-def degree_distribution(degrees: Mapping[str, Degree], title: str = "Degrees") -> Any:
+def degree_distribution(degrees: Mapping[str, Degree[Any]], title: str = "Degrees") -> Any:
     """How many vertices have each degree, out and in, on logarithmic axes; degree 0 is said in the legend."""
     figure, axes = _figure(title, "edges at a vertex", "vertices")
     for way, color, mark in (("out", FIRST, "o"), ("into", SECOND, "x")):

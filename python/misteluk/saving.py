@@ -10,17 +10,20 @@ import hashlib
 import os
 import re
 from array import array
-from typing import TYPE_CHECKING, Callable, Dict, List, NamedTuple, Optional, Sequence, Set, Tuple
+from typing import TYPE_CHECKING, Any, Callable, Dict, List, NamedTuple, Optional, Sequence, Set, Tuple
 from urllib.parse import unquote
 
-from . import files, records
-from .copying import Content, content_of_session, operations_of
-from .errors import OverLimit, PoolEmpty, RecordLimit, SaveFault, StoreError
-from .feeds import escaped, parts_of
-from .finding import Path
-from .names import MARK
-from .progress import Progress
-from .units import Units
+from . import files
+
+from .values import records
+from .engine.copies import Content, content_of, operations_of
+from .engine.protocol import Operations
+from .errors import Missing, OverLimit, PoolEmpty, SaveFault, StoreError
+from .feeds.feed import escaped, parts_of
+from .engine.finding import Path
+from .values.names import MARK
+from .feeds.progress import Progress
+from .values.units import Units
 
 if TYPE_CHECKING:
     from .session import Session
@@ -32,6 +35,8 @@ FORM = 1
 KIND = "misteluk"
 _OPENING, _REBASE = "open,0\n", "commit\nrebase,0\n"
 _BEGINNING = re.compile(rb"open,0\ni,misteluk,form:(\d{1,9}),([0-9a-f]{64}),0,0\n")
+# How many bytes that has at most: the rest of a packed file isn't unpacked before it is seen to be one.
+_MOST_BEGINNING = 200
 # The head's last insertion, and what comes behind it.
 _END = f"i,{KIND},end,of-head,0,0\n{_REBASE}"
 _WRITTEN_AT_ONCE = 1 << 20
@@ -107,43 +112,20 @@ class Room:
         return size
 
 
-def save(session: "Session", path: Path) -> Saved:
+def save(session: "Session[Any, Any]", path: Path, progress: Optional[bool] = None) -> Saved:
     """Writes the version that the session holds as one file. See `Session.save`."""
     ending = files.ending_of(path)
     files.place_of(path)
-    _must_have_room(session)
-    content = content_of_session(session)
+    session.must_be_open()
+    content = content_of(session.held)
     operations = list(operations_of(content))
     room = Room(operations)
     blocks = room.fitting()
     script = _script(_head(session, content, blocks), operations, room.batch(blocks))
-    done = Saved(os.fspath(path), session.version, len(content.names), len(content.edges), script.count(b"\n"), blocks)
-    _must_fit(done, room)
     with files.whole(path) as file, files.packer(file, ending) as packed:
         for at in range(0, len(script), _WRITTEN_AT_ONCE):
             packed.write(script[at:at + _WRITTEN_AT_ONCE])
-    return done
-
-
-def _must_have_room(session: "Session") -> None:
-    """Raises where the run can't take a record for each edge and kind that is to be asked for."""
-    session._must_be_open()
-    store, candidates = session.store, session.store._candidates()
-    needed = 1 + len(candidates) + len(candidates.kinds)
-    sent, most = store._talk.records, store._most_records
-    if sent + needed > most:
-        raise RecordLimit(f"a save asks for each edge that the store was told of, in {needed} records, and this run has had "
-                          f"{sent} of {most}. Nothing was asked or written")
-
-
-def _must_fit(done: Saved, room: Room) -> None:
-    """Raises where a copy is more than a run takes."""
-    counts = {"records": done.records, "names": done.names, "edges": done.edges, "blocks": room.needed(1)}
-    over = [f"{counts[what]} {what}, where a run takes {most}"
-            for what, most in (("records", records.MOST_RECORDS), ("blocks", records.MOST_BLOCKS)) if counts[what] > most]
-    if over:
-        raise OverLimit(f"a copy of version {done.version}, with {done.names} names and {done.edges} edges, takes "
-                        f"{' and '.join(over)}: an edge whose two times differ takes two records. Nothing was written", counts)
+    return Saved(os.fspath(path), session.version, len(content.names), len(content.edges), script.count(b"\n"), blocks)
 
 
 # What is written.
@@ -155,16 +137,16 @@ def _script(head: str, operations: Sequence[str], size: int) -> bytes:
     return f"{_OPENING}i,{KIND},form:{FORM},{hashlib.sha256(told).hexdigest()},0,0\n".encode("ascii") + told
 
 
-def _head(session: "Session", content: Content, needed: int) -> str:
+def _head(session: "Session[Any, Any]", content: Content, needed: int) -> str:
     """What is told of the file behind its digest. It goes in batches, of which each is let go before the next one, so that few
     names and blocks are enough."""
     store, units = session.store, session.store.units
     facts = {"version": session.version, "names": len(content.names), "edges": len(content.edges), "blocks": store.blocks,
              "needed": needed}
     told = [(it, str(value)) for it, value in facts.items()]
-    if store._units_are_set:
+    if store.ledger.units_are_set:
         told += [("weight_scale", str(units.weight_scale)), ("times", units.times)]
-    to_user = store._terms.names.to_user
+    to_user = store.ledger.terms.names.to_user
     texts = ((it, to_user(it)) for it in dict.fromkeys([*content.kinds, *content.names]))
     told += [(it, piece) for it, text in texts if text != it for piece in _pieces(escaped(text))]
     lines = (records.record(("i", KIND, it, piece, "0", "0")) for it, piece in told)
@@ -179,6 +161,16 @@ def _pieces(text: str) -> List[str]:
 
 # What is read.
 
+def is_saved(path: Path) -> bool:
+    """Whether a file begins as those that `save` writes do. Raises `OSError` where there is none."""
+    with open(path, "rb") as file:
+        data = file.read()
+    try:
+        return _BEGINNING.match(files.unpacked(data, os.fspath(path), _MOST_BEGINNING)) is not None
+    except (SaveFault, Missing):
+        return False
+
+
 def read(path: Path) -> Found:
     """What a saved file has."""
     with open(path, "rb") as file:
@@ -187,13 +179,12 @@ def read(path: Path) -> Found:
 
 def found_in(data: bytes, name: str) -> Found:
     """What a saved file has, whose bytes these are. Raises `SaveFault` where it is none, or isn't as it was written."""
-    data = files.unpacked(data, name)
-    found = _BEGINNING.match(data)
+    found = _BEGINNING.match(files.unpacked(data, name, _MOST_BEGINNING))
     if not found:
         raise SaveFault(f"{name} is no saved version: it doesn't begin as those that Session.save writes. Nothing is restored")
     if int(found[1]) != FORM:
         raise SaveFault(f"{name} is of form {int(found[1])}, and this package knows form {FORM}. Nothing is restored")
-    told = data[found.end():]
+    told = files.unpacked(data, name)[found.end():]
     if hashlib.sha256(told).hexdigest().encode("ascii") != found[2]:
         raise SaveFault(f"{name} is damaged or cut: its digest is another than that of what it has. Nothing is restored")
     head, _, body = told.decode("ascii").partition(_END)
@@ -211,8 +202,8 @@ def _told(head: str) -> Tuple[Dict[str, str], Dict[str, str]]:
     return facts, {it: unquote(text) for it, text in pieces.items() if it.startswith(MARK)}
 
 
-def restore(path: Path, make: "Callable[[int, Optional[int], Optional[str]], Store]", blocks: Optional[int],
-            progress: Optional[bool]) -> "Store":
+def restore(path: Path, make: "Callable[[int, Optional[int], Optional[str]], Store[Any, Any]]", blocks: Optional[int],
+            progress: Optional[bool]) -> "Store[Any, Any]":
     """A store of a saved file. `make` makes it, with so many blocks, and a weight scale and times where those are said. See
     `Store.restore`."""
     found = read(path)
@@ -221,9 +212,10 @@ def restore(path: Path, make: "Callable[[int, Optional[int], Optional[str]], Sto
         blocks = found.count("blocks") if room.batch(found.count("blocks")) else room.fitting()
     size = _batch(os.fspath(path), found, room, blocks)
     scale = int(found.facts["weight_scale"]) if "weight_scale" in found.facts else None
-    store: Optional[Store] = None
+    store: Optional[Store[Any, Any]] = None
     try:
         store = make(blocks, scale, found.facts.get("times"))
+        _must_fit(store, os.fspath(path), found, size)
         _fill(store, found, size, Progress(f"restoring {os.fspath(path)}", len(found.operations), progress))
         stat, wanted = store.stat(), (found.count("names"), found.count("edges"))
         if (stat.names, stat.edges) != wanted:
@@ -235,28 +227,30 @@ def restore(path: Path, make: "Callable[[int, Optional[int], Optional[str]], Sto
         raise
 
 
-def _fill(store: "Store", found: Found, size: int, told: Progress) -> None:
+def _fill(store: "Store[Any, Any]", found: Found, size: int, told: Progress) -> None:
     """Applies a file's operations, in batches of this size, to an empty store, and takes its names and kinds."""
-    store._terms.names.put(found.texts)
-    # (an endless store would go on in a new program without names that have no edge yet)
-    store._endless, is_endless = False, store._endless
+    ledger = store.ledger
+    ledger.terms.names.put(found.texts)
     for part in parts_of(found.operations, size or 1):
-        store._apply("".join(part).encode("ascii"), len(part), True)
+        ledger.apply(Operations("".join(part).encode("ascii"), len(part)), True)
         told.step(len(part))
-    store._endless = is_endless
     told.end()
     kinds = dict.fromkeys(records.split_record(it)[1] for it in found.operations)
-    store._kinds.update(dict.fromkeys(map(store._terms.names.to_user, kinds)))
+    ledger.kinds.update(dict.fromkeys(map(ledger.terms.names.to_user, kinds)))
 
 
 def _batch(name: str, found: Found, room: Room, blocks: int) -> int:
-    """The size of batches for so many blocks. Raises where there is none, or the run has no room for them."""
+    """The size of batches for so many blocks. Raises where there is none."""
     size = room.batch(blocks)
     if found.operations and not size:
         raise PoolEmpty(needed=room.needed(1), free=blocks, text=f"{name} needs at least {room.needed(1)} blocks, and {blocks} "
                         "are said. Nothing is restored", advice="")
-    count = len(found.operations) + 2 * -(-len(found.operations) // (size or 1)) + 2
-    if count > records.MOST_RECORDS:
-        raise OverLimit(f"{name} takes {count} records in batches of {size}, for which {blocks} blocks have room, where a run "
-                        f"takes {records.MOST_RECORDS}: with more blocks they are fewer. Nothing is restored", {"records": count})
     return size
+
+
+def _must_fit(store: "Store[Any, Any]", name: str, found: Found, size: int) -> None:
+    """Raises where a program's records aren't enough."""
+    count, left = len(found.operations) + 2 * -(-len(found.operations) // (size or 1)) + 2, store.records_left
+    if left is not None and count > left:
+        raise OverLimit(f"{name} takes {count} records in batches of {size}, for which {store.blocks} blocks have room, where a "
+                        f"run takes {records.MOST_RECORDS}: with more blocks they are fewer. Nothing is restored", {"records": count})

@@ -5,9 +5,10 @@ import os
 import random
 import signal
 import sys
+import threading
 import time
 
-import support  # noqa: F401  (it finds the package)
+from support import as_soon_as
 
 import misteluk
 from misteluk import Store, survey
@@ -15,6 +16,10 @@ from misteluk import Store, survey
 PACKAGE = os.path.dirname(misteluk.__file__) + os.sep
 EDGES = {("l", "a", "b"): (5, 1, 1), ("l", "b", "c"): (7, 1, 1)}
 DEGREES = {"a": (1, 0, 5), "b": (1, 1, 7), "c": (0, 1, 0)}
+# For how many seconds a program may be silent: for long, since a busy machine's program may be; where a planted fault is to be
+# found, whose call may wait for an answer that never comes, for less.
+PATIENCE = {"timeout": 60.0}
+SOON = {"timeout": 0.5}
 # How many lines of a call are tried, and how many of them may go wrong before a test ends.
 MOST_LINES, MOST_WRONG = 3_000, 50
 
@@ -76,7 +81,7 @@ class Scene:
     """A store with two edges, a session of them, and an amount that is pending three times; or what becomes of these."""
 
     def __init__(self):
-        self.store = Store(blocks=64, seats=3, timeout=0.5)
+        self.store = Store(blocks=64, seats=3, **PATIENCE)
         self.store.insert("l", "a", "b", 5, 1)
         self.store.insert("l", "b", "c", 7, 1)
         self.store.commit()
@@ -106,8 +111,7 @@ class Scene:
         return True
 
     def end(self):
-        self.store._talk.kill()
-        self.store._closed = True
+        self.store.kill()
 
 
 def rebase(scene):
@@ -168,12 +172,31 @@ def handler(of_alarms):
         signal.signal(signal.SIGALRM, before)
 
 
-def has_ended(process, seconds=5.0):
-    """Whether the process came to its end, and was waited for."""
+def has_ended(process, seconds=120.0):
+    """Waits until the process came to its end, and was waited for; tells whether it did so."""
     end = time.monotonic() + seconds
     while process.returncode is None and time.monotonic() < end:
         time.sleep(0.01)
     return process.returncode is not None
+
+
+def is_calling(store):
+    """Whether a call of a store over a program has begun."""
+    return bool(store.engine.calls._made)
+
+
+@contextlib.contextmanager
+def alarm_as_soon_as(is_so):
+    """Sends this process an alarm as soon as that is so, by a thread of its own."""
+    def strike():
+        as_soon_as(is_so)
+        os.kill(os.getpid(), signal.SIGALRM)
+    thread = threading.Thread(target=strike)
+    thread.start()
+    try:
+        yield
+    finally:
+        thread.join()
 
 
 # A store and a session that a fork has from its parent.
@@ -197,7 +220,7 @@ class Model:
 
     def __init__(self, seed=7):
         self.random = random.Random(seed)
-        self.store = Store(blocks=1024, seats=4, timeout=0.5)
+        self.store = Store(blocks=1024, seats=4, **PATIENCE)
         self.weights, self.pending = {}, []
         self.held = []
         self.steps = self.interrupts = 0
@@ -307,5 +330,12 @@ class Model:
         assert interrupted or stat.edges == len(self.weights)
 
     def end(self):
-        self.store._talk.kill()
-        self.store._closed = True
+        self.store.kill()
+
+
+if __name__ == "__main__":  # python3 interrupting.py 10000: so many interrupts by a timer, beside the model
+    with handler(interrupt_in_a_call):
+        MODEL = Model(int(sys.argv[2]) if len(sys.argv) > 2 else 7)
+        MODEL.run(int(sys.argv[1]))
+        MODEL.end()
+    print(f"{MODEL.interrupts} interrupts in {MODEL.steps} steps, over the {MODEL.store.engine.name}: nothing wrong")

@@ -1,20 +1,22 @@
 """python -m misteluk: load, fleet, lint, picture. Values are worked out by hand."""
 import argparse
+import gzip
 import io
 import os
 import shutil
 import subprocess
 import sys
 import unittest
-from contextlib import redirect_stderr
+from contextlib import redirect_stderr, redirect_stdout
 
 from pages import CHROMIUM
 from support import HERE, IS_REPOSITORY, NO_REPOSITORY, TOP, Case, CommandCase, find_program, optional, words_of
 
+import misteluk
 from misteluk import pictures
-from misteluk.__main__ import main
-from misteluk.answers import Degree
-from misteluk.options import make_parser
+from misteluk.command.main import main
+from misteluk.values.answers import Degree
+from misteluk.command.options import make_parser
 
 PAIRS = "from,to,n,t\na,b,1,10\na,c,2,11\nc,d,3,12\na,b,4,13\nx,y,5,14\n"
 OF_PAIRS = ("--source", "from", "--target", "to", "--weight", "n", "--time", "t")
@@ -49,6 +51,62 @@ class Commands(CommandCase):
         self.load("edge link a b: weight 5 first 10 recent 13", "--add", "--ask", "edge link a b")
         status, out, err = self.run_it("load", self.file("p.csv", PAIRS), *OF_PAIRS, "--add", "--ask", "path a nobody")
         self.assertEqual((status, "NoVertex" in err), (1, True))
+
+    def test_load_and_ask_of_a_vertex_and_of_all(self):
+        """Neighbors have an edge out, an edge in, or both; within is along edges; edges are all, the heaviest first."""
+        self.load("neighbors a: 2 neighbors\n  b out weight 5 first 10 recent 13, in none\n  c out weight 2 first 11 recent 11, "
+                  "in none", "--add", "--ask", "neighbors a")
+        self.load("neighbors c link: 2 neighbors\n  d out weight 3 first 12 recent 12, in none", "--add", "--ask",
+                  "neighbors c link", "--top", "1")
+        self.load("within a 1: 3 reached\n  a 0\n  b 1\n  c 1\nwithin a 2 link: 4 reached\n  a 0\n  b 1\n  c 1\n  d 2", "--add",
+                  "--ask", "within a 1", "--ask", "within a 2 link")
+        self.load("edges: 4 edges\n  link a b weight 5 first 10 recent 13\n  link x y weight 5 first 14 recent 14", "--add",
+                  "--ask", "edges", "--top", "2")
+        self.load("edges link: 1 edge\n  link x y weight 5 first 14 recent 14", "--add", "--ask", "edges link", "--since", "14")
+        for wrong in ("within a", "within a b", "within a 1 link more", "neighbors", "edges a b"):
+            with self.assertRaises(SystemExit), redirect_stderr(io.StringIO()) as told:
+                main(["load", "x", "--set", "--ask", wrong])
+            form = {"within": "NAME HOPS [KIND]", "neighbors": "NAME [KIND]", "edges": "[KIND]"}[wrong.split()[0]]
+            self.assertIn(f"is asked as `{wrong.split()[0]} {form}`", told.getvalue())
+
+    def test_edges_are_written(self):
+        """All, or those of a window; from a file and from a saved one; packed as the name says, or refused before a load."""
+        path, packed, saved = self.room / "e.csv", self.room / "e.csv.gz", str(self.room / "s.gz")
+        wanted = ["kind,source,target,weight,first,recent", "link,a,b,5,10,13", "link,a,c,2,11,11", "link,c,d,3,12,12",
+                  "link,x,y,5,14,14"]
+        self.load(f"{path}: 4 edges of version 1", "--add", "--edges", str(path))
+        self.assertEqual(path.read_text().splitlines(), wanted)
+        self.assertEqual(self.run_it("load", self.file("p.csv", PAIRS), *OF_PAIRS, "--add", "--save", saved)[0], 0)
+        status, out, _ = self.run_it("restore", saved, "--edges", packed, "--since", "14")
+        self.assertEqual((status, out.splitlines()[1]), (0, f"{packed}: 1 edge of version 1"))
+        self.assertEqual(gzip.open(packed, "rt").read().splitlines(), [wanted[0], wanted[4]])
+        for wrong in (("--edges", self.room / "e.zip"), ("--edges", self.room / "none" / "e.csv"),
+                      ("--edges", path, "--dry-run")):
+            status, out, err = self.run_it("load", self.file("p.csv", PAIRS), *OF_PAIRS, "--add", *wrong)
+            self.assertEqual((status, out), (1, ""), err)
+
+    def test_the_version(self):
+        for word in ("--version", "-V"):
+            with self.assertRaises(SystemExit) as told, redirect_stdout(io.StringIO()) as out:
+                main([word])
+            self.assertEqual((told.exception.code, out.getvalue()), (0, f"misteluk {misteluk.__version__}\n"))
+
+    def test_the_page_of_a_saved_file(self):
+        saved, page = str(self.room / "s.gz"), self.room / "page.html"
+        around = ("picture", "around", saved, "--around", "a", "-o", page)
+        self.assertEqual(self.run_it("load", self.file("p.csv", PAIRS), *OF_PAIRS, "--add", "--save", saved)[0], 0)
+        status, out, err = self.run_it(*around)
+        self.assertEqual((status, out, err), (0, f"{page}: a, 2 hops, the saved version: 4 vertices; 3 edges\n", ""))
+        self.assertIn("The saved version. 4 vertices within 2 hops of a", page.read_text())
+        self.assertIn("a saved file has one version", self.run_it(*around, "--at", "12")[2])
+        self.assertIn("No such file", self.run_it("picture", "around", "none.gz", "--around", "a", "-o", page)[2])
+        for words in (("picture", "around", self.file("p.csv", PAIRS), "--around", "a", "-o", page),
+                      ("picture", "degrees", saved, "-o", self.room / "d.svg")):
+            with self.assertRaises(SystemExit) as told, redirect_stderr(io.StringIO()) as err:
+                self.run_it(*words)
+            self.assertEqual(told.exception.code, 2)
+        status, _, err = self.run_it(*around, "--add")
+        self.assertEqual(status, 1, err)
 
     def test_a_kind_by_column(self):
         path = self.file("k.csv", "kind,source,target\nowns,a,b\nknows,b,c\n")
@@ -86,8 +144,9 @@ class Commands(CommandCase):
                             ("a.csv: columns are named, and there is no header: the file is empty", (
                                 "load", self.file("a.csv", ""), "--add")),
                             ("blocks is from 16", ("load", path, *OF_PAIRS, "--add", "--blocks", "7")),
-                            ("NoVertex (record", ("load", path, *OF_PAIRS, "--add", "--levels", "z")),
-                            ("--save is for what was loaded", ("load", path, *OF_PAIRS, "--add", "--dry-run", "--save", "x")),
+                            ("NoVertex", ("load", path, *OF_PAIRS, "--add", "--levels", "z")),
+                            ("--save and --edges are for what was loaded", (
+                                "load", path, *OF_PAIRS, "--add", "--dry-run", "--save", "x")),
                             ("No such file", ("load", path, *OF_PAIRS, "--add", "--save", "/no/such/x")),
                             ("No such file", ("restore", "/no/such")),
                             ("wants --edge", ("picture", "edge", path, *OF_PAIRS, "--add", "-o", "x.svg"))):

@@ -15,12 +15,11 @@ import unittest
 from contextlib import redirect_stderr, redirect_stdout
 from unittest import mock
 
-from support import HERE, Case, find_program
+from support import HERE, Case, as_soon_as, find_program
 from test_following import Model, some_rows, text_of
 
-from misteluk.__main__ import main
-from misteluk.asking import Asking
-from misteluk.questions import question
+from misteluk.command.main import main
+from misteluk.command.questions import question
 
 OF_ROWS = ("--add", "--source", "1", "--target", "2", "--weight", "3", "--time", "4")
 
@@ -46,12 +45,6 @@ class FollowCommand(Case):
         for it in (process.stdin, process.stdout, process.stderr):
             if it and not it.closed:
                 it.close()
-
-    def wait(self, is_so, what):
-        end = time.monotonic() + 60
-        while not is_so():
-            self.assertLess(time.monotonic(), end, what)
-            time.sleep(0.01)
 
     def run_it(self, text, *words):
         """The status, the lines and what is told on standard error, of a feed that ends."""
@@ -110,7 +103,7 @@ class FollowCommand(Case):
         process = self.start("-", *words)
         os.write(process.stdin.fileno(), text_of(rows).encode() + b"half,a,li")
         first = json.loads(process.stdout.readline())
-        self.wait(lambda: is_read(process.stdin.fileno()), "it reads all")
+        as_soon_as(lambda: is_read(process.stdin.fileno()))
         process.send_signal(number)
         told = [first, *map(json.loads, process.stdout.read().splitlines())]
         self.assertEqual(process.wait(60), 0)
@@ -175,22 +168,23 @@ class FollowCommand(Case):
         for number in (signal.SIGINT, signal.SIGTERM):
             process = self.start("-", "--every", "0", "--program", program)
             os.write(process.stdin.fileno(), b"a,b,1,1\n")
-            self.wait(lambda: is_read(process.stdin.fileno()), "it reads")
+            as_soon_as(lambda: is_read(process.stdin.fileno()))
             process.send_signal(number)
-            # (a busy machine may take a while to hear the first; signals within 0.2 s of that are one)
-            time.sleep(2)
+            time.sleep(0.5)
             self.assertIsNone(process.poll())
-            process.send_signal(number)
-            self.assertEqual(process.wait(5), -number)
+            # (a busy machine may hear the first late; one within 0.2 s of that is the same, and the next one ends it)
+            while process.poll() is None:
+                process.send_signal(number)
+                time.sleep(0.3)
+            self.assertEqual(process.returncode, -number)
 
     def test_two_signals_at_once_are_one(self):
-        """As those of `timeout` are."""
+        """As those of `timeout` are: both wait for a process that stands still."""
         process = self.start("-", "--every", "1h")
         os.write(process.stdin.fileno(), b"a,b,1,1\n")
-        self.wait(lambda: is_read(process.stdin.fileno()), "it reads")
-        for _ in range(4):
-            process.send_signal(signal.SIGTERM)
-            time.sleep(0.002)
+        as_soon_as(lambda: is_read(process.stdin.fileno()))
+        for number in (signal.SIGSTOP, signal.SIGTERM, signal.SIGINT, signal.SIGCONT):
+            process.send_signal(number)
         self.assertEqual((process.wait(60), process.stdout.read().count(b"1 rows to line 1")), (0, 1))
         self.assertEqual(process.stderr.read(), b"misteluk: standard input: 1 rows to line 1 are in\n")
 
@@ -227,7 +221,7 @@ class FollowCommand(Case):
         text = text_of([(f"s{it}", f"t{it}", 1, it) for it in range(30)])
         status, out, err = self.run_it(text, "--blocks", "16")
         self.assertEqual((status, out), (1, []))
-        self.assertIn("misteluk: PoolEmpty (record 32): 30 rows of standard input, lines 1 to 30, are not in, and pending still; "
+        self.assertIn("30 rows of standard input, lines 1 to 30, are not in, and pending still; "
                       "0 rows before them are in. The batch needs 30 free blocks, and 16 are free. ", err)
         status, out, err = self.run_it("a,b,1,1\nb,c,x,2\n")
         self.assertEqual((status, len(out)), (1, 1))
@@ -238,25 +232,6 @@ class FollowCommand(Case):
             status, _, err = self.run_it("", *words)
             self.assertIn(told, err)
             self.assertIn(status, (1, 2))
-
-    def test_it_goes_on_in_a_new_program(self):
-        """That is told on standard error, and nothing else differs."""
-        rows = some_rows(9_000)
-        words = ("follow", self.file("long.csv", text_of(rows)), *OF_ROWS, "--until-end", "--json", "--batch", "500",
-                 "--keep", "900", "--ask", "degrees", "--top", "5000")
-        out, err = io.StringIO(), io.StringIO()
-        with mock.patch.object(Asking, "_fewer_records", 6_000), redirect_stdout(out), redirect_stderr(err):
-            self.assertEqual(main(words), 0)
-        told = err.getvalue().splitlines()
-        self.assertGreater(len(told), 2)
-        self.assertRegex(told[0], r"^misteluk: went on in a new program at version \d+: \d+ edges and \d+ names went along, "
-                                  r"by \d+ records, in \d+\.\d s$")
-        model, answers = Model(rows, "add", 900), [json.loads(it) for it in out.getvalue().splitlines()]
-        for commit, degrees in zip(answers[0::2], answers[1::2]):
-            model.go_to(commit["rows"])
-            found = {it["name"]: it["weight_out"] for it in degrees["most"]}
-            self.assertEqual({**dict.fromkeys(found, 0), **model.weights()}, found)
-        self.assertEqual((commit["rows"], commit["version"]), (9_000, 19))
 
     def test_progress_ends_before_the_last_line(self):
         """On a terminal, where tqdm is and where it isn't."""

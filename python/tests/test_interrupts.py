@@ -10,18 +10,18 @@ import os
 import signal
 import subprocess
 import threading
-import time
 import unittest
 import warnings
 import weakref
 from unittest import mock
 
-from interrupting import (CALLS, KNOWN, Model, Scene, after, at_line, elsewhere, forget, handler, has_ended, interrupt_in_a_call,
-                          interrupt_now, lines, made_at_once)
-from support import Case
+from interrupting import (CALLS, KNOWN, Model, Scene, after, alarm_as_soon_as, at_line, elsewhere, handler, has_ended,
+                          interrupt_in_a_call, interrupt_now, is_calling, lines, made_at_once)
+from support import ENGINE, OF_PIPES, Case, as_soon_as
 
 import misteluk
-from misteluk import Store, calls, program
+from misteluk import Store, ledger
+from misteluk.engine import calls
 
 
 class Interrupts(Case):
@@ -36,31 +36,31 @@ class Interrupts(Case):
                 self.assertEqual(wrong, [])
 
     def test_each_line_finds_a_fault(self):
-        with mock.patch.object(calls.Calls, "make", made_at_once):
-            self.assertGreater(len(self.lines("edges", 6)[1]), 2)
+        if ENGINE == "program":
+            with mock.patch.object(calls.Calls, "make", made_at_once):
+                self.assertGreater(len(self.lines("edges", 6)[1]), 2)
         with mock.patch.object(weakref, "ref", lambda it: lambda: it):
             self.assertGreater(len(self.lines("open")[1]), 0)
-        with mock.patch.object(program.Conversation, "take_up", forget):
-            self.assertGreater(len(self.lines("edge")[1]), 2)
+        with mock.patch.object(ledger.Ledger, "_land", lambda _: None):
+            self.assertGreater(len(self.lines("commit")[1]), 0)
 
     def waiting(self, name, interrupt):
         """A scene whose call is interrupted while it waits for the program, which stands still meanwhile."""
         scene = Scene()
         self.addCleanup(scene.end)
-        process = scene.store._talk.process
+        process = scene.store.engine.talk.process
         process.send_signal(signal.SIGSTOP)
         try:
-            interrupt(lambda: CALLS[name](scene), lambda: process.send_signal(signal.SIGCONT))
+            interrupt(scene.store, lambda: CALLS[name](scene), lambda: process.send_signal(signal.SIGCONT))
         finally:
             process.send_signal(signal.SIGCONT)
         self.assertTrue(after(name, scene))
 
-    def by_timer(self, call, _):
-        signal.setitimer(signal.ITIMER_REAL, 0.02)
-        with self.assertRaises(KeyboardInterrupt):
+    def by_alarm(self, store, call, _):
+        with self.assertRaises(KeyboardInterrupt), alarm_as_soon_as(lambda: is_calling(store)):
             call()
 
-    def in_a_thread(self, call, go_on):
+    def in_a_thread(self, store, call, go_on):
         """An exception is set for a thread that waits; it comes when the answer is there."""
         told = []
 
@@ -71,16 +71,17 @@ class Interrupts(Case):
                 told.append("interrupted")
         thread = threading.Thread(target=run)
         thread.start()
-        time.sleep(0.02)
+        as_soon_as(lambda: is_calling(store))
         ctypes.pythonapi.PyThreadState_SetAsyncExc(ctypes.c_ulong(thread.ident), ctypes.py_object(KeyboardInterrupt))
         go_on()
         thread.join()
         self.assertEqual(told, ["interrupted"])
 
+    @unittest.skipUnless(ENGINE == "program", OF_PIPES)
     def test_while_it_waits(self):
         with handler(interrupt_now):
             for name in CALLS:
-                for how in (self.by_timer, self.in_a_thread):
+                for how in (self.by_alarm, self.in_a_thread):
                     with self.subTest(name, how=how.__name__):
                         self.waiting(name, how)
 
@@ -97,6 +98,7 @@ class Interrupts(Case):
                 if not interrupted:
                     break
 
+    @unittest.skipUnless(ENGINE == "program", OF_PIPES)
     def test_the_end(self):
         """A store that is closed, or left by a `with`, at whatever line it is interrupted: its program is ended."""
         def leave(store):
@@ -107,7 +109,7 @@ class Interrupts(Case):
             while is_more:
                 at += 1
                 store = Store(timeout=5)
-                process = store._talk.process
+                process = store.engine.talk.process
                 is_more = at_line(at, lambda: call(store))
                 self.forget(store)
                 del store
@@ -120,18 +122,20 @@ class Interrupts(Case):
             warnings.simplefilter("ignore")
             store.close()
 
+    @unittest.skipUnless(ENGINE == "program", OF_PIPES)
     def test_what_a_close_loses_is_told(self):
         """Also by the second one, where the first was interrupted while it waited."""
         scene = Scene()
-        scene.store._talk.process.send_signal(signal.SIGSTOP)
+        scene.store.engine.talk.process.send_signal(signal.SIGSTOP)
         with handler(interrupt_now):
             self.by_timer(scene.store.close, None)
-        scene.store._talk.process.send_signal(signal.SIGCONT)
+        scene.store.engine.talk.process.send_signal(signal.SIGCONT)
         with self.assertRaises(misteluk.Uncommitted) as told:
             scene.store.close()
         self.assertEqual(told.exception.operations, ["a,l,a,b,1,2\n"] * 3)
-        self.assertTrue(has_ended(scene.store._talk.process))
+        self.assertTrue(has_ended(scene.store.engine.talk.process))
 
+    @unittest.skipUnless(ENGINE == "program", OF_PIPES)
     def test_the_beginning(self):
         """A store whose making is interrupted has no program, and leaves no thread that waits for more than its end."""
         started, real, at, is_more = [], subprocess.Popen, 0, True
@@ -148,8 +152,8 @@ class Interrupts(Case):
                 for it in kept:
                     it.close()
                 gc.collect()
-            with handler(interrupt_now), self.assertRaises(KeyboardInterrupt):
-                signal.setitimer(signal.ITIMER_REAL, 0.1)
+            count = len(started)
+            with handler(interrupt_now), self.assertRaises(KeyboardInterrupt), alarm_as_soon_as(lambda: len(started) > count):
                 Store(program=self.silent())
             gc.collect()
             for it in started:
@@ -164,7 +168,7 @@ class Interrupts(Case):
         return path
 
     def test_a_fork_leaves_the_program_alone(self):
-        store = self.store("insert l a b 5 1", timeout=5)
+        store = self.store("insert l a b 5 1", timeout=20)
         session = store.open()
         KNOWN[:] = store, session
         self.addCleanup(KNOWN.clear)
@@ -172,12 +176,10 @@ class Interrupts(Case):
             self.assertEqual(pool.map(abs, [-1, 2]), [1, 2])
             self.assertEqual(pool.apply(elsewhere), ["another process's"] * 3 + ["closed", "closed"])
             self.assertEqual((store.stat().edges, session.edge("l", "a", "b")), (1, (5, 1, 1)))
-            begun = time.monotonic()
-            store.close()
-            self.assertLess(time.monotonic() - begun, 3)
+            store.close()  # (where a fork had a pipe still, the program's end would be waited for in vain, and that be told)
 
     def test_a_fork_that_ends_ends_no_program(self):
-        store = self.store("insert l a b 5 1", timeout=5)
+        store = self.store("insert l a b 5 1")
         child = os.fork()
         if child == 0:
             del store
@@ -194,7 +196,8 @@ class Interrupts(Case):
         self.assertGreater(model.steps, 300)
 
     def test_three_hundred_find_a_fault(self):
-        for where, name, fault in ((calls.Calls, "make", made_at_once), (program.Conversation, "take_up", forget)):
+        for where, name, fault in ((ledger.Ledger, "_land", lambda _: None), *(
+                [(calls.Calls, "make", made_at_once)] if ENGINE == "program" else [])):
             with mock.patch.object(where, name, fault), handler(interrupt_in_a_call), self.assertRaises(Exception):
                 model = Model()
                 self.addCleanup(model.end)
@@ -202,7 +205,7 @@ class Interrupts(Case):
 
     def test_a_handler_that_calls(self):
         """It has its answer, or is told that it interrupts another call; and the call that it interrupts has its own."""
-        store = self.store("insert l a b 5 1", timeout=5)
+        store = self.store("insert l a b 5 1")
         session, told = store.open(), []
 
         def call(*_):

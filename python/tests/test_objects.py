@@ -8,7 +8,8 @@ from decimal import Decimal
 from support import Case, optional
 
 import misteluk
-from misteluk import Columns, Edge, objects
+from misteluk import Columns, Edge
+from misteluk.feeds import objects
 
 OF_TRANSFERS = Columns("from", "to", None, "amount", "when", "transfer")
 
@@ -45,6 +46,42 @@ class Graphs(Case):
         self.assertEqual(len(list(one.rows)), 1)
         with self.assertRaisesRegex(misteluk.FeedFault, "two nodes of the graph have one name"):
             misteluk.from_networkx(networkx.Graph([(1, "1")]))
+
+    def test_a_graph_comes_back(self):
+        """With the recent time of each edge; a name that has no edge is told of, and isn't loaded."""
+        dates = {"weight_scale": 100, "times": "iso"}
+        store = misteluk.Store(**dates)
+        self.addCleanup(self.let_go, store)
+        store.insert("road", "a", "b", "2.50", "2024-03-04")
+        store.insert("rail", "b", "a", 7, "2024-03-05T12:00:00.25+01:00")
+        store.insert("rail", "b", "c", 1, "2024-03-06")
+        store.commit()
+        store.remove("rail", "b", "c")
+        store.commit()
+        with store.open() as session:
+            graph, wanted = session.to_networkx(), list(session.edges())
+        copy = misteluk.Store(**dates)
+        self.addCleanup(self.let_go, copy)
+        with self.assertWarnsRegex(misteluk.LeftOut, "1 node of the graph, 'c', has no edge: a store has the names of edges"):
+            copy.load(graph, by="set")
+        self.assertEqual(list(copy.open().edges()), wanted)
+
+    def test_an_edge_s_time(self):
+        """It is the attribute that is said, and `recent` alone isn't taken for a time: it may mean something else."""
+        import networkx
+        graph = networkx.DiGraph()
+        graph.add_edge("a", "b", first=1, recent=5)
+        graph.add_edge("a", "c", first=1, recent=5, time=7)
+        graph.add_edge("a", "d", recent=True)
+        self.assertEqual([it[5] for it in misteluk.from_networkx(graph).rows], ["5", "7", "0"])
+        self.assertEqual([it[5] for it in misteluk.from_networkx(graph, time="first").rows], ["1", "1", "0"])
+
+    def test_nodes_without_an_edge_are_told_of(self):
+        import networkx
+        graph = networkx.DiGraph([("a", "b"), ("c", "c")])
+        graph.add_nodes_from(["x", 7])
+        with self.assertWarnsRegex(misteluk.LeftOut, "2 nodes of the graph, as 'x', have no edge"):
+            misteluk.from_networkx(graph)
 
     def test_missing_values_are_bad_rows(self):
         """A node or attribute that stands for no value is refused as an empty field of a file is, by its row and field."""

@@ -58,6 +58,19 @@ class Wheels(Case):
         """A program of this machine: Python's own, since only its kind is looked at."""
         return os.path.realpath(sys.executable)
 
+    def test_a_wheel_that_runs_a_clone_is_for_this_machine(self):
+        """It names the clone's place, so nobody may take it for one that works anywhere: its tags and version say so."""
+        script = wheels.SCRIPT + b'exec /a/clone/stinger "$@"\n'
+        made = wheels.write_wheel(self.room, {**wheels.package(), wheels.PROGRAM: (script, True)})
+        version = rf"{misteluk.__version__}\+clone\.[0-9a-f]{{8}}"
+        self.assertRegex(made.name, rf"^misteluk-{version}-py3-none-linux_{os.uname().machine}\.whl$")
+        with zipfile.ZipFile(made) as packed:
+            about = next(it for it in packed.namelist() if it.endswith("/WHEEL"))
+            self.assertIn("Root-Is-Purelib: false\n", packed.read(about).decode())
+            self.assertIn(f"Version: {misteluk.__version__}+clone.", packed.read(about.replace("WHEEL", "METADATA")).decode())
+        bare = wheels.write_wheel(self.room, wheels.package())
+        self.assertEqual(bare.name, f"misteluk-{misteluk.__version__}-py3-none-any.whl")
+
     def test_the_same_bytes_each_time(self):
         first = wheels.write_wheel(self.room / "a", wheels.package()).read_bytes()
         self.assertEqual(first, wheels.write_wheel(self.room / "b", wheels.package()).read_bytes())
@@ -127,6 +140,16 @@ class Installs(Case):
         self.assertIn(f"{self.there}/misteluk/bin/stinger\n", told)
         self.assertTrue(told.endswith("16384\n"), told)
 
+    def test_a_wheel_of_a_clone_where_nothing_is_proved(self):
+        self.program("stinger")
+        done = run(sys.executable, "-m", "pip", "wheel", "--no-index", "--disable-pip-version-check", "-v", "--wheel-dir",
+                   self.there, self.top / "python", cwd=self.room)
+        self.assertEqual(done.returncode, 0, done.stdout)
+        name = next(it.name for it in self.there.glob("*.whl"))
+        self.assertIn("+clone.", name)
+        self.assertTrue(name.endswith(f"-py3-none-linux_{os.uname().machine}.whl"), name)
+        self.assertIn(f"this wheel has no program, but runs {self.top}/stinger: it is for this machine", done.stdout)
+
     def test_the_command(self):
         self.program("stinger")
         self.install("--no-build-isolation", self.top / "python")
@@ -177,6 +200,7 @@ class Help(Case):
     def test_options_have_names(self):
         """A load's options, for completion: those that a feed is opened by, in each of the calls that take them."""
         opened = set(inspect.signature(misteluk.open_feed).parameters)
+        self.assertLess(set(misteluk.ReadAs._fields), opened)
         for call in (misteluk.load, misteluk.survey, misteluk.Store.load):
             told = inspect.signature(call).parameters
             self.assertEqual(opened - set(told), {"data"} if call == misteluk.Store.load else set())

@@ -104,9 +104,10 @@ class Pages(Case):
 
     def test_completion_of_the_client_for_bash(self):
         """Files are offered by bash itself, where there is no word."""
-        self.complete("load fleet restore follow lint picture -h --help", "", name="misteluk")
+        self.complete("load fleet restore follow lint picture -h --help -V --version", "", name="misteluk")
         self.complete("--dry-run", "load", "file.csv", "--dr", name="misteluk")
-        self.complete("degrees components cores levels into out_of path edge", "load", "file.csv", "--ask", "", name="misteluk")
+        self.complete("degrees components cores edges levels into out_of neighbors within path edge", "load", "file.csv", "--ask",
+                      "", name="misteluk")
         self.complete("components compare", "picture", "comp", name="misteluk")
         self.complete("--seats", "lint", "--s", name="misteluk")
         self.complete("", "load", "fi", name="misteluk")

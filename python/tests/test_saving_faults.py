@@ -12,7 +12,7 @@ import warnings
 from unittest import mock
 
 from interrupting import at_line, has_ended
-from support import HERE, Case
+from support import ENGINE, HERE, OF_PIPES, Case
 
 import misteluk
 from misteluk import Store, files, saving
@@ -109,8 +109,9 @@ class Faults(Case):
                 is_more = at_line(at, lambda: stores.append(Store.restore(self.path, blocks=64)))
                 for it in stores:
                     it.close()
-        return len(processes), sum(not has_ended(it, 1 if step > 9 else 5) for it in processes)
+        return len(processes), sum(not has_ended(it, 1 if step > 9 else 120) for it in processes)
 
+    @unittest.skipUnless(ENGINE == "program", OF_PIPES)
     def test_an_interrupted_restore_leaves_no_program(self):
         count, left = self.left(2)
         self.assertGreater(count, 30)
@@ -145,6 +146,7 @@ class Faults(Case):
         with files_of_at_most(20), self.assertRaisesRegex(OSError, "File too large: '.*/e.csv'$"):
             self.session.to_csv(self.room / "e.csv")
 
+    @unittest.skipUnless(ENGINE == "program", OF_PIPES)
     def test_what_is_killed(self):
         """The program while it is asked; and the process that saves, before the file has its name."""
         code = ("import os, sys, misteluk; os.replace = lambda *_: os.kill(os.getpid(), 9); store = misteluk.Store(blocks=64); "
@@ -155,7 +157,7 @@ class Faults(Case):
         os.remove(self.room / part)
         store = self.store("insert k a b 1 1", blocks=64)
         session = store.open()
-        store._talk.process.kill()
+        store.engine.talk.process.kill()
         with self.assertRaises(misteluk.ProgramEnded):
             session.save(self.path)
         self.assertTrue(self.is_old())

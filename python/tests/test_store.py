@@ -4,10 +4,11 @@ import unittest
 import warnings
 from unittest import mock
 
-from support import Case
+from support import ENGINE, OF_PIPES, Case
 
 import misteluk
-from misteluk import Commit, Degree, Edge, Rebased, Stat, Store, records
+from misteluk import Commit, Degree, Edge, Rebased, Stat, Store
+from misteluk.values import records
 
 FUNNEL = ("insert transfer ana funnel 980 1", "insert transfer ben funnel 950 1", "insert transfer cyd funnel 990 2",
           "insert transfer dan funnel 970 2", "insert transfer funnel offshore 3850 3")
@@ -72,7 +73,7 @@ class Stores(Case):
         self.assertEqual(session.out_of("ana", until=4), {"bob": Edge(1, 1, 1)})
 
     def test_names_that_look_like_answers(self):
-        store = self.store("insert k error end 1 1", "insert k close stat 2 1", 'insert k a,b "q" 3 1')
+        store = self.store("insert k error end 1 1", "insert k close stat 2 1", 'insert k a,b "q" 3 1', blocks=16384)
         session = store.open()
         self.assertEqual(session.levels("error"), {"error": 0, "end": 1})
         self.assertEqual(session.components(), {"error": "error", "end": "error", "close": "close", "stat": "close",
@@ -151,9 +152,35 @@ class Stores(Case):
         self.assertEqual((store.stat().version, store.pending), (1, 30))
         self.assertEqual(told.exception.applied, Commit(1, 10, 0, 0, 0, 0, 1))
 
+    def test_a_commit_collects(self):
+        """Each one of the fifth's size replaces as many blocks as the first one took; nobody needs those before."""
+        store = self.store()
+        for at in range(1, 7):
+            for it in range(4_096):
+                store.add("k", f"s{it}", "t")
+            self.assertEqual(store.commit().version, at)
+        self.assertEqual(store.stat().used, 4_096)
+        for it in range(60_000):
+            store.add("k", f"s{it % 4_096}", "t")
+        self.assertEqual(store.commit(), Commit(21, 0, 60_000, 0, 0, 0, 15))
+
+    def test_a_commit_behind_a_session_that_was_closed(self):
+        """The blocks of its version are retired, and freed behind the batch that finds no other ones; it is sent once more."""
+        for load in (False, True):
+            store = self.store(*(f"insert k s{it} t 1 1" for it in range(10)), blocks=32)
+            with store.open():
+                self.feed(store, *(f"add k s{it} t 1 1" for it in range(10)))
+                self.assertEqual((store.stat().free, store.stat().retired), (12, 10))
+            for it in range(0 if load else 15):
+                store.add("k", f"s{it % 10}", "t")
+            done = store.load([(f"s{it % 10}", "t", 1, 0, "k") for it in range(15)], by="add").commit if load else store.commit()
+            self.assertEqual(done, Commit(3, 0, 15, 0, 0, 0, 1))
+            self.assertEqual(store.open().edge("k", "s0", "t"), Edge(4, 1, 0))
+
     def test_collect(self):
         store = self.store("insert k a b 1 1")
-        self.feed(store, "insert k a b 2 1")
+        store.insert("k", "a", "b", 2, 1)
+        store.commit(collect=False)
         self.assertEqual(store.stat().retired, 1)
         store.collect()
         self.assertEqual(store.stat().retired, 0)
@@ -193,9 +220,21 @@ class Stores(Case):
         self.refused(misteluk.BadWeight, "amount '1099511627777': a weight is from",
                      lambda: store.add("k", "a", "b", 1 << 40 | 1))
         self.refused(misteluk.BadTime, "time '-1'", lambda: store.insert("k", "a", "b", 1, -1))
-        self.refused(misteluk.BadWeight, "weight '5.0'", lambda: store.insert("k", "a", "b", 5.0))
+        self.refused(misteluk.BadWeight, "weight '5.5'", lambda: store.insert("k", "a", "b", 5.5))
+        self.refused(misteluk.BadWeight, "weight 'inf'", lambda: store.insert("k", "a", "b", float("inf")))
         self.refused(TypeError, "a kind and a name are texts, and not 7", lambda: store.insert("k", "a", 7))
-        self.assertEqual((store.pending, store.records_sent), (0, 1))
+        self.assertEqual((store.pending, store.records_sent), (0, 1 if ENGINE == "program" else 0))
+
+    def test_floats_that_are_whole(self):
+        """A float that is a whole number is that number, as in a row."""
+        store = self.store()
+        store.insert("k", "a", "b", 1.0, 3.0)
+        store.add("k", "a", "b", 2.0, 4.0)
+        store.commit()
+        store.load([("a", "c", 1.0, 3.0, "k")], by="set")
+        self.assertEqual(store.open().edges([("k", "a", "b"), ("k", "a", "c")]), [Edge(3, 3, 4), Edge(1, 3, 3)])
+        store.expire(4.0)
+        self.assertEqual(store.commit().expired, 1)
 
     def test_operations_at_the_limits(self):
         store = self.store()
@@ -211,7 +250,7 @@ class Stores(Case):
     def test_refused_requests(self):
         store = self.store("insert k a b 1 1")
         session = store.open()
-        self.refused(misteluk.NoVertex, "NoVertex (record 6): edge,0,k,a,z", lambda: session.edge("k", "a", "z"))
+        self.refused(misteluk.NoVertex, "edge,0,k,a,z", lambda: session.edge("k", "a", "z"))
         self.refused(misteluk.NoKind, "no edge of this kind", lambda: session.degrees("other"))
         self.refused(misteluk.BadWindow, "bfs,0,a,*,3,2", lambda: session.levels("a", since=3, until=2))
         self.refused(misteluk.BadName, "source ''", lambda: session.levels(""))
@@ -232,7 +271,8 @@ class Stores(Case):
         store.open().close()
 
     def test_arguments(self):
-        for wrong in ({"blocks": 15}, {"blocks": 65_537}, {"seats": 17}, {"workers": 0}, {"timeout": 0}):
+        for wrong in ({"blocks": 15}, {"blocks": 65_537}, {"seats": 17}, {"workers": 0}, {"timeout": 0}, {"weight_scale": 0},
+                      {"weight_scale": -1}, {"weight_scale": 3}):
             with self.assertRaises(ValueError):
                 Store(**wrong)
         self.assertEqual(self.store("insert k a b 1 1", blocks=16, seats=16, workers=8).open(15).version, 1)
@@ -251,9 +291,10 @@ class Stores(Case):
             self.assertEqual(store.discard(), 1)
         self.refused(misteluk.StoreError, "the store is closed", store.stat)
 
+    @unittest.skipUnless(ENGINE == "program", OF_PIPES)
     def test_a_store_that_is_forgotten_ends_its_program(self):
         store = Store()
-        process = store._talk.process
+        process = store.engine.talk.process
         with warnings.catch_warnings(record=True) as told:
             warnings.simplefilter("always")
             del store
@@ -261,14 +302,16 @@ class Stores(Case):
         self.assertIn("without close()", str(told[0].message))
         self.assertIsNotNone(process.poll())
 
+    @unittest.skipUnless(ENGINE == "program", OF_PIPES)
     def test_a_run_takes_so_many_records(self):
-        with mock.patch.object(records, "MOST_RECORDS", 10):
+        with mock.patch.object(records, "MOST_RECORDS", 12):
             store = self.store("insert k a b 1 1")
             for it in range(6):
                 store.insert("k", "a", f"b{it}")
             store.commit()
-            self.refused(misteluk.RecordLimit, "this one had 10, and 1 more were to be sent", store.stat)
+            self.refused(misteluk.RecordLimit, "this one had 12, and 1 more were to be sent", store.stat)
 
+    @unittest.skipUnless(ENGINE == "program", OF_PIPES)
     def test_operations_that_only_the_program_refuses(self):
         store = self.store()
         with mock.patch.object(records, "is_plain_operation", lambda _: True):
@@ -277,7 +320,7 @@ class Stores(Case):
         with self.assertRaises(misteluk.OperationsRefused) as told:
             store.commit()
         self.assertEqual((told.exception.version, len(told.exception.refused)), (1, 1))
-        self.assertIn("BadName (record 3): i,k,,t,1,0", str(told.exception))
+        self.assertIn("BadName: i,k,,t,1,0", str(told.exception))
         self.assertEqual(store.pending, 0)
         self.assertEqual(list(store.open().degrees()), ["a", "t", "c"])
 

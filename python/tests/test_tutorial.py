@@ -12,11 +12,10 @@ import pathlib
 import re
 import subprocess
 import sys
-import tempfile
 import unittest
 from collections import Counter, defaultdict
 
-from support import HERE, TOP, Case, find_program, optional
+from support import ENGINE, HERE, TOP, Case, find_program, optional
 
 TUTORIAL = TOP / "docs/TUTORIAL.md"
 
@@ -82,6 +81,7 @@ class Documents(Case):
         self.assertEqual(failed, 0, told.getvalue())
         return tried
 
+    @unittest.skipUnless(ENGINE == "library", "of the library alone")
     def test_the_conversations(self):
         self.assertGreater(self.conversations(TUTORIAL), 25)
         self.assertGreater(self.conversations(TOP / "README.md"), 1)
@@ -91,6 +91,27 @@ class Documents(Case):
         self.assertGreater(self.run_commands(TOP / "docs/PYTHON.md"), 0)
         self.assertGreater(self.run_commands(TOP / "docs/FLEET.md"), 0)
         self.assertEqual(self.run_commands(TOP / "docs/USING.md"), 1)
+
+    @unittest.skipUnless((TOP / ".git").exists(), "this is no clone")
+    @unittest.skipUnless(ENGINE == "library", "of the library alone")
+    def test_a_clone_stays_clean(self):
+        """Who types what the pages show at a clone's top leaves files that git passes over: the gate notes what passed of a clean
+        clone alone."""
+        before = set(os.listdir(self.room))
+        self.file("edges.csv", "a,b,1,1\n")
+        part = (TOP / "README.md").read_text().split("## Your own data\n")[1].split("\n## ")[0]
+        subprocess.run("\n".join(re.findall(r"(?m)^    (.*)$", part)), shell=True, executable="/bin/bash", cwd=self.room,
+                       stdout=subprocess.DEVNULL, stderr=subprocess.DEVNULL, timeout=60, check=True)
+        for it in ("TUTORIAL", "PYTHON", "FLEET", "USING"):
+            self.run_commands(TOP / f"docs/{it}.md")
+        for it in ("docs/TUTORIAL.md", "docs/PYTHON.md", "README.md"):
+            self.conversations(TOP / it)
+        left = sorted(set(os.listdir(self.room)) - before)
+        self.assertTrue({"funnel.html", "script.csv", "bank.csv", "bank.csv.gz"} <= set(left), left)
+        passed_over = subprocess.run(["git", "check-ignore", "--no-index", *left], cwd=TOP, stdout=subprocess.PIPE, text=True)
+        self.assertEqual(passed_over.stdout.split(), left)
+        others = subprocess.run(["git", "check-ignore", "--no-index", "examples/bank.csv", "new.csv"], cwd=TOP)
+        self.assertEqual(others.returncode, 1)
 
     def test_own_data(self):
         """README's way to a script, over a batch of one edge more than it has room for, and the components that it asks for."""

@@ -8,8 +8,9 @@ from fractions import Fraction
 from support import Case, CommandCase, optional, words_of
 
 import misteluk
-from misteluk import Columns, Commit, Degree, Edge, Feed, Store, units
-from misteluk.units import Units
+from misteluk import Columns, Commit, Degree, Edge, Feed, Store
+from misteluk.values import units
+from misteluk.values.units import Units
 
 DAY = 86_400 * 10 ** 6
 FOURTH = 19_786 * DAY
@@ -35,6 +36,35 @@ class Weights(Case):
                            ("1." + "0" * 500, "a decimal number")):
             with self.assertRaisesRegex(ValueError, told):
                 CENTS.weight_to_program(text)
+
+    def test_rounding(self):
+        """To the nearest part; of two equally near ones to the even one, as bankers do."""
+        half_even = Units(100, rounding="half-even").checked()
+        for text, parts in (("0.30000000000000004", "30"), ("12.345", "1234"), ("12.355", "1236"), ("12.3450001", "1235"),
+                            ("-12.345", "-1234"), ("-12.355", "-1236"), ("0.004", "0"), ("-0.004", "0"), ("1e-30", "0"),
+                            ("12.5", "1250"), ("10995116277.76", "1099511627776")):
+            self.assertEqual(half_even.weight_to_program(text), parts, text)
+        for text in ("10995116277.77", "x", "nan", ""):
+            self.assertRaises(ValueError, half_even.weight_to_program, text)
+        whole = Units(rounding="half-even")
+        self.assertEqual([whole.weight_to_program(it) for it in ("12", "12.5", "13.5", "-0.5")], ["12", "12", "14", "0"])
+        with self.assertRaisesRegex(ValueError, "rounding is 'half-even' or None, and not 'up'"):
+            Store(rounding="up")
+
+    def test_a_store_that_rounds(self):
+        store = self.store(weight_scale=100, rounding="half-even")
+        with self.assertRaises(misteluk.BadWeight):
+            self.store(weight_scale=100).add("k", "a", "b", 0.1 + 0.2)
+        store.add("k", "a", "b", 0.1 + 0.2)
+        store.commit()
+        store.load([("a", "c", 2.675), ("a", "d", 0.125)], by="set")
+        session = store.open()
+        self.assertEqual(session.edge("k", "a", "b").weight, Decimal("0.30"))
+        self.assertEqual([it.weight for it in session.out_of("a", "link").values()], [Decimal("2.68"), Decimal("0.12")])
+        rows = self.file("rows.csv", "a,b,0.125\n")
+        self.assertEqual(misteluk.survey(rows, by="set", columns=Columns(1, 2, weight=3), weight_scale=100).bad, 1)
+        self.assertEqual(misteluk.survey(rows, by="set", columns=Columns(1, 2, weight=3), weight_scale=100,
+                                         rounding="half-even").bad, 0)
 
     def test_to_the_user(self):
         for scale, parts, text in ((100, 1250, "12.50"), (100, -5, "-0.05"), (8, 3, "0.375"), (1000, 1, "0.001"), (10, 0, "0.0"),
@@ -272,6 +302,10 @@ class Commands(CommandCase):
             "degrees: 3 names, greatest by weight", "  c out 1 in 1 weight 2.00", "  a out 1 in 1 weight 0.05",
             "  b out 0 in 0 weight 0.00"]))
         self.assertEqual(self.run_it(*cents, "--ask", "degrees", "--since", "soon")[::2][0], 1)
+        eighths = ("load", self.file("eighths.csv", "a,b,0.125\n"), "--set", "--source", 1, "--target", 2, "--weight", 3,
+                   "--weight-scale", 100, "--ask", "edge link a b")
+        self.assertEqual(self.run_it(*eighths)[0], 1)
+        self.assertIn("edge link a b: weight 0.12 first 0", self.run_it(*eighths, "--rounding", "half-even")[1])
         self.assertIn("since 'soon': a time is a date here", self.run_it(*cents, "--ask", "degrees", "--since", "soon")[2])
         script = self.room / "s.csv"
         self.run_it(*cents, "--script", script)

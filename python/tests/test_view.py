@@ -11,13 +11,13 @@ from collections import defaultdict
 from unittest import mock
 
 from pages import CHROMIUM, NO_CHROMIUM, Pixels, Reader, browse
-from support import HERE, Case
+from support import ENGINE, HERE, OF_PIPES, Case
 
 import misteluk
 from misteluk import Edge, Store, view
-from misteluk.drawing import Drawing, curve
-from misteluk.layout import HEIGHT, WIDTH, labels, place
-from misteluk.neighborhood import CHANGED, GONE, KEPT, NEW
+from misteluk.page.drawing import Drawing, curve
+from misteluk.page.layout import HEIGHT, WIDTH, label_within, labels, place
+from misteluk.page.neighborhood import CHANGED, GONE, KEPT, NEW
 
 # What is gone, new, changed and kept is seen by eye: ben's edge goes, zed's comes, funnel's changes.
 BEFORE = ("insert transfer ana funnel 980 1", "insert transfer ben funnel 950 1", "insert transfer funnel offshore 3850 3",
@@ -70,8 +70,9 @@ def hops_of(edges, middle, most):
 def reached(looking):
     """Looks as where the limit for a hop were another than that among the farthest."""
     looking.hops = {"hub": 0, **{f"v{it}": 1 for it in range(1, 21)}}
-    with mock.patch("misteluk.neighborhood.MOST_ASKED", 99):
-        looking._look(["hub"])
+    with mock.patch("misteluk.page.neighborhood.MOST_ASKED", 99):
+        looking._keep(looking.session.edges_out_of("hub"))
+        looking._looked["hub"] = None
 
 
 def state_of(before, after):
@@ -233,21 +234,13 @@ class Views(Case):
         last.close()
         self.assertRaises(misteluk.SessionClosed, view, first, "funnel", beside=last)
 
+    @unittest.skipUnless(ENGINE == "program", OF_PIPES)
     def test_an_edge_that_the_client_doesnt_know(self):
         """The program's degrees tell it, and no page is made without it."""
         first, _ = self.pair(BEFORE, AFTER)
-        with mock.patch("misteluk.candidates.Candidates.into", lambda *_: ["ana"]):
+        with mock.patch("misteluk.engine.candidates.Candidates.into", lambda *_: ["ana"]):
             self.assertRaisesRegex(misteluk.Incomplete, "'funnel' has 1 edges out and 2 in, .* knows of 1 and 1", view, first,
                                    "funnel")
-
-    def test_each_edge_is_asked_once(self):
-        first, last = self.pair(BEFORE, AFTER)
-        before = first.store.records_sent
-        view(first, "funnel", 2)  # (the degrees, the edges that funnel has in a version, and the boss's)
-        self.assertEqual(first.store.records_sent - before, 1 + 4 + 1)
-        before = first.store.records_sent
-        view(first, "boss", 1, beside=last)
-        self.assertEqual(first.store.records_sent - before, 4)
 
     def test_two_stores(self):
         """The first session's stands before the other's, whatever their versions are."""
@@ -265,11 +258,11 @@ class Views(Case):
         self.assertEqual(sorted(drawn), sorted(["hub", *(f"v{it}" for it in range(32, 41))]))
         self.assertEqual((len(rows_of(reader, "vertices")), len(rows_of(reader, "edges"))), (42, 41))
         self.assertIn("Drawn are 10 of 42 vertices: the nearest, of these the heaviest", reader.texts["notes"])
-        with mock.patch("misteluk.page.MOST_VERTICES", 12), mock.patch("misteluk.page.MOST_EDGES", 5):
+        with mock.patch("misteluk.page.page.MOST_VERTICES", 12), mock.patch("misteluk.page.page.MOST_EDGES", 5):
             reader = Reader(view(session, "hub", most=10).html)
         self.assertEqual((len(rows_of(reader, "vertices")), len(rows_of(reader, "edges"))), (12, 5))
         self.assertIn("The table has 12 of 42 vertices. The table has 5 of 41 edges.", reader.texts["notes"])
-        with mock.patch("misteluk.neighborhood.MOST_ASKED", 39):
+        with mock.patch("misteluk.page.neighborhood.MOST_ASKED", 39):
             found = view(session, "hub")
         self.assertEqual((found.neighborhood.found, found.neighborhood.is_whole), (1, False))
         self.assertIn("Vertices farther away weren't looked for", Reader(found.html).texts["notes"])
@@ -280,11 +273,12 @@ class Views(Case):
         ring = [f"insert k v{it} v{it % 20 + 1} 1 1" for it in range(1, 21)]
         session = self.store(*(f"insert k hub v{it} {it} 1" for it in range(1, 21)), *ring, blocks=64).open()
         self.assertEqual(view(session, "hub", 1).neighborhood.counts()[KEPT], 40)
-        with mock.patch("misteluk.neighborhood.MOST_ASKED", 20):
+        with mock.patch("misteluk.page.neighborhood.MOST_ASKED", 20):
             self.assertEqual(view(session, "hub", 1).neighborhood.counts()[KEPT], 40)
         # The first ten are the hub and v20 to v12, with eight edges of the ring.
-        with mock.patch("misteluk.neighborhood.MOST_ASKED", 19), mock.patch("misteluk.neighborhood.MOST_VERTICES", 10), \
-                mock.patch("misteluk.neighborhood.Looking.reach", lambda it, *_: reached(it)):
+        with mock.patch("misteluk.page.neighborhood.MOST_ASKED", 19), \
+                mock.patch("misteluk.page.neighborhood.MOST_VERTICES", 10), \
+                mock.patch("misteluk.page.neighborhood.Looking.reach", lambda it, *_: reached(it)):
             found = view(session, "hub", 1)
         self.assertEqual(str(found), "hub, 1 hop, version 1: 21 vertices; 17 edges among the nearest 10")
         self.assertIn("among the nearest 10 of 21 vertices", found.html)
@@ -306,7 +300,7 @@ class Views(Case):
     def test_an_edge_goes_around_other_vertices(self):
         """Three vertices in a row: an edge from the first to the last would seem to be two."""
         session = self.store("insert k a b 1 1", "insert k a c 1 1", "insert k c a 2 1").open()
-        with mock.patch("misteluk.drawing.place", return_value=[(340.0, 270.0), (100.0, 270.0), (580.0, 270.0)]):
+        with mock.patch("misteluk.page.drawing.place", return_value=[(340.0, 270.0), (100.0, 270.0), (580.0, 270.0)]):
             drawing = Drawing(view(session, "b", 2).neighborhood)
         self.assertEqual(drawing.names, ["b", "a", "c"])
         curves = [drawing.curves[("k", *ends)] for ends in (("a", "c"), ("c", "a"))]
@@ -381,6 +375,15 @@ class Layouts(unittest.TestCase):
         found, _ = labels(at, [6.0] * 60, [f"account {it}" for it in range(60)])
         self.assertLess(sum(it is None for it in found), 4)
 
+    def test_a_label_without_room_is_within(self):
+        """Where it stands while its vertex is pointed at, no border cuts it: at each corner, and at each side."""
+        for text in ("WWWWWWWWWWWWWWWWWWWWWW", "MUELLER & SOEHNE GMBH", "account 17"):
+            for at in ((74.0, 30.0), (606.0, 30.0), (74.0, 510.0), (606.0, 510.0), (340.0, 30.0), (74.0, 270.0)):
+                it = label_within(at, 9.0, text)
+                wide = {"W": 11.4, "M": 10.0}.get(text[0], 6.7) * (22 if text[0] == "W" else 0.85 * len(text))
+                left = it.x - {"start": 0.0, "middle": wide / 2, "end": wide}[it.anchor]
+                self.assertTrue(0 <= left and left + wide <= WIDTH and 10 <= it.y <= HEIGHT, (text, at, it))
+
     def test_few(self):
         for count in (1, 2, 3):
             at = place([0, 1, 1][:count], [(0, it) for it in range(1, count)])
@@ -447,6 +450,20 @@ class Browsers(Case):
         self.assertEqual((seen["row"]["lit"], seen["row"]["edges"]), (["ben", "funnel"], 1))
         self.assertTrue(1.8 < seen["larger"] < 2.2, seen["larger"])
         self.assertEqual(seen["order"], ["1", "1", "1", "1", "0", "–"])
+
+    def test_no_border_cuts_a_name(self):
+        """Whether it is seen always, while it is pointed at, or bold: of 300 vertices with the widest names most have no room."""
+        store = self.store(*(f"insert k hub {'W' * 20}{it} 1 1" for it in range(299)))
+        page = view(store.open(), "hub", most=300).html
+        look = ("<script>const cut = [];\nfor (const it of document.querySelectorAll('.picture .name')) {\n"
+                "    it.style.fontWeight = 600;\n    const box = it.getBBox();\n"
+                "    const wide = it.ownerSVGElement.viewBox.baseVal.width;\n"
+                "    if (box.x < 0 || box.x + box.width > wide) cut.push(it.textContent);\n}\n"
+                "const count = document.querySelectorAll('.picture .name').length;\n"
+                "document.body.textContent = JSON.stringify({cut, count});</script>")
+        dumped = browse(self.file("wide.html", page.replace("</body>", look + "</body>")), "--dump-dom", WIDE)
+        seen = json.loads(html.unescape(re.search(r"<body[^>]*>(.*)</body>", dumped, re.S)[1]))
+        self.assertEqual((seen["count"], seen["cut"]), (300, []))
 
     def test_colors(self):
         """Gone edges are red in the picture before and not in the one after, new ones blue after and not before; the one that

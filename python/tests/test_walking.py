@@ -2,17 +2,22 @@
 expiries, windows, loads, held sessions and rebases. Comparisons are made again with faults that are planted, and have to find
 them."""
 import csv
+import io
 import os
 import unittest
 import warnings
+from contextlib import redirect_stderr
 from unittest import mock
 
 from graphs import NAMES, Play
-from interrupting import Scene, at_line, made_at_once
-from support import Case, optional
+from interrupting import PATIENCE, SOON, Scene, at_line, made_at_once
+from support import ENGINE, OF_PIPES, Case, optional
 
 import misteluk
-from misteluk import Edge, Neighbor, Session, Store, calls, records, walking
+from misteluk import Edge, Neighbor, Session, Store
+from misteluk.engine import calls
+from misteluk.engine.protocol import Arrays
+from misteluk.values import records
 
 networkx = optional("networkx")
 pandas = optional("pandas")
@@ -155,21 +160,20 @@ class Walks(Case):
         self.planted("path", Session, "path", lambda walk: None)
         self.planted("edges", Session, "edges", lambda found: [(*ends, edge._replace(first=0)) for *ends, edge in found])
         self.planted("in", Session, "__contains__", lambda found: True)
-        self.planted("within either way", walking.View, "out_of", lambda found: ())
-        self.planted("incomplete", walking.View, "into", lambda found: ())
-        self.planted("incomplete", walking.View, "has", lambda found: True)
+        self.planted("within either way", Session, "edges_out_of", lambda found: found[:0])
+        self.planted("edges", Arrays, "places", lambda found: found[1:])
+        self.planted("incomplete", Session, "edges_into", lambda found: found[:0])
         if networkx:
             self.planted("to_networkx", Session, "to_networkx", lambda it: it.reverse(), beside=self.beside_networkx)
 
+    @unittest.skipUnless(ENGINE == "program", OF_PIPES)
     def test_an_edge_that_the_client_does_not_know_is_told(self):
         """Should a candidate be lost, calls that need all edges say so, and a path that would need it too."""
         store = self.store("insert k a b 1 1", "insert k b c 1 1")
         session = store.open()
-        right = store._index.candidates(None)
-        store._index._folded = right.__class__(right.kinds, right.names, right.keys[:1], right.latest[:1], right.gone)
-        edges = session.edges()
-        self.assertEqual(next(edges), ("k", "a", "b", Edge(1, 1, 1)))
-        for call in (lambda: next(edges), session.weights_in, lambda: session.to_csv(self.room / "x"),
+        right = store.engine.index.candidates(None)
+        store.engine.index._folded = right.__class__(right.kinds, right.names, right.keys[:1], right.latest[:1], right.gone)
+        for call in (session.edges, session.weights_in, lambda: session.to_csv(self.room / "x"),
                      lambda: session.path("a", "c")):
             with self.assertRaises(misteluk.Incomplete):
                 call()
@@ -177,16 +181,75 @@ class Walks(Case):
 
 
 class Calls(Case):
+    @unittest.skipUnless(ENGINE == "program", OF_PIPES)
     def test_records_by_degree(self):
-        """As many records as a vertex has edges, whatever else there is."""
+        """As many records as a vertex has edges, whatever else there is, once the kinds are known; none once all edges are."""
         store = self.store(*(f"insert k s{it} t{it % 10} 1 1" for it in range(300)))
         session = store.open()
+        session.out_of("s0")
         for call, count in ((lambda: session.into("t3"), 30), (lambda: session.out_of("s7"), 1),
-                            (lambda: session.neighbors("t3"), 30), (lambda: session.path("s3", "t3"), 2),
-                            (lambda: session.within("s3", 2, directed=False), 1 + 1 + 29)):
+                            (lambda: session.neighbors("t3"), 30), (lambda: session.path("s3", "t3"), 1 + 30),
+                            (lambda: session.within("s3", 2, directed=False), 1 + 1 + 30), (session.edges, 300 + 1),
+                            (session.edges, 0), (lambda: session.into("t3"), 0)):
             before = store.records_sent
-            call()
-            self.assertEqual(store.records_sent - before, count)
+            self.assertEqual(call(), told)
+            self.assertLessEqual(store.records_sent - before, most)
+        with store.open() as last:
+            self.assertEqual(last.edge("k", "s7", "t7"), Edge(9, 7, 999))
+            self.assertEqual(last.out_of("s7"), {"t7": Edge(9, 7, 999)})
+        self.assertEqual(session.out_of("s7"), {"t7": Edge(7, 7, 7)})
+
+    @unittest.skipUnless(ENGINE == "program", OF_PIPES)
+    def test_exports_where_records_are_few(self):
+        """As where 500,000 rows leave 499,000 records: they go on as long as the first one found room."""
+        store = self.store(*(f"insert k s{it} t 1 1" for it in range(300)))
+        session = store.open()
+        store.engine.most_records = store.records_sent + 320
+        with warnings.catch_warnings():
+            warnings.simplefilter("ignore")
+            for _ in range(5):
+                self.assertEqual((len(list(session.edges())), session.weights_in()["t"], session.save(self.room / "s").edges),
+                                 (300, 300, 300))
+                self.assertLess(store.records_left, 20)
+
+    @unittest.skipUnless(ENGINE == "program", OF_PIPES)
+    def test_it_is_told_while_one_export_can_be_made(self):
+        """Once: when the records that are left are enough for one session's reading of all edges, and not for two."""
+        store = self.store(*(f"insert k s{it} t 1 1" for it in range(300)))
+        store.engine.most_records = store.records_sent + 1_150
+        with warnings.catch_warnings():
+            warnings.simplefilter("error")
+            for _ in range(2):
+                with store.open() as session:
+                    self.assertEqual(len(list(session.edges())), 300)
+        with self.assertWarnsRegex(misteluk.NearLimit, "takes 302: that can be once, and not twice"), store.open() as session:
+            self.assertEqual(len(list(session.edges())), 300)
+        with warnings.catch_warnings(), store.open() as session:
+            warnings.simplefilter("error")
+            self.refused(misteluk.RecordLimit, "begin a new store", session.edges)
+
+    @unittest.skipUnless(ENGINE == "program", OF_PIPES)
+    def test_a_load_tells_beforehand_that_records_will_be_few(self):
+        rows = [(f"s{it}", "t") for it in range(300)]
+        for most, told in ((1_050, "leaves 746 of the run's 1050 records.*all its 300 edges.*that can't be twice"),
+                           (650, "leaves 346 of .*: that can't be done. A store in this process")):
+            with mock.patch.object(records, "MOST_RECORDS", most), self.assertWarnsRegex(misteluk.NearLimit, told):
+                self.store().load(rows, by="set")
+        with mock.patch.object(records, "MOST_RECORDS", 1_150), warnings.catch_warnings():
+            warnings.simplefilter("error")
+            self.store().load(rows, by="set")
+
+    def test_a_path_whose_step_has_many_edges_that_are_gone(self):
+        """17 vertices stand a level below the last one, and the edges of the first 16 to it have expired; an earlier session
+        holds them, so the client knows of them still. The same in a window that has the last edge alone."""
+        ways = [(f"insert k a s{it} 1 9", f"insert k s{it} t 1 {9 if it == 16 else 1}") for it in range(17)]
+        store = self.store(*(it for way in ways for it in way))
+        held = store.open()
+        store.expire(5)
+        self.assertEqual(store.commit().expired, 16)
+        self.assertEqual(held.path("a", "t"), ["a", "s0", "t"])
+        self.assertEqual(held.path("a", "t", since=5), ["a", "s16", "t"])
+        self.assertEqual(store.open().path("a", "t"), ["a", "s16", "t"])
 
     def test_one_vertex(self):
         session = self.store("insert k a b 3 1", "insert l a b 4 5", "insert k b a 1 2", "insert k a a 9 3",
@@ -206,6 +269,16 @@ class Calls(Case):
         self.assertEqual(session.out_of("b", "l"), {})
         self.assertEqual(session.within("b", 10 ** 18, directed=False), {"b": 0, "a": 1})
         self.assertEqual(session.within("b", 0, directed=False), {"b": 0})
+
+    def test_edges_of_a_kind(self):
+        """The kind comes first, as in other calls."""
+        session = self.store("insert k a b 3 1", "insert l a b 4 5", "insert l b c 4 7").open()
+        self.assertEqual(list(session.edges("l")), list(session.edges(kind="l")))
+        self.assertEqual(list(session.edges("l", since=6)), [("l", "b", "c", Edge(4, 7, 7))])
+        self.refused(misteluk.NoKind, "nix", lambda: session.edges("nix"))
+        self.refused(ValueError, "a kind is said once", lambda: session.edges("l", kind="k"))
+        for wrong in (["lab"], [("l", "a")], [("l", "a", "b", "c")]):
+            self.refused(TypeError, f"by its kind, source and target, and not by {wrong[0]!r}", lambda: session.edges(wrong))
 
     def test_an_empty_session(self):
         session = self.store().open()
@@ -238,9 +311,28 @@ class Calls(Case):
         self.refused(TypeError, "may be in a session", lambda: 3 in session)
         edges = session.edges()
         session.close()
-        for call in (session.edges, lambda: session.out_of("a"), lambda: list(edges), lambda: len(session),
+        self.assertEqual(list(edges), [("k", "a", "b", Edge(1, 1, 1))])
+        for call in (session.edges, lambda: session.out_of("a"), lambda: len(session),
                      lambda: "a" in session):
             self.refused(misteluk.SessionClosed, "version 1 is closed", call)
+
+    @unittest.skipUnless(ENGINE == "program", OF_PIPES)
+    def test_progress(self):
+        """At a terminal it is told of many edges: while they are sorted for the first question, and while they are asked for."""
+        class Terminal(io.StringIO):
+            def isatty(self):
+                return True
+        store = self.store()
+        store.load([(f"s{it % 300}", f"t{it}") for it in range(25_000)], by="set", progress=False)
+        session = store.open()
+        for word, call in (("sorting edges", lambda: session.into("t7")), ("asking for edges", session.weights_in)):
+            with redirect_stderr(Terminal()) as told:
+                call()
+            self.assertIn(word, told.getvalue())
+        with redirect_stderr(Terminal()) as told:
+            self.assertEqual(len(list(session.edges())), 25_000)
+            self.store("insert k a b 1 1").open().weights_in()
+        self.assertEqual(told.getvalue(), "")  # (they were told, and few take no time)
 
     def test_a_name_is_a_text(self):
         """A frame's numbers are loaded as texts, so they are asked for as texts."""
@@ -256,14 +348,16 @@ class Calls(Case):
                      lambda: misteluk.view(session, 1)):
             self.refused(TypeError, "a kind and a name are texts, and not 1", call)
 
+    @unittest.skipUnless(ENGINE == "program", OF_PIPES)
     def test_more_than_a_run_takes_is_told_before_anything_is_sent(self):
         store = self.store(*(f"insert k a t{it} 1 1" for it in range(9)))
         session = store.open()
+        session.out_of("t1")
         sent = store.records_sent
-        with mock.patch.object(records, "MOST_RECORDS", sent + 8):
-            for call in (session.edges, session.weights_in, session.edges_frame if pandas else session.edges,
-                         lambda: session.out_of("a"), lambda: session.to_csv(self.room / "x")):
-                self.refused(misteluk.RecordLimit, f"a run takes {sent + 8} records; this one had {sent}, and ", call)
+        store.engine.most_records = sent + 8
+        for call in (session.edges, session.weights_in, session.edges_frame if pandas else session.edges,
+                     lambda: session.out_of("a"), lambda: session.to_csv(self.room / "x")):
+            self.refused(misteluk.RecordLimit, f"a run takes {sent + 8} records; this one had {sent}, and ", call)
         self.assertEqual((store.records_sent, os.listdir(self.room)), (sent, []))
 
     def test_units(self):
@@ -349,8 +443,10 @@ class Calls(Case):
         self.assertEqual(session.path("a", "c", "k"), ["a", "b", "c"])
         self.assertEqual(store.stat().edges, 3)
 
+    @unittest.skipUnless(ENGINE == "program", OF_PIPES)
     def test_each_line_interrupted_finds_a_fault(self):
-        scene = Scene()
+        with mock.patch.dict(PATIENCE, SOON):
+            scene = Scene()
         self.addCleanup(scene.end)
         with mock.patch.object(calls.Calls, "make", made_at_once):
             self.assertGreater(len(self.wrong_lines(scene.session, lambda: scene.session.neighbors("b"), 17)[0]), 2)
