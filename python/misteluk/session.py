@@ -222,7 +222,8 @@ class Session(Generic[W, T]):
     def to_scipy(self, kind: Optional[str] = None, since: Moment = 0,
                  until: Moment = records.MOST_TIME) -> "scipy.sparse.csr_matrix":
         """The weights as a sparse matrix: row and column are the numbers of source and target, whose names
-        `edges_columns().names` has. Of several kinds the weights are summed. Weights are in the parts that the store counts (`units.weight_scale`)."""
+        `edges_columns().names` has. Of several kinds the weights are summed. Weights are in the parts that
+        the store counts (`units.weight_scale`)."""
         return self.edges_columns(kind, since, until).to_scipy()
 
     def to_csv(self, path: Path, kind: Optional[str] = None, since: Moment = 0, until: Moment = records.MOST_TIME) -> int:
