@@ -105,8 +105,8 @@ class Asking:
         if self._is_near or left >= 2 * (self._index.most + FOR_AN_EXPORT):
             return
         needed = len(self._candidates()) + FOR_AN_EXPORT
+        self._is_near = left < 2 * needed
         if needed <= left < 2 * needed:
-            self._is_near = True
             warnings.warn(NearLimit(f"{left} of this run's {self._most_records} records are left then, and a session that asks "
                                     f"for all edges, also by a save, takes {needed - FOR_AN_EXPORT}: that can be once more, and "
                                     "not twice. A session that has asked asks no second time; an endless store "

@@ -3,7 +3,9 @@ expiries, windows, loads, held sessions and rebases. Comparisons are made again 
 them."""
 import csv
 import io
+import itertools
 import os
+import types
 import unittest
 import warnings
 from contextlib import redirect_stderr
@@ -14,7 +16,7 @@ from interrupting import PATIENCE, SOON, Scene, at_line, made_at_once
 from support import Case, optional
 
 import misteluk
-from misteluk import Edge, Neighbor, Session, Store, calls, records, walking
+from misteluk import Edge, Neighbor, Session, Store, calls, progress, records, walking
 
 networkx = optional("networkx")
 pandas = optional("pandas")
@@ -332,7 +334,12 @@ class Calls(Case):
             self.refused(misteluk.SessionClosed, "version 1 is closed", call)
 
     def test_progress(self):
-        """At a terminal it is told of many edges: while they are sorted for the first question, and while they are asked for."""
+        """At a terminal it is told of many edges: while they are sorted for the first question, and while they are asked for. The
+        clock goes on by a second each time that it is looked at."""
+        clock = mock.patch.object(progress, "time", types.SimpleNamespace(monotonic=itertools.count().__next__))
+        self.addCleanup(clock.stop)
+        clock.start()
+
         class Terminal(io.StringIO):
             def isatty(self):
                 return True
