@@ -3,7 +3,9 @@ expiries, windows, loads, held sessions and rebases. Comparisons are made again 
 them."""
 import csv
 import io
+import itertools
 import os
+import types
 import unittest
 import warnings
 from contextlib import redirect_stderr
@@ -17,6 +19,7 @@ import misteluk
 from misteluk import Edge, Neighbor, Session, Store
 from misteluk.engine import calls
 from misteluk.engine.protocol import Arrays
+from misteluk.feeds import progress
 from misteluk.values import records
 
 networkx = optional("networkx")
@@ -318,7 +321,12 @@ class Calls(Case):
 
     @unittest.skipUnless(ENGINE == "program", OF_PIPES)
     def test_progress(self):
-        """At a terminal it is told of many edges: while they are sorted for the first question, and while they are asked for."""
+        """At a terminal it is told of many edges: while they are sorted for the first question, and while they are asked for. The
+        clock goes on by a second each time that it is looked at."""
+        clock = mock.patch.object(progress, "time", types.SimpleNamespace(monotonic=itertools.count().__next__))
+        self.addCleanup(clock.stop)
+        clock.start()
+
         class Terminal(io.StringIO):
             def isatty(self):
                 return True
