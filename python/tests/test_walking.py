@@ -195,12 +195,8 @@ class Calls(Case):
                             (lambda: session.within("s3", 2, directed=False), 1 + 1 + 30), (session.edges, 300 + 1),
                             (session.edges, 0), (lambda: session.into("t3"), 0)):
             before = store.records_sent
-            self.assertEqual(call(), told)
-            self.assertLessEqual(store.records_sent - before, most)
-        with store.open() as last:
-            self.assertEqual(last.edge("k", "s7", "t7"), Edge(9, 7, 999))
-            self.assertEqual(last.out_of("s7"), {"t7": Edge(9, 7, 999)})
-        self.assertEqual(session.out_of("s7"), {"t7": Edge(7, 7, 7)})
+            call()
+            self.assertEqual(store.records_sent - before, count)
 
     @unittest.skipUnless(ENGINE == "program", OF_PIPES)
     def test_exports_where_records_are_few(self):
@@ -426,6 +422,8 @@ class Calls(Case):
         right, edges, wrong, at = call(), list(session.edges()), [], 1
         while len(wrong) < 3:
             try:
+                if ENGINE == "program":
+                    session.held._all = None  # (it would have the answers already)
                 if not at_line(at, call):
                     break
                 if (call(), list(session.edges())) != (right, edges):
