@@ -43,7 +43,7 @@ __all__ = [
     "find_library", "find_program",
     "StoreError", "Refused", "Place", "AlreadyOpen", "BadCommand", "BadFields", "BadName", "BadRows", "BadSlot", "BadTime",
     "BadWeight", "BadWindow", "BatchFull", "BatchLimit", "FeedFault", "Incomplete", "KindsFull", "LeftOut", "LibraryNotFound",
-    "Misread", "Missing", "NamesFull", "NearLimit", "NoAnswer", "NoKind", "NoMemory", "NoSeat", "NoVertex", "NotOpen", "NotRenewed",
-    "OperationsRefused", "OutOfMemory", "OverLimit", "PartsFailed", "PoolEmpty", "ProgramEnded", "ProgramNotFound", "RecordLimit",
-    "SaveFault", "SessionClosed", "Uncommitted",
+    "Misread", "Missing", "NamesFull", "NearLimit", "NoAnswer", "NoKind", "NoMemory", "NoSeat", "NoVertex", "NotOpen",
+    "NotRenewed", "OperationsRefused", "OutOfMemory", "OverLimit", "PartsFailed", "PoolEmpty", "ProgramEnded", "ProgramNotFound",
+    "RecordLimit", "SaveFault", "SessionClosed", "Uncommitted",
 ]

@@ -253,4 +253,5 @@ def _must_fit(store: "Store[Any, Any]", name: str, found: Found, size: int) -> N
     count, left = len(found.operations) + 2 * -(-len(found.operations) // (size or 1)) + 2, store.records_left
     if left is not None and count > left:
         raise OverLimit(f"{name} takes {count} records in batches of {size}, for which {store.blocks} blocks have room, where a "
-                        f"run takes {records.MOST_RECORDS}: with more blocks they are fewer. Nothing is restored", {"records": count})
+                        f"run takes {records.MOST_RECORDS}: with more blocks they are fewer. Nothing is restored",
+                        {"records": count})

@@ -187,7 +187,11 @@ class Session(Generic[W, T]):
             return iter(self.edges_columns(kind if asked is None else asked, since, until))
         if kind is not None or since != 0 or until != records.MOST_TIME:
             raise ValueError("kind, since and until are for all edges, and not for those that are asked for one by one")
-        return self._some_edges([("edge", str(self.slot), *it) for it in asked], missing)
+        edges = list(asked)
+        for it in edges:
+            if isinstance(it, str) or len(it) != 3:
+                raise TypeError(f"an edge is asked for by its kind, source and target, and not by {it!r}")
+        return self._some_edges([("edge", str(self.slot), *it) for it in edges], missing)
 
     def _some_edges(self, asked: "List[Tuple[str, ...]]", missing: Any) -> "List[Any]":
         self.must_be_open()
@@ -222,7 +226,8 @@ class Session(Generic[W, T]):
     def to_scipy(self, kind: Optional[str] = None, since: Moment = 0,
                  until: Moment = records.MOST_TIME) -> "scipy.sparse.csr_matrix":
         """The weights as a sparse matrix: row and column are the numbers of source and target, whose names
-        `edges_columns().names` has. Of several kinds the weights are summed. Weights are in the parts that the store counts (`units.weight_scale`)."""
+        `edges_columns().names` has. Of several kinds the weights are summed. Weights are in the parts that
+        the store counts (`units.weight_scale`)."""
         return self.edges_columns(kind, since, until).to_scipy()
 
     def to_csv(self, path: Path, kind: Optional[str] = None, since: Moment = 0, until: Moment = records.MOST_TIME) -> int:

@@ -3,7 +3,9 @@ expiries, windows, loads, held sessions and rebases. Comparisons are made again 
 them."""
 import csv
 import io
+import itertools
 import os
+import types
 import unittest
 import warnings
 from contextlib import redirect_stderr
@@ -17,6 +19,7 @@ import misteluk
 from misteluk import Edge, Neighbor, Session, Store
 from misteluk.engine import calls
 from misteluk.engine.protocol import Arrays
+from misteluk.feeds import progress
 from misteluk.values import records
 
 networkx = optional("networkx")
@@ -192,12 +195,8 @@ class Calls(Case):
                             (lambda: session.within("s3", 2, directed=False), 1 + 1 + 30), (session.edges, 300 + 1),
                             (session.edges, 0), (lambda: session.into("t3"), 0)):
             before = store.records_sent
-            self.assertEqual(call(), told)
-            self.assertLessEqual(store.records_sent - before, most)
-        with store.open() as last:
-            self.assertEqual(last.edge("k", "s7", "t7"), Edge(9, 7, 999))
-            self.assertEqual(last.out_of("s7"), {"t7": Edge(9, 7, 999)})
-        self.assertEqual(session.out_of("s7"), {"t7": Edge(7, 7, 7)})
+            call()
+            self.assertEqual(store.records_sent - before, count)
 
     @unittest.skipUnless(ENGINE == "program", OF_PIPES)
     def test_exports_where_records_are_few(self):
@@ -318,7 +317,12 @@ class Calls(Case):
 
     @unittest.skipUnless(ENGINE == "program", OF_PIPES)
     def test_progress(self):
-        """At a terminal it is told of many edges: while they are sorted for the first question, and while they are asked for."""
+        """At a terminal it is told of many edges: while they are sorted for the first question, and while they are asked for. The
+        clock goes on by a second each time that it is looked at."""
+        clock = mock.patch.object(progress, "time", types.SimpleNamespace(monotonic=itertools.count().__next__))
+        self.addCleanup(clock.stop)
+        clock.start()
+
         class Terminal(io.StringIO):
             def isatty(self):
                 return True
@@ -418,6 +422,8 @@ class Calls(Case):
         right, edges, wrong, at = call(), list(session.edges()), [], 1
         while len(wrong) < 3:
             try:
+                if ENGINE == "program":
+                    session.held._all = None  # (it would have the answers already)
                 if not at_line(at, call):
                     break
                 if (call(), list(session.edges())) != (right, edges):

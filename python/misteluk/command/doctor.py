@@ -56,6 +56,6 @@ def look(engine: Optional[str], program: Optional[Path]) -> Tuple[List[str], boo
     except StoreError as fault:
         return [*told, f"no store can be made: {fault}"], False
     of_run = "" if name == LIBRARY else f"; a run takes {records.MOST_RECORDS:,} records and {records.MOST_BATCHES:,} batches"
-    told.append(f"limits: {records.MOST_NAMES:,} vertices, {records.MOST_KINDS} kinds, {records.MOST_BLOCKS:,} blocks, batches of "
-                f"{records.MOST_OPERATIONS:,}{of_run}")
+    told.append(f"limits: {records.MOST_NAMES:,} vertices, {records.MOST_KINDS} kinds, {records.MOST_BLOCKS:,} blocks, batches "
+                f"of {records.MOST_OPERATIONS:,}{of_run}")
     return told, is_well

@@ -4,7 +4,7 @@ from __future__ import annotations
 import os
 import threading
 from array import array
-from itertools import chain
+from itertools import chain, repeat
 from typing import Any, Dict, List, NamedTuple, Optional, Tuple
 
 from . import interface
@@ -123,12 +123,14 @@ def fill(library: Library, raw: interface.Batch, text: str, size: int) -> None:
 
 
 def _fill_at_once(library: Library, raw: interface.Batch, fields: List[bytes]) -> None:
-    """The same for operations that are all insertions or additions without quotes."""
+    """The same for operations that are all insertions or additions without quotes: the loop is one in C where all are of one
+    sort."""
     kinds, sources, targets = fields[1::6], fields[2::6], fields[3::6]
-    calls: Any = map({b"i": library.batch_insert, b"a": library.batch_add}.__getitem__, fields[::6])
-    given = zip(kinds, map(len, kinds), sources, map(len, sources), targets, map(len, targets), map(int, fields[4::6]),
-                map(int, fields[5::6]))
-    for call, it in zip(calls, given):
-        code = call(raw, *it)
-        if code:
-            check(code)
+    given: Any = (kinds, map(len, kinds), sources, map(len, sources), targets, map(len, targets), map(int, fields[4::6]),
+                  map(int, fields[5::6]))
+    call_of: Any = {b"i": library.batch_insert, b"a": library.batch_add}
+    if len(set(fields[::6])) == 1:
+        codes: Any = map(call_of[fields[0]], repeat(raw), *given)
+    else:
+        codes = (call_of[command](raw, *it) for command, it in zip(fields[::6], zip(*given)))
+    check(next(filter(None, codes), Code.OK))
