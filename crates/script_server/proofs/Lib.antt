@@ -7,3 +7,4 @@ pub mod RunEnd
 pub mod OneText
 pub mod SomeText
 pub mod SessionLines
+pub mod OpenSlots

@@ -17,7 +17,7 @@ use Rattle.script_server.specs.{Executions.Executes, Sessions.{AgreeingSlotsAreT
 use Rattle.script_server.specs.Sessions.{Tells, TellsOfEachSlot, asked_in, asked_of, observed_in}
 
 -- the slot holds no version, or one of this graph
-abbrev Stands : ℕ → ServerState → Option Graph → Type 0
+abbrev pub Stands : ℕ → ServerState → Option Graph → Type 0
 Stands slot s None = (held : Held) → version_in (slice_get s.held slot) ≡ Ok held → ⊥
 Stands slot s (Some g) =
     (held : Held) × (version_in (slice_get s.held slot) ≡ Ok held) × (held.number ≤ length s.batches) × (version held.number s ≡ g)
@@ -31,17 +31,17 @@ abbrev owed : Option Graph → List Observation → List Question
 owed now seen = here_owed now seen ++ questions (holdings_of seen)
 
 -- a record that befalls the slot so: where it stands afterwards, and that the record answers what it asks
-record Turn (slot : ℕ) (after : ServerState) (now : Option Graph) (seen : List Observation) (told : List RecordResult) : Type 0 where
-  next : Option Graph
-  stands : Stands slot after next
-  answers : (more : List Observation) (rest : List RecordResult) → AllZip (IsToldAt slot) (owed next more) rest
+pub record Turn (slot : ℕ) (after : ServerState) (now : Option Graph) (seen : List Observation) (told : List RecordResult) : Type 0 where
+  pub next : Option Graph
+  pub stands : Stands slot after next
+  pub answers : (more : List Observation) (rest : List RecordResult) → AllZip (IsToldAt slot) (owed next more) rest
       → AllZip (IsToldAt slot) (owed now (seen ++ more)) (told ++ rest)
 
 -- a record that doesn't concern the slot
 passes : (slot : ℕ) (after : ServerState) (now : Option Graph) → Stands slot after now → Turn slot after now [] []
 passes slot after now stands = record { next = now; stands = stands; answers = λ more rest z. z }
 
-stands_committed : (slot : ℕ) (s : ServerState) (now : Option Graph) → Stands slot s now → Stands slot (after_commit s) now
+pub stands_committed : (slot : ℕ) (s : ServerState) (now : Option Graph) → Stands slot s now → Stands slot (after_commit s) now
 stands_committed slot s None stands = stands
 stands_committed slot s (Some g) stands = (
   stands.0,
@@ -51,7 +51,7 @@ stands_committed slot s (Some g) stands = (
 )
 
 -- a slot that is opened, or closed
-stands_else : (slot other : ℕ) (s : ServerState) (to : Option Held) (now : Option Graph) → (slot ≡ other → ⊥) → Stands slot s now
+pub stands_else : (slot other : ℕ) (s : ServerState) (to : Option Held) (now : Option Graph) → (slot ≡ other → ⊥) → Stands slot s now
     → Stands slot (record s { held = slice_set s.held other to }) now
 stands_else slot other s to None ne stands =
     λ held is. stands held (ap version_in (sym (set_else s.held other slot to ne)) ∙ is)
@@ -104,7 +104,7 @@ closes slot other s now true is stands held holds = record {
 closes slot other s now false is stands held holds =
     passes slot _ now (stands_else slot other s None now (λ e. eqb-false other slot is (sym e)) stands)
 
-none_replicated : (n slot : ℕ) (held : Held) → version_in (slice_get (replicate n None) slot) ≡ Ok held → ⊥
+pub none_replicated : (n slot : ℕ) (held : Held) → version_in (slice_get (replicate n None) slot) ≡ Ok held → ⊥
 none_replicated zero slot held is = cc
 none_replicated (suc n) zero held is = cc
 none_replicated (suc n) (suc slot) held is = none_replicated n slot held is
@@ -147,7 +147,7 @@ queries slot other request s now outcome true same stands is =
 queries slot other request s now outcome false same stands is = passes slot s now stands
 
 -- what a slot was before a record that opened or closed it
-was_free : (o : Option (Option Held)) (lines line : List ℕ) → Ok lines ≡ lines_unless (open_refusal o) line → o ≡ Some None
+pub was_free : (o : Option (Option Held)) (lines line : List ℕ) → Ok lines ≡ lines_unless (open_refusal o) line → o ≡ Some None
 was_free None lines line is = cc
 was_free (Some None) lines line is = refl
 was_free (Some (Some held)) lines line is = cc
@@ -156,7 +156,7 @@ was_held : (slot : ℕ) (r : Result Held Word) (lines : List ℕ) → Ok lines �
 was_held slot (Ok held) lines is = (held, refl)
 was_held slot (Err word) lines is = absurd (cc)
 
-turn : (slot : ℕ) (item : Result Command FeedWord) (s : ServerState) (outcome : RecordResult) (now : Option Graph)
+pub turn : (slot : ℕ) (item : Result Command FeedWord) (s : ServerState) (outcome : RecordResult) (now : Option Graph)
     → Stands slot s now → IsRecordResult item s outcome
     → Turn slot (after_item item outcome s) now (observed_in slot s item outcome) (map (λ request. outcome) (asked_of slot s item))
 turn slot (Err word) s (Ok lines) now stands is = passes slot s now stands
@@ -207,7 +207,7 @@ lines_are_answers slot setup rows text seen told tells =
     tells_all slot rows (beginning setup) text seen told None (none_replicated setup.seats slot) tells
 
 -- two slots that are asked the same
-both_told : (slot other : ℕ) (qs : List Question) (told others : List RecordResult) → AllZip (IsToldAt slot) qs told
+pub both_told : (slot other : ℕ) (qs : List Question) (told others : List RecordResult) → AllZip (IsToldAt slot) qs told
     → AllZip (IsToldAt other) qs others → AllZip (AreToldAlike slot other) told others
 both_told slot other [] [] [] first second = tt
 both_told slot other [] [] (y ∷ ys) first second = absurd second

@@ -1,6 +1,6 @@
 -- What the sessions of a slot are told in a script, by the machine's words for what a session holds.
 use Rattle.std.specs.Prelude.{◌≡◌, ℕ, ◌+◌, ◌==◌, List, [], ◌∷◌, ◌++◌, map, if◌then◌else◌, slice_get, Result, Ok, Err}
-use Rattle.std.specs.List.{AllZip}
+use Rattle.std.specs.{Prelude.Bool, Prelude.true, Prelude.false, Prelude.IsFalse, List.{AllZip, flat_map, list_any}}
 use Rattle.feed_csv.specs.{Commands.item_of, Records.Row}
 use Rattle.feed_csv.specs.declared.{command.Command.{Command, TheVariants.{OpenSlot, CloseSlot, Query, Rebase}}, command.FeedWord.FeedWord}
 use Rattle.graph_types.specs.declared.requests.Request.{Request}
@@ -75,3 +75,31 @@ pub record AgreeingSlotsAreToldAlike : Type 0 where
       (seen other_seen : List Observation) (told other_told : List RecordResult)
       → Tells slot rows (beginning setup) text seen told → Tells slot other_rows (beginning other_setup) other_text other_seen other_told
       → holdings_of seen ≡ holdings_of other_seen → told ≡ other_told
+
+-- whether a record closes this slot, as a rebase closes all
+abbrev pub closes_slot : ℕ → Result Command FeedWord → Bool
+closes_slot slot (Ok (CloseSlot other)) = other == slot
+closes_slot slot (Ok (Rebase other)) = true
+closes_slot slot _ = false
+
+abbrev pub StaysOpen : ℕ → List Row → Type 0
+StaysOpen slot rows = IsFalse (list_any (λ row. closes_slot slot (item_of row)) rows)
+
+-- the requests to a slot in these records
+abbrev pub request_to : ℕ → Result Command FeedWord → List Request
+request_to slot (Ok (Query other request)) = if other == slot then request ∷ [] else []
+request_to slot _ = []
+
+abbrev pub requests_to : ℕ → List Row → List Request
+requests_to slot rows = flat_map (λ row. request_to slot (item_of row)) rows
+
+-- from where a run has come to hold a version in a slot: whatever records follow, as long as none closes the slot, it is told
+-- the same for the same requests
+abbrev pub OthersChangeNothing : Type 0
+OthersChangeNothing =
+    (slot : ℕ) (setup : Setup) (front : List Row) (before : List ℕ) (here : Progress) (held : Held)
+    (rows other_rows : List Row) (text other_text : List ℕ) (seen other_seen : List Observation)
+    (told other_told : List RecordResult)
+    → Executes front (beginning setup) before here → version_in (slice_get here.state.held slot) ≡ Ok held
+    → Tells slot rows here text seen told → Tells slot other_rows here other_text other_seen other_told → StaysOpen slot rows
+    → StaysOpen slot other_rows → requests_to slot rows ≡ requests_to slot other_rows → told ≡ other_told

@@ -2,7 +2,8 @@
 
 ghost use Rattle.script_server.specs.Examples.{AreExamples};
 ghost use Rattle.script_server.specs.Laws.{HasOneText, HasSomeText};
-ghost use Rattle.script_server.specs.Sessions.{AgreeingSlotsAreToldAlike, LinesAreAnswers, TellsOfEachSlot};
+ghost use Rattle.script_server.specs.Sessions.{AgreeingSlotsAreToldAlike, LinesAreAnswers, OthersChangeNothing};
+ghost use Rattle.script_server.specs.Sessions.{TellsOfEachSlot};
 
 /// A script has one text: no definition leaves a choice, also where a request's answer is given by a relation.
 pub fn law_one_text()
@@ -21,12 +22,14 @@ pub fn law_some_text()
 ///   batches up to the held version leave.
 /// - `alike`, in two scripts, over any set-ups: where two slots have as many holdings, of versions of equal content and with
 ///   equal lists of requests, the k-th requests get one answer; at slots of one number the same lines or the same word, beside
-///   which an error line has its record's number. So records of others behind a slot's `open` change nothing of what the slot
-///   is told, but a `rebase`, which closes it.
+///   which an error line has its record's number.
+/// - `others`, from where a slot holds a version on: until a `close` or a `rebase` the same requests are told the same,
+///   whatever other records are added or struck.
 pub fn law_session_lines()
     ensures each { TellsOfEachSlot }
     ensures answers { LinesAreAnswers }
     ensures alike { AgreeingSlotsAreToldAlike }
+    ensures others { OthersChangeNothing }
 {}
 
 /// The examples that are worked out by hand.
