@@ -9,7 +9,7 @@ use std::marker::Model;
 use std::sync::Arc;
 
 /// How many entries a piece has at most.
-const FULL: usize = 64;
+const FULL: usize = 256;
 
 /// Numbers by hash, in pieces that copies share, each behind its lowest hash. A number costs a search of two lists that
 /// rise and a copy of one piece, whichever hashes there are.

@@ -4,6 +4,7 @@ use super::checks::{same, tell_refused};
 use super::texts::debugged;
 use graph_types::is_name;
 use std::alloc::Global;
+use std::hash::{DefaultHasher, Hasher};
 use std::io::Print;
 use std::process::Abort;
 use vertex_names::{AddError, NameBook, is_same_name};
@@ -179,6 +180,45 @@ fn shares_at_the_end_of_a_group(rt: HostRuntime) {
     for number in 32_766..32_770u32 {
         check_group(&rt, rt.alloc(), &mut book, number);
     }
+}
+
+// Whether the hash of a name tells one of the 512 parts of a book's index.
+fn is_in_part(name: &str) -> bool {
+    let mut hasher = DefaultHasher::new();
+    hasher.write(name.as_bytes());
+    hasher.finish() % 512 == 0
+}
+
+// Adds a name of that part as the next one.
+fn add_in_part(rt: &impl Abort, book: &mut NameBook, name: &str) {
+    let number = book.len() as u32;
+    if is_in_part(name) && number < 400 {
+        added(rt, book, name, Ok(number));
+    }
+}
+
+// A name of that part has this number, or else it is no name of that part. It gives the number of the next one.
+fn check_in_part(rt: &impl Abort, book: &NameBook, name: &str, number: u32) -> u32 {
+    if !is_in_part(name) {
+        return number;
+    }
+    assert_numbered(rt, book, name, number);
+    number.saturating_add(1)
+}
+
+// More than a piece of the index may have, so that it is split.
+#[test]
+fn finds_names_of_one_part_of_the_index(rt: HostRuntime) {
+    let mut book = NameBook::new(rt.alloc(), 400);
+    for text in 0..160_000u32 {
+        add_in_part(&rt, &mut book, plain(&rt, rt.alloc(), text).as_str());
+    }
+    let mut number = 0;
+    for text in 0..160_000u32 {
+        number = check_in_part(&rt, &book, plain(&rt, rt.alloc(), text).as_str(), number);
+    }
+    same(&rt, number > 256, true);
+    same(&rt, book.len(), number as usize);
 }
 
 #[test]
