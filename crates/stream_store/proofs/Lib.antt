@@ -1,4 +1,4 @@
-pub mod Posting
 pub mod ReceiptLaws
 pub mod Rows
 pub mod Seated
+pub mod Shelved

@@ -6,6 +6,7 @@ use Rattle.graph_types.specs.{Step.outcomes, Step.left_by, declared.batches.Name
 use Rattle.graph_version.specs.Versions.{VersionView, IsVersion}
 use Rattle.batch_apply.specs.Planned.{MeetsNeitherLimit}
 use Rattle.version_shelf.specs.Shelves.{ToldView}
+pub use Rattle.desk.specs.Owned.{copied}
 use Rattle.desk.specs.{Refusals.Refuses, declared.errors.ApplyError.ApplyError}
 use Rattle.stream_store.specs.Seats.{SeatView}
 
@@ -35,6 +36,3 @@ pub record IsRefusalOf (opening : Graph) (ops : List NamedOp) (e : ApplyError) :
   pub version_is : IsVersion last
   pub opening_is : last.opening ≡ opening
   pub refuses : Refuses last free ops e
-
--- the copy of a desk's last number and the pins of a board
-pub use Rattle.desk.specs.Owned.{copied}

@@ -13,8 +13,8 @@ ghost use Rattle.stream_store.specs.Seats.{SeatView, HasSeen, IsNewSeat};
 ghost use Rattle.stream_store.specs.Stores.{IsSeatOf};
 
 use crate::config::Config;
-use crate::posting::Desk;
 use crate::opening::{OpenError, open_parts, open_parts_from};
+use crate::posting::Desk;
 use crate::seats::Seat;
 use crate::store::{Naming, Store};
 use block_reclamation::Board;

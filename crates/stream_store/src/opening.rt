@@ -97,7 +97,8 @@ pub fn open_parts_from<R: Wait>(
     ensures exact { config.blocks < block_count version.now
         → result ≡ Err (OpenError.PoolEmpty (block_count version.now) config.blocks) }
 {
-    open_over(rt, alloc, config, desk::Desk::open_over(alloc, config.blocks(), version)?)
+    let kept = desk::Desk::open_over(alloc, config.blocks(), version)?;
+    open_over(rt, alloc, config, kept)
 }
 
 /// The parts of a store with this desk, which has just opened.
@@ -116,11 +117,7 @@ fn open_over<R: Wait>(
     ensures refused { IfErr result (λ e. (needed : ℕ) → RefusesOpening needed config.blocks e) }
 {
     let (writer, seats) = shelf_and_seats(rt, alloc, kept.last(), config.seats())?;
-    Ok((
-        Desk::opened(config, kept, writer),
-        Board::new(),
-        seats,
-    ))
+    Ok((Desk::opened(config, kept, writer), Board::new(), seats))
 }
 
 /// A shelf that shows a version without batches, and so many seats that have seen it. It stands apart from `open_over`, which

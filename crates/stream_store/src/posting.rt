@@ -116,8 +116,16 @@ impl Desk {
         ensures refused { IfErr result (λ e. Refuses self.old.desk.last (count_by is_free self.old.desk.pool) batch e) }
         ensures unchanged { OnErr result (self.new ≡ self.old) }
     {
-        let plan = plan_next(rt, self.kept().allocator(), self.last(), &batch, self.workers)?;
-        let batch = Arc::new(self.kept().allocator(), batch)?;
+        let plan = plan_next(
+            rt,
+            self.kept().allocator(),
+            self.last(),
+            &batch,
+            self.workers,
+        )?;
+        let Ok(batch) = Arc::new(self.kept().allocator(), batch) else {
+            return Err(ApplyError::OutOfMemory);
+        };
         let Some(kept) = self.kept.take() else {
             unreachable!()
         };
@@ -232,4 +240,3 @@ impl Desk {
         self.shelf.confirm(told);
     }
 }
-

@@ -1,6 +1,6 @@
-use Rattle.std.{proofs.Common.{ℕ, ap, sym, subst, ◌∙◌, All}, specs.Arc.arc_value}
+use Rattle.std.proofs.Common.{ℕ, ap, sym, subst, ◌∙◌, All}
 use Rattle.logbook.specs.Pages.{Book}
-use Rattle.graph_version.specs.declared.versions.Version.{Version}
+use Rattle.graph_version.specs.Versions.{VersionView}
 use Rattle.batch_apply.proofs.Names.{err_then}
 use Rattle.stream_store.specs.{Kept.DeskState, Seats.HasSeen, Openings.RefusesOpening}
 use Rattle.stream_store.proofs.opening.open_over.Goals as goal
@@ -8,8 +8,10 @@ use Rattle.stream_store.proofs.opening.open_over.Goals as goal
 pub returns-clause-seats : goal.returns-clause-seats
 returns-clause-seats g c = (
   c.in_ok-writer.ensures.seats.0 ∙ c.seats.ensures.number,
-  subst (λ (b : Book). All (HasSeen b (arc_value {X = Version} c.args.zero.version)) c.in_ok-writer.seats.items)
-      (sym (ap (λ (d : DeskState). d.book) c.opened.ensures)) c.in_ok-writer.ensures.seats.1,
+  subst (λ (b : Book). All (HasSeen b c.args.kept.last) c.in_ok-writer.seats.items)
+      (sym (ap (λ (d : DeskState). d.book) c.opened.ensures))
+      (subst (λ (v : VersionView). All (HasSeen c.in_ok-writer.writer.book v) c.in_ok-writer.seats.items) c.last.ensures
+      c.in_ok-writer.ensures.seats.1),
 )
 
 pub returns-in_err-writer-clause-refused : goal.returns-in_err-writer-clause-refused

@@ -1,6 +1,6 @@
-use Rattle.std.proofs.Common.{◌≡◌, sym, ap, subst, ◌∙◌}
+use Rattle.std.proofs.Common.{refl, sym, ap, ◌∙◌}
 use Rattle.version_shelf.specs.Shelves.{ShelfView}
-use Rattle.store_steps.specs.{Desks.DeskView, Opening.opened_desk}
+use Rattle.store_steps.specs.{Desks.DeskView}
 use Rattle.stream_store.proofs.posting.Desk.opened.Goals as goal
 
 pub invariant_of-result : goal.invariant_of-result
@@ -14,5 +14,5 @@ invariant_of-result c =
         workers_some = rw c.workers.ensures.number limits.workers_some;
         workers_few = rw c.workers.ensures.number limits.workers_few;
       },
-      tt,
+      refl,
     )
