@@ -1,11 +1,10 @@
 -- The seats of an opening.
-use Rattle.std.proofs.Common.{◌≡◌, ℕ, zero, suc, ◌+◌, ◌<◌, List, [], ◌∷◌, ◌++◌, length, map, take, drop, refl, sym, ap, subst}
+use Rattle.std.proofs.Common.{◌≡◌, ℕ, zero, suc, ◌+◌, ◌<◌, List, [], ◌∷◌, ◌++◌, length, map, take, drop, sym, ap, subst}
 use Rattle.std.proofs.{Common.{◌∙◌, arith}, lemmas.List.{map-append, length-append, Elements.{All-head, All-tail, All-cons}}}
-use Rattle.std.{proofs.lemmas.Grind.common_steps, specs.{List.range_with_len, Prelude.{All, Option, slice_set, slice_index_or}}}
+use Rattle.std.{proofs.lemmas.Grind.common_steps, specs.{List.range_with_len, Prelude.{All, slice_index_or}}}
 use Rattle.logbook.specs.Pages.{Book}
 use Rattle.graph_version.specs.Versions.{VersionView}
 use Rattle.version_shelf.specs.Shelves.{ToldView}
-use Rattle.block_reclamation.specs.{Board.BoardState, Board.with_pin, declared.copies.Pin.Pin}
 use Rattle.stream_store.specs.Seats.{SeatView, HasSeen}
 
 abbrev IsNew : Book → VersionView → ToldView → Type 0

@@ -139,7 +139,17 @@ impl Seat {
             (λ _. self.new ≡ self.old) }
         ensures number { self.new.number ≡ self.old.number }
     {
-        self.reader.learn(&receipt.told)
+        self.learn_told(&receipt.told)
+    }
+
+    /// Takes over what is told of a version, by a receipt or by another seat, where it is newer. It and the seat are of one opening.
+    pub fn learn_told(&mut self, told: &Told) -> Result<(), AllocError>
+        requires { IsOfOneShelf told.now self.old.seen }
+        ensures seen { MatchResult result (λ _. Begins self.old.seen self.new.seen × Begins told.now self.new.seen)
+            (λ _. self.new ≡ self.old) }
+        ensures number { self.new.number ≡ self.old.number }
+    {
+        self.reader.learn(told)
     }
 
     /// What is told of the newest version that the seat entered or learnt.
@@ -156,8 +166,8 @@ impl Seat {
         self.pin_on(&mut store.board(rt))
     }
 
-    /// Pins the seat at the board's floor.
-    fn pin_on(self, board: &mut Board) -> PinnedSeat
+    /// Pins the seat at the floor of its board, as one that stands behind a lock of its own beside the owner of the desk.
+    pub fn pin_on(self, board: &mut Board) -> PinnedSeat
         ensures seat { result ≡ self }
         ensures pinned { board.new ≡ with_pin board.old self.number (Some (unsettled board.old.floor)) }
     {
@@ -201,6 +211,17 @@ impl PinnedSeat {
         ensures number { result.number ≡ self.number }
     {
         self.look().settle_on(&mut store.board(rt))
+    }
+
+    /// As `enter`, on the seat's board.
+    pub fn enter_on(self, board: &mut Board) -> Session
+        ensures later { Begins self.seen result.seen }
+        ensures held { result.lent ≡ None }
+        ensures number { result.number ≡ self.number }
+        ensures settled { board.new ≡ with_pin board.old self.number
+            (option_map (settled (length result.seen.version.batches)) (pin_at board.old.pins self.number)) }
+    {
+        self.look().settle_on(board)
     }
 
     /// Looks at the shelf, before any lock is taken.
@@ -255,7 +276,7 @@ impl Session {
         self.release_lent(&mut store.board(rt))
     }
 
-    /// Lets a version go that the desk lent, and takes the seat's pin away.
+    /// Lets the version go, lent or entered, and takes the seat's pin away.
     pub fn release_lent(self, board: &mut Board) -> Seat
         ensures seat { result ≡ seat_of self }
         ensures unpinned { board.new ≡ with_pin board.old self.number None }

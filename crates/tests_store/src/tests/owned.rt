@@ -174,7 +174,11 @@ fn begun_twice(rt: &impl Abort, alloc: Global, desk: Desk) -> Result<Desk, (Desk
     let batch = Arc::new(alloc, batch_named(alloc, "mixed").expect(rt, "a batch")).expect(rt, "it");
     let again = Arc::try_clone(&batch).expect(rt, "a second one");
     let desk = desk.begin(batch)?.cancel();
-    check_so(rt, desk.stat().number == 0 && desk.stat().free == 16, "cancelled");
+    check_so(
+        rt,
+        desk.stat().number == 0 && desk.stat().free == 16,
+        "cancelled",
+    );
     let ready = desk.begin(again)?;
     check_so(rt, ready.version().number() == 1, "ready");
     Ok(ready.finish().0)
@@ -183,8 +187,14 @@ fn begun_twice(rt: &impl Abort, alloc: Global, desk: Desk) -> Result<Desk, (Desk
 #[test]
 fn gives_a_batch_up(rt: HostRuntime) {
     let desk = Desk::open(rt.alloc(), 16).expect(&rt, "a desk");
-    let desk = begun_twice(&rt, rt.alloc(), desk).ok().expect(&rt, "accepted");
-    check_so(&rt, desk.stat().number == 1 && desk.stat().free == 14, "accepted");
+    let desk = begun_twice(&rt, rt.alloc(), desk)
+        .ok()
+        .expect(&rt, "accepted");
+    check_so(
+        &rt,
+        desk.stat().number == 1 && desk.stat().free == 14,
+        "accepted",
+    );
     check_so(&rt, desk.blocks() == 16, "its blocks");
     check_so(&rt, desk.close().number() == 1, "closed");
 }

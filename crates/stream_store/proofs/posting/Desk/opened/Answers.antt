@@ -1,6 +1,6 @@
-use Rattle.std.proofs.Common.{◌≡◌, refl, sym, ap, ◌∙◌}
+use Rattle.std.proofs.Common.{refl, sym, ap, ◌∙◌}
 use Rattle.version_shelf.specs.Shelves.{ShelfView}
-use Rattle.store_steps.specs.{Desks.DeskView, Opening.opened_desk}
+use Rattle.store_steps.specs.{Desks.DeskView}
 use Rattle.stream_store.proofs.posting.Desk.opened.Goals as goal
 
 pub invariant_of-result : goal.invariant_of-result

@@ -1,7 +1,7 @@
 use Rattle.std.proofs.{Common.◌≡◌, Common.ap, Common.subst, Common.◌∙◌, lemmas.Result.MatchResult-weaker}
 use Rattle.version_shelf.specs.Shelves.{ToldView, Begins}
 use Rattle.stream_store.specs.Seats.{SeatView}
-use Rattle.stream_store.proofs.seats.Seat.learn.Goals as goal
+use Rattle.stream_store.proofs.seats.Seat.learn_told.Goals as goal
 
 -- Its search is long where it fails.
 pub returns-clause-seen : goal.returns-clause-seen
