@@ -251,8 +251,10 @@ class Store(Generic[W, T]):
             session.must_be_open()
             self.ledger.forget()
         self._rebasing = session
-        with self.ledger.terms.told_of("rebase", str(session.slot)):
+        try:  # (nothing is done behind the line that tells it: an interrupt there would lose what it tells)
             return (self.engine.rebase(session.held), put(self, "_rebasing", None))[0]
+        except Denied as fault:
+            raise self.ledger.terms.denied(fault, ("rebase", str(session.slot))) from None
 
     def renew(self) -> Renewed:
         """Begins anew with the last version's edges, as a store in this process does of itself before it is full of batches, or

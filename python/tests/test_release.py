@@ -196,7 +196,7 @@ class Releases(Case):
         env = {it: value for it, value in os.environ.items() if it != "MISTELUK_PROGRAM"} | {"PYTHONPATH": "python"}
         told = run(sys.executable, "-c", "import misteluk; print(misteluk.find_program()); print(misteluk.Store().stat().free)",
                    cwd=there, env=env, stderr=subprocess.DEVNULL).stdout
-        self.assertEqual(told, f"{there}/bin/stinger\n16384\n")
+        self.assertEqual(told, f"{there}/bin/stinger\n65536\n")
 
     def c_from_the_archive(self, there):
         """Header, libraries and what pkg-config reads: the example is compiled as the archive's page says."""
@@ -245,7 +245,7 @@ class Releases(Case):
         done = run(there / "python/check", "records", "release", "lint", env=env)
         self.assertEqual(done.returncode, 0, done.stdout)
         self.assertIn(f" runs {there}/bin/stinger\n", done.stdout)
-        self.assertRegex(done.stdout, r"(?m)^release: \d+ s, \d+ passed over: this is no repository, but a released archive$")
+        self.assertRegex(done.stdout, r"(?m)^release \(library\): \d+ s, \d+ passed over: this is no repository, but a released archive$")
         self.assertRegex(done.stdout, r"(?m)^[1-9]\d* passed, 0 failed$")
 
     def refused(self, told: str, *words):
