@@ -66,9 +66,11 @@ class Ledger:
 
     @alone
     def discard(self) -> int:
-        """Lets the pending operations go, and gives how many they were; those that are on their way stay."""
+        """Lets the pending operations go, and gives how many they were; those that are on their way, and may still be
+        answered, stay."""
         books = self._books
-        sent = books.flight.batch.size if books.flight and books.of_pending and not books.flight.cut else 0
+        is_awaited = books.flight is not None and books.of_pending and not books.flight.cut and not self.engine.has_ended
+        sent = books.flight.batch.size if books.flight and is_awaited else 0
         count = len(self.pending) - sent
         del self.pending[sent:sent + count]
         return count

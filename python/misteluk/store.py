@@ -214,11 +214,13 @@ class Store(Generic[W, T]):
 
     def stat(self) -> Stat:
         """The last version's number, names and edges, and the blocks."""
-        return self.engine.stat()
+        with self.ledger.terms.told_of("stat"):
+            return self.engine.stat()
 
     def collect(self) -> Collected:
         """Frees each replaced block that no open session's version has."""
-        return self.engine.collect()
+        with self.ledger.terms.told_of("collect"):
+            return self.engine.collect()
 
     def open(self, slot: Optional[int] = None) -> Session[W, T]:
         """A session that holds the last version, in the first free slot or in that one. One that nobody has any more, as where
@@ -249,7 +251,10 @@ class Store(Generic[W, T]):
             session.must_be_open()
             self.ledger.forget()
         self._rebasing = session
-        return (self.engine.rebase(session.held), put(self, "_rebasing", None))[0]
+        try:  # (nothing is done behind the line that tells it: an interrupt there would lose what it tells)
+            return (self.engine.rebase(session.held), put(self, "_rebasing", None))[0]
+        except Denied as fault:
+            raise self.ledger.terms.denied(fault, ("rebase", str(session.slot))) from None
 
     def renew(self) -> Renewed:
         """Begins anew with the last version's edges, as a store in this process does of itself before it is full of batches, or
@@ -278,8 +283,8 @@ class Store(Generic[W, T]):
     # The end.
 
     def close(self) -> None:
-        """Closes sessions and ends the engine. Raises `Uncommitted` where operations are pending, and `ProgramEnded` where
-        the program tells of a fault."""
+        """Closes sessions and ends the engine. Raises `Uncommitted` where operations are pending, also where the program fails (its
+        text says both), and else `ProgramEnded` where the program tells of a fault."""
         lost = self._end()
         if lost:
             text = f"{len(lost)} operations were pending and are not applied (the error has them): commit or discard first"
@@ -296,9 +301,12 @@ class Store(Generic[W, T]):
             pass  # (what was refused is pending still, and a program that ended tells so when it is closed)
         try:
             self.engine.close()
-        except StoreError:
-            self._is_closed = True
-            raise
+        except StoreError as fault:
+            self._is_closed, lost = True, self.ledger.told_pending
+            if not lost:
+                raise
+            text = f"{fault}; and {len(lost)} operations were pending and are not applied (the error has them)"
+            raise Uncommitted(text, lost) from fault
         return (self.ledger.told_pending, put(self, "_is_closed", True))[0]
 
     @property

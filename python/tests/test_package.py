@@ -50,8 +50,8 @@ class Wheels(Case):
             modes = {it.filename: it.external_attr >> 16 for it in packed.infolist()}
             self.assertEqual([name for name, mode in modes.items() if mode & 0o111], [wheels.PROGRAM])
             self.assertIn("Root-Is-Purelib: false\nTag: py3-none-linux_x86_64\n", packed.read(f"{about}/WHEEL").decode())
-            files = [it for it in (HERE.parent / "misteluk").rglob("*") if it.is_file() and it.suffix != ".pyc"]
-            own = {it.relative_to(HERE.parent).as_posix() for it in files}
+            own = {it.relative_to(HERE.parent).as_posix() for it in (HERE.parent / "misteluk").rglob("*")
+                   if it.suffix in (".py", ".typed", ".css", ".js")}
             self.assertEqual({it for it in record if it.startswith("misteluk/")}, own | {wheels.PROGRAM})
 
     def elf(self) -> str:
@@ -125,7 +125,7 @@ class Installs(Case):
 
     def ask(self, code: str) -> str:
         """What Python says far from the clone, with what was installed alone."""
-        env = {it: value for it, value in os.environ.items() if it != "MISTELUK_PROGRAM"}
+        env = {it: value for it, value in os.environ.items() if not it.startswith("MISTELUK_")}
         return run(sys.executable, "-B", "-c", code, cwd="/", env={**env, "PYTHONPATH": str(self.there)}).stdout
 
     def listing(self) -> list:

@@ -203,7 +203,7 @@ class Programs(Case):
             self.assertEqual(store.commit().inserted, 1)
             store.close()
             killed = Store()
-            killed._talk.process.kill()
+            killed.engine.talk.process.kill()
             self.assertRaises(misteluk.ProgramEnded, killed.stat)
             self.assertRaises(misteluk.ProgramEnded, killed.close)
 

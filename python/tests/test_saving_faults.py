@@ -16,6 +16,7 @@ from support import ENGINE, HERE, OF_PIPES, Case
 
 import misteluk
 from misteluk import Store, files, saving
+from misteluk.engine.program import ProgramEngine
 
 ENDINGS = ("", ".gz", ".xz", ".bz2")
 
@@ -116,7 +117,8 @@ class Faults(Case):
         count, left = self.left(2)
         self.assertGreater(count, 30)
         self.assertEqual(left, 0)
-        with mock.patch.object(Store, "__exit__", lambda *_: None), mock.patch.object(Store, "__del__", lambda _: None):
+        with mock.patch.object(Store, "__exit__", lambda *_: None), mock.patch.object(Store, "__del__", lambda _: None), \
+                mock.patch.object(ProgramEngine, "__del__", lambda _: None):
             self.assertGreater(self.left(20)[1], 0)
 
     def full(self):

@@ -54,6 +54,10 @@ class LibraryEngine:
         return Opening(desk, Notes(), version, Known.nothing())
 
     @property
+    def has_ended(self) -> bool:
+        return self.is_closed
+
+    @property
     def is_elsewhere(self) -> bool:
         return self.guard.is_elsewhere
 

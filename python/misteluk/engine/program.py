@@ -96,6 +96,10 @@ class ProgramEngine:
         return sum(it() is not None for it in list(self._held.values()))
 
     @property
+    def has_ended(self) -> bool:
+        return self.is_closed or self.talk.has_ended
+
+    @property
     def is_elsewhere(self) -> bool:
         return self.calls.are_elsewhere
 

@@ -166,6 +166,10 @@ class Engine(Protocol):
         """How many seats hold versions."""
 
     @property
+    def has_ended(self) -> bool:
+        """Whether nothing is answered any more."""
+
+    @property
     def is_elsewhere(self) -> bool:
         """Whether this process is a fork of the one that has it."""
 

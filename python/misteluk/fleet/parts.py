@@ -7,7 +7,7 @@ from inspect import signature
 from typing import Any, Callable, Dict, Iterable, Iterator, List, NamedTuple, Optional, Sequence, Tuple, Union
 
 from ..values import records
-from ..errors import NoKind, NoSeat, NoVertex, ProgramEnded, RecordLimit, StoreError
+from ..errors import NoKind, NoVertex, ProgramEnded, RecordLimit, StoreError
 from ..feeds.advice import advise
 from ..feeds.opening import ReadAs
 from ..feeds.feed import Feed, Path, Row
@@ -87,21 +87,9 @@ class Made:
     def _look(self, session: Session[Any, Any]) -> None:
         """Looks whether the question left the store as it was, with no version, operation or session of its own."""
         store = self.store
-        if session.is_open and not store.pending:
+        if session.is_open and not store.pending and store.engine.open_count == 1:
             session.close()
-            self.is_as_loaded = store.stat() == self._loaded and not self._has_sessions()
-
-    def _has_sessions(self) -> bool:
-        """Whether a question left a session of its own open: then not all seats are free."""
-        held = []
-        try:
-            held += [self.store.open() for _ in range(self.store.seats)]
-        except NoSeat:
-            return True
-        finally:
-            for it in held:
-                it.close()
-        return False
+            self.is_as_loaded = store.stat() == self._loaded
 
     def let_go(self) -> None:
         """Ends the program. That of a store which is as it was loaded tells of a fault at its end; another is killed."""

@@ -1,7 +1,8 @@
 """What a store's user says and is told, and what the program has for it: names by a table, weights and times by units."""
 from __future__ import annotations
 
-from typing import Any, Callable, Dict, List, Optional, Sequence, Tuple
+from contextlib import contextmanager
+from typing import Callable, Dict, Iterator, List, Optional, Sequence, Tuple
 
 from . import records
 from ..errors import Refused, refusal
@@ -70,6 +71,14 @@ class Terms:
         """The exception for a fault, with what helps where such a value stands there."""
         fault = fault._replace(field=_SAID.get(fault.field or "", fault.field))
         return refusal(fault.word, fault=fault, advice=advice_for(fault, self.units), **where)  # type: ignore[arg-type]
+
+    @contextmanager
+    def told_of(self, *asked: str) -> Iterator[None]:
+        """What an engine denies meanwhile is told as of this record."""
+        try:
+            yield
+        except Denied as fault:
+            raise self.denied(fault, asked) from None
 
     def denied(self, fault: Denied, asked: Sequence[str]) -> Refused:
         """The exception for what an engine denied, where this was asked in the user's terms."""
