@@ -10,3 +10,13 @@ returns-clause-steps c =
     subst (λ (copy : PinCopy). TakesAt copy c.args.self.now.desk (recycling copy c.args.self.now.desk.pool) c.collect.new.self) is
     (subst (λ (o : OwnedView). TakesAt c.raise-copy.result o.desk (recycling c.raise-copy.result o.desk.pool) c.collect.new.self)
     c.self.view_is c.collect.ensures.steps)
+
+-- Their searches are long where they fail.
+pub returns-clause-collected : goal.returns-clause-collected
+returns-clause-collected c = search rules
+
+pub returns-clause-births : goal.returns-clause-births
+returns-clause-births c = search rules
+
+pub returns-clause-recycled : goal.returns-clause-recycled
+returns-clause-recycled c = search rules
