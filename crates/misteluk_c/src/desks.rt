@@ -1,0 +1,311 @@
+//! Desks.
+
+ghost use Rattle.std.specs.Prelude.{◌≡◌, ℕ, Some, None};
+ghost use Rattle.misteluk_c.specs.Held.{batch_in, version_in, Asks};
+ghost use Rattle.misteluk_c.specs.Desks as desks;
+ghost use Rattle.misteluk_c.specs.Desks.{desk_in, Opens, TellsApply, TellsApplied, TellsCollect, TellsHold, TellsRelease, TellsRebase, stat_of};
+
+use crate::codes::{
+    BAD_BLOCKS, BATCHES_FULL, BLOCKS_FULL, HELD_ALREADY, KINDS_FULL, MEMORY, NAMES_FULL, NO_HANDLE,
+    NO_SEAT, OK,
+};
+use desk::{ApplyError, Desk, Hold, HoldError, OwnedDesk};
+use desk_counts::Counts;
+use graph_types::Batch;
+use std::alloc::Global;
+use std::mem::replace;
+use std::sync::Arc;
+use store_handles::{Handle, Held};
+
+/// How many blocks a desk has.
+const LEAST_BLOCKS: u32 = 16;
+
+const MOST_BLOCKS: u32 = 65_536;
+
+/// The last version, and the blocks.
+#[derive(Clone, Copy)]
+#[repr(C)]
+pub struct DeskStat {
+    pub version: u64,
+    pub vertices: u64,
+    pub kinds: u64,
+    pub edges: u64,
+    pub blocks_free: u64,
+    pub blocks_retired: u64,
+    pub blocks_used: u64,
+}
+
+/// Which version is held, for its release.
+#[derive(Clone, Copy)]
+#[repr(C)]
+pub struct HoldNumbers {
+    pub opening: u64,
+    pub number: u64,
+}
+
+/// Opens a desk without edges.
+#[unsafe(no_mangle)]
+pub extern "C" fn misteluk_desk_new(alloc: Global, blocks: u32, out: &mut Handle) -> u32
+    ensures { Opens blocks out.old.held out.new.held result }
+{
+    if blocks < LEAST_BLOCKS || blocks > MOST_BLOCKS {
+        return BAD_BLOCKS;
+    }
+    if !out.is_empty() {
+        return HELD_ALREADY;
+    }
+    let Ok(desk) = Desk::open(alloc, blocks) else {
+        return MEMORY;
+    };
+    let Ok(boxed) = Box::new(alloc, Held::Desk(OwnedDesk::over(desk))) else {
+        return MEMORY;
+    };
+    out.put(boxed);
+    OK
+}
+
+/// Ends what a handle holds, if it holds anything.
+#[unsafe(no_mangle)]
+pub extern "C" fn misteluk_desk_free(alloc: Global, desk: Handle) {
+    let mut desk = desk;
+    drop(desk.take(alloc));
+}
+
+/// Applies a batch and empties it.
+#[unsafe(no_mangle)]
+pub extern "C" fn misteluk_desk_apply(
+    alloc: Global,
+    desk: &mut Handle,
+    batch: &mut Handle,
+    counts: &mut Counts,
+) -> u32
+    ensures told { Asks (desk_in desk.old.held) result (λ o. Asks (batch_in batch.old.held) result
+        (λ ops. TellsApply o ops desk.new.held batch.new.held result counts.new)) }
+    ensures same { result ≡ 2 → (desk.new.held ≡ desk.old.held) × (batch.new.held ≡ batch.old.held) }
+{
+    let Some(mut held) = desk.take(alloc) else {
+        return NO_HANDLE;
+    };
+    let code = match &mut *held {
+        Held::Desk(desk) => apply_held(alloc, desk, batch, counts),
+        _ => NO_HANDLE,
+    };
+    desk.put(held);
+    code
+}
+
+/// Applies what a handle holds, if that is a batch.
+fn apply_held(alloc: Global, desk: &mut OwnedDesk, batch: &mut Handle, counts: &mut Counts) -> u32
+    ensures told { Asks (batch_in batch.old.held) result
+        (λ ops. TellsApplied desk.old ops desk.new batch.new.held result counts.new) }
+    ensures same { result ≡ 2 → (desk.new ≡ desk.old) × (batch.new.held ≡ batch.old.held) }
+{
+    let Some(mut held) = batch.take(alloc) else {
+        return NO_HANDLE;
+    };
+    let code = apply_in(alloc, desk, &mut held, counts);
+    batch.put(held);
+    code
+}
+
+/// Applies a batch, and leaves an empty one.
+fn apply_in(alloc: Global, desk: &mut OwnedDesk, held: &mut Held, counts: &mut Counts) -> u32
+    ensures told { Asks (batch_in (Some held.old)) result
+        (λ ops. TellsApplied desk.old ops desk.new (Some held.new) result counts.new) }
+    ensures same { result ≡ 2 → (desk.new ≡ desk.old) × (held.new ≡ held.old) }
+{
+    let taken = replace(held, Held::Batch(Batch::new(alloc)));
+    let shared = match taken {
+        Held::Batch(batch) => match Arc::new(alloc, batch) {
+            Ok(shared) => shared,
+            Err(back) => {
+                *held = Held::Batch(back.value);
+                return MEMORY;
+            }
+        },
+        Held::Shared(shared) => shared,
+        other => {
+            *held = other;
+            return NO_HANDLE;
+        }
+    };
+    let Ok(again) = Arc::try_clone(&shared) else {
+        *held = Held::Shared(shared);
+        return MEMORY;
+    };
+    match desk.apply(again) {
+        Ok(accepted) => {
+            *counts = Counts::none(0).with_all(accepted.number, accepted.outcomes.as_slice());
+            OK
+        }
+        Err(error) => {
+            *held = Held::Shared(shared);
+            apply_code(error)
+        }
+    }
+}
+
+/// Frees each retired block that no held version needs.
+#[unsafe(no_mangle)]
+pub extern "C" fn misteluk_desk_collect(alloc: Global, desk: &mut Handle, freed: &mut u64) -> u32
+    ensures told { Asks (desk_in desk.old.held) result (λ o. TellsCollect o desk.new.held result freed.new) }
+    ensures same { result ≡ 2 → desk.new.held ≡ desk.old.held }
+{
+    let Some(mut held) = desk.take(alloc) else {
+        return NO_HANDLE;
+    };
+    let code = match &mut *held {
+        Held::Desk(desk) => {
+            *freed = desk.collect().recycled as u64;
+            OK
+        }
+        _ => NO_HANDLE,
+    };
+    desk.put(held);
+    code
+}
+
+/// Tells the counts.
+#[unsafe(no_mangle)]
+pub extern "C" fn misteluk_desk_stat(alloc: Global, desk: &mut Handle, out: &mut DeskStat) -> u32
+    ensures told { Asks (desk_in desk.old.held) result (λ o. (result ≡ 0) × (out.new ≡ stat_of o.desk)) }
+    ensures same { desk.new.held ≡ desk.old.held }
+{
+    let Some(held) = desk.take(alloc) else {
+        return NO_HANDLE;
+    };
+    let code = match &*held {
+        Held::Desk(desk) => {
+            *out = counts_of(desk.desk());
+            OK
+        }
+        _ => NO_HANDLE,
+    };
+    desk.put(held);
+    code
+}
+
+fn counts_of(desk: &Desk) -> DeskStat
+    ensures { result ≡ stat_of desk.now }
+{
+    let stat = desk.stat();
+    DeskStat {
+        version: stat.number,
+        vertices: stat.names as u64,
+        kinds: desk.last().kinds().len() as u64,
+        edges: stat.edges,
+        blocks_free: stat.free as u64,
+        blocks_retired: stat.retired as u64,
+        blocks_used: stat.used as u64,
+    }
+}
+
+/// Holds the last version.
+#[unsafe(no_mangle)]
+pub extern "C" fn misteluk_desk_hold(
+    alloc: Global,
+    desk: &mut Handle,
+    version: &mut Handle,
+    hold: &mut HoldNumbers,
+) -> u32
+    ensures told { Asks (desk_in desk.old.held) result
+        (λ o. TellsHold o desk.new.held version.old.held version.new.held result hold.new) }
+    ensures same { result ≡ 2 → (desk.new.held ≡ desk.old.held) × (version.new.held ≡ version.old.held) }
+{
+    let Some(mut held) = desk.take(alloc) else {
+        return NO_HANDLE;
+    };
+    let code = match &mut *held {
+        Held::Desk(desk) => hold_in(alloc, desk, version, hold),
+        _ => NO_HANDLE,
+    };
+    desk.put(held);
+    code
+}
+
+/// Holds a desk's last version in a handle that holds nothing.
+fn hold_in(
+    alloc: Global,
+    desk: &mut OwnedDesk,
+    version: &mut Handle,
+    hold: &mut HoldNumbers,
+) -> u32 {
+    if !version.is_empty() {
+        return HELD_ALREADY;
+    }
+    let Ok(shared) = Arc::try_clone(desk.desk().last()) else {
+        return MEMORY;
+    };
+    let Ok(boxed) = Box::new(alloc, Held::Version(shared)) else {
+        return MEMORY;
+    };
+    match desk.hold() {
+        Ok(held) => {
+            *hold = HoldNumbers {
+                opening: held.hold.opening,
+                number: held.hold.number,
+            };
+            version.put(boxed);
+            OK
+        }
+        Err(HoldError::NoSeat) => NO_SEAT,
+        Err(HoldError::OutOfMemory) => MEMORY,
+    }
+}
+
+/// Takes one hold back.
+#[unsafe(no_mangle)]
+pub extern "C" fn misteluk_desk_release(alloc: Global, desk: &mut Handle, hold: HoldNumbers) -> u32
+    ensures told { Asks (desk_in desk.old.held) result (λ o. TellsRelease o hold desk.new.held result) }
+    ensures same { result ≡ 2 → desk.new.held ≡ desk.old.held }
+{
+    let Some(mut held) = desk.take(alloc) else {
+        return NO_HANDLE;
+    };
+    let hold = Hold {
+        opening: hold.opening,
+        number: hold.number,
+    };
+    let code = match &mut *held {
+        Held::Desk(desk) => match desk.release(hold) {
+            Ok(()) => OK,
+            Err(_) => NO_SEAT,
+        },
+        _ => NO_HANDLE,
+    };
+    desk.put(held);
+    code
+}
+
+/// Opens the desk anew over what the last version holds.
+#[unsafe(no_mangle)]
+pub extern "C" fn misteluk_desk_rebase(alloc: Global, desk: &mut Handle) -> u32
+    ensures told { Asks (desk_in desk.old.held) result (λ o. TellsRebase o desk.new.held result) }
+    ensures same { result ≡ 2 → desk.new.held ≡ desk.old.held }
+{
+    let Some(mut held) = desk.take(alloc) else {
+        return NO_HANDLE;
+    };
+    let code = match &mut *held {
+        Held::Desk(desk) => match desk.rebase() {
+            Ok(()) => OK,
+            Err(_) => MEMORY,
+        },
+        _ => NO_HANDLE,
+    };
+    desk.put(held);
+    code
+}
+
+/// What a batch that is refused is told by.
+pub(crate) fn apply_code(error: ApplyError) -> u32
+    ensures { result ≡ desks.apply_code error }
+{
+    match error {
+        ApplyError::BatchLimit => BATCHES_FULL,
+        ApplyError::NamesFull => NAMES_FULL,
+        ApplyError::KindsFull => KINDS_FULL,
+        ApplyError::PoolEmpty { .. } => BLOCKS_FULL,
+        ApplyError::OutOfMemory => MEMORY,
+    }
+}
