@@ -1,12 +1,16 @@
 -- Batches that a desk takes one after another, and collects for where too few blocks are free.
-use Rattle.std.specs.Prelude.{◌≡◌, ◌⊎◌, ◌+◌, ◌-◌, ◌<◌, ◌≤◌, ℕ, List, [], ◌∷◌, length, min, take, drop, Option, Some, None, Result, Ok, Err}
+use Rattle.std.specs.Prelude.{◌≡◌, ◌⊎◌, ◌+◌, ℕ, List, length, Option, Some, None}
 use Rattle.graph_types.specs.Step.{outcomes}
 use Rattle.graph_types.specs.declared.batches.NamedOp.{NamedOp}
 use Rattle.graph_version.specs.Versions.{content}
 use Rattle.store_steps.specs.Desks.{Accepts, IsCollected}
 use Rattle.desk.specs.Owned.{OwnedView, copied}
-use Rattle.desk_columns.specs.declared.counts.Counts.{Counts}
-use Rattle.desk_columns.specs.Counted.{with_outcomes}
+use Rattle.batch_columns.specs.Dictionaries.{Insertions, insertion_at, insertions_from}
+use Rattle.batch_columns.specs.declared.columns.InsertError.{InsertError, TheVariants.{BadNumber, Refused}}
+use Rattle.graph_types.specs.{Valid.push_refusal, declared.batches.PushError.TheVariants.OutOfMemory}
+use Rattle.desk_columns.specs.declared.columns.Insertions.{Insertions as Lent}
+use Rattle.desk_counts.specs.declared.counts.Counts.{Counts}
+use Rattle.desk_counts.specs.Counted.{with_outcomes}
 
 -- a collection
 pub record Collects (old new : OwnedView) : Type 0 where
@@ -25,8 +29,36 @@ pub record Takes (old : OwnedView) (counts : Counts) (ops : List NamedOp) (new :
   pub held : new ≡ record from { desk = new.desk }
   pub counted_is : counted ≡ with_outcomes counts (length new.desk.last.batches) (outcomes ops (content from.desk.last))
 
--- batches one after another
-abbrev pub TakesAll : OwnedView → Counts → List (List NamedOp) → OwnedView → Counts → Type 0
-TakesAll old counts [] new counted = (new ≡ old) × (counted ≡ counts)
-TakesAll old counts (ops ∷ batches) new counted =
-    (mid : OwnedView) × (so_far : Counts) × Takes old counts ops mid so_far × TakesAll mid so_far batches new counted
+-- the insertions before a place are in, batch after batch from the first on, and counted
+pub data AreIn (first : OwnedView) (start : Counts) (c : Insertions) : ℕ → OwnedView → Counts → Type 0 where
+  Begin : AreIn first start c 0 first start
+  More : (at n : ℕ) (old new : OwnedView) (counts counted : Counts) (ops : List NamedOp) → AreIn first start c at old counts
+      → insertions_from c at n ≡ Some ops → Takes old counts ops new counted → AreIn first start c (at + n) new counted
+
+-- what columns that are lent have
+abbrev pub columns_of : Lent → Insertions
+columns_of lent =
+    record {
+      kind = lent.kind.now;
+      text = lent.text.now;
+      ends = lent.ends.now;
+      sources = lent.sources.now;
+      targets = lent.targets.now;
+      weights = lent.weights.now;
+      times = lent.times.now;
+    }
+
+abbrev pub AreLong : ℕ → Lent → Type 0
+AreLong n lent = (length lent.sources.now ≡ n) × (length lent.targets.now ≡ n) × (length lent.weights.now ≡ n) × (length lent.times.now ≡ n)
+
+-- why an insertion is not in a batch of so many: its numbers, or the first refusal that holds; want of memory may come at any place
+abbrev pub RefusesInsertion : Option NamedOp → ℕ → InsertError → Type 0
+RefusesInsertion None len error = error ≡ BadNumber
+RefusesInsertion (Some op) len BadNumber = ⊥
+RefusesInsertion (Some op) len (Refused error) = (error ≡ OutOfMemory) ⊎ (push_refusal op len ≡ Some error)
+
+-- of the insertions from a place on, the first that is refused
+pub record FirstRefused (c : Insertions) (at : ℕ) (error : InsertError) : Type 0 where
+  pub before : List NamedOp
+  pub fit : insertions_from c at (length before) ≡ Some before
+  pub refused : RefusesInsertion (insertion_at c (at + length before)) (length before) error

@@ -2,7 +2,5 @@
 #![tactic(auto)]
 
 mod columns;
-mod counts;
 
 pub use columns::{InsertColumnsError, Insertions, insert_columns};
-pub use counts::Counts;

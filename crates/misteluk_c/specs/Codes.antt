@@ -1,8 +1,11 @@
 -- The codes that C sees.
 use Rattle.std.specs.Prelude.{ℕ, Result, Ok, Err}
-use Rattle.graph_types.specs.declared.batches.PushError.{PushError, TheVariants as push}
-use Rattle.version_columns.specs.declared.views.ColumnError.{ColumnError, TheVariants as column}
-use Rattle.version_columns.specs.declared.names.TextError.{TextError, TheVariants as text}
+use Rattle.graph_types.specs.declared.batches.PushError.{PushError}
+use Rattle.graph_types.specs.declared.batches.PushError.TheVariants as push
+use Rattle.version_columns.specs.declared.views.ColumnError.{ColumnError}
+use Rattle.version_columns.specs.declared.views.ColumnError.TheVariants as column
+use Rattle.version_columns.specs.declared.names.TextError.{TextError}
+use Rattle.version_columns.specs.declared.names.TextError.TheVariants as text
 
 -- what a call about columns is told by
 abbrev pub column_code : ColumnError → ℕ

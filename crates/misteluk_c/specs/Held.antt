@@ -2,24 +2,32 @@
 use Rattle.std.specs.Prelude.{◌≡◌, ◌⊎◌, ℕ, List, Option, Some, None, Result, MatchBool, MatchResult}
 use Rattle.std.specs.Arc.{arc_value}
 use Rattle.graph_types.specs.{Answer.is_listed, Step.number_of, declared.batches.NamedOp.NamedOp, declared.batches.PushError.PushError}
+use Rattle.graph_types.specs.declared.batches.Batch.{Batch}
 use Rattle.graph_version.specs.declared.versions.Version.{Version}
 use Rattle.graph_version.specs.Versions.{VersionView}
 use Rattle.version_columns.specs.declared.{views.ColumnError.ColumnError, names.TextError.TextError, lookups.Marks.Marks}
 use Rattle.version_columns.specs.Texts.{WritesNames}
 use Rattle.batch_columns.specs.Dictionaries.{IsPushed}
-use Rattle.store_handles.specs.declared.held.Held.{Held, TheVariants as held}
+use Rattle.store_handles.specs.declared.held.Held.{Held}
+use Rattle.store_handles.specs.declared.held.Held.TheVariants as held
 use Rattle.misteluk_c.specs.Codes.{column_code, columns_code, push_code, names_code}
 
 -- the version, and the batch, that a handle holds
 abbrev pub version_in : Option Held → Option VersionView
 version_in None = None
 version_in (Some (held.Version version)) = Some (arc_value {X = Version} version)
-version_in (Some (held.Batch batch)) = None
+version_in (Some _) = None
 
 abbrev pub batch_in : Option Held → Option (List NamedOp)
 batch_in None = None
-batch_in (Some (held.Version version)) = None
 batch_in (Some (held.Batch batch)) = Some batch
+batch_in (Some (held.Shared batch)) = Some (arc_value {X = Batch} batch)
+batch_in (Some _) = None
+
+-- what is no batch that is shared
+abbrev pub IsAlone : Held → Type 0
+IsAlone (held.Shared batch) = ⊥
+IsAlone _ = Unit {0}
 
 -- a call about what a handle holds tells so of it; where the handle holds no such thing, the code says that
 abbrev pub Asks : {X : Type 0} → Option X → ℕ → (X → Type 0) → Type 0

@@ -1,14 +1,13 @@
 //! Batches.
 
-ghost use Rattle.std.specs.Prelude.{◌≡◌, [], Some, length};
+ghost use Rattle.std.specs.Prelude.{◌≡◌, [], Some, IsSome, length, OnOk, OnErr};
 ghost use Rattle.graph_types.specs.declared.batches.NamedOp.TheVariants.{Insert, Incr, Remove, Expire};
-ghost use Rattle.misteluk_c.specs.Held.{batch_in, Asks, Makes, TellsPush};
+ghost use Rattle.misteluk_c.specs.Held.{batch_in, Asks, IsAlone, Makes, TellsPush};
 
 use crate::codes::{HELD_ALREADY, MEMORY, NO_HANDLE, OK, push_code};
 use batch_columns::{push_add, push_expire, push_insert, push_remove};
 use graph_types::Batch;
-use std::alloc::Global;
-use std::sync::Arc;
+use std::alloc::{AllocError, Global};
 use store_handles::{Handle, Held};
 
 /// Makes an empty batch.
@@ -19,10 +18,7 @@ pub extern "C" fn misteluk_batch_new(alloc: Global, out: &mut Handle) -> u32
     if !out.is_empty() {
         return HELD_ALREADY;
     }
-    let Ok(batch) = Arc::new(alloc, Batch::new(alloc)) else {
-        return MEMORY;
-    };
-    let Ok(boxed) = Box::new(alloc, Held::Batch(batch)) else {
+    let Ok(boxed) = Box::new(alloc, Held::Batch(Batch::new(alloc))) else {
         return MEMORY;
     };
     out.put(boxed);
@@ -53,11 +49,25 @@ pub extern "C" fn misteluk_batch_length(alloc: Global, batch: &mut Handle, out: 
 fn length_of(held: &Held, out: &mut u64) -> u32
     ensures { Asks (batch_in (Some held.now)) result (λ ops. (result ≡ 0) × (out.new ≡ length ops)) }
 {
-    let Held::Batch(batch) = held else {
-        return NO_HANDLE;
-    };
-    *out = batch.len() as u64;
+    match held {
+        Held::Batch(batch) => *out = batch.len() as u64,
+        Held::Shared(batch) => *out = batch.len() as u64,
+        _ => return NO_HANDLE,
+    }
     OK
+}
+
+/// Has a batch for oneself, where it is shared.
+fn unshare(held: &mut Held) -> Result<(), AllocError>
+    ensures same { batch_in (Some held.new) ≡ batch_in (Some held.old) }
+    ensures alone { OnOk result (IsAlone held.new) }
+    ensures batch { OnErr result (IsSome (batch_in (Some held.old))) }
+{
+    if let Held::Shared(shared) = held {
+        let copy = Batch::clone(shared)?;
+        *held = Held::Batch(copy);
+    }
+    Ok(())
 }
 
 /// Appends an insertion.
@@ -77,13 +87,7 @@ pub extern "C" fn misteluk_batch_insert(
     let Some(mut held) = batch.take(alloc) else {
         return NO_HANDLE;
     };
-    let code = match &mut *held {
-        Held::Batch(batch) => match Arc::make_mut(batch) {
-            Ok(batch) => push_code(push_insert(alloc, batch, kind, source, target, weight, time)),
-            Err(_) => MEMORY,
-        },
-        _ => NO_HANDLE,
-    };
+    let code = insert_in(alloc, &mut held, kind, source, target, weight, time);
     batch.put(held);
     code
 }
@@ -105,13 +109,7 @@ pub extern "C" fn misteluk_batch_add(
     let Some(mut held) = batch.take(alloc) else {
         return NO_HANDLE;
     };
-    let code = match &mut *held {
-        Held::Batch(batch) => match Arc::make_mut(batch) {
-            Ok(batch) => push_code(push_add(alloc, batch, kind, source, target, amount, time)),
-            Err(_) => MEMORY,
-        },
-        _ => NO_HANDLE,
-    };
+    let code = add_in(alloc, &mut held, kind, source, target, amount, time);
     batch.put(held);
     code
 }
@@ -131,13 +129,7 @@ pub extern "C" fn misteluk_batch_remove(
     let Some(mut held) = batch.take(alloc) else {
         return NO_HANDLE;
     };
-    let code = match &mut *held {
-        Held::Batch(batch) => match Arc::make_mut(batch) {
-            Ok(batch) => push_code(push_remove(alloc, batch, kind, source, target)),
-            Err(_) => MEMORY,
-        },
-        _ => NO_HANDLE,
-    };
+    let code = remove_in(alloc, &mut held, kind, source, target);
     batch.put(held);
     code
 }
@@ -150,13 +142,75 @@ pub extern "C" fn misteluk_batch_expire(alloc: Global, batch: &mut Handle, time:
     let Some(mut held) = batch.take(alloc) else {
         return NO_HANDLE;
     };
-    let code = match &mut *held {
-        Held::Batch(batch) => match Arc::make_mut(batch) {
-            Ok(batch) => push_code(push_expire(batch, time)),
-            Err(_) => MEMORY,
-        },
-        _ => NO_HANDLE,
-    };
+    let code = expire_in(&mut held, time);
     batch.put(held);
     code
+}
+
+#[tactic(auto, using(crate::proofs::Pushes::not_unshared))]
+fn insert_in(
+    alloc: Global,
+    held: &mut Held,
+    kind: &[u8],
+    source: &[u8],
+    target: &[u8],
+    weight: i64,
+    time: u64,
+) -> u32
+    ensures { Asks (batch_in (Some held.old)) result (λ ops. TellsPush (Insert kind.now source.now target.now weight time) ops (Some held.new) result) }
+{
+    let Ok(()) = unshare(held) else {
+        return MEMORY;
+    };
+    let Held::Batch(batch) = held else {
+        return NO_HANDLE;
+    };
+    push_code(push_insert(alloc, batch, kind, source, target, weight, time))
+}
+
+#[tactic(auto, using(crate::proofs::Pushes::not_unshared))]
+fn add_in(
+    alloc: Global,
+    held: &mut Held,
+    kind: &[u8],
+    source: &[u8],
+    target: &[u8],
+    amount: i64,
+    time: u64,
+) -> u32
+    ensures { Asks (batch_in (Some held.old)) result (λ ops. TellsPush (Incr kind.now source.now target.now amount time) ops (Some held.new) result) }
+{
+    let Ok(()) = unshare(held) else {
+        return MEMORY;
+    };
+    let Held::Batch(batch) = held else {
+        return NO_HANDLE;
+    };
+    push_code(push_add(alloc, batch, kind, source, target, amount, time))
+}
+
+#[tactic(auto, using(crate::proofs::Pushes::not_unshared))]
+fn remove_in(alloc: Global, held: &mut Held, kind: &[u8], source: &[u8], target: &[u8]) -> u32
+    ensures { Asks (batch_in (Some held.old)) result (λ ops. TellsPush (Remove kind.now source.now target.now) ops (Some held.new) result) }
+{
+    let Ok(()) = unshare(held) else {
+        return MEMORY;
+    };
+    let Held::Batch(batch) = held else {
+        return NO_HANDLE;
+    };
+    push_code(push_remove(alloc, batch, kind, source, target))
+}
+
+#[tactic(auto, using(crate::proofs::Pushes::not_unshared))]
+fn expire_in(held: &mut Held, time: u64) -> u32
+    ensures { Asks (batch_in (Some held.old)) result (λ ops. TellsPush (Expire time) ops (Some held.new) result) }
+{
+    let Ok(()) = unshare(held) else {
+        return MEMORY;
+    };
+    let Held::Batch(batch) = held else {
+        return NO_HANDLE;
+    };
+    push_code(push_expire(batch, time))
 }

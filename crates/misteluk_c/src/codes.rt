@@ -3,30 +3,45 @@
 ghost use Rattle.std.specs.Prelude.{◌≡◌};
 ghost use Rattle.misteluk_c.specs.Codes as codes;
 
-use batch_columns::InsertError;
-use desk::ApplyError;
-use desk_columns::InsertColumnsError;
 use graph_types::PushError;
 use version_columns::{ColumnError, TextError};
 
 pub(crate) const OK: u32 = 0;
+
 pub(crate) const MEMORY: u32 = 1;
+
 pub(crate) const NO_HANDLE: u32 = 2;
+
 pub(crate) const HELD_ALREADY: u32 = 3;
+
 pub(crate) const BAD_LENGTH: u32 = 4;
+
 pub(crate) const BAD_NAME: u32 = 5;
+
 pub(crate) const BAD_WEIGHT: u32 = 6;
+
 pub(crate) const BAD_TIME: u32 = 7;
+
 pub(crate) const BAD_NUMBER: u32 = 8;
+
 pub(crate) const BAD_BLOCKS: u32 = 9;
+
 pub(crate) const BATCH_FULL: u32 = 10;
+
 pub(crate) const BATCHES_FULL: u32 = 11;
+
 pub(crate) const NAMES_FULL: u32 = 12;
+
 pub(crate) const KINDS_FULL: u32 = 13;
+
 pub(crate) const BLOCKS_FULL: u32 = 14;
+
 pub(crate) const NO_SEAT: u32 = 15;
+
 pub(crate) const NO_VERTEX: u32 = 16;
+
 pub(crate) const NO_KIND: u32 = 17;
+
 pub(crate) const NO_EDGE: u32 = 18;
 
 /// What a call about columns is told by.
@@ -74,28 +89,5 @@ pub(crate) fn names_code(missing: u32, answer: Result<(), TextError>) -> u32
         Ok(()) => OK,
         Err(TextError::Fewer) => missing,
         Err(TextError::NoRoom) => BAD_LENGTH,
-    }
-}
-
-/// What a batch that is refused is told by.
-pub(crate) fn apply_code(error: ApplyError) -> u32 {
-    match error {
-        ApplyError::BatchLimit => BATCHES_FULL,
-        ApplyError::NamesFull => NAMES_FULL,
-        ApplyError::KindsFull => KINDS_FULL,
-        ApplyError::PoolEmpty { .. } => BLOCKS_FULL,
-        ApplyError::OutOfMemory => MEMORY,
-    }
-}
-
-/// What insertions in columns are told by.
-pub(crate) fn insert_code(answer: Result<(), InsertColumnsError>) -> u32 {
-    match answer {
-        Ok(()) => OK,
-        Err(InsertColumnsError::BadLength) => BAD_LENGTH,
-        Err(InsertColumnsError::BadInsertion(InsertError::BadNumber)) => BAD_NUMBER,
-        Err(InsertColumnsError::BadInsertion(InsertError::Refused(error))) => push_code(Err(error)),
-        Err(InsertColumnsError::Refused(error)) => apply_code(error),
-        Err(InsertColumnsError::OutOfMemory) => MEMORY,
     }
 }

@@ -1,8 +1,16 @@
 //! Desks.
 
-use crate::codes::{BAD_BLOCKS, HELD_ALREADY, MEMORY, NO_HANDLE, NO_SEAT, OK, apply_code, insert_code};
-use desk::{Desk, Hold, HoldError, OwnedDesk};
-use desk_columns::{Counts, Insertions, insert_columns};
+ghost use Rattle.std.specs.Prelude.{◌≡◌, ℕ, Some, None};
+ghost use Rattle.misteluk_c.specs.Held.{batch_in, version_in, Asks};
+ghost use Rattle.misteluk_c.specs.Desks as desks;
+ghost use Rattle.misteluk_c.specs.Desks.{desk_in, Opens, TellsApply, TellsApplied, TellsCollect, TellsHold, TellsRelease, TellsRebase, stat_of};
+
+use crate::codes::{
+    BAD_BLOCKS, BATCHES_FULL, BLOCKS_FULL, HELD_ALREADY, KINDS_FULL, MEMORY, NAMES_FULL, NO_HANDLE,
+    NO_SEAT, OK,
+};
+use desk::{ApplyError, Desk, Hold, HoldError, OwnedDesk};
+use desk_counts::Counts;
 use graph_types::Batch;
 use std::alloc::Global;
 use std::mem::replace;
@@ -11,6 +19,7 @@ use store_handles::{Handle, Held};
 
 /// How many blocks a desk has.
 const LEAST_BLOCKS: u32 = 16;
+
 const MOST_BLOCKS: u32 = 65_536;
 
 /// The last version, and the blocks.
@@ -36,7 +45,9 @@ pub struct HoldNumbers {
 
 /// Opens a desk without edges.
 #[unsafe(no_mangle)]
-pub extern "C" fn misteluk_desk_new(alloc: Global, blocks: u32, out: &mut Handle) -> u32 {
+pub extern "C" fn misteluk_desk_new(alloc: Global, blocks: u32, out: &mut Handle) -> u32
+    ensures { Opens blocks out.old.held out.new.held result }
+{
     if blocks < LEAST_BLOCKS || blocks > MOST_BLOCKS {
         return BAD_BLOCKS;
     }
@@ -67,7 +78,11 @@ pub extern "C" fn misteluk_desk_apply(
     desk: &mut Handle,
     batch: &mut Handle,
     counts: &mut Counts,
-) -> u32 {
+) -> u32
+    ensures told { Asks (desk_in desk.old.held) result (λ o. Asks (batch_in batch.old.held) result
+        (λ ops. TellsApply o ops desk.new.held batch.new.held result counts.new)) }
+    ensures same { result ≡ 2 → (desk.new.held ≡ desk.old.held) × (batch.new.held ≡ batch.old.held) }
+{
     let Some(mut held) = desk.take(alloc) else {
         return NO_HANDLE;
     };
@@ -80,84 +95,62 @@ pub extern "C" fn misteluk_desk_apply(
 }
 
 /// Applies what a handle holds, if that is a batch.
-fn apply_held(
-    alloc: Global,
-    desk: &mut OwnedDesk,
-    batch: &mut Handle,
-    counts: &mut Counts,
-) -> u32 {
+fn apply_held(alloc: Global, desk: &mut OwnedDesk, batch: &mut Handle, counts: &mut Counts) -> u32
+    ensures told { Asks (batch_in batch.old.held) result
+        (λ ops. TellsApplied desk.old ops desk.new batch.new.held result counts.new) }
+    ensures same { result ≡ 2 → (desk.new ≡ desk.old) × (batch.new.held ≡ batch.old.held) }
+{
     let Some(mut held) = batch.take(alloc) else {
         return NO_HANDLE;
     };
-    let code = match &mut *held {
-        Held::Batch(batch) => apply_batch(alloc, desk, batch, counts),
-        _ => NO_HANDLE,
-    };
+    let code = apply_in(alloc, desk, &mut held, counts);
     batch.put(held);
     code
 }
 
-/// Applies a batch, and puts an empty one in its place.
-fn apply_batch(
-    alloc: Global,
-    desk: &mut OwnedDesk,
-    batch: &mut Arc<Batch>,
-    counts: &mut Counts,
-) -> u32 {
-    let Ok(empty) = Arc::new(alloc, Batch::new(alloc)) else {
+/// Applies a batch, and leaves an empty one.
+fn apply_in(alloc: Global, desk: &mut OwnedDesk, held: &mut Held, counts: &mut Counts) -> u32
+    ensures told { Asks (batch_in (Some held.old)) result
+        (λ ops. TellsApplied desk.old ops desk.new (Some held.new) result counts.new) }
+    ensures same { result ≡ 2 → (desk.new ≡ desk.old) × (held.new ≡ held.old) }
+{
+    let taken = replace(held, Held::Batch(Batch::new(alloc)));
+    let shared = match taken {
+        Held::Batch(batch) => match Arc::new(alloc, batch) {
+            Ok(shared) => shared,
+            Err(back) => {
+                *held = Held::Batch(back.value);
+                return MEMORY;
+            }
+        },
+        Held::Shared(shared) => shared,
+        other => {
+            *held = other;
+            return NO_HANDLE;
+        }
+    };
+    let Ok(again) = Arc::try_clone(&shared) else {
+        *held = Held::Shared(shared);
         return MEMORY;
     };
-    let Ok(shared) = Arc::try_clone(batch) else {
-        return MEMORY;
-    };
-    match desk.apply(shared) {
+    match desk.apply(again) {
         Ok(accepted) => {
             *counts = Counts::none(0).with_all(accepted.number, accepted.outcomes.as_slice());
-            *batch = empty;
             OK
         }
-        Err(error) => apply_code(error),
+        Err(error) => {
+            *held = Held::Shared(shared);
+            apply_code(error)
+        }
     }
-}
-
-/// Applies insertions of one kind in batches.
-#[unsafe(no_mangle)]
-pub extern "C" fn misteluk_desk_insert_columns(
-    alloc: Global,
-    desk: &mut Handle,
-    kind: &[u8],
-    text: &[u8],
-    ends: &[u64],
-    sources: &[u32],
-    targets: &[u32],
-    weights: &[i64],
-    times: &[u64],
-    counts: &mut Counts,
-    done: &mut u64,
-) -> u32 {
-    let insertions = Insertions {
-        kind,
-        text,
-        ends,
-        sources,
-        targets,
-        weights,
-        times,
-    };
-    let Some(mut held) = desk.take(alloc) else {
-        return NO_HANDLE;
-    };
-    let code = match &mut *held {
-        Held::Desk(desk) => insert_code(insert_columns(alloc, desk, &insertions, counts, done)),
-        _ => NO_HANDLE,
-    };
-    desk.put(held);
-    code
 }
 
 /// Frees each retired block that no held version needs.
 #[unsafe(no_mangle)]
-pub extern "C" fn misteluk_desk_collect(alloc: Global, desk: &mut Handle, freed: &mut u64) -> u32 {
+pub extern "C" fn misteluk_desk_collect(alloc: Global, desk: &mut Handle, freed: &mut u64) -> u32
+    ensures told { Asks (desk_in desk.old.held) result (λ o. TellsCollect o desk.new.held result freed.new) }
+    ensures same { result ≡ 2 → desk.new.held ≡ desk.old.held }
+{
     let Some(mut held) = desk.take(alloc) else {
         return NO_HANDLE;
     };
@@ -174,13 +167,16 @@ pub extern "C" fn misteluk_desk_collect(alloc: Global, desk: &mut Handle, freed:
 
 /// Tells the counts.
 #[unsafe(no_mangle)]
-pub extern "C" fn misteluk_desk_stat(alloc: Global, desk: &mut Handle, out: &mut DeskStat) -> u32 {
+pub extern "C" fn misteluk_desk_stat(alloc: Global, desk: &mut Handle, out: &mut DeskStat) -> u32
+    ensures told { Asks (desk_in desk.old.held) result (λ o. (result ≡ 0) × (out.new ≡ stat_of o.desk)) }
+    ensures same { desk.new.held ≡ desk.old.held }
+{
     let Some(held) = desk.take(alloc) else {
         return NO_HANDLE;
     };
     let code = match &*held {
         Held::Desk(desk) => {
-            *out = stat_of(desk.desk());
+            *out = counts_of(desk.desk());
             OK
         }
         _ => NO_HANDLE,
@@ -189,7 +185,9 @@ pub extern "C" fn misteluk_desk_stat(alloc: Global, desk: &mut Handle, out: &mut
     code
 }
 
-fn stat_of(desk: &Desk) -> DeskStat {
+fn counts_of(desk: &Desk) -> DeskStat
+    ensures { result ≡ stat_of desk.now }
+{
     let stat = desk.stat();
     DeskStat {
         version: stat.number,
@@ -209,7 +207,11 @@ pub extern "C" fn misteluk_desk_hold(
     desk: &mut Handle,
     version: &mut Handle,
     hold: &mut HoldNumbers,
-) -> u32 {
+) -> u32
+    ensures told { Asks (desk_in desk.old.held) result
+        (λ o. TellsHold o desk.new.held version.old.held version.new.held result hold.new) }
+    ensures same { result ≡ 2 → (desk.new.held ≡ desk.old.held) × (version.new.held ≡ version.old.held) }
+{
     let Some(mut held) = desk.take(alloc) else {
         return NO_HANDLE;
     };
@@ -253,11 +255,10 @@ fn hold_in(
 
 /// Takes one hold back.
 #[unsafe(no_mangle)]
-pub extern "C" fn misteluk_desk_release(
-    alloc: Global,
-    desk: &mut Handle,
-    hold: HoldNumbers,
-) -> u32 {
+pub extern "C" fn misteluk_desk_release(alloc: Global, desk: &mut Handle, hold: HoldNumbers) -> u32
+    ensures told { Asks (desk_in desk.old.held) result (λ o. TellsRelease o hold desk.new.held result) }
+    ensures same { result ≡ 2 → desk.new.held ≡ desk.old.held }
+{
     let Some(mut held) = desk.take(alloc) else {
         return NO_HANDLE;
     };
@@ -278,7 +279,10 @@ pub extern "C" fn misteluk_desk_release(
 
 /// Opens the desk anew over what the last version holds.
 #[unsafe(no_mangle)]
-pub extern "C" fn misteluk_desk_rebase(alloc: Global, desk: &mut Handle) -> u32 {
+pub extern "C" fn misteluk_desk_rebase(alloc: Global, desk: &mut Handle) -> u32
+    ensures told { Asks (desk_in desk.old.held) result (λ o. TellsRebase o desk.new.held result) }
+    ensures same { result ≡ 2 → desk.new.held ≡ desk.old.held }
+{
     let Some(mut held) = desk.take(alloc) else {
         return NO_HANDLE;
     };
@@ -291,4 +295,17 @@ pub extern "C" fn misteluk_desk_rebase(alloc: Global, desk: &mut Handle) -> u32 
     };
     desk.put(held);
     code
+}
+
+/// What a batch that is refused is told by.
+pub(crate) fn apply_code(error: ApplyError) -> u32
+    ensures { result ≡ desks.apply_code error }
+{
+    match error {
+        ApplyError::BatchLimit => BATCHES_FULL,
+        ApplyError::NamesFull => NAMES_FULL,
+        ApplyError::KindsFull => KINDS_FULL,
+        ApplyError::PoolEmpty { .. } => BLOCKS_FULL,
+        ApplyError::OutOfMemory => MEMORY,
+    }
 }

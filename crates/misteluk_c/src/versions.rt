@@ -146,7 +146,10 @@ pub extern "C" fn misteluk_version_names(
         return NO_HANDLE;
     };
     let code = match &*held {
-        Held::Version(version) => names_code(NO_VERTEX, columns::write_names(version.names(), first, text, ends)),
+        Held::Version(version) => names_code(
+            NO_VERTEX,
+            columns::write_names(version.names(), first, text, ends),
+        ),
         _ => NO_HANDLE,
     };
     version.put(held);
@@ -169,7 +172,10 @@ pub extern "C" fn misteluk_version_kind_names(
         return NO_HANDLE;
     };
     let code = match &*held {
-        Held::Version(version) => names_code(NO_KIND, columns::write_names(version.kinds(), first, text, ends)),
+        Held::Version(version) => names_code(
+            NO_KIND,
+            columns::write_names(version.kinds(), first, text, ends),
+        ),
         _ => NO_HANDLE,
     };
     version.put(held);
@@ -218,7 +224,9 @@ pub extern "C" fn misteluk_version_degrees(
     };
     let code = match &*held {
         Held::Version(version) => {
-            columns_code(columns::write_degrees(alloc, version, view, outgoing, incoming, out_weight))
+            columns_code(columns::write_degrees(
+                alloc, version, view, outgoing, incoming, out_weight,
+            ))
         },
         _ => NO_HANDLE,
     };
@@ -242,7 +250,9 @@ pub extern "C" fn misteluk_version_levels(
         return NO_HANDLE;
     };
     let code = match &*held {
-        Held::Version(version) => columns_code(columns::write_levels(alloc, version, view, source, levels)),
+        Held::Version(version) => columns_code(columns::write_levels(
+            alloc, version, view, source, levels,
+        )),
         _ => NO_HANDLE,
     };
     version.put(held);

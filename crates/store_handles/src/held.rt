@@ -9,7 +9,8 @@ use std::sync::Arc;
 #[derive(Drop)]
 pub enum Held {
     Desk(OwnedDesk),
-    /// A batch that a desk refused may still be shared with it.
-    Batch(Arc<Batch>),
+    Batch(Batch),
+    /// A batch that a desk refused, which had shared it.
+    Shared(Arc<Batch>),
     Version(Arc<Version>),
 }

@@ -1,27 +1,27 @@
 -- How many of a batch's operations had each outcome.
 use Rattle.std.specs.Prelude.{◌≡◌, ℕ, ◌+◌, ◌%◌, ◌^◌, List, [], ◌∷◌, Bool, true, false, length, count_by, sum_by}
 use Rattle.graph_types.specs.declared.batches.Outcome.{Outcome, TheVariants.{Inserted, Updated, Removed, Absent, Overflow, Expired}}
-use Rattle.desk_columns.specs.declared.counts.Counts.{Counts}
+use Rattle.desk_counts.specs.declared.counts.Counts.{Counts}
 
-abbrev pub is_inserted : Outcome → Bool
-is_inserted Inserted = true
-is_inserted _ = false
+abbrev pub was_inserted : Outcome → Bool
+was_inserted Inserted = true
+was_inserted _ = false
 
-abbrev pub is_updated : Outcome → Bool
-is_updated Updated = true
-is_updated _ = false
+abbrev pub was_updated : Outcome → Bool
+was_updated Updated = true
+was_updated _ = false
 
-abbrev pub is_removed : Outcome → Bool
-is_removed Removed = true
-is_removed _ = false
+abbrev pub was_removed : Outcome → Bool
+was_removed Removed = true
+was_removed _ = false
 
-abbrev pub is_absent : Outcome → Bool
-is_absent Absent = true
-is_absent _ = false
+abbrev pub was_absent : Outcome → Bool
+was_absent Absent = true
+was_absent _ = false
 
-abbrev pub is_overflow : Outcome → Bool
-is_overflow Overflow = true
-is_overflow _ = false
+abbrev pub was_overflow : Outcome → Bool
+was_overflow Overflow = true
+was_overflow _ = false
 
 -- how many edges an outcome says that an expiry took away
 abbrev pub expired_in : Outcome → ℕ
@@ -37,11 +37,11 @@ abbrev pub with_outcomes : Counts → ℕ → List Outcome → Counts
 with_outcomes c version outcomes =
     record {
       version = version;
-      inserted = wrapped (c.inserted + count_by is_inserted outcomes);
-      updated = wrapped (c.updated + count_by is_updated outcomes);
-      removed = wrapped (c.removed + count_by is_removed outcomes);
-      absent = wrapped (c.absent + count_by is_absent outcomes);
-      overflowed = wrapped (c.overflowed + count_by is_overflow outcomes);
+      inserted = wrapped (c.inserted + count_by was_inserted outcomes);
+      updated = wrapped (c.updated + count_by was_updated outcomes);
+      removed = wrapped (c.removed + count_by was_removed outcomes);
+      absent = wrapped (c.absent + count_by was_absent outcomes);
+      overflowed = wrapped (c.overflowed + count_by was_overflow outcomes);
       expired = wrapped (c.expired + sum_by expired_in outcomes);
     }
 

@@ -1,7 +1,7 @@
 //! Counts of outcomes.
 
 ghost use Rattle.std.specs.Prelude.{◌≡◌, ◌∷◌, []};
-ghost use Rattle.desk_columns.specs.Counted.{with_outcomes, none_counted};
+ghost use Rattle.desk_counts.specs.Counted.{with_outcomes, none_counted};
 
 use graph_types::Outcome;
 

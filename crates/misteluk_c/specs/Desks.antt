@@ -1,0 +1,87 @@
+-- What the calls about a desk tell.
+use Rattle.std.specs.Prelude.{◌≡◌, ◌⊎◌, ◌+◌, ℕ, List, [], length, count_by, Option, Some, None, MatchBool, nat_le, ◌&&◌}
+use Rattle.graph_types.specs.{Step.outcomes, declared.batches.NamedOp.NamedOp}
+use Rattle.graph_version.specs.{Versions.{content, empty_version}, Kept.edge_total, Rebased.IsRebased}
+use Rattle.block_reclamation.specs.Status.{is_free, is_retired, is_in_use, is_reclaimable}
+use Rattle.store_steps.specs.{Desks.{DeskView, IsCollected}, Opening.{IsVersionZero, opened_desk}, Steps.Accepts}
+use Rattle.desk.specs.{Refusals.Refuses, declared.errors.ApplyError.ApplyError, declared.errors.HoldError.TheVariants.NoSeat, declared.owned.Hold.Hold}
+use Rattle.desk.specs.declared.errors.ApplyError.TheVariants as refused
+use Rattle.desk.specs.Owned.{OwnedView, opened_owned, HoldsOnce, RefusesHold, IsReleased, RefusesRelease, copied}
+use Rattle.desk_counts.specs.{Counted.{with_outcomes, none_counted}, declared.counts.Counts.Counts}
+use Rattle.store_handles.specs.declared.held.Held.{Held}
+use Rattle.store_handles.specs.declared.held.Held.TheVariants as held
+use Rattle.misteluk_c.specs.declared.desks.{DeskStat.DeskStat, HoldNumbers.HoldNumbers}
+use Rattle.misteluk_c.specs.Held.{version_in, batch_in, Makes}
+
+-- the desk that a handle holds
+abbrev pub desk_in : Option Held → Option OwnedView
+desk_in None = None
+desk_in (Some (held.Desk desk)) = Some desk
+desk_in (Some _) = None
+
+abbrev pub apply_code : ApplyError → ℕ
+apply_code refused.BatchLimit = 11
+apply_code refused.NamesFull = 12
+apply_code refused.KindsFull = 13
+apply_code (refused.PoolEmpty needed free) = 14
+apply_code refused.OutOfMemory = 1
+
+-- a desk of so many blocks is opened, or there are too few or too many of them
+abbrev pub Opens : ℕ → Option Held → Option Held → ℕ → Type 0
+Opens blocks old new code =
+    MatchBool (nat_le 16 blocks && nat_le blocks 65536)
+    (Makes old new code (λ held. desk_in held ≡ Some (opened_owned (opened_desk blocks empty_version) 0)))
+    ((code ≡ 9) × (new ≡ old))
+
+-- a batch is accepted, and its handle is empty then; or refused, and all is as it was
+abbrev pub TellsApplied : OwnedView → List NamedOp → OwnedView → Option Held → ℕ → Counts → Type 0
+TellsApplied old ops new batch code counts =
+    ((code ≡ 0) × (batch_in batch ≡ Some []) × Accepts old.desk ops new.desk × (new ≡ record old { desk = new.desk })
+    × (counts ≡ with_outcomes (none_counted 0) (length new.desk.last.batches) (outcomes ops (content old.desk.last))))
+    ⊎ ((error : ApplyError) × (code ≡ apply_code error) × Refuses old.desk.last (count_by is_free old.desk.pool) ops error
+    × (new ≡ old) × (batch_in batch ≡ Some ops))
+
+abbrev pub TellsApply : OwnedView → List NamedOp → Option Held → Option Held → ℕ → Counts → Type 0
+TellsApply old ops desk batch code counts = (new : OwnedView) × (desk_in desk ≡ Some new) × TellsApplied old ops new batch code counts
+
+abbrev pub TellsCollect : OwnedView → Option Held → ℕ → ℕ → Type 0
+TellsCollect old desk code freed =
+    (code ≡ 0) × (freed ≡ count_by (is_reclaimable (copied old.desk old.board)) old.desk.pool)
+    × ((new : OwnedView) × (desk_in desk ≡ Some new) × IsCollected old.desk (copied old.desk old.board) new.desk
+    × (new.counts ≡ old.counts) × (new.opening ≡ old.opening))
+
+abbrev pub stat_of : DeskView → DeskStat
+stat_of d =
+    record {
+      version = length d.last.batches;
+      vertices = length (content d.last).names;
+      kinds = length (content d.last).kinds;
+      edges = edge_total d.last;
+      blocks_free = count_by is_free d.pool;
+      blocks_retired = count_by is_retired d.pool;
+      blocks_used = count_by is_in_use d.pool;
+    }
+
+-- the last version is held in a handle that held nothing, or not: all is as it was then
+abbrev pub TellsHold : OwnedView → Option Held → Option Held → Option Held → ℕ → HoldNumbers → Type 0
+TellsHold old desk (Some before) version code hold = (code ≡ 3) × (desk_in desk ≡ Some old) × (version ≡ Some before)
+TellsHold old desk None version code hold =
+    ((code ≡ 0) × (version_in version ≡ Some old.desk.last) × (hold ≡ record { opening = old.opening; number = length old.desk.last.batches })
+    × ((new : OwnedView) × (desk_in desk ≡ Some new) × HoldsOnce old (length old.desk.last.batches) new))
+    ⊎ ((code ≡ 15) × RefusesHold old (length old.desk.last.batches) NoSeat × (desk_in desk ≡ Some old) × (version ≡ None))
+    ⊎ ((code ≡ 1) × (desk_in desk ≡ Some old) × (version ≡ None))
+
+abbrev pub hold_of : HoldNumbers → Hold
+hold_of hold = record { opening = hold.opening; number = hold.number }
+
+abbrev pub TellsRelease : OwnedView → HoldNumbers → Option Held → ℕ → Type 0
+TellsRelease old hold desk code =
+    ((code ≡ 0) × ((new : OwnedView) × (desk_in desk ≡ Some new) × IsReleased old (hold_of hold) new))
+    ⊎ ((code ≡ 15) × RefusesRelease old (hold_of hold) × (desk_in desk ≡ Some old))
+
+abbrev pub TellsRebase : OwnedView → Option Held → ℕ → Type 0
+TellsRebase old desk code =
+    ((code ≡ 0) × ((new : OwnedView) × (desk_in desk ≡ Some new) × IsRebased old.desk.last new.desk.last
+    × IsVersionZero (length old.desk.pool) new.desk.last
+    × (new ≡ opened_owned (opened_desk (length old.desk.pool) new.desk.last) (old.opening + 1))))
+    ⊎ ((code ≡ 1) × (desk_in desk ≡ Some old))
