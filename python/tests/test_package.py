@@ -50,7 +50,8 @@ class Wheels(Case):
             modes = {it.filename: it.external_attr >> 16 for it in packed.infolist()}
             self.assertEqual([name for name, mode in modes.items() if mode & 0o111], [wheels.PROGRAM])
             self.assertIn("Root-Is-Purelib: false\nTag: py3-none-linux_x86_64\n", packed.read(f"{about}/WHEEL").decode())
-            own = {f"misteluk/{it.name}" for it in (HERE.parent / "misteluk").iterdir() if it.is_file()}
+            files = [it for it in (HERE.parent / "misteluk").rglob("*") if it.is_file() and it.suffix != ".pyc"]
+            own = {it.relative_to(HERE.parent).as_posix() for it in files}
             self.assertEqual({it for it in record if it.startswith("misteluk/")}, own | {wheels.PROGRAM})
 
     def elf(self) -> str:

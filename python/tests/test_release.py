@@ -1,5 +1,6 @@
 """The archive that tools/release makes of a copy of this repository; the manual page and completions, beside what the program
 says."""
+import functools
 import hashlib
 import os
 import pathlib
@@ -118,12 +119,21 @@ class Pages(Case):
             self.assertEqual(run("zsh", "-n", TOP / "share/zsh/site-functions" / it).stdout, "")
 
 
+@functools.lru_cache(maxsize=None)
+def find_library():
+    """The library that MISTELUK_LIBRARY names, else the proved one, else the compiled one; the static one stands beside it."""
+    made = (run(TOP / it, *words, stderr=subprocess.DEVNULL, timeout=600) for it, *words in
+            (("prove", "--where", "library"), ("stinger", "library")))
+    return os.environ.get("MISTELUK_LIBRARY") or next(it.stdout.strip() for it in made if it.returncode == 0)
+
+
 @unittest.skipUnless(IS_REPOSITORY, NO_REPOSITORY)
 class Releases(Case):
     """Over one copy of this repository without its crates, which is made as it was before each test."""
 
     @classmethod
     def setUpClass(cls):
+        cls.unproved = ("--unproved", find_program(), "--library", find_library())
         room = tempfile.TemporaryDirectory()
         cls.addClassCleanup(room.cleanup)
         cls.top = pathlib.Path(room.name) / "top"
@@ -151,7 +161,7 @@ class Releases(Case):
         return run(sys.executable, self.top / "tools/release", "--to", self.room / "made", *words)
 
     def test_an_archive_for_trying_it_out(self):
-        done = self.release("--unproved", find_program())
+        done = self.release(*self.unproved)
         self.assertEqual(done.returncode, 0, done.stdout)
         archive, wheel = map(pathlib.Path, done.stdout.splitlines())
         self.assertIn("-UNPROVED-linux-x86_64.tar.gz", archive.name)
@@ -159,7 +169,7 @@ class Releases(Case):
         first = {it: hashlib.sha256(it.read_bytes()).hexdigest() for it in (archive, wheel)}
         for it in first:
             self.assertEqual(run("sha256sum", "-c", f"{it.name}.sha256", cwd=it.parent).returncode, 0)
-        self.release("--unproved", find_program())
+        self.release(*self.unproved)
         self.assertEqual({it: hashlib.sha256(it.read_bytes()).hexdigest() for it in first}, first)
         with tarfile.open(archive) as tar:
             tar.extractall(self.room / "there")
@@ -175,6 +185,7 @@ class Releases(Case):
             told = run(there / "bin/stinger", "run", stdin=script).stdout
         self.assertEqual(told, (there / "examples/funnel.expected").read_text())
         self.from_the_archive(there)
+        self.c_from_the_archive(there)
         for it in ("LICENSE-MIT", "LICENSE-APACHE",
                    "share/man/man1/stinger.1", "share/man/man1/misteluk.1", "docs/TUTORIAL.md", "python/pyproject.toml"):
             self.assertTrue((there / it).is_file(), it)
@@ -182,22 +193,38 @@ class Releases(Case):
 
     def from_the_archive(self, there):
         """The client of the archive finds its program by itself."""
-        env = {it: value for it, value in os.environ.items() if it != "MISTELUK_PROGRAM"} | {"PYTHONPATH": "python"}
-        told = run(sys.executable, "-c", "import misteluk; print(misteluk.find_program()); print(misteluk.Store().stat().free)",
-                   cwd=there, env=env, stderr=subprocess.DEVNULL).stdout
-        self.assertEqual(told, f"{there}/bin/stinger\n16384\n")
+        env = {it: value for it, value in os.environ.items() if not it.startswith("MISTELUK_")} | {"PYTHONPATH": "python"}
+        code = "import misteluk; print(misteluk.find_program()); print(misteluk.Store(blocks=64).stat().free)"
+        told = run(sys.executable, "-c", code, cwd=there, env=env, stderr=subprocess.DEVNULL).stdout
+        self.assertEqual(told, f"{there}/bin/stinger\n64\n")
+
+    def c_from_the_archive(self, there):
+        """Header, libraries and what pkg-config reads: the example is compiled as the archive's page says."""
+        for name in ("libmisteluk.so", "libmisteluk.a"):
+            self.assertEqual((there / "lib" / name).read_bytes(), (pathlib.Path(find_library()).parent / name).read_bytes())
+        self.assertIn(hashlib.sha256((there / "lib/libmisteluk.so").read_bytes()).hexdigest(), (there / "PROVED.md").read_text())
+        self.assertEqual({it.name for it in (there / "include").iterdir()}, {"misteluk.h"})
+        if not shutil.which("cc") or not shutil.which("pkg-config"):
+            return
+        command = "cc examples/c/roads.c $(pkg-config --cflags --libs misteluk)"
+        self.assertIn(f"`{command}`", (there / "PROVED.md").read_text())
+        env = {**os.environ, "PKG_CONFIG_PATH": str(there / "lib/pkgconfig"), "LD_LIBRARY_PATH": str(there / "lib")}
+        told = run("sh", "-c", f"{command} -o roads && ./roads && rm roads", cwd=there, env=env)
+        self.assertEqual((told.returncode, told.stdout), (0, (there / "examples/c/roads.expected").read_text()))
+        self.assertEqual(run("pkg-config", "--modversion", "misteluk", env=env).stdout, f"{misteluk.__version__}\n")
+        self.assertRegex(run(there / "examples/c/check").stdout, r"(?m)^examples/c: [1-9]\d* passed, 0 failed$")
 
     @unittest.skipUnless(optional("pip"), "pip is not there")
     def test_the_wheel(self):
         """Installed where nothing else is, it has its own program: no path leads to one, nor does a variable."""
-        _, wheel = self.release("--unproved", find_program()).stdout.splitlines()
+        _, wheel = self.release(*self.unproved).stdout.splitlines()
         self.assertEqual(pathlib.Path(wheel).name, f"misteluk-{misteluk.__version__}+unproved-py3-none-linux_x86_64.whl")
         home = self.room / "a home"
         venv.create(home, symlinks=True)
         done = run(sys.executable, "-m", "pip", "--python", home / "bin/python", "install", "--no-index", "--quiet",
                    "--disable-pip-version-check", wheel, cwd="/")
         self.assertEqual(done.returncode, 0, done.stdout)
-        env = {"PATH": "", "HOME": str(self.room), "MISTELUK_PROGRAM": ""}
+        env = {"PATH": "", "HOME": str(self.room), "MISTELUK_PROGRAM": "", "MISTELUK_LIBRARY": ""}
         told = run(home / "bin/misteluk", "--help", cwd="/", env=env)
         self.assertEqual((told.returncode, told.stdout.split()[:2]), (0, ["usage:", "misteluk"]), told.stdout)
         code = ("import misteluk; print(misteluk.find_program()); s = misteluk.Store(blocks=16); s.insert('k', 'a', 'b', 2); "
@@ -206,18 +233,19 @@ class Releases(Case):
         (program,) = home.glob("lib/python3.*/site-packages/misteluk/bin/stinger")
         self.assertEqual(told, [str(program), "1 2"])
         self.assertEqual(program.read_bytes(), pathlib.Path(find_program()).read_bytes())
+        self.assertEqual((program.parents[1] / "lib/libmisteluk.so").read_bytes(), pathlib.Path(find_library()).read_bytes())
 
     def test_the_archive_tests_its_own_client(self):
         """By its own python/check, which finds its program, and says what it passes over."""
-        archive = self.release("--unproved", find_program()).stdout.splitlines()[0]
+        archive = self.release(*self.unproved).stdout.splitlines()[0]
         with tarfile.open(archive) as tar:
             tar.extractall(self.room / "there")
         (there,) = (self.room / "there").iterdir()
-        env = {it: value for it, value in os.environ.items() if it != "MISTELUK_PROGRAM"} | {"PYTHON": sys.executable}
+        env = {it: value for it, value in os.environ.items() if not it.startswith("MISTELUK_")} | {"PYTHON": sys.executable}
         done = run(there / "python/check", "records", "release", "lint", env=env)
         self.assertEqual(done.returncode, 0, done.stdout)
         self.assertIn(f" runs {there}/bin/stinger\n", done.stdout)
-        self.assertRegex(done.stdout, r"(?m)^release: \d+ s, \d+ passed over: this is no repository, but a released archive$")
+        self.assertRegex(done.stdout, r"(?m)^release\b.*: \d+ s, \d+ passed over: this is no repository, but a released archive$")
         self.assertRegex(done.stdout, r"(?m)^[1-9]\d* passed, 0 failed$")
 
     def refused(self, told: str, *words):
@@ -233,6 +261,12 @@ class Releases(Case):
         shutil.copy(find_program(), out / "stinger")
         code = "import sys; sys.path.insert(0, 'tools'); import programs as p; print(p.PROVED.sources(), p.digest(p.PROVED.path))"
         (out / "stinger.made_from").write_text(run(sys.executable, "-B", "-c", code, cwd=self.top).stdout)
+        out = self.top / "crates/misteluk_c/out"
+        out.mkdir(parents=True)
+        for it in ("libmisteluk.so", "libmisteluk.a"):
+            shutil.copy(pathlib.Path(find_library()).parent / it, out)
+        told = run(sys.executable, "-B", "-c", code.replace("p.PROVED", "p.PROVED_LIBRARY"), cwd=self.top).stdout
+        (out / "libmisteluk.so.made_from").write_text(told)
 
     def test_what_is_not_proved_is_refused(self):
         self.refused("there is no proved program of the sources as they are: ./prove makes it. (--unproved makes an archive")
@@ -281,11 +315,15 @@ class Releases(Case):
 
     def test_a_clone_that_is_not_clean_is_refused(self):
         (self.top / "new").write_text("")
-        self.refused("the clone isn't clean: ?? new", "--unproved", find_program())
+        self.refused("the clone isn't clean: ?? new", *self.unproved)
 
     def test_a_program_that_needs_more_is_refused(self):
         more = next((it for it in ("/usr/bin/git", "/usr/bin/curl", "/bin/ls") if os.path.exists(it)), None)
-        self.refused("beside the C library", "--unproved", more)
+        self.refused("the program needs", "--unproved", more, *self.unproved[2:])
+        library = self.room / "libmore.so"
+        shutil.copy(more, library)
+        shutil.copy(more, library.with_suffix(".a"))
+        self.refused("the library needs", *self.unproved[:2], "--library", library)
 
     def test_another_version_is_refused(self):
         """That of the change log's first heading is made: the program and the client have to say it, too."""
@@ -294,20 +332,19 @@ class Releases(Case):
         self.assertEqual(changes.read_text().count(heading), 1)
         changes.write_text(changes.read_text().replace(heading, f"\n## 9.8.7\n{heading}"))
         self.git("commit", "-qam", "a heading of another version")
-        self.refused(f"python/pyproject.toml says version {misteluk.__version__}, and CHANGELOG.md 9.8.7", "--unproved",
-                     find_program())
+        self.refused(f"python/pyproject.toml says version {misteluk.__version__}, and CHANGELOG.md 9.8.7", *self.unproved)
         project.write_text(project.read_text().replace(f'version = "{misteluk.__version__}"', 'version = "9.8.7"'))
         self.git("commit", "-qam", "the client's, too")
-        self.refused(f"the program says version {misteluk.__version__}, and CHANGELOG.md 9.8.7", "--unproved", find_program())
+        self.refused(f"the program says version {misteluk.__version__}, and CHANGELOG.md 9.8.7", *self.unproved)
         changes.write_text("# Changelog\n")
         self.git("commit", "-qam", "no heading")
-        self.refused("CHANGELOG.md has no heading of a version", "--unproved", find_program())
+        self.refused("CHANGELOG.md has no heading of a version", *self.unproved)
 
     def test_a_manual_of_another_program_is_refused(self):
         page = self.top / "share/man/man1/stinger.1"
         page.write_text(page.read_text() + ".PP\nMore.\n")
         self.git("commit", "-qam", "another page")
-        self.refused("isn't what the program says of itself", "--unproved", find_program())
+        self.refused("isn't what the program says of itself", *self.unproved)
 
 
 if __name__ == "__main__":

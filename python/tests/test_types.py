@@ -31,7 +31,7 @@ class Types(Case):
 
     def test_each_module_is_typed(self):
         done = self.judge(pathlib.Path("misteluk"))
-        count = len(list((HERE.parent / "misteluk").glob("*.py")))
+        count = len(list((HERE.parent / "misteluk").rglob("*.py")))
         self.assertEqual((done.returncode, done.stdout), (0, f"Success: no issues found in {count} source files\n"))
 
     def of_user(self, *lines: str) -> str:

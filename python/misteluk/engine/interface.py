@@ -1,0 +1,195 @@
+"""The C interface of the store, for ctypes. `tools/interface` writes this from include/misteluk.h, which says what each
+call does, and what a caller owes: nothing here tests it."""
+import enum
+from ctypes import CDLL, POINTER, Array, Structure, c_int64, c_size_t, c_uint32, c_uint64, c_void_p
+from typing import Any, Callable, Dict, List, Tuple, Union
+
+# Where an array or a text begins: its address, bytes that are only read, or an array of ctypes.
+Memory = Union[int, bytes, "Array[Any]"]
+
+INTERFACE = 1
+ANY_KIND = 0xFFFF_FFFF
+NOT_REACHED = 0xFFFF_FFFF
+
+
+class Code(enum.IntEnum):
+    """What a call returns."""
+
+    OK = 0
+    MEMORY = 1
+    NO_HANDLE = 2
+    HELD_ALREADY = 3
+    BAD_LENGTH = 4
+    BAD_NAME = 5
+    BAD_WEIGHT = 6
+    BAD_TIME = 7
+    BAD_NUMBER = 8
+    BAD_BLOCKS = 9
+    BATCH_FULL = 10
+    BATCHES_FULL = 11
+    NAMES_FULL = 12
+    KINDS_FULL = 13
+    BLOCKS_FULL = 14
+    NO_SEAT = 15
+    NO_VERTEX = 16
+    NO_KIND = 17
+    NO_EDGE = 18
+
+
+class Desk(Structure):
+    _fields_ = [("at", c_void_p)]
+    at: Any
+
+
+class Batch(Structure):
+    _fields_ = [("at", c_void_p)]
+    at: Any
+
+
+class Version(Structure):
+    _fields_ = [("at", c_void_p)]
+    at: Any
+
+
+class Counts(Structure):
+    _fields_ = [("version", c_uint64), ("inserted", c_uint64), ("updated", c_uint64), ("removed", c_uint64),
+        ("absent", c_uint64), ("overflowed", c_uint64), ("expired", c_uint64)]
+    version: int
+    inserted: int
+    updated: int
+    removed: int
+    absent: int
+    overflowed: int
+    expired: int
+
+
+class Stat(Structure):
+    _fields_ = [("version", c_uint64), ("vertices", c_uint64), ("kinds", c_uint64), ("edges", c_uint64),
+        ("blocks_free", c_uint64), ("blocks_retired", c_uint64), ("blocks_used", c_uint64)]
+    version: int
+    vertices: int
+    kinds: int
+    edges: int
+    blocks_free: int
+    blocks_retired: int
+    blocks_used: int
+
+
+class Size(Structure):
+    _fields_ = [("version", c_uint64), ("vertices", c_uint64), ("kinds", c_uint64), ("edges", c_uint64),
+        ("name_bytes", c_uint64), ("kind_bytes", c_uint64)]
+    version: int
+    vertices: int
+    kinds: int
+    edges: int
+    name_bytes: int
+    kind_bytes: int
+
+
+class Hold(Structure):
+    _fields_ = [("opening", c_uint64), ("number", c_uint64)]
+    opening: int
+    number: int
+
+
+class Edge(Structure):
+    _fields_ = [("weight", c_int64), ("first", c_uint64), ("recent", c_uint64)]
+    weight: int
+    first: int
+    recent: int
+
+
+class View(Structure):
+    _fields_ = [("from_", c_uint64), ("to", c_uint64), ("kind", c_uint32)]
+    from_: int
+    to: int
+    kind: int
+
+
+FUNCTIONS: Dict[str, Tuple[Any, List[Any]]] = {
+    "interface": (c_uint32, []),
+    "batch_new": (c_uint32, [POINTER(Batch)]),
+    "batch_free": (None, [Batch]),
+    "batch_length": (c_uint32, [POINTER(Batch), POINTER(c_uint64)]),
+    "batch_insert": (c_uint32, [POINTER(Batch), c_void_p, c_size_t, c_void_p, c_size_t, c_void_p, c_size_t, c_int64, c_uint64]),
+    "batch_add": (c_uint32, [POINTER(Batch), c_void_p, c_size_t, c_void_p, c_size_t, c_void_p, c_size_t, c_int64, c_uint64]),
+    "batch_remove": (c_uint32, [POINTER(Batch), c_void_p, c_size_t, c_void_p, c_size_t, c_void_p, c_size_t]),
+    "batch_expire": (c_uint32, [POINTER(Batch), c_uint64]),
+    "desk_new": (c_uint32, [c_uint32, POINTER(Desk)]),
+    "desk_free": (None, [Desk]),
+    "desk_apply": (c_uint32, [POINTER(Desk), POINTER(Batch), POINTER(Counts)]),
+    "desk_insert_columns": (c_uint32, [POINTER(Desk), c_void_p, c_size_t, c_void_p, c_size_t, c_void_p, c_size_t, c_void_p,
+        c_size_t, c_void_p, c_size_t, c_void_p, c_size_t, c_void_p, c_size_t, POINTER(Counts), POINTER(c_uint64)]),
+    "desk_collect": (c_uint32, [POINTER(Desk), POINTER(c_uint64)]),
+    "desk_stat": (c_uint32, [POINTER(Desk), POINTER(Stat)]),
+    "desk_hold": (c_uint32, [POINTER(Desk), POINTER(Version), POINTER(Hold)]),
+    "desk_release": (c_uint32, [POINTER(Desk), Hold]),
+    "desk_rebase": (c_uint32, [POINTER(Desk)]),
+    "version_clone": (c_uint32, [POINTER(Version), POINTER(Version)]),
+    "version_free": (None, [Version]),
+    "version_size": (c_uint32, [POINTER(Version), POINTER(Size)]),
+    "version_vertex": (c_uint32, [POINTER(Version), c_void_p, c_size_t, POINTER(c_uint32)]),
+    "version_kind": (c_uint32, [POINTER(Version), c_void_p, c_size_t, POINTER(c_uint32)]),
+    "version_names": (c_uint32, [POINTER(Version), c_uint32, c_void_p, c_size_t, c_void_p, c_size_t]),
+    "version_kind_names": (c_uint32, [POINTER(Version), c_uint32, c_void_p, c_size_t, c_void_p, c_size_t]),
+    "version_edge": (c_uint32, [POINTER(Version), c_uint32, c_uint32, c_uint32, POINTER(Edge)]),
+    "version_degrees": (c_uint32, [POINTER(Version), POINTER(View), c_void_p, c_size_t, c_void_p, c_size_t, c_void_p, c_size_t]),
+    "version_levels": (c_uint32, [POINTER(Version), POINTER(View), c_uint32, c_void_p, c_size_t]),
+    "version_labels": (c_uint32, [POINTER(Version), POINTER(View), c_void_p, c_size_t]),
+    "version_cores": (c_uint32, [POINTER(Version), POINTER(View), c_void_p, c_size_t]),
+    "version_row": (c_uint32, [POINTER(Version), POINTER(View), c_uint32, c_void_p, c_size_t, c_void_p, c_size_t, c_void_p,
+        c_size_t, c_void_p, c_size_t, c_void_p, c_size_t, POINTER(c_uint64)]),
+    "version_edges": (c_uint32, [POINTER(Version), POINTER(View), POINTER(c_uint32), c_void_p, c_size_t, c_void_p, c_size_t,
+        c_void_p, c_size_t, c_void_p, c_size_t, c_void_p, c_size_t, c_void_p, c_size_t, POINTER(c_uint64)]),
+}
+
+
+class Library:
+    """A library that is open: its functions, each by its name in the header behind `misteluk_`. A struct is given as it is,
+    where the header has a pointer to one, and an array by its address and how many items it has."""
+
+    interface: Callable[[], int]
+    batch_new: Callable[[Batch], int]
+    batch_free: Callable[[Batch], None]
+    batch_length: Callable[[Batch, c_uint64], int]
+    batch_insert: Callable[[Batch, Memory, int, Memory, int, Memory, int, int, int], int]
+    batch_add: Callable[[Batch, Memory, int, Memory, int, Memory, int, int, int], int]
+    batch_remove: Callable[[Batch, Memory, int, Memory, int, Memory, int], int]
+    batch_expire: Callable[[Batch, int], int]
+    desk_new: Callable[[int, Desk], int]
+    desk_free: Callable[[Desk], None]
+    desk_apply: Callable[[Desk, Batch, Counts], int]
+    desk_insert_columns: Callable[[Desk, Memory, int, Memory, int, Memory, int, Memory, int, Memory, int, Memory, int,
+        Memory, int, Counts, c_uint64], int]
+    desk_collect: Callable[[Desk, c_uint64], int]
+    desk_stat: Callable[[Desk, Stat], int]
+    desk_hold: Callable[[Desk, Version, Hold], int]
+    desk_release: Callable[[Desk, Hold], int]
+    desk_rebase: Callable[[Desk], int]
+    version_clone: Callable[[Version, Version], int]
+    version_free: Callable[[Version], None]
+    version_size: Callable[[Version, Size], int]
+    version_vertex: Callable[[Version, Memory, int, c_uint32], int]
+    version_kind: Callable[[Version, Memory, int, c_uint32], int]
+    version_names: Callable[[Version, int, Memory, int, Memory, int], int]
+    version_kind_names: Callable[[Version, int, Memory, int, Memory, int], int]
+    version_edge: Callable[[Version, int, int, int, Edge], int]
+    version_degrees: Callable[[Version, View, Memory, int, Memory, int, Memory, int], int]
+    version_levels: Callable[[Version, View, int, Memory, int], int]
+    version_labels: Callable[[Version, View, Memory, int], int]
+    version_cores: Callable[[Version, View, Memory, int], int]
+    version_row: Callable[[Version, View, int, Memory, int, Memory, int, Memory, int, Memory, int, Memory, int, c_uint64], int]
+    version_edges: Callable[[Version, View, c_uint32, Memory, int, Memory, int, Memory, int, Memory, int, Memory, int,
+        Memory, int, c_uint64], int]
+
+    def __init__(self, path: str) -> None:
+        """Opens the library at a path. OSError where there is none, where it lacks a function, or has another interface."""
+        opened = CDLL(path)
+        for name, (result, arguments) in FUNCTIONS.items():
+            function = getattr(opened, f"misteluk_{name}", None)
+            if function is None:
+                raise OSError(f"{path} has no function misteluk_{name}")
+            function.restype, function.argtypes = result, arguments
+            setattr(self, name, function)
+        if self.interface() != INTERFACE:
+            raise OSError(f"{path} has interface {self.interface()}, and this needs {INTERFACE}")

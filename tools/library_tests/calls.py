@@ -1,0 +1,247 @@
+"""The C interface as tests take it: a code that isn't OK raises `Refused`, and what a call writes is handed back as lists."""
+from __future__ import annotations
+
+import array
+import itertools
+import pathlib
+import sys
+from ctypes import c_uint32, c_uint64, create_string_buffer
+from typing import Any, Dict, Iterator, List, Optional, Sequence, Tuple
+
+TOP = pathlib.Path(__file__).resolve().parent.parent.parent
+sys.dont_write_bytecode = True
+sys.path.insert(0, str(TOP / "python"))
+from misteluk.engine import interface  # noqa: E402
+from misteluk.engine.interface import ANY_KIND, NOT_REACHED, Code, Library  # noqa: E402
+
+__all__ = ["ANY_KIND", "EVER", "NOT_REACHED", "TOP", "Batch", "Code", "Desk", "Library", "Owner", "Refused", "Version", "at",
+           "column", "fields", "interface", "must", "view", "whole"]
+EVER = (0, (1 << 64) - 1)
+# A row of a table of edges: kind, source, target, weight, first and recent time.
+Row = Tuple[int, int, int, int, int, int]
+
+
+class Refused(Exception):
+    def __init__(self, code: Code) -> None:
+        super().__init__(code.name)
+        self.code = code
+
+
+def must(code: int) -> None:
+    if code != Code.OK:
+        raise Refused(Code(code))
+
+
+def column(kind: str, count: int) -> "array.array[int]":
+    """An array of so many numbers. Where there are none it has a place that nobody may write to, since none is at NULL."""
+    return array.array(kind, bytes(array.array(kind).itemsize * max(count, 1)))
+
+
+def at(values: "array.array[int]") -> int:
+    return values.buffer_info()[0]
+
+
+def view(kind: Optional[int] = None, window: Tuple[int, int] = EVER) -> interface.View:
+    return interface.View(*window, ANY_KIND if kind is None else kind)
+
+
+class Owner:
+    """What has a handle, and ends what it holds."""
+
+    def __init__(self, library: Library) -> None:
+        self.library = library
+        # (a list of columns is given as so many words, which a checker of types can't count)
+        self.calls: Any = library
+
+    def free(self) -> None:
+        raise NotImplementedError
+
+
+class Batch(Owner):
+    def __init__(self, library: Library) -> None:
+        super().__init__(library)
+        self.handle = interface.Batch()
+        must(library.batch_new(self.handle))
+
+    def insert(self, kind: bytes, source: bytes, target: bytes, weight: int, time: int) -> None:
+        names = (kind, len(kind), source, len(source), target, len(target))
+        must(self.library.batch_insert(self.handle, *names, weight, time))
+
+    def add(self, kind: bytes, source: bytes, target: bytes, amount: int, time: int) -> None:
+        must(self.library.batch_add(self.handle, kind, len(kind), source, len(source), target, len(target), amount, time))
+
+    def remove(self, kind: bytes, source: bytes, target: bytes) -> None:
+        must(self.library.batch_remove(self.handle, kind, len(kind), source, len(source), target, len(target)))
+
+    def expire(self, time: int) -> None:
+        must(self.library.batch_expire(self.handle, time))
+
+    def __len__(self) -> int:
+        out = c_uint64()
+        must(self.library.batch_length(self.handle, out))
+        return out.value
+
+    def free(self) -> None:
+        self.library.batch_free(self.handle)
+        self.handle = interface.Batch()
+
+
+class Version(Owner):
+    """A version that is held. Where it came of a hold, `hold` is for its release."""
+
+    def __init__(self, library: Library, handle: interface.Version, hold: Optional[interface.Hold] = None) -> None:
+        super().__init__(library)
+        self.handle, self.hold = handle, hold
+        self.size = interface.Size()
+        must(library.version_size(handle, self.size))
+
+    def clone(self) -> "Version":
+        out = interface.Version()
+        must(self.library.version_clone(self.handle, out))
+        return Version(self.library, out)
+
+    def free(self) -> None:
+        self.library.version_free(self.handle)
+        self.handle = interface.Version()
+
+    def vertex(self, name: bytes) -> int:
+        out = c_uint32()
+        must(self.library.version_vertex(self.handle, name, len(name), out))
+        return out.value
+
+    def kind(self, name: bytes) -> int:
+        out = c_uint32()
+        must(self.library.version_kind(self.handle, name, len(name), out))
+        return out.value
+
+    def names(self) -> List[bytes]:
+        text, ends = create_string_buffer(self.size.name_bytes + 1), column("Q", self.size.vertices)
+        must(self.library.version_names(self.handle, 0, text, self.size.name_bytes, at(ends), self.size.vertices))
+        return parted(text.raw, ends[:self.size.vertices])
+
+    def kind_names(self) -> List[bytes]:
+        text, ends = create_string_buffer(self.size.kind_bytes + 1), column("Q", self.size.kinds)
+        must(self.library.version_kind_names(self.handle, 0, text, self.size.kind_bytes, at(ends), self.size.kinds))
+        return parted(text.raw, ends[:self.size.kinds])
+
+    def edge(self, kind: int, source: int, target: int) -> Tuple[int, int, int]:
+        out = interface.Edge()
+        must(self.library.version_edge(self.handle, kind, source, target, out))
+        return out.weight, out.first, out.recent
+
+    def degrees(self, seen: interface.View) -> List[Tuple[int, int, int]]:
+        count = self.size.vertices
+        outgoing, incoming, weight = column("I", count), column("I", count), column("q", count)
+        must(self.library.version_degrees(self.handle, seen, at(outgoing), count, at(incoming), count, at(weight), count))
+        return list(zip(outgoing, incoming, weight))[:count]
+
+    def levels(self, seen: interface.View, source: int) -> Dict[int, int]:
+        """The level of each vertex that is reached."""
+        out = column("I", self.size.vertices)
+        must(self.library.version_levels(self.handle, seen, source, at(out), self.size.vertices))
+        return {vertex: level for vertex, level in enumerate(out) if level != NOT_REACHED}
+
+    def labels(self, seen: interface.View) -> List[int]:
+        out = column("I", self.size.vertices)
+        must(self.library.version_labels(self.handle, seen, at(out), self.size.vertices))
+        return list(out)[:self.size.vertices]
+
+    def cores(self, seen: interface.View) -> List[int]:
+        out = column("I", self.size.vertices)
+        must(self.library.version_cores(self.handle, seen, at(out), self.size.vertices))
+        return list(out)[:self.size.vertices]
+
+    def row(self, seen: interface.View, source: int) -> List[Row]:
+        """One source's edges, in columns that are as long as they have to be: the length is asked for with none."""
+        none, count = column("Q", 0), c_uint64()
+        code = self.calls.version_row(self.handle, seen, source, *[at(none), 0] * 5, count)
+        if code != Code.BAD_LENGTH:
+            must(code)
+        kinds, targets, weights, firsts, recents = (column(it, count.value) for it in "IIqQQ")
+        length = count.value
+        must(self.library.version_row(self.handle, seen, source, at(kinds), length, at(targets), length, at(weights), length,
+                                      at(firsts), length, at(recents), length, count))
+        rows: Iterator[Row] = zip(kinds, [source] * length, targets, weights, firsts, recents)  # type: ignore[assignment]
+        return list(rows)
+
+    def edges(self, seen: interface.View, room: int) -> List[Row]:
+        """All edges, by as many calls as columns of so many places take."""
+        found: List[Row] = []
+        source, count = c_uint32(), c_uint64()
+        table = [column(it, room) for it in "IIIqQQ"]
+        while source.value < self.size.vertices:
+            columns = [it for each in table for it in (at(each), room)]
+            must(self.calls.version_edges(self.handle, seen, source, *columns, count))
+            rows: Iterator[Row] = zip(*table)  # type: ignore[assignment]
+            found += itertools.islice(rows, count.value)
+        return found
+
+
+class Desk(Owner):
+    def __init__(self, library: Library, blocks: int) -> None:
+        super().__init__(library)
+        self.handle = interface.Desk()
+        must(library.desk_new(blocks, self.handle))
+
+    def free(self) -> None:
+        self.library.desk_free(self.handle)
+        self.handle = interface.Desk()
+
+    def apply(self, batch: Batch) -> interface.Counts:
+        counts = interface.Counts()
+        must(self.library.desk_apply(self.handle, batch.handle, counts))
+        return counts
+
+    def insert_columns(self, kind: bytes, names: Sequence[bytes],
+                       edges: Sequence[Tuple[int, int, int, int]]) -> Tuple[Code, int, interface.Counts]:
+        """Inserts edges, each with the places of two names, a weight and a time. Hands back the code, how many are in, and what
+        became of them."""
+        text, ends, none = b"".join(names), column("Q", len(names)), column("Q", 0)
+        for place, name in enumerate(names):
+            ends[place] = len(name) + (ends[place - 1] if place else 0)
+        columns = [array.array(it, [edge[place] for edge in edges]) for place, it in enumerate("IIqQ")]
+        counts, done = interface.Counts(), c_uint64()
+        told = [it for each in columns for it in (at(each if each else none), len(edges))]
+        code = self.calls.desk_insert_columns(self.handle, kind, len(kind), text, len(text), at(ends), len(names), *told, counts,
+                                                done)
+        return Code(code), done.value, counts
+
+    def collect(self) -> int:
+        out = c_uint64()
+        must(self.library.desk_collect(self.handle, out))
+        return out.value
+
+    def stat(self) -> interface.Stat:
+        out = interface.Stat()
+        must(self.library.desk_stat(self.handle, out))
+        return out
+
+    def hold(self) -> Version:
+        handle, hold = interface.Version(), interface.Hold()
+        must(self.library.desk_hold(self.handle, handle, hold))
+        return Version(self.library, handle, hold)
+
+    def release(self, version: Version) -> None:
+        """Takes the hold back, and lets the version go."""
+        assert version.hold is not None
+        must(self.library.desk_release(self.handle, version.hold))
+        version.free()
+
+    def rebase(self) -> None:
+        must(self.library.desk_rebase(self.handle))
+
+
+def parted(text: bytes, ends: Sequence[int]) -> List[bytes]:
+    return [text[start:end] for start, end in zip([0, *ends], ends)]
+
+
+def fields(told: "interface.Counts | interface.Stat | interface.Size | interface.Hold") -> Tuple[int, ...]:
+    """What a struct of numbers has."""
+    return tuple(getattr(told, name) for name, _ in told._fields_)
+
+
+def whole(version: Version) -> Tuple[object, ...]:
+    """All that can be read of a version, to compare it."""
+    every = view()
+    return (fields(version.size), tuple(version.names()), tuple(version.kind_names()), tuple(version.edges(every, 4096)),
+            tuple(version.labels(every)), tuple(version.cores(every)), tuple(version.degrees(every)))

@@ -1,0 +1,263 @@
+"""Each function with what no caller should give it, and that it says so and leaves all as it was: a handle that holds nothing or
+something already, arrays that are too short or differ, texts that are no names, numbers that name nothing, ends that fall."""
+import array
+import inspect
+import unittest
+from ctypes import c_uint32, c_uint64
+from typing import Any, Dict, List, Sequence, Tuple
+
+from calls import ANY_KIND, EVER, Batch, Code, Desk, at, column, fields, interface, view, whole
+from places import library
+
+GUARD = 0x5A
+FULL = (1 << 64) - 1
+NO_NAMES = [b"", b"z" * 65, b"a b", b"a\n", b"\x7f", b"\0", b"a\0", b"\xff\xfe", "é".encode(), b"\xed\xa0\x80", b"\xc0\xaf"]
+
+
+class Guarded:
+    """An array with a guard before and behind it, which a call must leave alone."""
+
+    def __init__(self, kind: str, count: int) -> None:
+        self.size, self.count = array.array(kind).itemsize, count
+        self.bytes = array.array("B", [GUARD] * (16 + self.size * count + 16))
+        self.at = at(self.bytes) + 16
+
+    def is_left_alone(self) -> bool:
+        return all(it == GUARD for it in (*self.bytes[:16], *self.bytes[16 + self.size * self.count:]))
+
+
+def table(kinds: str, counts: Sequence[int]) -> Tuple[List[Guarded], List[int]]:
+    """Guarded arrays, and the words of a call that gives them."""
+    arrays = [Guarded(kind, count) for kind, count in zip(kinds, counts)]
+    return arrays, [it for each in arrays for it in (each.at, each.count)]
+
+
+class Hostile(unittest.TestCase):
+    def setUp(self) -> None:
+        # (these calls are judged by the library alone)
+        self.library: Any = library()
+        self.desk, self.batch = Desk(library(), 32), Batch(library())
+        for it in ((b"k", b"a", b"b", 1, 5), (b"k", b"a", b"c", 2, 6), (b"m", b"b", b"c", 3, 7)):
+            self.batch.insert(*it)
+        self.desk.apply(self.batch)
+        self.batch.insert(b"k", b"a", b"d", 4, 8)
+        self.held = self.desk.hold()
+        self.before = self.read()
+
+    def tearDown(self) -> None:
+        self.assertEqual(self.read(), self.before)
+        for it in (self.held, self.batch, self.desk):
+            it.free()
+
+    def read(self) -> Tuple[object, ...]:
+        last = self.desk.hold()
+        told = whole(self.held), whole(last), fields(self.desk.stat()), len(self.batch)
+        self.desk.release(last)
+        return told
+
+    def refuses(self, wanted: Code, code: int) -> None:
+        self.assertEqual(Code(code), wanted)
+
+    def test_handles_that_hold_nothing(self) -> None:
+        it, desk, batch, none = self.library, interface.Desk(), interface.Batch(), interface.Version()
+        held, counts, number, name = self.held.handle, interface.Counts(), c_uint64(), (b"k", 1)
+        one = column("Q", 9)
+        where, few = at(one), c_uint32()
+        edge = (*name, *name, *name)
+        codes = [
+            it.batch_length(batch, number), it.batch_insert(batch, *edge, 1, 1), it.batch_add(batch, *edge, 1, 1),
+            it.batch_remove(batch, *edge), it.batch_expire(batch, 1),
+            it.desk_apply(desk, self.batch.handle, counts), it.desk_apply(self.desk.handle, batch, counts),
+            it.desk_apply(desk, batch, counts), it.desk_collect(desk, number), it.desk_stat(desk, interface.Stat()),
+            it.desk_insert_columns(desk, *name, *name, *[where, 1] * 5, counts, number),
+            it.desk_hold(desk, none, interface.Hold()), it.desk_release(desk, interface.Hold()), it.desk_rebase(desk),
+            it.version_clone(none, interface.Version()), it.version_size(none, interface.Size()),
+            it.version_vertex(none, *name, few), it.version_kind(none, *name, few),
+            it.version_names(none, 0, where, 1, where, 1), it.version_kind_names(none, 0, where, 1, where, 1),
+            it.version_edge(none, 0, 0, 0, interface.Edge()),
+            it.version_degrees(none, view(), *[where, 1] * 3), it.version_levels(none, view(), 0, where, 1),
+            it.version_labels(none, view(), where, 1), it.version_cores(none, view(), where, 1),
+            it.version_row(none, view(), 0, *[where, 1] * 5, number),
+            it.version_edges(none, view(), few, *[where, 1] * 6, number),
+        ]
+        self.assertEqual(codes, [Code.NO_HANDLE] * len(codes))
+        self.assertEqual([desk.at, batch.at, none.at], [None] * 3)
+        # And these may be given: nothing is there to end.
+        it.batch_free(batch), it.desk_free(desk), it.version_free(none)
+        # A handle that is to be made holds something already, and holds it still.
+        copy = self.held.clone()
+        kept = [self.batch.handle.at, self.desk.handle.at, held.at, copy.handle.at]
+        codes = [it.batch_new(self.batch.handle), it.desk_new(16, self.desk.handle),
+                 it.desk_hold(self.desk.handle, held, interface.Hold()), it.version_clone(held, copy.handle)]
+        self.assertEqual(codes, [Code.HELD_ALREADY] * len(codes))
+        self.assertEqual([self.batch.handle.at, self.desk.handle.at, held.at, copy.handle.at], kept)
+        copy.free()
+
+    def test_no_function_is_forgotten(self) -> None:
+        text = inspect.getsource(Hostile.test_handles_that_hold_nothing)
+        self.assertEqual({name for name in interface.FUNCTIONS if f"it.{name}(" not in text}, {"interface"})
+
+    def test_numbers_of_blocks(self) -> None:
+        for blocks in (0, 15, 65_537, (1 << 32) - 1):
+            desk = interface.Desk()
+            self.refuses(Code.BAD_BLOCKS, self.library.desk_new(blocks, desk))
+            self.assertIsNone(desk.at)
+        for blocks in (16, 65_536):
+            Desk(library(), blocks).free()
+
+    def test_texts_that_are_no_names(self) -> None:
+        for bad in NO_NAMES:
+            for place in range(3):
+                names = [b"k", b"a", b"b"]
+                names[place] = bad
+                told = [it for name in names for it in (name, len(name))]
+                self.refuses(Code.BAD_NAME, self.library.batch_insert(self.batch.handle, *told, 1, 1))
+                self.refuses(Code.BAD_NAME, self.library.batch_add(self.batch.handle, *told, 1, 1))
+                self.refuses(Code.BAD_NAME, self.library.batch_remove(self.batch.handle, *told))
+            number = c_uint32(77)
+            self.refuses(Code.NO_VERTEX, self.library.version_vertex(self.held.handle, bad, len(bad), number))
+            self.refuses(Code.NO_KIND, self.library.version_kind(self.held.handle, bad, len(bad), number))
+            code, done, _ = self.desk.insert_columns(b"k", [b"a", bad], [(0, 1, 1, 1)])
+            self.assertEqual((code, done), (Code.BAD_NAME, 0))
+            self.assertEqual(self.desk.insert_columns(bad, [b"a", b"b"], [(0, 1, 1, 1)])[:2], (Code.BAD_NAME, 0))
+        star = (b"*", 1, b"a", 1, b"b", 1)
+        self.refuses(Code.BAD_NAME, self.library.batch_insert(self.batch.handle, *star, 1, 1))
+        self.refuses(Code.BAD_NAME, self.library.batch_add(self.batch.handle, *star, 1, 1))
+        self.refuses(Code.BAD_NAME, self.library.batch_remove(self.batch.handle, *star))
+        self.assertEqual(self.desk.insert_columns(b"*", [b"a", b"b"], [(0, 1, 1, 1)])[:2], (Code.BAD_NAME, 0))
+
+    def test_weights_and_times(self) -> None:
+        edge = (b"k", 1, b"a", 1, b"b", 1)
+        for weight in ((1 << 40) + 1, -(1 << 40) - 1, (1 << 63) - 1, -(1 << 63)):
+            for call in (self.library.batch_insert, self.library.batch_add):
+                self.refuses(Code.BAD_WEIGHT, call(self.batch.handle, *edge, weight, 1 << 63))
+            self.assertEqual(self.desk.insert_columns(b"k", [b"a", b"b"], [(0, 1, weight, 0)])[:2], (Code.BAD_WEIGHT, 0))
+        for time in (1 << 63, FULL):
+            for call in (self.library.batch_insert, self.library.batch_add):
+                self.refuses(Code.BAD_TIME, call(self.batch.handle, *edge, 1, time))
+            self.refuses(Code.BAD_TIME, self.library.batch_expire(self.batch.handle, time))
+            self.assertEqual(self.desk.insert_columns(b"k", [b"a", b"b"], [(0, 1, 0, time)])[:2], (Code.BAD_TIME, 0))
+
+    def columns(self, text: bytes, ends: List[int], sources: List[int], targets: List[int], weights: List[int],
+                times: List[int]) -> Tuple[Code, int]:
+        told = [array.array(kind, it) for kind, it in zip("QIIqQ", (ends, sources, targets, weights, times))]
+        counts, done, none = interface.Counts(), c_uint64(99), column("Q", 0)
+        words = [it for each in told for it in (at(each if each else none), len(each))]
+        code = self.library.desk_insert_columns(self.desk.handle, b"k", 1, text, len(text), *words, counts, done)
+        return Code(code), done.value
+
+    def test_columns_that_differ_and_numbers_past_a_dictionary(self) -> None:
+        names, pair = (b"ab", [1, 2]), ([0], [1], [1], [1])
+        for place in range(4):
+            for other in (range(0), range(2)):
+                columns: List[List[int]] = [*pair]
+                columns[place] = [*other]
+                self.assertEqual(self.columns(*names, *columns), (Code.BAD_LENGTH, 0))
+        for source, target in ((2, 0), (0, 2), ((1 << 32) - 1, 0), (0, (1 << 32) - 1)):
+            self.assertEqual(self.columns(*names, [source], [target], [1], [1]), (Code.BAD_NUMBER, 0))
+        self.assertEqual(self.columns(b"", [], *pair), (Code.BAD_NUMBER, 0))
+        self.assertEqual(self.columns(*names, [], [], [], []), (Code.OK, 0))
+
+    def test_ends_that_fall_or_leave_the_text(self) -> None:
+        for ends in ([2, 1], [1, 3], [3, 3], [FULL, FULL], [1, FULL], [FULL, 1], [1 << 63, (1 << 63) + 1]):
+            self.assertEqual(self.columns(b"ab", ends, [0], [1], [1], [1]), (Code.BAD_NUMBER, 0))
+            self.assertEqual(self.columns(b"ab", ends, [1], [0], [1], [1]), (Code.BAD_NUMBER, 0))
+
+    def test_what_is_asked_of_no_kind_or_vertex(self) -> None:
+        it, held, out = self.library, self.held.handle, interface.Edge()
+        for kind in (2, 64, 255, 256, 1 << 31, ANY_KIND - 1):
+            seen, room = interface.View(*EVER, kind), at(column("Q", 9))
+            self.refuses(Code.NO_KIND, it.version_degrees(held, seen, *[room, 3] * 3))
+            self.refuses(Code.NO_KIND, it.version_levels(held, seen, 9, room, 0))
+            self.refuses(Code.NO_KIND, it.version_labels(held, seen, room, 3))
+            self.refuses(Code.NO_KIND, it.version_cores(held, seen, room, 3))
+            self.refuses(Code.NO_KIND, it.version_row(held, seen, 9, *[room, 1] * 5, c_uint64()))
+            self.refuses(Code.NO_KIND, it.version_edges(held, seen, c_uint32(), *[room, 1] * 6, c_uint64()))
+            self.refuses(Code.NO_KIND, it.version_edge(held, kind, 0, 1, out))
+        self.refuses(Code.NO_KIND, it.version_edge(held, ANY_KIND, 0, 1, out))
+        for vertex in (3, 65_535, 65_536, (1 << 32) - 1):
+            self.refuses(Code.NO_VERTEX, it.version_edge(held, 0, vertex, 0, out))
+            self.refuses(Code.NO_VERTEX, it.version_edge(held, 0, 0, vertex, out))
+            self.refuses(Code.NO_VERTEX, it.version_levels(held, view(), vertex, at(column("I", 3)), 3))
+            self.refuses(Code.NO_VERTEX, it.version_row(held, view(), vertex, *[at(column("Q", 1)), 1] * 5, c_uint64()))
+        self.refuses(Code.NO_EDGE, it.version_edge(held, 1, 0, 1, out))
+
+    def test_windows_that_end_before_they_begin(self) -> None:
+        seen = view(None, (7, 6))
+        self.assertEqual(self.held.degrees(seen), [(0, 0, 0)] * 3)
+        self.assertEqual((self.held.levels(seen, 1), self.held.labels(seen), self.held.cores(seen)), ({1: 0}, [0, 1, 2], [0] * 3))
+        self.assertEqual((self.held.row(seen, 0), self.held.edges(seen, 1)), ([], []))
+
+    def test_tables_that_are_too_short(self) -> None:
+        it, held = self.library, self.held.handle
+        for short in (0, 2):
+            for place in range(3):
+                counts = [3, 3, 3]
+                counts[place] = short
+                arrays, words = table("IIq", counts)
+                self.refuses(Code.BAD_LENGTH, it.version_degrees(held, view(), *words))
+                self.assertTrue(all(it.is_left_alone() for it in arrays))
+            for call in (it.version_labels, it.version_cores):
+                arrays, words = table("I", [short])
+                self.refuses(Code.BAD_LENGTH, call(held, view(), *words))
+                self.assertTrue(arrays[0].is_left_alone())
+            arrays, words = table("I", [short])
+            self.refuses(Code.BAD_LENGTH, it.version_levels(held, view(), 0, *words))
+            self.assertTrue(arrays[0].is_left_alone())
+
+    def test_columns_of_edges_that_are_too_short(self) -> None:
+        it, held, count = self.library, self.held.handle, c_uint64()
+        for room in (0, 1):
+            arrays, words = table("IIqQQ", [room] * 5)
+            self.refuses(Code.BAD_LENGTH, it.version_row(held, view(), 0, *words, count))
+            self.assertEqual(count.value, 2)
+            self.assertTrue(all(it.is_left_alone() for it in arrays))
+            arrays, words = table("IIIqQQ", [room] * 6)
+            source = c_uint32()
+            self.refuses(Code.BAD_LENGTH, it.version_edges(held, view(), source, *words, count))
+            self.assertEqual((count.value, source.value), (2, 0))
+            self.assertTrue(all(it.is_left_alone() for it in arrays))
+        for kinds, call, before in (("IIqQQ", it.version_row, 0), ("IIIqQQ", it.version_edges, c_uint32())):
+            for place in range(len(kinds)):
+                for other in (2, 4):
+                    counts = [3] * len(kinds)
+                    counts[place] = other
+                    arrays, words = table(kinds, counts)
+                    self.refuses(Code.BAD_LENGTH, call(held, view(), before, *words, count))
+                    self.assertTrue(all(it.is_left_alone() for it in arrays))
+
+    def test_edges_are_written_by_whole_rows(self) -> None:
+        it, held, count, source = self.library, self.held.handle, c_uint64(), c_uint32()
+        arrays, words = table("IIIqQQ", [2] * 6)
+        told = []
+        for _ in range(3):
+            self.refuses(Code.OK, it.version_edges(held, view(), source, *words, count))
+            told.append((count.value, source.value))
+        self.assertEqual(told, [(2, 1), (1, 3), (0, 3)])
+        source.value = 4_000_000_000
+        self.refuses(Code.OK, it.version_edges(held, view(), source, *words, count))
+        self.assertEqual((count.value, source.value >= 3), (0, True))
+        self.assertTrue(all(it.is_left_alone() for it in arrays))
+
+    def test_names_past_the_last_and_texts_that_are_too_short(self) -> None:
+        calls: Dict[Code, Tuple[Any, int]] = {Code.NO_VERTEX: (self.library.version_names, 3),
+                                              Code.NO_KIND: (self.library.version_kind_names, 2)}
+        for missing, (call, count) in calls.items():
+            for first, places in ((0, count + 1), (1, count), (count, 1), (count + 1, 0), ((1 << 32) - 1, 0), ((1 << 32) - 1, 1)):
+                arrays, words = table("BQ", [9, places])
+                self.refuses(missing, call(self.held.handle, first, *words))
+                self.assertTrue(all(it.is_left_alone() for it in arrays))
+            for room in range(count):
+                arrays, words = table("BQ", [room, count])
+                self.refuses(Code.BAD_LENGTH, call(self.held.handle, 0, *words))
+                self.assertTrue(all(it.is_left_alone() for it in arrays))
+            arrays, words = table("BQ", [0, 0])
+            self.refuses(Code.OK, call(self.held.handle, count, *words))
+
+    def test_holds_that_nobody_has(self) -> None:
+        for opening, number in ((0, 0), (0, 2), (0, FULL), (1, 1), (FULL, 1)):
+            self.refuses(Code.NO_SEAT, self.library.desk_release(self.desk.handle, interface.Hold(opening, number)))
+
+
+if __name__ == "__main__":
+    unittest.main()

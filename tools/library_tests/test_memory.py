@@ -1,0 +1,169 @@
+"""Each request for memory of each call refused in turn. A call either does what it does otherwise, or its code is MEMORY and all
+that can be read is as it was before."""
+import ctypes
+import os
+import pathlib
+import subprocess
+import tempfile
+import unittest
+from typing import Callable, List, Optional, Tuple
+
+from calls import TOP, Batch, Code, Desk, Library, Owner, Refused, Version, fields, must, view, whole
+from places import compiler, linker, static_library
+
+FIRST = [(b"k", b"a", b"b", 1, 5), (b"k", b"b", b"c", 2, 6), (b"m", b"a", b"c", 3, 7), (b"k", b"c", b"a", 4, 8)]
+
+
+class Failing:
+    """The library, linked anew over memory that refuses."""
+
+    def __init__(self, room: pathlib.Path) -> None:
+        made, code = room / "failing.so", room / "failing.o"
+        exports = room / "exports.map"
+        exports.write_text("{ global: misteluk_*; refuse_calls; calls_asked; local: *; };\n")
+        source = pathlib.Path(__file__).with_name("failing.c")
+        subprocess.run([*compiler(), "-O1", "-fPIC", "-Wall", "-Wextra", "-Werror", "-c", "-o", code, source], check=True)
+        wrapped = ["--wrap=malloc", "--wrap=realloc", f"--version-script={exports}"]
+        subprocess.run([*linker(), "-shared", *wrapped, "-o", made, code, "--whole-archive", static_library()], check=True)
+        self.library, opened = Library(str(made)), ctypes.CDLL(str(made))
+        self.refuse_calls, self.calls_asked = opened.refuse_calls, opened.calls_asked
+        self.refuse_calls.argtypes, self.refuse_calls.restype = [ctypes.c_ulong] * 2, None
+        self.calls_asked.argtypes, self.calls_asked.restype = [], ctypes.c_ulong
+
+
+class State:
+    """A desk that has applied three batches, a batch with operations, a version that is held, and what a call makes."""
+
+    def __init__(self, library: Library) -> None:
+        self.library, self.desk, self.batch = library, Desk(library, 32), Batch(library)
+        for it in FIRST:
+            self.batch.insert(*it)
+        self.desk.apply(self.batch)
+        self.held = self.desk.hold()
+        self.batch.add(b"k", b"a", b"b", 1, 9)
+        self.batch.remove(b"k", b"b", b"c")
+        self.desk.apply(self.batch)
+        self.batch.insert(b"n", b"d", b"a", 9, 9)
+        self.batch.expire(8)
+        self.made: List[Owner] = []
+
+    def read(self) -> Tuple[object, ...]:
+        """All that can be read of it: of the desk also by what it holds next, which is given back."""
+        last = self.desk.hold()
+        told = (fields(self.desk.stat()), whole(last), whole(self.held), len(self.batch), [whole(it) for it in self.versions()])
+        self.desk.release(last)
+        return told
+
+    def versions(self) -> List[Version]:
+        return [it for it in self.made if isinstance(it, Version)]
+
+    def apply_then(self) -> Tuple[object, ...]:
+        """What the batch does now, and a collection, and what is there then."""
+        told = fields(self.desk.apply(self.batch))
+        return told, self.desk.collect(), self.read()
+
+    def free(self) -> None:
+        for it in [*self.made, self.held, self.batch, self.desk]:
+            it.free()
+
+
+# Each call that asks for memory, and what it hands back.
+CALLS: "dict[str, Callable[[State], object]]" = {
+    "batch_new": lambda it: it.made.append(Batch(it.library)),
+    "batch_insert": lambda it: it.batch.insert(b"k", b"x", b"y", 1, 1),
+    "batch_add": lambda it: it.batch.add(b"k", b"x", b"y", 1, 1),
+    "batch_remove": lambda it: it.batch.remove(b"k", b"a", b"b"),
+    "batch_expire": lambda it: it.batch.expire(3),
+    "desk_new": lambda it: it.made.append(Desk(it.library, 16)),
+    "desk_apply": lambda it: fields(it.desk.apply(it.batch)),
+    "desk_insert_columns": lambda it: insert_columns(it),
+    "desk_hold": lambda it: it.made.append(it.desk.hold()),
+    "desk_rebase": lambda it: it.desk.rebase(),
+    "version_clone": lambda it: it.made.append(it.held.clone()),
+    "version_levels": lambda it: it.held.levels(view(), 0),
+    "version_labels": lambda it: it.held.labels(view()),
+    "version_cores": lambda it: it.held.cores(view()),
+    "version_degrees": lambda it: it.held.degrees(view()),
+    "version_row": lambda it: it.held.row(view(), 0),
+    "version_edges": lambda it: it.held.edges(view(), 3),
+    "version_names": lambda it: it.held.names(),
+    "version_vertex": lambda it: it.held.vertex(b"b"),
+    "desk_collect": lambda it: it.desk.collect(),
+    "desk_stat": lambda it: fields(it.desk.stat()),
+}
+
+
+def insert_columns(state: State) -> object:
+    code, done, counts = state.desk.insert_columns(b"q", [b"a", b"new", b"names"], [(0, 1, 5, 5), (1, 2, 6, 6), (2, 0, 7, 7)])
+    assert done == (3 if code == Code.OK else 0)
+    must(code)
+    return fields(counts)
+
+
+class Memory(unittest.TestCase):
+    failing: Failing
+
+    @classmethod
+    def setUpClass(cls) -> None:
+        room = tempfile.TemporaryDirectory()
+        cls.addClassCleanup(room.cleanup)
+        cls.failing = Failing(pathlib.Path(room.name))
+
+    def play(self, call: Callable[[State], object], first: int, last: int) -> "tuple[Optional[Code], int, object]":
+        """The code that a call was refused with, how often it asked for memory, and what was read behind it."""
+        state, code = State(self.failing.library), None
+        before, told = state.read(), None
+        self.failing.refuse_calls(first, last)
+        try:
+            told = call(state)
+        except Refused as refused:
+            code = refused.code
+        asked = self.failing.calls_asked()
+        self.failing.refuse_calls(0, 0)
+        behind = state.read()
+        if code is not None:
+            self.assertEqual((code, behind, state.made), (Code.MEMORY, before, []))
+        found = (told, behind, state.apply_then())
+        state.free()
+        return code, asked, found
+
+    def test_each_refusal_leaves_all_as_it_was(self) -> None:
+        refused = 0
+        for name, call in CALLS.items():
+            with self.subTest(call=name):
+                _, asked, wanted = self.play(call, 0, 0)
+                _, _, without = self.play(lambda it: None, 0, 0)
+                for place in range(1, asked + 1):
+                    for last in (place, 1 << 60):
+                        code, _, found = self.play(call, place, last)
+                        if code is None:
+                            self.assertEqual(found, wanted)
+                        else:
+                            assert isinstance(found, tuple) and isinstance(without, tuple)
+                            self.assertEqual(found[1:], without[1:])
+                            refused += 1
+        self.assertGreater(refused, 100)
+
+    def test_a_load_of_several_batches_keeps_those_that_are_in(self) -> None:
+        edges = [(it % 3, (it + 1) % 3, it, it) for it in range(9_000)]
+        names, most = [b"a", b"b", b"c"], 0
+        for place in range(1, 60_000, 977):
+            desk = Desk(self.failing.library, 9_000)
+            self.failing.refuse_calls(place, 1 << 60)
+            code, done, counts = desk.insert_columns(b"k", names, edges)
+            self.failing.refuse_calls(0, 0)
+            self.assertEqual((code, done % 4096), (Code.MEMORY, 0) if done < 9_000 else (Code.OK, 9_000 % 4096))
+            beside = Desk(self.failing.library, 9_000)
+            if done:
+                self.assertEqual(beside.insert_columns(b"k", names, edges[:done])[0], Code.OK)
+            versions = desk.hold(), beside.hold()
+            self.assertEqual(*map(whole, versions))
+            self.assertEqual((counts.inserted + counts.updated, fields(desk.stat())), (done, fields(beside.stat())))
+            most = max(most, done)
+            for it in (*versions, desk, beside):
+                it.free()
+        self.assertGreaterEqual(most, 4096)
+
+
+if __name__ == "__main__":
+    unittest.main()

@@ -1,0 +1,67 @@
+"""docs/C.md: what it shows to be typed prints what stands there, its program runs, and its tables are those of the header."""
+import os
+import pathlib
+import re
+import shutil
+import subprocess
+import tempfile
+import unittest
+
+from calls import TOP, Code, interface
+
+PAGE = (TOP / "docs/C.md").read_text(encoding="utf-8")
+
+
+def rows(heading: str) -> "list[list[str]]":
+    """The rows of the table below a heading, without its head."""
+    part = PAGE.split(f"\n## {heading}\n")[1].split("\n## ")[0]
+    return [[cell.strip() for cell in line.strip("|").split("|")] for line in re.findall(r"(?m)^\|.*$", part)[2:]]
+
+
+class Page(unittest.TestCase):
+    def test_each_function_stands_there_once_with_codes_of_the_header(self) -> None:
+        found = rows("What each call takes and refuses")
+        names = [re.findall(r"`(\w+)`", it[0])[0] for it in found]
+        self.assertEqual(names, list(interface.FUNCTIONS))
+        codes = {code for it in found for code in re.findall(r"`([A-Z_]+)`", it[2])}
+        self.assertEqual(codes, set(Code.__members__) - {"OK"})
+        for name, told in zip(names, found):
+            takes_a_handle = interface.FUNCTIONS[name][0] is not None and name not in ("interface", "batch_new", "desk_new")
+            says_it = "NO_HANDLE" in told[2] or told[2].startswith(("the same", "those of `batch_insert`"))
+            self.assertEqual(says_it, takes_a_handle, name)
+
+    def test_each_code_has_its_number(self) -> None:
+        self.assertEqual([it[:2] for it in rows("Codes")], [[f"`{it.name}`", str(it.value)] for it in Code])
+
+    @unittest.skipUnless(shutil.which("cc"), "there is no cc: what the page shows was passed over")
+    def test_what_is_typed_prints_what_stands_there(self) -> None:
+        """In a folder of its own that has the repository's files; `./stinger library` prints the library that is tested."""
+        text = "\n".join(it[4:] for it in re.findall(r"(?m)^    .*$", PAGE.split("\n## A program\n")[0]))
+        parts = re.split(r"(?m)^\$ ", text)[1:]
+        with tempfile.TemporaryDirectory() as folder:
+            room = pathlib.Path(folder)
+            for it in ("include", "examples"):
+                (room / it).symlink_to(TOP / it)
+            (room / "stinger").write_text(f"#!/bin/sh\n[ \"$1\" = library ] && echo '{os.environ['MISTELUK_LIBRARY']}'\n")
+            (room / "stinger").chmod(0o755)
+            script = "".join(f"echo '$ '{index}\n{part.splitlines()[0]} || exit\n" for index, part in enumerate(parts))
+            ran = subprocess.run(["sh", "-c", script], cwd=room, stdout=subprocess.PIPE, stderr=subprocess.STDOUT, text=True)
+        wanted = "".join("\n".join([f"$ {index}", *part.splitlines()[1:], ""]) for index, part in enumerate(parts))
+        self.assertEqual((ran.returncode, ran.stdout), (0, wanted))
+        self.assertEqual(sum("roads" in it for it in parts), 4)
+
+    @unittest.skipUnless(shutil.which("cc"), "there is no cc: what the page shows was passed over")
+    def test_the_program_runs(self) -> None:
+        (program,) = re.findall(r"(?ms)^```c\n(.*?)^```$", PAGE)
+        library = pathlib.Path(os.environ["MISTELUK_LIBRARY"])
+        with tempfile.TemporaryDirectory() as folder:
+            room = pathlib.Path(folder)
+            (room / "shown.c").write_text(program)
+            words = ["cc", "-Wall", "-Wextra", "-Werror", "-pedantic", f"-I{TOP / 'include'}", "shown.c", "-o", "shown"]
+            subprocess.run([*words, library.with_suffix(".a")], cwd=room, check=True)
+            ran = subprocess.run([room / "shown"], stdout=subprocess.PIPE, text=True)
+        self.assertEqual((ran.returncode, ran.stdout), (0, "version 1 has 1 edge\n"))
+
+
+if __name__ == "__main__":
+    unittest.main()
