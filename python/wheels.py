@@ -1,7 +1,8 @@
 """Makes the wheel of this package by Python's standard library alone, for `pip install ./python` (PEP 517). Nothing is written
 beside the package, so that a clone stays clean.
 
-A wheel that pip asks for has the program of where it stands: the archive's `bin/stinger`, or the clone's proved one. Where
+A wheel that pip asks for has the library and the program of where it stands: the archive's, or the clone's proved ones, and else
+its compiled library. Where
 nothing is proved yet, it has a script that runs the clone's `./stinger`: such a wheel is of use on this machine alone, as long as
 the clone stands there, so its tags say the machine, and its version the clone.
 """
@@ -22,7 +23,7 @@ import zipfile
 from typing import Any, Dict, List, NamedTuple, Optional, Tuple
 
 HERE = pathlib.Path(__file__).resolve().parent
-PROGRAM = "misteluk/bin/stinger"
+PROGRAM, LIBRARY = "misteluk/bin/stinger", "misteluk/lib/libmisteluk.so"
 # How a script begins that stands for the program and runs a clone's.
 SCRIPT = b"#!/bin/sh\n# This runs the program of the clone that the package was installed from.\n"
 # A file of a wheel or archive: its bytes, and whether it can be run.
@@ -93,7 +94,7 @@ def write_wheel(folder: "str | os.PathLike[str]", files: Files, version: Optiona
     it = project()
     program = files.get(PROGRAM, (b"", False))[0]
     version = version or it.version + clone_of(program)
-    is_of_here = program.startswith((b"\x7fELF", SCRIPT))
+    is_of_here = program.startswith((b"\x7fELF", SCRIPT)) or LIBRARY in files
     tag = f"py3-none-linux_{os.uname().machine}" if is_of_here else "py3-none-any"
     about = f"{it.name}-{version}.dist-info"
     pure = "false" if is_of_here else "true"
@@ -135,6 +136,17 @@ def _record(files: Files, itself: str) -> str:
     return "\n".join([*lines, f"{itself},,", ""])
 
 
+def library_here() -> Files:
+    """The library of the archive or clone that the package stands in, as it was made of the sources as they are, or nothing."""
+    top = HERE.parent
+    path = top / "lib/libmisteluk.so"
+    if (top / "stinger").is_file():
+        where = subprocess.run([top / "stinger", "library", "--where"], stdout=subprocess.PIPE, stderr=subprocess.DEVNULL,
+                               text=True)
+        path = pathlib.Path(where.stdout.strip() or path)
+    return {LIBRARY: (path.read_bytes(), False)} if path.is_file() else {}
+
+
 def program_here() -> Files:
     """The program of the archive or clone that the package stands in, or a script that runs the clone's, or nothing."""
     top = HERE.parent
@@ -154,7 +166,7 @@ def program_here() -> Files:
 # What pip calls.
 
 def build_wheel(wheel_directory: str, config_settings: Any = None, metadata_directory: Optional[str] = None) -> str:
-    return write_wheel(wheel_directory, {**package(), **program_here()}).name
+    return write_wheel(wheel_directory, {**package(), **library_here(), **program_here()}).name
 
 
 def build_editable(wheel_directory: str, config_settings: Any = None, metadata_directory: Optional[str] = None) -> str:

@@ -23,7 +23,7 @@ def client():
     sys.dont_write_bytecode = True
     sys.path.insert(0, str(TOP / "python"))
     import misteluk
-    from misteluk.__main__ import make_parser
+    from misteluk.command.main import make_parser
     return make_parser(), misteluk.__version__
 
 
@@ -144,7 +144,7 @@ def quoted(text):
 
 def offered_for(action):
     """The words that are offered for a value: the choices, or what a question may begin with."""
-    from misteluk.questions import NAMES  # (found since `client` was called)
+    from misteluk.command.questions import NAMES  # (found since `client` was called)
     return action.choices or (NAMES if action.metavar == "QUESTION" else ())
 
 

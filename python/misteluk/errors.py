@@ -3,10 +3,10 @@ from __future__ import annotations
 
 from typing import TYPE_CHECKING, Any, Dict, List, Mapping, NamedTuple, Optional, Sequence, Tuple, Type
 
-from .records import Fault
+from .values.records import Fault
 
 if TYPE_CHECKING:
-    from .answers import Commit
+    from .values.answers import Commit
 
 # How many parts of a fleet are told of that gave no answer.
 MOST_TOLD = 10
@@ -255,6 +255,14 @@ class SaveFault(StoreError):
 
 class ProgramNotFound(StoreError):
     """There is no program to run."""
+
+
+class LibraryNotFound(StoreError):
+    """There is no library to load, or it isn't the one of this package."""
+
+
+class NoMemory(StoreError, MemoryError):
+    """The library found no memory for a call. All is as it was before it."""
 
 
 class NoAnswer(StoreError, TimeoutError):

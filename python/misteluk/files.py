@@ -12,7 +12,7 @@ import zlib
 from typing import IO, Any, BinaryIO, Iterator, NoReturn, TextIO, Tuple, Type, cast
 
 from .errors import Missing, SaveFault
-from .finding import Path
+from .engine.finding import Path
 
 # How packed files begin, by the end of their names.
 _BEGINNINGS = {".gz": b"\x1f\x8b", ".xz": b"\xfd7zXZ\0", ".bz2": b"BZh", ".zst": b"\x28\xb5\x2f\xfd"}

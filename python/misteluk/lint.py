@@ -6,10 +6,10 @@ import re
 import subprocess
 from typing import Dict, Iterator, List, NamedTuple, Optional, Tuple, Union
 
-from . import records
+from .values import records
 from .errors import WORDS, NoAnswer
-from .faults import advice_for
-from .finding import Path, find_program
+from .feeds.advice import advice_for
+from .engine.finding import Path, find_program
 
 # Which field a word is about where the record alone doesn't tell.
 STATE_FIELDS: Dict[str, Tuple[str, ...]] = {

@@ -8,9 +8,9 @@ import os
 from collections import Counter
 from typing import Any, Iterable, Mapping, Sequence, Tuple, Union
 
-from .answers import Degree
+from .values.answers import Degree
 from .errors import Missing
-from .names import shown
+from .values.names import shown
 
 FIRST, SECOND, GRAY = "#1f5fa8", "#d9822b", "#777777"
 # Texts stay texts, and a figure that is drawn again has the same bytes.

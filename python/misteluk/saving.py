@@ -13,14 +13,17 @@ from array import array
 from typing import TYPE_CHECKING, Any, Callable, Dict, List, NamedTuple, Optional, Sequence, Set, Tuple
 from urllib.parse import unquote
 
-from . import files, records
-from .copying import Content, content_of_session, operations_of
-from .errors import Missing, OverLimit, PoolEmpty, RecordLimit, SaveFault, StoreError
-from .feeds import escaped, parts_of
-from .finding import Path
-from .names import MARK
-from .progress import Progress
-from .units import Units
+from . import files
+
+from .values import records
+from .engine.copies import Content, content_of, operations_of
+from .engine.protocol import Operations
+from .errors import Missing, OverLimit, PoolEmpty, SaveFault, StoreError
+from .feeds.feed import escaped, parts_of
+from .engine.finding import Path
+from .values.names import MARK
+from .feeds.progress import Progress
+from .values.units import Units
 
 if TYPE_CHECKING:
     from .session import Session
@@ -113,40 +116,16 @@ def save(session: "Session[Any, Any]", path: Path, progress: Optional[bool] = No
     """Writes the version that the session holds as one file. See `Session.save`."""
     ending = files.ending_of(path)
     files.place_of(path)
-    _must_have_room(session)
-    content = content_of_session(session, progress)
+    session.must_be_open()
+    content = content_of(session.held)
     operations = list(operations_of(content))
     room = Room(operations)
     blocks = room.fitting()
     script = _script(_head(session, content, blocks), operations, room.batch(blocks))
-    done = Saved(os.fspath(path), session.version, len(content.names), len(content.edges), script.count(b"\n"), blocks)
-    _must_fit(done, room)
     with files.whole(path) as file, files.packer(file, ending) as packed:
         for at in range(0, len(script), _WRITTEN_AT_ONCE):
             packed.write(script[at:at + _WRITTEN_AT_ONCE])
-    return done
-
-
-def _must_have_room(session: "Session[Any, Any]") -> None:
-    """Raises where the run can't take a record for each edge and kind that is to be asked for."""
-    session._must_be_open()
-    candidates = session.store._candidates()
-    session.store._begin_many(1 + session._unasked(candidates) + len(candidates.kinds))
-    needed = 1 + session._unasked(candidates) + len(candidates.kinds)
-    sent, most = session.store._talk.records, session.store._most_records
-    if sent + needed > most:
-        raise RecordLimit(f"a save asks for each edge that the session wasn't told of, in {needed} records, and this run has had "
-                          f"{sent} of {most}. Nothing was asked or written")
-
-
-def _must_fit(done: Saved, room: Room) -> None:
-    """Raises where a copy is more than a run takes."""
-    counts = {"records": done.records, "names": done.names, "edges": done.edges, "blocks": room.needed(1)}
-    over = [f"{counts[what]} {what}, where a run takes {most}"
-            for what, most in (("records", records.MOST_RECORDS), ("blocks", records.MOST_BLOCKS)) if counts[what] > most]
-    if over:
-        raise OverLimit(f"a copy of version {done.version}, with {done.names} names and {done.edges} edges, takes "
-                        f"{' and '.join(over)}: an edge whose two times differ takes two records. Nothing was written", counts)
+    return Saved(os.fspath(path), session.version, len(content.names), len(content.edges), script.count(b"\n"), blocks)
 
 
 # What is written.
@@ -165,9 +144,9 @@ def _head(session: "Session[Any, Any]", content: Content, needed: int) -> str:
     facts = {"version": session.version, "names": len(content.names), "edges": len(content.edges), "blocks": store.blocks,
              "needed": needed}
     told = [(it, str(value)) for it, value in facts.items()]
-    if store._units_are_set:
+    if store.ledger.units_are_set:
         told += [("weight_scale", str(units.weight_scale)), ("times", units.times)]
-    to_user = store._terms.names.to_user
+    to_user = store.ledger.terms.names.to_user
     texts = ((it, to_user(it)) for it in dict.fromkeys([*content.kinds, *content.names]))
     told += [(it, piece) for it, text in texts if text != it for piece in _pieces(escaped(text))]
     lines = (records.record(("i", KIND, it, piece, "0", "0")) for it, piece in told)
@@ -236,6 +215,7 @@ def restore(path: Path, make: "Callable[[int, Optional[int], Optional[str]], Sto
     store: Optional[Store[Any, Any]] = None
     try:
         store = make(blocks, scale, found.facts.get("times"))
+        _must_fit(store, os.fspath(path), found, size)
         _fill(store, found, size, Progress(f"restoring {os.fspath(path)}", len(found.operations), progress))
         stat, wanted = store.stat(), (found.count("names"), found.count("edges"))
         if (stat.names, stat.edges) != wanted:
@@ -249,26 +229,29 @@ def restore(path: Path, make: "Callable[[int, Optional[int], Optional[str]], Sto
 
 def _fill(store: "Store[Any, Any]", found: Found, size: int, told: Progress) -> None:
     """Applies a file's operations, in batches of this size, to an empty store, and takes its names and kinds."""
-    store._terms.names.put(found.texts)
-    # (an endless store would go on in a new program without names that have no edge yet)
-    store._endless, is_endless = False, store._endless
+    ledger = store.ledger
+    ledger.terms.names.put(found.texts)
     for part in parts_of(found.operations, size or 1):
-        store._apply("".join(part).encode("ascii"), len(part), True)
+        ledger.apply(Operations("".join(part).encode("ascii"), len(part)), True)
         told.step(len(part))
-    store._endless = is_endless
     told.end()
     kinds = dict.fromkeys(records.split_record(it)[1] for it in found.operations)
-    store._kinds.update(dict.fromkeys(map(store._terms.names.to_user, kinds)))
+    ledger.kinds.update(dict.fromkeys(map(ledger.terms.names.to_user, kinds)))
 
 
 def _batch(name: str, found: Found, room: Room, blocks: int) -> int:
-    """The size of batches for so many blocks. Raises where there is none, or the run has no room for them."""
+    """The size of batches for so many blocks. Raises where there is none."""
     size = room.batch(blocks)
     if found.operations and not size:
         raise PoolEmpty(needed=room.needed(1), free=blocks, text=f"{name} needs at least {room.needed(1)} blocks, and {blocks} "
                         "are said. Nothing is restored", advice="")
-    count = len(found.operations) + 2 * -(-len(found.operations) // (size or 1)) + 2
-    if count > records.MOST_RECORDS:
-        raise OverLimit(f"{name} takes {count} records in batches of {size}, for which {blocks} blocks have room, where a run "
-                        f"takes {records.MOST_RECORDS}: with more blocks they are fewer. Nothing is restored", {"records": count})
     return size
+
+
+def _must_fit(store: "Store[Any, Any]", name: str, found: Found, size: int) -> None:
+    """Raises where a program's records aren't enough."""
+    count, left = len(found.operations) + 2 * -(-len(found.operations) // (size or 1)) + 2, store.records_left
+    if left is not None and count > left:
+        raise OverLimit(f"{name} takes {count} records in batches of {size}, for which {store.blocks} blocks have room, where a "
+                        f"run takes {records.MOST_RECORDS}: with more blocks they are fewer. Nothing is restored",
+                        {"records": count})

@@ -1,19 +1,37 @@
-"""A session, which holds a version of a store."""
+"""A session, which holds a version of a store and answers questions about it."""
 from __future__ import annotations
 
-from typing import TYPE_CHECKING, Optional
+from array import array
+from operator import add
+from typing import (TYPE_CHECKING, Any, Callable, Dict, Generic, Iterable, Iterator, List, Optional, Sequence, Tuple, TypeVar,
+                    Union, overload)
 
-from .answers import T, W
-from .calls import talks
-from .exporting import Exporting
-from .finding import Path
+from .engine.finding import Path
+from .engine.protocol import Arrays, Denied, Scope, Held
+from .errors import BadName, Incomplete, NoKind, NoVertex, SessionClosed, refusal
+from .values import records
+from .values.answers import Answer, Values, Degree, Edge, Neighbor, T, W, degrees
+from .values.edges import Diff, Edges, Told
+from .values.names import must_be_texts, shown
+from .values.terms import Terms
+from .values.units import Moment
 
 if TYPE_CHECKING:
+    import igraph
+    import networkx
+    import pandas
+    import scipy.sparse
+
     from .saving import Saved
     from .store import Store
 
+R = TypeVar("R")
+RAISE: Any = object()
+# An edge with its ends, as a user names them.
+Ends = Tuple[str, str, str]
 
-class Session(Exporting[W, T]):
+
+class Session(Generic[W, T]):
     """Holds a version: every answer is that version's, whatever is committed meanwhile. Close it, or use it in a `with`: a
     session that is open keeps blocks from being freed.
 
@@ -21,55 +39,375 @@ class Session(Exporting[W, T]):
     goes over the edges whose recent time, that of the last operation that touched them, is in the window. Times are in the
     store's units; a date without a time of day begins a window with its day, and ends one with its day's end.
 
-    Neighbors, paths and all edges are asked for edge by edge: one record of the run for each edge of the vertex, or of the graph,
-    that the last version or an open session's may have. A session keeps what it was told until it is closed, in some 200 bytes
-    an edge, so a second export, another window or a save takes no record for it. `Store.records_left` says how many are left, a
-    warning (`NearLimit`) that all edges can be asked for once more and not twice, and `RecordLimit` beforehand that too few are
-    left (`within` with `directed=False` says so at each step). The client keeps which edges there may be, in 27 to 37 bytes
-    each, until they are gone from all open sessions; what a rebase undid stays, and so do late edges whose times were once
-    greater.
+    Several threads may ask one session. Over a program neighbors, paths and all edges are asked for edge by edge: one record of
+    the run for each edge of the vertex, or of the graph, that the last version or an open session's may have. `RecordLimit` says
+    beforehand where too few are left. What was told of all edges once is kept, and costs no record again.
     """
 
-    def __init__(self, store: "Store[W, T]", slot: int, version: int, names: int) -> None:
-        self.store, self.slot, self.version, self.names = store, slot, version, names
-        self._is_open = True
-        self._kept = {}
+    def __init__(self, store: "Store[W, T]", held: Held) -> None:
+        self.store, self.held = store, held
+        self.slot, self.version, self.names = held.slot, held.number, held.count
+        self._names: Optional[List[str]] = None
+
+    @property
+    def is_open(self) -> bool:
+        return self.held.is_open
+
+    def must_be_open(self) -> None:
+        if not self.is_open:
+            raise SessionClosed(f"the session of version {self.version} is closed")
+
+    @property
+    def _terms(self) -> Terms:
+        return self.store.ledger.terms
+
+    # How the version is asked.
+
+    def _asked(self, call: Callable[..., R], fields: Sequence[str], *given: Any) -> R:
+        """What a call gives. What it denies is told in the user's terms: `fields` say what was asked."""
+        try:
+            return call(*given)
+        except Denied as fault:
+            raise self._terms.denied(fault, fields) from None
+
+    def _scope(self, command: str, kind: Optional[str], since: Moment, until: Moment,
+               *names: str) -> "Tuple[Scope, Sequence[str]]":
+        """Which edges count, and what is asked as fields. Raises where a name is none, the kind none, or the window no window."""
+        self.must_be_open()
+        asked = (command, str(self.slot), *names, kind or records.ANY, str(since), str(until))
+        must_be_texts(asked)
+        terms = self._terms
+        if kind is None and since == 0 and until == records.MOST_TIME and not names:
+            return Scope(), asked
+        for fault in terms.faults_of(asked, records.MOST_SEATS):
+            raise terms.refusal(fault)
+        begin = int(terms.units.time_to_program(str(since)))
+        end = int(terms.units.time_to_program(str(until), is_end=True))
+        if begin > end:
+            raise refusal("BadWindow", f"{','.join(map(shown, asked))}: since {since} is after until {until}")
+        of_kind = None if kind in (None, records.ANY) else terms.names.to_program(str(kind), keep=False)
+        return Scope(of_kind, begin, end), asked
+
+    def _all_names(self) -> List[str]:
+        """The vertices by number, as a user names them."""
+        if self._names is None:
+            self._names = list(self._terms.names.all_to_user(self.held.names()))
+        return self._names
+
+    def _answer(self, value: str, asked: Sequence[str], columns: Dict[str, Values],
+                names: Optional[Sequence[str]] = None) -> "Answer[Any]":
+        names = self._all_names() if names is None else names
+        return Answer.of(names, columns, self.version, ",".join(asked), value)
+
+    def _edges(self, found: Arrays) -> Edges:
+        kinds = list(self._terms.names.all_to_user(self.held.kinds()))
+        return Edges(kinds, self._all_names(), self._terms.units, found)
+
+    # Tables.
+
+    def levels(self, source: str, kind: Optional[str] = None, since: Moment = 0,
+               until: Moment = records.MOST_TIME) -> Answer[int]:
+        """The least number of edges on a walk from the source, for each vertex that one reaches."""
+        scope, asked = self._scope("bfs", kind, since, until, source)
+        name = self._terms.names.to_program(source, keep=False)
+        reached, levels = self._asked(self.held.levels, asked, scope, name)
+        names = self._all_names()
+        names = names if len(reached) == len(names) else list(map(names.__getitem__, reached))
+        return self._answer("level", asked, {"level": Values(levels)}, names)
+
+    def components(self, kind: Optional[str] = None, since: Moment = 0, until: Moment = records.MOST_TIME) -> Answer[str]:
+        """A label for each vertex: the first of the vertices that walks join to it, direction ignored."""
+        scope, asked = self._scope("comp", kind, since, until)
+        labels, names = self._asked(self.held.labels, asked, scope), self._all_names()
+        return self._answer("label", asked, {"label": Values(labels, lambda it: list(map(names.__getitem__, it)))})
+
+    def cores(self, kind: Optional[str] = None, since: Moment = 0, until: Moment = records.MOST_TIME) -> Answer[int]:
+        """Core numbers (Seidman 1983): the greatest k so that the vertex is in a set of which each has k neighbors in it."""
+        scope, asked = self._scope("core", kind, since, until)
+        return self._answer("core", asked, {"core": Values(self._asked(self.held.cores, asked, scope))})
+
+    def degrees(self, kind: Optional[str] = None, since: Moment = 0, until: Moment = records.MOST_TIME) -> Answer[Degree[W]]:
+        """For each vertex how many edges go out and come in, and the weight that goes out."""
+        scope, asked = self._scope("deg", kind, since, until)
+        found = self._asked(self.held.degrees, asked, scope)
+        return self._answer("degree", asked, degrees(*found, self._terms.units.weights_told))
+
+    def weights_in(self, kind: Optional[str] = None, since: Moment = 0, until: Moment = records.MOST_TIME) -> Answer[W]:
+        """For each vertex the weight that comes in."""
+        scope, asked = self._scope("deg", kind, since, until)
+        found = self._asked(self.held.edges, asked, scope)
+        weights = array("q", bytes(8 * self.names))
+        for target, weight in zip(found.targets, found.weights):
+            weights[target] += weight
+        asked = ("weights_in", *asked[2:])
+        return self._answer("weight_in", asked, {"weight_in": Values(weights, self._terms.units.weights_told)})
+
+    # One edge, and all.
+
+    def edge(self, kind: str, source: str, target: str) -> Optional[Edge[W, T]]:
+        """One edge, or `None`. Raises `NoKind` or `NoVertex` for names that the version doesn't have."""
+        asked = ("edge", str(self.slot), kind, source, target)
+        marks = self._asked(self.held.edge, asked, self._ends(asked))
+        return None if marks is None else self._terms.units.edge_to_user(*marks)
+
+    def _ends(self, asked: Sequence[str]) -> Ends:
+        """An edge's ends in the engine's terms. Raises where one of them is no name."""
+        text = ",".join(map(str, asked)) + "\n"
+        if not (records.is_plain_edge(text) and self._terms.has_no_id(text)):
+            must_be_texts(asked)
+            for fault in self._terms.faults_of(asked, records.MOST_SEATS):
+                raise self._terms.refusal(fault)
+            asked = self._terms.turned(asked, keep=False)[0]
+        must_be_texts(asked)
+        _, _, kind, source, target = asked
+        return kind, source, target
+
+    @overload
+    def edges(self, asked: Iterable[Ends], *, missing: R) -> "List[Union[Edge[W, T], R, None]]": ...
+
+    @overload
+    def edges(self, asked: Iterable[Ends]) -> "List[Optional[Edge[W, T]]]": ...
+
+    @overload
+    def edges(self, asked: Optional[str] = None, *, kind: Optional[str] = None, since: Moment = 0,
+              until: Moment = records.MOST_TIME) -> "Iterator[Tuple[str, str, str, Edge[W, T]]]": ...
+
+    def edges(self, asked: Any = None, *, missing: Any = RAISE, kind: Optional[str] = None, since: Moment = 0,
+              until: Moment = records.MOST_TIME) -> Any:
+        """All edges, or those that are asked for.
+
+        Without `asked`, or with a kind in its place, an iterator of (kind, source, target, `Edge`), of a kind and a window where
+        they are said.
+
+        With `asked` a list, for each kind, source and target an `Edge`, or `None` where the version has the names and not the
+        edge. Raises `NoKind` or `NoVertex` for names that it doesn't have; `missing=` is given in place of such an edge."""
+        if isinstance(asked, str) and kind is not None:
+            raise ValueError(f"a kind is said once, and here are two: {asked!r} and {kind!r}")
+        if asked is None or isinstance(asked, str):
+            return iter(self.edges_columns(kind if asked is None else asked, since, until))
+        if kind is not None or since != 0 or until != records.MOST_TIME:
+            raise ValueError("kind, since and until are for all edges, and not for those that are asked for one by one")
+        edges = list(asked)
+        for it in edges:
+            if isinstance(it, str) or len(it) != 3:
+                raise TypeError(f"an edge is asked for by its kind, source and target, and not by {it!r}")
+        return self._some_edges([("edge", str(self.slot), *it) for it in edges], missing)
+
+    def _some_edges(self, asked: "List[Tuple[str, ...]]", missing: Any) -> "List[Any]":
+        self.must_be_open()
+        found: List[Any] = []
+        for fields, it in zip(asked, self._asked(self.held.found, (), list(map(self._ends, asked)))):
+            if isinstance(it, Denied) and missing is RAISE:
+                raise self._terms.denied(it, fields)
+            told = it is None or isinstance(it, Denied)
+            found.append((missing if it else None) if told else self._terms.units.edge_to_user(*it))  # type: ignore[misc]
+        return found
+
+    def edges_columns(self, kind: Optional[str] = None, since: Moment = 0, until: Moment = records.MOST_TIME) -> Edges:
+        """All edges as arrays with names. See `misteluk.Edges`."""
+        scope, asked = self._scope("deg", kind, since, until)
+        return self._edges(self._asked(self.held.edges, asked, scope))
+
+    def edges_frame(self, kind: Optional[str] = None, since: Moment = 0, until: Moment = records.MOST_TIME) -> "pandas.DataFrame":
+        """All edges as a pandas frame: kind, source, target, weight, first, recent. See `misteluk.Edges.frame`."""
+        return self.edges_columns(kind, since, until).frame()
+
+    def to_networkx(self, kind: Optional[str] = None, since: Moment = 0,
+                    until: Moment = records.MOST_TIME) -> "networkx.MultiDiGraph":
+        """All edges as a networkx graph, with every name of the version as a node, in order. An edge's key is its kind; it has
+        the attributes `kind`, `weight`, `first` and `recent`."""
+        return self.edges_columns(kind, since, until).to_networkx(version=self.version)
+
+    def to_igraph(self, kind: Optional[str] = None, since: Moment = 0, until: Moment = records.MOST_TIME) -> "igraph.Graph":
+        """All edges as a directed igraph graph, whose vertices have the version's numbers, and its names as `name`. Edges have
+        `kind`, `weight`, `first` and `recent`."""
+        return self.edges_columns(kind, since, until).to_igraph(version=self.version)
+
+    def to_scipy(self, kind: Optional[str] = None, since: Moment = 0,
+                 until: Moment = records.MOST_TIME) -> "scipy.sparse.csr_matrix":
+        """The weights as a sparse matrix: row and column are the numbers of source and target, whose names
+        `edges_columns().names` has. Of several kinds the weights are summed. Weights are in the parts that
+        the store counts (`units.weight_scale`)."""
+        return self.edges_columns(kind, since, until).to_scipy()
+
+    def to_csv(self, path: Path, kind: Optional[str] = None, since: Moment = 0, until: Moment = records.MOST_TIME) -> int:
+        """Writes all edges as CSV in UTF-8 with a header, kind, source, target, weight, first and recent, and gives how many they
+        are. The file is written beside and renamed when it is whole: a fault or an interrupt leaves what was there."""
+        return self.edges_columns(kind, since, until).to_csv(path)
+
+    def diff(self, later: "Session[Any, Any]", kind: Optional[str] = None, since: Moment = 0,
+             until: Moment = records.MOST_TIME) -> Diff:
+        """What became of this version's edges in a later one, or in another store's with the same units: which are gone, which
+        are new, and which have another weight or time. See `misteluk.Diff`."""
+        if later.store.units != self.store.units:
+            raise ValueError(f"the sessions' stores have other units: {self.store.units}, and {later.store.units}")
+        return Diff(*(it._edges_or_none(kind, since, until) for it in (self, later)))
+
+    def _edges_or_none(self, kind: Optional[str], since: Moment, until: Moment) -> Edges:
+        """All edges; none of a kind that the version doesn't have."""
+        try:
+            return self.edges_columns(kind, since, until)
+        except NoKind:
+            return self._edges(Arrays.none())
+
+    # From vertex to vertex.
+
+    def _beside(self, vertex: str, kind: Optional[str], since: Moment, until: Moment, is_out: bool) -> Edges:
+        scope, asked = self._scope("bfs", kind, since, until, vertex)
+        name = self._terms.names.to_program(vertex, keep=False)
+        return self._edges(self._asked(self.held.out_of if is_out else self.held.into, asked, scope, name))
+
+    def edges_out_of(self, source: str, kind: Optional[str] = None, since: Moment = 0,
+                     until: Moment = records.MOST_TIME) -> Edges:
+        """The edges that go out of the source, each kind's apart, as arrays with names."""
+        return self._beside(source, kind, since, until, True)
+
+    def edges_into(self, target: str, kind: Optional[str] = None, since: Moment = 0, until: Moment = records.MOST_TIME) -> Edges:
+        """The edges that come into the target; as `edges_out_of`. The first such question puts all edges of the version in order
+        of their targets, which is kept with the session."""
+        return self._beside(target, kind, since, until, False)
+
+    def out_of(self, source: str, kind: Optional[str] = None, since: Moment = 0,
+               until: Moment = records.MOST_TIME) -> Dict[str, Edge[W, T]]:
+        """The edges that go out of the source, by target. Of several kinds to one target the weights are summed, with the least
+        first time and the greatest recent one."""
+        return _summed(self.edges_out_of(source, kind, since, until), 2)
+
+    def into(self, target: str, kind: Optional[str] = None, since: Moment = 0,
+             until: Moment = records.MOST_TIME) -> Dict[str, Edge[W, T]]:
+        """Who sends to the target: the edges that come in, by source; as `out_of`."""
+        return _summed(self.edges_into(target, kind, since, until), 1)
+
+    def neighbors(self, vertex: str, kind: Optional[str] = None, since: Moment = 0,
+                  until: Moment = records.MOST_TIME) -> Dict[str, Neighbor[W, T]]:
+        """The vertices that an edge joins to this one, in either direction, each with the edge to it and the edge from it; as
+        `out_of` and `into`."""
+        out, into = self.out_of(vertex, kind, since, until), self.into(vertex, kind, since, until)
+        return {it: Neighbor(out.get(it), into.get(it)) for it in {**out, **into}}
+
+    @overload
+    def path(self, source: str, target: str, kind: Optional[str] = None, since: Moment = 0, until: Moment = records.MOST_TIME, *,
+             edges: "Any") -> Any: ...
+
+    @overload
+    def path(self, source: str, target: str, kind: Optional[str] = None, since: Moment = 0,
+             until: Moment = records.MOST_TIME) -> Optional[List[str]]: ...
+
+    def path(self, source: str, target: str, kind: Optional[str] = None, since: Moment = 0, until: Moment = records.MOST_TIME, *,
+             edges: bool = False) -> Any:
+        """A shortest walk from the source to the target, along edges, as the names on it with both ends; `None` where there is
+        none. With `edges=True` as its edges, (kind, source, target, `Edge`) each, one of several kinds that join two names."""
+        scope, asked = self._scope("bfs", kind, since, until, target)
+        levels = self.levels(source, kind, since, until)
+        if target not in levels:
+            self._asked(self.held.levels, asked, scope, self._terms.names.to_program(target, keep=False))
+            return None
+        walk: List[Told] = []
+        at = target
+        while levels[at] > 0:
+            step = next((it for it in self.edges_into(at, kind, since, until) if levels.get(it[1]) == levels[at] - 1), None)
+            if step is None:
+                raise Incomplete(f"{at!r} has an edge from a vertex {levels[at] - 1} steps off, by the levels, and the client "
+                                 "knows of none")
+            walk.append(step)
+            at = step[1]
+        walk.reverse()
+        if edges:
+            return walk
+        return [source, *(it[2] for it in walk)]
+
+    def within(self, vertex: str, hops: int, kind: Optional[str] = None, since: Moment = 0, until: Moment = records.MOST_TIME, *,
+               directed: bool = True) -> Answer[int]:
+        """The vertices that are reached from this one in at most so many steps, and in how many. With `directed=False` a step
+        goes along an edge either way."""
+        if hops < 0:
+            raise ValueError(f"hops is 0 or more, and not {hops}")
+        if directed:
+            levels = self.levels(vertex, kind, since, until)
+            near = {name: level for name, level in levels.items() if level <= hops}
+        else:
+            near = self._reached(vertex, hops, kind, since, until)
+        asked = ("within", vertex, str(hops), kind or records.ANY, str(since), str(until))
+        rows = list(near), {"level": Values(array("I", near.values()))}
+        return Answer.of(*rows, self.version, ",".join(asked), "level")
+
+    def _reached(self, vertex: str, hops: int, kind: Optional[str], since: Moment, until: Moment) -> Dict[str, int]:
+        near, front = {vertex: 0}, [vertex]
+        self.edges_out_of(vertex, kind, since, until)  # (raises where the version doesn't have the vertex or the kind)
+        for hop in range(1, hops + 1):
+            found: Dict[str, None] = {}
+            for name in front:
+                found.update(dict.fromkeys(it[2] for it in self.edges_out_of(name, kind, since, until)))
+                found.update(dict.fromkeys(it[1] for it in self.edges_into(name, kind, since, until)))
+            front = [it for it in found if it not in near]
+            if not front:
+                break
+            near.update(dict.fromkeys(front, hop))
+        return near
+
+    # What it is, and its end.
+
+    def __contains__(self, it: object) -> bool:
+        """Whether the version has the vertex of this name, or the edge of this kind, source and target."""
+        try:
+            if isinstance(it, str):
+                return self._has(it)
+            if isinstance(it, tuple) and len(it) == 3 and all(isinstance(part, str) for part in it):
+                return self._some_edges([("edge", str(self.slot), *it)], None) != [None]
+        except BadName:
+            return False
+        raise TypeError(f"a name, or a kind, source and target, may be in a session, and not {it!r}")
+
+    def _has(self, name: str) -> bool:
+        try:
+            self.edges_out_of(name)
+        except NoVertex:
+            return False
+        return True
+
+    def __len__(self) -> int:
+        """How many edges the version has."""
+        return sum(self._asked(self.held.degrees, (), Scope())[0])
+
+    def __bool__(self) -> bool:
+        """True: a session without edges is a session."""
+        return True
 
     def save(self, path: Path, *, progress: Optional[bool] = None) -> "Saved":
         """Writes the version as one file, of which `Store.restore` makes a store again, and which `stinger run` takes as a
-        script. It is packed where its name ends in .gz, .xz or .bz2, or .zst where the package zstandard is there.
+        script, unless it has more than 999,999 records. It is packed where its name ends in .gz, .xz or .bz2, or .zst where the
+        package zstandard is there.
 
         The file is written beside and renamed when it is whole and on the disk: a fault, an interrupt or a crash leaves what
         was there, and a killed program perhaps a file beside it that ends in .part. Links and a file's rights stay. It has all
         that answers depend on, and the store's units and names. Pending operations and other versions aren't in it.
 
-        Each edge that the session wasn't told of yet is asked for, one record each. A copy takes two records for an edge whose
-        times differ, for a name that has no edge in its place, and for each batch. `RecordLimit` says before anything is asked
-        that this run has no room for that, and `OverLimit` before anything is written that the copy is more than a run takes.
-        Raises `OSError` where the file can't be written, `Missing` where nothing here packs it, and `ValueError` for a name that
-        says another packing, as .zip. `progress` is as in `edges_frame`."""
+        A copy takes two records for an edge whose times differ, for a name that has no edge in its place, and for each batch.
+        Raises `OSError` where the file can't be written, and `Missing` where nothing here packs it."""
         from .saving import save
         return save(self, path, progress)
 
     def close(self) -> None:
         """Lets the version go."""
-        if self._is_open and not self._calls.are_elsewhere:
-            self._close()
-
-    @talks
-    def _close(self) -> None:
-        self._kept = {}
-        if self._is_open:
-            self._is_open = False
-            self.store._sessions.pop(self.slot, None)
-            self.store._ask(("close", str(self.slot)))
+        if not self.store.engine.is_elsewhere and not self.store.is_closed:
+            self.held.close()
 
     def __enter__(self) -> "Session[W, T]":
         return self
 
     def __exit__(self, *_: object) -> None:
-        if not self.store._closed:
-            self.close()
+        self.close()
 
     def __repr__(self) -> str:
-        return f"<Session of version {self.version} in slot {self.slot}: {'open' if self._is_open else 'closed'}>"
+        return f"<Session of version {self.version} in slot {self.slot}: {'open' if self.is_open else 'closed'}>"
+
+
+def _summed(edges: Edges, end: int) -> Dict[str, Edge[Any, Any]]:
+    """Edges by one of their ends; those of several kinds are one."""
+    found: Dict[str, Edge[Any, Any]] = {}
+    for *ends, edge in edges:
+        name: Any = ends[end]
+        other = found.get(name)
+        found[name] = edge if other is None else Edge(add(other.weight, edge.weight), min(other.first, edge.first),
+                                                      max(other.recent, edge.recent))
+    return found

@@ -1,0 +1,61 @@
+"""`misteluk doctor`: which engine a store gets here, and what is to be known of it."""
+from __future__ import annotations
+
+import os
+import pathlib
+import platform
+from typing import List, Optional, Tuple
+
+from ..engine import interface
+from ..engine.finding import OF_LIBRARY, VARIABLE as OF_PROGRAM, Path, find_library, find_program
+from ..engine.calling import opened
+from ..engine.making import LIBRARY, PROGRAM, VARIABLE, choose
+from ..errors import StoreError
+from ..store import Store
+from ..values import records
+from ..version import VERSION
+
+
+def made(path: str) -> str:
+    """Whether the library or program at this path was proved: the repository's proved crates have it in their `out`, and a wheel
+    or an archive has a note beside it."""
+    place = pathlib.Path(path).resolve()
+    note = place.parent / "PROVED"
+    if note.is_file():
+        return f"proved ({note.read_text(encoding='utf-8').strip()})"
+    if place.parent.name == "out" and place.parents[2].name == "crates":
+        return "proved here"
+    return "compiled, or of elsewhere: not known to be proved"
+
+
+def look(engine: Optional[str], program: Optional[Path]) -> Tuple[List[str], bool]:
+    """What is told, and whether a store can be made."""
+    told = [f"misteluk {VERSION} on Python {platform.python_version()}, {platform.system()} {platform.machine()}"]
+    told += [f"{it} is {os.environ[it]}" for it in (VARIABLE, OF_LIBRARY, OF_PROGRAM) if it in os.environ]
+    try:
+        name, why = choose(engine, program)
+        told.append(f"engine: {name}, since {why}" if name == LIBRARY or engine or program else
+                    f"engine: program, since the library can't be loaded: {why}")
+    except ValueError as fault:
+        return [*told, str(fault)], False
+    for what in (LIBRARY, PROGRAM):
+        try:
+            path = find_library() if what == LIBRARY else find_program(program)
+            if what == LIBRARY:
+                opened(path)
+            told.append(f"{what}: {path}; {made(path)}" + (f"; interface {interface.INTERFACE}" if what == LIBRARY else ""))
+        except StoreError as fault:
+            told.append(f"{what}: {fault}")
+    try:
+        with Store(engine=name, program=program) as store:
+            store.insert("kind", "a", "b")
+            store.commit()
+            with store.open() as session:
+                is_well = session.edge("kind", "a", "b") == (1, 0, 0)
+            told.append(f"a store of {store.blocks} blocks and {store.seats} seats answers{'' if is_well else ' WRONGLY'}")
+    except StoreError as fault:
+        return [*told, f"no store can be made: {fault}"], False
+    of_run = "" if name == LIBRARY else f"; a run takes {records.MOST_RECORDS:,} records and {records.MOST_BATCHES:,} batches"
+    told.append(f"limits: {records.MOST_NAMES:,} vertices, {records.MOST_KINDS} kinds, {records.MOST_BLOCKS:,} blocks, batches "
+                f"of {records.MOST_OPERATIONS:,}{of_run}")
+    return told, is_well

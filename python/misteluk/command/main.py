@@ -1,0 +1,302 @@
+"""What `misteluk` does: load, fleet, restore, follow, lint, picture, doctor."""
+from __future__ import annotations
+
+import argparse
+import code
+import csv
+import io
+import sys
+import warnings
+from contextlib import contextmanager
+from typing import Any, Dict, Iterator, List, Optional
+
+from . import around, doctor, follow as telling
+
+from .. import files, pictures
+
+from ..values import records
+from ..errors import NoKind, NoVertex, StoreError
+from ..feeds.feed import STANDARD_INPUT, feed_name
+from ..engine.making import LIBRARY, choose
+from ..fleet.fleet import Fleet
+from ..lint import lint
+from ..feeds.loading import Survey, check, load, load_in_steps, survey
+from ..values.names import shown
+from .options import columns_of, make_parser
+from .questions import Question, all_lines
+from ..page.view import view
+from ..saving import is_saved, size_of
+from ..session import Session
+from ..store import Store
+
+
+# The status that a shell tells of a command whose output lost its reader.
+ITS_READER_WENT = 128 + 13
+
+
+def form_of_feed(words: argparse.Namespace) -> Dict[str, Any]:
+    """What is said of the feed."""
+    return {"by": words.by, "weight_scale": words.weight_scale, "times": words.times, "names": words.names,
+            "format": words.format, "columns": columns_of(words), "delimiter": words.delimiter, "header": words.header,
+            "encoding": words.encoding, "decimal": words.decimal, "dates": words.dates,
+            **({"third": words.third} if "third" in words else {})}
+
+
+def read(words: argparse.Namespace) -> Survey:
+    found = survey(words.file, batch=words.batch, rounding=words.rounding, **form_of_feed(words))
+    check(found, skip_bad=words.skip_bad)
+    return found
+
+
+def engine_of(words: argparse.Namespace) -> Dict[str, Any]:
+    """What is said of the engine."""
+    return {"engine": words.engine, "program": words.program, "timeout": words.timeout}
+
+
+def make_store(words: argparse.Namespace, found: Survey, holds: bool = False) -> Store[Any, Any]:
+    """A store with the blocks that are said, or else enough; as many as there can be where old versions are held."""
+    blocks = words.blocks or (records.MOST_BLOCKS if holds else found.fitting())
+    return Store(blocks=blocks, **engine_of(words))
+
+
+def window(words: argparse.Namespace) -> Dict[str, Any]:
+    return {"kind": words.of_kind, "since": words.since, "until": words.until}
+
+
+def run_load(words: argparse.Namespace) -> int:
+    """Loads a file and asks."""
+    if words.interactive and words.file == STANDARD_INPUT:
+        raise ValueError("--interactive reads standard input, which is the file here")
+    if (words.save or words.edges) and (words.script or words.dry_run):
+        raise ValueError("--save and --edges are for what was loaded, and --script and --dry-run load nothing")
+    must_be_place(words.save)
+    must_be_place(words.edges)
+    found = read(words)
+    tell(words, found)
+    if words.script or words.dry_run:
+        return 0
+    with make_store(words, found) as store:
+        print(load(store, found, by=words.by, skip_bad=words.skip_bad))
+        do_then(words, store)
+    return 0
+
+
+def run_restore(words: argparse.Namespace) -> int:
+    must_be_place(words.save)
+    must_be_place(words.edges)
+    with Store.restore(words.file, blocks=words.blocks, **engine_of(words)) as store:
+        stat = store.stat()
+        print(f"{words.file}: {size_of(stat.names, stat.edges)} restored in {stat.used} of {store.blocks} blocks", flush=True)
+        do_then(words, store)
+    return 0
+
+
+def must_be_place(path: Optional[str]) -> None:
+    """Raises where nothing can be saved there, before anything is loaded for it."""
+    if path:
+        files.ending_of(path)
+        files.place_of(path)
+
+
+def do_then(words: argparse.Namespace, store: Store[Any, Any]) -> None:
+    """Saves and asks what is to be saved and asked of the last version, and gives a prompt where one is wanted."""
+    with store.open() as session:
+        if words.save:
+            print(session.save(words.save), flush=True)
+        if words.edges:
+            count = session.to_csv(words.edges, **window(words))
+            print(f"{words.edges}: {count} edge{'s' * (count != 1)} of version {session.version}", flush=True)
+        for line in answer(words, session):
+            print(line)
+        if words.interactive:
+            code.interact(f"`session` holds version {session.version} of `store`. Ctrl-D ends.",
+                          local={"store": store, "session": session})
+
+
+def tell(words: argparse.Namespace, found: Survey) -> None:
+    """Prints what was counted, and writes the script that is asked for."""
+    print(found, flush=True)
+    if found.bad:
+        print(f"{found.bad} bad rows passed over:", *(it.told for it in found.faults), sep="\n  ")
+    if words.script:
+        with open(words.script, "wb") as file:
+            for part in found.parts:
+                file.write(part.text + b"commit\ncollect\n")
+        print(f"{found.records()} records written to {words.script}: stinger run --blocks {found.fitting()} < {words.script}")
+        if len(found.terms.names):
+            print(f"  {len(found.terms.names)} names and kinds stand in it as ids, ~~ and 20 signs")
+
+
+def answer(words: argparse.Namespace, session: Session[Any, Any], is_part: bool = False) -> Iterator[str]:
+    """The lines of what is asked for. A part of a fleet needn't have the names."""
+    questions: List[Question] = [*words.ask]
+    questions += [Question(f"levels from {shown(it)}", "levels", (it,)) for it in words.levels]
+    for it in questions:
+        try:
+            yield from all_lines(it, session, words.top, words.column, window(words))
+        except (NoVertex, NoKind):
+            if not is_part or not it.names:
+                raise
+            yield f"{it.text}: no such name or kind"
+
+
+def rows_told(count: int) -> str:
+    return f"{count} row{'s' * (count != 1)}"
+
+
+def run_fleet(words: argparse.Namespace) -> int:
+    """Parts a file's rows, and tells each part's answers below its key."""
+    with Fleet(words.file, key=words.key, workers=words.workers, alive=0, skip_bad=words.skip_bad, batch=words.batch,
+               **engine_of(words), **form_of_feed(words)) as fleet:
+        print(f"{feed_name(words.file)}: {rows_told(sum(fleet.parts.values()))} in {len(fleet)} part{'s' * (len(fleet) != 1)}",
+              flush=True)
+        for key, lines in fleet.ask(lambda session: list(answer(words, session, is_part=True))):
+            print(f"{shown(key)}: {rows_told(fleet.parts[key])}", *(f"  {it}" for it in lines), sep="\n", flush=True)
+        for key, count in fleet.bad.items():
+            print(f"{count} bad rows passed over {f'of {shown(key)}' if key else 'that have no key'}")
+    return 0
+
+
+def run_follow(words: argparse.Namespace) -> int:
+    is_endless = choose(words.engine, words.program)[0] == LIBRARY
+    with Store(blocks=words.blocks or records.MOST_BLOCKS, endless=is_endless, rounding=words.rounding,
+               **engine_of(words)) as store:
+        return telling.follow(words, store, form_of_feed(words))
+
+
+def run_doctor(words: argparse.Namespace) -> int:
+    told, is_well = doctor.look(words.engine, words.program)
+    print(*told, sep="\n")
+    return 0 if is_well else 1
+
+
+def run_lint(words: argparse.Namespace) -> int:
+    findings = lint(words.script, program=words.program, seats=words.seats, blocks=words.blocks)
+    for it in findings:
+        print(it)
+    print(f"{words.script}: {'1 record is' if len(findings) == 1 else f'{len(findings)} records are'} refused")
+    return 1 if findings else 0
+
+
+def run_picture(words: argparse.Namespace) -> int:
+    if words.what == "around":
+        return run_around(words)
+    found = read(words)
+    draw = draw_versions if words.what in ("edge", "compare") else draw_last
+    with make_store(words, found, words.what == "compare") as store:
+        figure = draw(words, store, found)
+    pictures.save(figure, words.output)
+    print(f"{words.output}: {words.what} of {found}")
+    return 0
+
+
+def run_around(words: argparse.Namespace) -> int:
+    around.check(words)
+    if words.by is None:
+        return run_around_saved(words)
+    found = read(words)
+    with make_store(words, found, holds=True) as store:
+        page = around.draw(words, store, found, window(words))
+    page.save(words.output)
+    print(f"{words.output}: {page}")
+    return 0
+
+
+def run_around_saved(words: argparse.Namespace) -> int:
+    """The page of the version that a file has which --save wrote."""
+    if words.at is not None or words.at_line is not None:
+        raise ValueError("a saved file has one version: --at and --at-line are for the rows of a feed")
+    with Store.restore(words.file, blocks=words.blocks, **engine_of(words)) as store:
+        page = view(store.open(), words.around, words.hops, most=words.most, title=words.title, labels=("the saved version", ""),
+                    **window(words))
+    page.save(words.output)
+    print(f"{words.output}: {page}")
+    return 0
+
+
+def draw_last(words: argparse.Namespace, store: Store[Any, Any], found: Survey) -> Any:
+    store.load(found, by=words.by, skip_bad=words.skip_bad)
+    more = {} if words.title is None else {"title": words.title}
+    with store.open() as session:
+        if words.what == "degrees":
+            return pictures.degree_distribution(session.degrees(**window(words)), **more)
+        if words.what == "components":
+            return pictures.component_sizes(session.components(**window(words)), **more)
+        return pictures.core_numbers(session.cores(**window(words)), **more)
+
+
+def named_edge(text: str) -> List[str]:
+    """A kind, source and target, parted by commas; one that has a comma stands in quotes, as in a file."""
+    edge: List[str] = next(csv.reader([text]), [])
+    if len(edge) != 3:
+        raise ValueError("the picture of an edge wants --edge KIND,SOURCE,TARGET")
+    return edge
+
+
+def draw_versions(words: argparse.Namespace, store: Store[Any, Any], found: Survey) -> Any:
+    """Pictures that need more than the last version: sessions are opened between batches."""
+    steps = load_in_steps(store, found, skip_bad=words.skip_bad)
+    if words.what == "edge":
+        edge = named_edge(words.edge or "")
+        weights = []
+        for _ in steps:
+            with store.open() as session:
+                it = session.edges([(edge[0], edge[1], edge[2])], missing=None)[0]
+                weights.append((session.version, it.weight if it else None))
+        return pictures.edge_weights(weights, words.title or f"{edge[1]} to {edge[2]} ({edge[0]})")
+    first: Optional[Session[Any, Any]] = None
+    for at, _ in enumerate(steps, 1):
+        if at == (words.first or max(1, len(found.parts) // 2)):
+            first = store.open()
+    if first is None:
+        raise ValueError(f"the first session can't be opened behind batch {words.first}: there are {len(found.parts)}")
+    second = store.open()
+    tables = [session.degrees(**window(words)) for session in (first, second)]
+    old, new = ({name: float(it.weight_out) for name, it in table.items()} for table in tables)
+    return pictures.side_by_side(old, new, (f"version {first.version}", f"version {second.version}"),
+                                 words.title or "Weight that goes out, in two sessions", "weight out")
+
+
+@contextmanager
+def plain_warnings() -> Iterator[None]:
+    """What is warned of is told as a fault is, without a line of the client's sources."""
+    before, warnings.formatwarning = warnings.formatwarning, lambda text, *_, **__: f"misteluk: {text}\n"
+    try:
+        yield
+    finally:
+        warnings.formatwarning = before
+
+
+def may_be_saved(words: argparse.Namespace) -> bool:
+    """Whether a picture is of a saved file, or of one that can't be read, which is told later."""
+    try:
+        return bool(words.what == "around" and words.file != STANDARD_INPUT and is_saved(words.file))
+    except OSError:
+        return bool(words.what == "around")
+
+
+@plain_warnings()
+def main(words: Optional[List[str]] = None) -> int:
+    parser = make_parser()
+    parsed = parser.parse_args(words)
+    if parsed.command == "picture" and parsed.by is None and not may_be_saved(parsed):
+        parser.error("one of the arguments --set --add is required, but for the page around a name in a saved file")
+    for it in (sys.stdout, sys.stderr):
+        if isinstance(it, io.TextIOWrapper):  # (a name that the terminal has no signs for)
+            it.reconfigure(errors="backslashreplace")
+    try:
+        run = {"load": run_load, "fleet": run_fleet, "restore": run_restore, "follow": run_follow, "lint": run_lint,
+               "picture": run_picture, "doctor": run_doctor}
+        status = run[parsed.command](parsed)
+        if sys.stdout:
+            sys.stdout.flush()
+        return status
+    except BrokenPipeError:
+        telling.leave_output()
+        return ITS_READER_WENT
+    except (StoreError, OSError, ValueError) as fault:
+        print(f"misteluk: {fault}", file=sys.stderr)
+        return 1
+    except KeyboardInterrupt:
+        print("misteluk: interrupted", file=sys.stderr)
+        return 130

@@ -1,0 +1,210 @@
+"""The options of each command of the command line."""
+from __future__ import annotations
+
+import argparse
+from typing import Any, Optional
+
+from . import around
+
+from ..values import records
+from ..values.answers import BY_COLUMN
+from ..version import VERSION
+from ..engine.making import ENGINES
+from ..feeds.feed import Column, Columns
+from ..feeds.notations import DECIMALS, TIMES
+from .questions import Question, question
+
+
+def column(text: str) -> Column:
+    """A column: its number from 1, or its name."""
+    return int(text) if text.isdigit() else text
+
+
+def rows(text: str) -> int:
+    """How many rows are printed, whose fault argparse tells."""
+    if not text.isdecimal():
+        raise argparse.ArgumentTypeError(f"a number of rows is 0 or more, and not {text}")
+    return int(text)
+
+
+def asked(text: str) -> Question:
+    """A question, whose fault argparse tells."""
+    try:
+        return question(text)
+    except ValueError as fault:
+        raise argparse.ArgumentTypeError(str(fault)) from None
+
+
+BLOCKS = "as many as are needed, and no fewer than 16,384"
+
+
+QUESTIONS = ("degrees, components, cores or edges, with a kind behind them or none; 'levels NAME', 'into NAME', 'out_of NAME', "
+             "'neighbors NAME', 'within NAME HOPS', 'path SOURCE TARGET' or 'edge KIND SOURCE TARGET'")
+
+
+def add_feed_options(parser: argparse.ArgumentParser, blocks: Optional[str] = BLOCKS, edge_lists: bool = True,
+                     saved: str = "") -> None:
+    """Options of a feed; `saved` says what a saved file in its place is for, where it may be one."""
+    parser.add_argument("file", help=f"a delimited file, an edge list (SNAP), or a Matrix Market file; .gz is unpacked; - is "
+                        f"standard input{saved}")
+    way = parser.add_mutually_exclusive_group(required=not saved)
+    way.add_argument("--set", dest="by", action="store_const", const="set", help="a later row sets the weight of its edge anew")
+    way.add_argument("--add", dest="by", action="store_const", const="add", help="a later row adds to the weight of its edge")
+    feed = parser.add_argument_group("what the file is")
+    feed.add_argument("--format", choices=("delimited", "snap", "matrix"), help="else the file's name says")
+    for name, usual, told in (("source", "source", "source"), ("target", "target", "target"),
+                              ("kind-column", None, "else --kind"), ("weight", None, "else weights are 1"),
+                              ("time", None, "else times are 0")):
+        feed.add_argument(f"--{name}", type=column, default=usual, metavar="COLUMN",
+                          help=f"a column's name, or its number from 1 ({told})")
+    feed.add_argument("--kind", default="link", help="the kind of all edges, where no column has it (else link)")
+    feed.add_argument("--delimiter", help="else the comma, tab, semicolon or bar of which the first line has most")
+    feed.add_argument("--header", action=argparse.BooleanOptionalAction, help="else there is one where columns are named")
+    feed.add_argument("--encoding", default="utf-8", help="the file's, as cp1252, latin-1 or utf-16 (utf-8)")
+    feed.add_argument("--decimal", choices=DECIMALS, default=".", help="the sign before decimals: , takes 12,50 and 1.234,50 (.)")
+    feed.add_argument("--dates", choices=TIMES, help="times are dates of this form, which a time of day may follow, or numbers "
+                      "since 1970; else --times iso takes 2024-03-05")
+    if edge_lists:
+        feed.add_argument("--third", choices=("weight", "time"), help="what the third field of an edge list is")
+    feed.add_argument("--weight-scale", type=int, metavar="N", help="weights are decimals of so many parts: 100 takes 12.50")
+    if edge_lists:
+        feed.add_argument("--rounding", choices=("half-even",), help="round weights that have more decimals than --weight-scale "
+                          "takes; else such a row is bad")
+    feed.add_argument("--times", choices=("number", "iso"), help="iso: times are dates, here and in what is asked and told")
+    feed.add_argument("--names", choices=("plain", "escape"), default="plain", help="any text is a name; escape: with %%20 for a "
+                      "space and so on, which a script has else as an id")
+    feed.add_argument("--skip-bad", action="store_true", help="pass over rows that can't be taken, and count them")
+    store = parser.add_argument_group("the store")
+    if blocks is not None:
+        store.add_argument("--blocks", type=int, help=f"else {blocks}")
+    store.add_argument("--batch", type=int, default=records.MOST_OPERATIONS, metavar="N", help="rows a batch (4,096 at most)")
+    add_program(store)
+
+
+def add_window(parser: argparse.ArgumentParser) -> None:
+    parser.add_argument("--of-kind", metavar="KIND", help="answer over edges of one kind; else of any")
+    parser.add_argument("--since", default="0", metavar="TIME", help="answer over edges with a recent time from this on")
+    parser.add_argument("--until", default=str(records.MOST_TIME), metavar="TIME", help="and up to this; to the end of a day")
+
+
+def add_table_options(group: Any) -> None:
+    group.add_argument("--top", type=rows, default=10, metavar="N", help="how many rows of a table are printed (10)")
+    group.add_argument("--by", choices=tuple(BY_COLUMN), default="out", dest="column",
+                       help="by which column the greatest degrees are (out)")
+
+
+def add_questions(group: Any) -> None:
+    group.add_argument("--ask", action="append", default=[], type=asked, metavar="QUESTION", help=f"print {QUESTIONS}; --ask and "
+                       "--levels may be said several times")
+    group.add_argument("--levels", action="append", default=[], metavar="NAME", help="print the levels from a source")
+    add_table_options(group)
+
+
+def add_what_then(parser: argparse.ArgumentParser, ask: Any) -> None:
+    ask.add_argument("--save", metavar="PATH", help="save the graph as one file, which `misteluk restore` takes; packed where "
+                     "its name ends in .gz, .xz or .bz2")
+    ask.add_argument("--edges", metavar="PATH", help="write all edges of --of-kind, --since and --until as CSV with a header; "
+                     "packed as --save is")
+    add_questions(ask)
+    ask.add_argument("--interactive", action="store_true", help="then a Python prompt with `store` and `session`")
+    add_window(parser)
+
+
+def add_engine(store: Any) -> None:
+    store.add_argument("--engine", choices=ENGINES, help="the store in this process, or a program in one of its own; else "
+                       "MISTELUK_ENGINE, or the library where it can be loaded (`misteluk doctor`)")
+
+
+def add_program_alone(store: Any) -> None:
+    store.add_argument("--program", help="the program to run in place of the library; which one --engine program runs, "
+                       "MISTELUK_PROGRAM says, or else the repository or the path")
+
+
+def add_program(store: Any) -> None:
+    add_engine(store)
+    add_program_alone(store)
+    store.add_argument("--timeout", type=float, default=60.0, metavar="SECONDS", help="how long the program may be silent")
+
+
+def add_restore(restore: argparse.ArgumentParser) -> None:
+    restore.add_argument("file", help="a file that --save or a session's save wrote, packed or not")
+    add_what_then(restore, restore.add_argument_group("what then"))
+    store = restore.add_argument_group("the store")
+    store.add_argument("--blocks", type=int, help="else as many as the saved store had, or more where the graph needs them")
+    add_program(store)
+
+
+def add_fleet(fleet: argparse.ArgumentParser) -> None:
+    add_feed_options(fleet, blocks=None, edge_lists=False)  # (an edge list has no column to part its rows by)
+    parts = fleet.add_argument_group("parts, and what then")
+    parts.add_argument("--key", type=column, required=True, metavar="COLUMN", help="the column that parts the rows: a name, or a "
+                       "number from 1")
+    parts.add_argument("--workers", type=int, metavar="N", help="how many parts are asked at once; else one a processor, up to 8")
+    add_questions(parts)
+    add_window(fleet)
+
+
+def add_follow(follow: argparse.ArgumentParser) -> None:
+    add_feed_options(follow, blocks=f"{records.MOST_BLOCKS:,}")
+    live = follow.add_argument_group("what goes in and out, and when")
+    live.add_argument("--every", default="1s", metavar="TIME", help="commit when a row has waited so long, as 500ms, 1s or 5m, "
+                      "and when a batch is full (1s)")
+    live.add_argument("--keep", metavar="TIME", help="let edges go that weren't touched for so long by the feed's own times: as "
+                      "12h or 14d where they are dates, else a whole number")
+    live.add_argument("--until-end", action="store_true", help="end at the file's end, and don't wait for what it grows by")
+    told = follow.add_argument_group("what is told behind each commit")
+    told.add_argument("--ask", action="append", default=[], type=asked, metavar="QUESTION", help=QUESTIONS)
+    told.add_argument("--within", metavar="TIME", help="answer over edges that were touched within so long of the newest time")
+    told.add_argument("--json", action="store_true", help="tell each commit and each answer as a line of JSON")
+    add_table_options(told)
+
+
+def add_lint(check: argparse.ArgumentParser) -> None:
+    check.add_argument("script", help="records, as `stinger run` reads them")
+    check.add_argument("--seats", type=int, default=records.USUAL_SEATS, metavar="N",
+                       help=f"how many sessions the run may have open at once ({records.USUAL_SEATS})")
+    check.add_argument("--blocks", type=int, default=records.USUAL_BLOCKS, help=f"the run's blocks ({records.USUAL_BLOCKS:,})")
+    add_program_alone(check)
+
+
+def add_picture(picture: argparse.ArgumentParser) -> None:
+    picture.add_argument("what", choices=("degrees", "components", "cores", "edge", "compare", "around"),
+                         help="edge: a weight over versions, one a batch; compare: two sessions' weights going out; around: a "
+                         "page of a vertex's neighborhood")
+    add_feed_options(picture, saved="; around: also one that --save wrote, without --set or --add")
+    picture.add_argument("-o", "--output", required=True, metavar="PICTURE", help="a name that ends in .svg or .png; that of a "
+                         "page in .html")
+    picture.add_argument("--title", help="what stands above the picture (else what it shows)")
+    picture.add_argument("--edge", metavar="KIND,SOURCE,TARGET", help="the edge, for the picture of that name")
+    picture.add_argument("--first", type=int, metavar="N", help="compare: open the first session behind N batches (else half)")
+    around.add_options(picture)
+    add_window(picture)
+
+
+def make_parser() -> argparse.ArgumentParser:
+    """The whole command line."""
+    parser = argparse.ArgumentParser(prog="misteluk", description="Loads data into Misteluk, and asks.",
+                                     epilog="Status: 0, 1 after a fault, 2 for wrong arguments, 130 after Ctrl-C, and 141 where "
+                                     "the output lost its reader, as by `| head` (of follow 0).")
+    parser.add_argument("-V", "--version", action="version", version=f"misteluk {VERSION}")
+    commands = parser.add_subparsers(dest="command", required=True)
+    load = commands.add_parser("load", help="load a file, and ask; nothing is kept unless it is saved")
+    add_feed_options(load)
+    ask = load.add_argument_group("what then")
+    ask.add_argument("--dry-run", action="store_true", help="count and check the file, and send nothing")
+    ask.add_argument("--script", metavar="OUT", help="write the records as a script for `stinger run`, and send nothing")
+    add_what_then(load, ask)
+    add_fleet(commands.add_parser("fleet", help="part a file's rows by a column, load each part into its own store, and ask all"))
+    add_restore(commands.add_parser("restore", help="make a store of a saved file, and ask"))
+    add_follow(commands.add_parser("follow", help="load a file that grows, or standard input, as it comes; Ctrl-C ends it"))
+    add_lint(commands.add_parser("lint", help="tell each refused record of a script, with its line, field and reason"))
+    look = commands.add_parser("doctor", help="tell which engine runs, where it is, whether it was proved, and its limits")
+    add_engine(look)
+    add_program_alone(look)
+    add_picture(commands.add_parser("picture", help="draw a picture of a file's graph (needs matplotlib, but for around)"))
+    return parser
+
+
+def columns_of(words: argparse.Namespace) -> Columns:
+    """The feed's columns, as they were said."""
+    return Columns(words.source, words.target, words.kind_column, words.weight, words.time, words.kind)

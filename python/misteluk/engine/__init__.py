@@ -1,0 +1,1 @@
+"""The store behind the client, in one of two forms."""

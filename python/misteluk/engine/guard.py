@@ -1,0 +1,138 @@
+"""Calls that change something, one at a time and each of them once, whatever interrupts them.
+
+Python raises an interrupt, or what else a signal's handler raises, between any two steps of the main thread. So what such a call
+gave is kept in the same step as it is made (`Step`), and whoever finds a step that was made takes what it gave, and makes it no
+second time.
+"""
+from __future__ import annotations
+
+import functools
+import os
+import sys
+import threading
+import weakref
+from collections import deque
+from itertools import repeat
+from operator import attrgetter
+from types import FrameType
+from typing import Any, Callable, Deque, Dict, List, Optional, TypeVar, cast
+
+from ..errors import StoreError
+
+F = TypeVar("F", bound=Callable[..., Any])
+# Sets an attribute and gives nothing: in an expression it is one line with what is given then.
+put: Any = setattr
+_RAW = attrgetter("raw")
+
+
+class Step:
+    """A call of a function in C that is made once. What it gives is put into a list by the same step: no handler runs within."""
+
+    __slots__ = ("call", "given", "gave")
+
+    def __init__(self, call: Callable[..., Any], *given: Any) -> None:
+        self.call, self.given = call, given
+        self.gave: List[Any] = []
+
+    def make(self) -> Any:
+        if not self.gave:
+            self.gave.extend(map(self.call, *([it] for it in self.given)))
+        return self.gave[0]
+
+
+class Note(weakref.ref):  # type: ignore[type-arg]
+    """What is to be given back once its owner is gone, or lets it go."""
+
+    __slots__ = ("raw",)
+    raw: Any
+
+
+class Owned:
+    """A handle in C, which its notes know of."""
+
+    __slots__ = ("raw", "__weakref__")
+
+    def __init__(self, raw: Any, notes: "Notes") -> None:
+        self.raw = raw
+        notes.know(self, raw)
+
+
+class Notes:
+    """What is to be given back, each once. Python itself notes what became of an owner that is forgotten, by a function in C: an
+    interrupt that came in a finalizer would be lost, and so would what it was to give back."""
+
+    def __init__(self) -> None:
+        self._known: Dict[Note, Note] = {}
+        self._pop: Callable[..., Optional[Note]] = self._known.pop
+        self._gone: Deque[Note] = deque()
+        self._left: Deque[Note] = deque()
+
+    def know(self, owner: object, raw: Any) -> Note:
+        note = Note(owner, self._gone.append)  # type: ignore[arg-type]
+        note.raw = raw
+        self._known[note] = note
+        return note
+
+    def let_go(self, *notes: Note) -> None:
+        """Notes that this is to be given back now. A second time it isn't known any more."""
+        self._left.extend(filter(None, map(self._pop, notes, repeat(None))))
+
+    def give_back(self, call: Callable[..., Any], *before: Any) -> None:
+        """Gives back what was noted, by a function in C."""
+        while self._gone or self._left:
+            try:
+                self._left.extend(filter(None, map(self._pop, iter(self._gone.popleft, None), repeat(None))))
+            except IndexError:  # (there are no more)
+                pass
+            try:
+                deque(map(call, *map(repeat, before), map(_RAW, iter(self._left.popleft, None))), 0)
+            except IndexError:
+                pass
+
+    def forget(self) -> None:
+        """Gives nothing back of what was noted."""
+        self._gone.clear()
+        self._left.clear()
+
+
+class Guard:
+    """A lock that one thread has for as long as its call takes. A handler of a signal that interrupts such a call can't make
+    another, and a fork can make none. (The lock of a call whose frame is gone is free: Python 3.9 may not give it back.)"""
+
+    def __init__(self) -> None:
+        self.lock = threading.RLock()
+        self.holder: Optional[FrameType] = None
+        self._process = os.getpid()
+
+    @property
+    def is_elsewhere(self) -> bool:
+        """Whether this process is a fork of the one that made this."""
+        return os.getpid() != self._process
+
+    def check(self) -> None:
+        if self.is_elsewhere:
+            raise StoreError("the store is another process's, of which this one is a fork: make a store here")
+
+    def is_below(self, frame: Optional[FrameType]) -> bool:
+        """Whether a frame runs within the call that has the lock, as a handler's does."""
+        while frame is not None and frame is not self.holder:
+            frame = frame.f_back
+        return frame is not None
+
+
+def alone(method: F) -> F:
+    """Makes the calls of a method one at a time, by the object's `_guard`."""
+    @functools.wraps(method)
+    def call(self: Any, *given: Any, **named: Any) -> Any:
+        guard: Guard = self._guard
+        guard.check()
+        with guard.lock:
+            frame = sys._getframe()
+            if guard.holder is not None and guard.is_below(frame):
+                raise StoreError("a signal's handler can't call a store while it interrupts another call of it")
+            guard.holder = frame
+            try:
+                return method(self, *given, **named)
+            finally:
+                guard.holder = None
+    return cast(F, call)

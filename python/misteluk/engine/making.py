@@ -1,0 +1,53 @@
+"""Which engine a store gets."""
+from __future__ import annotations
+
+import os
+from typing import Optional, Tuple
+
+from .finding import Path, find_library, find_program
+from .calling import opened
+from .library import LibraryEngine
+from .program import ProgramEngine
+from .protocol import Engine
+from ..errors import LibraryNotFound
+from ..values import records
+from ..values.limits import within
+
+VARIABLE = "MISTELUK_ENGINE"
+ENGINES = LIBRARY, PROGRAM = "library", "program"
+
+
+def choose(engine: Optional[str] = None, program: Optional[Path] = None) -> Tuple[str, str]:
+    """Which engine a store gets, and why: the one that is said, that of the program that is named, that of the variable
+    MISTELUK_ENGINE, and else the library, where it can be loaded."""
+    if engine is not None and engine not in ENGINES:
+        raise ValueError(f"engine is 'library' or 'program', and not {engine!r}")
+    if program is not None and engine == LIBRARY:
+        raise ValueError("a program is named, and engine='library' runs none")
+    named = engine or (PROGRAM if program is not None else os.environ.get(VARIABLE))
+    if named:
+        if named not in ENGINES:
+            raise ValueError(f"{VARIABLE} is 'library' or 'program', and not {named!r}")
+        return named, "it was said"
+    try:
+        opened(find_library())
+    except LibraryNotFound as fault:
+        return PROGRAM, str(fault)
+    return LIBRARY, "it can be loaded"
+
+
+def make_engine(engine: Optional[str], blocks: Optional[int], seats: int, workers: int, program: Optional[Path], timeout: float,
+                endless: bool) -> Engine:
+    """An engine with an empty store."""
+    if blocks is not None:
+        within("blocks", blocks, records.LEAST_BLOCKS, records.MOST_BLOCKS)
+    within("seats", seats, 1, records.MOST_SEATS)
+    within("workers", workers, 1, records.MOST_WORKERS)
+    if not timeout > 0:
+        raise ValueError(f"timeout is a number of seconds above 0, and not {timeout}")
+    name, why = choose(engine, program)
+    if name == LIBRARY:
+        return LibraryEngine(blocks or records.MOST_BLOCKS, seats, endless)
+    if endless:
+        raise ValueError(f"an endless store is one in this process, and this would be the program's: {why}")
+    return ProgramEngine(find_program(program), blocks or records.USUAL_BLOCKS, seats, workers, timeout)

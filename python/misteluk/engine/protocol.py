@@ -1,0 +1,208 @@
+"""What a store and its sessions need of an engine, whichever it is: the running store, and the versions that are held of it.
+
+All of it is in the engine's terms: names and kinds are 1 to 64 signs from `!` to `~`, weights and times are whole numbers, and a
+vertex or a kind has a number in a version. Numbers are given in the order in which names came; they stay as they are from version
+to version within an opening.
+"""
+from __future__ import annotations
+
+from array import array
+from typing import Any, Callable, List, NamedTuple, Optional, Protocol, Sequence, Tuple
+
+from ..errors import Place
+from ..values import records
+from ..values.answers import Collected, Commit, Rebased, Renewed, Stat
+
+# An edge by its kind, source and target.
+Ends = Tuple[str, str, str]
+# An edge's weight, and its first and recent time.
+Marks = Tuple[int, int, int]
+
+
+class Scope(NamedTuple):
+    """Which edges count: those of a kind, or of any, whose recent time is from `since` to `until`, both within."""
+
+    kind: Optional[str] = None
+    since: int = 0
+    until: int = records.MOST_TIME
+
+
+WHOLE = Scope()
+
+
+class Arrays(NamedTuple):
+    """Edges as columns of one length: the numbers of kinds, sources and targets, and what the edges have."""
+
+    kinds: "array[int]"
+    sources: "array[int]"
+    targets: "array[int]"
+    weights: "array[int]"
+    firsts: "array[int]"
+    recents: "array[int]"
+
+    @staticmethod
+    def none() -> "Arrays":
+        return Arrays.of(0)
+
+    @staticmethod
+    def of(size: int) -> "Arrays":
+        """Room for so many edges."""
+        return Arrays(*(array(code, bytes(4 * size)) for code in "III"), *(array(code, bytes(8 * size)) for code in "qQQ"))
+
+    @property
+    def size(self) -> int:
+        return len(self.kinds)
+
+    def at(self, places: Sequence[int]) -> "Arrays":
+        """The edges in these places."""
+        return Arrays(*(array(it.typecode, map(it.__getitem__, places)) for it in self))
+
+    def places(self, kind: Optional[int], scope: Scope) -> Sequence[int]:
+        """Where the edges are that count, of the kind of this number or of any."""
+        found: Sequence[int] = range(self.size)
+        if kind is not None:
+            found = [at for at in found if self.kinds[at] == kind]
+        if scope.since > 0 or scope.until < records.MOST_TIME:
+            found = [at for at in found if scope.since <= self.recents[at] <= scope.until]
+        return found
+
+
+class Operations(NamedTuple):
+    """Operations that go in together: their records, how many they are, and where each came from, by its place."""
+
+    text: bytes
+    size: int
+    place: Optional[Callable[[int], Place]] = None
+
+    @property
+    def expires(self) -> bool:
+        """Whether an operation expires edges; then the batch asks for the used blocks too."""
+        return self.text.startswith(b"x,") or b"\nx," in self.text
+
+
+class Receipt(NamedTuple):
+    """What a batch did; and the operations that were refused of it, by place and word, though they had been taken for right."""
+
+    commit: Commit
+    refused: Sequence[Tuple[int, str]] = ()
+
+
+class Denied(Exception):
+    """What was asked can't be: the word for that, the record's number where there is one, and of a batch that needs more blocks
+    than are free what the blocks were."""
+
+    def __init__(self, word: str, record: Optional[int] = None, stat: Optional[Stat] = None) -> None:
+        self.word, self.record, self.stat = word, record, stat
+        super().__init__(word)
+
+
+class Flight(Protocol):
+    """A batch on its way. `cut` notes that its operations are pending no more."""
+
+    batch: Operations
+    cut: List[None]
+
+
+class Held(Protocol):
+    """A version that is held, until it is closed. Each call raises `Denied` (NoKind, NoVertex) for names that it doesn't have,
+    and `SessionClosed` once it is closed. It may be asked from several threads."""
+
+    number: int
+    slot: int
+    count: int
+
+    @property
+    def is_open(self) -> bool: ...
+
+    def names(self) -> List[str]:
+        """The vertices by number."""
+
+    def kinds(self) -> List[str]:
+        """The kinds by number."""
+
+    def degrees(self, scope: Scope) -> "Tuple[array[int], array[int], array[int]]":
+        """For each vertex how many edges go out, how many come in, and the weight that goes out."""
+
+    def labels(self, scope: Scope) -> "array[int]":
+        """For each vertex the least number of those that walks join it to, direction ignored."""
+
+    def cores(self, scope: Scope) -> "array[int]":
+        """For each vertex its core number."""
+
+    def levels(self, scope: Scope, source: str) -> "Tuple[Sequence[int], array[int]]":
+        """The vertices that are reached, by number, and how many edges they are away."""
+
+    def edge(self, ends: Ends) -> Optional[Marks]:
+        """One edge, or `None`."""
+
+    def found(self, ends: Sequence[Ends]) -> "List[Optional[Marks] | Denied]":
+        """Many edges, and what was denied in place of an edge."""
+
+    def edges(self, scope: Scope) -> Arrays:
+        """All edges."""
+
+    def out_of(self, scope: Scope, name: str) -> Arrays:
+        """The edges that go out of a vertex, in order of their kinds and targets."""
+
+    def into(self, scope: Scope, name: str) -> Arrays:
+        """The edges that come into a vertex, in order of their kinds and sources."""
+
+    def close(self) -> None:
+        """Lets the version go."""
+
+
+class Engine(Protocol):
+    """A running store. Its calls are made one at a time, and each of them again where an interrupt broke it off."""
+
+    name: str
+    blocks: int
+    seats: int
+
+    def told(self) -> str:
+        """Which engine it is, for a person."""
+
+    @property
+    def open_count(self) -> int:
+        """How many seats hold versions."""
+
+    @property
+    def has_ended(self) -> bool:
+        """Whether nothing is answered any more."""
+
+    @property
+    def is_elsewhere(self) -> bool:
+        """Whether this process is a fork of the one that has it."""
+
+    @property
+    def records_sent(self) -> int: ...
+
+    @property
+    def records_left(self) -> Optional[int]: ...
+
+    def flight(self, batch: Operations, collect: bool) -> Any:
+        """A batch that can be applied, with a collection behind it or not. Nothing is done yet."""
+
+    def fly(self, flight: Any) -> Receipt:
+        """Applies a batch, once, however often this is called, and tells what it did. Raises `Denied` where it is refused."""
+
+    def landed(self, flight: Any) -> Optional[Receipt]:
+        """What a batch did whose call was broken off; `None` where it wasn't begun, and then it isn't."""
+
+    def stat(self) -> Stat: ...
+
+    def collect(self) -> Collected: ...
+
+    def hold(self, slot: Optional[int]) -> Held:
+        """Holds the last version. Raises `NoSeat`, or `Denied`."""
+
+    def rebase(self, version: Held) -> Rebased:
+        """Begins anew with what the version holds, and closes all versions."""
+
+    def renew(self) -> Renewed:
+        """Begins anew with the last version's edges; versions are counted on, and those that are held stay."""
+
+    def close(self) -> None:
+        """Ends it. Raises `ProgramEnded` where it tells of a fault."""
+
+    def kill(self) -> None:
+        """Ends it, whatever it does."""

@@ -1,0 +1,215 @@
+"""Data in, as rows of texts: what a feed is, and two forms of files, SNAP edge lists and Matrix Market."""
+from __future__ import annotations
+
+import codecs
+import gzip
+import io
+import os
+import urllib.parse
+from itertools import chain, islice
+from typing import IO, Any, Callable, Iterable, Iterator, List, NamedTuple, Optional, Sequence, Tuple, TypeVar, Union, cast
+
+from ..errors import FeedFault
+
+# Where a row stands (a line of a file, or a row's number from 1), and its kind, source, target, weight and time as texts.
+Row = Tuple[int, str, str, str, str, str]
+Column = Union[str, int]
+Path = Union[str, "os.PathLike[str]"]
+USUAL_KIND = "link"
+# The file that is standard input, and what it is called where a row is refused.
+STANDARD_INPUT, ITS_NAME = "-", "standard input"
+# How many rows are read at once: few enough that a processor's nearer memory has them until they are counted.
+ROWS_AT_ONCE = 1_024
+T = TypeVar("T")
+
+
+class Block(NamedTuple):
+    """Rows that follow one another, by column: a call turns, checks or writes thousands of fields at once."""
+
+    lines: Sequence[int]
+    kinds: Sequence[str]
+    sources: Sequence[str]
+    targets: Sequence[str]
+    weights: Sequence[str]
+    times: Sequence[str]
+    # By what each row is parted; none where nothing is.
+    keys: Sequence[str] = ()
+
+
+def rows_of(block: Block) -> Iterator[Row]:
+    """The rows of a block."""
+    return cast("Iterator[Row]", zip(*block[:6]))
+
+
+def of_columns(columns: Sequence[Any]) -> Block:
+    """A block of lines, kinds, sources, targets, weights and times, and of keys where rows have some."""
+    return Block(*columns)
+
+
+def part_of(block: Block, rows: slice) -> Block:
+    """Some rows of a block."""
+    return of_columns([it[rows] for it in block])
+
+
+class Table:
+    """Rows that come in blocks, and can be gone through one by one too."""
+
+    def __init__(self, blocks: Callable[[], Iterator[Block]]) -> None:
+        self.blocks = blocks
+
+    def __iter__(self) -> Iterator[Row]:
+        return chain.from_iterable(map(rows_of, self.blocks()))
+
+
+class Feed(NamedTuple):
+    """Rows, and what they are called where one of them is refused."""
+
+    name: str
+    rows: Iterable[Row]
+
+    def blocks(self) -> Iterator[Block]:
+        """The rows in blocks."""
+        if isinstance(self.rows, Table):
+            return self.rows.blocks()
+        return (Block(*zip(*rows)) for rows in parts_of(self.rows, ROWS_AT_ONCE))
+
+
+class Columns(NamedTuple):
+    """Which columns a table's edges are in: a name, or a number from 1. Where a column is `None`, `usual_kind`, a weight of 1
+    and a time of `usual_time` stand for it. `key` is the column that a `Fleet` parts rows by, which says it itself."""
+
+    source: Column = "source"
+    target: Column = "target"
+    kind: Optional[Column] = None
+    weight: Optional[Column] = None
+    time: Optional[Column] = None
+    usual_kind: str = USUAL_KIND
+    usual_time: str = "0"
+    key: Optional[Column] = None
+
+    @property
+    def wanted(self) -> Tuple[Optional[Column], ...]:
+        """The columns themselves: of the source, the target, the kind, the weight, the time and the key."""
+        return (*self[:5], self.key)
+
+
+def parts_of(items: Iterable[T], size: int) -> Iterator[List[T]]:
+    """The items in lists of so many."""
+    left = iter(items)
+    return iter(lambda: list(islice(left, size)), [])
+
+
+def escaped(name: str) -> str:
+    """The name with escapes (%20 for a space) for what no name has, and for % itself; `urllib.parse.unquote` undoes it."""
+    return urllib.parse.quote(name, errors="surrogateescape", safe="!\"#$&'()*+,-./:;<=>?@[\\]^_`{|}~")
+
+
+def turned(feed: Feed, *, names: str = "plain") -> Feed:
+    """The feed with names that have escapes (`names="escape"`), as they stand well in a script; a client needs none."""
+    if names not in ("plain", "escape"):
+        raise ValueError(f"names is 'plain' or 'escape', and not {names!r}")
+    if names == "plain":
+        return feed
+
+    def blocks() -> Iterator[Block]:
+        for it in feed.blocks():
+            kinds, sources, targets = (_each(escaped, column) for column in it[1:4])
+            yield Block(it.lines, kinds, sources, targets, it.weights, it.times)
+    return Feed(feed.name, Table(blocks))
+
+
+def _each(turn: Callable[[str], str], texts: Sequence[str]) -> List[str]:
+    """The texts turned; those that are the same are turned once."""
+    turned = {it: turn(it) for it in set(texts)}
+    return list(map(turned.__getitem__, texts))
+
+
+def feed_name(path: Path) -> str:
+    """What a file is called."""
+    return ITS_NAME if path == STANDARD_INPUT else os.fspath(path)
+
+
+def codec_of(encoding: str) -> str:
+    """Python's name of an encoding; that of UTF-8 passes over a mark of the order of bytes. `ValueError` where there is none."""
+    try:
+        name = codecs.lookup(encoding).name
+    except LookupError:
+        raise ValueError(f"there is no encoding {encoding!r}: utf-8, cp1252, latin-1 and utf-16 are some") from None
+    return "utf-8-sig" if name == "utf-8" else name
+
+
+def open_text(path: Path, encoding: str = "utf-8") -> IO[str]:
+    """The file as text, unpacked where its name ends in .gz; `-` is standard input. Bytes that aren't of the encoding are
+    kept, so that the names they stand in are refused."""
+    codec = codec_of(encoding)
+    raw: Any
+    if path == STANDARD_INPUT:
+        raw = open(0, "rb", closefd=False)
+    else:
+        raw = gzip.open(path, "rb") if os.fspath(path).endswith(".gz") else open(path, "rb")
+    return io.TextIOWrapper(raw, encoding=codec, errors="surrogateescape", newline="")
+
+
+def snap(path: Path, *, kind: str = USUAL_KIND, third: Optional[str] = None, encoding: str = "utf-8") -> Feed:
+    """An edge list as the Stanford Network Analysis Project has them: comments behind #, and source and target parted by
+    white space; `third` says what a third field is, "weight" or "time"."""
+    wanted = snap_fields(third)
+
+    def rows() -> Iterator[Row]:
+        with open_text(path, encoding) as file:
+            yield from snap_rows(feed_name(path), enumerate(file, 1), kind, third, wanted)
+    return Feed(feed_name(path), rows())
+
+
+def snap_fields(third: Optional[str]) -> int:
+    """How many fields a line of an edge list has."""
+    if third not in (None, "weight", "time"):
+        raise ValueError(f"third is 'weight' or 'time', and not {third!r}")
+    return 2 if third is None else 3
+
+
+def snap_rows(feed: str, lines: Iterable[Tuple[int, str]], kind: str, third: Optional[str], wanted: int) -> Iterator[Row]:
+    """The rows of an edge list's lines, each with its number."""
+    for line, text in lines:
+        fields = text.split()
+        if not fields or text.startswith("#"):
+            continue
+        if len(fields) < wanted or len(fields) > 3:
+            raise FeedFault(f"{feed}:{line}: {len(fields)} fields, where an edge list has {wanted}")
+        weight = fields[2] if third == "weight" else "1"
+        yield line, kind, fields[0], fields[1], weight, fields[2] if third == "time" else "0"
+
+
+def matrix_market(path: Path, *, kind: str = USUAL_KIND, encoding: str = "utf-8") -> Feed:
+    """A Matrix Market file of coordinates: an entry of row i and column j is an edge from i to j. Of a symmetric matrix each
+    entry off the diagonal is an edge either way."""
+    return Feed(feed_name(path), _matrix_rows(path, kind, encoding))
+
+
+def _matrix_rows(path: Path, kind: str, encoding: str) -> Iterator[Row]:
+    with open_text(path, encoding) as file:
+        head = file.readline().lower().split()
+        if len(head) != 5 or head[0] != "%%matrixmarket" or head[1] != "matrix" or head[2] != "coordinate":
+            raise FeedFault(f"{feed_name(path)}:1: no line `%%MatrixMarket matrix coordinate ..`: only matrices of coordinates "
+                            "are edges")
+        field, form = head[3:]
+        if field not in ("integer", "real", "pattern") or form not in ("general", "symmetric", "skew-symmetric"):
+            raise FeedFault(f"{feed_name(path)}:1: a matrix that is {field} and {form} has no edges with whole weights")
+        lines = ((line, text.split()) for line, text in enumerate(file, 2) if not text.startswith("%") and text.strip())
+        none: Tuple[int, List[str]] = (2, [])
+        size = next(lines, none)[1]
+        if len(size) != 3:
+            raise FeedFault(f"{feed_name(path)}: no line of its sizes")
+        entries, wanted = 0, 2 if field == "pattern" else 3
+        for line, fields in lines:
+            if len(fields) != wanted:
+                raise FeedFault(f"{feed_name(path)}:{line}: {len(fields)} fields, where an entry has {wanted}")
+            entries += 1
+            weight = fields[2] if wanted == 3 else "1"
+            weight = weight[:-2] if weight.endswith(".0") else weight
+            yield line, kind, fields[0], fields[1], weight, "0"
+            if form != "general" and fields[0] != fields[1]:
+                other = weight if form == "symmetric" else weight[1:] if weight.startswith("-") else f"-{weight}"
+                yield line, kind, fields[1], fields[0], other, "0"
+        if str(entries) != size[2]:
+            raise FeedFault(f"{feed_name(path)}: {entries} entries, where its sizes say {size[2]}")

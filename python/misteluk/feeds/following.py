@@ -1,0 +1,346 @@
+"""A feed that never stops: its rows go in as they come, by time and size, and what wasn't touched for long goes out."""
+from __future__ import annotations
+
+import os
+import re
+import time
+from collections import deque
+from datetime import timedelta
+from types import TracebackType
+from typing import TYPE_CHECKING, Any, Deque, Iterator, List, NamedTuple, Optional, Tuple, Type, Union
+
+from ..values import records
+from ..values.answers import Commit
+from ..values.limits import within
+from ..errors import (BadRows, NoAnswer, OperationsRefused, PoolEmpty, ProgramEnded, Refused, StoreError, Uncommitted,
+                     refusal)
+from .advice import Reading, advise
+from .feed import Block, Feed, Path, part_of, turned
+from .growing import DelimitedRows, Growing, Incoming, Opened, Rows, SnapRows
+from .loading import Count, must_be_way
+from .opening import ReadAs, form_of, reads
+from ..engine.calls import Calls
+from .progress import Progress
+from ..values.units import MICROSECOND, Units
+
+if TYPE_CHECKING:
+    from ..store import Store
+
+Span = Union[str, int, float, timedelta]
+_SPAN = re.compile(r"(\d+(?:\.\d+)?)(ms|s|m|h|d|w)", re.A)
+_LENGTHS = {"ms": timedelta(milliseconds=1), "s": timedelta(seconds=1), "m": timedelta(minutes=1), "h": timedelta(hours=1),
+            "d": timedelta(days=1), "w": timedelta(weeks=1)}
+
+
+def span(text: str) -> timedelta:
+    """A length of time: `500ms`, `1.5s`, `10m` (minutes), `12h`, `14d`, `2w`. Raises `ValueError` for another text."""
+    found = _SPAN.fullmatch(text)
+    if not found:
+        raise ValueError(f"a length of time is a number with ms, s, m, h, d or w behind it, as 500ms or 14d, and not {text!r}")
+    try:
+        return _LENGTHS[found[2]] * float(found[1])
+    except OverflowError:
+        raise ValueError(f"{text} is longer than Python's times are") from None
+
+
+def seconds_of(every: Span) -> float:
+    """A length of time as seconds; a number is so many."""
+    if isinstance(every, str) and not re.fullmatch(r"\d+(?:\.\d+)?", every, re.A):
+        every = span(every)
+    seconds = every.total_seconds() if isinstance(every, timedelta) else float(every)
+    if not 0 <= seconds < 1e9:
+        raise ValueError(f"every is a number of seconds from 0 on, and not {every}")
+    return seconds
+
+
+def kept_time(keep: Optional[Span], units: Units, what: str = "keep") -> Optional[int]:
+    """How long an edge is kept, in the program's times: microseconds where times are dates, and else a whole number of what the
+    feed counts in."""
+    if keep is None:
+        return None
+    if isinstance(keep, str) and not keep.isdigit():
+        keep = span(keep)
+    if isinstance(keep, timedelta) != units.has_dates:
+        raise ValueError(f"{what} is a length of time, as 14d, since times are dates here" if units.has_dates else
+                         f"{what} is a whole number of what the times count, since they are no dates here (--times iso)")
+    length = keep // MICROSECOND if isinstance(keep, timedelta) else int(keep)
+    return within(what, length, 0, records.MOST_TIME)
+
+
+class Followed(NamedTuple):
+    """What a commit of a feed did, and how far it is: the rows that are in, the bad ones that were passed over, the last line
+    whose row is in, and the newest time of all rows, in the store's units."""
+
+    commit: Commit
+    rows: int
+    bad: int
+    line: int
+    newest: Any
+
+    def __str__(self) -> str:
+        done = self.commit
+        counts = [(done.inserted, "inserted"), (done.updated, "updated"), (done.expired, "expired"),
+                  (done.overflowed, "amounts NOT added, since weights would leave their limits"),
+                  (self.bad, "bad rows passed over")]
+        told = ", ".join(f"{count} {word}" for count, word in counts if count) or "nothing changed"
+        return f"version {done.version}: {self.rows} rows to line {self.line}, {told}; newest {self.newest}"
+
+
+class Pace(NamedTuple):
+    """When a batch is committed, in seconds and rows; how long an edge is kept, in the program's times; what of bad rows; and how
+    the feed is written, for advice."""
+
+    every: float
+    room: int
+    keep: Optional[int]
+    skip_bad: bool
+    how: ReadAs
+
+
+class Following(Iterator[Followed]):
+    """A feed that is followed: each step is a commit. See `Store.follow`, which makes it.
+
+    What is read and sent happens in a thread of its own, so that an interrupt loses no row and sends none twice: the next step
+    goes on behind it. `stop` may be called by any thread and a signal's handler: what was read goes in, and the steps end.
+    """
+
+    def __init__(self, store: "Store[Any, Any]", incoming: Incoming, count: Count, pace: Pace, progress: Optional[bool]) -> None:
+        self.store, self.name, self._ledger = store, incoming.name, store.ledger
+        self._incoming, self._source, self._count, self._pace = incoming, incoming.source, count, pace
+        # Rows that were read, the lines of those that are pending, and since when the first of these is.
+        self._blocks: Deque[Block] = deque()
+        self._lines: List[int] = []
+        self._since = 0.0
+        self._in = self._line = 0
+        self._newest, self._has_expiry = -1, False
+        self._untaken: Deque[Followed] = deque()
+        self._ending: Optional[Exception] = None
+        self._is_stopped = self._is_done = False
+        self._progress = Progress(f"following {self.name}", None, progress, "rows")
+        self._calls = Calls()
+
+    @property
+    def faults(self) -> List[Refused]:
+        """The faults of rows that were passed over: the first ten, and the first of each rule."""
+        return list(self._count.faults)
+
+    @property
+    def half_line(self) -> bool:
+        """Whether there is a last line that isn't whole yet, and so isn't in."""
+        return self._incoming.is_half and not self.has_unread
+
+    @property
+    def has_unread(self) -> bool:
+        """Whether more is there than was read, as where it was stopped amid a long file."""
+        return self._source.has_unread
+
+    @property
+    def told(self) -> str:
+        """How far it is."""
+        bad = f"; {self._count.bad} bad rows passed over" if self._count.bad and self._pace.skip_bad else ""
+        return f"{self.name}: {self._in} rows to line {self._line} are in{bad}"
+
+    def clear_progress(self) -> None:
+        """Takes the line of progress from the terminal, so that another one can stand there."""
+        self._progress.clear()
+
+    @property
+    def cord(self) -> int:
+        """The descriptor that wakes the waiting for a step where something is written to it."""
+        return self._source.cord
+
+    def stop(self) -> None:
+        """Has what was read go in, and then ends the steps."""
+        self._is_stopped = True
+        self._source.ring()
+
+    def close(self) -> None:
+        """Gives the file back. Rows that were read and aren't in yet stay pending in the store."""
+        self._is_done = True
+        self._source.close()
+        self._progress.end()
+
+    def __next__(self) -> Followed:
+        return self.step()
+
+    def step(self, output: Optional[int] = None) -> Followed:
+        """Waits for the next commit. Raises `BrokenPipeError` where the reader of an output that is watched has gone."""
+        while True:
+            if self._is_done:
+                raise StopIteration
+            self._progress.step(self._in - self._progress.count)
+            made: Optional[Followed] = self._calls.make(self._go_on, untaken=self._keep_untaken)
+            if made is not None:
+                return made
+            if not self._is_done and self._source.wait(self._patience(), output):
+                raise BrokenPipeError
+
+    def _keep_untaken(self, made: Optional[Followed]) -> None:
+        """Keeps what nobody took, as where the waiting was interrupted, for the next step."""
+        if made is not None:
+            self._untaken.append(made)
+
+    def _patience(self) -> Optional[float]:
+        """How long the next commit may wait for more rows; `None` where there is none to wait."""
+        if self._blocks or self._is_ending:
+            return 0.0
+        return self._since + self._pace.every - time.monotonic() if self._lines else None
+
+    @property
+    def _is_ending(self) -> bool:
+        """Whether no more is read."""
+        return self._is_stopped or self._ending is not None or self._source.is_at_end
+
+    def _is_due(self) -> bool:
+        """Whether the rows that are pending are to be committed now."""
+        if not self._lines:
+            return False
+        if len(self._lines) >= self._pace.room or self._is_ending and not self._blocks:
+            return True
+        return time.monotonic() >= self._since + self._pace.every
+
+    def _go_on(self) -> Optional[Followed]:
+        """Reads what is there, or commits. Runs in the thread, so that nothing breaks it off."""
+        if self._untaken:
+            return self._untaken.popleft()
+        if not self._is_due():
+            self._fill() if self._blocks else self._read()
+        if self._is_due():
+            return self._commit()
+        if self._is_ending and not self._blocks and not self._lines:
+            if self._ending is not None:
+                raise self._ending
+            self._is_done = True
+        return None
+
+    def _read(self) -> None:
+        """Reads what is there. What is wrong with it is told when all before it is in."""
+        if self._is_ending:
+            return
+        try:
+            self._blocks.extend(self._incoming.blocks())
+        except (StoreError, ValueError, OSError) as fault:
+            self._ending = fault
+
+    def _fill(self) -> None:
+        """Makes rows operations that are pending, as many as the batch has room for."""
+        block, room = self._blocks.popleft(), self._pace.room - len(self._lines)
+        if len(block.lines) > room:
+            self._blocks.appendleft(part_of(block, slice(room, None)))
+            block = part_of(block, slice(0, room))
+        count, before = self._count, self._count.bad
+        count.rows += len(block.lines)
+        right, text = count.written(block)
+        operations = text.splitlines(keepends=True)
+        if count.bad > before and not self._pace.skip_bad:
+            right, operations = self._before_the_first_bad(right, operations)
+        if not right.lines:
+            return
+        self._since = self._since if self._lines else time.monotonic()
+        self._ledger.kinds.update(dict.fromkeys(map(count.terms.names.to_user, dict.fromkeys(right.kinds))))
+        self._ledger.pending.extend(operations)
+        self._lines.extend(right.lines)
+        self._newest = max(self._newest, *map(int, right.times))
+
+    def _before_the_first_bad(self, right: Block, operations: List[str]) -> Tuple[Block, List[str]]:
+        """The rows before the first one that is bad; the feed ends there."""
+        count = self._count
+        advise(count.faults, Reading(self._pace.how.encoding, self._pace.how.decimal, count.terms.units, self._pace.how.dates))
+        place = count.faults[0].place
+        first = place.line if place else 0
+        keep = sum(it < first for it in right.lines)
+        self._ending = BadRows(self.name, count.bad, count.rows, count.faults, count.fault_counts,
+                               stands=f"those before line {first} are in, and none behind it")
+        self._blocks.clear()
+        return part_of(right, slice(0, keep)), operations[:keep]
+
+    def _commit(self) -> Followed:
+        """Commits what is pending. Where that is refused or not answered all of it is pending still."""
+        bound = self._newest - (self._pace.keep or 0)
+        if self._pace.keep is not None and bound > 0 and not self._has_expiry:
+            self._has_expiry = True  # (a batch that is sent again has its own)
+            self._ledger.pending.append(f"x,{bound}\n")
+        pending = self.store.pending
+        try:
+            receipt, told = self._ledger.commit(True, records.MOST_OPERATIONS)
+            self._ledger.taken.append(told)
+        except OperationsRefused:
+            self._take_in()
+            raise
+        except StoreError as fault:
+            raise self._with_rows(fault, self.store.pending < pending) from fault
+        self._take_in()
+        newest = self._count.terms.units.time_to_user(self._newest)
+        bad = self._count.bad if self._pace.skip_bad else 0  # (else it ends the feed, which is told then)
+        return Followed(receipt, self._in, bad, self._line, newest)
+
+    def _take_in(self) -> None:
+        self._in, self._line, self._lines = self._in + len(self._lines), self._lines[-1], []
+        self._has_expiry = False
+
+    def _with_rows(self, fault: StoreError, applied: bool) -> StoreError:
+        """The fault, with the rows that aren't in; not all of them are where something was applied, as a caller's own batch."""
+        rows = f"{len(self._lines)} rows of {self.name}, lines {self._lines[0]} to {self._lines[-1]},"
+        stands = f"{rows} are not {'all ' if applied else ''}in, and pending still; {self._in} rows before them are in"
+        if isinstance(fault, PoolEmpty):
+            free = "" if fault.free is None else f", and {fault.free} are free"
+            text = f"{stands}. The batch needs {fault.needed} free blocks{free}"
+            return PoolEmpty(needed=fault.needed, free=fault.free, record=fault.record, text=text, advice=fault.advice)
+        if isinstance(fault, Refused):
+            return refusal(fault.word, stands, record=fault.record, advice=fault.advice)
+        if isinstance(fault, NoAnswer):
+            return NoAnswer(f"{fault}; {rows} were sent, and the {self._in} rows before them are in")
+        if isinstance(fault, ProgramEnded):
+            return type(fault)(f"{fault}; {rows} were not answered, and the graph is gone with the program", fault.status)
+        return type(fault)(f"{fault}; {stands}")
+
+    def __enter__(self) -> "Following":
+        return self
+
+    def __exit__(self, kind: Optional[Type[BaseException]], fault: Optional[BaseException],
+                 trace: Optional[TracebackType]) -> None:
+        self.close()
+
+    def __repr__(self) -> str:
+        return f"<Following of {self.name}: {self._in} rows in, {len(self._lines)} pending>"
+
+
+@reads
+def follow(store: "Store[Any, Any]", feed: Union[Path, Opened], *, by: str, every: Span = 1.0, keep: Optional[Span] = None,
+           batch: int = records.MOST_OPERATIONS, until_end: bool = False, skip_bad: bool = False,
+           progress: Optional[bool] = None, **read_as: Any) -> Following:
+    """Follows a feed into a store: a file that grows, standard input (`-`), or what has a descriptor, as a pipe. Each step of
+    what this gives is a commit, with a collection.
+
+    A commit comes when a row has waited for `every` (seconds, or a text as "500ms"), or when its batch has `batch` operations.
+    With `keep` each commit expires the edges that weren't touched for so long: those with a recent time before the newest time of
+    the feed's rows minus `keep`. That is a length of time, as "14d", where times are dates, and else a whole number. So one row
+    with a time far ahead removes all that is older, and a late row sets its edge's time back. See `Store.expire` for the blocks.
+
+    A file is followed beyond its end, unless `until_end`; a pipe ends where its writers do. `Following.stop` ends the steps with
+    all in that was read. A row that can't be taken ends them too, by `BadRows` when all before it is in, unless `skip_bad`; so
+    does a file that is cut short, by `FeedFault`, unless it is as long again when that is looked for. One that is replaced isn't
+    followed into the new one. Where a commit is refused or not answered the error says which rows aren't in; they are pending
+    still, and the next step goes on. Between steps the store may be asked, and other operations be committed.
+
+    The further options are those of `ReadAs`. Raises `ValueError` for options that there aren't, and for a file that is packed;
+    `Uncommitted` where operations are pending; `OSError` where there is no such file.
+    """
+    must_be_way(by, batch)
+    how = ReadAs(**read_as)
+    terms = store.ledger.terms_for(*how.units_said)
+    kept = kept_time(keep, terms.units)
+    pace = Pace(seconds_of(every), max(batch - (kept is not None), 1), kept, skip_bad, how)
+    form = how.format or (form_of(feed, how.encoding) if isinstance(feed, (str, os.PathLike)) else "delimited")
+    if form not in ("delimited", "snap"):
+        raise ValueError(f"format is 'delimited' or 'snap' where a feed is followed, and not {form!r}")
+    if store.pending:
+        raise Uncommitted(f"{store.pending} operations are pending: commit or discard them before a feed is followed",
+                          list(store.ledger.pending))
+    turned(Feed("", ()), names=how.names)
+    source = Growing(feed, how.encoding, until_end)
+    rows: Rows = (SnapRows(source.name, how.columns.usual_kind, how.third) if form == "snap" else
+                  DelimitedRows(source.name, how.columns, how.delimiter, how.header))
+    store.ledger.take_terms(terms)
+    count = Count(source.name, by, batch, terms, how.decimal)
+    return Following(store, Incoming(source, rows, how.notation, how.names), count, pace, progress)

@@ -1,0 +1,227 @@
+"""A file or pipe that grows: its whole lines as they come, and the rows that are whole in them."""
+from __future__ import annotations
+
+import codecs
+import io
+import os
+import select
+import stat
+from typing import Iterator, List, Optional, Protocol, Sequence, Union
+
+from .delimited import Picked, even_columns, must_be_sign, whole_rows
+from ..errors import FeedFault
+from .feed import STANDARD_INPUT, Block, Columns, Feed, Path, Table, codec_of, feed_name, snap_fields, snap_rows, turned
+from .notations import Notation
+
+# How many bytes are read at once, and how many characters a line may have.
+MOST_READ, MOST_LINE = 1 << 16, 1 << 20
+# How long a file that has nothing new is left alone, in seconds.
+REST = 0.1
+
+
+class Opened(Protocol):
+    """What has a descriptor, as a pipe from another program."""
+
+    def fileno(self) -> int: ...
+
+
+class Growing:
+    """The whole lines of a file, a pipe, or standard input (`-`), as they come.
+
+    A file is followed when it was read to its end, unless `until_end`; anything else ends where its writers do. A line that has
+    no end yet is none, but at the end of all. A file that is cut short while it is followed raises `FeedFault`.
+    """
+
+    def __init__(self, source: Union[Path, Opened], encoding: str = "utf-8", until_end: bool = False) -> None:
+        codec = codec_of(encoding)
+        if isinstance(source, (str, os.PathLike)):
+            self.name, known = feed_name(source), 0 if source == STANDARD_INPUT else None
+            if self.name.endswith(".gz"):
+                raise ValueError(f"{self.name} is packed and can't be followed: unpack it on the way, zcat {self.name} | .. -")
+            self._raw = open(source if known is None else known, "rb", buffering=0, closefd=known is None)
+        else:
+            self.name, known = str(getattr(source, "name", "feed")), source.fileno()
+            self._raw = open(known, "rb", buffering=0, closefd=False)
+        self._given = source  # (which would else close its descriptor when it's forgotten)
+        self._file = self._raw.fileno()
+        self._is_file = stat.S_ISREG(os.fstat(self._file).st_mode)
+        self._is_followed = self._is_file and known != 0 and not until_end
+        self._is_dry = False
+        decoder = codecs.getincrementaldecoder(codec)(errors="surrogateescape")
+        self._decoder = io.IncrementalNewlineDecoder(decoder, translate=False)
+        self.half = ""
+        self.is_at_end = False
+        # Whoever waits for more hears this bell too, which any thread and a signal's handler may ring.
+        self._bell, self._cord = os.pipe()
+        os.set_blocking(self._cord, False)
+
+    @property
+    def cord(self) -> int:
+        """The descriptor of the bell's cord, for `signal.set_wakeup_fd`: Python then rings it for each signal that comes, also
+        for one that the system gives to another thread than the one that waits."""
+        return self._cord
+
+    def ring(self) -> None:
+        """Ends the waiting of whoever waits for more."""
+        try:
+            os.write(self._cord, b"!")
+        except OSError:  # (it rang often, or nobody hears it any more)
+            pass
+
+    def wait(self, seconds: Optional[float], output: Optional[int] = None) -> bool:
+        """Waits until there may be more, the bell rings, or so many seconds are over; `None` is for as long as it takes. Tells
+        whether an output that is watched has lost its reader."""
+        if self._is_file and not self._is_dry:
+            seconds = 0.0
+        elif self._is_file:
+            seconds = min(REST, REST if seconds is None else seconds)
+        poll = select.poll()
+        poll.register(self._bell, select.POLLIN)
+        if not self._is_file and not self.is_at_end:
+            poll.register(self._file, select.POLLIN)
+        if output is not None:
+            poll.register(output, 0)
+        ready = dict(poll.poll(None if seconds is None else max(seconds, 0.0) * 1000))
+        return bool(output is not None and ready.get(output, 0) & (select.POLLERR | select.POLLHUP))
+
+    def lines(self) -> List[str]:
+        """The lines that are there and weren't given before, of some 64 KB at most."""
+        if self.is_at_end or not self._has_more():
+            return []
+        data = os.read(self._file, MOST_READ)
+        self._is_dry = not data
+        if self._is_dry and self._is_followed:
+            self._must_be_whole()
+            return []
+        self.is_at_end = not data
+        found = list(io.StringIO(self.half + self._decoder.decode(data, not data), newline=""))
+        is_half = bool(found) and not self.is_at_end and not found[-1].endswith(("\n", "\r"))
+        self.half = found.pop() if is_half else ""
+        if len(self.half) > MOST_LINE:
+            raise FeedFault(f"{self.name}: a line of more than {MOST_LINE} characters")
+        return found
+
+    def _has_more(self) -> bool:
+        if self._is_file:
+            return True
+        poll = select.poll()
+        poll.register(self._file, select.POLLIN)
+        return bool(poll.poll(0))
+
+    @property
+    def has_unread(self) -> bool:
+        """Whether more is there than was read."""
+        if self.is_at_end or self._raw.closed:
+            return False
+        if self._is_file:
+            return os.lseek(self._file, 0, os.SEEK_CUR) < os.fstat(self._file).st_size
+        poll = select.poll()
+        poll.register(self._file, select.POLLIN)
+        return any(it & select.POLLIN for _, it in poll.poll(0))
+
+    def _must_be_whole(self) -> None:
+        at, size = os.lseek(self._file, 0, os.SEEK_CUR), os.fstat(self._file).st_size
+        if size < at:
+            raise FeedFault(f"{self.name} was cut to {size} bytes, and {at} were read of it: what it has now isn't known")
+
+    def close(self) -> None:
+        """Gives the file back."""
+        self._raw.close()
+        bell, self._bell, self._cord = (self._bell, self._cord), -1, -1
+        for it in bell:
+            if it >= 0:
+                os.close(it)
+
+    def __del__(self) -> None:
+        if "_cord" in self.__dict__:
+            self.close()
+
+
+class Rows:
+    """The rows of a feed's lines, as they come."""
+
+    line = 0
+    kept: Sequence[str] = ()
+
+    def take(self, lines: Sequence[str], is_end: bool) -> List[Block]:
+        """The rows that are whole with these lines; at the end the last one is."""
+        raise NotImplementedError
+
+
+class DelimitedRows(Rows):
+    """The rows of a delimited file's lines, as they come; see `delimited`. A row that goes on in the next line is kept."""
+
+    def __init__(self, feed: str, columns: Columns, delimiter: Optional[str], header: Optional[bool]) -> None:
+        must_be_sign(delimiter)
+        self.feed, self.columns, self.sign = feed, columns, delimiter
+        self.is_named = any(isinstance(it, str) for it in columns[:5])
+        self.has_header = self.is_named if header is None else header
+        self.picked: Optional[Picked] = None
+
+    def take(self, lines: Sequence[str], is_end: bool) -> List[Block]:
+        lines = [*self.kept, *lines]
+        self.kept = []
+        if not lines:
+            return []
+        if self.picked is None:
+            lines = self._begin(lines, is_end)
+        if self.picked is None or not lines:
+            return []
+        even = even_columns(lines, self.sign or "")
+        if len(even) >= self.picked.least:
+            self.line += len(lines)
+            return [self.picked.of_columns(range(self.line - len(lines) + 1, self.line + 1), even)]
+        rows = whole_rows(self.feed, lines, self.sign or "", self.line, is_end)
+        before, self.line = self.line, rows[-1][1] if rows else self.line
+        self.kept = lines[self.line - before:]
+        return list(self.picked.of_rows([it for it in rows if it[0]]))  # (a blank line is no row)
+
+    def _begin(self, lines: List[str], is_end: bool) -> List[str]:
+        """Takes the header, where there is one, and gives the lines behind it; keeps all where it isn't whole yet."""
+        self.sign = self.sign or max(",\t;|", key=lines[0].count)
+        names: Sequence[str] = ()
+        if self.has_header:
+            rows = whole_rows(self.feed, lines, self.sign, 0, is_end)
+            if not rows:
+                self.kept = lines
+                return []
+            names, self.line = rows[0]
+        if self.is_named and not names:
+            raise FeedFault(f"{self.feed}: columns are named, and there is no header: name them by number (from 1)")
+        self.picked = Picked(self.feed, self.columns, names)
+        return lines[self.line:]
+
+
+class SnapRows(Rows):
+    """The rows of an edge list's lines, as they come; see `snap`."""
+
+    def __init__(self, feed: str, kind: str, third: Optional[str]) -> None:
+        self.feed, self.kind, self.third = feed, kind, third
+        self.wanted = snap_fields(third)
+
+    def take(self, lines: Sequence[str], is_end: bool) -> List[Block]:
+        rows = list(snap_rows(self.feed, enumerate(lines, self.line + 1), self.kind, self.third, self.wanted))
+        self.line += len(lines)
+        return [Block(*zip(*rows))] if rows else []
+
+
+class Incoming:
+    """What comes of a feed: its rows, in the usual notation."""
+
+    def __init__(self, source: Growing, rows: Rows, notation: Notation, names: str) -> None:
+        self.source, self.rows, self.notation, self.names = source, rows, notation, names
+        self.name = source.name
+
+    def blocks(self) -> List[Block]:
+        """The rows that are there and weren't given before."""
+        found = self.rows.take(self.source.lines(), self.source.is_at_end)
+        return [it for block in found for it in self._turned(block)]
+
+    def _turned(self, block: Block) -> Iterator[Block]:
+        feed = self.notation.turned(Feed(self.name, Table(lambda: iter((block,)))))
+        return turned(feed, names=self.names).blocks()
+
+    @property
+    def is_half(self) -> bool:
+        """Whether a line or row has begun that isn't whole yet."""
+        return bool(self.source.half or self.rows.kept)

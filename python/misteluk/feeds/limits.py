@@ -1,0 +1,72 @@
+"""What a feed can't be loaded for, told before anything is sent, and what to do about it."""
+from __future__ import annotations
+
+import warnings
+from typing import TYPE_CHECKING, Any
+
+from ..values import records
+from ..errors import BadRows, NearLimit, OverLimit, PoolEmpty
+
+# How many records an export takes beside one for each edge: its table, and its kinds.
+FOR_AN_EXPORT = 100
+
+if TYPE_CHECKING:
+    from .loading import Survey
+    from ..store import Store
+
+
+def _smaller(found: "Survey", blocks: int, used: int) -> str:
+    """Whether smaller batches would fit in so many blocks, of which the edges and what is there take so many at most."""
+    room = min(blocks - used, records.MOST_OPERATIONS)
+    if room < 1 or -(-(found.rows - found.bad) // room) > records.MOST_BATCHES:
+        return "smaller batches don't help: the edges need nearly all blocks, or more than there are"
+    return f"a batch needs as many free blocks as it has operations: batches of {room} fit (batch={room}, --batch {room})"
+
+
+def check(found: "Survey", *, skip_bad: bool = False) -> None:
+    """Raises where rows are bad (unless they are to be passed over), and where the feed is more than an empty store takes."""
+    if found.bad and not skip_bad:
+        raise BadRows(found.feed, found.bad, found.rows, found.faults, found.fault_counts)
+    limits = ("names", found.names, records.MOST_NAMES), ("kinds", len(found.kinds), records.MOST_KINDS)
+    over = [f"{count} {what}, where a store takes {most}" for what, count, most in limits if count > most]
+    if found.needed > records.MOST_BLOCKS:
+        over.append(f"{found.blocks} blocks for its edges and {found.needed} for its batches, where a store has at most "
+                    f"{records.MOST_BLOCKS}; {_smaller(found, records.MOST_BLOCKS, found.blocks)}")
+    if over:
+        raise OverLimit(f"{found.feed} has {'; '.join(over)}. Nothing is loaded", found.counts())
+
+
+def check_room(store: "Store[Any, Any]", found: "Survey", used: int, count: int) -> None:
+    """Raises where the store's blocks can't be enough: the edges before a batch take at least those that they need alone, or
+    those in use now. And where a program's records can't."""
+    needed, left = found.needed_beside(used), store.records_left
+    if left is not None and (count > left or len(found.parts) > records.MOST_BATCHES):
+        raise OverLimit(f"{found.feed} has {count} records with its commits and collections, in {len(found.parts)} batches, and "
+                        f"this run takes {left} records more of {records.MOST_RECORDS}, and {records.MOST_BATCHES} batches. "
+                        "Nothing was sent", found.counts())
+    if needed > store.blocks:
+        text = (f"{found.feed} needs at least {needed} blocks in batches of {max(len(it.lines) for it in found.parts)}, and the "
+                f"store was made with {store.blocks}; nothing was sent")
+        raise PoolEmpty(needed=needed, free=store.blocks - used, text=text, advice=_room_advice(store, found, used))
+    if left is not None:
+        _warn_of_records(found, left - count)
+
+
+def _warn_of_records(found: "Survey", left: int) -> None:
+    """Warns before a load that leaves a program too few records to ask for all its edges twice, or once. (The sessions of a
+    version keep what they were told, but for those of other versions it is asked again.)"""
+    needed = found.edges + FOR_AN_EXPORT
+    if left < 2 * needed:
+        warnings.warn(NearLimit(f"{found.feed} leaves {left} of the run's {records.MOST_RECORDS} records, and a session that "
+                                f"asks for all its {found.edges} edges, also by a save, takes one for each: that can't be "
+                                f"{'twice' if needed <= left else 'done'}. A store in this process has no such limit "
+                                "(engine='library')"), stacklevel=2)
+
+
+def _room_advice(store: "Store[Any, Any]", found: "Survey", used: int) -> str:
+    """What helps where a store has too few blocks: more of them where there can be, and smaller batches where they fit."""
+    needed = found.needed_beside(used)
+    more = f"Make the store with blocks={needed} or more" if needed <= records.MOST_BLOCKS else ""
+    fewer = f"{'Make it empty, or free' if used else 'Free'} blocks first" if not more else ""
+    smaller = _smaller(found, store.blocks, max(found.blocks, used))
+    return "; ".join(it for it in (more or fewer, smaller) if it)

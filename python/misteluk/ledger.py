@@ -1,0 +1,237 @@
+"""Operations that wait for a commit, and batches on their way into an engine.
+
+An interrupt may come between any two steps here. So what a batch was and did is kept in single steps (`Books`), and its
+operations are taken from those that are pending by the step that notes so: the next call finds out what an interrupted one did.
+"""
+from __future__ import annotations
+
+from typing import Dict, List, NamedTuple, Optional, Sequence, Tuple
+
+from .engine.guard import Guard, alone
+from .engine.protocol import Operations, Denied, Engine, Flight, Receipt
+from .errors import OperationsRefused, PoolEmpty, Refused, StoreError, refusal
+from .values import records
+from .values.answers import Commit, Stat
+from .values.names import must_be_texts
+from .values.terms import Terms
+from .values.units import Units, whole_text
+
+
+# What a store takes of a feed: its terms and kinds.
+Feed = Tuple[Terms, Sequence[str]]
+
+
+class Books(NamedTuple):
+    """What batches did that no commit told yet, and the batch that is on its way; whether that is of pending operations, and the
+    terms and kinds of its feed, which the store takes with it."""
+
+    untold: Tuple[Commit, ...] = ()
+    flight: Optional[Flight] = None
+    of_pending: bool = False
+    feed: Optional[Feed] = None
+
+
+class Ledger:
+    """The pending operations of a store, as records in the engine's terms, and what became of its batches."""
+
+    def __init__(self, engine: Engine, units: Units, units_are_set: bool) -> None:
+        self.engine, self.terms, self.units_are_set = engine, Terms(units=units), units_are_set
+        self.pending: List[str] = []
+        # The kinds that the store was told of, in order.
+        self.kinds: Dict[str, None] = {}
+        self.is_closed = False
+        # The receipts that were told, which the next commit lets go.
+        self.taken: "List[Tuple[Commit, ...]]" = []
+        self._guard = Guard()
+        self._books = Books()
+
+    # What is pending.
+
+    def keep(self, fields: Sequence[object], plain: str) -> None:
+        """Keeps an operation. `plain` is its record, where that needs no quotes; most are seen to be right so."""
+        if self.is_closed:
+            raise StoreError("the store is closed")
+        must_be_texts(fields[1:4] if len(fields) > 2 else ())
+        if not (records.is_plain_operation(plain) and self.terms.is_as_it_is(plain)):
+            plain = self.terms.record([whole_text(it) for it in fields])
+        self.units_are_set = True
+        if len(fields) > 2:
+            self.kinds.setdefault(str(fields[1]))
+        self.pending.append(plain)
+
+    @property
+    def told_pending(self) -> List[str]:
+        """The pending operations as records in the user's terms."""
+        return [f"{self.terms.told(it)}\n" for it in self.pending]
+
+    @alone
+    def discard(self) -> int:
+        """Lets the pending operations go, and gives how many they were; those that are on their way, and may still be
+        answered, stay."""
+        books = self._books
+        is_awaited = books.flight is not None and books.of_pending and not books.flight.cut and not self.engine.has_ended
+        sent = books.flight.batch.size if books.flight and is_awaited else 0
+        count = len(self.pending) - sent
+        del self.pending[sent:sent + count]
+        return count
+
+    # Terms.
+
+    def terms_for(self, weight_scale: Optional[int], times: Optional[str]) -> Terms:
+        """The terms of a feed in the units that are said, or in the store's. Raises `ValueError` where the store has others."""
+        mine = self.terms.units
+        said = Units(mine.weight_scale if weight_scale is None else weight_scale, times or mine.times, mine.decimals,
+                     mine.rounding)
+        self.must_agree(said)
+        return Terms(self.terms.names, said)
+
+    def must_agree(self, units: Units) -> None:
+        if self.units_are_set and not units.same_as(self.terms.units):
+            raise ValueError(f"the store's units are {self.terms.units}, and those of what is to be loaded {units}")
+
+    @alone
+    def take_terms(self, terms: Terms) -> None:
+        """Takes the names and units of a feed. Raises `ValueError` where the store has other units."""
+        self.must_agree(terms.units)
+        self._take(terms)
+
+    def _take(self, terms: Terms, kinds: Sequence[str] = ()) -> None:
+        self.terms.names.take(terms.names)
+        self.terms.units = terms.units._replace(decimals=self.terms.units.decimals, rounding=self.terms.units.rounding)
+        self.units_are_set = True
+        self.kinds.update(dict.fromkeys(kinds))
+
+    # Batches.
+
+    @alone
+    def commit(self, collect: bool, batch: int) -> "Tuple[Commit, Tuple[Commit, ...]]":
+        """Applies what is pending now, and gives the sum of what was applied and not told yet, and what it is of. A caller puts
+        that into `taken` as the last thing it does: then it was told."""
+        if self.is_closed:
+            raise StoreError("the store is closed")
+        self._forget_taken()
+        try:
+            self._land()
+            left = len(self.pending)
+            while left or not self._books.untold:
+                part = self.pending[:min(batch, left)]
+                self._fly(Operations("".join(part).encode("ascii"), len(part)), collect, True)
+                left -= len(part)
+        except Refused as fault:
+            if self._books.untold:
+                fault.applied = sum_of(self._books.untold)
+                self.taken.append(self._books.untold)
+            raise
+        return sum_of(self._books.untold), self._books.untold
+
+    def _forget_taken(self) -> None:
+        """Lets go what was told. (Where that is broken off, it's found gone the next time.)"""
+        count = len(self.taken)
+        told = {id(it) for receipts in self.taken[:count] for it in receipts}
+        self._books = self._books._replace(untold=tuple(it for it in self._books.untold if id(it) not in told))
+        del self.taken[:count]
+
+    @alone
+    def apply(self, batch: Operations, collect: bool, feed: Optional[Feed] = None) -> Commit:
+        """Applies a batch of its own, as one of a load, whose terms the store takes with it, or not at all. What commits did
+        before isn't told any more."""
+        if self.is_closed:
+            raise StoreError("the store is closed")
+        self._land()
+        receipt = self._fly(batch, collect, False, feed)
+        self._books = Books()
+        return receipt.commit
+
+    def settle(self) -> None:
+        """Takes what became of a batch whose call was broken off."""
+        if self._books.flight is not None:
+            self._settle()
+
+    @alone
+    def _settle(self) -> None:
+        self._land()
+
+    @alone
+    def forget(self) -> None:
+        """Lets go what wasn't told, as where the store begins anew. A batch on its way is part of that."""
+        self._land()
+        self._books = Books()
+
+    @alone
+    def end(self) -> None:
+        """Takes no more operations."""
+        self.is_closed = True
+
+    def _fly(self, batch: Operations, collect: bool, of_pending: bool, feed: Optional[Feed] = None) -> Receipt:
+        flight = self.engine.flight(batch, collect)
+        self._books = Books(self._books.untold, flight, of_pending, feed)
+        try:
+            receipt = self.engine.fly(flight)
+        except Denied as fault:
+            self._books = self._books._replace(flight=None)
+            raise self._refused(fault, batch, of_pending) from None
+        return self._book(flight, receipt)
+
+    def _land(self) -> None:
+        """Takes what became of a batch whose call was broken off; one that wasn't begun is not on its way any more."""
+        flight = self._books.flight
+        if flight is None:
+            return
+        try:
+            receipt = self.engine.landed(flight)
+        except Denied as fault:
+            self._books = self._books._replace(flight=None)
+            raise self._refused(fault, flight.batch, self._books.of_pending) from None
+        if receipt is None and not flight.cut:
+            self._books = self._books._replace(flight=None)
+        elif receipt is not None:
+            self._book(flight, receipt)
+
+    def _book(self, flight: Flight, receipt: Receipt) -> Receipt:
+        """Takes the operations of a batch from those that are pending, once, and keeps what it did."""
+        books = self._books
+        if books.of_pending and not flight.cut:
+            flight.cut.extend(map(self.pending.__delitem__, (slice(flight.batch.size),)))
+        if books.feed is not None:
+            self._take(*books.feed)
+        untold = (*books.untold, receipt.commit) if books.of_pending else books.untold
+        self._books = Books(untold)
+        if receipt.refused:
+            told = [self._refusal(flight.batch, at, word) for at, word in receipt.refused]
+            raise OperationsRefused(receipt.commit.version, told)
+        return receipt
+
+    def _refusal(self, batch: Operations, at: int, word: str) -> Refused:
+        line = self.terms.told(batch.text.decode("ascii").split("\n")[at])
+        return refusal(word, line, place=batch.place(at) if batch.place else None)
+
+    # What is refused.
+
+    def _refused(self, fault: Denied, batch: Operations, of_pending: bool) -> Refused:
+        place = batch.place(0) if batch.place and batch.size else None
+        if fault.stat is not None:
+            needed = batch.size + (fault.stat.used if batch.expires else 0)
+            return PoolEmpty(needed=needed, free=fault.stat.free, record=fault.record, place=place,
+                             advice=self._room_advice(batch.size, needed, fault.stat))
+        left = f"the batch of {batch.size} operations is pending still" if of_pending else ""
+        return refusal(fault.word, left, record=fault.record, place=place)
+
+    def _room_advice(self, size: int, needed: int, stat: Stat) -> str:
+        """What helps where a batch of so many operations needs more blocks than are free: only what wasn't done already."""
+        collect = "collect" + (", and before that close a session that holds an old version" if self.engine.open_count else "")
+        smaller, room = "make batches smaller", stat.free + stat.retired
+        ways = [collect] if stat.retired and room >= needed else []
+        if size > 1 and stat.free > needed - size:
+            ways.append(smaller)
+        elif size > 1 and not ways and room > needed - size:
+            ways.append(f"{collect}, and {smaller}")
+        if self.engine.blocks < records.MOST_BLOCKS:
+            ways.append(f"give the store more blocks ({records.MOST_BLOCKS:,} at most)")
+        told = "; or ".join(ways)
+        return told[:1].upper() + told[1:]
+
+
+def sum_of(receipts: Sequence[Commit]) -> Commit:
+    """What several batches did, as one: the last one's version, and the sums of the counts."""
+    counts = [sum(column) for column in zip(*(it[1:] for it in receipts))]
+    return Commit(receipts[-1].version, *counts)

@@ -1,0 +1,1 @@
+"""What a store's user says and is told."""

@@ -1,0 +1,273 @@
+"""What the store answers: small named tuples, and tables by name."""
+from __future__ import annotations
+
+import heapq
+from array import array
+from html import escape
+from itertools import islice
+from typing import (TYPE_CHECKING, Any, Callable, Dict, Generic, ItemsView, Iterator, KeysView, List, Mapping, NamedTuple,
+                    Optional, Sequence, Tuple, TypeVar, ValuesView, cast)
+
+from ..errors import Missing
+
+if TYPE_CHECKING:
+    import numpy
+    import pandas
+
+V = TypeVar("V")
+# What weights and times are, by the units of a store.
+W = TypeVar("W")
+T = TypeVar("T")
+# How many rows of a table a notebook shows.
+ROWS_SHOWN = 10
+
+
+class Commit(NamedTuple):
+    """What batches did: the last version's number; how many operations inserted an edge, updated one, removed one, found none
+    to remove, and left a weight as it was since it would have left its limits; how many batches they were cut into; and how
+    many edges expired."""
+
+    version: int
+    inserted: int
+    updated: int
+    removed: int
+    absent: int
+    overflowed: int
+    batches: int = 1
+    expired: int = 0
+
+
+class Collected(NamedTuple):
+    """What a collection did: the floor, how many blocks it freed, and how many stay retired."""
+
+    floor: int
+    recycled: int
+    retired: int
+
+
+class Stat(NamedTuple):
+    """The last version's number, its names and edges; and how many blocks are free, retired and used."""
+
+    version: int
+    names: int
+    edges: int
+    free: int
+    retired: int
+    used: int
+
+
+class Rebased(NamedTuple):
+    """What a store began anew with: its version's number, 0, its names and edges, and how many blocks these use."""
+
+    version: int
+    names: int
+    edges: int
+    used: int
+
+
+class Renewed(NamedTuple):
+    """When a store began anew with its last edges: the version, its names and edges that went along, the records that took, and
+    for how many seconds the store did nothing else."""
+
+    version: int
+    names: int
+    edges: int
+    records: int
+    seconds: float
+
+    def __str__(self) -> str:
+        return (f"began anew at version {self.version}: {self.edges} edges and {self.names} names went along, in "
+                f"{self.seconds:.1f} s")
+
+
+# Before Python 3.11 a named tuple has no parameters where it runs: those of these three are for a type checker, which is told of
+# them in the same words.
+if TYPE_CHECKING:
+    class Degree(NamedTuple, Generic[W]):
+        out: int
+        into: int
+        weight_out: W
+
+    class Edge(NamedTuple, Generic[W, T]):
+        weight: W
+        first: T
+        recent: T
+
+    class Neighbor(NamedTuple, Generic[W, T]):
+        out: "Optional[Edge[W, T]]"
+        into: "Optional[Edge[W, T]]"
+else:
+    class Degree(NamedTuple):
+        """How many edges go out of a vertex and how many come in, and the sum of the weights of those that go out: a whole
+        number, or a decimal one in a store that has a `weight_scale`. For a type checker it is a `Degree[W]`, of weights that are
+        W."""
+
+        out: int
+        into: int
+        weight_out: Any
+
+    class Edge(NamedTuple):
+        """An edge's weight, the time of the operation that added it, and that of the last one that touched it. These are whole
+        numbers; in a store that has units the weight is a decimal number, and a time a `datetime` in UTC. For a type checker it
+        is an `Edge[W, T]`, of weights that are W and times that are T."""
+
+        weight: Any
+        first: Any
+        recent: Any
+
+    class Neighbor(NamedTuple):
+        """A vertex's edge to a neighbor, and its edge from it; `None` where there is none. For a type checker it is a
+        `Neighbor[W, T]`, as an `Edge` is."""
+
+        out: Optional[Edge]
+        into: Optional[Edge]
+
+
+# The columns of degrees as they are named on a command line.
+BY_COLUMN = {"out": "out", "incoming": "into", "weight": "weight_out"}
+
+
+class Values(NamedTuple):
+    """The values of a table's column: as arrays have them, and how a user is told them, where that is something else."""
+
+    values: Sequence[int]
+    told: Optional[Callable[[Sequence[int]], Sequence[Any]]] = None
+
+    def all_told(self) -> Sequence[Any]:
+        return self.values if self.told is None else self.told(self.values)
+
+
+class Answer(Mapping[str, V], Generic[V]):
+    """A table by name, as a version has it: a mapping from each name to its value, in the version's order.
+
+    It has its columns as arrays, and makes a dict of them when somebody asks by name or goes through it. `names` are the rows'
+    names, and `numpy()`, `frame()` and `top(n)` go by columns. It equals a dict of the same rows. `version` is the number of the
+    version that was asked, `request` what was asked, and `value` what its values are called.
+    """
+
+    def __init__(self, *given: Any, version: int = 0, request: str = "", value: str = "value", **named: Any) -> None:
+        self.version, self.request, self.value = version, request, value
+        self.names: Sequence[str] = ()
+        self.columns: Dict[str, Values] = {}
+        self._rows: "Optional[Dict[str, V]]" = dict(*given, **named)
+        if self._rows:
+            self.names = list(self._rows)
+
+    @classmethod
+    def of(cls, names: Sequence[str], columns: Dict[str, Values], version: int, request: str, value: str) -> "Answer[V]":
+        """The answer that has these columns; of degrees there are several."""
+        answer = cls(version=version, request=request, value=value)
+        answer.names, answer.columns, answer._rows = names, columns, None
+        return answer
+
+    def dict(self) -> "Dict[str, V]":
+        """The rows as a dict, the same one each time."""
+        if self._rows is None:
+            values: Any = [it.all_told() for it in self.columns.values()]
+            made: Any = map(Degree, *values) if len(values) > 1 else values[0]
+            self._rows = dict(zip(self.names, made))
+        return self._rows
+
+    def __getitem__(self, name: str) -> V:
+        return self.dict()[name]
+
+    def __iter__(self) -> Iterator[str]:
+        return iter(self.names)
+
+    def __len__(self) -> int:
+        return len(self.names)
+
+    def __contains__(self, name: object) -> bool:
+        return name in self.dict()
+
+    def keys(self) -> KeysView[str]:
+        return self.dict().keys()
+
+    def values(self) -> ValuesView[V]:
+        return self.dict().values()
+
+    def items(self) -> ItemsView[str, V]:
+        return self.dict().items()
+
+    def __eq__(self, other: object) -> bool:
+        return self.dict() == (other.dict() if isinstance(other, Answer) else other)
+
+    __hash__ = None  # type: ignore[assignment]  # (as a dict's)
+
+    def __repr__(self) -> str:
+        return repr(self.dict())
+
+    def __reduce__(self) -> Any:
+        """What pickles it: its columns, with the values as a user is told them."""
+        told = {name: Values(it.all_told()) for name, it in self.columns.items()}
+        if self._rows is not None and not told:
+            return _with_rows, (self._rows, self.version, self.request, self.value)
+        return Answer.of, (self.names, told, self.version, self.request, self.value)
+
+    def numpy(self) -> "Dict[str, numpy.ndarray[Any, Any]]":
+        """The columns as numpy arrays, each value in the place of its name in `names`: whole numbers, weights in the parts that
+        the store counts; labels are names."""
+        try:
+            import numpy
+        except ImportError:
+            raise Missing("numpy", "an array") from None
+        if not self.columns:
+            return {self.value: numpy.array(list(self.values()))}
+        return {name: numpy.array(it.all_told() if self.value == "label" else it.values) for name, it in self.columns.items()}
+
+    def frame(self) -> "pandas.DataFrame":
+        """The table as a pandas frame, by name."""
+        try:
+            import pandas
+        except ImportError:
+            raise Missing("pandas", "a frame") from None
+        index = pandas.Index(list(self.names), name="name", dtype=object)
+        if not self.columns:
+            rows: Any = list(self.values())
+            return pandas.DataFrame(rows, index=index, columns=self._fields())
+        return pandas.DataFrame({name: list(it.all_told()) for name, it in self.columns.items()}, index=index)
+
+    def _fields(self) -> List[str]:
+        """What a row's values are called."""
+        if self.columns:
+            return list(self.columns)
+        first = next(iter(self.values()), None)
+        return list(getattr(first, "_fields", [self.value]))
+
+    def _repr_html_(self) -> str:
+        """What a notebook shows: the first rows, and how many there are."""
+        rows = [["name", *self._fields()]]
+        for name, value in islice(self.items(), ROWS_SHOWN):
+            rows.append([name, *map(str, value if isinstance(value, tuple) else [value])])
+        cells = ("".join(f"<td>{escape(it)}</td>" for it in row) for row in rows)
+        told = f"{len(self)} {'name' if len(self) == 1 else 'names'} of version {self.version}: {self.request}"
+        return f"<table>{''.join(f'<tr>{it}</tr>' for it in cells)}</table><p>{escape(told)}</p>"
+
+    def top(self, count: int = 10, by: Optional[str] = None) -> "List[Tuple[str, V]]":
+        """The rows with the greatest values, greatest first; equal ones in the order of the table. `by` says by which column of
+        degrees: "out" (which they are by where none is said), "incoming" or "weight"; other tables have one column alone."""
+        fields = self._fields()
+        field = BY_COLUMN.get(by or "out", by) if len(fields) > 1 or by else fields[0]
+        if self.names and field not in fields:
+            raise ValueError(f"by is 'out', 'incoming' or 'weight' for degrees, and not {by!r}")
+        if not self.columns or not self.names:
+            rows: Any = list(self.items())
+            order: Any = [getattr(it, field or "") if len(fields) > 1 else it for _, it in rows]
+            return [rows[at] for at in heapq.nlargest(count, range(len(rows)), key=order.__getitem__)]
+        told = [it.all_told() for it in self.columns.values()]
+        order = told[fields.index(cast(str, field))]
+        places = heapq.nlargest(count, range(len(order)), key=order.__getitem__)
+        rows = zip(*([it[at] for at in places] for it in told)) if len(told) > 1 else None
+        values: Any = [Degree(*it) for it in rows] if rows is not None else [told[0][at] for at in places]
+        return list(zip(map(self.names.__getitem__, places), values))
+
+    most = top
+
+
+def degrees(out: "array[int]", into: "array[int]", weights: "array[int]", told: Any) -> Dict[str, Values]:
+    """The columns of a table of degrees."""
+    return {"out": Values(out), "into": Values(into), "weight_out": Values(weights, told)}
+
+
+def _with_rows(rows: Any, version: int, request: str, value: str) -> "Answer[Any]":
+    return Answer(rows, version=version, request=request, value=value)

@@ -1,0 +1,166 @@
+"""The store's units: weights as decimals and times as dates, where the program has whole numbers."""
+from __future__ import annotations
+
+import re
+from datetime import date, datetime, timedelta, timezone
+from decimal import Decimal, InvalidOperation
+from fractions import Fraction
+from typing import Any, Callable, NamedTuple, Optional, Sequence, Union
+
+from . import records
+from .answers import Edge
+
+Amount = Union[int, float, Decimal, str]
+Moment = Union[int, str, date]
+EPOCH = datetime(1970, 1, 1, tzinfo=timezone.utc)
+MICROSECOND = timedelta(microseconds=1)
+NUMBER, ISO = "number", "iso"
+HALF_EVEN = "half-even"
+_WITH_FRACTION = re.compile(r"([^.,]*[T ]\d\d:\d\d:\d\d)[.,](\d+)((?:[Zz]|[+-][^.,]*)?)", re.A)
+_A_DAY = re.compile(r"\d{4}-\d{2}-\d{2}")
+# How many signs a number may have that is looked at: a longer one is beyond every limit, and takes long.
+MOST_SIGNS = 400
+
+
+def whole_text(value: object) -> str:
+    """The value as a text; of a float that is whole that of the whole number, as 5 of 5.0."""
+    return str(int(value)) if isinstance(value, float) and value.is_integer() else str(value)
+
+
+def _places_of(scale: int) -> Optional[int]:
+    """How many decimal places a part of so many has: 2 for a hundredth, 3 for an eighth; `None` where they have no end."""
+    return next((it for it in range(64) if 10 ** it % scale == 0), None)
+
+
+def to_date(text: str) -> datetime:
+    """The time of a date, as 2024-05-01 or 2024-05-01T12:00:00.250+02:00, in UTC where no zone is said. Raises `ValueError` for
+    another text, and where it has more than microseconds, which would be cut off."""
+    found = _WITH_FRACTION.fullmatch(text.strip())
+    plain, digits = (found[1] + found[3], found[2]) if found else (text.strip(), "")
+    if len(digits.rstrip("0")) > 6:
+        raise ValueError("has more than microseconds")
+    if "." in plain or "," in plain:  # (Python would cut off what is beyond its sixth digit)
+        raise ValueError("has a fraction of something else than a second")
+    when = datetime.fromisoformat(re.sub("[Zz]$", "+00:00", plain))
+    when = when if when.tzinfo else when.replace(tzinfo=timezone.utc)
+    return when + timedelta(microseconds=int(digits[:6].ljust(6, "0"))) if digits else when
+
+
+class Units(NamedTuple):
+    """What a store's weights and times are counted in.
+
+    `weight_scale`: the program's weights are so many parts of one, as 100 for cents; 1 leaves them whole numbers. It divides a
+    power of ten, so that each weight is a decimal number. `times`: "number", or "iso" for dates, which the program has as
+    microseconds since 1970. `decimals`: whether answers have weights as "decimal" (`decimal.Decimal`, exact) or "float".
+    `rounding`: "half-even" where a weight that is no whole number of parts is rounded to the nearest, or of two that are equally
+    near to the even one; else such a weight is refused.
+    """
+
+    weight_scale: int = 1
+    times: str = NUMBER
+    decimals: str = "decimal"
+    rounding: Optional[str] = None
+
+    def checked(self) -> "Units":
+        """Itself; raises `ValueError` where these are no units."""
+        if self.times not in (NUMBER, ISO) or self.decimals not in ("decimal", "float"):
+            raise ValueError("times is 'number' or 'iso', decimals is 'decimal' or 'float'")
+        if self.rounding not in (None, HALF_EVEN):
+            raise ValueError(f"rounding is 'half-even' or None, and not {self.rounding!r}")
+        if not 1 <= self.weight_scale <= records.MOST_WEIGHT or _places_of(self.weight_scale) is None:
+            raise ValueError(f"weight_scale is from 1 to 2^40, and divides a power of ten; {self.weight_scale} doesn't")
+        return self
+
+    def __str__(self) -> str:
+        return f"weight_scale={self.weight_scale}, times={self.times!r}"
+
+    @property
+    def are_plain(self) -> bool:
+        """Whether weights and times are the program's whole numbers."""
+        return self.weight_scale == 1 and self.times == NUMBER
+
+    @property
+    def has_dates(self) -> bool:
+        return self.times == ISO
+
+    def same_as(self, other: "Units") -> bool:
+        """Whether the program's numbers mean the same; how decimals are shown is apart."""
+        return self[:2] == other[:2]
+
+    # To the program: texts, of which each is the program's number; those that are none raise `ValueError` with the reason.
+
+    def weight_to_program(self, text: str) -> str:
+        if self.weight_scale == 1 and self.rounding is None:
+            return text
+        try:
+            value = Decimal(text.strip()) if len(text) <= MOST_SIGNS else None
+        except InvalidOperation:
+            value = None
+        if value is None or not value.is_finite():
+            raise ValueError("a weight is a decimal number")
+        limit = Decimal(records.MOST_WEIGHT) / self.weight_scale
+        if not -limit <= value <= limit:
+            raise ValueError(f"a weight is from -{limit} to {limit} (2^40 parts, of which one has {self.weight_scale})")
+        parts = Fraction(value) * self.weight_scale
+        if parts.denominator != 1 and self.rounding is None:
+            raise ValueError(f"a weight is a whole number of parts, of which one has {self.weight_scale} (weight_scale)")
+        return str(round(parts))  # (of a Fraction: to the nearest, or the even one of two)
+
+    def time_to_program(self, text: str, *, is_end: bool = False) -> str:
+        """Of a day that ends a window its last microsecond. 0 is the time of what has none, and the first; the greatest time is
+        the end of a window that has none."""
+        if self.times == NUMBER or text in ("0", str(records.MOST_TIME)):
+            return text
+        try:
+            when = to_date(text).astimezone(timezone.utc)
+        except OverflowError:
+            raise ValueError("a date is in the years 1970 to 9999") from None
+        except ValueError as fault:
+            cut = "microseconds" in str(fault)
+            raise ValueError("a date has at most microseconds, and what is beyond them would be cut off" if cut else
+                             "a time is a date here, as 2024-05-01 or 2024-05-01T12:00:00.250+02:00 (times='iso')") from None
+        if when < EPOCH:
+            raise ValueError("a date is not before 1970")
+        if is_end and _A_DAY.fullmatch(text.strip()):
+            when += timedelta(days=1) - MICROSECOND
+        return str((when - EPOCH) // MICROSECOND)
+
+    # To the user.
+
+    def weight_to_user(self, weight: int) -> Any:
+        if self.weight_scale == 1:
+            return weight
+        if self.decimals == "float":
+            return weight / self.weight_scale
+        places = _places_of(self.weight_scale) or 0
+        parts = abs(weight) * 10 ** places // self.weight_scale
+        return Decimal((int(weight < 0), tuple(map(int, str(parts))), -places))
+
+    def time_to_user(self, time: int) -> Any:
+        return time if self.times == NUMBER else EPOCH + MICROSECOND * time
+
+    def all_weights_to_user(self, weights: Sequence[int]) -> Sequence[Any]:
+        return weights if self.weight_scale == 1 else _each(self.weight_to_user, weights)
+
+    def all_times_to_user(self, times: Sequence[int]) -> Sequence[Any]:
+        return times if self.times == NUMBER else _each(self.time_to_user, times)
+
+    @property
+    def weights_told(self) -> "Optional[Callable[[Sequence[int]], Sequence[Any]]]":
+        """How a column of weights is told, where that isn't as it is."""
+        return None if self.weight_scale == 1 else self.all_weights_to_user
+
+    def edge_to_user(self, weight: int, first: int, recent: int) -> Edge[Any, Any]:
+        """The edge, with its weight and times in these units."""
+        if self.are_plain:
+            return Edge(weight, first, recent)
+        return Edge(self.weight_to_user(weight), self.time_to_user(first), self.time_to_user(recent))
+
+
+def _each(turn: Callable[[Any], Any], values: Sequence[Any]) -> "list[Any]":
+    """The values turned; those that are the same are turned once."""
+    turned = {it: turn(it) for it in set(values)}
+    return list(map(turned.__getitem__, values))
+
+
+PLAIN = Units()
