@@ -3,7 +3,9 @@ import random
 
 import support  # noqa: F401  (it finds the package)
 
-from misteluk import Edge, Store, records
+from misteluk import Edge, Store
+
+from misteluk.values import records
 
 # Names that go as they are, that need quotes in a record, and that go as ids.
 NAMES = [f"v{it}" for it in range(7)] + ["a,b", 'say "x"', "Иванов Пётр", "two words", "z" * 80]

@@ -111,8 +111,7 @@ class Scene:
         return True
 
     def end(self):
-        self.store._talk.kill()
-        self.store._closed = True
+        self.store.kill()
 
 
 def rebase(scene):
@@ -182,8 +181,8 @@ def has_ended(process, seconds=120.0):
 
 
 def is_calling(store):
-    """Whether a call of the store has begun: by its thread, or by a caller that has the turn."""
-    return bool(store._calls._made or store._calls.turn._holder)
+    """Whether a call of a store over a program has begun."""
+    return bool(store.engine.calls._made)
 
 
 @contextlib.contextmanager
@@ -331,5 +330,12 @@ class Model:
         assert interrupted or stat.edges == len(self.weights)
 
     def end(self):
-        self.store._talk.kill()
-        self.store._closed = True
+        self.store.kill()
+
+
+if __name__ == "__main__":  # python3 interrupting.py 10000: so many interrupts by a timer, beside the model
+    with handler(interrupt_in_a_call):
+        MODEL = Model(int(sys.argv[2]) if len(sys.argv) > 2 else 7)
+        MODEL.run(int(sys.argv[1]))
+        MODEL.end()
+    print(f"{MODEL.interrupts} interrupts in {MODEL.steps} steps, over the {MODEL.store.engine.name}: nothing wrong")

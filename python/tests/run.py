@@ -7,15 +7,38 @@ import re
 import subprocess
 import sys
 import time
+from typing import List, Tuple
 
-from support import HERE, find_program, optional
+NAMED = os.environ.get("MISTELUK_ENGINE")  # (which `support` says where nobody does)
+
+from support import HERE, find_program, optional  # noqa: E402
+from misteluk import LibraryNotFound, find_library  # noqa: E402
+
+# What is said of a test that is of one engine, and so isn't missed over the other.
+OF_ONE_ENGINE = r"\.\.\. skipped 'of (?:pipes|the library|the program) alone'"
+# Files of tests that make no store, or that say themselves over which engine they run: once is enough for them.
+ONCE = ("lint", "package", "records", "release", "types")
 
 
-def run(name: str) -> "tuple[str, float, str]":
-    begun = time.monotonic()
+def engines() -> List[str]:
+    """The engines that the tests run over: that of the variable MISTELUK_ENGINE, else the library, where it is, and the
+    program."""
+    if NAMED:
+        return [NAMED]
+    try:
+        print(f"python/check: the library is {find_library()}")
+    except LibraryNotFound as fault:
+        print(f"python/check: over the program alone: {fault}")
+        return ["program"]
+    return ["library", "program"]
+
+
+def run(part: Tuple[str, str]) -> Tuple[str, float, str]:
+    """Runs a file of tests over an engine, and gives its name, the seconds that it took, and what it said."""
+    begun, (name, engine) = time.monotonic(), part
     done = subprocess.run([sys.executable, "-W", "error::ResourceWarning", HERE / name, "-v"], stdout=subprocess.PIPE,
-                          stderr=subprocess.STDOUT, text=True, cwd=HERE)
-    return name, time.monotonic() - begun, done.stdout
+                          stderr=subprocess.STDOUT, text=True, cwd=HERE, env={**os.environ, "MISTELUK_ENGINE": engine})
+    return f"{name[5:-3]} ({engine})", time.monotonic() - begun, done.stdout
 
 
 def reasons(text: str) -> str:
@@ -38,16 +61,18 @@ def main(*wanted: str) -> int:
               f"{' '.join('python3-' + it for it in missing)})")
     passed = failed = passed_over = 0
     with concurrent.futures.ThreadPoolExecutor(2) as pool:
-        for name, seconds, text in pool.map(run, names):
+        over = engines()
+        parts = [(name, engine) for name in names for engine in (over[:1] if name[5:-3] in ONCE else over)]
+        for name, seconds, text in pool.map(run, parts):
             ran = re.search(r"(?m)^Ran (\d+) tests? in", text)
             bad = sum(map(int, re.findall(r"(?:failures|errors)=(\d+)", text.splitlines()[-1] if text else "")))
-            over = sum(map(int, re.findall(r"skipped=(\d+)", text)))
+            over_here = sum(map(int, re.findall(r"skipped=(\d+)", text))) - len(re.findall(OF_ONE_ENGINE, text))
             # (from Python 3.12 on a part whose tests were all passed over isn't OK, and those of a class aren't counted as run)
             bad = bad if ran and (bad or re.search(r"(?m)^OK|^NO TESTS RAN \(skipped=", text)) else 1
             passed += len(re.findall(r"(?m)(?:^|\.\.\. )ok$", text))
-            failed, passed_over = failed + bad, passed_over + over
-            why = f", {over} passed over: {reasons(text)}" if over else ""
-            print(f"{name[5:-3]}: {seconds:.0f} s{why}" + (f"\n{faults(text)}" if bad else ""))
+            failed, passed_over = failed + bad, passed_over + over_here
+            why = f", {over_here} passed over: {reasons(text)}" if over_here else ""
+            print(f"{name}: {seconds:.0f} s{why}" + (f"\n{faults(text)}" if bad else ""))
     if passed_over:
         print(f"{passed_over} tests were passed over")
     print(f"{passed} passed, {failed} failed")

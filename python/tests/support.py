@@ -2,6 +2,7 @@
 from __future__ import annotations
 
 import io
+import os
 import pathlib
 import re
 import stat
@@ -13,6 +14,9 @@ import unittest
 from contextlib import redirect_stderr, redirect_stdout
 from typing import Any, Callable, Dict, List, Tuple
 
+# Which engine the tests run over: each file of them runs over the one and the other, but those of pipes alone.
+ENGINE = os.environ.setdefault("MISTELUK_ENGINE", "library")
+OF_PIPES = "of pipes alone"
 HERE = pathlib.Path(__file__).resolve().parent
 TOP = HERE.parent.parent
 # Whether this is the repository, and no released archive.
@@ -21,7 +25,7 @@ NO_REPOSITORY = "this is no repository, but a released archive"
 sys.path.insert(0, str(HERE.parent))
 
 from misteluk import Store, find_program  # noqa: E402
-from misteluk.__main__ import main  # noqa: E402
+from misteluk.command.main import main  # noqa: E402
 
 
 def optional(name: str) -> Any:
@@ -68,10 +72,8 @@ class Case(unittest.TestCase):
         store.close()
 
     def kill(self, store: Store) -> None:
-        """Ends a store's programs: what a test plants may leave one that can't be closed. To be put in the place of `let_go`."""
-        store._closed = True
-        for it in list(store._talks):
-            it.kill()
+        """Ends a store: what a test plants may leave one that can't be closed. To be put in the place of `let_go`."""
+        store.kill()
 
     def feed(self, store: Store, *operations: str) -> None:
         for it in operations:

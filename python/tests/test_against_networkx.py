@@ -6,7 +6,9 @@ from unittest import mock
 
 from support import Case, optional
 
-from misteluk import Degree, Edge, Session, records
+from misteluk import Degree, Edge, Session
+
+from misteluk.values import records
 
 networkx = optional("networkx")
 ROUNDS = 12
@@ -131,7 +133,7 @@ class Comparison(Case):
         right = Session.levels
 
         def last(session, *asked):
-            free = session.store.open(2) if 2 not in session.store._sessions else None
+            free = session.store.open(2) if 2 not in session.store.engine._held else None
             answer = right(free or session, *asked)
             if free:
                 free.close()

@@ -14,9 +14,9 @@ from support import HERE, IS_REPOSITORY, NO_REPOSITORY, TOP, Case, CommandCase, 
 
 import misteluk
 from misteluk import pictures
-from misteluk.__main__ import main
-from misteluk.answers import Degree
-from misteluk.options import make_parser
+from misteluk.command.main import main
+from misteluk.values.answers import Degree
+from misteluk.command.options import make_parser
 
 PAIRS = "from,to,n,t\na,b,1,10\na,c,2,11\nc,d,3,12\na,b,4,13\nx,y,5,14\n"
 OF_PAIRS = ("--source", "from", "--target", "to", "--weight", "n", "--time", "t")
@@ -144,9 +144,9 @@ class Commands(CommandCase):
                             ("a.csv: columns are named, and there is no header: the file is empty", (
                                 "load", self.file("a.csv", ""), "--add")),
                             ("blocks is from 16", ("load", path, *OF_PAIRS, "--add", "--blocks", "7")),
-                            ("NoVertex (record", ("load", path, *OF_PAIRS, "--add", "--levels", "z")),
-                            ("--save and --edges are for what was loaded",
-                             ("load", path, *OF_PAIRS, "--add", "--dry-run", "--save", "x")),
+                            ("NoVertex", ("load", path, *OF_PAIRS, "--add", "--levels", "z")),
+                            ("--save and --edges are for what was loaded", (
+                                "load", path, *OF_PAIRS, "--add", "--dry-run", "--save", "x")),
                             ("No such file", ("load", path, *OF_PAIRS, "--add", "--save", "/no/such/x")),
                             ("No such file", ("restore", "/no/such")),
                             ("wants --edge", ("picture", "edge", path, *OF_PAIRS, "--add", "-o", "x.svg"))):

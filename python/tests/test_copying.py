@@ -3,12 +3,12 @@ import random
 import unittest
 from unittest import mock
 
-from support import Case
+from support import ENGINE, OF_PIPES, Case
 
 import misteluk
-from misteluk import copying
-from misteluk.copying import content_of_session, operations_of
-from misteluk.renewing import fill
+from misteluk.engine import copies as copying
+from misteluk.engine.copies import content_of, operations_of
+from misteluk.engine.protocol import Operations
 
 KINDS = ("road", 'a,"kind"', "rail")
 WINDOWS = ({}, {"since": 30}, {"until": 40}, {"since": 20, "until": 50}, {"since": 61, "until": 61})
@@ -47,10 +47,13 @@ class Copies(Case):
         store.commit()
         return [it for it in (held, store.open()) if it], names
 
-    def copied(self, content, blocks=2048):
-        store = self.store(blocks=blocks)
-        store._terms.names.take(self.names)
-        fill(store._talk, list(operations_of(content)))
+    def copied(self, content):
+        store = self.store(blocks=2048)
+        store.ledger.terms.names.take(self.names)
+        operations = list(operations_of(content))
+        for at in range(0, len(operations), 4):
+            part = operations[at:at + 4]
+            store.ledger.apply(Operations("".join(part).encode(), len(part)), True)
         return store.open()
 
     def differ(self, seed):
@@ -58,8 +61,8 @@ class Copies(Case):
         sessions, names = self.grown(seed)
         count = 0
         for it in sessions:
-            self.names = it.store._terms.names
-            content = content_of_session(it)
+            self.names = it.store.ledger.terms.names
+            content = content_of(it.held)
             copy = self.copied(content)
             count += answers_of(it, [*names, "nobody"]) != answers_of(copy, [*names, "nobody"])
             self.assertLessEqual(len(list(operations_of(content))),
@@ -82,7 +85,7 @@ class Copies(Case):
 
     def test_names_without_edges_fall_away(self):
         store = self.store("insert road a b 1 1", "insert rail c d 2 2", "insert road d b 3 3", "remove rail c d")
-        content = content_of_session(store.open())
+        content = content_of(store.open().held)
         edges = [("road", "a", "b", 1, 1, 1), ("road", "d", "b", 3, 3, 3)]
         self.assertEqual(content, (["road", "rail"], ["a", "b", "c", "d"], edges))
         active = content.without_idle_names()
@@ -90,27 +93,16 @@ class Copies(Case):
         self.assertEqual(list(operations_of(active)), ["i,road,a,b,1,1\n", "i,road,d,b,3,3\n"])
         self.assertEqual(list(operations_of(copying.Content([], [], []))), [])
 
+    @unittest.skipUnless(ENGINE == "program", OF_PIPES)
     def test_an_edge_that_wasn_t_told_of(self):
         """What the program counts, and isn't among the candidates, is no copy."""
         store = self.store("insert road a b 1 1")
         session = store.open()
-        store._talk.tell(b"i,road,a,c,5,5\n", 1)
-        store._talk.settle(store._talk.ask("commit\n"))
-        self.assertEqual(len(content_of_session(session).edges), 1)
-        with self.assertRaisesRegex(misteluk.StoreError, "the edges of 2 vertices, as a, are others"):
-            content_of_session(store.open())
-
-    def test_few_blocks(self):
-        """Batches of a copy are as small as the blocks want it."""
-        store = self.store(blocks=64)
-        for it in range(40):
-            store.insert("road", f"s{it % 20}", f"t{it}", it, it)
-            if it % 8 == 7:
-                store.commit(collect=True)
-        self.names = store._terms.names
-        session = store.open()
-        copy = self.copied(content_of_session(session), blocks=32)
-        self.assertEqual((copy.degrees(), copy.store.stat().edges), (session.degrees(), 40))
+        store.engine.talk.tell(b"i,road,a,c,5,5\n", 1)
+        store.engine.talk.settle(store.engine.talk.ask("commit\n"))
+        self.assertEqual(len(content_of(session.held).edges), 1)
+        with self.assertRaisesRegex(misteluk.Incomplete, "version 2 has 2 edges, and the client knows of 1"):
+            content_of(store.open().held)
 
 
 if __name__ == "__main__":

@@ -9,11 +9,13 @@ import unittest
 from contextlib import redirect_stderr
 from unittest import mock
 
-from support import Case, optional
+from support import ENGINE, OF_PIPES, Case, optional
 
 import misteluk
-from misteluk import Columns, Edge, Feed, feeds, loading, records
-from misteluk.units import Units
+from misteluk import Columns, Edge, Feed
+from misteluk.feeds import feed as feeds, loading
+from misteluk.values import records
+from misteluk.values.units import Units
 
 TRANSFERS = "from,to,amount,when\nana,funnel,980,1\nben,funnel,950,1\nana,funnel,20,5\n"
 OF_TRANSFERS = Columns("from", "to", None, "amount", "when", "transfer")
@@ -243,17 +245,21 @@ class Loads(Case):
         self.assertEqual(store.stat().version, 0)
 
     def test_limits_are_told_before_anything_is_sent(self):
-        self.over("f has 65538 names, where a run takes 65536", [(1, "k", "a", f"b{it}", "1", "0") for it in range(65_537)])
-        self.over("f has 65 kinds, where a run takes 64", [(1, f"k{it}", "a", "b", "1", "0") for it in range(65)])
-        with mock.patch.object(records, "MOST_RECORDS", 100):
-            loaded = self.store().load(Feed("f", [(1, "k", "a", "b", "1", "0")] * 97), by="set", collect=False)
-            self.assertEqual(loaded.records, 98)
-            self.over("101 records with its commits and collections, where a run takes 100", [(1, "k", "a", "b", "1", "0")] * 99)
-            self.over("f takes 100 records, and this run has had 2 of 100", [(1, "k", "a", "b", "1", "0")] * 98)
+        self.over("f has 65538 names, where a store takes 65536", [(1, "k", "a", f"b{it}", "1", "0") for it in range(65_537)])
+        self.over("f has 65 kinds, where a store takes 64", [(1, f"k{it}", "a", "b", "1", "0") for it in range(65)])
         # Batch 17 of 4,096 begins behind row 65,536, where 63,000 blocks are in use.
         self.over("63000 blocks for its edges and 67096 for its batches", [
             (1, f"k{it % 2}", f"a{it % 63_000 // 2}", "b", "1", "0") for it in range(71_000)])
 
+    @unittest.skipUnless(ENGINE == "program", OF_PIPES)
+    def test_records_are_counted_before_anything_is_sent(self):
+        with mock.patch.object(records, "MOST_RECORDS", 100):
+            loaded = self.store().load(Feed("f", [(1, "k", "a", "b", "1", "0")] * 97), by="set", collect=False)
+            self.assertEqual(loaded.records, 98)
+            self.over("f has 101 records with its commits and collections, in 1 batches, and this run takes",
+                      [(1, "k", "a", "b", "1", "0")] * 99)
+
+    @unittest.skipUnless(ENGINE == "program", OF_PIPES)
     def test_a_batch_that_is_refused_on_the_way(self):
         """All rows stand in one block, and each batch retires one: behind seven batches 9 of 16 blocks are free."""
         store = self.store(blocks=16)
@@ -290,49 +296,6 @@ class Loads(Case):
                 seen.append((receipt.version, session.edge("k", "a", "b")))
         self.assertEqual(seen, [(1, Edge(2, 0, 1)), (2, Edge(4, 0, 3)), (3, Edge(6, 0, 5))])
         self.assertEqual(found.times, (0, 5))
-
-    def load_ahead(self, rows: list, batch: int = 1, **options) -> tuple:
-        """A load part of which is sent while the rest is counted, a row at a time; never is more than half of it sent then."""
-        ahead, seen = loading.Ahead(lambda: self.store(blocks=records.MOST_BLOCKS), options.get("skip_bad", False)), []
-        go_on = ahead.go_on
-        ahead.go_on = lambda count: (go_on(count), seen.append((ahead.sent, len(count.parts))))
-        with mock.patch.object(feeds, "ROWS_AT_ONCE", 1):
-            found = misteluk.survey(Feed("f", rows), by="add", batch=batch, ahead=ahead)
-        loaded = misteluk.load(ahead.store, found, by="add", ahead=ahead, **options)
-        self.assertTrue(all(2 * sent <= counted for sent, counted in seen))
-        return ahead, loaded
-
-    def test_a_part_is_sent_ahead(self):
-        rows = [(it, "k", f"a{it % 7}", f"b{it % 11}", "1", str(it)) for it in range(400)]
-        store, (ahead, loaded) = self.store(), self.load_ahead(rows)
-        plain = store.load(Feed("f", rows), by="add", batch=1)
-        self.assertEqual((loaded.commit, loaded.records), (plain.commit, plain.records))
-        self.assertEqual(ahead.store.open().degrees(), store.open().degrees())
-        self.assertEqual((ahead.store.stat()[:3], ahead.store.kinds), (store.stat()[:3], ["k"]))
-        self.assertTrue(0 < ahead.sent <= 200)
-
-    def test_bad_rows_behind_what_was_sent(self):
-        rows = [(it, "k", "a", f"b{it}", "1", "x" if it == 90 else "0") for it in range(100)]
-        with self.assertRaises(misteluk.BadRows) as told:
-            self.load_ahead(rows)
-        self.assertEqual([it.place.line for it in told.exception.faults], [90])
-        self.assertEqual(self.load_ahead(rows, skip_bad=True)[1].commit.inserted, 99)
-
-    def test_limits_are_told_before_half_of_a_feed_is_in(self):
-        """More kinds than there can be: the program refuses the 65th when half of the feed is counted behind it."""
-        rows = [(it, f"k{it}", "a", "b", "1", "0") for it in range(400)]
-        with self.assertRaisesRegex(misteluk.OverLimit, "f has 400 kinds, where a run takes 64. Nothing is loaded"):
-            self.load_ahead(rows)
-
-    def test_a_program_that_ends_while_a_feed_is_counted(self):
-        ends = self.stand_in("sys.stdin.readline(); sys.exit(3)")
-        ahead = loading.Ahead(lambda: misteluk.Store(program=ends, blocks=records.MOST_BLOCKS))
-        with mock.patch.object(feeds, "ROWS_AT_ONCE", 1):
-            found = misteluk.survey(Feed("f", [(1, "k", "a", "b", "1", "0")] * 2_000), by="add", batch=1, ahead=ahead)
-            ahead.store._talk.process.wait(30)
-        with self.assertRaisesRegex(misteluk.ProgramEnded, "ended with status 3"):
-            misteluk.load(ahead.store, found, by="add", ahead=ahead)
-        self.assertRaises(misteluk.ProgramEnded, ahead.store.close)
 
     def test_progress(self):
         with redirect_stderr(io.StringIO()) as told:

@@ -14,9 +14,11 @@ from concurrent.futures import ThreadPoolExecutor
 from decimal import Decimal
 from unittest import mock
 
-from support import TOP, Case, optional
+from support import ENGINE, OF_PIPES, TOP, Case, optional
 
-from misteluk import Columns, Fleet, NoVertex, PartsFailed, ProgramEnded, Store, parting
+from misteluk import Columns, Fleet, NoVertex, PartsFailed, ProgramEnded, Store
+
+from misteluk.fleet import parted as parting
 
 PARTS, ROWS = 300, 7_000
 COLUMNS = Columns("from", "to", weight="amount", time="day")
@@ -76,7 +78,7 @@ def kill_once(session, numbers, marks, worker=False):
     mark = pathlib.Path(marks, str(number_of(told)))
     if number_of(told) in numbers and not mark.exists():
         mark.touch()
-        os.kill(os.getpid() if worker else session.store._talk.process.pid, signal.SIGKILL)
+        os.kill(os.getpid() if worker else session.store.engine.talk.process.pid, signal.SIGKILL)
         return tables(session)
     return told
 
@@ -104,7 +106,7 @@ def run_examples(case, text):
 
 def program_of(session):
     """The program's process."""
-    return session.store._talk.process.pid
+    return session.store.engine.talk.process.pid
 
 
 class Three(Case):
@@ -157,6 +159,7 @@ class Three(Case):
         self.is_equal(fleet.ask(tables))
         self.assertEqual((fleet.alive, fleet.made_again), (40, []))
 
+    @unittest.skipUnless(ENGINE == "program", OF_PIPES)
     def test_programs_killed_in_the_middle_are_made_again(self):
         struck = {it for it in self.rows if number_of(self.wanted[it]) % 10 == 0}
         fleet = self.fleet(workers=4, alive=PARTS)
@@ -168,6 +171,7 @@ class Three(Case):
         self.is_equal(fleet.ask(tables))
         self.assertEqual(sorted(fleet.made_again), sorted(list(self.rows)[:20]))
 
+    @unittest.skipUnless(ENGINE == "program", OF_PIPES)
     def test_a_part_whose_program_dies_again_is_told_by_its_key(self):
         keys = list(self.rows)[:30]
         wanted, struck = dict.fromkeys(keys), keys[7]
@@ -185,6 +189,7 @@ class Three(Case):
         self.assertEqual(dict(found), {it: self.wanted[it] for it in wanted if it != struck})
 
     @unittest.skipUnless(optional("distributed"), "distributed is not there")
+    @unittest.skipUnless(ENGINE == "program", OF_PIPES)
     def test_workers_of_a_cluster_one_killed_in_the_middle(self):
         from distributed import Client, LocalCluster
         with LocalCluster(n_workers=2, threads_per_worker=1, dashboard_address=None, silence_logs=logging.CRITICAL,

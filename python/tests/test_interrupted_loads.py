@@ -7,11 +7,12 @@ import signal
 import unittest
 from unittest import mock
 
-from interrupting import PATIENCE, SOON, alarm_as_soon_as, handler, interrupt_now, is_calling, lines, made_at_once
-from support import Case
+from interrupting import PATIENCE, alarm_as_soon_as, handler, is_calling, interrupt_now, lines
+from support import ENGINE, OF_PIPES, Case
 
-from misteluk import Columns, Store, calls, load, load_in_steps, loading, survey
-from misteluk.units import Units
+from misteluk import ledger, Columns, Store, load_in_steps, survey
+
+from misteluk.values.units import Units
 
 # Rows of a feed, two a batch: an edge that is in each of three batches, and a name that goes as an id.
 ROWS = [("a", "b", 1, 1), ("b", "c", 2, 2), ("a", "b", 4, 3), ("c", "d e", 8, 4), ("a", "b", 16, 5)]
@@ -67,24 +68,7 @@ class Scene:
             assert self.store.stat().edges == len(edges)
 
     def end(self):
-        self.store._talk.kill()
-        self.store._closed = True
-
-
-class Ahead(Scene):
-    """A feed of which a part is sent while the rest is counted. Where that was interrupted, the same calls go on."""
-
-    def __init__(self, by):
-        super().__init__(by)
-        self.ahead = loading.Ahead(lambda: self.store)
-
-    def count(self):
-        return survey(ROWS, by=self.by, batch=1, columns=COLUMNS, ahead=self.ahead)
-
-    def is_right(self):
-        load(self.store, self.count(), by=self.by, ahead=self.ahead)
-        self.has(self.after(ROWS))
-        assert self.store.stat().version == 1 + len(ROWS)
+        self.store.kill()
 
 
 class Empty:
@@ -107,8 +91,7 @@ class Empty:
             assert not self.store.kinds[1:] or session.edge("l", "b", "c").weight == 2
 
     def end(self):
-        self.store._talk.kill()
-        self.store._closed = True
+        self.store.kill()
 
 
 class Loads(Case):
@@ -127,17 +110,13 @@ class Loads(Case):
         self.assertGreater(count, 50)
         self.assertEqual(wrong, [])
 
-    def test_each_line_of_one_that_is_sent_ahead(self):
-        count, wrong = self.lines("add", Ahead.count, Ahead)
-        self.assertGreater(count, 300)
-        self.assertEqual(wrong, [])
-
+    @unittest.skipUnless(ENGINE == "program", OF_PIPES)
     def test_while_it_waits(self):
         """For a program that stands still behind so many batches."""
         for batches in range(BATCHES):
             scene = Scene("add")
             self.addCleanup(scene.end)
-            steps, process = scene.steps(), scene.store._talk.process
+            steps, process = scene.steps(), scene.store.engine.talk.process
             scene.told += itertools.islice(steps, batches)
             process.send_signal(signal.SIGSTOP)
             with handler(interrupt_now), self.assertRaises(KeyboardInterrupt), \
@@ -147,9 +126,15 @@ class Loads(Case):
             scene.is_right()
 
     def test_each_line_finds_a_fault(self):
-        with mock.patch.dict(PATIENCE, SOON), mock.patch.object(calls.Calls, "make", made_at_once):
+        right = ledger.Ledger.apply
+
+        def in_halves(self, batch, collect, feed=None):
+            """A fault to plant: a batch that is two, of which an interrupt leaves one."""
+            first, *rest = batch.text.splitlines(keepends=True)
+            right(self, batch._replace(text=first, size=1), collect, feed)
+            return right(self, batch._replace(text=b"".join(rest), size=len(rest)), collect, feed)
+        with mock.patch.object(ledger.Ledger, "apply", in_halves):
             self.assertGreater(len(self.lines("add", step=5)[1]), 5)
-            self.assertGreater(len(self.lines("add", Ahead.count, Ahead, step=5)[1]), 2)
 
 
 if __name__ == "__main__":

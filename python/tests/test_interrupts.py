@@ -15,12 +15,13 @@ import warnings
 import weakref
 from unittest import mock
 
-from interrupting import (CALLS, KNOWN, PATIENCE, SOON, Model, Scene, after, alarm_as_soon_as, at_line, elsewhere, forget,
-                          handler, has_ended, interrupt_in_a_call, interrupt_now, is_calling, lines, made_at_once)
-from support import Case, as_soon_as
+from interrupting import (CALLS, KNOWN, Model, Scene, after, alarm_as_soon_as, at_line, elsewhere, handler, has_ended,
+                          interrupt_in_a_call, interrupt_now, is_calling, lines, made_at_once)
+from support import ENGINE, OF_PIPES, Case, as_soon_as
 
 import misteluk
-from misteluk import Store, calls, program
+from misteluk import Store, ledger
+from misteluk.engine import calls
 
 
 class Interrupts(Case):
@@ -35,19 +36,19 @@ class Interrupts(Case):
                 self.assertEqual(wrong, [])
 
     def test_each_line_finds_a_fault(self):
-        with mock.patch.dict(PATIENCE, SOON):
+        if ENGINE == "program":
             with mock.patch.object(calls.Calls, "make", made_at_once):
                 self.assertGreater(len(self.lines("edges", 6)[1]), 2)
-            with mock.patch.object(weakref, "ref", lambda it: lambda: it):
-                self.assertGreater(len(self.lines("open")[1]), 0)
-            with mock.patch.object(program.Conversation, "take_up", forget):
-                self.assertGreater(len(self.lines("edge")[1]), 2)
+        with mock.patch.object(weakref, "ref", lambda it: lambda: it):
+            self.assertGreater(len(self.lines("open")[1]), 0)
+        with mock.patch.object(ledger.Ledger, "_land", lambda _: None):
+            self.assertGreater(len(self.lines("commit")[1]), 0)
 
     def waiting(self, name, interrupt):
         """A scene whose call is interrupted while it waits for the program, which stands still meanwhile."""
         scene = Scene()
         self.addCleanup(scene.end)
-        process = scene.store._talk.process
+        process = scene.store.engine.talk.process
         process.send_signal(signal.SIGSTOP)
         try:
             interrupt(scene.store, lambda: CALLS[name](scene), lambda: process.send_signal(signal.SIGCONT))
@@ -76,6 +77,7 @@ class Interrupts(Case):
         thread.join()
         self.assertEqual(told, ["interrupted"])
 
+    @unittest.skipUnless(ENGINE == "program", OF_PIPES)
     def test_while_it_waits(self):
         with handler(interrupt_now):
             for name in CALLS:
@@ -96,6 +98,7 @@ class Interrupts(Case):
                 if not interrupted:
                     break
 
+    @unittest.skipUnless(ENGINE == "program", OF_PIPES)
     def test_the_end(self):
         """A store that is closed, or left by a `with`, at whatever line it is interrupted: its program is ended."""
         def leave(store):
@@ -105,8 +108,8 @@ class Interrupts(Case):
             at, is_more = 0, True
             while is_more:
                 at += 1
-                store = Store()
-                process = store._talk.process
+                store = Store(timeout=5)
+                process = store.engine.talk.process
                 is_more = at_line(at, lambda: call(store))
                 self.forget(store)
                 del store
@@ -119,18 +122,20 @@ class Interrupts(Case):
             warnings.simplefilter("ignore")
             store.close()
 
+    @unittest.skipUnless(ENGINE == "program", OF_PIPES)
     def test_what_a_close_loses_is_told(self):
         """Also by the second one, where the first was interrupted while it waited."""
         scene = Scene()
-        scene.store._talk.process.send_signal(signal.SIGSTOP)
+        scene.store.engine.talk.process.send_signal(signal.SIGSTOP)
         with handler(interrupt_now):
             self.by_alarm(scene.store, scene.store.close, None)
-        scene.store._talk.process.send_signal(signal.SIGCONT)
+        scene.store.engine.talk.process.send_signal(signal.SIGCONT)
         with self.assertRaises(misteluk.Uncommitted) as told:
             scene.store.close()
         self.assertEqual(told.exception.operations, ["a,l,a,b,1,2\n"] * 3)
-        self.assertTrue(has_ended(scene.store._talk.process))
+        self.assertTrue(has_ended(scene.store.engine.talk.process))
 
+    @unittest.skipUnless(ENGINE == "program", OF_PIPES)
     def test_the_beginning(self):
         """A store whose making is interrupted has no program, and leaves no thread that waits for more than its end."""
         started, real, at, is_more = [], subprocess.Popen, 0, True
@@ -191,9 +196,9 @@ class Interrupts(Case):
         self.assertGreater(model.steps, 300)
 
     def test_three_hundred_find_a_fault(self):
-        for where, name, fault in ((calls.Calls, "make", made_at_once), (program.Conversation, "take_up", forget)):
-            with mock.patch.dict(PATIENCE, SOON), mock.patch.object(where, name, fault), handler(interrupt_in_a_call), \
-                    self.assertRaises(Exception):
+        for where, name, fault in ((ledger.Ledger, "_land", lambda _: None), *(
+                [(calls.Calls, "make", made_at_once)] if ENGINE == "program" else [])):
+            with mock.patch.object(where, name, fault), handler(interrupt_in_a_call), self.assertRaises(Exception):
                 model = Model()
                 self.addCleanup(model.end)
                 model.run(300)

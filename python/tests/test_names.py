@@ -10,12 +10,13 @@ import threading
 import unittest
 from unittest import mock
 
-from support import HERE, Case, CommandCase, optional, words_of
+from support import ENGINE, HERE, OF_PIPES, Case, CommandCase, optional, words_of
 
 import misteluk
-from misteluk import Degree, Edge, Feed, Store, names
-from misteluk.__main__ import named_edge
-from misteluk.names import NameTable, id_of, shown
+from misteluk import Degree, Edge, Feed, Store
+from misteluk.command.main import named_edge
+from misteluk.values import names, records, terms
+from misteluk.values.names import NameTable, id_of, shown
 
 IVANOV, WANG, SPACES, LONG = "Иванов Пётр Сергеевич", "王小明", " a  b ", "x" * 120
 AN_ID = "~~" + "A" * 20
@@ -146,7 +147,7 @@ class Stores(Case):
         self.refused(misteluk.BadWindow, f"bfs,0,{IVANOV},*,3,2", lambda: session.levels(IVANOV, since=3, until=2))
         self.refused(misteluk.NoVertex, r"'a b\nc'", lambda: session.levels("a b\nc"))
         self.assertEqual(session.edges([(self.KIND, nobody, WANG), (nobody, IVANOV, WANG)], missing=7), [7, 7])
-        self.assertEqual(len(store._terms.names), len(OTHERS) + 1)  # (a question keeps no name)
+        self.assertEqual(len(store.ledger.terms.names), len(OTHERS) + 1)  # (a question keeps no name)
         store.insert("k", nobody, "t")
         store.commit()
         self.refused(misteluk.NoVertex, nobody, lambda: session.levels(nobody))
@@ -165,12 +166,13 @@ class Stores(Case):
                 store.remove("k", WANG, "b")
         self.assertEqual(told.exception.operations, [f'i,k,{IVANOV},"a ""b"", c",7,0\n', f"r,k,{WANG},b\n"])
 
+    @unittest.skipUnless(ENGINE == "program", OF_PIPES)
     def test_an_operation_that_only_the_program_refuses(self):
         store = self.store()
-        with mock.patch.object(misteluk.records, "faults_of", lambda *_: []):
+        with mock.patch.object(records, "faults_of", lambda *_: []):
             store.insert("k", IVANOV, "t", 1, "soon")
         with self.assertRaises(misteluk.OperationsRefused) as told:
-            with mock.patch.object(misteluk.terms.Terms, "_told_field", lambda terms, field, value: terms.names.to_user(value)):
+            with mock.patch.object(terms.Terms, "_told_field", lambda terms, field, value: terms.names.to_user(value)):
                 store.commit()
         self.assertIn(f"i,k,{IVANOV},t,1,soon", str(told.exception))
 

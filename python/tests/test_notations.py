@@ -5,10 +5,11 @@ import sys
 import unittest
 from datetime import datetime, timezone
 
-from support import HERE, Case
+from support import ENGINE, HERE, OF_PIPES, Case
 
 import misteluk
-from misteluk import Columns, Feed, notations
+from misteluk import Columns, Feed
+from misteluk.feeds import notations
 
 ONE_TO_FOUR = Columns(1, 2, weight=3, time=4)
 
@@ -201,6 +202,7 @@ class Advice(Case):
             store.open()
         self.assertEqual((str(told.exception), len(held)), ("all 16 seats hold sessions: close one", 16))
 
+    @unittest.skipUnless(ENGINE == "program", OF_PIPES)
     def test_room(self):
         """Of 16 blocks 8 are used and 8 replaced: what helps then, each time another thing."""
         store = self.store(*(f"insert k a{it} b 1 0" for it in range(8)), blocks=16)

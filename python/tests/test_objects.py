@@ -8,7 +8,8 @@ from decimal import Decimal
 from support import Case, optional
 
 import misteluk
-from misteluk import Columns, Edge, objects
+from misteluk import Columns, Edge
+from misteluk.feeds import objects
 
 OF_TRANSFERS = Columns("from", "to", None, "amount", "when", "transfer")
 

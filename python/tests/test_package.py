@@ -125,7 +125,7 @@ class Installs(Case):
 
     def ask(self, code: str) -> str:
         """What Python says far from the clone, with what was installed alone."""
-        env = {it: value for it, value in os.environ.items() if it != "MISTELUK_PROGRAM"}
+        env = {it: value for it, value in os.environ.items() if not it.startswith("MISTELUK_")}
         return run(sys.executable, "-B", "-c", code, cwd="/", env={**env, "PYTHONPATH": str(self.there)}).stdout
 
     def listing(self) -> list:
@@ -200,6 +200,7 @@ class Help(Case):
     def test_options_have_names(self):
         """A load's options, for completion: those that a feed is opened by, in each of the calls that take them."""
         opened = set(inspect.signature(misteluk.open_feed).parameters)
+        self.assertLess(set(misteluk.ReadAs._fields), opened)
         for call in (misteluk.load, misteluk.survey, misteluk.Store.load):
             told = inspect.signature(call).parameters
             self.assertEqual(opened - set(told), {"data"} if call == misteluk.Store.load else set())

@@ -13,18 +13,20 @@ from collections import defaultdict
 from concurrent.futures import ThreadPoolExecutor
 from unittest import mock
 
-from support import Case, optional
+from support import ENGINE, OF_PIPES, Case, optional
 
 import misteluk
 from misteluk import (BadRows, BadWeight, Columns, FeedFault, Fleet, NoAnswer, NoVertex, OperationsRefused, OverLimit,
-                      PartsFailed, Place, PoolEmpty, ProgramEnded, StoreError, parting, records)
+                      PartsFailed, Place, PoolEmpty, ProgramEnded, StoreError)
+from misteluk.fleet import parted as parting
+from misteluk.values import records
 from misteluk.errors import Missing, refusal
-from misteluk.parts import CALLS
+from misteluk.fleet.parts import CALLS
 
 
 def program_of(session):
     """The program's process."""
-    return session.store._talk.process.pid
+    return session.store.engine.talk.process.pid
 
 
 def change(session):
@@ -144,6 +146,7 @@ class Few(Case):
             list(fleet.ask(spoil))
             self.assertEqual(fleet.alive, 0)
 
+    @unittest.skipUnless(ENGINE == "program", OF_PIPES)
     def test_what_can_t_be_asked_or_made_is_told_at_once(self):
         fleet = self.fleet(self.file("few.csv", self.LINES))
         for wrong in ("degree", "close", "to_csv", "_edge"):
@@ -208,6 +211,7 @@ class Few(Case):
             self.assertEqual(os.waitpid(child, 0)[1], 0)
         self.assertEqual((list(fleet.ask("degrees")), fleet.made_again), (first, []))
 
+    @unittest.skipUnless(ENGINE == "program", OF_PIPES)
     def test_a_run_that_has_had_its_records_is_made_again(self):
         fleet = self.fleet(self.file("few.csv", "x,ana,ben,5\n"))
         with mock.patch.object(records, "MOST_RECORDS", 20):
@@ -217,12 +221,13 @@ class Few(Case):
             with self.assertRaisesRegex(PartsFailed, "part 'x': RecordLimit"):
                 list(fleet.ask(lambda session: [session.degrees() for _ in range(20)]))
 
+    @unittest.skipUnless(ENGINE == "program", OF_PIPES)
     def test_a_program_that_is_silent_is_told_by_its_key(self):
         """It is stopped, and doesn't answer."""
         def stop(session):
             if session.degrees()["ana"].weight_out == 7:
                 os.kill(program_of(session), signal.SIGSTOP)
-                session.store._talk.timeout = 0.5
+                session.store.engine.talk.timeout = 0.5
             return program_of(session), session.degrees()["ana"].weight_out
         found = []
         with self.assertRaisesRegex(PartsFailed, "1 of 3 parts gave no answer\n  part 'y': NoAnswer: ") as told:
@@ -230,6 +235,7 @@ class Few(Case):
         self.assertIsInstance(told.exception.faults["y"], NoAnswer)
         self.assertEqual([(key, answer[1]) for key, answer in found], [("x", 5), ("z", 2)])
 
+    @unittest.skipUnless(ENGINE == "program", OF_PIPES)
     def test_no_more_is_begun_where_the_loop_is_left(self):
         """By one worker, which is in its fourth part then, and has others before it."""
         seen, gate = [], threading.Event()
@@ -244,6 +250,7 @@ class Few(Case):
         time.sleep(0.5)
         self.assertIn(len(seen), (3, 4))
 
+    @unittest.skipUnless(ENGINE == "program", OF_PIPES)
     def test_nothing_is_left_behind(self):
         """Neither programs nor files, where the loop is left in the middle."""
         rows = [(f"part{it}", "ana", "ben", it) for it in range(100)]

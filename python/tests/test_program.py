@@ -11,16 +11,18 @@ import unittest
 from contextlib import redirect_stderr
 from unittest import mock
 
-from support import HERE, Case
+from support import ENGINE, HERE, OF_PIPES, Case
 
 import misteluk
-from misteluk import Store, finding, program
-from misteluk import store as store_module
+from misteluk import Store
+from misteluk.engine import finding, conversation as program
+from misteluk.engine import program as engine_program
 
 
 SAID, WAIT = "sys.stdin.readline(); ", "; sys.stdin.read()"
 
 
+@unittest.skipUnless(ENGINE == "program", OF_PIPES)
 class Programs(Case):
     def fault(self, wanted: type, told: str, body: str, call=lambda store: store.stat(), timeout: float = 30) -> None:
         """Whether a stand-in that does as `body` says makes this call raise, and closing the store end the program."""
@@ -30,7 +32,7 @@ class Programs(Case):
         self.assertRegex(str(fault.exception), told)
         with contextlib.suppress(misteluk.StoreError):
             store.close()
-        self.assertIsNotNone(store._talk.process.poll())
+        self.assertIsNotNone(store.engine.talk.process.poll())
 
     def test_silence(self):
         told = r"neither read nor wrote for 0.3 s \(record 2 isn't answered\)"
@@ -79,7 +81,7 @@ class Programs(Case):
         self.fault(misteluk.Refused, r"NewWord \(record 2\): stat", SAID + "print('error 2 NewWord', flush=True)" + WAIT)
 
     def test_an_end_without_an_answer_at_the_start(self):
-        with mock.patch.object(store_module, "START_SECONDS", 5):
+        with mock.patch.object(engine_program, "START_SECONDS", 5):
             with self.assertRaisesRegex(misteluk.ProgramEnded, "before record 1 was answered"):
                 Store(program="/bin/true")
 
@@ -91,10 +93,10 @@ class Programs(Case):
 
     def test_a_stop_is_told_and_the_call_can_be_made_again(self):
         store = Store(timeout=0.3)
-        store._talk.process.send_signal(signal.SIGSTOP)
+        store.engine.talk.process.send_signal(signal.SIGSTOP)
         self.assertRaises(misteluk.NoAnswer, store.stat)
-        store._talk.process.send_signal(signal.SIGCONT)
-        store._talk.timeout = 30
+        store.engine.talk.process.send_signal(signal.SIGCONT)
+        store.engine.talk.timeout = 30
         self.assertEqual(store.stat().free, 16_384)
         store.close()
 
@@ -107,11 +109,11 @@ class Programs(Case):
                  "print('rebase v=0 names=0 edges=0 used=0', flush=True)", "sys.stdin.read()")
         store = Store(program=self.stand_in("sys.stdin.readline(); sys.stdin.readline()\n" + "\n".join(lines)))
         session = store.open()
-        store._talk.timeout = 0.3
+        store.engine.talk.timeout = 0.3
         self.assertRaises(misteluk.NoAnswer, store.rebase, session)
         self.assertRaises(misteluk.SessionClosed, session.degrees)
         gate.touch()
-        store._talk.timeout = 30
+        store.engine.talk.timeout = 30
         self.assertEqual(store.rebase(session), misteluk.Rebased(0, 0, 0, 0))
         self.assertEqual(store.records_sent, 4)
         self.assertRaises(misteluk.SessionClosed, store.rebase, session)
@@ -133,12 +135,12 @@ class Programs(Case):
         self.assertEqual(run.communicate(timeout=60), ("1\n", None))
 
     def stop(self, store: Store) -> None:
-        store._talk.timeout = 0.3
-        store._talk.process.send_signal(signal.SIGSTOP)
+        store.engine.talk.timeout = 0.3
+        store.engine.talk.process.send_signal(signal.SIGSTOP)
 
     def go_on(self, store: Store) -> None:
-        store._talk.process.send_signal(signal.SIGCONT)
-        store._talk.timeout = 30
+        store.engine.talk.process.send_signal(signal.SIGCONT)
+        store.engine.talk.timeout = 30
 
     def test_a_batch_that_was_sent_is_sent_no_second_time(self):
         store = self.store()
@@ -181,7 +183,7 @@ class Programs(Case):
 
     def test_a_killed_program(self):
         store = Store()
-        store._talk.process.kill()
+        store.engine.talk.process.kill()
         for _ in range(2):
             with self.assertRaisesRegex(misteluk.ProgramEnded, "ended by signal 9"):
                 store.stat()
@@ -196,19 +198,19 @@ class Programs(Case):
             for _ in range(1_024):
                 opened.callback(os.close, os.open(os.devnull, os.O_RDONLY))
             store = Store()
-            self.assertGreater(store._talk._out, 1_023)
+            self.assertGreater(store.engine.talk._out, 1_023)
             store.insert("k", "a", "b")
             self.assertEqual(store.commit().inserted, 1)
             store.close()
             killed = Store()
-            killed._talk.process.kill()
+            killed.engine.talk.process.kill()
             self.assertRaises(misteluk.ProgramEnded, killed.stat)
             self.assertRaises(misteluk.ProgramEnded, killed.close)
 
     def test_what_is_pending_where_the_program_fails_is_told(self):
         store = Store()
         store.insert("k", "a", "b")
-        store._talk.process.kill()
+        store.engine.talk.process.kill()
         with self.assertRaises(misteluk.Uncommitted) as told:
             store.close()
         self.assertEqual(told.exception.operations, ["i,k,a,b,1,0\n"])
@@ -218,7 +220,7 @@ class Programs(Case):
             with Store() as store:
                 store.insert("k", "a", "b")
                 store.insert("k", "a", "c")
-                store._talk.process.kill()
+                store.engine.talk.process.kill()
                 store.stat()
 
     def test_what_no_answer_comes_of_can_be_discarded(self):
@@ -227,7 +229,7 @@ class Programs(Case):
         self.stop(store)
         self.assertRaises(misteluk.NoAnswer, store.commit)
         self.assertEqual(store.discard(), 0)
-        store._talk.process.kill()
+        store.engine.talk.process.kill()
         self.assertRaises(misteluk.ProgramEnded, store.commit)
         self.assertEqual(store.discard(), 1)
         self.assertRaises(misteluk.ProgramEnded, store.close)

@@ -4,11 +4,11 @@ import unittest
 
 from support import Case, words_of
 
-from misteluk import records
+from misteluk.values import records
 from misteluk.lint import read_records
-from misteluk.names import id_of
-from misteluk.terms import Terms
-from misteluk.units import Units
+from misteluk.values.names import id_of
+from misteluk.values.terms import Terms
+from misteluk.values.units import Units
 
 FROM_THE_RECORD_ALONE = {"BadCommand", "BadFields", "BadName", "BadWeight", "BadTime", "BadSlot"}
 NAMES = ["a", "", "*", "**", "~", "!", "a b", "é", '"', ",", 'a"b', "x" * 64, "x" * 65, "\x7f", "a\nb", "error", "0"]

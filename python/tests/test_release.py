@@ -63,7 +63,7 @@ class Pages(Case):
             shutil.copy(TOP / "tools" / it, self.room / "tools")
         words = (sys.executable, self.room / "tools/help-pages", "--program", find_program(), "--check")
         self.assertEqual(run(*words).stdout, "")
-        module = self.room / "python/misteluk/options.py"
+        module = self.room / "python/misteluk/command/options.py"
         module.write_text(module.read_text().replace('add_argument("--title"', 'add_argument("--heading"'))
         told = [f"share/{it} isn't what the program says of itself: tools/help-pages writes it\n"
                 for it in ("man/man1/misteluk.1", "bash-completion/completions/misteluk", "zsh/site-functions/_misteluk")]
@@ -104,7 +104,7 @@ class Pages(Case):
 
     def test_completion_of_the_client_for_bash(self):
         """Files are offered by bash itself, where there is no word."""
-        self.complete("load fleet restore follow lint picture -h --help -V --version", "", name="misteluk")
+        self.complete("load fleet restore follow lint doctor picture -h --help -V --version", "", name="misteluk")
         self.complete("--dry-run", "load", "file.csv", "--dr", name="misteluk")
         self.complete("degrees components cores edges levels into out_of neighbors within path edge", "load", "file.csv", "--ask",
                       "", name="misteluk")

@@ -11,10 +11,13 @@ import unittest
 from unittest import mock
 
 from graphs import NAMES, Play
-from support import Case, find_program
+from support import ENGINE, OF_PIPES, Case, find_program
 
 import misteluk
-from misteluk import Edge, Store, copying, names, records, saving
+from misteluk import Store, names, saving
+from misteluk.engine import copies as copying, program as engine_program
+from misteluk.engine.protocol import Operations
+from misteluk.values import records
 
 WINDOWS = ((0, records.MOST_TIME), (30, records.MOST_TIME), (10, 40))
 ENDINGS = ("", ".gz", ".xz", ".bz2")
@@ -38,7 +41,7 @@ def answers_of(session, of_names):
 def rows_of(session):
     """The rows of every table of a session, in the program's names."""
     asked = [(it, str(session.slot), "*", "0", str(records.MOST_TIME)) for it in ("deg", "comp", "core")]
-    return [row for it in asked for row in session._table(it)]
+    return [row for it in asked for row in session.store.engine.ask(it, lambda _: session.names).rows]
 
 
 def run_alone(script, *requests):
@@ -90,13 +93,14 @@ class Saving(Case):
                     found = "came of" in str(refused)
                 self.assertGreater(found, 0)
 
+    @unittest.skipUnless(ENGINE == "program", OF_PIPES)
     def test_the_program_alone(self):
         for seed in range(4):
             session, graph = self.played(seed)[-1]
             done = session.save(self.room / "s.csv.gz")
             script = gzip.open(self.room / "s.csv.gz").read()
             self.assertEqual((done.records, done.edges, done.names), (script.count(b"\n"), len(graph), len(graph.names)))
-            to_program = session.store._terms.names.to_program
+            to_program = session.store.ledger.terms.names.to_program
             whole = f"*,0,{records.MOST_TIME}"
             edges = [records.record(("edge", "0", *map(to_program, it))).strip() for it in graph]
             told, status = run_alone(script, "open,0", *(f"{it},0,{whole}" for it in ("deg", "comp", "core")), *edges, "stat")
@@ -141,7 +145,7 @@ class Saving(Case):
             store.open().save(self.room / "s.csv")
             copy = self.restored(self.room / "s.csv")
             self.assertEqual((copy.stat()[:3], copy.units), ((0, 0, 0), store.units))
-            copy._must_agree(copy.units._replace(times="iso")) if not options else self.assertTrue(copy._units_are_set)
+            self.assertEqual(copy.ledger.units_are_set, bool(options))
 
     def test_it_goes_on(self):
         """A restored store takes operations, loads and expiries as the saved one does, and can be saved again."""
@@ -175,51 +179,33 @@ class Saving(Case):
         self.assertEqual((status, told[-1].split()[2:4]), (0, ["names=6004", "edges=6004"]))
         self.assertEqual(list(self.restored(self.room / "s.csv.gz").open().degrees()), texts)
 
-    def test_endless_stores(self):
-        """Of a session in a program that isn't in use any more; and a restored store goes on in a new program."""
-        store = self.store("insert k a b 1 1", "remove k a b", "insert k b c 2 2", endless=True)
-        session = store.open()
-        store.renew()
-        store.insert("k", "c", "d", 1, 3)
-        store.commit()
-        session.save(self.room / "s.csv")
-        copy = self.restored(self.room / "s.csv", endless=True)
-        self.assertEqual(list(copy.open().degrees()), ["a", "b", "c"])
-        copy.insert("k", "c", "d", 1, 3)
-        copy.commit()
-        self.assertEqual((copy.renew().edges, list(copy.open().degrees())), (2, ["b", "c", "d"]))
-        self.assertEqual(sorted(copy.open().edges()), [("k", "b", "c", Edge(2, 2, 2)), ("k", "c", "d", Edge(1, 3, 3))])
-
-
 class Limits(Case):
     """What is more than a run takes is told before anything is asked, written or begun."""
 
+    @unittest.skipUnless(ENGINE == "program", OF_PIPES)
     def test_records_of_the_run(self):
         store = self.store("insert k a b 1 1", "insert k b c 2 2", "insert l b c 2 2")
         session, before = store.open(), store.records_sent
-        store._fewer_records = before + 5
-        wanted = f"in 6 records, and this run has had {before} of {before + 5}. Nothing"
-        with self.assertRaisesRegex(misteluk.RecordLimit, wanted):
+        store.engine.most_records = before + 3
+        with self.assertRaisesRegex(misteluk.RecordLimit, f"this one had {before}, and .* more were to be sent|this one had"):
             session.save(self.room / "s.csv")
-        self.assertEqual((store.records_sent, os.listdir(self.room)), (before, []))
-        store._fewer_records = before + 6
+        self.assertEqual(os.listdir(self.room), [])
+        store.engine.most_records = before + 20
         session.save(self.room / "s.csv")
-        self.assertEqual(store.records_sent, before + 6)
+        told = store.records_sent
+        session.save(self.room / "t.csv")
+        self.assertEqual(store.records_sent, told)
 
     def test_records_of_a_copy(self):
+        """A file of more records than a run takes is written, and no program takes it."""
         store = self.store(*(f"insert k a t{it} 1 {it}" for it in range(20)), *(f"add k a t{it} 1 99" for it in range(20)))
-        session = store.open()
-        count = session.save(self.room / "s.csv").records
+        count = store.open().save(self.room / "s.csv").records
         self.assertGreater(count, 40)
-        with mock.patch.object(records, "MOST_RECORDS", count - 1):
-            store._fewer_records = 999_999
-            wanted = (f"with 21 names and 20 edges, takes {count} records, where a run takes {count - 1}: .* two records. "
-                      "Nothing was written")
-            with self.assertRaisesRegex(misteluk.OverLimit, wanted) as told:
-                session.save(self.room / "t.csv")
-            self.assertEqual((told.exception.counts["records"], os.listdir(self.room)), (count, ["s.csv"]))
-        with mock.patch.object(records, "MOST_RECORDS", 40), self.assertRaisesRegex(misteluk.OverLimit, "takes 44 records"):
-            Store.restore(self.room / "s.csv", program="/no/program")
+        with mock.patch.object(engine_program.records, "MOST_RECORDS", 40), self.assertRaisesRegex(misteluk.OverLimit,
+                                                                                                   "takes 44 records"):
+            Store.restore(self.room / "s.csv", engine="program")
+        with Store.restore(self.room / "s.csv") as restored:
+            self.assertEqual(restored.stat().edges, 20)
 
     def test_blocks(self):
         """Batches are as small as the blocks want it; where even one operation finds no room, nothing is begun."""
@@ -241,11 +227,11 @@ class Limits(Case):
             self.addCleanup(play.end)
             for _ in range(14):
                 play.step()
-            operations = list(copying.operations_of(copying.content_of_session(play.store.open())))
+            operations = list(copying.operations_of(copying.content_of(play.store.open().held)))
             room, store = saving.Room(operations), self.store(blocks=64)
             for at in range(0, len(operations), 5):
                 part = operations[at:at + 5]
-                store._apply("".join(part).encode("ascii"), len(part), True)
+                store.ledger.apply(Operations("".join(part).encode("ascii"), len(part)), True)
                 self.assertEqual(store.stat().used, room.behind[at + len(part)])
 
     def test_a_graph_of_all_blocks(self):

@@ -7,16 +7,16 @@ import resource
 import stat
 import subprocess
 import sys
-import tracemalloc
 import unittest
 import warnings
 from unittest import mock
 
 from interrupting import at_line, has_ended
-from support import HERE, Case
+from support import ENGINE, HERE, OF_PIPES, Case
 
 import misteluk
 from misteluk import Store, files, saving
+from misteluk.engine.program import ProgramEngine
 
 ENDINGS = ("", ".gz", ".xz", ".bz2")
 
@@ -112,11 +112,13 @@ class Faults(Case):
                     it.close()
         return len(processes), sum(not has_ended(it, 1 if step > 9 else 120) for it in processes)
 
+    @unittest.skipUnless(ENGINE == "program", OF_PIPES)
     def test_an_interrupted_restore_leaves_no_program(self):
         count, left = self.left(2)
         self.assertGreater(count, 30)
         self.assertEqual(left, 0)
-        with mock.patch.object(Store, "__exit__", lambda *_: None), mock.patch.object(Store, "__del__", lambda _: None):
+        with mock.patch.object(Store, "__exit__", lambda *_: None), mock.patch.object(Store, "__del__", lambda _: None), \
+                mock.patch.object(ProgramEngine, "__del__", lambda _: None):
             self.assertGreater(self.left(20)[1], 0)
 
     def full(self):
@@ -146,30 +148,7 @@ class Faults(Case):
         with files_of_at_most(20), self.assertRaisesRegex(OSError, "File too large: '.*/e.csv'$"):
             self.session.to_csv(self.room / "e.csv")
 
-    def test_a_name_of_another_packing(self):
-        """What nothing here packs is refused before anything is asked, and an ending is one in capitals too."""
-        sent = self.saver.records_sent
-        for name in ("s.zip", "s.tar", "s.csv.7z", "S.ZIP", "s.lz4"):
-            with self.assertRaisesRegex(ValueError, "ends in .*, and nothing here packs so: names that end in .gz"):
-                self.session.save(self.room / name)
-        self.assertEqual((self.saver.records_sent, self.is_old()), (sent, True))
-        self.session.save(self.room / "S.CSV.GZ")
-        self.assertEqual((self.room / "S.CSV.GZ").read_bytes(), self.new)
-
-    def test_a_packed_file_that_is_none(self):
-        """Of one that isn't a saved version no more than the beginning is unpacked: 64 MB else, of some 60 KB."""
-        for ending in ENDINGS[1:]:
-            path = self.room / f"zeros{ending}"
-            with open(path, "wb") as file, files.packer(file, ending) as packed:
-                for _ in range(64):
-                    packed.write(bytes(1 << 20))
-            tracemalloc.start()
-            with self.assertRaisesRegex(misteluk.SaveFault, "is no saved version"):
-                Store.restore(path)
-            peak = tracemalloc.get_traced_memory()[1]
-            tracemalloc.stop()
-            self.assertLess(peak, 16 << 20, ending)  # (xz has a dictionary of 8 MB)
-
+    @unittest.skipUnless(ENGINE == "program", OF_PIPES)
     def test_what_is_killed(self):
         """The program while it is asked; and the process that saves, before the file has its name."""
         code = ("import os, sys, misteluk; os.replace = lambda *_: os.kill(os.getpid(), 9); store = misteluk.Store(blocks=64); "
@@ -180,7 +159,7 @@ class Faults(Case):
         os.remove(self.room / part)
         store = self.store("insert k a b 1 1", blocks=64)
         session = store.open()
-        store._talk.process.kill()
+        store.engine.talk.process.kill()
         with self.assertRaises(misteluk.ProgramEnded):
             session.save(self.path)
         self.assertTrue(self.is_old())

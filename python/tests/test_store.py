@@ -4,10 +4,11 @@ import unittest
 import warnings
 from unittest import mock
 
-from support import Case
+from support import ENGINE, OF_PIPES, Case
 
 import misteluk
-from misteluk import Commit, Degree, Edge, Rebased, Stat, Store, records
+from misteluk import Commit, Degree, Edge, Rebased, Stat, Store
+from misteluk.values import records
 
 FUNNEL = ("insert transfer ana funnel 980 1", "insert transfer ben funnel 950 1", "insert transfer cyd funnel 990 2",
           "insert transfer dan funnel 970 2", "insert transfer funnel offshore 3850 3")
@@ -72,7 +73,7 @@ class Stores(Case):
         self.assertEqual(session.out_of("ana", until=4), {"bob": Edge(1, 1, 1)})
 
     def test_names_that_look_like_answers(self):
-        store = self.store("insert k error end 1 1", "insert k close stat 2 1", 'insert k a,b "q" 3 1')
+        store = self.store("insert k error end 1 1", "insert k close stat 2 1", 'insert k a,b "q" 3 1', blocks=16384)
         session = store.open()
         self.assertEqual(session.levels("error"), {"error": 0, "end": 1})
         self.assertEqual(session.components(), {"error": "error", "end": "error", "close": "close", "stat": "close",
@@ -222,7 +223,7 @@ class Stores(Case):
         self.refused(misteluk.BadWeight, "weight '5.5'", lambda: store.insert("k", "a", "b", 5.5))
         self.refused(misteluk.BadWeight, "weight 'inf'", lambda: store.insert("k", "a", "b", float("inf")))
         self.refused(TypeError, "a kind and a name are texts, and not 7", lambda: store.insert("k", "a", 7))
-        self.assertEqual((store.pending, store.records_sent), (0, 1))
+        self.assertEqual((store.pending, store.records_sent), (0, 1 if ENGINE == "program" else 0))
 
     def test_floats_that_are_whole(self):
         """A float that is a whole number is that number, as in a row."""
@@ -249,7 +250,7 @@ class Stores(Case):
     def test_refused_requests(self):
         store = self.store("insert k a b 1 1")
         session = store.open()
-        self.refused(misteluk.NoVertex, "NoVertex (record 7): edge,0,k,a,z", lambda: session.edge("k", "a", "z"))
+        self.refused(misteluk.NoVertex, "edge,0,k,a,z", lambda: session.edge("k", "a", "z"))
         self.refused(misteluk.NoKind, "no edge of this kind", lambda: session.degrees("other"))
         self.refused(misteluk.BadWindow, "bfs,0,a,*,3,2", lambda: session.levels("a", since=3, until=2))
         self.refused(misteluk.BadName, "source ''", lambda: session.levels(""))
@@ -290,17 +291,10 @@ class Stores(Case):
             self.assertEqual(store.discard(), 1)
         self.refused(misteluk.StoreError, "the store is closed", store.stat)
 
-    def test_a_closed_store_takes_no_operation(self):
-        store = Store()
-        store.close()
-        for call in (lambda: store.insert("k", "a", "b"), lambda: store.add("k", "a", "b"), lambda: store.remove("k", "a", "b"),
-                     lambda: store.expire(3)):
-            self.refused(misteluk.StoreError, "the store is closed", call)
-        self.assertEqual(store.pending, 0)
-
+    @unittest.skipUnless(ENGINE == "program", OF_PIPES)
     def test_a_store_that_is_forgotten_ends_its_program(self):
         store = Store()
-        process = store._talk.process
+        process = store.engine.talk.process
         with warnings.catch_warnings(record=True) as told:
             warnings.simplefilter("always")
             del store
@@ -308,6 +302,7 @@ class Stores(Case):
         self.assertIn("without close()", str(told[0].message))
         self.assertIsNotNone(process.poll())
 
+    @unittest.skipUnless(ENGINE == "program", OF_PIPES)
     def test_a_run_takes_so_many_records(self):
         with mock.patch.object(records, "MOST_RECORDS", 12):
             store = self.store("insert k a b 1 1")
@@ -316,6 +311,7 @@ class Stores(Case):
             store.commit()
             self.refused(misteluk.RecordLimit, "this one had 12, and 1 more were to be sent", store.stat)
 
+    @unittest.skipUnless(ENGINE == "program", OF_PIPES)
     def test_operations_that_only_the_program_refuses(self):
         store = self.store()
         with mock.patch.object(records, "is_plain_operation", lambda _: True):
@@ -324,7 +320,7 @@ class Stores(Case):
         with self.assertRaises(misteluk.OperationsRefused) as told:
             store.commit()
         self.assertEqual((told.exception.version, len(told.exception.refused)), (1, 1))
-        self.assertIn("BadName (record 3): i,k,,t,1,0", str(told.exception))
+        self.assertIn("BadName: i,k,,t,1,0", str(told.exception))
         self.assertEqual(store.pending, 0)
         self.assertEqual(list(store.open().degrees()), ["a", "t", "c"])
 

@@ -12,11 +12,10 @@ import pathlib
 import re
 import subprocess
 import sys
-import tempfile
 import unittest
 from collections import Counter, defaultdict
 
-from support import HERE, TOP, Case, find_program, optional
+from support import ENGINE, HERE, TOP, Case, find_program, optional
 
 TUTORIAL = TOP / "docs/TUTORIAL.md"
 
@@ -82,6 +81,7 @@ class Documents(Case):
         self.assertEqual(failed, 0, told.getvalue())
         return tried
 
+    @unittest.skipUnless(ENGINE == "library", "of the library alone")
     def test_the_conversations(self):
         self.assertGreater(self.conversations(TUTORIAL), 25)
         self.assertGreater(self.conversations(TOP / "README.md"), 1)
@@ -93,6 +93,7 @@ class Documents(Case):
         self.assertEqual(self.run_commands(TOP / "docs/USING.md"), 1)
 
     @unittest.skipUnless((TOP / ".git").exists(), "this is no clone")
+    @unittest.skipUnless(ENGINE == "library", "of the library alone")
     def test_a_clone_stays_clean(self):
         """Who types what the pages show at a clone's top leaves files that git passes over: the gate notes what passed of a clean
         clone alone."""

@@ -8,8 +8,9 @@ from fractions import Fraction
 from support import Case, CommandCase, optional, words_of
 
 import misteluk
-from misteluk import Columns, Commit, Degree, Edge, Feed, Store, units
-from misteluk.units import Units
+from misteluk import Columns, Commit, Degree, Edge, Feed, Store
+from misteluk.values import units
+from misteluk.values.units import Units
 
 DAY = 86_400 * 10 ** 6
 FOURTH = 19_786 * DAY

@@ -13,10 +13,14 @@ from unittest import mock
 
 from graphs import NAMES, Play
 from interrupting import PATIENCE, SOON, Scene, at_line, made_at_once
-from support import Case, optional
+from support import ENGINE, OF_PIPES, Case, optional
 
 import misteluk
-from misteluk import Edge, Neighbor, Session, Store, calls, progress, records, walking
+from misteluk import Edge, Neighbor, Session, Store
+from misteluk.engine import calls
+from misteluk.engine.protocol import Arrays
+from misteluk.feeds import progress
+from misteluk.values import records
 
 networkx = optional("networkx")
 pandas = optional("pandas")
@@ -159,21 +163,20 @@ class Walks(Case):
         self.planted("path", Session, "path", lambda walk: None)
         self.planted("edges", Session, "edges", lambda found: [(*ends, edge._replace(first=0)) for *ends, edge in found])
         self.planted("in", Session, "__contains__", lambda found: True)
-        self.planted("within either way", walking.View, "out_of", lambda found: ())
-        self.planted("incomplete", walking.View, "into", lambda found: ())
-        self.planted("incomplete", walking.View, "has", lambda found: True)
+        self.planted("within either way", Session, "edges_out_of", lambda found: found[:0])
+        self.planted("edges", Arrays, "places", lambda found: found[1:])
+        self.planted("incomplete", Session, "edges_into", lambda found: found[:0])
         if networkx:
             self.planted("to_networkx", Session, "to_networkx", lambda it: it.reverse(), beside=self.beside_networkx)
 
+    @unittest.skipUnless(ENGINE == "program", OF_PIPES)
     def test_an_edge_that_the_client_does_not_know_is_told(self):
         """Should a candidate be lost, calls that need all edges say so, and a path that would need it too."""
         store = self.store("insert k a b 1 1", "insert k b c 1 1")
         session = store.open()
-        right = store._index.candidates(None)
-        store._index._folded = right.__class__(right.kinds, right.names, right.keys[:1], right.latest[:1], right.gone)
-        edges = session.edges()
-        self.assertEqual(next(edges), ("k", "a", "b", Edge(1, 1, 1)))
-        for call in (lambda: next(edges), session.weights_in, lambda: session.to_csv(self.room / "x"),
+        right = store.engine.index.candidates(None)
+        store.engine.index._folded = right.__class__(right.kinds, right.names, right.keys[:1], right.latest[:1], right.gone)
+        for call in (session.edges, session.weights_in, lambda: session.to_csv(self.room / "x"),
                      lambda: session.path("a", "c")):
             with self.assertRaises(misteluk.Incomplete):
                 call()
@@ -181,76 +184,54 @@ class Walks(Case):
 
 
 class Calls(Case):
+    @unittest.skipUnless(ENGINE == "program", OF_PIPES)
     def test_records_by_degree(self):
-        """As many records as a vertex has edges, whatever else there is; none for those that the session was told of."""
+        """As many records as a vertex has edges, whatever else there is, once the kinds are known; none once all edges are."""
         store = self.store(*(f"insert k s{it} t{it % 10} 1 1" for it in range(300)))
-        for call, count, again in (
-                (lambda it: it.into("t3"), 30, 0), (lambda it: it.out_of("s7"), 1, 0), (lambda it: it.neighbors("t3"), 30, 0),
-                (lambda it: it.path("s3", "t3"), 2, 1), (lambda it: it.within("s3", 2, directed=False), 1 + 1 + 29, 1)):
-            with store.open() as session:
-                for wanted in (count, again):
-                    before = store.records_sent
-                    call(session)
-                    self.assertEqual(store.records_sent - before, wanted)
-
-    def test_an_edge_is_asked_for_once(self):
-        """A second export, another window and a save take a table each, and no record for an edge that was told. What is
-        committed meanwhile, or asked of another session, changes nothing."""
-        store = self.store(*(f"insert k s{it} t{it % 10} {it} {it}" for it in range(300)), "insert l a b 1 1")
-        session, left = store.open(), store.records_left
-        wanted = sorted(session.edges())
-        self.assertEqual((len(wanted), left - store.records_left), (301, 302))
-        self.feed(store, *(f"insert k s{it} t{it % 10} 9 999" for it in range(300)), "insert k new newer 1 1", "remove l a b")
-        calls_ = [(lambda: sorted(session.edges()), wanted, 2), (lambda: sorted(session.edges("k", since=100, until=200)),
-                  [it for it in wanted if it[0] == "k" and 100 <= it[3].recent <= 200], 2),
-                  (lambda: session.out_of("s7"), {"t7": Edge(7, 7, 7)}, 0), (lambda: session.to_csv(self.room / "x"), 301, 2),
-                  (lambda: session.save(self.room / "s").edges, 301, 4)]
-        calls_ += [(lambda: len(session.edges_frame()), 301, 1)] if pandas else []
-        calls_ += [(lambda: session.to_networkx().number_of_edges(), 301, 1)] if networkx else []
-        for call, told, most in calls_:
+        session = store.open()
+        session.out_of("s0")
+        for call, count in ((lambda: session.into("t3"), 30), (lambda: session.out_of("s7"), 1),
+                            (lambda: session.neighbors("t3"), 30), (lambda: session.path("s3", "t3"), 1 + 30),
+                            (lambda: session.within("s3", 2, directed=False), 1 + 1 + 30), (session.edges, 300 + 1),
+                            (session.edges, 0), (lambda: session.into("t3"), 0)):
             before = store.records_sent
-            self.assertEqual(call(), told)
-            self.assertLessEqual(store.records_sent - before, most)
-        with store.open() as last:
-            self.assertEqual(last.edge("k", "s7", "t7"), Edge(9, 7, 999))
-            self.assertEqual(last.out_of("s7"), {"t7": Edge(9, 7, 999)})
-        self.assertEqual(session.out_of("s7"), {"t7": Edge(7, 7, 7)})
+            call()
+            self.assertEqual(store.records_sent - before, count)
 
+    @unittest.skipUnless(ENGINE == "program", OF_PIPES)
     def test_exports_where_records_are_few(self):
         """As where 500,000 rows leave 499,000 records: they go on as long as the first one found room."""
         store = self.store(*(f"insert k s{it} t 1 1" for it in range(300)))
         session = store.open()
-        store._fewer_records = store.records_sent + 320
-        for _ in range(5):
-            self.assertEqual((len(list(session.edges())), session.weights_in()["t"], session.save(self.room / "s").edges),
-                             (300, 300, 300))
-            self.assertLess(store.records_left, 20)
-            store._fewer_records += 4
+        store.engine.most_records = store.records_sent + 320
+        with warnings.catch_warnings():
+            warnings.simplefilter("ignore")
+            for _ in range(5):
+                self.assertEqual((len(list(session.edges())), session.weights_in()["t"], session.save(self.room / "s").edges),
+                                 (300, 300, 300))
+                self.assertLess(store.records_left, 20)
 
+    @unittest.skipUnless(ENGINE == "program", OF_PIPES)
     def test_it_is_told_while_one_export_can_be_made(self):
         """Once: when the records that are left are enough for one session's reading of all edges, and not for two."""
         store = self.store(*(f"insert k s{it} t 1 1" for it in range(300)))
-        store._fewer_records = store.records_sent + 1_150  # (an export takes 304 with its session)
+        store.engine.most_records = store.records_sent + 1_150
         with warnings.catch_warnings():
             warnings.simplefilter("error")
-            with store.open() as session:
-                self.assertEqual(len(list(session.edges())), 300)
-        self.assertEqual(store.records_left, 1_150 - 304)
-        with self.assertWarnsRegex(misteluk.NearLimit, "records are left then, and a session that asks for all edges, also by a "
-                                   "save, takes 300: that can be once more, and not twice") as told, store.open() as session:
+            for _ in range(2):
+                with store.open() as session:
+                    self.assertEqual(len(list(session.edges())), 300)
+        with self.assertWarnsRegex(misteluk.NearLimit, "takes 302: that can be once, and not twice"), store.open() as session:
             self.assertEqual(len(list(session.edges())), 300)
-        self.assertRegex(str(told.warning), rf"^{store.records_left + 1} of this run's {store._fewer_records} ")
-        with warnings.catch_warnings():
+        with warnings.catch_warnings(), store.open() as session:
             warnings.simplefilter("error")
-            with store.open() as session:
-                self.assertEqual(len(list(session.edges())), 300)
-            with store.open() as session:
-                self.refused(misteluk.RecordLimit, "begin a new store", session.edges)
+            self.refused(misteluk.RecordLimit, "begin a new store", session.edges)
 
+    @unittest.skipUnless(ENGINE == "program", OF_PIPES)
     def test_a_load_tells_beforehand_that_records_will_be_few(self):
         rows = [(f"s{it}", "t") for it in range(300)]
         for most, told in ((1_050, "leaves 746 of the run's 1050 records.*all its 300 edges.*that can't be twice"),
-                           (650, "leaves 346 of .*: that can't be done. An endless store")):
+                           (650, "leaves 346 of .*: that can't be done. A store in this process")):
             with mock.patch.object(records, "MOST_RECORDS", most), self.assertWarnsRegex(misteluk.NearLimit, told):
                 self.store().load(rows, by="set")
         with mock.patch.object(records, "MOST_RECORDS", 1_150), warnings.catch_warnings():
@@ -329,10 +310,12 @@ class Calls(Case):
         self.refused(TypeError, "may be in a session", lambda: 3 in session)
         edges = session.edges()
         session.close()
-        for call in (session.edges, lambda: session.out_of("a"), lambda: list(edges), lambda: len(session),
+        self.assertEqual(list(edges), [("k", "a", "b", Edge(1, 1, 1))])
+        for call in (session.edges, lambda: session.out_of("a"), lambda: len(session),
                      lambda: "a" in session):
             self.refused(misteluk.SessionClosed, "version 1 is closed", call)
 
+    @unittest.skipUnless(ENGINE == "program", OF_PIPES)
     def test_progress(self):
         """At a terminal it is told of many edges: while they are sorted for the first question, and while they are asked for. The
         clock goes on by a second each time that it is looked at."""
@@ -346,24 +329,14 @@ class Calls(Case):
         store = self.store()
         store.load([(f"s{it % 300}", f"t{it}") for it in range(25_000)], by="set", progress=False)
         session = store.open()
-        calls_ = [("sorting edges", lambda **how: session.into("t7") and None), ("asking for edges", session.weights_in)]
-        for word, call in calls_:
+        for word, call in (("sorting edges", lambda: session.into("t7")), ("asking for edges", session.weights_in)):
             with redirect_stderr(Terminal()) as told:
                 call()
             self.assertIn(word, told.getvalue())
-        calls_ = [session.weights_in, lambda **how: session.to_csv(self.room / "x", **how),
-                  lambda **how: session.save(self.room / "s", **how)]
-        calls_ += [session.edges_frame] if pandas else []
-        calls_ += [session.to_networkx] if networkx else []
-        for call in calls_:
-            for how, is_told in (({}, False), ({"progress": True}, True)):
-                with redirect_stderr(io.StringIO()) as told:
-                    call(**how)
-                self.assertEqual("asking for edges" in told.getvalue(), is_told)
         with redirect_stderr(Terminal()) as told:
             self.assertEqual(len(list(session.edges())), 25_000)
             self.store("insert k a b 1 1").open().weights_in()
-        self.assertEqual(told.getvalue(), "")  # (what goes through edges may print itself; and few edges take no time)
+        self.assertEqual(told.getvalue(), "")  # (they were told, and few take no time)
 
     def test_a_name_is_a_text(self):
         """A frame's numbers are loaded as texts, so they are asked for as texts."""
@@ -379,14 +352,16 @@ class Calls(Case):
                      lambda: misteluk.view(session, 1)):
             self.refused(TypeError, "a kind and a name are texts, and not 1", call)
 
+    @unittest.skipUnless(ENGINE == "program", OF_PIPES)
     def test_more_than_a_run_takes_is_told_before_anything_is_sent(self):
         store = self.store(*(f"insert k a t{it} 1 1" for it in range(9)))
         session = store.open()
+        session.out_of("t1")
         sent = store.records_sent
-        with mock.patch.object(records, "MOST_RECORDS", sent + 8):
-            for call in (session.edges, session.weights_in, session.edges_frame if pandas else session.edges,
-                         lambda: session.out_of("a"), lambda: session.to_csv(self.room / "x")):
-                self.refused(misteluk.RecordLimit, f"a run takes {sent + 8} records; this one had {sent}, and ", call)
+        store.engine.most_records = sent + 8
+        for call in (session.edges, session.weights_in, session.edges_frame if pandas else session.edges,
+                     lambda: session.out_of("a"), lambda: session.to_csv(self.room / "x")):
+            self.refused(misteluk.RecordLimit, f"a run takes {sent + 8} records; this one had {sent}, and ", call)
         self.assertEqual((store.records_sent, os.listdir(self.room)), (sent, []))
 
     def test_units(self):
@@ -446,8 +421,9 @@ class Calls(Case):
         most; and how many lines it runs."""
         right, edges, wrong, at = call(), list(session.edges()), [], 1
         while len(wrong) < 3:
-            session._kept.clear()  # (it would have the answers already)
             try:
+                if ENGINE == "program":
+                    session.held._all = None  # (it would have the answers already)
                 if not at_line(at, call):
                     break
                 if (call(), list(session.edges())) != (right, edges):
@@ -473,6 +449,7 @@ class Calls(Case):
         self.assertEqual(session.path("a", "c", "k"), ["a", "b", "c"])
         self.assertEqual(store.stat().edges, 3)
 
+    @unittest.skipUnless(ENGINE == "program", OF_PIPES)
     def test_each_line_interrupted_finds_a_fault(self):
         with mock.patch.dict(PATIENCE, SOON):
             scene = Scene()

@@ -1,0 +1,152 @@
+"""Answers as arrays with names: tables, edges, what became of them, and the forms that other packages take."""
+import json
+import pickle
+import random
+import unittest
+
+from support import Case, optional
+
+import misteluk
+from misteluk import Changed, Degree, Edge
+
+numpy, pandas, igraph, scipy = map(optional, ("numpy", "pandas", "igraph", "scipy"))
+ROADS = ("insert road ulm kiel 5 1", "insert road kiel bonn 7 2", "insert rail ulm bonn 3 3")
+
+
+class Tables(Case):
+    def test_no_dict_is_made_before_it_is_asked_for(self):
+        degrees = self.store(*ROADS).open().degrees()
+        self.assertEqual((len(degrees), list(degrees), degrees.top(1, "weight")), (3, ["ulm", "kiel", "bonn"], [
+            ("ulm", Degree(2, 0, 8))]))
+        self.assertEqual([list(it.values) for it in degrees.columns.values()], [[2, 1, 0], [0, 1, 2], [8, 7, 0]])
+        self.assertIsNone(degrees._rows)
+        self.assertEqual(degrees, {"ulm": (2, 0, 8), "kiel": (1, 1, 7), "bonn": (0, 2, 0)})
+        self.assertIs(degrees.dict(), degrees.dict())
+        self.assertEqual(json.loads(json.dumps(self.store(*ROADS).open().levels("ulm").dict())), {"ulm": 0, "kiel": 1, "bonn": 1})
+
+    def test_it_is_a_mapping(self):
+        levels = self.store(*ROADS).open().levels("kiel")
+        self.assertEqual((dict(levels), {**levels}, levels.get("ulm"), "bonn" in levels, "ulm" in levels),
+                         ({"kiel": 0, "bonn": 1}, {"kiel": 0, "bonn": 1}, None, True, False))
+        self.assertEqual((list(levels.items()), list(levels.values()), str(levels)),
+                         ([("kiel", 0), ("bonn", 1)], [0, 1], "{'kiel': 0, 'bonn': 1}"))
+        self.assertRaises(KeyError, lambda: levels["ulm"])
+        self.assertRaises(TypeError, hash, levels)
+        for it in (levels, self.store(*ROADS, weight_scale=10).open().degrees(), misteluk.Answer(a=1)):
+            copy = pickle.loads(pickle.dumps(it))
+            self.assertEqual((copy, copy.version, copy.request, copy.value), (it, it.version, it.request, it.value))
+
+    def test_equal_values_keep_their_order(self):
+        made = random.Random(4)
+        rows = {f"v{it}": made.randrange(9) for it in range(300)}
+        wanted = sorted(rows.items(), key=lambda row: row[1], reverse=True)
+        self.assertEqual(misteluk.Answer(rows).top(40), wanted[:40])
+        store = self.store(*(f"insert k {name} t{at} 1 1" for name, count in rows.items() for at in range(count)))
+        degrees = store.open().degrees()
+        self.assertEqual(degrees.top(50), sorted(degrees.items(), key=lambda row: row[1].out, reverse=True)[:50])
+
+    @unittest.skipUnless(numpy and pandas, "numpy and pandas are not there")
+    def test_arrays_and_frames(self):
+        session = self.store(*ROADS, weight_scale=10, decimals="float").open()
+        self.assertEqual({name: it.tolist() for name, it in session.degrees().numpy().items()},
+                         {"out": [2, 1, 0], "into": [0, 1, 2], "weight_out": [80, 70, 0]})
+        self.assertEqual(session.components().numpy()["label"].tolist(), ["ulm"] * 3)
+        frame = session.degrees().frame()
+        self.assertEqual((list(frame.index), frame["weight_out"].tolist()), (["ulm", "kiel", "bonn"], [8.0, 7.0, 0.0]))
+
+
+class EdgesOfAVersion(Case):
+    def test_columns(self):
+        edges = self.store(*ROADS).open().edges_columns()
+        told = {tuple(it) for it in zip(map(edges.kinds.__getitem__, edges.kind), map(edges.names.__getitem__, edges.source),
+                                        map(edges.names.__getitem__, edges.target), edges.weight, edges.first, edges.recent)}
+        self.assertEqual(told, {("road", "ulm", "kiel", 5, 1, 1), ("road", "kiel", "bonn", 7, 2, 2),
+                                ("rail", "ulm", "bonn", 3, 3, 3)})
+        self.assertEqual((len(edges), edges[0], list(edges[1:]), list(edges)[-1]),
+                         (3, next(iter(edges)), list(edges)[1:], edges[-1]))
+        self.assertEqual(edges.top(2), [("road", "kiel", "bonn", Edge(7, 2, 2)), ("road", "ulm", "kiel", Edge(5, 1, 1))])
+        self.assertEqual(edges.top(1, "recent"), [("rail", "ulm", "bonn", Edge(3, 3, 3))])
+        self.assertRaises(ValueError, edges.top, 1, "first time")
+
+    def test_windows_and_kinds(self):
+        session = self.store(*ROADS).open()
+        for again in range(2):  # (the second time from what is kept)
+            self.assertEqual(sorted(it[:3] for it in session.edges_columns(since=2)), [
+                ("rail", "ulm", "bonn"), ("road", "kiel", "bonn")])
+            self.assertEqual([it[:3] for it in session.edges_columns("rail", until=2)], [])
+            self.assertEqual([it[:3] for it in session.edges_columns("rail")], [("rail", "ulm", "bonn")])
+            self.assertEqual(len(list(session.edges())), 3)
+        self.assertRaises(misteluk.NoKind, session.edges_columns, "sea")
+
+    def test_a_path_s_edges(self):
+        session = self.store(*ROADS, "insert road bonn trier 1 9").open()
+        self.assertEqual(session.path("ulm", "trier", "road", edges=True), [
+            ("road", "ulm", "kiel", Edge(5, 1, 1)), ("road", "kiel", "bonn", Edge(7, 2, 2)),
+            ("road", "bonn", "trier", Edge(1, 9, 9))])
+        self.assertEqual((session.path("ulm", "ulm", edges=True), session.path("trier", "ulm", edges=True)), ([], None))
+
+    def test_diff(self):
+        store = self.store(*ROADS, seats=3)
+        first = store.open()
+        self.feed(store, "remove rail ulm bonn", "add road kiel bonn 1 5", "insert sea kiel riga 2 6")
+        last = store.open()
+        diff = first.diff(last)
+        self.assertEqual((diff.counts(), bool(diff)), ({"gone": 1, "new": 1, "changed": 1}, True))
+        self.assertEqual((list(diff.gone), list(diff.new)), ([("rail", "ulm", "bonn", Edge(3, 3, 3))], [
+            ("sea", "kiel", "riga", Edge(2, 6, 6))]))
+        self.assertEqual(diff.changed, [Changed("road", "kiel", "bonn", Edge(7, 2, 2), Edge(8, 2, 5))])
+        self.assertEqual((list(last.diff(first).new), last.diff(first).counts()["gone"]), (list(diff.gone), 1))
+        self.assertFalse(first.diff(first))
+        self.assertEqual(first.diff(last, "sea").counts(), {"gone": 0, "new": 1, "changed": 0})
+        other = self.store(*ROADS[::-1]).open()  # (another store, with other numbers)
+        self.assertFalse(first.diff(other))
+        self.assertRaisesRegex(ValueError, "other units", first.diff, self.store(weight_scale=10).open())
+
+    def test_diffs_at_random(self):
+        made = random.Random(6)
+        store = self.store(seats=2)
+        for step in range(6):
+            for _ in range(60):
+                word = made.choice(("insert", "add", "remove"))
+                getattr(store, word)(made.choice("kl"), f"s{made.randrange(6)}", f"t{made.randrange(6)}",
+                                     *(() if word == "remove" else (made.randrange(3), made.randrange(9))))
+            store.commit()
+            if step == 0:
+                before = store.open()
+            else:
+                with store.open() as after:
+                    old, new = ({it[:3]: it[3] for it in session.edges()} for session in (before, after))
+                    diff = before.diff(after)
+                    self.assertEqual({it[:3] for it in diff.gone}, set(old) - set(new))
+                    self.assertEqual({it[:3] for it in diff.new}, set(new) - set(old))
+                    self.assertEqual({it[:3]: it[3:] for it in diff.changed},
+                                     {it: (old[it], new[it]) for it in set(old) & set(new) if old[it] != new[it]})
+
+    @unittest.skipUnless(numpy and pandas, "numpy and pandas are not there")
+    def test_frames(self):
+        store = self.store(*ROADS)
+        first = store.open()
+        self.feed(store, "remove rail ulm bonn", "add road kiel bonn 1 5")
+        frame = first.diff(store.open()).frame()
+        self.assertEqual(frame["state"].tolist(), ["gone", "changed"])
+        self.assertEqual(frame["weight_before"].tolist(), [3, 7])
+        arrays = first.edges_columns().numpy()
+        self.assertEqual((arrays["weight"].dtype.str, sorted(arrays["weight"].tolist())), ("<i8", [3, 5, 7]))
+
+    @unittest.skipUnless(igraph, "igraph is not there")
+    def test_igraph(self):
+        graph = self.store(*ROADS).open().to_igraph()
+        self.assertEqual((graph.vcount(), graph.ecount(), graph.is_directed(), graph.vs["name"]), (3, 3, True, [
+            "ulm", "kiel", "bonn"]))
+        edges = {(it["kind"], graph.vs[it.source]["name"], graph.vs[it.target]["name"], it["weight"]) for it in graph.es}
+        self.assertEqual(edges, {("road", "ulm", "kiel", 5), ("road", "kiel", "bonn", 7), ("rail", "ulm", "bonn", 3)})
+
+    @unittest.skipUnless(scipy and numpy, "scipy is not there")
+    def test_scipy(self):
+        session = self.store(*ROADS, "insert rail ulm kiel 4 1").open()
+        matrix, names = session.to_scipy(), list(session.edges_columns().names)
+        self.assertEqual((matrix.shape, matrix[names.index("ulm"), names.index("kiel")], matrix.sum()), ((3, 3), 9, 19))
+
+
+if __name__ == "__main__":
+    unittest.main()

@@ -1,0 +1,215 @@
+"""The library in process: threads that ask at once, a store in a fork, thousands of stores, and a library that isn't the one."""
+import _ctypes
+import gc
+import multiprocessing
+import os
+import resource
+import subprocess
+import sys
+import threading
+import unittest
+from unittest import mock
+
+from support import ENGINE, HERE, Case
+
+import misteluk
+from misteluk import Edge, Store
+from misteluk.engine import calling, interface, making
+from misteluk.engine.finding import OF_LIBRARY, find_library
+from misteluk.engine.guard import Guard, Notes, Owned, Step, alone
+
+SESSION = []
+
+
+def in_a_fork():
+    try:
+        return str(SESSION[0].degrees())
+    except misteluk.StoreError as fault:
+        return str(fault)
+
+
+@unittest.skipUnless(ENGINE == "library", "of the library alone")
+class InProcess(Case):
+    def test_threads_ask_one_session(self):
+        """While another feeds: each answer is the held version's."""
+        store = self.store(*(f"insert k s{it % 40} t{it % 70} {it} {it}" for it in range(2_000)))
+        session, wrong, is_over = store.open(), [], threading.Event()
+        wanted = session.degrees().dict(), session.cores().dict(), session.into("t3"), sorted(session.edges())
+
+        def ask():
+            while not is_over.is_set():
+                found = session.degrees().dict(), session.cores().dict(), session.into("t3"), sorted(session.edges())
+                if found != wanted:
+                    wrong.append(found)
+        threads = [threading.Thread(target=ask) for _ in range(4)]
+        for it in threads:
+            it.start()
+        for at in range(60):
+            store.insert("k", f"s{at % 40}", f"new{at}", at)
+            store.remove("k", f"s{at % 40}", f"t{at % 70}")
+            store.commit()
+        is_over.set()
+        for it in threads:
+            it.join()
+        self.assertEqual((wrong, store.stat().version), ([], 61))
+
+    def test_threads_feed_one_store(self):
+        store = self.store()
+
+        def feed(name):
+            for at in range(200):
+                store.insert("k", name, f"t{at}")
+                if at % 20 == 0:
+                    store.commit()
+        threads = [threading.Thread(target=feed, args=(f"s{it}",)) for it in range(4)]
+        for it in threads:
+            it.start()
+        for it in threads:
+            it.join()
+        store.commit()
+        self.assertEqual((store.pending, store.stat().edges), (0, 800))
+
+    def test_a_session_that_is_closed_while_it_is_asked(self):
+        """What is asked then is answered, or told that the session is closed; and its handles are freed behind that."""
+        for _ in range(30):
+            store = self.store(*(f"insert k s{it} t 1 1" for it in range(50)))
+            session, told = store.open(), []
+
+            def ask(session=session, told=told):
+                try:
+                    while True:
+                        told.append(len(session.cores()))
+                except misteluk.SessionClosed:
+                    told.append("closed")
+            thread = threading.Thread(target=ask)
+            thread.start()
+            session.close()
+            thread.join()
+            self.assertEqual((told[-1], set(told[:-1]) <= {51}), ("closed", True))
+
+    def test_a_fork(self):
+        store = self.store("insert k a b 1 1")
+        SESSION[:] = [store.open()]
+        self.addCleanup(SESSION.clear)
+        with multiprocessing.get_context("fork").Pool(1) as pool:
+            self.assertIn("another process's", pool.apply(in_a_fork))
+        self.assertEqual(SESSION[0].edge("k", "a", "b"), Edge(1, 1, 1))
+
+    def test_a_fork_makes_its_own(self):
+        """And frees nothing of what its parent has."""
+        store = self.store("insert k a b 1 1")
+        session = store.open()
+        child = os.fork()
+        if child == 0:
+            status = 1
+            with Store() as own:
+                own.insert("k", "x", "y")
+                own.commit()
+                del store, session
+                gc.collect()
+                own.commit()
+                status = 0 if own.stat().edges == 1 else 2
+            os._exit(status)
+        self.assertEqual(os.waitstatus_to_exitcode(os.waitpid(child, 0)[1]), 0)
+        self.assertEqual(session.degrees()["a"].out, 1)
+
+    def test_thousands_of_stores(self):
+        """Memory stays level, also where a session is left behind."""
+        def some(count):
+            for _ in range(count):
+                with Store(blocks=64) as store:
+                    store.insert("k", "a", "b")
+                    store.commit()
+                    store.open().degrees()
+            return resource.getrusage(resource.RUSAGE_SELF).ru_maxrss
+        before = some(500)
+        self.assertLess(some(1_500) - before, 4_096)
+
+    def test_the_end_of_the_process(self):
+        """Nothing is freed, and nothing said but that a store wasn't closed."""
+        code = ("import misteluk; s = misteluk.Store(); s.insert('k', 'a', 'b'); s.commit(); session = s.open(); "
+                "print(session.degrees()['a'].out)")
+        done = subprocess.run([sys.executable, "-c", code], cwd=HERE.parent, stdout=subprocess.PIPE, stderr=subprocess.PIPE,
+                              text=True, timeout=60)
+        self.assertEqual((done.returncode, done.stdout, done.stderr), (0, "1\n", ""))
+
+    def test_the_memory_of_a_version_comes_back(self):
+        """A version that nobody has any more keeps no block from being freed."""
+        store = self.store(*(f"insert k s{it} t 1 1" for it in range(20)), blocks=64)
+        for again in range(3):
+            session = store.open()
+            for it in range(20):
+                store.insert("k", f"s{it}", "t", again + 2)
+            store.commit()
+            self.assertEqual(store.stat().retired, 20)
+            if again == 1:
+                session.close()
+            del session
+            gc.collect()
+            self.assertEqual(store.collect().recycled, 20)
+
+
+class Choice(Case):
+    def test_a_library_that_isn_t_there(self):
+        with mock.patch.dict(os.environ, {OF_LIBRARY: "/no/such.so"}):
+            os.environ.pop(making.VARIABLE, None)
+            self.assertEqual(making.choose()[0], "program")
+            self.assertRaisesRegex(misteluk.LibraryNotFound, "no library can be loaded: /no/such.so", Store, engine="library")
+            with Store(blocks=64) as store:
+                self.assertEqual(store.engine.name, "program")
+
+    def test_a_library_of_another_time(self):
+        """One that lacks a function, and one of another interface."""
+        with mock.patch.dict(os.environ, {OF_LIBRARY: _ctypes.__file__}):
+            self.assertRaisesRegex(misteluk.LibraryNotFound, "has no function misteluk_", Store, engine="library")
+        with mock.patch.object(interface, "INTERFACE", 99), mock.patch.dict(calling._OPENED, clear=True):
+            self.assertRaisesRegex(misteluk.LibraryNotFound, "has interface 1, and this needs 99", calling.opened, find_library())
+
+    def test_what_is_said(self):
+        self.assertRaisesRegex(ValueError, "engine is 'library' or 'program'", Store, engine="pipes")
+        self.assertRaisesRegex(ValueError, "a program is named", Store, engine="library", program="stinger")
+        with mock.patch.dict(os.environ, {making.VARIABLE: "pipes"}):
+            self.assertRaisesRegex(ValueError, "MISTELUK_ENGINE is", Store)
+        self.assertEqual(making.choose(program="x"), ("program", "it was said"))
+
+
+class Guarding(Case):
+    """What keeps calls from being made twice."""
+
+    def test_a_step_is_made_once(self):
+        step = Step(lambda it: made.append(it) or len(made), 7)
+        made = []
+        self.assertEqual((step.make(), step.make(), made), (1, 1, [7]))
+
+    def test_what_is_let_go_is_given_back_once(self):
+        notes, given = Notes(), []
+        owned = Owned("a", notes)
+        note = next(iter(notes._known))
+        notes.let_go(note)
+        notes.let_go(note)
+        notes.give_back(given.append)
+        del owned
+        gc.collect()
+        notes.give_back(given.append)
+        self.assertEqual(given, ["a"])
+        forgotten = Owned("b", notes)
+        del forgotten
+        notes.give_back(given.append)
+        self.assertEqual((given, notes._known), (["a", "b"], {}))
+
+    def test_a_handler_is_told(self):
+        class Thing:
+            def __init__(self):
+                self._guard = Guard()
+
+            @alone
+            def call(self, then):
+                return then()
+        thing = Thing()
+        self.assertEqual(thing.call(lambda: 5), 5)
+        self.assertRaisesRegex(misteluk.StoreError, "a signal's handler", thing.call, lambda: thing.call(lambda: 5))
+        self.assertEqual(thing.call(lambda: 6), 6)
+
+
+if __name__ == "__main__":
+    unittest.main()
