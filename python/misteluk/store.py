@@ -283,8 +283,8 @@ class Store(Generic[W, T]):
     # The end.
 
     def close(self) -> None:
-        """Closes sessions and ends the engine. Raises `Uncommitted` where operations are pending, also where the program fails (its
-        text says both), and else `ProgramEnded` where the program tells of a fault."""
+        """Closes sessions and ends the engine. Raises `Uncommitted` where operations are pending, also where the program fails
+        (its text says both), and else `ProgramEnded` where the program tells of a fault."""
         lost = self._end()
         if lost:
             text = f"{len(lost)} operations were pending and are not applied (the error has them): commit or discard first"
