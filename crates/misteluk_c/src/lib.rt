@@ -9,6 +9,7 @@ ghost use Rattle.std.specs.Prelude.{◌≡◌};
 mod batches;
 mod codes;
 mod desks;
+mod inserting;
 mod versions;
 
 /// The number of the interface that the header declares.
