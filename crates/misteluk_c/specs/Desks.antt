@@ -1,5 +1,5 @@
 -- What the calls about a desk tell.
-use Rattle.std.specs.Prelude.{◌≡◌, ◌⊎◌, ◌+◌, ℕ, List, [], length, count_by, Option, Some, None, MatchBool, nat_le, ◌&&◌}
+use Rattle.std.specs.Prelude.{◌≡◌, ◌⊎◌, ◌+◌, ℕ, List, [], length, count_by, Option, Some, None, IsSomeAnd, MatchBool, nat_le, ◌&&◌}
 use Rattle.graph_types.specs.{Step.outcomes, declared.batches.NamedOp.NamedOp}
 use Rattle.graph_version.specs.{Versions.{content, empty_version}, Kept.edge_total, Rebased.IsRebased}
 use Rattle.block_reclamation.specs.Status.{is_free, is_retired, is_in_use, is_reclaimable}
@@ -42,12 +42,12 @@ TellsApplied old ops new batch code counts =
     × (new ≡ old) × (batch_in batch ≡ Some ops))
 
 abbrev pub TellsApply : OwnedView → List NamedOp → Option Held → Option Held → ℕ → Counts → Type 0
-TellsApply old ops desk batch code counts = (new : OwnedView) × (desk_in desk ≡ Some new) × TellsApplied old ops new batch code counts
+TellsApply old ops desk batch code counts = IsSomeAnd (desk_in desk) (λ new. TellsApplied old ops new batch code counts)
 
 abbrev pub TellsCollect : OwnedView → Option Held → ℕ → ℕ → Type 0
 TellsCollect old desk code freed =
     (code ≡ 0) × (freed ≡ count_by (is_reclaimable (copied old.desk old.board)) old.desk.pool)
-    × ((new : OwnedView) × (desk_in desk ≡ Some new) × IsCollected old.desk (copied old.desk old.board) new.desk
+    × IsSomeAnd (desk_in desk) (λ new. IsCollected old.desk (copied old.desk old.board) new.desk
     × (new.counts ≡ old.counts) × (new.opening ≡ old.opening))
 
 abbrev pub stat_of : DeskView → DeskStat
@@ -63,25 +63,28 @@ stat_of d =
     }
 
 -- the last version is held in a handle that held nothing, or not: all is as it was then
-abbrev pub TellsHold : OwnedView → Option Held → Option Held → Option Held → ℕ → HoldNumbers → Type 0
-TellsHold old desk (Some before) version code hold = (code ≡ 3) × (desk_in desk ≡ Some old) × (version ≡ Some before)
-TellsHold old desk None version code hold =
+abbrev pub TellsHeld : OwnedView → OwnedView → Option Held → Option Held → ℕ → HoldNumbers → Type 0
+TellsHeld old new (Some before) version code hold = (code ≡ 3) × (new ≡ old) × (version ≡ Some before)
+TellsHeld old new None version code hold =
     ((code ≡ 0) × (version_in version ≡ Some old.desk.last) × (hold ≡ record { opening = old.opening; number = length old.desk.last.batches })
-    × ((new : OwnedView) × (desk_in desk ≡ Some new) × HoldsOnce old (length old.desk.last.batches) new))
-    ⊎ ((code ≡ 15) × RefusesHold old (length old.desk.last.batches) NoSeat × (desk_in desk ≡ Some old) × (version ≡ None))
-    ⊎ ((code ≡ 1) × (desk_in desk ≡ Some old) × (version ≡ None))
+    × HoldsOnce old (length old.desk.last.batches) new)
+    ⊎ ((code ≡ 15) × RefusesHold old (length old.desk.last.batches) NoSeat × (new ≡ old) × (version ≡ None))
+    ⊎ ((code ≡ 1) × (new ≡ old) × (version ≡ None))
+
+abbrev pub TellsHold : OwnedView → Option Held → Option Held → Option Held → ℕ → HoldNumbers → Type 0
+TellsHold old desk before version code hold = IsSomeAnd (desk_in desk) (λ new. TellsHeld old new before version code hold)
 
 abbrev pub hold_of : HoldNumbers → Hold
 hold_of hold = record { opening = hold.opening; number = hold.number }
 
 abbrev pub TellsRelease : OwnedView → HoldNumbers → Option Held → ℕ → Type 0
 TellsRelease old hold desk code =
-    ((code ≡ 0) × ((new : OwnedView) × (desk_in desk ≡ Some new) × IsReleased old (hold_of hold) new))
-    ⊎ ((code ≡ 15) × RefusesRelease old (hold_of hold) × (desk_in desk ≡ Some old))
+    IsSomeAnd (desk_in desk) (λ new. ((code ≡ 0) × IsReleased old (hold_of hold) new)
+    ⊎ ((code ≡ 15) × RefusesRelease old (hold_of hold) × (new ≡ old)))
 
 abbrev pub TellsRebase : OwnedView → Option Held → ℕ → Type 0
 TellsRebase old desk code =
-    ((code ≡ 0) × ((new : OwnedView) × (desk_in desk ≡ Some new) × IsRebased old.desk.last new.desk.last
+    IsSomeAnd (desk_in desk) (λ new. ((code ≡ 0) × IsRebased old.desk.last new.desk.last
     × IsVersionZero (length old.desk.pool) new.desk.last
-    × (new ≡ opened_owned (opened_desk (length old.desk.pool) new.desk.last) (old.opening + 1))))
-    ⊎ ((code ≡ 1) × (desk_in desk ≡ Some old))
+    × (new ≡ opened_owned (opened_desk (length old.desk.pool) new.desk.last) (old.opening + 1)))
+    ⊎ ((code ≡ 1) × (new ≡ old)))

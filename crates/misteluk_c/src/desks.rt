@@ -1,9 +1,9 @@
 //! Desks.
 
-ghost use Rattle.std.specs.Prelude.{◌≡◌, ℕ, Some, None};
+ghost use Rattle.std.specs.Prelude.{◌≡◌, ◌≢◌, ℕ, Some, None};
 ghost use Rattle.misteluk_c.specs.Held.{batch_in, version_in, Asks};
 ghost use Rattle.misteluk_c.specs.Desks as desks;
-ghost use Rattle.misteluk_c.specs.Desks.{desk_in, Opens, TellsApply, TellsApplied, TellsCollect, TellsHold, TellsRelease, TellsRebase, stat_of};
+ghost use Rattle.misteluk_c.specs.Desks.{desk_in, Opens, TellsApply, TellsApplied, TellsCollect, TellsHeld, TellsHold, TellsRelease, TellsRebase, stat_of};
 
 use crate::codes::{
     BAD_BLOCKS, BATCHES_FULL, BLOCKS_FULL, HELD_ALREADY, KINDS_FULL, MEMORY, NAMES_FULL, NO_HANDLE,
@@ -86,10 +86,7 @@ pub extern "C" fn misteluk_desk_apply(
     let Some(mut held) = desk.take(alloc) else {
         return NO_HANDLE;
     };
-    let code = match &mut *held {
-        Held::Desk(desk) => apply_held(alloc, desk, batch, counts),
-        _ => NO_HANDLE,
-    };
+    let code = apply_by(alloc, &mut held, batch, counts);
     desk.put(held);
     code
 }
@@ -154,13 +151,7 @@ pub extern "C" fn misteluk_desk_collect(alloc: Global, desk: &mut Handle, freed:
     let Some(mut held) = desk.take(alloc) else {
         return NO_HANDLE;
     };
-    let code = match &mut *held {
-        Held::Desk(desk) => {
-            *freed = desk.collect().recycled as u64;
-            OK
-        }
-        _ => NO_HANDLE,
-    };
+    let code = collect_by(&mut held, freed);
     desk.put(held);
     code
 }
@@ -215,21 +206,16 @@ pub extern "C" fn misteluk_desk_hold(
     let Some(mut held) = desk.take(alloc) else {
         return NO_HANDLE;
     };
-    let code = match &mut *held {
-        Held::Desk(desk) => hold_in(alloc, desk, version, hold),
-        _ => NO_HANDLE,
-    };
+    let code = hold_by(alloc, &mut held, version, hold);
     desk.put(held);
     code
 }
 
 /// Holds a desk's last version in a handle that holds nothing.
-fn hold_in(
-    alloc: Global,
-    desk: &mut OwnedDesk,
-    version: &mut Handle,
-    hold: &mut HoldNumbers,
-) -> u32 {
+fn hold_in(alloc: Global, desk: &mut OwnedDesk, version: &mut Handle, hold: &mut HoldNumbers) -> u32
+    ensures told { TellsHeld desk.old desk.new version.old.held version.new.held result hold.new }
+    ensures there { result ≢ 2 }
+{
     if !version.is_empty() {
         return HELD_ALREADY;
     }
@@ -262,17 +248,7 @@ pub extern "C" fn misteluk_desk_release(alloc: Global, desk: &mut Handle, hold: 
     let Some(mut held) = desk.take(alloc) else {
         return NO_HANDLE;
     };
-    let hold = Hold {
-        opening: hold.opening,
-        number: hold.number,
-    };
-    let code = match &mut *held {
-        Held::Desk(desk) => match desk.release(hold) {
-            Ok(()) => OK,
-            Err(_) => NO_SEAT,
-        },
-        _ => NO_HANDLE,
-    };
+    let code = release_by(&mut held, hold);
     desk.put(held);
     code
 }
@@ -286,13 +262,7 @@ pub extern "C" fn misteluk_desk_rebase(alloc: Global, desk: &mut Handle) -> u32
     let Some(mut held) = desk.take(alloc) else {
         return NO_HANDLE;
     };
-    let code = match &mut *held {
-        Held::Desk(desk) => match desk.rebase() {
-            Ok(()) => OK,
-            Err(_) => MEMORY,
-        },
-        _ => NO_HANDLE,
-    };
+    let code = rebase_by(&mut held);
     desk.put(held);
     code
 }
@@ -307,5 +277,72 @@ pub(crate) fn apply_code(error: ApplyError) -> u32
         ApplyError::KindsFull => KINDS_FULL,
         ApplyError::PoolEmpty { .. } => BLOCKS_FULL,
         ApplyError::OutOfMemory => MEMORY,
+    }
+}
+
+fn apply_by(alloc: Global, held: &mut Held, batch: &mut Handle, counts: &mut Counts) -> u32
+    ensures told { Asks (desk_in (Some held.old)) result
+        (λ o. Asks (batch_in batch.old.held) result
+        (λ ops. TellsApply o ops (Some held.new) batch.new.held result counts.new)) }
+    ensures same { result ≡ 2 → (held.new ≡ held.old) × (batch.new.held ≡ batch.old.held) }
+{
+    let Held::Desk(desk) = held else {
+        return NO_HANDLE;
+    };
+    apply_held(alloc, desk, batch, counts)
+}
+
+fn collect_by(held: &mut Held, freed: &mut u64) -> u32
+    ensures told { Asks (desk_in (Some held.old)) result
+        (λ o. TellsCollect o (Some held.new) result freed.new) }
+    ensures same { result ≡ 2 → held.new ≡ held.old }
+{
+    let Held::Desk(desk) = held else {
+        return NO_HANDLE;
+    };
+    *freed = desk.collect().recycled as u64;
+    OK
+}
+
+fn hold_by(alloc: Global, held: &mut Held, version: &mut Handle, hold: &mut HoldNumbers) -> u32
+    ensures told { Asks (desk_in (Some held.old)) result
+        (λ o. TellsHold o (Some held.new) version.old.held version.new.held result hold.new) }
+    ensures same { result ≡ 2 → (held.new ≡ held.old) × (version.new.held ≡ version.old.held) }
+{
+    let Held::Desk(desk) = held else {
+        return NO_HANDLE;
+    };
+    hold_in(alloc, desk, version, hold)
+}
+
+fn release_by(held: &mut Held, hold: HoldNumbers) -> u32
+    ensures told { Asks (desk_in (Some held.old)) result
+        (λ o. TellsRelease o hold (Some held.new) result) }
+    ensures same { result ≡ 2 → held.new ≡ held.old }
+{
+    let Held::Desk(desk) = held else {
+        return NO_HANDLE;
+    };
+    let hold = Hold {
+        opening: hold.opening,
+        number: hold.number,
+    };
+    match desk.release(hold) {
+        Ok(()) => OK,
+        Err(_) => NO_SEAT,
+    }
+}
+
+fn rebase_by(held: &mut Held) -> u32
+    ensures told { Asks (desk_in (Some held.old)) result
+        (λ o. TellsRebase o (Some held.new) result) }
+    ensures same { result ≡ 2 → held.new ≡ held.old }
+{
+    let Held::Desk(desk) = held else {
+        return NO_HANDLE;
+    };
+    match desk.rebase() {
+        Ok(()) => OK,
+        Err(_) => MEMORY,
     }
 }
