@@ -1,1 +1,1 @@
-pub mod Inserted
+pub mod Lengths

