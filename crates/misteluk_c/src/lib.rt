@@ -11,6 +11,9 @@ mod codes;
 mod desks;
 mod versions;
 
+#[cfg(test)]
+mod tests;
+
 /// The number of the interface that the header declares.
 #[unsafe(no_mangle)]
 pub extern "C" fn misteluk_interface() -> u32

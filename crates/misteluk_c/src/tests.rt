@@ -1,0 +1,195 @@
+//! Each function is called once on its happy path. What the library is compiled from without a proof is what these reach.
+
+use crate::batches::{
+    misteluk_batch_add, misteluk_batch_expire, misteluk_batch_free, misteluk_batch_insert,
+    misteluk_batch_length, misteluk_batch_new, misteluk_batch_remove,
+};
+use crate::desks::{
+    DeskStat, HoldNumbers, misteluk_desk_apply, misteluk_desk_collect, misteluk_desk_free,
+    misteluk_desk_hold, misteluk_desk_insert_columns, misteluk_desk_new, misteluk_desk_rebase,
+    misteluk_desk_release, misteluk_desk_stat,
+};
+use crate::misteluk_interface;
+use crate::versions::{
+    misteluk_version_clone, misteluk_version_cores, misteluk_version_degrees,
+    misteluk_version_edge, misteluk_version_edges, misteluk_version_free, misteluk_version_kind,
+    misteluk_version_kind_names, misteluk_version_labels, misteluk_version_levels,
+    misteluk_version_names, misteluk_version_row, misteluk_version_size, misteluk_version_vertex,
+};
+use desk_columns::Counts;
+use std::alloc::Global;
+use store_handles::Handle;
+use version_columns::{Marks, VersionSize, View};
+
+const EVERY: View = View {
+    from: 0,
+    to: u64::MAX,
+    kind: u32::MAX,
+};
+
+/// The codes of a batch's calls, added up.
+fn fill(alloc: Global, batch: &mut Handle) -> u32 {
+    let mut length = 0_u64;
+    let codes = [
+        misteluk_batch_new(alloc, batch),
+        misteluk_batch_insert(alloc, batch, b"k", b"a", b"b", 1, 2),
+        misteluk_batch_add(alloc, batch, b"k", b"a", b"b", 1, 2),
+        misteluk_batch_remove(alloc, batch, b"k", b"a", b"c"),
+        misteluk_batch_expire(alloc, batch, 0),
+        misteluk_batch_length(alloc, batch, &mut length),
+    ];
+    sum(&codes)
+}
+
+fn sum(codes: &[u32]) -> u32 {
+    let mut all = 0_u32;
+    for code in codes {
+        all = all.wrapping_add(*code);
+    }
+    all
+}
+
+/// The codes of a desk's calls, which leave a version in a handle.
+fn apply(alloc: Global, batch: &mut Handle, desk: &mut Handle, version: &mut Handle) -> u32 {
+    let mut counts = Counts::none(0);
+    let mut stat = DeskStat {
+        version: 0,
+        vertices: 0,
+        kinds: 0,
+        edges: 0,
+        blocks_free: 0,
+        blocks_retired: 0,
+        blocks_used: 0,
+    };
+    let mut hold = HoldNumbers {
+        opening: 0,
+        number: 0,
+    };
+    let mut done = 0_u64;
+    let mut freed = 0_u64;
+    let ends = [1_u64, 2];
+    let codes = [
+        misteluk_desk_new(alloc, 16, desk),
+        misteluk_desk_apply(alloc, desk, batch, &mut counts),
+        misteluk_desk_insert_columns(
+            alloc,
+            desk,
+            b"k",
+            b"ab",
+            &ends,
+            &[0, 1],
+            &[1, 0],
+            &[7, 8],
+            &[1, 2],
+            &mut counts,
+            &mut done,
+        ),
+        misteluk_desk_collect(alloc, desk, &mut freed),
+        misteluk_desk_stat(alloc, desk, &mut stat),
+        misteluk_desk_hold(alloc, desk, version, &mut hold),
+        misteluk_desk_release(alloc, desk, hold),
+        misteluk_desk_rebase(alloc, desk),
+    ];
+    sum(&codes)
+}
+
+/// The codes of a version's calls about names and single edges.
+fn look_up(alloc: Global, version: &mut Handle, other: &mut Handle) -> u32 {
+    let mut size = VersionSize {
+        version: 0,
+        vertices: 0,
+        kinds: 0,
+        edges: 0,
+        name_bytes: 0,
+        kind_bytes: 0,
+    };
+    let mut marks = Marks {
+        weight: 0,
+        first: 0,
+        recent: 0,
+    };
+    let mut number = 0_u32;
+    let mut text = [0_u8; 2];
+    let mut ends = [0_u64; 2];
+    let codes = [
+        misteluk_version_clone(alloc, version, other),
+        misteluk_version_size(alloc, version, &mut size),
+        misteluk_version_vertex(alloc, version, b"b", &mut number),
+        misteluk_version_kind(alloc, version, b"k", &mut number),
+        misteluk_version_names(alloc, version, 0, &mut text, &mut ends),
+        misteluk_version_kind_names(alloc, version, 0, &mut text, &mut ends[..1]),
+        misteluk_version_edge(alloc, version, 0, 0, 1, &mut marks),
+    ];
+    sum(&codes)
+}
+
+/// The codes of a version's tables and columns.
+fn ask(alloc: Global, version: &mut Handle) -> u32 {
+    let mut kinds = [0_u32; 2];
+    let mut sources = [0_u32; 2];
+    let mut targets = [0_u32; 2];
+    let mut weights = [0_i64; 2];
+    let mut firsts = [0_u64; 2];
+    let mut recents = [0_u64; 2];
+    let mut source = 0_u32;
+    let mut count = 0_u64;
+    let codes = [
+        misteluk_version_degrees(
+            alloc,
+            version,
+            &EVERY,
+            &mut sources,
+            &mut targets,
+            &mut weights,
+        ),
+        misteluk_version_levels(alloc, version, &EVERY, 0, &mut targets),
+        misteluk_version_labels(alloc, version, &EVERY, &mut targets),
+        misteluk_version_cores(alloc, version, &EVERY, &mut targets),
+        misteluk_version_row(
+            alloc,
+            version,
+            &EVERY,
+            0,
+            &mut kinds,
+            &mut targets,
+            &mut weights,
+            &mut firsts,
+            &mut recents,
+            &mut count,
+        ),
+        misteluk_version_edges(
+            alloc,
+            version,
+            &EVERY,
+            &mut source,
+            &mut kinds,
+            &mut sources,
+            &mut targets,
+            &mut weights,
+            &mut firsts,
+            &mut recents,
+            &mut count,
+        ),
+    ];
+    sum(&codes)
+}
+
+#[test]
+fn each_is_called(rt: HostRuntime) {
+    let alloc = rt.alloc();
+    let mut batch = Handle::empty(alloc);
+    let mut desk = Handle::empty(alloc);
+    let mut version = Handle::empty(alloc);
+    let mut other = Handle::empty(alloc);
+    let codes = [
+        fill(alloc, &mut batch),
+        apply(alloc, &mut batch, &mut desk, &mut version),
+        look_up(alloc, &mut version, &mut other),
+        ask(alloc, &mut version),
+    ];
+    misteluk_batch_free(alloc, batch);
+    misteluk_desk_free(alloc, desk);
+    misteluk_version_free(alloc, version);
+    misteluk_version_free(alloc, other);
+    let _ = println!(rt; "{} {}", misteluk_interface(), sum(&codes));
+}
