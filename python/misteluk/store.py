@@ -13,7 +13,7 @@ from .engine.guard import put
 from .engine.making import make_engine
 from .engine.protocol import Denied
 from .feeds.opening import reads
-from .errors import NoSeat, StoreError, Uncommitted
+from .errors import NoSeat, PoolEmpty, StoreError, Uncommitted
 from .ledger import Ledger
 from .session import Session
 from .values import records
@@ -249,7 +249,14 @@ class Store(Generic[W, T]):
             session.must_be_open()
             self.ledger.forget()
         self._rebasing = session
-        return (self.engine.rebase(session.held), put(self, "_rebasing", None))[0]
+        try:
+            return (self.engine.rebase(session.held), put(self, "_rebasing", None))[0]
+        except Denied as fault:
+            if fault.word != "PoolEmpty":
+                raise self.ledger.terms.denied(fault, ("rebase", str(session.slot))) from None
+            text = f"a copy of version {session.version} finds no room in {self.blocks} blocks, and nothing was changed"
+            raise PoolEmpty(needed=self.blocks + 1, free=None, text=text,
+                            advice="Save the session, and restore it with more blocks") from None
 
     def renew(self) -> Renewed:
         """Begins anew with the last version's edges, as a store in this process does of itself before it is full of batches, or
