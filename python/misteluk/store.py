@@ -240,8 +240,9 @@ class Store(Generic[W, T]):
         """Begins the store anew with the graph of the version that the session holds, which is version 0 from then on.
 
         What was applied before is let go, with its memory, and batches are counted anew. All sessions are closed, and what is
-        pending stays pending. Both stores are there while it works, and so there has to be memory for twice the blocks. Where
-        `NoAnswer` or an interrupt broke the call off, the same one finds what it did, and does it no second time.
+        pending stays pending. Both stores are there while it works, and so there has to be memory for twice the blocks. In this
+        process `PoolEmpty` says that a copy of an older version finds too few blocks; nothing is changed then. Where `NoAnswer`
+        or an interrupt broke the call off, the same one finds what it did, and does it no second time.
         """
         if session.store is not self:
             raise ValueError(f"{session!r} is another store's")

@@ -128,7 +128,7 @@ class Interrupts(Case):
         scene = Scene()
         scene.store.engine.talk.process.send_signal(signal.SIGSTOP)
         with handler(interrupt_now):
-            self.by_timer(scene.store.close, None)
+            self.by_alarm(scene.store, scene.store.close, None)
         scene.store.engine.talk.process.send_signal(signal.SIGCONT)
         with self.assertRaises(misteluk.Uncommitted) as told:
             scene.store.close()
