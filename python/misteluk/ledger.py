@@ -7,7 +7,7 @@ from __future__ import annotations
 
 from typing import Dict, List, NamedTuple, Optional, Sequence, Tuple
 
-from .engine.guard import Guard, alone
+from .engine.guard import FORKS, Guard, alone
 from .engine.protocol import Operations, Denied, Engine, Flight, Receipt
 from .errors import OperationsRefused, PoolEmpty, Refused, StoreError, refusal
 from .values import records
@@ -49,6 +49,8 @@ class Ledger:
 
     def keep(self, fields: Sequence[object], plain: str) -> None:
         """Keeps an operation. `plain` is its record, where that needs no quotes; most are seen to be right so."""
+        if self._guard.forks != len(FORKS):
+            self._guard.check()
         if self.is_closed:
             raise StoreError("the store is closed")
         must_be_texts(fields[1:4] if len(fields) > 2 else ())

@@ -13,7 +13,7 @@ from .engine.guard import put
 from .engine.making import make_engine
 from .engine.protocol import Denied
 from .feeds.opening import reads
-from .errors import NoSeat, StoreError, Uncommitted
+from .errors import NoSeat, PoolEmpty, StoreError, Uncommitted
 from .ledger import Ledger
 from .session import Session
 from .values import records
@@ -242,8 +242,9 @@ class Store(Generic[W, T]):
         """Begins the store anew with the graph of the version that the session holds, which is version 0 from then on.
 
         What was applied before is let go, with its memory, and batches are counted anew. All sessions are closed, and what is
-        pending stays pending. Both stores are there while it works, and so there has to be memory for twice the blocks. Where
-        `NoAnswer` or an interrupt broke the call off, the same one finds what it did, and does it no second time.
+        pending stays pending. Both stores are there while it works, and so there has to be memory for twice the blocks. In this
+        process `PoolEmpty` says that a copy of an older version finds too few blocks; nothing is changed then. Where `NoAnswer`
+        or an interrupt broke the call off, the same one finds what it did, and does it no second time.
         """
         if session.store is not self:
             raise ValueError(f"{session!r} is another store's")
@@ -254,7 +255,11 @@ class Store(Generic[W, T]):
         try:  # (nothing is done behind the line that tells it: an interrupt there would lose what it tells)
             return (self.engine.rebase(session.held), put(self, "_rebasing", None))[0]
         except Denied as fault:
-            raise self.ledger.terms.denied(fault, ("rebase", str(session.slot))) from None
+            if fault.word != "PoolEmpty":
+                raise self.ledger.terms.denied(fault, ("rebase", str(session.slot))) from None
+            text = f"a copy of version {session.version} finds no room in {self.blocks} blocks, and nothing was changed"
+            raise PoolEmpty(needed=self.blocks + 1, free=None, text=text,
+                            advice="Save the session, and restore it with more blocks") from None
 
     def renew(self) -> Renewed:
         """Begins anew with the last version's edges, as a store in this process does of itself before it is full of batches, or

@@ -1,5 +1,6 @@
 """What interrupts calls of a store, what they are, and a model of the store beside them."""
 import contextlib
+import functools
 import gc
 import os
 import random
@@ -206,7 +207,8 @@ KNOWN = []
 def elsewhere():
     """What calls say in a fork."""
     (store, session), told = KNOWN, []
-    for call in (store.stat, store.commit, session.degrees, session.close, store.close):
+    insert = functools.partial(store.insert, "l", "a", "c")
+    for call in (store.stat, store.commit, session.degrees, insert, session.close, store.close):
         try:
             call()
             told.append("closed")

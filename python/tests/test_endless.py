@@ -107,6 +107,44 @@ class Endless(Case):
         self.assertEqual(sorted(store.open().edges()), [("k", "a", "b", Edge(1, 1, 1)), ("k", "x", "y", Edge(1, 0, 0))])
         self.assertRaises(misteluk.SessionClosed, old.degrees)
 
+    def test_a_copy_of_more_edges_than_blocks(self):
+        """A batch asks for a free block for each of its operations: so a copy goes by batches that find them."""
+        store = self.store(blocks=16)
+        for at in range(40):
+            self.feed(store, f"insert k a b{at} {at} 1")
+        old = store.open()
+        edges = list(old.edges())
+        self.feed(store, "remove k a b0")
+        self.assertEqual(store.rebase(old), (0, 41, 40, 2))
+        self.assertEqual(list(store.open().edges()), edges)
+
+    def test_idle_names_of_more_edges_than_blocks(self):
+        store = self.store(blocks=64, endless=True)
+        for at in range(200):
+            store.insert("k", "hub", f"t{at}")
+        store.commit(batch=32)
+        real, said = store.engine.library.desk_apply, []
+
+        def full(*given):
+            said.append(1)
+            return library.Code.NAMES_FULL if len(said) == 1 else real(*given)
+        with mock.patch.object(store.engine.library, "desk_apply", full):
+            self.feed(store, "insert k hub more 1 1")
+        self.assertEqual((store.stat().version, store.stat().edges), (8, 201))
+
+    def test_a_copy_without_room(self):
+        """All blocks are used, and the copy's last row is an edge that is set twice: its second operation finds no block."""
+        store = self.store("insert k s0 early 1 1", *(f"insert k s{at} z 1 1" for at in range(13)), blocks=16)
+        for operation in ("insert k s13 z 1 1", "insert k last z 1 1", "insert k last z 1 9", "insert k early z 1 1"):
+            self.feed(store, operation)
+        old = store.open()
+        edges = list(old.edges())
+        store.commit()
+        with self.assertRaisesRegex(misteluk.PoolEmpty, "version 5 finds no room in 16 blocks, and nothing was changed"):
+            store.rebase(old)
+        self.assertEqual((store.stat()[:3], store.stat().free, list(old.edges())), ((6, 17, 17), 0, edges))
+        self.assertEqual(list(store.open().edges()), edges)
+
 
 @unittest.skipUnless(ENGINE == "program", "of the program alone")
 class Program(Case):

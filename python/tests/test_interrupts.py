@@ -174,7 +174,7 @@ class Interrupts(Case):
         self.addCleanup(KNOWN.clear)
         with multiprocessing.get_context("fork").Pool(2) as pool:
             self.assertEqual(pool.map(abs, [-1, 2]), [1, 2])
-            self.assertEqual(pool.apply(elsewhere), ["another process's"] * 3 + ["closed", "closed"])
+            self.assertEqual(pool.apply(elsewhere), ["another process's"] * 4 + ["closed", "closed"])
             self.assertEqual((store.stat().edges, session.edge("l", "a", "b")), (1, (5, 1, 1)))
             store.close()  # (where a fork had a pipe still, the program's end would be waited for in vain, and that be told)
 

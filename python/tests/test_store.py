@@ -282,6 +282,7 @@ class Stores(Case):
             with Store() as store:
                 store.insert("k", "a", "b")
         self.assertEqual(told.exception.operations, ["i,k,a,b,1,0\n"])
+        self.refused(misteluk.StoreError, "the store is closed", lambda: store.load([("a", "b")], by="set"))
         with self.assertWarnsRegex(UserWarning, "1 operations were pending"), self.assertRaises(KeyError):
             with Store() as store:
                 store.insert("k", "a", "b")

@@ -95,6 +95,12 @@ class Notes:
         self._left.clear()
 
 
+# An item for each fork between the process that loaded this module and the one that runs: to count them is quicker than to ask
+# the kernel for the process, as the calls do that take longer.
+FORKS: List[None] = []
+os.register_at_fork(after_in_child=functools.partial(FORKS.append, None))
+
+
 class Guard:
     """A lock that one thread has for as long as its call takes. A handler of a signal that interrupts such a call can't make
     another, and a fork can make none. (The lock of a call whose frame is gone is free: Python 3.9 may not give it back.)"""
@@ -103,6 +109,7 @@ class Guard:
         self.lock = threading.RLock()
         self.holder: Optional[FrameType] = None
         self._process = os.getpid()
+        self.forks = len(FORKS)
 
     @property
     def is_elsewhere(self) -> bool:

@@ -138,7 +138,10 @@ class LibraryEngine:
         if code == Code.BATCHES_FULL or code == Code.BLOCKS_FULL and stat.retired:
             return self._begin_anew(opening, stat), False
         if code in HELPED_BY_COPY and self._endless:
-            return self._copy(self._content(opening).without_idle_names(), stat.version), False
+            try:
+                return self._copy(self._content(opening).without_idle_names(), stat.version), False
+            except Denied:
+                pass  # (the copy finds no room: what is told is why the batch was refused)
         return None
 
     # Versions.
@@ -205,14 +208,17 @@ class LibraryEngine:
         return opening
 
     def _copy(self, content: Content, number: int) -> Opening:
-        """A new desk takes the place of the one in use, with this content as the version of this number."""
+        """A new desk takes the place of the one in use, with this content as the version of this number. Its batches are as small
+        as its free blocks want them. Raises `Denied` (PoolEmpty) where even one operation finds none; nothing changes then."""
         opening = self._new(number)
         operations = list(operations_of(content))
-        for at in range(0, len(operations), records.MOST_OPERATIONS):
-            part = operations[at:at + records.MOST_OPERATIONS]
+        at = 0
+        while at < len(operations):
+            part = operations[at:at + min(records.MOST_OPERATIONS, max(self._stat(opening).free, 1))]
             flight = self.flight(Operations("".join(part).encode("ascii"), len(part)), True)
             check(self.library.desk_apply(opening.desk.raw, flight.owned.raw, flight.counts))
             self._collect(opening)
+            at += len(part)
         check(self.library.desk_rebase(opening.desk.raw))
         self._opening = opening
         self._held.clear()

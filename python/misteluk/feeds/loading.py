@@ -334,7 +334,7 @@ def load_in_steps(store: "Store[Any, Any]", found: Survey, *, collect: bool = Tr
     """Loads a survey batch by batch: what each did is given before the next is applied: sessions can be opened between."""
     check(found, skip_bad=skip_bad)
     store.ledger.settle()
-    if store.pending:
+    if store.pending and not store.is_closed:  # (a closed store says that it is, as soon as it is asked for its blocks)
         text = f"{store.pending} operations are pending: commit or discard them before a load"
         raise Uncommitted(text, list(store.ledger.pending))
     check_room(store, found, store.stat().used, found.records(collect))
