@@ -4,7 +4,6 @@
 ghost use Rattle.std.specs.Prelude.{◌≡◌, ◌≢◌, ◌≤◌, length, OnOk, Err};
 ghost use Rattle.desk_columns.specs.Lengths.{AreLong};
 
-
 use batch_columns::{InsertError, insert_numbers};
 use desk::{Accepted, ApplyError, OwnedDesk};
 use desk_counts::Counts;

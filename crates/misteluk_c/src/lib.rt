@@ -14,9 +14,6 @@ mod inserting;
 mod tests;
 mod versions;
 
-#[cfg(test)]
-mod tests;
-
 /// The number of the interface that the header declares.
 #[unsafe(no_mangle)]
 pub extern "C" fn misteluk_interface() -> u32
