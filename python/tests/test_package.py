@@ -153,7 +153,7 @@ class Installs(Case):
     def test_the_command(self):
         self.program("stinger")
         self.install("--no-build-isolation", self.top / "python")
-        env = {**os.environ, "PYTHONPATH": str(self.there)}
+        env = {it: value for it, value in os.environ.items() if not it.startswith("MISTELUK_")} | {"PYTHONPATH": str(self.there)}
         told = run(self.there / "bin/misteluk", "load", "-", "--set", "--source", "1", "--target", "2", cwd="/", env=env,
                    input="a,b\n").stdout
         self.assertIn("1 edges inserted", told)
