@@ -6,7 +6,7 @@
 #include <stdlib.h>
 #include <string.h>
 
-enum { VERTICES = 65536, PATH = 30000, BATCH = 4096, STACK = 1 << 20, PROMISED = 32 << 10, FILL = 0xA5 };
+enum { VERTICES = 65536, PATH = 30000, BATCH = 4096, STACK = 1 << 20, PROMISED = 48 << 10, FILL = 0xA5 };
 
 static const misteluk_view every = {0, UINT64_MAX, MISTELUK_ANY_KIND};
 static misteluk_desk desk;
