@@ -23,7 +23,11 @@ fn name_at<'a>(text: &'a [u8], ends: &[u64], number: u32) -> Option<&'a [u8]>
 {
     let number = number as usize;
     let end = *ends.get(number)? as usize;
-    let start = if number == 0 { 0 } else { ends[number - 1] as usize };
+    let start = if number == 0 {
+        0
+    } else {
+        ends[number - 1] as usize
+    };
     text.get(start..end)
 }
 
