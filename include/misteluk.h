@@ -193,8 +193,8 @@ uint32_t misteluk_version_row(misteluk_version *version, const misteluk_view *vi
     size_t firsts_length, uint64_t *recents, size_t recents_length, uint64_t *count);
 /* Writes the edges that the view lets through of the sources from `*source` on, source by source, each one's whole row, as many as
  * the columns hold. `count` tells how many were written, and `*source` is the first source that isn't in: the number of vertices
- * where all are. NO_HANDLE, NO_KIND, BAD_LENGTH where the columns differ or not even the next row fits (then `count` tells how
- * long it is). */
+ * where all are. One that is past all vertices stays as it is, and nothing is written. NO_HANDLE, NO_KIND, BAD_LENGTH where the
+ * columns differ or not even the next row fits (then `count` tells how long it is). */
 uint32_t misteluk_version_edges(misteluk_version *version, const misteluk_view *view, uint32_t *source, uint32_t *kinds,
     size_t kinds_length, uint32_t *sources, size_t sources_length, uint32_t *targets, size_t targets_length, int64_t *weights,
     size_t weights_length, uint64_t *firsts, size_t firsts_length, uint64_t *recents, size_t recents_length, uint64_t *count);
