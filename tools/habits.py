@@ -11,6 +11,7 @@
 - ARCHITECTURE's table of words has each word once, and each is used on another page or in a docstring of something public. A
   word of this house (HOUSE) that a page uses stands in that table, or that page or the README explains it, where it shows
   it *so*.
+- A page of PLAIN has no word of COINED, and none of its sentences begins with one of OPENERS, unless it is a question.
 - docs/LIBRARY.md shows each program that stands on `misteluk`: its row of crates.txt, and each of its files as it is.
 - No definition, and no lemma with its name and type, stands twice in `specs/` and `proofs/`.
 - A wrong body names files of its crate, and has pairs of an old line, which stands in its file once, and a new one.
@@ -39,6 +40,26 @@ WORDS = TOP / "docs/ARCHITECTURE.md"
 # What a newcomer can't know: words that are this repository's, or mean something of its own in it.
 HOUSE = """act birth board book desk drive floor gate grant journal label level opening pin receipt retirement seat shard shelf
     slot stamp told""".split()
+# The pages written in plain English; the words of the older ones that a reader had to decode, and what to write in their place;
+# and words that put a sentence's reason before its subject.
+PLAIN = """README.md CONTRIBUTING.md python/README.md docs/ARCHITECTURE.md docs/DESIGN.md docs/FLEET.md docs/INSIDE.md
+    docs/PERFORMANCE.md docs/PIPES.md docs/PROMISES.md docs/PROVED.md docs/REFINEMENT.md docs/TUTORIAL.md docs/USING.md""".split()
+COINED = {
+    r"want(?:s|ed|ing)? (?:of )?memory|want of it": "out of memory",
+    r"for want of": "for lack of",
+    r"behind": "after",
+    r"beside": "next to, together with, besides",
+    r"tells?|telling|(?:is|are|was|were|be) told": "report, say, show",
+    r"anew": "again",
+    r"dear(?:er|est)?": "expensive",
+    r"in (?:100|a hundred)": "percent",
+    r"some \d[\d,.]*": "about",
+    r"lets? go|letting go|let its? .{1,20} go": "free, drop",
+    r"(?:is|are|be) parted|parted by": "is separated",
+    r"turned? round": "swapped",
+    r"is had|be had": "available",
+}
+OPENERS = ("Behind", "Beside", "Of", "That", "Where")
 
 
 def git(*words):
@@ -187,6 +208,22 @@ def words_astray(pages):
                 yield f"{page.relative_to(TOP)} uses {word}, which neither it nor the README nor ARCHITECTURE's table explains"
 
 
+def coined_words(page):
+    """Yields what a plain page says in coined words, outside of code, headings and links' targets."""
+    name = page.relative_to(TOP)
+    text = FENCED.sub(lambda it: "\n" * it[0].count("\n"), page.read_text(encoding="utf-8"))
+    for number, line in enumerate(text.splitlines(), 1):
+        if not line.startswith(("#", "    ")):
+            plain = re.sub(r"`[^`]*`", "", re.sub(r"\]\([^)]*\)", "]", line))
+            for words, better in COINED.items():
+                for found in re.finditer(rf"\b(?:{words})\b", plain, re.I):
+                    yield f"{name}:{number}: {found[0]!r}: say {better}"
+    for sentence in sentences(page):
+        first = re.match(r"\W*(\w+)", sentence)
+        if first and first[1] in OPENERS and not sentence.rstrip("*)").endswith("?"):
+            yield f"{name}: a sentence begins with {first[1]}: {' '.join(sentence.split()[:8])} .."
+
+
 def programs():
     """Returns each program over the library that others learn from: its row of crates.txt, and its files."""
     found = [row for row in rows() if "misteluk" in row.partition(":")[2].split()]
@@ -251,6 +288,7 @@ def main():
         "names of definitions": [it for page in pages for it in undefined_names(page)],
         "crates": [*unnamed_crates(), *misnamed_crates()],
         "words": list(words_astray(told)),
+        "plain English": [it for page in PLAIN if (TOP / page).exists() for it in coined_words(TOP / page)],
         "programs over the library": list(unshown_programs()),
         "statements": list(statements.told_twice(TOP)),
         "wrong bodies": [it for path in edits for it in lost_edits(path)],
