@@ -209,12 +209,12 @@ def words_astray(pages):
 
 
 def coined_words(page):
-    """Yields what a plain page says in coined words, outside of code, headings and links' targets."""
+    """Yields what a plain page says in coined words, outside of code, what stands in quotes, headings and links' targets."""
     name = page.relative_to(TOP)
     text = FENCED.sub(lambda it: "\n" * it[0].count("\n"), page.read_text(encoding="utf-8"))
     for number, line in enumerate(text.splitlines(), 1):
         if not line.startswith(("#", "    ")):
-            plain = re.sub(r"`[^`]*`", "", re.sub(r"\]\([^)]*\)", "]", line))
+            plain = re.sub(r"`[^`]*`|\"[^\"]*\"", "", re.sub(r"\]\([^)]*\)", "]", line))
             for words, better in COINED.items():
                 for found in re.finditer(rf"\b(?:{words})\b", plain, re.I):
                     yield f"{name}:{number}: {found[0]!r}: say {better}"
