@@ -10,7 +10,7 @@ use super::texts::check_shown;
 use super::values::{LineError, batch, numbers};
 use block_reclamation::BlockStatus;
 use epoch_core::{Opening, Version, blocks_at, content_with, plan_post};
-use graph_types::{Batch, Edge, List};
+use graph_types::{Batch, Edge, Limits, List};
 use std::alloc::{AllocError, Global};
 use std::process::Abort;
 use std::slice::from_ref;
@@ -86,6 +86,7 @@ fn without_edges(alloc: Global) -> Opening
     Opening {
         content: empty(alloc),
         blocks: List::of(Vec::new(alloc)),
+        limits: Limits::standard(),
     }
 }
 
