@@ -3,9 +3,10 @@ use Rattle.std.proofs.Common.{◌≡◌, ◌≢◌, ℕ, ◌+◌, ◌<◌, ◌�
 use Rattle.std.proofs.Common.{map, flat_map, zip, count_by, replicate, refl, sym, ap, ◌∙◌, arith, subst, All, AllPairs}
 use Rattle.std.proofs.lemmas.{Bool.{ltb-true, ltb-false}, List.{length-map, FromFn.length-range_with_len, Concat.length-flat_map}}
 use Rattle.std.{proofs.lemmas.{Slice.Zip.AllZip-long, Grind.common_steps}, specs.{List.{range_with_len, AllZip}, FinMap.len}}
-use Rattle.graph_types.specs.{Graph.Graph, Limits.{name_limit, kind_limit, batch_limit, operation_limit}, Step.after_all}
+use Rattle.graph_types.specs.{Graph.Graph, Limits.{AreLimits, operation_limit}, Step.after_all}
 use Rattle.graph_types.specs.{Step.outcomes, declared.batches.{NamedOp.NamedOp, Outcome.TheVariants.Absent}}
 use Rattle.graph_types.proofs.More.{left_more}
+use Rattle.graph_types.proofs.LimitsKept.{limits_after_all}
 use Rattle.edge_block.specs.{Slots.BlockView, Rows.{OpenBlock, shape_of, row_at, IsRow}, Batches.{Resolved, resolved}}
 use Rattle.edge_block.{specs.Batches.{outcomes_all, opened, layout_after, IsWithin, IsLayoutOf}, proofs.GraphLaws.batch_layout}
 use Rattle.vertex_names.specs.Book.{Book}
@@ -108,7 +109,7 @@ module _ (v : VersionView) (ops : List NamedOp) (workers : ℕ) (positive : 0 < 
         → count_by q (fresh_all shards) + count_by q rest ≡ count_by q numbers)
         (distinct : AllPairs (λ a b. a ≢ b) numbers)
         (unlisted : All (λ n. is_in n (rows.numbers_of (rows.blocks_of v.rows)) ≡ false) numbers)
-        (limits : MeetsNeitherLimit ops g) (few : length v.batches < batch_limit) (short : length ops ≤ operation_limit) where
+        (limits : MeetsNeitherLimit ops g) (few : length v.batches < g.limits.batches) (short : length ops ≤ operation_limit) where
       few_taken : (m : ℕ) → times m (taken_left dones) ≤ times m numbers
       few_taken m = omega (arith, handed (λ x. x == m), handed_left (row_of v.rows) shards dones done (λ x. x == m))
 
@@ -141,11 +142,17 @@ module _ (v : VersionView) (ops : List NamedOp) (workers : ℕ) (positive : 0 < 
             });
             within = subst IsWithin (sym (content_next after)) laid.2;
             small = record {
-              names = subst (λ h. length h.names ≤ name_limit) (sym (content_next after))
-                  (no_more name_limit (length (after_all ops g).names) limits.0);
-              kinds = subst (λ h. length h.kinds ≤ kind_limit) (sym (content_next after))
-                  (no_more kind_limit (length (after_all ops g).kinds) limits.1);
-              count = (let long = length-append v.batches (ops ∷ []) in omega (arith, long, few));
+              names = subst (λ h. length h.names ≤ h.limits.names) (sym (content_next after))
+                  (rw (limits_after_all ops g) (no_more g.limits.names (length (after_all ops g).names) limits.0));
+              kinds = subst (λ h. length h.kinds ≤ h.limits.kinds) (sym (content_next after))
+                  (rw (limits_after_all ops g) (no_more g.limits.kinds (length (after_all ops g).kinds) limits.1));
+              count = (
+                  let long = length-append v.batches (ops ∷ []) in
+                  let same = ap (λ h. h.limits.batches) (content_next after) ∙ ap (λ l. l.batches) (limits_after_all ops g) in
+                  omega (arith, long, few, same)
+                  );
+              limits = subst (λ h. AreLimits h.limits) (sym (content_next after))
+                  (rw (limits_after_all ops g) is.small.limits);
             };
           }
 
@@ -215,7 +222,7 @@ module _ (v : VersionView) (ops : List NamedOp) (workers : ℕ) (shards : List S
     ≡ count_by q numbers)
     (distinct : AllPairs (λ a b. a ≢ b) numbers)
     (unlisted : All (λ n. is_in n (rows.numbers_of (rows.blocks_of v.rows)) ≡ false) numbers)
-    (limits : MeetsNeitherLimit ops (content v)) (few : length v.batches < batch_limit) (short : length ops ≤ operation_limit)
+    (limits : MeetsNeitherLimit ops (content v)) (few : length v.batches < (content v).limits.batches) (short : length ops ≤ operation_limit)
     (after : List (List BlockView)) (among : (s : ℕ) → row_of after s ≡ row_among (rows_left dones) s (row_of v.rows s)) where
   abbrev with_fresh : List Shard
   with_fresh = shards_in jobs
@@ -267,6 +274,6 @@ module _ (v : VersionView) (ops : List NamedOp) (names kinds : Book) (values : L
   pub draft_among : (s : ℕ) → row_of d2.version.rows s ≡ row_among values s (row_of v.rows s)
   draft_among s = e2.rows_are s ∙ ap (λ (d : DraftView). row_among values s (row_of d.version.rows s)) e1
 
-  pub draft_whole : names ≡ vertex_book (after_all ops (content v)).names → kinds ≡ kind_book (after_all ops (content v)).kinds
+  pub draft_whole : names ≡ vertex_book (after_all ops (content v)) → kinds ≡ kind_book (after_all ops (content v))
       → IsVersion (record { opening = v.opening; batches = v.batches ++ ops ∷ []; rows = d2.version.rows }) → IsWhole d3
   draft_whole n k is = grind (arith, common_steps, draft_is, left_more)

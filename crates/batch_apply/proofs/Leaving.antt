@@ -2,6 +2,7 @@
 use Rattle.std.proofs.Common.{◌≡◌, ◌∙◌, ◌+◌, ◌≤◌, ℕ, zero, suc, List, [], ◌∷◌, ◌++◌, length, refl, ap, subst, arith}
 use Rattle.std.{specs.List.{range_with_len, AllZip}, proofs.lemmas.Grind.common_steps}
 use Rattle.graph_types.specs.{Graph.Graph, Step.{after, after_all}, declared.batches.NamedOp.NamedOp}
+use Rattle.graph_types.proofs.LimitsKept.{limits_after_all}
 use Rattle.edge_block.specs.Operations.{names_after, kinds_after}
 use Rattle.vertex_names.specs.Book.{Book}
 use Rattle.graph_version.specs.Kept.{vertex_book, kind_book}
@@ -36,21 +37,21 @@ pub one_more_shard : {A : Type 0} (R : ℕ → A → Type 0) (n : ℕ) (xs : Lis
     → AllZip R (range_with_len 0 (n + 1)) (xs ++ x ∷ [])
 one_more_shard R n xs x so_far is = grind (arith, common_steps, one_more)
 
-pub names_book : (ops : List NamedOp) (g : Graph) (old new : Book) → old ≡ vertex_book g.names
-    → new ≡ with_names old (names_all ops old.names) → new ≡ vertex_book (after_all ops g).names
-names_book ops g old new was is = grind (arith, common_steps, names_left)
+pub names_book : (ops : List NamedOp) (g : Graph) (old new : Book) → old ≡ vertex_book g
+    → new ≡ with_names old (names_all ops old.names) → new ≡ vertex_book (after_all ops g)
+names_book ops g old new was is = grind (arith, common_steps, names_left, limits_after_all)
 
-pub kinds_book : (ops : List NamedOp) (g : Graph) (old new : Book) → old ≡ kind_book g.kinds
-    → new ≡ with_names old (kinds_all ops old.names) → new ≡ kind_book (after_all ops g).kinds
-kinds_book ops g old new was is = grind (arith, common_steps, kinds_left)
+pub kinds_book : (ops : List NamedOp) (g : Graph) (old new : Book) → old ≡ kind_book g
+    → new ≡ with_names old (kinds_all ops old.names) → new ≡ kind_book (after_all ops g)
+kinds_book ops g old new was is = grind (arith, common_steps, kinds_left, limits_after_all)
 
 -- the batch rule's refusal is that of the books of the graph's names
-pub plan_refused : (error : PlanError) (ops : List NamedOp) (g : Graph) (names kinds : Book) → names ≡ vertex_book g.names
-    → kinds ≡ kind_book g.kinds → IsUnplanned error ops names kinds → IsPlanRefusal error ops g
+pub plan_refused : (error : PlanError) (ops : List NamedOp) (g : Graph) (names kinds : Book) → names ≡ vertex_book g
+    → kinds ≡ kind_book g → IsUnplanned error ops names kinds → IsPlanRefusal error ops g
 plan_refused error ops g names kinds names_are kinds_are refused = grind (arith, common_steps, names_left, kinds_left)
 
 -- books within their limits are those of a batch that meets neither
-pub neither_limit : (ops : List NamedOp) (g : Graph) (names kinds : Book) → names ≡ vertex_book (after_all ops g).names
-    → kinds ≡ kind_book (after_all ops g).kinds
+pub neither_limit : (ops : List NamedOp) (g : Graph) (names kinds : Book) → names ≡ vertex_book (after_all ops g)
+    → kinds ≡ kind_book (after_all ops g)
     → length names.names ≤ names.limit → length kinds.names ≤ kinds.limit → MeetsNeitherLimit ops g
-neither_limit ops g names kinds names_are kinds_are few_names few_kinds = grind (arith, common_steps)
+neither_limit ops g names kinds names_are kinds_are few_names few_kinds = grind (arith, common_steps, limits_after_all)

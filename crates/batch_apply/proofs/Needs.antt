@@ -6,6 +6,7 @@ use Rattle.std.proofs.lemmas.List.Sums.{sum_by-cons, sum_by-le, sum_by-le-sum_by
 use Rattle.std.proofs.lemmas.{List.Elements.{All-head, All-tail, All-map, All-weaker}, Map.Keys.IsDistinct-from_apart}
 use Rattle.std.{proofs.lemmas.Map.Steps.length-le_from_distinct_below, specs.{Prelude.not, List.{IsDistinct, sum_by, list_any}}}
 use Rattle.std.{specs.List.{range_with_len, AllZip}, proofs.lemmas.{List.FromFn.length-enumerate_from, Grind.common_steps}}
+use Rattle.graph_types.specs.Limits.{most_names}
 use Rattle.graph_types.{specs.declared.batches.NamedOp.NamedOp, proofs.Counts.apart_tail}
 use Rattle.edge_block.specs.{Slots.{BlockView, has_before}, Operations.{Parts, parts_of, names_after, kinds_after}}
 use Rattle.edge_block.specs.Batches.{Resolved, resolve_parts, resolved}
@@ -129,15 +130,15 @@ same_time (op ∷ ops) names kinds =
 
 -- a version has no more old rows than vertices
 pub few_old_rows : (v : VersionView) → IsVersion v → (time : ℕ) (old : List OldRow) → AreOldRows time (row_of v.rows) old
-    → length old ≤ 65536
+    → length old ≤ most_names
 few_old_rows v is time old are =
     let source : OldRow → ℕ = λ (r : OldRow). r.source.0 in
-    let below : All (λ s. s < 65536) (old_sources old) = All-map (λ s. s < 65536) source old (λ k d lt.
+    let below : All (λ s. s < most_names) (old_sources old) = All-map (λ s. s < most_names) source old (λ k d lt.
     let here = are.blocks k d lt in
     let lt = old_is_within v is time (source (get_or old k d)) (omega (arith, here.0, here.1)) in
-    omega (arith, lt, is.small.names)) in
+    omega (arith, lt, is.small.names, is.small.limits.names)) in
     let apart : IsDistinct eqb (old_sources old) = IsDistinct-from_apart eqb (old_sources old) (λ i j d lt within.
     ne_eqb (get_or (old_sources old) i d) (get_or (old_sources old) j d) (are.distinct i j d lt within)) in
-    let few = length-le_from_distinct_below (old_sources old) 65536 apart (λ q listed.
-    listed_all (λ s. s < 65536) (old_sources old) q below listed) in
+    let few = length-le_from_distinct_below (old_sources old) most_names apart (λ q listed.
+    listed_all (λ s. s < most_names) (old_sources old) q below listed) in
     omega (arith, few, length-map old source)

@@ -17,8 +17,8 @@ old_resolved ops names kinds found rows old is are =
     subst (λ (t : ℕ). AreOldRows t rows old) (sym (ap latest is ∙ same_time ops names kinds)) are
 
 pub planned : (v : VersionView) → IsVersion v → (workers : ℕ) (ops : List NamedOp) (found : List ResolvedOp) (old : List OldRow)
-    (plan : Plan) → plan.names ≡ vertex_book (after_all ops (content v)).names
-    → plan.kinds ≡ kind_book (after_all ops (content v)).kinds
+    (plan : Plan) → plan.names ≡ vertex_book (after_all ops (content v))
+    → plan.kinds ≡ kind_book (after_all ops (content v))
     → map shown found ≡ resolved ops (content v).names (content v).kinds → length found ≤ 4096
     → AreOldRows (expiry_time ops) (row_of v.rows) old
     → ((rows : ℕ → List BlockView) → AreOldRows (latest (map shown found)) rows old

@@ -10,8 +10,8 @@ use Rattle.batch_apply.specs.declared.plans.PlanError.TheVariants.{KindsFull, Ou
 -- the books have the names that the batch leaves of the graph, the shards over its rows are those of workers 0, 1, .. in order,
 -- and each may take as many fresh blocks as it has operations on edges, and blocks with an edge that an expiry may take
 pub record IsPlan (workers : ℕ) (ops : List NamedOp) (g : Graph) (rows : ℕ → List BlockView) (plan : Plan) : Type 0 where
-  pub names : plan.names ≡ vertex_book (after_all ops g).names
-  pub kinds : plan.kinds ≡ kind_book (after_all ops g).kinds
+  pub names : plan.names ≡ vertex_book (after_all ops g)
+  pub kinds : plan.kinds ≡ kind_book (after_all ops g)
   pub shards : AllZip (IsShardOf workers (resolved ops g.names g.kinds) (layout_by rows)) (range_with_len 0 workers)
       plan.shards.items
   pub needs : plan.needs.items ≡ map (λ shard. needed rows (sources_in shard) shard.steps.items) plan.shards.items

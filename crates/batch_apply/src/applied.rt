@@ -58,7 +58,7 @@ pub fn apply<R: Threads + Sync, G: Gate + Sync>(
 ) -> Result<Applied, AllocError>
     requires plan { (workers : ℕ) × (0 < workers) × IsPlan workers (batch_value batch) (content version.now)
         (row_of version.now.rows) plan }
-    requires few { length version.now.batches < 65536 }
+    requires few { length version.now.batches < (content version.now).limits.batches }
     requires blocks { sum_by (λ n. n) plan.needs.items ≤ length blocks.items }
     requires distinct { AllPairs ◌≢◌ (numbers_of blocks.items) }
     requires unlisted { All (λ n. is_in n (rows.numbers_of (rows.blocks_of version.now.rows)) ≡ false) (numbers_of blocks.items) }
@@ -95,7 +95,7 @@ pub fn apply_alone(
     blocks: Vec<Arc<Block>>,
 ) -> Result<Applied, AllocError>
     requires plan { IsPlan 1 (batch_value batch) (content version.now) (row_of version.now.rows) plan }
-    requires few { length version.now.batches < 65536 }
+    requires few { length version.now.batches < (content version.now).limits.batches }
     requires blocks { sum_by (λ n. n) plan.needs.items ≤ length blocks.items }
     requires distinct { AllPairs ◌≢◌ (numbers_of blocks.items) }
     requires unlisted { All (λ n. is_in n (rows.numbers_of (rows.blocks_of version.now.rows)) ≡ false) (numbers_of blocks.items) }

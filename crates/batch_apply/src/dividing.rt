@@ -2,6 +2,7 @@
 
 ghost use Rattle.std.specs.Prelude.{◌≡◌, ◌∷◌, ◌++◌, [], ◌-◌, ◌≤◌, ◌<◌, ◌^◌, ℕ, List, length, map, min, IfOk, IfErr, OnOk, All};
 ghost use Rattle.std.specs.List.{range_with_len, AllZip};
+ghost use Rattle.graph_types.specs.Limits.{most_names};
 ghost use Rattle.edge_block.specs.Slots.{BlockView};
 ghost use Rattle.edge_block.specs.Batches.{IsPlaced};
 ghost use Rattle.graph_types.specs.Step.{after_all};
@@ -38,8 +39,8 @@ pub struct NamedBatch {
 
 /// Resolves the names of a batch over a version. This was found of the ends of its first operations among the version's names.
 ///
-/// `NamesFull` where the batch would leave more than 65,536 vertex names, else `KindsFull` where it would leave more
-/// than 64 kinds, and `OutOfMemory` where a growth was refused. The books share the version's names, and copy no text
+/// `NamesFull` where the batch would leave more vertex names than the limits allow, else `KindsFull` where it would
+/// leave more kinds, and `OutOfMemory` where a growth was refused. The books share the version's names, and copy no text
 /// but those of the last 256 where the batch has new ones.
 pub fn name_batch(
     alloc: Global,
@@ -48,8 +49,8 @@ pub fn name_batch(
     found: &[Ends],
 ) -> Result<NamedBatch, PlanError>
     requires { AreFound (content version.now).names batch.now found.now }
-    ensures names { IfOk result (λ n. n.names ≡ vertex_book (after_all batch.now (content version.now)).names) }
-    ensures kinds { IfOk result (λ n. n.kinds ≡ kind_book (after_all batch.now (content version.now)).kinds) }
+    ensures names { IfOk result (λ n. n.names ≡ vertex_book (after_all batch.now (content version.now))) }
+    ensures kinds { IfOk result (λ n. n.kinds ≡ kind_book (after_all batch.now (content version.now))) }
     ensures ops { let g = content version.now in IfOk result (λ n. map shown n.ops.items ≡ resolved batch.now g.names g.kinds) }
     ensures few { IfOk result (λ n. length n.ops.items ≤ 4096) }
     ensures placed { IfOk result (λ n. All IsPlaced (map shown n.ops.items)) }
@@ -106,7 +107,7 @@ pub fn shards_for(
     requires few { length ops.now ≤ 4096 }
     requires placed { All IsPlaced (map shown ops.now) }
     requires valid { All IsInRange ops.now }
-    requires few_old { length old.now ≤ 65536 }
+    requires few_old { length old.now ≤ most_names }
     requires old { (rows : ℕ → List BlockView) × AreOldRows (latest (map shown ops.now)) rows old.now }
     ensures shards { IfOk result (λ v. (rows : ℕ → List BlockView) → AreOldRows (latest (map shown ops.now)) rows old.now
         → AllZip (IsShardOf workers (map shown ops.now) (layout_by rows)) (range_with_len 0 workers) v.shards.items) }
@@ -133,7 +134,7 @@ pub fn shards_at_once<R: Threads + Sync>(
     requires few { length ops.now ≤ 4096 }
     requires placed { All IsPlaced (map shown ops.now) }
     requires valid { All IsInRange ops.now }
-    requires few_old { length old.now ≤ 65536 }
+    requires few_old { length old.now ≤ most_names }
     requires old { (rows : ℕ → List BlockView) × AreOldRows (latest (map shown ops.now)) rows old.now }
     ensures shards { IfOk result (λ v. (rows : ℕ → List BlockView) → AreOldRows (latest (map shown ops.now)) rows old.now
         → AllZip (IsShardOf workers (map shown ops.now) (layout_by rows)) (range_with_len 0 workers) v.shards.items) }
@@ -148,7 +149,7 @@ pub fn shards_at_once<R: Threads + Sync>(
         requires few { length ops.now ≤ 4096 }
         requires placed { All IsPlaced (map shown ops.now) }
         requires valid { All IsInRange ops.now }
-        requires few_old { length old.now ≤ 65536 }
+        requires few_old { length old.now ≤ most_names }
         requires old { (rows : ℕ → List BlockView) × AreOldRows (latest (map shown ops.now)) rows old.now }
         ensures shard { IfOk result (λ n. (rows : ℕ → List BlockView)
             → AreOldRows (latest (map shown ops.entry.now)) rows old.entry.now

@@ -17,8 +17,8 @@ use std::thread::Threads;
 
 /// Plans a batch over a version for so many workers: finds the version's old rows for the batch, and plans with them.
 ///
-/// `NamesFull` where the batch would leave more than 65,536 vertex names, else `KindsFull` where it would leave more than 64
-/// kinds, and `OutOfMemory` where a growth was refused.
+/// `NamesFull` where the batch would leave more vertex names than the limits allow, else `KindsFull` where it would leave
+/// more kinds, and `OutOfMemory` where a growth was refused.
 ///
 /// ```
 /// let plan = plan(alloc, &version, &batch, 4)?;

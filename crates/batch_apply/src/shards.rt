@@ -3,6 +3,7 @@
 ghost use Rattle.std.specs.Prelude.{◌≡◌, ◌≢◌, ◌+◌, ◌-◌, ◌≤◌, ◌<◌, ◌^◌, ℕ, List, length, map, min, IfOk, OnOk, All, AllPairs};
 ghost use Rattle.std.specs.Prelude.{[], IfSome, Some, nat_eq, position, slice_get};
 ghost use Rattle.std.specs.Option.{option_map};
+ghost use Rattle.graph_types.specs.Limits.{most_names};
 ghost use Rattle.indexmap.specs.IndexSet.{keys};
 ghost use Rattle.edge_block.specs.Slots.{BlockView};
 ghost use Rattle.edge_block.specs.Batches as layout;
@@ -210,7 +211,7 @@ pub fn shard_for(
     requires few { length ops.now ≤ 4096 }
     requires placed { All IsPlaced (map shown ops.now) }
     requires valid { All IsInRange ops.now }
-    requires few_old { length old.now ≤ 65536 }
+    requires few_old { length old.now ≤ most_names }
     requires old { (rows : ℕ → List BlockView) × AreOldRows (latest (map shown ops.now)) rows old.now }
     ensures shard { IfOk result (λ n. (rows : ℕ → List BlockView) → AreOldRows (latest (map shown ops.now)) rows old.now
         → IsShardOf workers (map shown ops.now) (layout_by rows) worker n.shard) }

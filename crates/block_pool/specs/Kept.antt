@@ -4,7 +4,7 @@ use Rattle.std.specs.Prelude.{◌≡◌, ◌<◌, ◌≤◌, ℕ, zero, suc, ◌
 use Rattle.std.specs.Prelude.{count_by, sum_by, slice_index, slice_index_or, slice_set, true, false, Option, None}
 use Rattle.block_pool.specs.{declared.numbers.{Numbers.Numbers, TheConstants.LATE}, Chains.{stack_of, below_top}}
 use Rattle.block_reclamation.specs.declared.{copies.{PinCopy.PinCopy, TheConstants.SEATS}, status.BlockStatus.BlockStatus}
-use Rattle.block_reclamation.specs.{declared.status.BlockStatus.TheVariants.Granted, Copies.reach_of, Status.{is_listed, is_free}}
+use Rattle.block_reclamation.specs.{declared.status.BlockStatus.TheVariants.Granted, Copies.reach_of, Status.{is_listed, is_free, most_blocks}}
 use Rattle.block_reclamation.specs.Status.{is_retired, is_reclaimable}
 
 abbrev pub statuses : Numbers → List BlockStatus
@@ -67,7 +67,7 @@ moved from to lists = put_on to (top_of (stack_of lists from)) (taken_off from l
 
 -- the list has the free numbers, and the stacks the retired ones
 pub record IsNumbers (n : Numbers) : Type 0 where
-  pub few : length n.statuses.items ≤ 65536
+  pub few : length n.statuses.items ≤ most_blocks
   pub free_room : length n.free.items ≡ length n.statuses.items
   pub bound : n.retired.bound ≡ length n.statuses.items
   pub seats : length n.pins ≡ SEATS

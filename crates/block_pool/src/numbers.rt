@@ -5,7 +5,7 @@ ghost use Rattle.std.specs.Prelude.{true, IfSome, slice_index_or, None, []};
 ghost use Rattle.block_reclamation.specs.Copies as copies;
 ghost use Rattle.block_pool.specs.Chains.{stack_of};
 ghost use Rattle.block_reclamation.specs.declared.status.BlockStatus.TheVariants.{Free, Granted, Used, Retired};
-ghost use Rattle.block_reclamation.specs.Status.{is_free, is_in_use, is_retired, is_reclaimable, recycled};
+ghost use Rattle.block_reclamation.specs.Status.{is_free, is_in_use, is_retired, is_reclaimable, most_blocks, recycled};
 ghost use Rattle.block_pool.specs.Pools.{marked, retired, is_in_use_at, is_used_at};
 ghost use Rattle.block_pool.specs.Kept.{status_of, popped, Lists, AreNeeded, HasPins, top_of, moved, taken_off};
 
@@ -61,7 +61,7 @@ impl Numbers {
 
     /// The numbers 0 to `count` - 1, all free.
     pub fn all_free(alloc: Global, count: u32) -> Result<Numbers, AllocError>
-        requires { count ≤ 65536 }
+        requires { count ≤ most_blocks }
         ensures kept { IfOk result (λ n. IsNumbers n) }
         ensures statuses { IfOk result (λ n. statuses n ≡ replicate count Free) }
     {
@@ -368,7 +368,6 @@ fn is_between(pin: Option<u64>, dates: Dates) -> bool
 
 /// The numbers from 0 to `count` - 1, in order.
 fn numbers_up_to(alloc: Global, count: u32) -> Result<Vec<u32>, AllocError>
-    requires { count ≤ 65536 }
     ensures listed { IfOk result (λ ns. Lists is_free (replicate count Free) ns.items) }
     ensures length { IfOk result (λ ns. length ns.items ≡ count) }
 {

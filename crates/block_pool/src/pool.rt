@@ -6,7 +6,7 @@ ghost use Rattle.std.specs.Arc.{arc_value};
 ghost use Rattle.edge_block.specs.declared.blocks.Block.{Block};
 ghost use Rattle.block_pool.specs.Pools.{retired, is_in_use_at, marked, changed, AreFree, is_used_at};
 ghost use Rattle.block_reclamation.specs.declared.status.BlockStatus.TheVariants.{Free, Granted, Used};
-ghost use Rattle.block_reclamation.specs.Status.{is_free, is_in_use, is_retired, is_reclaimable, recycled};
+ghost use Rattle.block_reclamation.specs.Status.{is_free, is_in_use, is_retired, is_reclaimable, most_blocks, recycled};
 ghost use Rattle.block_pool.specs.Kept.{statuses, popped, IsNumbers};
 ghost use Rattle.block_pool.specs.Pools.{AreBodies};
 
@@ -79,12 +79,12 @@ impl From<AllocError> for GrantError {
 }
 
 impl Pool {
-    /// A pool of so many blocks, 16 to 65,536, all free. It takes all the memory that the other calls need, but for
+    /// A pool of so many blocks, 16 to 4,294,963,199, all free. It takes all the memory that the other calls need, but for
     /// the two lists of a grant and the bodies of blocks that it grants for the first time or that were given up. That
     /// is some 40 bytes a block, 4 of them the link of its stack while it is retired.
     pub fn new(alloc: Global, blocks: u32) -> Result<Pool, AllocError>
         requires least { 16 ≤ blocks }
-        requires most { blocks ≤ 65536 }
+        requires most { blocks ≤ most_blocks }
         ensures { IfOk result (λ pool. pool ≡ replicate blocks Free) }
     {
         Ok(Pool {
@@ -97,7 +97,7 @@ impl Pool {
     /// How many blocks are free.
     pub fn free(&self) -> u32
         ensures count { result ≡ count_by is_free self.now }
-        ensures few { length self.now ≤ 65536 }
+        ensures few { length self.now ≤ most_blocks }
     {
         self.numbers.free() as u32
     }
@@ -105,7 +105,7 @@ impl Pool {
     /// How many blocks are retired.
     pub fn retired(&self) -> u32
         ensures count { result ≡ count_by is_retired self.now }
-        ensures few { length self.now ≤ 65536 }
+        ensures few { length self.now ≤ most_blocks }
     {
         self.numbers.retired() as u32
     }
@@ -190,7 +190,6 @@ impl Pool {
 /// No body for any number: each is made at its first grant, so that an opening costs little where few blocks are used, and
 /// a block is written while it is still in the cache.
 fn no_bodies(alloc: Global, count: u32) -> Result<Vec<Option<Arc<Block>>>, AllocError>
-    requires { count ≤ 65536 }
     ensures { IfOk result (λ bodies. AreBodies count bodies.items) }
 {
     let mut bodies = Vec::with_capacity(alloc, count as usize)?;

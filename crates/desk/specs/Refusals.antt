@@ -1,6 +1,6 @@
 -- When the desk refuses a batch.
 use Rattle.std.specs.{Prelude.{◌≡◌, ℕ, ◌+◌, ◌<◌, ◌≤◌, if◌then◌else◌, List, length}, List.list_any}
-use Rattle.graph_types.specs.{Limits.batch_limit, Graph.Graph, Step.is_expire, declared.batches.NamedOp.NamedOp}
+use Rattle.graph_types.specs.{Graph.Graph, Step.is_expire, declared.batches.NamedOp.NamedOp}
 use Rattle.graph_version.specs.{Rows.blocks_of, Rows.row_of, Versions.VersionView, Versions.content}
 use Rattle.batch_apply.specs.{Planned.IsPlan, Planned.IsPlanRefusal, Planned.MeetsNeitherLimit, declared.plans.Plan.Plan}
 use Rattle.desk.specs.declared.errors.ApplyError.{ApplyError}
@@ -28,17 +28,17 @@ pub record Attempt : Type 0 where
 -- When a batch is refused, for the first of these that holds: behind so many batches; where it would leave more names or more
 -- kinds than the limits; where it asks for more blocks than are free. Want of memory may come at any place.
 abbrev pub BatchRefusal : Attempt → ApplyError → Type 0
-BatchRefusal a BatchLimit = batch_limit ≤ a.batches
-BatchRefusal a NamesFull = (a.batches < batch_limit) × IsPlanRefusal plan.NamesFull a.ops a.graph
-BatchRefusal a KindsFull = (a.batches < batch_limit) × IsPlanRefusal plan.KindsFull a.ops a.graph
+BatchRefusal a BatchLimit = a.graph.limits.batches ≤ a.batches
+BatchRefusal a NamesFull = (a.batches < a.graph.limits.batches) × IsPlanRefusal plan.NamesFull a.ops a.graph
+BatchRefusal a KindsFull = (a.batches < a.graph.limits.batches) × IsPlanRefusal plan.KindsFull a.ops a.graph
 BatchRefusal a (PoolEmpty needed left) =
-    (a.batches < batch_limit) × MeetsNeitherLimit a.ops a.graph × (needed ≡ asked a.ops a.used) × (left ≡ a.free)
+    (a.batches < a.graph.limits.batches) × MeetsNeitherLimit a.ops a.graph × (needed ≡ asked a.ops a.used) × (left ≡ a.free)
     × (a.free < asked a.ops a.used)
 BatchRefusal a OutOfMemory = Unit {0}
 
 -- no refusal but want of memory holds
 pub record IsAdmissible (a : Attempt) : Type 0 where
-  pub few : a.batches < batch_limit
+  pub few : a.batches < a.graph.limits.batches
   pub limits : MeetsNeitherLimit a.ops a.graph
   pub blocks : asked a.ops a.used ≤ a.free
 
@@ -55,7 +55,7 @@ IsWithin v free ops = IsAdmissible (attempt_on v free ops)
 
 -- a batch that the version's limits admit, and its plan for so many workers
 pub record IsPlanned (v : VersionView) (workers : ℕ) (ops : List NamedOp) (plan : Plan) : Type 0 where
-  pub few : length v.batches < batch_limit
+  pub few : length v.batches < (content v).limits.batches
   pub limits : MeetsNeitherLimit ops (content v)
   pub some : 0 < workers
   pub planned : IsPlan workers ops (content v) (row_of v.rows) plan

@@ -5,14 +5,13 @@ ghost use Rattle.std.specs.Prelude.{◌≡◌, ◌≢◌, ◌+◌, ◌<◌, ◌�
 ghost use Rattle.std.specs.Prelude.{AllPairs, All, false, count_by, vec_capacity, vec_len};
 ghost use Rattle.std.specs.List.{sum_by};
 ghost use Rattle.std.specs.Arc.{arc_value};
-ghost use Rattle.graph_types.specs.Limits.{batch_limit};
 ghost use Rattle.graph_version.specs.Rows as rows;
 ghost use Rattle.graph_version.specs.Batches.{batch_value};
-ghost use Rattle.graph_version.specs.Versions.{VersionView};
+ghost use Rattle.graph_version.specs.Versions.{VersionView, content};
 ghost use Rattle.batch_apply.specs.Applied.{IsApplied};
 ghost use Rattle.batch_shards.specs.RowBlocks.{numbers_of};
 ghost use Rattle.graph_version.specs.declared.versions.Version.{Version};
-ghost use Rattle.block_reclamation.specs.Status.{is_listed, is_free, is_in_use};
+ghost use Rattle.block_reclamation.specs.Status.{is_listed, is_free, is_in_use, most_blocks};
 ghost use Rattle.block_pool.specs.Pools.{AreFree, marked};
 ghost use Rattle.block_reclamation.specs.declared.status.BlockStatus.TheVariants.{Granted};
 ghost use Rattle.desk.specs.Applying.{IsPrepared};
@@ -33,7 +32,7 @@ pub(crate) fn plan_next(alloc: Global, last: &Version, batch: &Batch) -> Result<
     ensures planned { IfOk result (IsPlanned last.now 1 batch.now) }
     ensures refused { IfErr result (λ e. (free : ℕ) → Refuses last.now free batch.now e) }
 {
-    if last.number() >= 65_536 {
+    if last.number() >= u64::from(last.limits().batches()) {
         return Err(ApplyError::BatchLimit);
     }
     match plan(alloc, last, batch, 1) {
@@ -46,7 +45,7 @@ pub(crate) fn plan_next(alloc: Global, last: &Version, batch: &Batch) -> Result<
 
 /// How many blocks a batch asks for behind a version that uses so many.
 fn asked_by(batch: &Batch, used: u32) -> u32
-    requires { used ≤ 65536 }
+    requires { used ≤ most_blocks }
     ensures { result ≡ asked batch.now used }
 {
     let more = if batch.has_expire() { used } else { 0 };
@@ -82,7 +81,6 @@ pub(crate) fn grant_blocks(pool: &mut Pool, batch: &Batch, plan: &Plan) -> Resul
 
 /// The number of the version after this one.
 pub(crate) fn next_number(last: &Version) -> u64
-    requires { length last.now.batches < batch_limit }
     ensures { result ≡ length last.now.batches + 1 }
 {
     last.number() + 1

@@ -8,10 +8,10 @@ ghost use Rattle.graph_types.specs.Coded.{graph_code};
 ghost use Rattle.graph_types.specs.Step.{outcomes};
 ghost use Rattle.graph_version.specs.Batches.{batch_value};
 ghost use Rattle.graph_version.specs.declared.versions.Version.{Version};
-ghost use Rattle.graph_version.specs.Versions.{content, empty_version};
+ghost use Rattle.graph_version.specs.Versions.{content, empty_version, empty_version_in};
 ghost use Rattle.graph_version.specs.Rebased.{IsRebased};
 ghost use Rattle.graph_version.specs.Kept.{edge_total};
-ghost use Rattle.block_reclamation.specs.Status.{is_free, is_in_use, is_retired, is_reclaimable};
+ghost use Rattle.block_reclamation.specs.Status.{is_free, is_in_use, is_retired, is_reclaimable, most_blocks};
 ghost use Rattle.block_reclamation.specs.Copies.{floor_of};
 ghost use Rattle.store_steps.specs.Desks.{IsDesk, IsCollected, births_in, collections};
 ghost use Rattle.store_steps.specs.Dates.{AreDated};
@@ -32,7 +32,7 @@ use batch_apply::{Plan, apply_alone};
 use block_pool::Pool;
 use block_reclamation::PinCopy;
 use core::mem::replace_with;
-use graph_types::{Batch, List};
+use graph_types::{Batch, Limits, List};
 use graph_version::Version;
 use std::alloc::{AllocError, Global};
 use std::marker::Model;
@@ -103,13 +103,23 @@ pub struct Stat {
 }
 
 impl Desk {
-    /// A desk without edges, with so many blocks, all free: version 0, and an empty journal.
+    /// A desk without edges, with so many blocks, all free: version 0, and an empty journal. The limits are the standard ones.
     pub fn open(alloc: Global, blocks: u32) -> Result<Desk, AllocError>
         requires least { 16 ≤ blocks }
-        requires most { blocks ≤ 65536 }
+        requires most { blocks ≤ most_blocks }
         ensures { IfOk result (λ d. d ≡ opened_desk blocks empty_version) }
     {
-        Ok(Desk::opened(alloc, blocks, Zero::blank(alloc, blocks)?))
+        Desk::open_within(alloc, Limits::standard(), blocks)
+    }
+
+    /// As `open`, under these limits.
+    pub fn open_within(alloc: Global, limits: Limits, blocks: u32) -> Result<Desk, AllocError>
+        requires least { 16 ≤ blocks }
+        requires most { blocks ≤ most_blocks }
+        ensures { IfOk result (λ d. d ≡ opened_desk blocks (empty_version_in limits)) }
+    {
+        let zero = Zero::blank(alloc, limits, blocks)?;
+        Ok(Desk::opened(alloc, blocks, zero))
     }
 
     /// A desk with what a version holds, for which it copies the version's blocks: version 0 begins with the version's content,
@@ -118,7 +128,7 @@ impl Desk {
     /// `PoolEmpty` exactly where the version has more blocks than the desk.
     pub fn open_over(alloc: Global, blocks: u32, version: &Version) -> Result<Desk, OpenError>
         requires least { 16 ≤ blocks }
-        requires most { blocks ≤ 65536 }
+        requires most { blocks ≤ most_blocks }
         ensures zero { IfOk result (λ d. IsVersionZero blocks d.last) }
         ensures rebased { IfOk result (λ d. IsRebased version.now d.last) }
         ensures desk { IfOk result (λ d. d ≡ opened_desk blocks d.last) }
@@ -189,9 +199,9 @@ impl Desk {
     /// Plans a batch and makes the next version, by the caller alone, with all the memory that its acceptance takes; or refuses
     /// the batch, and gives the desk back as it was. Who wants a refused batch back keeps a shared copy of it.
     ///
-    /// Refused are, in this order: a batch after 65,536 others, one that would leave more than 65,536 vertex names, one
-    /// that would leave more than 64 kinds, and one that asks for more blocks than are free. Want of memory refuses it
-    /// too, at any place.
+    /// Refused are, in this order: a batch behind as many as the limits allow, one that would leave more vertex names than
+    /// these, one that would leave more kinds, and one that asks for more blocks than are free. Want of memory refuses it too,
+    /// at any place.
     ///
     /// ```
     /// let desk = match desk.begin(batch) {
@@ -305,7 +315,7 @@ impl Desk {
     /// How many blocks the desk has.
     pub fn blocks(&self) -> u32
         ensures count { result ≡ length self.now.pool }
-        ensures limits { (16 ≤ result) × (result ≤ 65536) }
+        ensures limits { (16 ≤ result) × (result ≤ most_blocks) }
     {
         self.parts.pool.free() + self.parts.pool.used() + self.parts.pool.retired()
     }

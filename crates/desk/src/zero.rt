@@ -3,14 +3,15 @@
 ghost use Rattle.std.specs.Prelude.{◌≡◌, ◌≤◌, IfOk};
 ghost use Rattle.std.specs.Arc.{arc_value};
 ghost use Rattle.graph_version.specs.declared.versions.Version.{Version};
-ghost use Rattle.graph_version.specs.Versions.{empty_version};
+ghost use Rattle.block_reclamation.specs.Status.{most_blocks};
+ghost use Rattle.graph_version.specs.Versions.{empty_version_in};
 ghost use Rattle.graph_version.specs.Rebased.{IsRebased};
 ghost use Rattle.desk.specs.Openings.{OpensWith};
 ghost use Rattle.desk.specs.Refusals.{block_count};
 
 use crate::moves::born_blocks;
 use block_pool::{Grant, Pool};
-use graph_types::List;
+use graph_types::{Limits, List};
 use graph_version::Version;
 use std::alloc::{AllocError, Global};
 use std::sync::Arc;
@@ -24,15 +25,15 @@ pub(crate) struct Zero {
 }
 
 impl Zero {
-    /// The version without batches and blocks, and a pool whose blocks are all free.
-    pub(crate) fn blank(alloc: Global, blocks: u32) -> Result<Zero, AllocError>
+    /// The version without batches and blocks, under these limits, and a pool whose blocks are all free.
+    pub(crate) fn blank(alloc: Global, limits: Limits, blocks: u32) -> Result<Zero, AllocError>
         requires least { 16 ≤ blocks }
-        requires most { blocks ≤ 65536 }
+        requires most { blocks ≤ most_blocks }
         ensures opens { IfOk result (OpensWith blocks) }
-        ensures version { IfOk result (λ zero. arc_value {X = Version} zero.version ≡ empty_version) }
+        ensures version { IfOk result (λ zero. arc_value {X = Version} zero.version ≡ empty_version_in limits) }
     {
         Ok(Zero {
-            version: Arc::new(alloc, Version::empty(alloc))?,
+            version: Arc::new(alloc, Version::empty_within(alloc, limits))?,
             numbers: List::of(Vec::new(alloc)),
             pool: Pool::new(alloc, blocks)?,
         })
@@ -41,7 +42,7 @@ impl Zero {
     /// A version that begins with what this one holds, over copies of its blocks.
     pub(crate) fn over(alloc: Global, blocks: u32, version: &Version) -> Result<Zero, AllocError>
         requires least { 16 ≤ blocks }
-        requires most { blocks ≤ 65536 }
+        requires most { blocks ≤ most_blocks }
         requires room { block_count version.now ≤ blocks }
         ensures opens { IfOk result (OpensWith blocks) }
         ensures rebased { IfOk result (λ zero. IsRebased version.now (arc_value {X = Version} zero.version)) }

@@ -4,6 +4,7 @@ use Rattle.std.proofs.{Common.{ap, subst, ◌∙◌, arith}, lemmas.{Bool.{eq-eq
 use Rattle.std.{proofs.lemmas.List.length-replicate, specs.{List.AllZip, Prelude.{if◌then◌else◌, ◌==◌, is_some}}}
 use Rattle.std.specs.{Option.{option_map, option_to_list, unwrap_or, option_and_then}, declared.option.Option.Option}
 use Rattle.std.specs.declared.option.Option.TheVariants.{None, Some}
+use Rattle.graph_types.specs.Graph.{unlimited}
 use Rattle.graph_types.specs.{Graph.Graph, declared.ids.Edge.Edge, declared.requests.Request.Request}
 use Rattle.epoch_core.specs.declared.{states.{Version.Version, Opening.Opening}, session_states.SessionState.SessionState}
 use Rattle.epoch_core.specs.declared.events.Event.{Event, TheVariants.{Reply, Release, Take, Fill, Post, Floor, Recycle, Pin}}
@@ -25,7 +26,7 @@ question_on g request = record { request = request; graph = g }
 -- the questions of the holding that goes on
 abbrev here : Opening → List Version → Option ℕ → List Observation → List Question
 here opening versions None rest = []
-here opening versions (Some n) rest = map (question_on (graph_at opening versions n)) (answered_first rest)
+here opening versions (Some n) rest = map (question_on (unlimited (graph_at opening versions n))) (answered_first rest)
 
 -- all questions that are still to come
 abbrev owed : Opening → List Version → Option ℕ → List Observation → List Question
@@ -111,7 +112,7 @@ calm_accounts s w new rest b sound calm = calm_owed s w new rest sound calm ∙ 
 
 -- an Enter
 entering : (s : ℕ) (w : World) (p q : SessionState) (rest : List Observation) → to_enter (last_number w) p ≡ Some q
-    → owed w.opening w.versions (held_in q) rest ≡ owed w.opening w.versions (held_in p) (Entered (last_graph w) ∷ rest)
+    → owed w.opening w.versions (held_in q) rest ≡ owed w.opening w.versions (held_in p) (Entered (unlimited (last_graph w)) ∷ rest)
 entering s w p q rest is = grind (arith, common_steps)
 
 -- a Release
@@ -212,7 +213,7 @@ accounts s w (Recycle b) rest sound = calm_accounts s w _ rest (is_done w (Recyc
     (calm_status s w (changed_at (reclaimed w.copy) w.status b))
 accounts s w (Pin t) rest sound = calm_accounts s w _ rest (is_done w (Pin t)) sound
     (calm_move s t w (to_pin w.floor) (same_pin w.floor))
-accounts s w (Enter t) rest sound = seen_move s t w (to_enter (last_number w)) (Entered (last_graph w) ∷ []) rest sound
+accounts s w (Enter t) rest sound = seen_move s t w (to_enter (last_number w)) (Entered (unlimited (last_graph w)) ∷ []) rest sound
     (λ p q is. entering s w p q rest is)
 accounts s w (Settle t) rest sound = calm_accounts s w _ rest (is_done w (Settle t)) sound (calm_move s t w to_settle same_settle)
 accounts s w (Ask t request) rest sound = calm_accounts s w _ rest (is_done w (Ask t request)) sound

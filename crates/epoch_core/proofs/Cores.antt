@@ -2,12 +2,13 @@
 use Rattle.std.proofs.Common.{◌≡◌, ℕ, zero, suc, ◌+◌, ◌≤◌, min, inl, inr, List, [], ◌∷◌, ◌++◌, length, refl, sym, ap, subst, ◌∙◌}
 use Rattle.std.{proofs.{Common.arith, lemmas.{Bool.cases_eq, List.length-replicate}}, specs.Prelude.{if◌then◌else◌, is_some}}
 use Rattle.std.specs.{Option.unwrap_or, declared.option.Option.{Option, TheVariants.{None, Some}}}
+use Rattle.graph_types.specs.Limits.{LimitsView}
 use Rattle.graph_types.specs.{declared.batches.NamedOp.NamedOp, declared.contents.Content.Content}
 use Rattle.graph_types.proofs.Empty.{empty_content as empty_is_content}
 use Rattle.epoch_core.specs.declared.{states.{Version.Version, Opening.Opening}, step.Step.Step}
 use Rattle.epoch_core.specs.{declared.{session_states.SessionState.TheVariants.Idle, events.Event.Event}, Versions.IsContentGraph}
 use Rattle.epoch_core.specs.{Versions.graph_at, Posting.{graph_after, version_by}, Machine.{Replies, step}, Worlds.Answer}
-use Rattle.epoch_core.specs.{Worlds.{HasContents, MachineState, World, empty_opening, start}, Runs.{AllReplies, Runs, Steps}}
+use Rattle.epoch_core.specs.{Worlds.{HasContents, MachineState, World, empty_opening_in, start_in}, Runs.{AllReplies, Runs, Steps}}
 use Rattle.epoch_core.specs.{Runs.{count_of, done_in, is_done, next_world, run}, Sound.{IsCore, IsSound}, Blocks.Stepped}
 use Rattle.epoch_core.proofs.{Sizes.size_next, Changes.{graph_before, graph_next, length_next}, Steps.{sound_next, sound_start}}
 use Rattle.epoch_core.proofs.{Steps.start_is_start, Answering.{Adds, asked, adds}}
@@ -96,14 +97,18 @@ capped_more old new before after more bound e f g = omega arith
 abbrev empty_content : Content
 empty_content = record { names = []; kinds = []; edges = [] }
 
-no_contents : (n : ℕ) → n ≤ 0 → IsContentGraph (graph_at empty_opening [] n)
-no_contents zero h = (empty_content, empty_is_content, refl)
-no_contents (suc n) h = absurd (omega arith)
+no_contents : (limits : LimitsView) (n : ℕ) → n ≤ 0 → IsContentGraph (graph_at (empty_opening_in limits) [] n)
+no_contents limits zero h = (
+  empty_content,
+  record { content = empty_is_content; names_few = omega arith; kinds_few = omega arith },
+  refl,
+)
+no_contents limits (suc n) h = absurd (omega arith)
 
-pub core_start : (sessions blocks : ℕ) → sessions ≤ 16 → IsCore (start sessions blocks)
-core_start sessions blocks few = record {
-  sound = sound_start (start sessions blocks) (start_is_start sessions blocks);
-  contents = no_contents;
+pub core_start : (limits : LimitsView) (sessions blocks : ℕ) → sessions ≤ 16 → IsCore (start_in limits sessions blocks)
+core_start limits sessions blocks few = record {
+  sound = sound_start (start_in limits sessions blocks) (start_is_start limits sessions blocks);
+  contents = no_contents limits;
   few = omega (arith, few, length-replicate sessions Idle);
   replies = length-replicate sessions [] ∙ sym (length-replicate sessions Idle);
 }

@@ -2,6 +2,7 @@
 use Rattle.std.proofs.Common.{◌≡◌, ℕ, true, false, cond, List, [], ◌∷◌, refl, sym, ap, ◌∙◌, arith, pos, negsuc, length}
 use Rattle.std.{proofs.lemmas.Grind.common_steps, specs.Ordering.eq_by_cmp, specs.declared.option.Option.TheVariants.Some}
 use Rattle.std.specs.{Prelude.ℤ, FinMap.{FinMap, get, insert, empty, get-empty, get-insert, same_map}}
+use Rattle.graph_types.specs.Limits.{standard_limits}
 use Rattle.graph_types.specs.{Graph.{Graph, Key, Stamp, key_cmp}, Step.{after_all, set_at, stamp_after}, declared.ids.Edge.Edge}
 use Rattle.graph_types.specs.declared.{batches.NamedOp.NamedOp, changes.EdgeChange.TheVariants.{Insert, Incr}}
 use Rattle.graph_types.proofs.Keys.{keys_total, exact_keys, once_none, once_cons, HasKeysOnce}
@@ -27,7 +28,7 @@ abbrev one_edge : Stamp → FinMap key_cmp Stamp
 one_edge s = insert nothing key s
 
 abbrev with_edges : FinMap key_cmp Stamp → Graph
-with_edges edges = record { names = name_a ∷ name_b ∷ []; kinds = kind_k ∷ []; edges = edges }
+with_edges edges = record { names = name_a ∷ name_b ∷ []; kinds = kind_k ∷ []; edges = edges; limits = standard_limits }
 
 abbrev graph_of_edge : Stamp → Graph
 graph_of_edge s = with_edges (one_edge s)

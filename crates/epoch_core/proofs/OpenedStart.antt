@@ -6,9 +6,9 @@ use Rattle.std.proofs.lemmas.List.Elements.{All-nil, All-cons}
 use Rattle.std.specs.{Prelude.slice_get, List.flat_map, declared.option.Option.TheVariants.Some}
 use Rattle.epoch_core.{proofs.PostRule.differ_head, proofs.Lists.set_same, proofs.Lists.set_else, specs.Sound.IsCore}
 use Rattle.epoch_core.specs.{Versions.AreEdgesOf, Versions.edges_at, declared.session_states.SessionState.TheVariants.Idle}
-use Rattle.epoch_core.specs.Opened.{Lists, numbers_in, heap_with, status_with, opened_state, IsOpening}
+use Rattle.epoch_core.specs.Opened.{Lists, numbers_in, heap_with, status_with, opened_state_in, IsOpeningIn}
 use Rattle.epoch_core.{specs.Worlds.IsStart, specs.Worlds.HasContents, proofs.Steps.sound_start, proofs.Steps.free_at}
-use Rattle.graph_types.{proofs.Counts.apart_tail, specs.{Graph.graph_of, declared.{ids.Edge.Edge, contents.Content.Content}}}
+use Rattle.graph_types.{proofs.Counts.apart_tail, specs.{Graph.graph_in, Limits.LimitsView, declared.{ids.Edge.Edge, contents.Content.Content}}}
 use Rattle.block_reclamation.specs.{declared.status.BlockStatus.{BlockStatus, TheVariants.{Free, Used}}, Status.is_listed}
 
 length-heap_with : (lists : Lists) (heap : List (List Edge)) → length (heap_with lists heap) ≡ length heap
@@ -67,19 +67,20 @@ numbers_within blocks (l ∷ lists) within =
     All-cons (λ b. b < blocks) l.0 (numbers_in lists) (All-head In l lists within)
     (numbers_within blocks lists (All-tail In l lists within))
 
-module _ (sessions blocks : ℕ) (content : Content) (lists : Lists) (is : IsOpening blocks content lists) where
+module _ (limits : LimitsView) (sessions blocks : ℕ) (content : Content) (lists : Lists)
+    (is : IsOpeningIn limits blocks content lists) where
   long_status : length (status_with lists (replicate blocks Free)) ≡ blocks
   long_status = length-status_with lists (replicate blocks Free) ∙ length-replicate blocks Free
 
   long_heap : length (heap_with lists (replicate blocks [])) ≡ blocks
   long_heap = length-heap_with lists (replicate blocks []) ∙ length-replicate blocks []
 
-  pub opened_is_start : IsStart (opened_state sessions blocks content lists)
+  pub opened_is_start : IsStart (opened_state_in limits sessions blocks content lists)
   opened_is_start = record {
     alone = refl;
     within = subst (λ n. All (λ b. b < n) (numbers_in lists)) (sym long_status) (numbers_within blocks lists is.within);
     different = is.different;
-    shown = subst (λ edges. AreEdgesOf edges (graph_of content))
+    shown = subst (λ edges. AreEdgesOf edges (graph_in limits content))
         (sym (heap_all lists (replicate blocks [])
         (subst (λ n. All (λ l. l.0 < n) lists) (sym (length-replicate blocks [])) is.within) is.different)) is.shown;
     status = λ b low. let h : b < blocks = omega (arith, low, long_status) in
@@ -91,13 +92,13 @@ module _ (sessions blocks : ℕ) (content : Content) (lists : Lists) (is : IsOpe
     replies = ap (λ n. replicate n []) (sym (length-replicate sessions Idle));
   }
 
-  opened_contents : HasContents (record { content = content; blocks = numbers_in lists }) []
+  opened_contents : HasContents (record { content = content; blocks = numbers_in lists; limits = limits }) []
   opened_contents zero h = (content, is.content_is, refl)
   opened_contents (suc n) h = absurd (omega arith)
 
-  pub opened_is_core : sessions < 17 → IsCore (opened_state sessions blocks content lists)
+  pub opened_is_core : sessions < 17 → IsCore (opened_state_in limits sessions blocks content lists)
   opened_is_core few = record {
-    sound = sound_start (opened_state sessions blocks content lists) opened_is_start;
+    sound = sound_start (opened_state_in limits sessions blocks content lists) opened_is_start;
     contents = opened_contents;
     few = omega (arith, few, length-replicate sessions Idle);
     replies = length-replicate sessions [] ∙ sym (length-replicate sessions Idle);

@@ -4,9 +4,9 @@ use Rattle.std.proofs.{Common.{arith, eqb, leb}, lemmas.{Grind.common_steps, Boo
 use Rattle.std.proofs.lemmas.{Bool.Decides.{Decides-not, Decides-like, Decides-by_and, Decides-eqb}, List.Kept.AllPairs-cons}
 use Rattle.std.specs.Prelude.{slice_get, if◌then◌else◌, is_some, All, AllPairs, IsTrue}
 use Rattle.std.specs.declared.option.Option.{Option, TheVariants.None, TheVariants.Some}
-use Rattle.graph_types.proofs.Counts.{apart_tail}
-use Rattle.graph_types.specs.{Limits.batch_limit, Limits.name_limit, Limits.kind_limit, declared.batches.NamedOp.NamedOp}
-use Rattle.epoch_core.specs.{Blocks.all_differ, declared.events.Event.TheVariants.Post, Worlds.{World, last_blocks, last_number}}
+use Rattle.graph_types.{proofs.Counts.apart_tail, specs.Step.{MeetsNameLimit, MeetsKindLimit}}
+use Rattle.graph_types.{specs.declared.batches.NamedOp.NamedOp, proofs.LimitsKept.limits_after_all}
+use Rattle.epoch_core.specs.{Blocks.all_differ, declared.events.Event.TheVariants.Post, Worlds.{World, last_blocks, last_graph, last_number}}
 use Rattle.epoch_core.specs.{Runs.is_done, Posting.{all_listable, can_post, graph_after, is_listable}, Versions.edges_of}
 use Rattle.epoch_core.{specs.Posts.{MayPost, posted}, proofs.{Lists.{and_left, and_right, neither}, Edges.Decides-edges}}
 use Rattle.block_reclamation.specs.declared.status.BlockStatus.{BlockStatus, TheVariants.Granted}
@@ -42,6 +42,21 @@ Decides-differ (b ∷ bs) =
 Decides-within : (n most : ℕ) → Decides (leb n most) ((most < n) → ⊥)
 Decides-within n most = grind (arith, common_steps)
 
+-- the limits of what a batch leaves are those of what was there before
+within_names : (w : World) (batch : List NamedOp)
+    → Decides (leb (length (graph_after w.opening w.versions batch).names) (graph_after w.opening w.versions batch).limits.names)
+    (MeetsNameLimit batch (last_graph w) → ⊥)
+within_names w batch =
+    rw (limits_after_all batch (last_graph w)) (Decides-within (length (graph_after w.opening w.versions batch).names)
+    (last_graph w).limits.names)
+
+within_kinds : (w : World) (batch : List NamedOp)
+    → Decides (leb (length (graph_after w.opening w.versions batch).kinds) (graph_after w.opening w.versions batch).limits.kinds)
+    (MeetsKindLimit batch (last_graph w) → ⊥)
+within_kinds w batch =
+    rw (limits_after_all batch (last_graph w)) (Decides-within (length (graph_after w.opening w.versions batch).kinds)
+    (last_graph w).limits.kinds)
+
 pub Decides-post : (w : World) (batch : List NamedOp) (blocks : List ℕ)
     → Decides (can_post w.opening w.heap w.status w.versions batch blocks) (MayPost w batch blocks)
 Decides-post w batch blocks =
@@ -50,10 +65,9 @@ Decides-post w batch blocks =
     (λ may. ((((may.few, may.listable), may.different), (may.names, may.kinds)), may.shown))
     (Decides-and _ _
     (Decides-and _ _
-    (Decides-and _ _ (Decides-and _ _ (Decides-ltb (last_number w) batch_limit)
+    (Decides-and _ _ (Decides-and _ _ (Decides-ltb (last_number w) w.opening.limits.batches)
     (Decides-listable w.status (last_blocks w) blocks)) (Decides-differ blocks))
-    (Decides-and _ _ (Decides-within (length (graph_after w.opening w.versions batch).names) name_limit)
-    (Decides-within (length (graph_after w.opening w.versions batch).kinds) kind_limit)))
+    (Decides-and _ _ (within_names w batch) (within_kinds w batch)))
     (Decides-edges (graph_after w.opening w.versions batch) (edges_of w.heap blocks)))
 
 pub listable_of : (w : World) (batch : List NamedOp) (blocks : List ℕ)

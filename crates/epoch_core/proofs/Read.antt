@@ -1,13 +1,16 @@
 -- What is read of a version is a content.
-use Rattle.std.proofs.Common.{◌≡◌, ◌≢◌, ℕ, ◌<◌, ◌≤◌, List, length, get_or, sym, ap, subst, ◌∙◌, arith}
+use Rattle.graph_types.specs.{Step.is_within_limits, declared.contents.Content.Content}
+use Rattle.std.proofs.lemmas.Bool.{le-leb}
+use Rattle.std.proofs.Common.{true, ◌&&◌, refl, ap₂, ◌≡◌, ◌≢◌, ℕ, ◌*◌, ◌<◌, ◌≤◌, List, length, get_or, sym, ap, subst, ◌∙◌, arith}
 use Rattle.std.{specs.Prelude.AllPairs, specs.FinMap.get, proofs.lemmas.List.take_all}
-use Rattle.graph_types.specs.Graph.{Graph, key_of, stamp_of, map_of, IsContent, IsEdgeWithin, IsWeight, IsTime}
+use Rattle.graph_types.specs.Graph.{Graph, key_of, stamp_of, map_of, graph_in, IsContent, IsContentIn, IsEdgeWithin, IsWeight, IsTime}
+use Rattle.graph_types.{specs.Limits.{LimitsView, most_names, most_kinds, most_places}, proofs.LimitsKept.limits_left_by}
 use Rattle.graph_types.{specs.declared.ids.Edge.Edge, proofs.Keys.get_is, proofs.Keys.get_listed, proofs.Keys.find_listed}
 use Rattle.epoch_core.specs.declared.{states.Version.Version, session_states.SessionState.SessionState}
 use Rattle.epoch_core.specs.{Posting.last_content, Machine.ReadsContent, Sound.IsNamed, Sound.IsSessionSound, Sound.IsSound}
 use Rattle.epoch_core.specs.declared.session_states.SessionState.TheVariants.{Idle, Pinned, Holding, Asking}
 use Rattle.epoch_core.specs.Worlds.{HasContents, World, last_blocks, last_graph, last_number, session_of}
-use Rattle.epoch_core.specs.Versions.{IsContentGraph, AreEdgesOf, blocks_at, content_with, edges_of, graph_at, version_at}
+use Rattle.epoch_core.specs.Versions.{IsContentGraph, AreEdgesOf, opening_graph, batches_at, blocks_at, content_with, edges_of, graph_at, version_at}
 
 same_within : (n m : ℕ) (x e : Edge) → key_of e ≡ key_of x → stamp_of e ≡ stamp_of x → IsEdgeWithin n m x → IsEdgeWithin n m e
 same_within n m x e key stamp w = record {
@@ -21,16 +24,19 @@ same_within n m x e key stamp w = record {
 
 -- edges that show a content's graph are a content with its names and kinds
 pub is_content : (v : Version) (es : List Edge) (g : Graph) → IsContentGraph g → v.names ≡ g.names → v.kinds ≡ g.kinds
-    → AreEdgesOf es g → IsContent (content_with v es)
-is_content v es g (c, is, same) names kinds shows =
+    → AreEdgesOf es g → IsContentIn g.limits (content_with v es)
+is_content v es g (c, within, same) names kinds shows =
+    let is : IsContent c = within.content in
     let ns : v.names ≡ c.names = names ∙ sym (ap (λ h. h.names) same) in
     let ks : v.kinds ≡ c.kinds = kinds ∙ sym (ap (λ h. h.kinds) same) in
     let map : map_of es ≡ map_of c.edges = shows.same ∙ sym (ap (λ h. h.edges) same) in
-    record {
+    let content : IsContent (content_with v es) = record {
       names_distinct = subst (λ xs. AllPairs ◌≢◌ xs) (sym ns) is.names_distinct;
       kinds_distinct = subst (λ xs. AllPairs ◌≢◌ xs) (sym ks) is.kinds_distinct;
-      names_few = subst (λ xs. length xs ≤ 65536) (sym ns) is.names_few;
-      kinds_few = subst (λ xs. length xs ≤ 64) (sym ks) is.kinds_few;
+      names_few = subst (λ xs. length xs ≤ most_names) (sym ns) is.names_few;
+      kinds_few = subst (λ xs. length xs ≤ most_kinds) (sym ks) is.kinds_few;
+      places_few = subst (λ n. n * length v.kinds ≤ most_places) (ap length (sym ns))
+          (subst (λ m. length c.names * m ≤ most_places) (ap length (sym ks)) is.places_few);
       keys_distinct = shows.once;
       edges_within = λ k d h.
           let e : Edge = get_or es k d in
@@ -40,15 +46,21 @@ is_content v es g (c, is, same) names kinds shows =
           subst (IsEdgeWithin (length c.names) (length c.kinds)) at (is.edges_within i x low) in
           subst (λ n. IsEdgeWithin n (length v.kinds) e) (ap length (sym ns))
           (subst (λ m. IsEdgeWithin (length c.names) m e) (ap length (sym ks)) (same_within _ _ x e key (sym stamp) w));
+    } in
+    record {
+      content = content;
+      names_few = subst (λ xs. length xs ≤ g.limits.names) (sym ns) within.names_few;
+      kinds_few = subst (λ xs. length xs ≤ g.limits.kinds) (sym ks) within.kinds_few;
     }
 
 -- the last version's content
 pub last_is_content : (w : World) → IsSound w → HasContents w.opening w.versions
-    → IsContent (last_content w.opening w.heap w.versions)
+    → IsContentIn w.opening.limits (last_content w.opening w.heap w.versions)
 last_is_content w sound contents =
     let named : IsNamed w (last_number w) = sound.named (last_number w) (omega arith) in
-    is_content (version_at w.opening w.versions (last_number w)) (edges_of w.heap (last_blocks w)) (last_graph w)
-    (contents (last_number w) (omega arith)) named.names named.kinds sound.shown
+    subst (λ l. IsContentIn l (last_content w.opening w.heap w.versions)) (limits_left_by (batches_at w.versions (last_number w)) _)
+    (is_content (version_at w.opening w.versions (last_number w)) (edges_of w.heap (last_blocks w)) (last_graph w)
+    (contents (last_number w) (omega arith)) named.names named.kinds sound.shown)
 
 -- what a session has read
 reads_at : (w : World) (session : SessionState) → IsSound w → HasContents w.opening w.versions → IsSessionSound w session
@@ -61,10 +73,25 @@ reads_at w (Asking hold inquiry) sound contents p = λ all.
     let named : IsNamed w hold.version = sound.named hold.version p.0.held_last in
     let whole : inquiry.read ≡ edges_of w.heap (blocks_at w.opening w.versions hold.version) =
     p.1 ∙ ap (edges_of w.heap) (take_all inquiry.next (blocks_at w.opening w.versions hold.version) low) in
-    is_content (version_at w.opening w.versions hold.version) inquiry.read (graph_at w.opening w.versions hold.version)
+    (is_content (version_at w.opening w.versions hold.version) inquiry.read (graph_at w.opening w.versions hold.version)
     (contents hold.version p.0.held_last) named.names named.kinds
-    (subst (λ es. AreEdgesOf es (graph_at w.opening w.versions hold.version)) (sym whole) p.0.shown)
+    (subst (λ es. AreEdgesOf es (graph_at w.opening w.versions hold.version)) (sym whole) p.0.shown)).content
 
 pub reads_content : (w : World) (s : ℕ) → IsSound w → HasContents w.opening w.versions
     → ReadsContent w.opening w.versions (session_of w s)
 reads_content w s sound contents = reads_at w (session_of w s) sound contents (sound.sessions s)
+
+-- the graph of a content within its limits
+pub content_graph : (l : LimitsView) (c : Content) (g : Graph) → IsContentIn l c → graph_in l c ≡ g → IsContentGraph g
+content_graph l c g is same = subst IsContentGraph same (c, is, refl)
+
+pub within_graph : (l : LimitsView) (c : Content) (g : Graph) → IsContentIn l c → graph_in l c ≡ g → is_within_limits g ≡ true
+within_graph l c g is same = subst (λ (h : Graph). is_within_limits h ≡ true) same
+    (ap₂ ◌&&◌ (le-leb (length c.names) l.names is.names_few) (le-leb (length c.kinds) l.kinds is.kinds_few))
+
+-- the last version's names, kinds and edges, as its blocks show them, are the last graph
+pub last_graph_is : (w : World) → IsSound w → graph_in w.opening.limits (last_content w.opening w.heap w.versions) ≡ last_graph w
+last_graph_is w sound =
+    let named : IsNamed w (last_number w) = sound.named (last_number w) (omega arith) in
+    let limits = limits_left_by (batches_at w.versions (last_number w)) (opening_graph w.opening) in
+    λ i. record { names = named.names i; kinds = named.kinds i; edges = sound.shown.same i; limits = sym limits i }

@@ -4,12 +4,14 @@ use Rattle.std.proofs.{Common.{replicate, refl, sym, ap, subst, ◌∙◌, arith
 use Rattle.std.{proofs.lemmas.List.length-replicate, specs.Prelude.slice_get, specs.Prelude.if◌then◌else◌, specs.Prelude.All}
 use Rattle.std.{proofs.lemmas.Option.slice_get_past, specs.Option.option_map, specs.Option.unwrap_or}
 use Rattle.std.specs.declared.option.Option.{Option, TheVariants.None, TheVariants.Some}
+use Rattle.graph_types.specs.Limits.{LimitsView}
 use Rattle.graph_types.{specs.declared.ids.Edge.Edge, proofs.Keys.once_none}
 use Rattle.block_reclamation.specs.declared.status.BlockStatus.{BlockStatus, TheVariants.Free, TheVariants.Used}
 use Rattle.block_reclamation.specs.Status.{is_at, is_listed, is_used, IsDated}
 use Rattle.epoch_core.specs.declared.{session_states.SessionState.TheVariants.Idle, events.Event.{Event, TheVariants.Reply}}
 use Rattle.epoch_core.specs.declared.events.Event.TheVariants.{Release, Take, Fill, Post, Floor, Recycle, Pin, Enter, Settle, Ask}
-use Rattle.epoch_core.specs.{declared.events.Event.TheVariants.Read, Posts.posted, Worlds.{IsStart, World, last_number, session_of, start}}
+use Rattle.epoch_core.specs.{declared.events.Event.TheVariants.Read, Posts.posted, Worlds.{IsStart, World, last_number, session_of}}
+use Rattle.epoch_core.specs.Worlds.start_in
 use Rattle.epoch_core.specs.Versions.{blocks_at}
 use Rattle.epoch_core.specs.{Worlds.MachineState, Sound.{IsDatedAt, IsListedAsDated, IsListedAt, IsNamed, IsSound}, Blocks.{changed_at, taken, reclaimed}}
 use Rattle.epoch_core.specs.{Runs.{next_world, run}, Posting.can_post, Machine.{step, with_heap, with_status}}
@@ -132,5 +134,5 @@ free_at (suc n) zero h = refl
 free_at (suc n) (suc b) h = free_at n b (omega arith)
 
 -- the start with the empty opening is a start
-pub start_is_start : (sessions blocks : ℕ) → IsStart (start sessions blocks)
-start_is_start sessions blocks = grind (arith, common_steps, once_none, length-replicate, free_at)
+pub start_is_start : (limits : LimitsView) (sessions blocks : ℕ) → IsStart (start_in limits sessions blocks)
+start_is_start limits sessions blocks = grind (arith, common_steps, once_none, length-replicate, free_at)

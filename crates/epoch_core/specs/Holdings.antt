@@ -1,11 +1,11 @@
 -- What befalls a session in a list of events, and when two lists are the same to it.
 use Rattle.std.specs.{Prelude.{ℕ, ◌==◌, List, [], ◌∷◌, ◌++◌, map, if◌then◌else◌}, List.flat_map}
-use Rattle.graph_types.specs.{Graph.Graph, declared.requests.Request.Request}
+use Rattle.graph_types.specs.{Graph.{Graph, unlimited}, declared.requests.Request.Request}
 use Rattle.epoch_core.specs.declared.{session_states.SessionState.{SessionState, TheVariants.Asking}, events.Event.Event}
 use Rattle.epoch_core.specs.{declared.events.Event.TheVariants.{Enter, Reply, Release}, Worlds.{World, last_graph, session_of}}
 use Rattle.epoch_core.specs.{Machine.Question, Runs.{is_done, next_world}}
 
--- what may befall a session: it takes hold of a version of this graph, it is replied to, it lets go
+-- what may befall a session: it takes hold of a version of this graph, whatever the limits, it is replied to, it lets go
 pub data Observation : Type 0 where
   Entered : (graph : Graph) → Observation
   Replied : (request : Request) → Observation
@@ -18,7 +18,7 @@ request_in _ = []
 
 -- what befalls session s in an event that is done
 abbrev pub observed_at : ℕ → World → Event → List Observation
-observed_at s w (Enter t) = if t == s then Entered (last_graph w) ∷ [] else []
+observed_at s w (Enter t) = if t == s then Entered (unlimited (last_graph w)) ∷ [] else []
 observed_at s w (Reply t) = if t == s then map Replied (request_in (session_of w s)) else []
 observed_at s w (Release t) = if t == s then Released ∷ [] else []
 observed_at s w _ = []

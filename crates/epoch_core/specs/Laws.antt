@@ -14,7 +14,8 @@ RepliesAreAnswers =
     (start end : MachineState) (events : List Event) (s : ℕ) → IsStart start → Runs start events end
     → AllZip Answers (questions (holdings s start.world events)) (replies_of end s)
 
--- in two worlds: where a session has the same holdings in two lists of events, from any two starts, it has the same list of
+-- in two worlds: where a session has the same holdings in two lists of events, from any two starts (their limits too may
+-- differ), it has the same list of
 -- replies in both. They are the same where they are as many, and the k-th ones hold versions of equal graphs and have equal
 -- lists of requests that were replied to
 abbrev pub AgreeingRunsReplyAlike : Type 0

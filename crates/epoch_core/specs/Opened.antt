@@ -1,8 +1,9 @@
 -- The machine's start over an opening content, whose edges stand in blocks.
 use Rattle.std.specs.{Prelude.{◌≢◌, ℕ, ◌<◌, List, [], ◌∷◌, map, replicate, slice_set, All, AllPairs}, List.flat_map}
-use Rattle.graph_types.specs.{Graph.graph_of, Graph.IsContent, declared.ids.Edge.Edge, declared.contents.Content.Content}
+use Rattle.graph_types.specs.{Graph.{graph_in, IsContentIn}, Limits.{LimitsView, standard_limits}}
+use Rattle.graph_types.specs.{declared.ids.Edge.Edge, declared.contents.Content.Content}
 use Rattle.block_reclamation.specs.declared.status.BlockStatus.{BlockStatus, TheVariants.Free, TheVariants.Used}
-use Rattle.epoch_core.specs.{Versions.AreEdgesOf, Worlds.MachineState, Worlds.start_world}
+use Rattle.epoch_core.specs.{Versions.AreEdgesOf, Worlds.MachineState, Worlds.start_world_in}
 
 -- block numbers, each with the edges in its block
 abbrev pub Lists : Type 0
@@ -20,30 +21,36 @@ abbrev pub status_with : Lists → List BlockStatus → List BlockStatus
 status_with [] status = status
 status_with (l ∷ lists) status = status_with lists (slice_set status l.0 (Used 0))
 
-abbrev pub opened_state : ℕ → ℕ → Content → Lists → MachineState
-opened_state sessions blocks content lists = record {
-  world = record (start_world sessions blocks) {
-    opening = record { content = content; blocks = numbers_in lists };
+abbrev pub opened_state_in : LimitsView → ℕ → ℕ → Content → Lists → MachineState
+opened_state_in limits sessions blocks content lists = record {
+  world = record (start_world_in limits sessions blocks) {
+    opening = record { content = content; blocks = numbers_in lists; limits = limits };
     heap = heap_with lists (replicate blocks []);
     status = status_with lists (replicate blocks Free);
   };
   replies = replicate sessions [];
 }
 
--- the same from a state without versions
+abbrev pub opened_state : ℕ → ℕ → Content → Lists → MachineState
+opened_state sessions blocks content lists = opened_state_in standard_limits sessions blocks content lists
+
+-- the same from a state without versions, under its limits
 abbrev pub opened_over : MachineState → Content → Lists → MachineState
 opened_over state content lists = record {
   world = record state.world {
-    opening = record { content = content; blocks = numbers_in lists };
+    opening = record { content = content; blocks = numbers_in lists; limits = state.world.opening.limits };
     heap = heap_with lists state.world.heap;
     status = status_with lists state.world.status;
   };
   replies = state.replies;
 }
 
--- a content, and different blocks whose edges taken together are each once the content's
-pub record IsOpening (blocks : ℕ) (content : Content) (lists : Lists) : Type 0 where
-  pub content_is : IsContent content
+-- a content within these limits, and different blocks whose edges taken together are each once the content's
+pub record IsOpeningIn (limits : LimitsView) (blocks : ℕ) (content : Content) (lists : Lists) : Type 0 where
+  pub content_is : IsContentIn limits content
   pub within : All (λ l. l.0 < blocks) lists
   pub different : AllPairs ◌≢◌ (numbers_in lists)
-  pub shown : AreEdgesOf (flat_map (λ l. l.1) lists) (graph_of content)
+  pub shown : AreEdgesOf (flat_map (λ l. l.1) lists) (graph_in limits content)
+
+abbrev pub IsOpening : ℕ → Content → Lists → Type 0
+IsOpening blocks content lists = IsOpeningIn standard_limits blocks content lists

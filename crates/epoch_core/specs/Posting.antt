@@ -2,8 +2,8 @@
 use Rattle.std.specs.Prelude.{◌≡◌, ℕ, Bool, true, false, not, ◌&&◌, ◌||◌, ◌==◌, nat_lt, List, [], ◌∷◌, length, ◌+◌, slice_get}
 use Rattle.std.specs.{Prelude.IsTrue, Prelude.IsFalse, List.list_any, List.list_all, Ordering.int_eq, FinMap.get, FinMap.len}
 use Rattle.std.specs.declared.option.Option.{Option, TheVariants.None, TheVariants.Some}
-use Rattle.graph_types.specs.Graph.{Graph, Key, Stamp, key_of, stamp_of, graph_of, IsContent}
-use Rattle.graph_types.specs.{Step.after_all, Limits.batch_limit, declared.ids.Edge.Edge}
+use Rattle.graph_types.specs.Graph.{Graph, Key, Stamp, key_of, stamp_of, graph_in, IsContentIn}
+use Rattle.graph_types.specs.{Step.after_all, Limits.LimitsView, declared.ids.Edge.Edge}
 use Rattle.graph_types.specs.{Step.is_within_limits, declared.{batches.NamedOp.NamedOp, contents.Content.Content}}
 use Rattle.block_reclamation.specs.{declared.status.BlockStatus.BlockStatus, Status.is_at, Status.is_granted, Status.is_listed}
 use Rattle.epoch_core.specs.{declared.states.{Version.Version, Opening.Opening}, Blocks.{all_differ, status_after}}
@@ -46,7 +46,7 @@ are_edges_of g edges = keys_differ edges && list_all (λ e. bears (get g.edges (
 
 abbrev pub can_post : Opening → List (List Edge) → List BlockStatus → List Version → List NamedOp → List ℕ → Bool
 can_post opening heap status versions batch blocks =
-    nat_lt (length versions) batch_limit && all_listable status (blocks_at opening versions (length versions)) blocks
+    nat_lt (length versions) opening.limits.batches && all_listable status (blocks_at opening versions (length versions)) blocks
     && all_differ blocks
     && is_within_limits (graph_after opening versions batch)
     && are_edges_of (graph_after opening versions batch) (edges_of heap blocks)
@@ -69,9 +69,10 @@ last_content opening heap versions =
     content_with (version_at opening versions (length versions)) (edges_of heap (blocks_at opening versions (length versions)))
 
 -- what a batch leaves of a content; none where it would meet a limit
-abbrev pub IsAppliedTo : Content → List NamedOp → Option Content → Type 0
-IsAppliedTo content batch None = IsFalse (is_within_limits (after_all batch (graph_of content)))
-IsAppliedTo content batch (Some after) = IsContent after × (graph_of after ≡ after_all batch (graph_of content))
+abbrev pub IsAppliedTo : LimitsView → Content → List NamedOp → Option Content → Type 0
+IsAppliedTo limits content batch None = IsFalse (is_within_limits (after_all batch (graph_in limits content)))
+IsAppliedTo limits content batch (Some after) =
+    IsContentIn limits after × (graph_in limits after ≡ after_all batch (graph_in limits content))
 
 -- what a Post would set: the status of each block and the new version; none where it is skipped
 abbrev pub IsPlanOf : Opening → List (List Edge) → List BlockStatus → List Version → List NamedOp → List ℕ

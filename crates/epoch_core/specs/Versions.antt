@@ -1,14 +1,14 @@
 -- Versions and the edges of their blocks.
 use Rattle.std.specs.Prelude.{◌≡◌, ◌≢◌, ℕ, zero, suc, List, [], map, take, slice_get, slice_index_or, AllPairs}
 use Rattle.std.specs.{List.flat_map, Option.unwrap_or, declared.option.Option.Option, declared.option.Option.TheVariants.None}
-use Rattle.graph_types.specs.{Graph.{Graph, key_of, map_of, graph_of, content_of, IsContent}, Step.left_by}
+use Rattle.graph_types.specs.{Graph.{Graph, key_of, map_of, graph_in, content_of, IsContentIn}, Step.left_by}
 use Rattle.graph_types.specs.declared.{ids.Edge.Edge, contents.Content.Content, batches.NamedOp.NamedOp}
 use Rattle.epoch_core.specs.declared.states.{Version.Version, Opening.Opening}
 
 -- Versions
 
 abbrev pub opening_graph : Opening → Graph
-opening_graph opening = graph_of opening.content
+opening_graph opening = graph_in opening.limits opening.content
 
 -- what batches leave, one after another, of the opening graph
 abbrev pub left : Opening → List (List NamedOp) → Graph
@@ -55,9 +55,9 @@ pub record AreEdgesOf (edges : List Edge) (g : Graph) : Type 0 where
   pub once : AllPairs (λ a b. key_of a ≢ key_of b) edges
   pub same : map_of edges ≡ g.edges
 
--- the graph is that of some content
+-- the graph is that of some content, within its limits
 abbrev pub IsContentGraph : Graph → Type 0
-IsContentGraph g = (content : Content) × IsContent content × (graph_of content ≡ g)
+IsContentGraph g = (content : Content) × IsContentIn g.limits content × (graph_in g.limits content ≡ g)
 
 -- the content of a version's names and kinds and of these edges
 abbrev pub content_with : Version → List Edge → Content

@@ -4,8 +4,8 @@
 use Rattle.std.specs.Prelude.{◌≡◌, ◌≢◌, ℕ, ◌<◌, ◌≤◌, ◌-◌, ◌++◌, List, [], length, map, replicate, slice_get, slice_index_or}
 use Rattle.std.specs.{Prelude.if◌then◌else◌, Prelude.All, Prelude.AllPairs, Option.option_map, declared.result.Result.Result}
 use Rattle.std.specs.declared.option.Option.{Option, TheVariants.None, TheVariants.Some}
-use Rattle.graph_types.specs.{Graph.Graph, Graph.map_of, Graph.content_of, declared.requests.AskError.AskError}
-use Rattle.graph_types.specs.declared.{ids.Edge.Edge, requests.Reply.Reply}
+use Rattle.graph_types.specs.{Graph.Graph, Graph.graph_of, Graph.content_of, declared.requests.AskError.AskError}
+use Rattle.graph_types.specs.{Limits.{LimitsView, standard_limits}, declared.{ids.Edge.Edge, requests.Reply.Reply}}
 use Rattle.block_reclamation.specs.declared.{status.BlockStatus.{BlockStatus, TheVariants.{Free, Used}}, copies.PinCopy.PinCopy}
 use Rattle.block_reclamation.specs.{declared.copies.{TheConstants.SEATS, Pin.Pin}, Status.is_listed, Copies.{no_copy, copy_of}}
 use Rattle.block_reclamation.specs.Copies.{unsettled, settled_number, unsettled_number}
@@ -49,9 +49,9 @@ last_blocks w = blocks_at w.opening w.versions (last_number w)
 abbrev pub last_graph : World → Graph
 last_graph w = graph_at w.opening w.versions (last_number w)
 
--- the graph of a version's names and kinds and of these edges
+-- the graph of a version's names and kinds and of these edges, whatever the limits
 abbrev pub graph_with : Version → List Edge → Graph
-graph_with version edges = record { names = version.names; kinds = version.kinds; edges = map_of edges }
+graph_with version edges = graph_of (content_of version.names version.kinds edges)
 
 -- what the batches up to each version leave is the graph of a content
 abbrev pub HasContents : Opening → List Version → Type 0
@@ -113,14 +113,17 @@ pub record IsStart (state : MachineState) : Type 0 where
   pub idle : state.world.sessions ≡ replicate (length state.world.sessions) Idle
   pub replies : state.replies ≡ replicate (length state.world.sessions) []
 
--- the opening without names, kinds, edges and blocks
+-- the opening without names, kinds, edges and blocks, under these limits and under the standard ones
+abbrev pub empty_opening_in : LimitsView → Opening
+empty_opening_in limits = record { content = content_of [] [] []; blocks = []; limits = limits }
+
 abbrev pub empty_opening : Opening
-empty_opening = record { content = content_of [] [] []; blocks = [] }
+empty_opening = empty_opening_in standard_limits
 
 -- the start with the empty opening: all blocks are free and without edges
-abbrev pub start_world : ℕ → ℕ → World
-start_world sessions blocks = record {
-  opening = empty_opening;
+abbrev pub start_world_in : LimitsView → ℕ → ℕ → World
+start_world_in limits sessions blocks = record {
+  opening = empty_opening_in limits;
   heap = replicate blocks [];
   status = replicate blocks Free;
   versions = [];
@@ -129,5 +132,11 @@ start_world sessions blocks = record {
   sessions = replicate sessions Idle;
 }
 
+abbrev pub start_world : ℕ → ℕ → World
+start_world sessions blocks = start_world_in standard_limits sessions blocks
+
+abbrev pub start_in : LimitsView → ℕ → ℕ → MachineState
+start_in limits sessions blocks = record { world = start_world_in limits sessions blocks; replies = replicate sessions [] }
+
 abbrev pub start : ℕ → ℕ → MachineState
-start sessions blocks = record { world = start_world sessions blocks; replies = replicate sessions [] }
+start sessions blocks = start_in standard_limits sessions blocks

@@ -5,7 +5,8 @@ ghost use Rattle.epoch_core.specs.Worlds as worlds;
 ghost use Rattle.epoch_core.specs.Worlds.{IsStart};
 ghost use Rattle.epoch_core.specs.Machine.{takes_memory};
 ghost use Rattle.epoch_core.specs.Runs.{Steps, Runs, done_in, count_of};
-ghost use Rattle.epoch_core.specs.Opened.{IsOpening, opened_state};
+ghost use Rattle.epoch_core.specs.Opened.{IsOpening, IsOpeningIn, opened_state, opened_state_in};
+ghost use Rattle.block_reclamation.specs.Status.{most_blocks};
 
 use crate::advancing::keep;
 use crate::replying::replies_at;
@@ -15,7 +16,7 @@ use crate::start::{opened_parts, parts_at_start};
 use crate::step::Step;
 use crate::{Event, OutOfMemory};
 use block_reclamation::PinCopy;
-use graph_types::{AskError, Content, Edge, List, Reply};
+use graph_types::{AskError, Content, Edge, Limits, List, Reply};
 use std::alloc::Global;
 use std::marker::Model;
 
@@ -47,17 +48,34 @@ impl Model for Core {
 
 impl Core {
     /// The machine at its start, which will grow by this allocator: all blocks are free and without edges, there
-    /// is version 0 alone, the floor is 0, no session has a pin, and none is copied. There are 1 to 16 sessions and 1
-    /// to 65,536 blocks.
+    /// is version 0 alone, the floor is 0, no session has a pin, and none is copied. There are 1 to 16 sessions and at
+    /// least one block, and the limits are the standard ones.
     pub fn new(alloc: Global, sessions: usize, blocks: usize) -> Result<Core, OutOfMemory>
         requires some_sessions { 1 ≤ sessions }
         requires few_sessions { sessions ≤ 16 }
         requires some_blocks { 1 ≤ blocks }
-        requires few_blocks { blocks ≤ 65536 }
+        requires few_blocks { blocks ≤ most_blocks }
         ensures opened { IfOk result (λ core. core ≡ worlds.start sessions blocks) }
         ensures starts { IfOk result (λ core. IsStart core) }
     {
-        let parts = parts_at_start(alloc, sessions, blocks)?;
+        Core::within(alloc, Limits::standard(), sessions, blocks)
+    }
+
+    /// As `new`, under any limits.
+    pub fn within(
+        alloc: Global,
+        limits: Limits,
+        sessions: usize,
+        blocks: usize,
+    ) -> Result<Core, OutOfMemory>
+        requires some_sessions { 1 ≤ sessions }
+        requires few_sessions { sessions ≤ 16 }
+        requires some_blocks { 1 ≤ blocks }
+        requires few_blocks { blocks ≤ most_blocks }
+        ensures opened { IfOk result (λ core. core ≡ worlds.start_in limits sessions blocks) }
+        ensures starts { IfOk result (λ core. IsStart core) }
+    {
+        let parts = parts_at_start(alloc, limits, sessions, blocks)?;
         Ok(Core { parts })
     }
 
@@ -73,12 +91,32 @@ impl Core {
         requires some_sessions { 1 ≤ sessions }
         requires few_sessions { sessions ≤ 16 }
         requires some_blocks { 1 ≤ blocks }
-        requires few_blocks { blocks ≤ 65536 }
+        requires few_blocks { blocks ≤ most_blocks }
         requires opening { IsOpening blocks content.now lists.now }
         ensures opened { IfOk result (λ core. core ≡ opened_state sessions blocks content.now lists.now) }
         ensures starts { IfOk result (λ core. IsStart core) }
     {
-        let parts = opened_parts(alloc, sessions, blocks, content, lists)?;
+        Core::opened_within(alloc, Limits::standard(), sessions, blocks, content, lists)
+    }
+
+    /// As `opened`, under any limits that the content keeps.
+    pub fn opened_within(
+        alloc: Global,
+        limits: Limits,
+        sessions: usize,
+        blocks: usize,
+        content: &Content,
+        lists: &[(u32, List<Edge>)],
+    ) -> Result<Core, OutOfMemory>
+        requires some_sessions { 1 ≤ sessions }
+        requires few_sessions { sessions ≤ 16 }
+        requires some_blocks { 1 ≤ blocks }
+        requires few_blocks { blocks ≤ most_blocks }
+        requires opening { IsOpeningIn limits blocks content.now lists.now }
+        ensures opened { IfOk result (λ core. core ≡ opened_state_in limits sessions blocks content.now lists.now) }
+        ensures starts { IfOk result (λ core. IsStart core) }
+    {
+        let parts = opened_parts(alloc, limits, sessions, blocks, content, lists)?;
         Ok(Core { parts })
     }
 

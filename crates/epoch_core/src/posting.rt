@@ -3,8 +3,7 @@
 ghost use Rattle.std.specs.Prelude.{◌≡◌, ◌≢◌, ◌&&◌, nat_lt, IfOk, IsTrue, IsFalse, MatchOption, MatchResult, length};
 ghost use Rattle.std.specs.Option.{option_map};
 ghost use Rattle.std.specs.declared.option.Option.TheVariants.{None};
-ghost use Rattle.graph_types.specs.Graph.{graph_of, IsContent};
-ghost use Rattle.graph_types.specs.Limits.{batch_limit};
+ghost use Rattle.graph_types.specs.Graph.{graph_in, graph_of, IsContent, IsContentIn};
 ghost use Rattle.epoch_core.specs.Blocks as definitions;
 ghost use Rattle.epoch_core.specs.Versions as specs;
 ghost use Rattle.epoch_core.specs.Versions.{graph_at};
@@ -15,12 +14,9 @@ use crate::contents::{are_edges_of, edges_of};
 use crate::states::{Opening, Version};
 use crate::versions::{blocks_at, content_with};
 use block_reclamation::BlockStatus;
-use graph_model::{PlainError, plain_apply};
-use graph_types::{Batch, Content, Edge, List};
+use graph_model::{PlainError, plain_apply_in};
+use graph_types::{Batch, Content, Edge, Limits, List};
 use std::alloc::{AllocError, Global};
-
-/// How many batches there may be.
-const BATCH_LIMIT: usize = 65_536;
 
 /// The content of the last version, its edges read from its blocks.
 fn last_content(
@@ -49,21 +45,23 @@ fn left_of(refusal: PlainError) -> Result<Option<Content>, AllocError>
 }
 
 /// What the batch leaves of the content, or `None` where it would meet the limit on names or on kinds.
+#[tactic(auto, using(graph_types::proofs::LimitsKept::limits_after_all))]
 fn after_batch(
     alloc: Global,
+    limits: Limits,
     mut content: Content,
     batch: &Batch,
 ) -> Result<Option<Content>, AllocError>
-    requires { IsContent content }
-    ensures { IfOk result (λ after. posting.IsAppliedTo content batch.now after) }
+    requires { IsContentIn limits content }
+    ensures { IfOk result (λ after. posting.IsAppliedTo limits content batch.now after) }
 {
-    match plain_apply(alloc, &mut content, batch) {
+    match plain_apply_in(alloc, limits, &mut content, batch) {
         Ok(_) => Ok(Some(content)),
         Err(refusal) => left_of(refusal),
     }
 }
 
-/// Whether one more version may list these blocks: there are fewer than 65,536 batches, each block is granted or of the last
+/// Whether one more version may list these blocks: there are fewer batches than the limit, each block is granted or of the last
 /// version, and none stands twice. It takes no memory.
 fn may_list(
     opening: &Opening,
@@ -71,10 +69,10 @@ fn may_list(
     versions: &[Version],
     blocks: &[usize],
 ) -> bool
-    ensures { result ≡ (nat_lt (length versions.now) batch_limit && posting.all_listable status.now
+    ensures { result ≡ (nat_lt (length versions.now) opening.now.limits.batches && posting.all_listable status.now
         (specs.blocks_at opening.now versions.now (length versions.now)) blocks.now && definitions.all_differ blocks.now) }
 {
-    versions.len() < BATCH_LIMIT
+    versions.len() < opening.limits.batches() as usize
         && all_listable(
             status,
             blocks_at(opening, versions, versions.len() as u64),
@@ -113,7 +111,7 @@ fn version_on(
 }
 
 /// What posting the batch on these blocks would set, each block's status and the new version; `None` where it
-/// is skipped: there are 65,536 batches, a block is neither granted nor of the last version or stands twice, the
+/// is skipped: there are as many batches as there may be, a block is neither granted nor of the last version or stands twice, the
 /// batch meets a limit, or the blocks' edges aren't each once what the batch leaves. The edges of the last version are
 /// read from its blocks, which must show what the batches left. Want of memory is the only error.
 pub fn plan_post(
@@ -125,8 +123,8 @@ pub fn plan_post(
     batch: &Batch,
     blocks: &[usize],
 ) -> Result<Option<(Vec<BlockStatus>, Version)>, AllocError>
-    requires content { IsContent (posting.last_content opening.now heap.now versions.now) }
-    requires graph { graph_of (posting.last_content opening.now heap.now versions.now)
+    requires content { IsContentIn opening.now.limits (posting.last_content opening.now heap.now versions.now) }
+    requires graph { graph_in opening.now.limits (posting.last_content opening.now heap.now versions.now)
         ≡ graph_at opening.now versions.now (length versions.now) }
     ensures { IfOk result (λ plan. posting.IsPlanOf opening.now heap.now status.now versions.now batch.now blocks.now
         (option_map (λ p. (p.0.items, p.1)) plan)) }
@@ -135,7 +133,7 @@ pub fn plan_post(
         return Ok(None);
     }
     let last = last_content(alloc, opening, heap, versions)?;
-    let Some(content) = after_batch(alloc, last, batch)? else {
+    let Some(content) = after_batch(alloc, opening.limits, last, batch)? else {
         return Ok(None);
     };
     let Some(version) = version_on(alloc, heap, content, batch, blocks)? else {

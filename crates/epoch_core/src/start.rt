@@ -3,23 +3,24 @@
 ghost use Rattle.std.specs.Prelude.{◌≡◌, ◌<◌, [], All, IfOk, OnOk, length, map, replicate};
 ghost use Rattle.epoch_core.specs.Worlds as worlds;
 ghost use Rattle.epoch_core.specs.Cores.{state_of};
-ghost use Rattle.epoch_core.specs.Opened.{opened_over, opened_state, numbers_in, heap_with, status_with};
+ghost use Rattle.epoch_core.specs.Opened.{opened_over, opened_state_in, numbers_in, heap_with, status_with};
 ghost use Rattle.block_reclamation.specs.declared.status.BlockStatus.TheVariants.{Free};
 ghost use Rattle.epoch_core.specs.declared.session_states.SessionState.TheVariants.{Idle};
 
 use crate::session_states::{Parts, SessionState, no_items};
 use crate::states::Opening;
 use block_reclamation::{BlockStatus, PinCopy};
-use graph_types::{Content, Edge, List};
+use graph_types::{Content, Edge, Limits, List};
 use std::alloc::{AllocError, Global};
 
 /// The fields of the machine at its start.
 pub(crate) fn parts_at_start(
     alloc: Global,
+    limits: Limits,
     sessions: usize,
     blocks: usize,
 ) -> Result<Parts, AllocError>
-    ensures { IfOk result (λ parts. state_of parts ≡ worlds.start sessions blocks) }
+    ensures { IfOk result (λ parts. state_of parts ≡ worlds.start_in limits sessions blocks) }
 {
     let heap = empty_lists(alloc, blocks)?;
     let status = free_blocks(alloc, blocks)?;
@@ -28,7 +29,7 @@ pub(crate) fn parts_at_start(
     // What takes no memory comes last: then there is less to let go of where memory is wanting.
     Ok(Parts {
         alloc,
-        opening: empty_opening(alloc),
+        opening: empty_opening(alloc, limits),
         heap,
         status,
         versions: Vec::new(alloc),
@@ -42,15 +43,16 @@ pub(crate) fn parts_at_start(
 /// The fields of the machine at its start over a content.
 pub(crate) fn opened_parts(
     alloc: Global,
+    limits: Limits,
     sessions: usize,
     blocks: usize,
     content: &Content,
     lists: &[(u32, List<Edge>)],
 ) -> Result<Parts, AllocError>
     requires { All (λ l. l.0 < blocks) lists.now }
-    ensures { IfOk result (λ parts. state_of parts ≡ opened_state sessions blocks content.now lists.now) }
+    ensures { IfOk result (λ parts. state_of parts ≡ opened_state_in limits sessions blocks content.now lists.now) }
 {
-    let mut parts = parts_at_start(alloc, sessions, blocks)?;
+    let mut parts = parts_at_start(alloc, limits, sessions, blocks)?;
     open_over(&mut parts, content, lists)?;
     Ok(parts)
 }
@@ -67,22 +69,24 @@ fn open_over(
 {
     fill_lists(parts.alloc, &mut parts.heap, lists)?;
     mark_lists(&mut parts.status, lists);
-    parts.opening = opening_of(parts.alloc, content, lists)?;
+    parts.opening = opening_of(parts.alloc, parts.opening.limits, content, lists)?;
     Ok(())
 }
 
 /// A content, and the numbers of the blocks that have its edges.
 fn opening_of(
     alloc: Global,
+    limits: Limits,
     content: &Content,
     lists: &[(u32, List<Edge>)],
 ) -> Result<Opening, AllocError>
-    ensures { IfOk result (λ opening. opening ≡ record { content = content.now; blocks = numbers_in lists.now }) }
+    ensures { IfOk result (λ opening. opening ≡ record { content = content.now; blocks = numbers_in lists.now; limits = limits }) }
 {
     let numbers = listed_numbers(alloc, lists)?;
     Ok(Opening {
         content: content.clone()?,
         blocks: List::of(numbers),
+        limits,
     })
 }
 
@@ -132,8 +136,8 @@ fn mark_lists(status: &mut Vec<BlockStatus>, lists: &[(u32, List<Edge>)])
 }
 
 /// The opening without names, kinds, edges and blocks. It takes no memory.
-fn empty_opening(alloc: Global) -> Opening
-    ensures { result ≡ worlds.empty_opening }
+fn empty_opening(alloc: Global, limits: Limits) -> Opening
+    ensures { result ≡ worlds.empty_opening_in limits }
 {
     let content = Content {
         names: no_items(alloc),
@@ -143,6 +147,7 @@ fn empty_opening(alloc: Global) -> Opening
     Opening {
         content,
         blocks: no_items(alloc),
+        limits,
     }
 }
 

@@ -1,6 +1,6 @@
 //! What versions are.
 
-use graph_types::{Batch, Content, List, Name};
+use graph_types::{Batch, Content, Limits, List, Name};
 
 /// A version after version 0: the batch that made it, the blocks that have its edges, its names and its kinds.
 #[derive(Debug)]
@@ -23,11 +23,12 @@ impl Drop for Version {
     }
 }
 
-/// What stands before the first batch: a content, and the blocks that have its edges.
+/// What stands before the first batch: a content, the blocks that have its edges, and the limits.
 #[derive(Debug)]
 pub struct Opening {
     pub content: Content,
     pub blocks: List<usize>,
+    pub limits: Limits,
 }
 
 // Written by hand, as that of a version.
@@ -36,6 +37,7 @@ impl Drop for Opening {
         let Opening {
             content: _content,
             blocks: _blocks,
+            limits: _limits,
         } = self;
     }
 }

@@ -3,7 +3,7 @@ use Rattle.std.proofs.Common.{◌≡◌, ℕ, ◌<◌, Bool, true, cond, List, [
 use Rattle.std.proofs.{Common.arith, lemmas.{Int.ints, List.{map-append, Sums.{sum_by_push, fold-append}}}}
 use Rattle.std.{proofs.lemmas.List.Elements.{filter-append, All-append, All-cons, All-nil, All-head}, specs.Prelude.filter}
 use Rattle.std.{specs.Prelude.{fold, All}, proofs.lemmas.Grind.common_steps}
-use Rattle.graph_types.specs.{Graph.stamp_of, Limits.kind_limit, Degrees.{listed_degree, with_edge, CountsEdge, IsWithinLimits}}
+use Rattle.graph_types.specs.{Graph.stamp_of, Degrees.{listed_degree, with_edge, CountsEdge, IsWithinLimits}}
 use Rattle.graph_types.{specs.declared.ids.{Edge.Edge, Degree.Degree, Filter.Filter}, proofs.DegreeBounds.degree_within}
 use Rattle.graph_types.proofs.ListedDegrees.{with_shown}
 use Rattle.edge_block.specs.Slots.{IsStamp}
@@ -48,7 +48,7 @@ countable f e table room =
       shown = All-head (λ (x : Edge). passes f x ≡ true) e []
           (All-right (λ (x : Edge). passes f x ≡ true) before (e ∷ []) are.seen);
       limits = λ v d h. subst IsWithinLimits (sym (is.tally.at v d h))
-          (degree_within f before n kind_limit v are.few (omega arith) firsts.once
+          (degree_within f before n firsts.kind_count v firsts.few firsts.once
           (λ k x lt. record {
             kind = firsts.kinds k x lt;
             source = firsts.sources k x lt;

@@ -7,8 +7,8 @@ use Rattle.std.proofs.lemmas.List.FromFn.{get_or-map-range_with_len, length-map-
 use Rattle.std.proofs.lemmas.{List.{FromFn.fill_by_all, Kept.AllPairs-filter, Sums.length-filter}, Bool.cases_lt}
 use Rattle.std.specs.{Prelude.{filter, fold, count_by, All}, Option.is_some, FinMap.get, List.{Contains, range_with_len}}
 use Rattle.std.specs.List.{list_all}
-use Rattle.graph_types.specs.{Graph.{Graph, key_of}, Limits.kind_limit, Degrees.listed_degree, Answer.{degree_at, degree_table}}
-use Rattle.graph_types.{specs.declared.ids.{Degree.Degree, Edge.Edge, Filter.Filter}, proofs.Keys.get_listed}
+use Rattle.graph_types.specs.{Graph.{Graph, key_of}, Degrees.listed_degree, Answer.{degree_at, degree_table}}
+use Rattle.graph_types.{specs.declared.ids.{Degree.Degree, Edge.Edge, Filter.Filter}, proofs.{Keys.get_listed, LimitsKept.places_within}}
 use Rattle.graph_types.proofs.{Counts.Contains-first, Arcs.contains_map, Folds.{count_entries, weight_entries}}
 use Rattle.edge_block.specs.Slots.{Slot, BlockView, is_free, edges_in, entry_in}
 use Rattle.graph_version.specs.{Rows.{row_of, blocks_of}, Versions.{VersionView, content, IsVersion, IsBlockOf}}
@@ -109,10 +109,12 @@ module _ (v : VersionView) (is : IsVersion v) where
       let there : (j : ℕ) (d : Edge) → j < length es → is_some (get (content v).edges (key_of (get_or es j d))) ≡ true = λ j d lt.
       ap (λ m. is_some (get m (key_of (get_or es j d)))) (sym each.same) ∙ ap is_some (get_listed es each.once j d lt) in
       record {
-        few = is.small.names;
+        kind_count = length (content v).kinds;
+        few = places_within (content v).limits (length (content v).names) (length (content v).kinds) is.small.limits is.small.names
+            is.small.kinds;
         once = AllPairs-filter (λ a b. key_of a ≢ key_of b) (passes f) es each.once;
-        kinds = All-filter (passes f) (λ e. e.kind.0 < kind_limit) es
-            (λ j d lt. omega (arith, (is.within (key_of (get_or es j d)) (there j d lt)).0, is.small.kinds));
+        kinds = All-filter (passes f) (λ e. e.kind.0 < length (content v).kinds) es
+            (λ j d lt. (is.within (key_of (get_or es j d)) (there j d lt)).0);
         sources = All-filter (passes f) (λ e. e.source.0 < length (content v).names) es
             (λ j d lt. (is.within (key_of (get_or es j d)) (there j d lt)).1);
         targets = All-filter (passes f) (λ e. e.target.0 < length (content v).names) es

@@ -5,6 +5,7 @@ ghost use Rattle.std.specs.List.{Contains};
 ghost use Rattle.graph_types.specs.Analyses.{AreCoreNumbers, IsCoreNumber, IsTable};
 ghost use Rattle.graph_types.specs.Arcs.{AreNeighbors, at};
 ghost use Rattle.graph_types.specs.Graph.{Graph};
+ghost use Rattle.graph_types.specs.Limits.{most_names};
 ghost use Rattle.graph_types.specs.declared.ids.Filter.{Filter};
 ghost use Rattle.graph_cores.specs.Rows.{IsRows, row_of};
 ghost use Rattle.graph_cores.specs.Peel.{IsPeeling, is_alive, is_high, is_low, lowered};
@@ -33,7 +34,7 @@ pub fn cores_over<E: ViewEdges>(alloc: Global, edges: &E) -> Result<Vec<u32>, Al
 /// The core number of each vertex, from its neighbors.
 fn peel(alloc: Global, rows: &Rows, count: usize) -> Result<Vec<u32>, AllocError>
     requires rows { IsRows count rows.now }
-    requires few { count ≤ 65536 }
+    requires few { count ≤ most_names }
     requires short { (v : ℕ) → length (row_of rows.now v) ≤ count }
     ensures { IfOk result (λ cores. (f : Filter) (g : Graph) → AreNeighbors f g (row_of rows.now)
         → IsTable count (IsCoreNumber f g) cores.items) }
@@ -46,7 +47,7 @@ fn peel(alloc: Global, rows: &Rows, count: usize) -> Result<Vec<u32>, AllocError
     Ok(cores)
 }
 
-/// Peels in rounds until none is left.
+/// Peels in rounds until none is left: none has more neighbors than there are vertices.
 fn rounds(
     alloc: Global,
     rows: &Rows,
@@ -56,7 +57,7 @@ fn rounds(
     vertices: Vec<u32>,
 ) -> Result<(), AllocError>
     requires rows { IsRows (length cores.old) rows.now }
-    requires few { length cores.old ≤ 65536 }
+    requires few { length cores.old ≤ most_names }
     requires short { (v : ℕ) → length (row_of rows.now v) ≤ length cores.old }
     requires alive { alive.old ≡ replicate (length cores.old) true }
     requires degrees_long { length degrees.old ≡ length cores.old }
@@ -121,7 +122,7 @@ fn peel_level(
     requires alive { length alive.old ≡ length cores.old }
     requires degrees { length degrees.old ≡ length cores.old }
     requires stack { All (λ w. w < length cores.old) stack.old.items }
-    requires few { k < 65537 }
+    requires few { k ≤ most_names }
     ensures shrinks { OnOk result ((v : ℕ) → (IsTrue (is_alive alive.new v) → IsTrue (is_alive alive.old v))
         × (at degrees.new v ≤ at degrees.old v)) }
     ensures empty { OnOk result (stack.new.items ≡ []) }
@@ -149,7 +150,7 @@ fn lower(
     k: u32,
 ) -> Result<(), AllocError>
     requires within { All (λ w. w < length degrees.old) neighbors.now }
-    requires few { k < 65537 }
+    requires few { k ≤ most_names }
     ensures { OnOk result ((degrees.new, stack.new.items) ≡ lowered k neighbors.now degrees.old stack.old.items) }
 {
     for neighbor in neighbors {
@@ -166,7 +167,8 @@ fn lower(
 /// How many neighbors each vertex has.
 fn lengths(alloc: Global, rows: &Rows, count: usize) -> Result<Vec<u32>, AllocError>
     requires rows { IsRows count rows.now }
-    requires short { (v : ℕ) → length (row_of rows.now v) ≤ 65536 }
+    requires few { count ≤ most_names }
+    requires short { (v : ℕ) → length (row_of rows.now v) ≤ count }
     ensures long { IfOk result (λ degrees. length degrees.items ≡ count) }
     ensures each { IfOk result (λ degrees. (v : ℕ) → v < count → at degrees.items v ≡ length (row_of rows.now v)) }
 {

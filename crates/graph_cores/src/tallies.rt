@@ -3,7 +3,7 @@
 ghost use Rattle.std.specs.Prelude.{◌≡◌, ◌<◌, ◌≤◌, ◌+◌, ◌+ℤ◌, ◌^◌, length, replicate, All, IfOk};
 ghost use Rattle.graph_types.specs.Answer.{degree_table};
 ghost use Rattle.graph_types.specs.Degrees.{CountsEdge, IsWithinLimits};
-ghost use Rattle.graph_types.specs.Limits.{IsWeight};
+ghost use Rattle.graph_types.specs.Limits.{IsWeight, most_places};
 ghost use Rattle.graph_version.specs.Sharing.{block_values};
 ghost use Rattle.graph_version.specs.Versions.{content};
 ghost use Rattle.graph_cores.specs.Tallies.{edge_between, shown_block, shown_edges, HasRoomFor, Counts};
@@ -46,7 +46,7 @@ fn count_out(degree: &mut Degree, weight: i64)
 
 /// Counts an edge that enters.
 fn count_in(degree: &mut Degree)
-    requires { degree.old.incoming ≤ 2 ^ 22 }
+    requires { degree.old.incoming ≤ most_places }
     ensures { degree.new ≡ record degree.old { incoming = degree.old.incoming + 1 } }
 {
     degree.incoming += 1;

@@ -2,6 +2,7 @@
 
 ghost use Rattle.std.specs.Prelude.{◌≡◌, ◌<◌, ◌≤◌, ◌+◌, ◌*◌, ◌/◌, ℕ, [], length, drop, replicate, All, IfOk, OnOk};
 ghost use Rattle.graph_types.specs.Analyses.{AreLevels, LeadsTo};
+ghost use Rattle.graph_types.specs.Limits.{most_names};
 ghost use Rattle.graph_levels.specs.Reached.{AreMarks};
 ghost use Rattle.graph_levels.specs.Reached.{AreRows, met, table_of, vertices_of};
 ghost use Rattle.graph_levels.specs.Search.{IsSearch};
@@ -45,7 +46,7 @@ fn advance<R: ViewEdges>(
     requires words { length (R.graph edges.now).names ≤ 64 * length marks.old }
     requires within { (a b : ℕ) → LeadsTo (R.filter edges.now) (R.graph edges.now) a b
         → (a < length (R.graph edges.now).names) × (b < length (R.graph edges.now).names) }
-    requires few { depth < 65536 }
+    requires few { depth < most_names }
     requires marks { AreMarks marks.old rows.old.items }
     requires rows { AreRows (length (R.graph edges.now).names) rows.old.items }
     ensures marks { OnOk result (AreMarks marks.new rows.new.items) }
@@ -76,7 +77,7 @@ fn reach<R: ViewEdges>(
     requires fresh { marks.old ≡ replicate (length (R.graph edges.now).names / 64 + 1) 0 }
     requires within { (a b : ℕ) → LeadsTo (R.filter edges.now) (R.graph edges.now) a b
         → (a < length (R.graph edges.now).names) × (b < length (R.graph edges.now).names) }
-    requires few { length (R.graph edges.now).names ≤ 65536 }
+    requires few { length (R.graph edges.now).names ≤ most_names }
     ensures levels { IfOk result (λ rows. AreLevels (R.filter edges.now) (R.graph edges.now) source.0
         (table_of (length (R.graph edges.now).names) rows.items)) }
     ensures rows { IfOk result (λ rows. AreRows (length (R.graph edges.now).names) rows.items) }

@@ -2,8 +2,9 @@
 use Rattle.std.proofs.Common.{◌≡◌, ℕ, ◌<◌, ◌≤◌, List, [], ◌∷◌, length, get_or, drop, refl, ap}
 use Rattle.std.proofs.Common.{arith}
 use Rattle.std.proofs.lemmas.Grind.{common_steps}
-use Rattle.graph_types.specs.{Limits.name_limit, Graph.Graph, Step.after, Step.after_all, declared.batches.NamedOp.NamedOp}
+use Rattle.graph_types.specs.{Graph.Graph, Step.after, Step.after_all, declared.batches.NamedOp.NamedOp}
 use Rattle.graph_types.proofs.NameLists.{length-after-names, length-after_all-names, length-after_all-kinds}
+use Rattle.graph_types.proofs.LimitsKept.{limits_after_all}
 use Rattle.graph_model.specs.{Drafts.names_after, Drafts.names_left, declared.apply.PlainError.PlainError}
 use Rattle.graph_model.specs.Refusals.{Refuses, Exceeds, IsNamesRefusal}
 
@@ -28,20 +29,20 @@ pub length-names_left-drop : (ops : List NamedOp) (i : ℕ) (op : NamedOp) (name
 length-names_left-drop h0 i op names l is = grind (arith, common_steps, length-names_left)
 
 Exceeds-after_all : (e : PlainError) (ops : List NamedOp) (g : Graph) → Exceeds e g → Exceeds e (after_all ops g)
-Exceeds-after_all h0 ops g past = grind (arith, common_steps, length-after_all-names, length-after_all-kinds)
+Exceeds-after_all h0 ops g past = grind (arith, common_steps, length-after_all-names, length-after_all-kinds, limits_after_all)
 
 pub Exceeds-drop : (e : PlainError) (ops : List NamedOp) (i : ℕ) (op : NamedOp) (g : Graph) → i < length ops
     → op ≡ get_or ops i op → Exceeds e (after op g) → Exceeds e (after_all (drop i ops) g)
-Exceeds-drop e h1 i op g l is past = grind (arith, common_steps, Exceeds-after_all)
+Exceeds-drop e h1 i op g l is past = grind (arith, common_steps, Exceeds-after_all, limits_after_all)
 
-pub IsNamesRefusal-more : (e : PlainError) (xs ys : List (List ℕ)) → length xs ≤ length ys → IsNamesRefusal e xs
-    → IsNamesRefusal e ys
-IsNamesRefusal-more e xs ys more h4 = grind (arith, common_steps)
+pub IsNamesRefusal-more : (e : PlainError) (limit : ℕ) (xs ys : List (List ℕ)) → length xs ≤ length ys
+    → IsNamesRefusal limit e xs → IsNamesRefusal limit e ys
+IsNamesRefusal-more e limit xs ys more h4 = grind (arith, common_steps)
 
-pub Refuses-names : (e : PlainError) (ops : List NamedOp) (g : Graph) → IsNamesRefusal e (names_left ops g.names)
+pub Refuses-names : (e : PlainError) (ops : List NamedOp) (g : Graph) → IsNamesRefusal g.limits.names e (names_left ops g.names)
     → Refuses e ops g
 Refuses-names h0 ops g why = grind (arith, common_steps, names_of-after_all)
 
-pub names_fit : (ops : List NamedOp) (g : Graph) → length (names_left ops g.names) ≤ name_limit
-    → name_limit < length (after_all ops g).names → ⊥
+pub names_fit : (ops : List NamedOp) (g : Graph) → length (names_left ops g.names) ≤ g.limits.names
+    → g.limits.names < length (after_all ops g).names → ⊥
 names_fit ops g few past = let e = ap length (names_of-after_all ops g) in omega arith

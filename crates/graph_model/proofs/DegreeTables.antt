@@ -51,7 +51,7 @@ tally_within f c is edges k table listed tally v d h =
     let within = All-take (IsEdgeWithin (length c.names) (length c.kinds)) k edges
     (rw listed is.edges_within) in
     rw (tally.at v d (omega (arith, tally.size)))
-    (degree_within f (take k edges) (length c.names) (length c.kinds) v is.names_few is.kinds_few once within)
+    (degree_within f (take k edges) (length c.names) (length c.kinds) v is.places_few once within)
 
 -- the table after all edges
 pub tally_all : (f : Filter) (c : Content) → IsContent c → (edges : List Edge) (i : ℕ) (table : List Degree) → edges ≡ c.edges

@@ -11,6 +11,7 @@ use Rattle.std.specs.{Prelude.{All, AllPairs, ◌==◌, nat_le, count_by, filter
 use Rattle.std.specs.{List.{range_with_len, dedup, Sorted.{IsSorted, IsStrictlySortedBy}}, Cmp.{IsTotalOrder, IsEquivalence}}
 use Rattle.std.specs.{Ordering.{nat_cmp, ordering_then, is_eq, eq_by_cmp}, declared.cmp.Ordering.{Ordering, TheVariants.Less}}
 use Rattle.std.proofs.lemmas.Grind.{common_steps}
+use Rattle.graph_types.specs.Limits.{most_names}
 use Rattle.graph_types.specs.{Graph.{Graph, graph_of, IsContent}, Analyses.{Joins, IsCoreNumber, IsTable}, Arcs.{Arc, arcs_of}}
 use Rattle.graph_types.specs.{Arcs.{two_way, AreWithin, at, AreNeighbors, support, AreUpper}, declared.contents.Content.Content}
 use Rattle.graph_types.{specs.declared.ids.Filter.Filter, proofs.Counts.{apart_tail, apart_head, count_yes, count_no, sub_length}}
@@ -113,7 +114,7 @@ module _ (f : Filter) (g : Graph) (n : ℕ) (links : List (ℕ × ℕ)) (are : A
       let e = counted v ∙ count_ends numbers v links in let h = supported v in omega arith)
 
   -- a core number is at most the number of vertices
-  pub cores_few : (numbers : List ℕ) → n ≤ 65536 → IsTable n (IsCoreNumber f g) numbers → All (λ number. number ≤ 65536) numbers
+  pub cores_few : (numbers : List ℕ) → n ≤ most_names → IsTable n (IsCoreNumber f g) numbers → All (λ number. number ≤ most_names) numbers
   cores_few numbers few table k d h =
       let core = (table.each k (get_or numbers k d) (slice_get-get_or numbers k d h)).0 in
       let has = core.2 k core.1 in

@@ -1,17 +1,17 @@
 -- A change that is applied to plain lists does to the graph that they show what its definition says.
-use Rattle.std.proofs.Common.{◌≡◌, ◌≢◌, ℕ, ◌≤◌, List, [], ◌∷◌, ◌++◌, true, false, cond, not, length, get_or, All, AllPairs}
+use Rattle.std.proofs.Common.{◌≡◌, ◌≢◌, ℕ, ◌≤◌, ◌*◌, List, [], ◌∷◌, ◌++◌, true, false, cond, not, length, get_or, All, AllPairs}
 use Rattle.std.proofs.Common.{Option, Some, None, option_map, option_to_list, IfSome, sym, ap, ◌∙◌, arith}
 use Rattle.std.proofs.lemmas.{Bool.false≢true, List.append-nil, List.Kept.AllPairs-filter, List.Quantifiers.all_pairs_push}
 use Rattle.std.proofs.lemmas.List.Elements.{All-head, All-tail, All-filter, All-weaker, All-push, All-get_or, filter_passes}
 use Rattle.std.specs.{List.find, FinMap.get}
 use Rattle.std.proofs.lemmas.Grind.{common_steps}
-use Rattle.graph_types.specs.{Limits.{IsWeight, IsTime, name_limit, kind_limit}, Graph.{Graph, Key, Stamp, key_of, stamp_of}}
-use Rattle.graph_types.specs.Graph.{map_of, graph_of, has_key, without, IsAt, IsEdgeWithin, IsContent, content_of}
+use Rattle.graph_types.specs.{Limits.{IsWeight, IsTime, LimitsView, AreLimits, most_names, most_kinds, most_places}, Graph.{Graph, Key, Stamp, key_of, stamp_of}}
+use Rattle.graph_types.specs.Graph.{map_of, graph_of, graph_in, has_key, without, IsAt, IsEdgeWithin, IsContent, IsContentIn, content_of}
 use Rattle.graph_types.specs.{Changes.{AreMarks, option_stamp}, Step.{names_made, kinds_made, stamp_after, set_at, changed_key}}
 use Rattle.graph_types.specs.{Step.{changed, was_before, later}, declared.{ids.Edge.Edge, changes.EdgeChange.EdgeChange}}
 use Rattle.graph_types.specs.declared.{changes.EdgeMarks.EdgeMarks, contents.Content.Content}
 use Rattle.graph_types.proofs.NameLists.{IsNamed, IsNamed-changed_key, length-names_made, length-kinds_made, AllPairs-names_made}
-use Rattle.graph_types.proofs.{NameLists.AllPairs-kinds_made, EdgeLookup.{Decides-has_key, get-map_of, map_of-put}}
+use Rattle.graph_types.proofs.{NameLists.AllPairs-kinds_made, LimitsKept.places_within, EdgeLookup.{Decides-has_key, get-map_of, map_of-put}}
 
 -- one change on plain lists: what stood at its key is taken away, and what is to stand there comes at the end
 pub record IsApplied (change : EdgeChange) (kind source target : List ℕ) (old new : Content) (key : Key)
@@ -58,8 +58,8 @@ module _ (change : EdgeChange) (kind source target : List ℕ) (old new : Conten
       ∙ ap (set_at (map_of old.edges) key) step.stamp
       ∙ ap (λ k. set_at (map_of old.edges) k (stamp_after change (get (map_of old.edges) k))) step.key_is
 
-  pub graph_of-applied : graph_of new ≡ changed change kind source target (graph_of old)
-  graph_of-applied i = record { names = step.names i; kinds = step.kinds i; edges = edges-applied i }
+  pub graph_in-applied : (l : LimitsView) → graph_in l new ≡ changed change kind source target (graph_in l old)
+  graph_in-applied l i = record { names = step.names i; kinds = step.kinds i; edges = edges-applied i; limits = l }
 
 -- a key of which all edges have gone, and an edge with it
 keys_apart : (key : Key) (edges : List Edge) (put : Option Edge) → IfSome put (IsAt key)
@@ -101,8 +101,9 @@ named_put change kind source target g before (Some e) is = IsNamed-changed_key c
 
 pub IsContent-applied : (change : EdgeChange) (kind source target : List ℕ) (old new : Content) (key : Key) (put : Option Edge)
     → IsApplied change kind source target old new key put
-    → IsContent old → length new.names ≤ name_limit → length new.kinds ≤ kind_limit → IsContent new
-IsContent-applied change kind source target old new key put step content names_few kinds_few =
+    → IsContent old → length new.names ≤ most_names → length new.kinds ≤ most_kinds
+    → length new.names * length new.kinds ≤ most_places → IsContent new
+IsContent-applied change kind source target old new key put step content names_few kinds_few places_few =
     let n = length new.names in
     let m = length new.kinds in
     let names_more : length old.names ≤ length new.names = rw step.names (length-names_made change source target old.names) in
@@ -115,12 +116,23 @@ IsContent-applied change kind source target old new key put step content names_f
       kinds_distinct = rw step.kinds (AllPairs-kinds_made change kind old.kinds content.kinds_distinct);
       names_few = names_few;
       kinds_few = kinds_few;
+      places_few = places_few;
       keys_distinct = rw step.edges (keys_apart key old.edges put step.at content.keys_distinct);
       edges_within = rw step.edges
           (all_within n m key old.edges put named_here step.at
           (All-weaker (IsEdgeWithin (length old.names) (length old.kinds)) (IsEdgeWithin n m)
           (λ e. within_more _ _ _ _ e names_more kinds_more) old.edges content.edges_within));
     }
+
+pub IsContentIn-applied : (l : LimitsView) (change : EdgeChange) (kind source target : List ℕ) (old new : Content) (key : Key)
+    (put : Option Edge) → AreLimits l → IsApplied change kind source target old new key put → IsContentIn l old
+    → length new.names ≤ l.names → length new.kinds ≤ l.kinds → IsContentIn l new
+IsContentIn-applied l change kind source target old new key put are step is names_few kinds_few = record {
+  content = IsContent-applied change kind source target old new key put step is.content (omega (arith, names_few, are.names))
+      (omega (arith, kinds_few, are.kinds)) (places_within l (length new.names) (length new.kinds) are names_few kinds_few);
+  names_few = names_few;
+  kinds_few = kinds_few;
+}
 
 -- a content without the edges that were last touched before a time is a content
 pub IsContent-later : (time : ℕ) (c : Content) → IsContent c → IsContent (content_of c.names c.kinds (later time c.edges))
@@ -129,6 +141,15 @@ IsContent-later time c is = record {
   kinds_distinct = is.kinds_distinct;
   names_few = is.names_few;
   kinds_few = is.kinds_few;
+  places_few = is.places_few;
   keys_distinct = AllPairs-filter (λ a b. key_of a ≢ key_of b) (λ e. not (was_before time e)) c.edges is.keys_distinct;
   edges_within = All-filter (λ e. not (was_before time e)) (IsEdgeWithin (length c.names) (length c.kinds)) c.edges is.edges_within;
+}
+
+pub IsContentIn-later : (l : LimitsView) (time : ℕ) (c : Content) → IsContentIn l c
+    → IsContentIn l (content_of c.names c.kinds (later time c.edges))
+IsContentIn-later l time c is = record {
+  content = IsContent-later time c is.content;
+  names_few = is.names_few;
+  kinds_few = is.kinds_few;
 }

@@ -5,18 +5,19 @@ use Rattle.std.proofs.lemmas.List.{length-set}
 use Rattle.std.proofs.lemmas.List.{take_all, Elements.All-set}
 use Rattle.std.proofs.lemmas.{List.Elements.{All-more, Contains-get_or}, Grind.common_steps}
 use Rattle.std.specs.Prelude.{All, sum, count_by}
+use Rattle.graph_types.specs.Limits.{most_names}
 use Rattle.graph_types.{specs.Arcs.{AreWithin, at, IsLowered, IsClosed}, proofs.Settling.{lowered_more, sum_falls}}
 use Rattle.graph_model.specs.Links.{supports}
 
 -- a round along arcs, so far
 pub record IsArcRound (arcs : List (ℕ × ℕ)) (step : ℕ) (old numbers : List ℕ) (lowered : Bool) (i : ℕ) : Type 0 where
   pub size : length numbers ≡ length old
-  pub few : All (λ number. number ≤ 65536) numbers
+  pub few : All (λ number. number ≤ most_names) numbers
   pub keeps : (first : List ℕ) → IsLowered arcs step first old → IsLowered arcs step first numbers
   pub falls : lowered ≡ true → sum numbers < sum old
   pub stays : lowered ≡ false → (numbers ≡ old) × IsClosed (take i arcs) step old
 
-pub arc_round_start : (arcs : List (ℕ × ℕ)) (step : ℕ) (old : List ℕ) → All (λ number. number ≤ 65536) old
+pub arc_round_start : (arcs : List (ℕ × ℕ)) (step : ℕ) (old : List ℕ) → All (λ number. number ≤ most_names) old
     → IsArcRound arcs step old old false 0
 arc_round_start arcs step old few = grind (arith, common_steps)
 
@@ -48,7 +49,7 @@ arc_round_lowered arcs step old numbers lowered i x within r h less =
     let more = sum_falls numbers arc.1 (at numbers arc.0 + step) inside less in
     record {
       size = length-set numbers arc.1 (at numbers arc.0 + step) ∙ r.size;
-      few = All-set (λ number. number ≤ 65536) numbers arc.1 (at numbers arc.0 + step)
+      few = All-set (λ number. number ≤ most_names) numbers arc.1 (at numbers arc.0 + step)
           (let f = r.few arc.1 0 inside in omega arith) r.few;
       keeps = λ first l.
           let same = l.size in

@@ -3,6 +3,7 @@ use Rattle.std.proofs.Common.{◌≡◌, ℕ, ◌<◌, ◌≤◌, arith, List, l
 use Rattle.std.proofs.lemmas.List.{FromFn.length-range_with_len, FromFn.get_or-range_with_len}
 use Rattle.std.{specs.Prelude.All, specs.List.range_with_len}
 use Rattle.std.proofs.lemmas.Grind.{common_steps}
+use Rattle.graph_types.specs.Limits.{most_names}
 use Rattle.graph_types.specs.{Graph.{graph_of, IsContent}, Analyses.{AreLevels, AreLabels}, Arcs.{arcs_of, two_way, AreWithin}}
 use Rattle.graph_types.specs.{Arcs.{IsLowered, IsClosed, level_start, level_of}, declared.contents.Content.Content}
 use Rattle.graph_types.{specs.declared.ids.Filter.Filter, proofs.Arcs.{arc_leads, leads_arc, arcs_within, arc_joins, joins_arc}}
@@ -14,7 +15,7 @@ module _ (f : Filter) (c : Content) (is : IsContent c) where
   levels_within source arcs first same start = rw (start, level_start_long (length c.names) source, same) (arcs_within f c is)
 
   pub levels_few : (source : ℕ) (first : List ℕ) → first ≡ level_start (length c.names) source
-      → All (λ number. number ≤ 65536) first
+      → All (λ number. number ≤ most_names) first
   levels_few source first start = grind (arith, common_steps)
 
   pub levels_done : (source : ℕ) (arcs : List (ℕ × ℕ)) (first numbers : List ℕ) → source < length c.names
@@ -30,7 +31,7 @@ module _ (f : Filter) (c : Content) (is : IsContent c) where
       → first ≡ range_with_len 0 (length c.names) → AreWithin (length first) arcs
   labels_within arcs first same start = rw (start, length-range_with_len 0 (length c.names), same) (two_way_within f c is)
 
-  pub labels_few : (first : List ℕ) → first ≡ range_with_len 0 (length c.names) → All (λ number. number ≤ 65536) first
+  pub labels_few : (first : List ℕ) → first ≡ range_with_len 0 (length c.names) → All (λ number. number ≤ most_names) first
   labels_few first start = grind (arith, common_steps, length-range_with_len, get_or-range_with_len)
 
   pub labels_done : (arcs : List (ℕ × ℕ)) (first numbers : List ℕ) → arcs ≡ two_way (arcs_of f c.edges)

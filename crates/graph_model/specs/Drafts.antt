@@ -1,6 +1,6 @@
 -- Words on the copy of a content that is changed, and on the edges in it.
-use Rattle.std.specs.{Prelude.{ℕ, List, [], ◌∷◌}, FinMap.empty}
-use Rattle.graph_types.specs.{Graph.{Key, content_of}, Step.after, declared.{ids.Edge.Edge, batches.NamedOp.NamedOp}}
+use Rattle.std.specs.Prelude.{ℕ, List, [], ◌∷◌}
+use Rattle.graph_types.specs.{Graph.{Key, content_of}, Step.{after, empty_graph}, declared.{ids.Edge.Edge, batches.NamedOp.NamedOp}}
 use Rattle.graph_types.specs.declared.{changes.EdgeMarks.EdgeMarks, contents.Content.Content}
 use Rattle.graph_model.specs.declared.{drafts.Draft.Draft, edges.EdgeKey.EdgeKey}
 
@@ -22,9 +22,9 @@ edge_with k m = record {
   recent = m.recent;
 }
 
--- the vertices' names that an operation leaves, and that operations leave: they depend on no kinds and on no edges
+-- the vertices' names that an operation leaves, and that operations leave: they depend on no kinds, no edges and no limits
 abbrev pub names_after : NamedOp → List (List ℕ) → List (List ℕ)
-names_after op names = (after op (record { names = names; kinds = []; edges = empty })).names
+names_after op names = (after op (record empty_graph { names = names })).names
 
 abbrev pub names_left : List NamedOp → List (List ℕ) → List (List ℕ)
 names_left [] names = names

@@ -1,6 +1,6 @@
 -- When a batch is refused, and which answers take memory.
 use Rattle.std.specs.Prelude.{◌≡◌, ◌≢◌, ◌⊎◌, ◌<◌, ℕ, List, length, Bool, true, false}
-use Rattle.graph_types.specs.{Limits.{name_limit, kind_limit}, Graph.Graph, Step.{MeetsNameLimit, MeetsKindLimit}}
+use Rattle.graph_types.specs.{Graph.Graph, Step.{MeetsNameLimit, MeetsKindLimit}}
 use Rattle.graph_types.specs.declared.{batches.NamedOp.NamedOp, requests.Request.{Request, TheVariants.OneEdge}}
 use Rattle.graph_model.specs.declared.apply.PlainError.{PlainError, TheVariants.{NamesFull, KindsFull, OutOfMemory}}
 
@@ -15,18 +15,18 @@ abbrev pub TellsNamesFirst : Type 0
 TellsNamesFirst =
     (error : PlainError) (ops : List NamedOp) (g : Graph) → MeetsNameLimit ops g → Refuses error ops g → error ≢ KindsFull
 
--- a graph past the limit that an error speaks of; want of memory may come at any time
+-- a graph past the limit of its own that an error speaks of; want of memory may come at any time
 abbrev pub Exceeds : PlainError → Graph → Type 0
-Exceeds NamesFull g = name_limit < length g.names
-Exceeds KindsFull g = kind_limit < length g.kinds
+Exceeds NamesFull g = g.limits.names < length g.names
+Exceeds KindsFull g = g.limits.kinds < length g.kinds
 Exceeds OutOfMemory g = Unit {0}
 
 -- a growth that was refused, or more names than the limit
-abbrev pub IsNamesRefusal : PlainError → List (List ℕ) → Type 0
-IsNamesRefusal error names = (error ≡ OutOfMemory) ⊎ ((error ≡ NamesFull) × (name_limit < length names))
+abbrev pub IsNamesRefusal : ℕ → PlainError → List (List ℕ) → Type 0
+IsNamesRefusal limit error names = (error ≡ OutOfMemory) ⊎ ((error ≡ NamesFull) × (limit < length names))
 
-abbrev pub IsKindsRefusal : PlainError → List (List ℕ) → Type 0
-IsKindsRefusal error kinds = (error ≡ OutOfMemory) ⊎ ((error ≡ KindsFull) × (kind_limit < length kinds))
+abbrev pub IsKindsRefusal : ℕ → PlainError → List (List ℕ) → Type 0
+IsKindsRefusal limit error kinds = (error ≡ OutOfMemory) ⊎ ((error ≡ KindsFull) × (limit < length kinds))
 
 abbrev pub takes_memory : Request → Bool
 takes_memory (OneEdge kind source target) = false

@@ -1,6 +1,7 @@
 //! Core numbers.
 
 ghost use Rattle.std.specs.Prelude.{◌≡◌, ◌<◌, ◌≤◌, ◌⊎◌, ℕ, suc, length, count_by, replicate, All, IfOk, sum, true, false};
+ghost use Rattle.graph_types.specs.Limits.{most_names};
 ghost use Rattle.graph_types.specs.Graph.{graph_of, IsContent};
 ghost use Rattle.graph_types.specs.Analyses.{AreCoreNumbers};
 ghost use Rattle.graph_types.specs.Arcs.{AreWithin, at};
@@ -96,9 +97,9 @@ fn lower_once(numbers: &mut [usize], supports: &[usize]) -> bool
     lowered
 }
 
-/// The same numbers, which are at most 65,536, in 32 bits.
+/// The same numbers, which are at most as many as there are vertices, in 32 bits.
 fn shortened(alloc: Global, numbers: &[usize]) -> Result<Vec<u32>, AllocError>
-    requires { All (λ number. number ≤ 65536) numbers.now }
+    requires { All (λ number. number ≤ most_names) numbers.now }
     ensures { IfOk result (λ short. short.items ≡ numbers.now) }
 {
     let mut short = Vec::with_capacity(alloc, numbers.len())?;

@@ -2,7 +2,7 @@
 
 ghost use Rattle.std.specs.Prelude.{◌≡◌, IfOk, OnOk, IfErr};
 ghost use Rattle.graph_types.specs.Changes.{IsChange};
-ghost use Rattle.graph_types.specs.Graph.{graph_of, IsContent};
+ghost use Rattle.graph_types.specs.Graph.{graph_in, IsContentIn};
 ghost use Rattle.graph_types.specs.Step as step;
 ghost use Rattle.graph_types.specs.Valid.{IsValid};
 ghost use Rattle.graph_model.specs.Drafts.{shown_by};
@@ -12,7 +12,7 @@ ghost use Rattle.graph_types.specs.declared.batches.NamedOp.TheVariants.{Expire}
 use crate::PlainError;
 use crate::edges::{EdgeKey, clear_before, marks_at, put_at};
 use crate::names::{make_kind, make_names, number_of};
-use graph_types::{Content, Edge, EdgeChange, List, Name, NamedOp, Outcome, change_edge};
+use graph_types::{Content, Edge, EdgeChange, Limits, List, Name, NamedOp, Outcome, change_edge};
 use std::alloc::{AllocError, Global};
 
 /// A copy of a content, whose lists can grow.
@@ -48,15 +48,15 @@ impl Draft {
 
     /// Applies an operation. After an error the draft is of no use.
     ///
-    /// `NamesFull` where it would leave more than 65,536 vertices, `KindsFull` where it would leave more than 64
-    /// kinds, and `OutOfMemory` where a growth was refused.
-    pub(crate) fn apply(&mut self, op: &NamedOp) -> Result<Outcome, PlainError>
-        requires content { IsContent (shown_by self.old) }
+    /// `NamesFull` where it would leave more vertices than the limits allow, `KindsFull` where it would leave more kinds,
+    /// and `OutOfMemory` where a growth was refused.
+    pub(crate) fn apply(&mut self, limits: Limits, op: &NamedOp) -> Result<Outcome, PlainError>
+        requires content { IsContentIn limits (shown_by self.old) }
         requires valid { IsValid op.now }
-        ensures outcome { IfOk result (λ o. o ≡ step.outcome op.now (graph_of (shown_by self.old))) }
-        ensures graph { OnOk result (graph_of (shown_by self.new) ≡ step.after op.now (graph_of (shown_by self.old))) }
-        ensures content { OnOk result (IsContent (shown_by self.new)) }
-        ensures refused { IfErr result (λ e. Exceeds e (step.after op.now (graph_of (shown_by self.old)))) }
+        ensures outcome { IfOk result (λ o. o ≡ step.outcome op.now (graph_in limits (shown_by self.old))) }
+        ensures graph { OnOk result (graph_in limits (shown_by self.new) ≡ step.after op.now (graph_in limits (shown_by self.old))) }
+        ensures content { OnOk result (IsContentIn limits (shown_by self.new)) }
+        ensures refused { IfErr result (λ e. Exceeds e (step.after op.now (graph_in limits (shown_by self.old)))) }
     {
         match op {
             NamedOp::Insert {
@@ -70,7 +70,7 @@ impl Draft {
                     weight: *weight,
                     time: *time,
                 };
-                self.change(change, kind, source, target)
+                self.change(limits, change, kind, source, target)
             }
             NamedOp::Incr {
                 kind,
@@ -83,23 +83,23 @@ impl Draft {
                     amount: *amount,
                     time: *time,
                 };
-                self.change(change, kind, source, target)
+                self.change(limits, change, kind, source, target)
             }
             NamedOp::Remove {
                 kind,
                 source,
                 target,
-            } => self.change(EdgeChange::Remove, kind, source, target),
-            NamedOp::Expire { time } => Ok(self.expire(*time)),
+            } => self.change(limits, EdgeChange::Remove, kind, source, target),
+            NamedOp::Expire { time } => Ok(self.expire(limits, *time)),
         }
     }
 
     /// Takes away the edges that were last touched before a time, and answers by how many. It takes no memory.
-    fn expire(&mut self, time: u64) -> Outcome
-        requires { IsContent (shown_by self.old) }
-        ensures outcome { result ≡ step.outcome (Expire time) (graph_of (shown_by self.old)) }
-        ensures graph { graph_of (shown_by self.new) ≡ step.after (Expire time) (graph_of (shown_by self.old)) }
-        ensures content { IsContent (shown_by self.new) }
+    fn expire(&mut self, limits: Limits, time: u64) -> Outcome
+        requires { IsContentIn limits (shown_by self.old) }
+        ensures outcome { result ≡ step.outcome (Expire time) (graph_in limits (shown_by self.old)) }
+        ensures graph { graph_in limits (shown_by self.new) ≡ step.after (Expire time) (graph_in limits (shown_by self.old)) }
+        ensures content { IsContentIn limits (shown_by self.new) }
     {
         let before = self.edges.as_slice().len();
         clear_before(&mut self.edges, time);
@@ -110,23 +110,24 @@ impl Draft {
     /// Changes the edge of this kind between these vertices, with the errors of an operation.
     fn change(
         &mut self,
+        limits: Limits,
         change: EdgeChange,
         kind: &Name,
         source: &Name,
         target: &Name,
     ) -> Result<Outcome, PlainError>
-        requires content { IsContent (shown_by self.old) }
+        requires content { IsContentIn limits (shown_by self.old) }
         requires change { IsChange change }
         ensures outcome { IfOk result (λ o.
-            o ≡ step.change_outcome change kind.now source.now target.now (graph_of (shown_by self.old))) }
+            o ≡ step.change_outcome change kind.now source.now target.now (graph_in limits (shown_by self.old))) }
         ensures graph { OnOk result
-            (graph_of (shown_by self.new) ≡ step.changed change kind.now source.now target.now (graph_of (shown_by self.old))) }
-        ensures content { OnOk result (IsContent (shown_by self.new)) }
+            (graph_in limits (shown_by self.new) ≡ step.changed change kind.now source.now target.now (graph_in limits (shown_by self.old))) }
+        ensures content { OnOk result (IsContentIn limits (shown_by self.new)) }
         ensures refused { IfErr result (λ e.
-            Exceeds e (step.changed change kind.now source.now target.now (graph_of (shown_by self.old)))) }
+            Exceeds e (step.changed change kind.now source.now target.now (graph_in limits (shown_by self.old)))) }
     {
-        make_names(&mut self.names, change, source, target)?;
-        make_kind(&mut self.kinds, change, kind)?;
+        make_names(&mut self.names, limits.names(), change, source, target)?;
+        make_kind(&mut self.kinds, limits.kinds(), change, kind)?;
         let key = EdgeKey::of(
             number_of(self.kinds.as_slice(), kind),
             number_of(self.names.as_slice(), source),

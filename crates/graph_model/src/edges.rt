@@ -5,7 +5,7 @@ ghost use Rattle.std.specs.Option.{option_map, option_to_list};
 ghost use Rattle.std.specs.List.{find};
 ghost use Rattle.std.specs.FinMap.{get};
 ghost use Rattle.graph_types.specs.Graph as graph;
-ghost use Rattle.graph_types.specs.Limits.{name_limit, kind_limit};
+ghost use Rattle.graph_types.specs.Limits.{most_names, most_kinds};
 ghost use Rattle.graph_types.specs.Changes.{stamp_in, option_stamp};
 ghost use Rattle.graph_model.specs.Drafts.{shown_key, edge_with};
 ghost use Rattle.graph_types.specs.Step as step;
@@ -24,9 +24,9 @@ pub(crate) struct EdgeKey {
 impl EdgeKey {
     /// The key of these numbers.
     pub(crate) fn of(kind: usize, source: usize, target: usize) -> EdgeKey
-        requires kind { kind ≤ kind_limit }
-        requires source { source ≤ name_limit }
-        requires target { target ≤ name_limit }
+        requires kind { kind ≤ most_kinds }
+        requires source { source ≤ most_names }
+        requires target { target ≤ most_names }
         ensures { shown_key result ≡ record { kind = kind; source = source; target = target } }
     {
         EdgeKey {

@@ -1,7 +1,6 @@
 //! Names and kinds in order of first appearance, as operations make them.
 
 ghost use Rattle.std.specs.Prelude.{◌≡◌, ◌≤◌, length, position, bytes_eq, IfOk, OnOk, IfErr};
-ghost use Rattle.graph_types.specs.Limits.{name_limit, kind_limit};
 ghost use Rattle.graph_types.specs.Step as step;
 ghost use Rattle.graph_model.specs.Drafts as left;
 ghost use Rattle.graph_model.specs.Refusals.{IsNamesRefusal, IsKindsRefusal};
@@ -52,86 +51,94 @@ fn makes_names(change: EdgeChange) -> bool
 }
 
 /// Adds the names of an edge's two ends, where the change makes them. `NamesFull` where they would be more than
-/// 65,536.
+/// the limit.
 pub(crate) fn make_names(
     names: &mut Vec<Name>,
+    limit: u32,
     change: EdgeChange,
     source: &Name,
     target: &Name,
 ) -> Result<(), PlainError>
     ensures made { OnOk result (names.new.items ≡ step.names_made change source.now target.now names.old.items) }
-    ensures few { OnOk result (length names.old.items ≤ name_limit → length names.new.items ≤ name_limit) }
-    ensures refused { IfErr result (λ e. IsNamesRefusal e (step.names_made change source.now target.now names.old.items)) }
+    ensures few { OnOk result (length names.old.items ≤ limit → length names.new.items ≤ limit) }
+    ensures refused { IfErr result (λ e. IsNamesRefusal limit e (step.names_made change source.now target.now names.old.items)) }
 {
     if !makes_names(change) {
         return Ok(());
     }
-    make_both(names, source, target)
+    make_both(names, limit, source, target)
 }
 
-/// Adds the names of an edge's two ends. `NamesFull` where they would be more than 65,536.
-fn make_both(names: &mut Vec<Name>, source: &Name, target: &Name) -> Result<(), PlainError>
+/// Adds the names of an edge's two ends. `NamesFull` where they would be more than the limit.
+fn make_both(
+    names: &mut Vec<Name>,
+    limit: u32,
+    source: &Name,
+    target: &Name,
+) -> Result<(), PlainError>
     ensures made { OnOk result (names.new.items ≡ step.with_name (step.with_name names.old.items source.now) target.now) }
-    ensures few { OnOk result (length names.new.items ≤ name_limit) }
-    ensures refused { IfErr result (λ e. IsNamesRefusal e
+    ensures few { OnOk result (length names.new.items ≤ limit) }
+    ensures refused { IfErr result (λ e. IsNamesRefusal limit e
         (step.with_name (step.with_name names.old.items source.now) target.now)) }
 {
     add_name(names, source)?;
     add_name(names, target)?;
-    if names.len() > 65_536 {
+    if names.len() > limit as usize {
         return Err(PlainError::NamesFull);
     }
     Ok(())
 }
 
-/// Adds the name of an edge's kind, where the change makes it. `KindsFull` where they would be more than 64.
+/// Adds the name of an edge's kind, where the change makes it. `KindsFull` where they would be more than the limit.
 pub(crate) fn make_kind(
     kinds: &mut Vec<Name>,
+    limit: u32,
     change: EdgeChange,
     kind: &Name,
 ) -> Result<(), PlainError>
     ensures made { OnOk result (kinds.new.items ≡ step.kinds_made change kind.now kinds.old.items) }
-    ensures few { OnOk result (length kinds.old.items ≤ kind_limit → length kinds.new.items ≤ kind_limit) }
-    ensures refused { IfErr result (λ e. IsKindsRefusal e (step.kinds_made change kind.now kinds.old.items)) }
+    ensures few { OnOk result (length kinds.old.items ≤ limit → length kinds.new.items ≤ limit) }
+    ensures refused { IfErr result (λ e. IsKindsRefusal limit e (step.kinds_made change kind.now kinds.old.items)) }
 {
     if !makes_names(change) {
         return Ok(());
     }
     add_name(kinds, kind)?;
-    if kinds.len() > 64 {
+    if kinds.len() > limit as usize {
         return Err(PlainError::KindsFull);
     }
     Ok(())
 }
 
-/// Adds the vertices' names that an operation makes. `NamesFull` where they would be more than 65,536.
-fn make_names_of(names: &mut Vec<Name>, op: &NamedOp) -> Result<(), PlainError>
+/// Adds the vertices' names that an operation makes. `NamesFull` where they would be more than the limit.
+fn make_names_of(names: &mut Vec<Name>, limit: u32, op: &NamedOp) -> Result<(), PlainError>
     ensures made { OnOk result (names.new.items ≡ left.names_after op.now names.old.items) }
-    ensures few { OnOk result (length names.old.items ≤ name_limit → length names.new.items ≤ name_limit) }
-    ensures refused { IfErr result (λ e. IsNamesRefusal e (left.names_after op.now names.old.items)) }
+    ensures few { OnOk result (length names.old.items ≤ limit → length names.new.items ≤ limit) }
+    ensures refused { IfErr result (λ e. IsNamesRefusal limit e (left.names_after op.now names.old.items)) }
 {
     match op {
         NamedOp::Insert { source, target, .. } | NamedOp::Incr { source, target, .. } => {
-            make_both(names, source, target)
+            make_both(names, limit, source, target)
         }
         NamedOp::Remove { .. } | NamedOp::Expire { .. } => Ok(()),
     }
 }
 
-/// The vertices' names that the operations leave. `NamesFull` where they are more than 65,536.
+/// The vertices' names that the operations leave. `NamesFull` where they are more than the limit.
 pub(crate) fn names_left(
     alloc: Global,
+    limit: u32,
     names: &[Name],
     ops: &[NamedOp],
 ) -> Result<Vec<Name>, PlainError>
-    requires { length names.now ≤ name_limit }
+    requires { length names.now ≤ limit }
     ensures left { IfOk result (λ all. all.items ≡ left.names_left ops.now names.now) }
-    ensures few { IfOk result (λ all. length all.items ≤ name_limit) }
-    ensures refused { IfErr result (λ e. IsNamesRefusal e (left.names_left ops.now names.now)) }
+    ensures few { IfOk result (λ all. length all.items ≤ limit) }
+    ensures refused { IfErr result (λ e. IsNamesRefusal limit e (left.names_left ops.now names.now)) }
 {
     let mut all = names.to_vec(alloc)?;
     for op in ops {
-        make_names_of(&mut all, op)?;
+        make_names_of(&mut all, limit, op)?;
     }
     Ok(all)
 }

@@ -5,7 +5,7 @@ ghost use Rattle.std.specs.Prelude.{false};
 ghost use Rattle.graph_types.specs.Answer.{IsAnswer, is_listed, filter_refusal, resolved, degree_table, shown};
 ghost use Rattle.graph_types.specs.Degrees.{CountsEdge, IsWithinLimits, with_edge};
 ghost use Rattle.graph_types.specs.Graph.{graph_of, map_of, IsContent};
-ghost use Rattle.graph_types.specs.Limits.{IsWeight, kind_limit};
+ghost use Rattle.graph_types.specs.Limits.{IsWeight, most_kinds};
 ghost use Rattle.graph_types.specs.Step.{number_of};
 ghost use Rattle.graph_types.specs.Changes.{stamp_in};
 ghost use Rattle.graph_model.specs.Drafts.{shown_key};
@@ -98,7 +98,7 @@ fn times_of(marks: EdgeMarks) -> (i64, u64, u64)
 
 /// The filter with its kind's number in place of the name.
 pub(crate) fn resolve(content: &Content, filter: &NamedFilter) -> Result<Filter, AskError>
-    requires { length content.now.kinds ≤ kind_limit }
+    requires { length content.now.kinds ≤ most_kinds }
     ensures found { IfOk result (λ f. f ≡ resolved (graph_of content.now) filter.now) }
     ensures refused { MatchResult result
         (λ _. filter_refusal (graph_of content.now) filter.now true ≡ None)
@@ -121,7 +121,7 @@ pub(crate) fn resolve(content: &Content, filter: &NamedFilter) -> Result<Filter,
 /// A kind's number.
 #[tactic(auto, using(graph_types::proofs::NameNumbers::place_none, graph_types::proofs::NameNumbers::place_some, graph_types::proofs::NameNumbers::place_number))]
 fn kind_of(content: &Content, name: &Name) -> Result<KindId, AskError>
-    requires { length content.now.kinds ≤ kind_limit }
+    requires { length content.now.kinds ≤ most_kinds }
     ensures found { IfOk result (λ kind. kind.0 ≡ number_of content.now.kinds name.now) }
     ensures listed { OnOk result (is_listed content.now.kinds name.now ≡ true) }
     ensures refused { IfErr result (λ e. (e ≡ AskError.NoKind) × (is_listed content.now.kinds name.now ≡ false)) }

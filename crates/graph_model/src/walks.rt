@@ -2,6 +2,7 @@
 
 ghost use Rattle.std.specs.Prelude.{◌≡◌, ◌<◌, ◌≤◌, length, map, IfOk};
 ghost use Rattle.std.specs.List.{range_with_len};
+ghost use Rattle.graph_types.specs.Limits.{most_names};
 ghost use Rattle.graph_types.specs.Graph.{graph_of, IsContent};
 ghost use Rattle.graph_types.specs.Analyses.{AreLevels, AreLabels};
 ghost use Rattle.graph_types.specs.Arcs.{level_start, level_of};
@@ -35,7 +36,7 @@ pub fn plain_levels(
 
 /// 0 at the source, and the number of vertices, which no level reaches, at all others.
 fn unreached(alloc: Global, count: usize, source: VertexId) -> Result<Vec<u32>, AllocError>
-    requires few { count ≤ 65536 }
+    requires few { count ≤ most_names }
     requires listed { source.0 < count }
     ensures { IfOk result (λ numbers. numbers.items ≡ level_start count source.0) }
 {

@@ -1,11 +1,11 @@
 -- How many edges a vertex can have: where each key stands once, at most one for each kind and each other end,
--- so 2 ^ 22 with 64 kinds and 65,536 vertices. And how large the sum of their weights can be.
+-- so one for each place. And how large the sum of their weights can be.
 use Rattle.std.proofs.Common.{◌≡◌, ℕ, zero, suc, ◌+◌, ◌*◌, ◌^◌, ◌<◌, ◌≤◌, Bool, true, false, cond, ◌&&◌, eqb, ltb, List, [], ◌∷◌}
-use Rattle.std.proofs.{Common.{get_or, map, ℤ, pos, ◌+ℤ◌, nat_abs, refl, sym, subst, arith}, lemmas.Int.ints}
+use Rattle.std.proofs.{Common.{get_or, map, ℤ, pos, ◌+ℤ◌, nat_abs, refl, sym, subst, arith}, lemmas.Int.ints, Math.Nat.mul_comm}
 use Rattle.std.proofs.lemmas.List.Sums.{sum_by-cons, sum_by-le-sum_by, sum_by-le}
 use Rattle.std.{proofs.lemmas.List.Elements.All-tail, specs.Prelude.{count_by, sum_by, filter, fold, All}}
 use Rattle.std.proofs.lemmas.Grind.{common_steps}
-use Rattle.graph_types.specs.{Graph.{Key, entry_of, IsEdgeWithin}, Limits.IsWeight, View.{in_view, leaves, enters}}
+use Rattle.graph_types.specs.{Graph.{Key, entry_of, IsEdgeWithin}, Limits.{IsWeight, most_places}, View.{in_view, leaves, enters}}
 use Rattle.graph_types.specs.{Degrees.{listed_degree, IsWithinLimits}, declared.ids.{Edge.Edge, Filter.Filter}}
 use Rattle.graph_types.proofs.{Keys.HasKeysOnce, Keys.is_key_of, Keys.count_key, Folds.fold_from}
 
@@ -55,13 +55,15 @@ module _ {X : Type 0} where
   crowd p number each n xs few within = omega (arith, within_below p number n xs within, crowd_below p number each xs few n)
 
 -- of the edges that pass, at most one for each kind and each other end
-crowd_of_edges : (p : Edge → Bool) (other : Edge → ℕ) (es : List Edge)
-    → ((k v : ℕ) → count_by (λ e. (p e && eqb e.kind.0 k) && eqb (other e) v) es ≤ 1) → All (λ e. e.kind.0 < 64) es
-    → All (λ e. other e < 65536) es → count_by p es ≤ 2 ^ 22
-crowd_of_edges p other es few kinds others =
-    let of_kind : (k : ℕ) → count_by (λ e. p e && eqb e.kind.0 k) es ≤ 65536 =
-    λ k. omega (arith, crowd (λ e. p e && eqb e.kind.0 k) other 1 65536 es (few k) others) in
-    omega (arith, crowd p (λ e. e.kind.0) 65536 64 es of_kind kinds)
+pub crowd_of_edges : (p : Edge → Bool) (other : Edge → ℕ) (n m : ℕ) (es : List Edge)
+    → ((k v : ℕ) → count_by (λ e. (p e && eqb e.kind.0 k) && eqb (other e) v) es ≤ 1) → All (λ e. e.kind.0 < m) es
+    → All (λ e. other e < n) es → n * m ≤ most_places → count_by p es ≤ most_places
+crowd_of_edges p other n m es few kinds others places =
+    let of_kind : (k : ℕ) → count_by (λ e. p e && eqb e.kind.0 k) es ≤ n =
+    λ k. omega (arith, crowd (λ e. p e && eqb e.kind.0 k) other 1 n es (few k) others) in
+    let all : count_by p es ≤ n * m = subst (λ most. count_by p es ≤ most) (mul_comm m n)
+    (crowd p (λ e. e.kind.0) n m es of_kind kinds) in
+    omega (arith, all, places)
 
 pub one_where : (a b : Bool) → (a ≡ true → b ≡ true) → cond a 1 0 ≤ cond b 1 0
 one_where h0 b then = grind (arith, common_steps)
@@ -116,13 +118,15 @@ sum_within p (e ∷ es) within =
     ] whole
 
 -- the degrees of a vertex over edges of a content are within the limits
-pub degree_within : (f : Filter) (es : List Edge) (n m v : ℕ) → n ≤ 65536 → m ≤ 64 → HasKeysOnce es → All (IsEdgeWithin n m) es
+pub degree_within : (f : Filter) (es : List Edge) (n m v : ℕ) → n * m ≤ most_places → HasKeysOnce es → All (IsEdgeWithin n m) es
     → IsWithinLimits (listed_degree f es v)
-degree_within f es n m v few_names few_kinds once within =
-    let kinds : All (λ (e : Edge). e.kind.0 < 64) es = λ k d h. omega (arith, (within k d h).kind) in
-    let sources : All (λ (e : Edge). e.source.0 < 65536) es = λ k d h. omega (arith, (within k d h).source) in
-    let targets : All (λ (e : Edge). e.target.0 < 65536) es = λ k d h. omega (arith, (within k d h).target) in
-    let outgoing = crowd_of_edges (λ e. leaves f v (entry_of e)) (λ e. e.target.0) es (leaves_once f v es once) kinds targets in
-    let incoming = crowd_of_edges (λ e. enters f v (entry_of e)) (λ e. e.source.0) es (enters_once f v es once) kinds sources in
+degree_within f es n m v places once within =
+    let kinds : All (λ (e : Edge). e.kind.0 < m) es = λ k d h. (within k d h).kind in
+    let sources : All (λ (e : Edge). e.source.0 < n) es = λ k d h. (within k d h).source in
+    let targets : All (λ (e : Edge). e.target.0 < n) es = λ k d h. (within k d h).target in
+    let outgoing = crowd_of_edges (λ e. leaves f v (entry_of e)) (λ e. e.target.0) n m es (leaves_once f v es once) kinds targets
+    places in
+    let incoming = crowd_of_edges (λ e. enters f v (entry_of e)) (λ e. e.source.0) n m es (enters_once f v es once) kinds sources
+    places in
     let weights = sum_within (λ e. leaves f v (entry_of e)) es (λ k d h. (within k d h).weight) in
     record { outgoing = outgoing; incoming = incoming; out_weight = omega (arith, weights, outgoing) }

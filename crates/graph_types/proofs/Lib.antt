@@ -18,3 +18,4 @@ pub mod Arcs
 pub mod Cores
 pub mod SomeTable
 pub mod OneAnswer
+pub mod LimitsKept

@@ -2,9 +2,9 @@
 use Rattle.std.proofs.Common.{◌≡◌, Some, None, Bool, true, not, refl, sym, ap, ◌∙◌, arith}
 use Rattle.std.specs.{Prelude.Result, Prelude.Ok, Prelude.Err, Prelude.zip, Prelude.nat_lt, Option.option_map, FinMap.get}
 use Rattle.std.proofs.lemmas.Grind.{common_steps}
-use Rattle.graph_types.specs.{Graph.{Graph, graph_of, IsContent}, Step.{key_in, number_of}, Answer.{IsAnswer, IsReply, refusal}}
+use Rattle.graph_types.specs.{Graph.{Graph, graph_in, IsContent}, Step.{key_in, number_of}, Answer.{IsAnswer, IsReply, refusal}}
 use Rattle.graph_types.specs.Answer.{first_refusal, resolved, degree_table, shown, reached, names_of, is_listed, is_kind_listed}
-use Rattle.graph_types.specs.declared.{contents.Content.Content, requests.Request.{Request, TheVariants.Levels as AskLevels}}
+use Rattle.graph_types.specs.{Limits.LimitsView, declared.{contents.Content.Content, requests.Request.{Request, TheVariants.Levels as AskLevels}}}
 use Rattle.graph_types.specs.declared.requests.Request.TheVariants.{Labels as AskLabels, Cores as AskCores, Degrees as AskDegrees}
 use Rattle.graph_types.specs.declared.requests.{Request.TheVariants.OneEdge as AskOneEdge, Reply.{Reply, TheVariants.Levels}}
 use Rattle.graph_types.specs.declared.requests.{Reply.TheVariants.{Labels, Cores, Degrees, OneEdge}, AskError.AskError}
@@ -29,32 +29,32 @@ one_answer request g h2 h3 a b = grind (arith, common_steps, one_reply)
 vertex_listed : (window kind vertex : Bool) → first_refusal window kind vertex ≡ None → vertex ≡ true
 vertex_listed h0 kind vertex none = grind (arith, common_steps)
 
-pub some_reply : (request : Request) (c : Content) → IsContent c → refusal request (graph_of c) ≡ None
-    → (reply : Reply) × IsReply request (graph_of c) reply
-some_reply (AskLevels source filter) c is none =
-    let g = graph_of c in
+pub some_reply : (request : Request) (limits : LimitsView) (c : Content) → IsContent c → refusal request (graph_in limits c) ≡ None
+    → (reply : Reply) × IsReply request (graph_in limits c) reply
+some_reply (AskLevels source filter) limits c is none =
+    let g = graph_in limits c in
     let listed = vertex_listed (not (nat_lt filter.hi filter.lo)) (is_kind_listed g.kinds filter.kind)
     (is_listed g.names source) none in
-    let r = some_table.levels (resolved g filter) c is (number_of g.names source) (number_of-lt g.names source listed) in
+    let r = some_table.levels (resolved g filter) limits c is (number_of g.names source) (number_of-lt g.names source listed) in
     (Levels (reached g.names r.0), (r.0, r.1, refl))
-some_reply (AskLabels filter) c is none =
-    let g = graph_of c in
-    let r = some_table.labels (resolved g filter) c is in
+some_reply (AskLabels filter) limits c is none =
+    let g = graph_in limits c in
+    let r = some_table.labels (resolved g filter) limits c is in
     (Labels (zip g.names (names_of g.names r.0)), (r.0, r.1, refl))
-some_reply (AskCores filter) c is none =
-    let g = graph_of c in
-    let r = some_table.cores (resolved g filter) c is in
+some_reply (AskCores filter) limits c is none =
+    let g = graph_in limits c in
+    let r = some_table.cores (resolved g filter) limits c is in
     (Cores (zip g.names r.0), (r.0, r.1, refl))
-some_reply (AskDegrees filter) c is none = let g =
-    graph_of c in (Degrees (zip g.names (degree_table (resolved g filter) g)), refl)
-some_reply (AskOneEdge kind source target) c is none =
-    let g = graph_of c in (OneEdge (option_map shown (get g.edges (key_in g.names g.kinds kind source target))), refl)
+some_reply (AskDegrees filter) limits c is none = let g =
+    graph_in limits c in (Degrees (zip g.names (degree_table (resolved g filter) g)), refl)
+some_reply (AskOneEdge kind source target) limits c is none =
+    let g = graph_in limits c in (OneEdge (option_map shown (get g.edges (key_in g.names g.kinds kind source target))), refl)
 
-pub some_answer : (request : Request) (c : Content) → IsContent c
-    → (answer : Result Reply AskError) × IsAnswer request (graph_of c) answer
-some_answer request c is =
-    elim (refusal request (graph_of c)) as (λ o. refusal request (graph_of c) ≡ o
-    → (answer : Result Reply AskError) × IsAnswer request (graph_of c) answer) [
-      | None ↦ λ none. let r = some_reply request c is none in (Ok r.0, (none, r.1))
+pub some_answer : (request : Request) (limits : LimitsView) (c : Content) → IsContent c
+    → (answer : Result Reply AskError) × IsAnswer request (graph_in limits c) answer
+some_answer request limits c is =
+    elim (refusal request (graph_in limits c)) as (λ o. refusal request (graph_in limits c) ≡ o
+    → (answer : Result Reply AskError) × IsAnswer request (graph_in limits c) answer) [
+      | None ↦ λ none. let r = some_reply request limits c is none in (Ok r.0, (none, r.1))
       | Some error ↦ λ refused. (Err error, refused)
     ] refl

@@ -1,7 +1,8 @@
 -- Degrees over a plain list of edges, and a table of them.
-use Rattle.std.specs.Prelude.{◌≡◌, ℕ, ◌+◌, ◌<◌, ◌≤◌, ◌^◌, pos, nat_abs, ◌+ℤ◌, ◌==◌, cond, List, map, filter, count_by, fold}
+use Rattle.std.specs.Prelude.{◌≡◌, ℕ, ◌+◌, ◌<◌, ◌≤◌, ◌*◌, pos, nat_abs, ◌+ℤ◌, ◌==◌, cond, List, map, filter, count_by, fold}
 use Rattle.std.specs.Prelude.{length, slice_index_or}
-use Rattle.graph_types.specs.{Graph.entry_of, View.{leaves, enters}, declared.ids.{Degree.Degree, Edge.Edge, Filter.Filter}}
+use Rattle.graph_types.specs.{Graph.entry_of, Limits.{most_places, weight_limit}, View.{leaves, enters}}
+use Rattle.graph_types.specs.declared.ids.{Degree.Degree, Edge.Edge, Filter.Filter}
 
 -- the degrees of v over the listed edges that the filter lets through
 abbrev pub listed_degree : Filter → List Edge → ℕ → Degree
@@ -29,8 +30,8 @@ pub record CountsEdge (e : Edge) (old new : List Degree) : Type 0 where
   pub size : length new ≡ length old
   pub at : (v : ℕ) (d : Degree) → v < length old → slice_index_or new v d ≡ with_edge e v (slice_index_or old v d)
 
--- degrees of at most 2 ^ 22 edges each way, as there are at most 65,536 vertices and 64 kinds
+-- degrees of at most one edge each way for each place, and the sum of as many weights
 pub record IsWithinLimits (d : Degree) : Type 0 where
-  pub outgoing : d.outgoing ≤ 2 ^ 22
-  pub incoming : d.incoming ≤ 2 ^ 22
-  pub out_weight : nat_abs d.out_weight ≤ 2 ^ 62
+  pub outgoing : d.outgoing ≤ most_places
+  pub incoming : d.incoming ≤ most_places
+  pub out_weight : nat_abs d.out_weight ≤ most_places * weight_limit

@@ -1,10 +1,11 @@
 -- A graph as a value: its vertex names, its kind names, and a finite map from keys to stamps.
 -- STINGER's edge has a kind, a weight and two times (Ediger, McColl, Riedy, Bader; IEEE HPEC 2012); the names
 -- and their numbers, the whole-number weights and the limits are this project's own profile.
-use Rattle.std.specs.Prelude.{◌≡◌, ◌≢◌, ℕ, ◌<◌, ◌≤◌, ℤ, List, map, length, All, AllPairs, Bool, not, ◌&&◌, ◌==◌, filter}
+use Rattle.std.specs.Prelude.{◌≡◌, ◌≢◌, ℕ, ◌<◌, ◌≤◌, ◌*◌, ℤ, List, map, length, All, AllPairs, Bool, not, ◌&&◌, ◌==◌, filter}
 use Rattle.std.specs.{Ordering.{nat_cmp, ordering_then}, FinMap.{FinMap, from_entries}, declared.cmp.Ordering.Ordering}
 pub use Rattle.graph_types.specs.Limits.{IsWeight, IsTime}
-use Rattle.graph_types.specs.{Limits.{name_limit, kind_limit}, declared.{ids.Edge.Edge, contents.Content.Content}}
+use Rattle.graph_types.specs.Limits.{LimitsView, standard_limits, most_names, most_kinds, most_places}
+use Rattle.graph_types.specs.declared.{ids.Edge.Edge, contents.Content.Content}
 
 -- which edge: the numbers of its kind, its source and its target
 pub record Key : Type 0 where
@@ -23,11 +24,12 @@ abbrev pub key_cmp : Key → Key → Ordering
 key_cmp a b =
     ordering_then (nat_cmp a.kind b.kind) (ordering_then (nat_cmp a.source b.source) (nat_cmp a.target b.target))
 
--- two graphs are equal where their names, their kinds and their maps are
+-- two graphs are equal where their names, their kinds and their maps are, and the limits that they may grow to
 pub record Graph : Type 0 where
   pub names : List (List ℕ)
   pub kinds : List (List ℕ)
   pub edges : FinMap key_cmp Stamp
+  pub limits : LimitsView
 
 -- an edge's key and its stamp
 abbrev pub key_of : Edge → Key
@@ -52,9 +54,16 @@ has_key key e = (e.kind.0 == key.kind) && (e.source.0 == key.source) && (e.targe
 abbrev pub without : Key → List Edge → List Edge
 without key edges = filter (λ e. not (has_key key e)) edges
 
--- the graph that a content's lists show
+-- the graph that a content's lists show, under these limits and under the standard ones
+abbrev pub graph_in : LimitsView → Content → Graph
+graph_in limits c = record { names = c.names; kinds = c.kinds; edges = map_of c.edges; limits = limits }
+
 abbrev pub graph_of : Content → Graph
-graph_of c = record { names = c.names; kinds = c.kinds; edges = map_of c.edges }
+graph_of c = graph_in standard_limits c
+
+-- a graph but for its limits: what answers see of it
+abbrev pub unlimited : Graph → Graph
+unlimited g = record g { limits = standard_limits }
 
 -- a content of these lists
 abbrev pub content_of : List (List ℕ) → List (List ℕ) → List Edge → Content
@@ -76,11 +85,18 @@ pub record IsEdgeWithin (n m : ℕ) (e : Edge) : Type 0 where
   pub first : IsTime e.first
   pub recent : IsTime e.recent
 
--- names and kinds are distinct and within the limits, and each key is listed once
+-- names and kinds are distinct and within the walls, and each key is listed once
 pub record IsContent (c : Content) : Type 0 where
   pub names_distinct : AllPairs (λ a b. a ≢ b) c.names
   pub kinds_distinct : AllPairs (λ a b. a ≢ b) c.kinds
-  pub names_few : length c.names ≤ name_limit
-  pub kinds_few : length c.kinds ≤ kind_limit
+  pub names_few : length c.names ≤ most_names
+  pub kinds_few : length c.kinds ≤ most_kinds
+  pub places_few : length c.names * length c.kinds ≤ most_places
   pub keys_distinct : AllPairs (λ a b. key_of a ≢ key_of b) c.edges
   pub edges_within : All (IsEdgeWithin (length c.names) (length c.kinds)) c.edges
+
+-- a content within these limits
+pub record IsContentIn (limits : LimitsView) (c : Content) : Type 0 where
+  pub content : IsContent c
+  pub names_few : length c.names ≤ limits.names
+  pub kinds_few : length c.kinds ≤ limits.kinds

@@ -1,9 +1,9 @@
 -- Laws about the definitions.
 use Rattle.std.specs.Prelude.{◌≡◌, ◌↔◌, ℕ, ◌+◌, List, Result, IsPermutation, IsTrue, All, true}
 use Rattle.std.specs.{declared.option.Option.TheVariants.Some, FinMap.{FinMap, get, len}}
-use Rattle.graph_types.specs.{Graph.{Graph, Key, Stamp, key_cmp, graph_of, content_of, IsContent}, Step.{after_all, left_by}}
+use Rattle.graph_types.specs.{Graph.{Graph, Key, Stamp, key_cmp, graph_in, content_of, IsContent}, Step.{after_all, left_by}}
 use Rattle.graph_types.specs.Step.{stamp_after, stays_from, expired, count_before, MeetsNameLimit, MeetsKindLimit}
-use Rattle.graph_types.specs.{Step.is_within_limits, Valid.{is_name, is_kind_name, IsBatch}, Answer.IsAnswer}
+use Rattle.graph_types.specs.{Limits.LimitsView, Step.is_within_limits, Valid.{is_name, is_kind_name, IsBatch}, Answer.IsAnswer}
 use Rattle.graph_types.specs.declared.{batches.NamedOp.NamedOp, changes.EdgeChange.EdgeChange, contents.Content.Content}
 use Rattle.graph_types.specs.declared.{ids.Edge.Edge, requests.{Request.Request, Reply.Reply, AskError.AskError}}
 
@@ -12,16 +12,28 @@ abbrev pub HasOneAnswer : Type 0
 HasOneAnswer =
     (request : Request) (g : Graph) (x y : Result Reply AskError) → IsAnswer request g x → IsAnswer request g y → x ≡ y
 
--- over the graph of each content a request has an answer
+-- over the graph of each content a request has an answer, whatever the limits
 abbrev pub HasSomeAnswer : Type 0
 HasSomeAnswer =
-    (request : Request) (c : Content) → IsContent c → (answer : Result Reply AskError) × IsAnswer request (graph_of c) answer
+    (request : Request) (limits : LimitsView) (c : Content) → IsContent c
+    → (answer : Result Reply AskError) × IsAnswer request (graph_in limits c) answer
+
+-- no answer depends on the limits of a graph
+abbrev pub IsFreeOfLimits : Type 0
+IsFreeOfLimits =
+    (request : Request) (g : Graph) (limits : LimitsView) (answer : Result Reply AskError)
+    → IsAnswer request g answer ↔ IsAnswer request (record g { limits = limits }) answer
+
+-- operations and batches leave the limits as they were
+pub record KeepLimits : Type 0 where
+  pub ops : (ops : List NamedOp) (g : Graph) → (after_all ops g).limits ≡ g.limits
+  pub batches : (batches : List (List NamedOp)) (g : Graph) → (left_by batches g).limits ≡ g.limits
 
 -- a content whose edges are listed in another order is the same graph, and so has the same answers
 abbrev pub IsFreeOfEdgeOrder : Type 0
 IsFreeOfEdgeOrder =
-    (c : Content) (edges : List Edge) → IsContent c → IsPermutation c.edges edges
-    → graph_of (content_of c.names c.kinds edges) ≡ graph_of c
+    (limits : LimitsView) (c : Content) (edges : List Edge) → IsContent c → IsPermutation c.edges edges
+    → graph_in limits (content_of c.names c.kinds edges) ≡ graph_in limits c
 
 -- a batch leaves a graph within the limits where it meets neither
 abbrev pub MeetsNoLimit : Type 0

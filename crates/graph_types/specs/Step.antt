@@ -3,7 +3,7 @@ use Rattle.std.specs.Prelude.{ℕ, ◌+ℤ◌, List, [], ◌∷◌, ◌++◌, Bo
 use Rattle.std.specs.{Prelude.{not, ◌<◌, length, nat_le, ◌&&◌}, Option.is_some, List.{list_any, position_or_len}, FinMap.FinMap}
 use Rattle.std.specs.{FinMap.{empty, get, insert, remove, retain_keys, entries}, declared.option.Option.Option}
 use Rattle.std.specs.declared.option.Option.TheVariants.{None, Some}
-use Rattle.graph_types.specs.{Limits.{is_weight, name_limit, kind_limit}, Graph.{Graph, Key, Stamp, key_cmp, stamp_of}}
+use Rattle.graph_types.specs.{Limits.{is_weight, LimitsView, standard_limits}, Graph.{Graph, Key, Stamp, key_cmp, stamp_of}}
 use Rattle.graph_types.specs.declared.{ids.Edge.Edge, batches.NamedOp.{NamedOp, TheVariants.{Insert, Incr, Remove, Expire}}}
 use Rattle.graph_types.specs.declared.batches.Outcome.{Outcome, TheVariants.{Inserted, Updated, Removed, Absent, Overflow}}
 use Rattle.graph_types.specs.declared.{batches.Outcome.TheVariants.Expired, changes.EdgeChange.EdgeChange}
@@ -67,7 +67,7 @@ changed_key change kind source target g =
 abbrev pub changed : EdgeChange → List ℕ → List ℕ → List ℕ → Graph → Graph
 changed change kind source target g =
     let key = changed_key change kind source target g in
-    record {
+    record g {
       names = names_made change source target g.names;
       kinds = kinds_made change kind g.kinds;
       edges = set_at g.edges key (stamp_after change (get g.edges key));
@@ -133,17 +133,20 @@ abbrev pub left_by : List (List NamedOp) → Graph → Graph
 left_by [] g = g
 left_by (batch ∷ batches) g = left_by batches (after_all batch g)
 
--- the graph without names, kinds and edges
-abbrev pub empty_graph : Graph
-empty_graph = record { names = []; kinds = []; edges = empty }
+-- the graph without names, kinds and edges, under these limits and under the standard ones
+abbrev pub empty_graph_in : LimitsView → Graph
+empty_graph_in limits = record { names = []; kinds = []; edges = empty; limits = limits }
 
--- a batch meets a limit where it would leave more names or kinds than that
+abbrev pub empty_graph : Graph
+empty_graph = empty_graph_in standard_limits
+
+-- a batch meets a limit of the graph where it would leave more names or kinds than that
 abbrev pub MeetsNameLimit : List NamedOp → Graph → Type 0
-MeetsNameLimit ops g = name_limit < length (after_all ops g).names
+MeetsNameLimit ops g = g.limits.names < length (after_all ops g).names
 
 abbrev pub MeetsKindLimit : List NamedOp → Graph → Type 0
-MeetsKindLimit ops g = kind_limit < length (after_all ops g).kinds
+MeetsKindLimit ops g = g.limits.kinds < length (after_all ops g).kinds
 
--- whether a graph is within both limits
+-- whether a graph is within both of its limits
 abbrev pub is_within_limits : Graph → Bool
-is_within_limits g = nat_le (length g.names) name_limit && nat_le (length g.kinds) kind_limit
+is_within_limits g = nat_le (length g.names) g.limits.names && nat_le (length g.kinds) g.limits.kinds

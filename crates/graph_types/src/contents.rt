@@ -6,12 +6,12 @@ use crate::{Edge, List, Name};
 use std::alloc::AllocError;
 
 /// A graph as plain lists: its vertex names and its kind names in order of first appearance, and its edges in
-/// any order, each key once. Contracts see it as the graph that it is (`graph_of` of `specs/Graph.antt`).
+/// any order, each key once. Contracts see it as the graph that it is (`graph_in` of `specs/Graph.antt`).
 #[derive(Debug)]
 pub struct Content {
-    /// At most 65,536, all different; a vertex's number is its place.
+    /// All different, and at most as many as the limits allow; a vertex's number is its place.
     pub names: List<Name>,
-    /// At most 64, all different; a kind's number is its place.
+    /// All different, and at most as many as the limits allow; a kind's number is its place.
     pub kinds: List<Name>,
     pub edges: List<Edge>,
 }

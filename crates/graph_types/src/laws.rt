@@ -1,14 +1,14 @@
 //! Laws about the definitions, as contracts of functions that do nothing.
 
 ghost use Rattle.graph_types.specs.Laws.{HasOneAnswer, HasSomeAnswer, IsFreeOfEdgeOrder, KeepsFirstTime, KeepsNames};
-ghost use Rattle.graph_types.specs.Laws.{MeetsNoLimit, Expires};
+ghost use Rattle.graph_types.specs.Laws.{MeetsNoLimit, Expires, IsFreeOfLimits, KeepLimits};
 
 /// A request has one answer over a graph: contents of equal graphs give equal answers, refusals included.
 pub fn law_one_answer()
     ensures { HasOneAnswer }
 {}
 
-/// Each request has an answer over each content: no definition of an answer is one that nothing meets.
+/// Each request has an answer over each content, whatever the limits: no definition of an answer is one that nothing meets.
 pub fn law_some_answer()
     ensures { HasSomeAnswer }
 {}
@@ -20,6 +20,7 @@ pub fn law_edge_order()
 {}
 
 /// What a batch leaves is within the limits on names and kinds exactly where it meets neither limit.
+#[tactic(auto, using(crate::proofs::LimitsKept::limits_after_all))]
 pub fn law_within_limits()
     ensures { MeetsNoLimit }
 {}
@@ -39,4 +40,16 @@ pub fn law_first_time_stays()
 #[tactic(auto, using(crate::proofs::Expiry::expires))]
 pub fn law_expiry()
     ensures { Expires }
+{}
+
+/// No answer depends on the limits of a graph: graphs of equal names, kinds and edges are answered alike.
+#[tactic(auto, using(crate::proofs::LimitsKept::free_of_limits))]
+pub fn law_limits_in_no_answer()
+    ensures { IsFreeOfLimits }
+{}
+
+/// Operations and batches leave the limits of a graph as they were.
+#[tactic(auto, using(crate::proofs::LimitsKept::keep_limits))]
+pub fn law_limits_stay()
+    ensures { KeepLimits }
 {}

@@ -7,7 +7,7 @@ pub fn law_one_table()
     ensures { HaveOneTable }
 {}
 
-/// Over each content and filter each vertex has a level from each source, or none as no walk leads to it, a label
+/// Over each content and filter, whatever the limits, each vertex has a level from each source, or none as no walk leads to it, a label
 /// and a core number.
 pub fn law_some_table()
     ensures { HaveSomeTable }

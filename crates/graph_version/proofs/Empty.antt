@@ -1,33 +1,41 @@
 -- The version without batches is a version.
 use Rattle.std.proofs.Common.{◌≡◌, ◌∙◌, ℕ, List, [], refl, sym, ap, arith, true≢false}
 use Rattle.std.specs.{Option.is_some, FinMap.get-empty, FinMap.len-empty}
-use Rattle.graph_types.specs.{Graph.Graph, Graph.Stamp, Graph.key_cmp, Step.empty_graph, declared.batches.NamedOp.NamedOp}
+use Rattle.graph_types.specs.{Graph.Graph, Graph.Stamp, Graph.key_cmp, Step.empty_graph_in, declared.batches.NamedOp.NamedOp}
+use Rattle.graph_types.specs.Limits.{LimitsView, AreLimits, standard_limits}
 use Rattle.edge_block.specs.{Slots.BlockView, Rows.IsRow}
 use Rattle.vertex_names.specs.Book.{Book, empty_book}
-use Rattle.graph_version.specs.{Versions.IsVersion, Versions.empty_version, Kept.version_of, Kept.IsSummary}
+use Rattle.graph_version.specs.{Versions.IsVersion, Versions.{empty_version, empty_version_in}, Kept.version_of, Kept.IsSummary}
 
 pub no_row : IsRow []
 no_row = record { within = λ k d h. absurd (omega arith); between = tt }
 
-pub is_empty_version : IsVersion empty_version
-is_empty_version = record {
+pub is_empty_version_in : (limits : LimitsView) → AreLimits limits → IsVersion (empty_version_in limits)
+is_empty_version_in limits are = record {
   rows = record {
     layout = record { distinct = λ source. no_row; shows = λ k. sym (get-empty key_cmp k) };
     blocks = λ source k d h. absurd (omega arith);
     numbers = λ i j d h g. absurd (omega arith);
   };
   within = λ k is. absurd (true≢false (sym is ∙ ap is_some (get-empty key_cmp k)));
-  small = record { names = omega arith; kinds = omega arith; count = omega arith };
+  small = record { names = omega arith; kinds = omega arith; count = omega arith; limits = are };
 }
 
+pub standard_are_limits : AreLimits standard_limits
+standard_are_limits = record { names = omega arith; kinds = omega arith; places = omega arith; batches = omega arith }
+
+pub is_empty_version : IsVersion empty_version
+is_empty_version = is_empty_version_in standard_limits standard_are_limits
+
 -- what a version keeps is true of the one without batches
-pub is_kept_empty : (names kinds : Book) (opening : Graph) (batches : List (List NamedOp)) (rows : List (List BlockView))
-    (edges : ℕ) → names ≡ empty_book 65536 → kinds ≡ empty_book 64 → opening ≡ empty_graph → batches ≡ [] → rows ≡ []
+pub is_kept_empty : (limits : LimitsView) (names kinds : Book) (opening : Graph) (batches : List (List NamedOp)) (rows : List (List BlockView))
+    (edges : ℕ) → AreLimits limits → names ≡ empty_book limits.names → kinds ≡ empty_book limits.kinds
+    → opening ≡ empty_graph_in limits → batches ≡ [] → rows ≡ []
     → edges ≡ 0 → IsSummary names kinds edges (version_of opening batches rows)
-is_kept_empty names kinds opening batches rows edges n k o b r e =
+is_kept_empty limits names kinds opening batches rows edges are n k o b r e =
     rw (n, k, o, b, r, e) (record {
       names_are = refl;
       kinds_are = refl;
       edges_are = sym (len-empty key_cmp Stamp);
-      version = is_empty_version;
+      version = is_empty_version_in limits are;
     })

@@ -5,8 +5,9 @@ use Rattle.std.proofs.{Common.FitsSigned, lemmas.List.{append-nil, take-append-d
 use Rattle.std.proofs.lemmas.{List.{drop_more, get_or_past, Elements.{All-head, All-tail, All-cons}}, Bool.cases_lt}
 use Rattle.std.{proofs.lemmas.Bool.Decides.eqb_tells, specs.{declared.{sync.Arc.Arc, alloc.Global.Global}, FinMap.{len, get}}}
 use Rattle.std.{specs.Option.is_some, proofs.lemmas.Grind.common_steps}
-use Rattle.graph_types.specs.{Graph.{key_of, stamp_of, IsContent, Graph, graph_of}, Limits.{name_limit, kind_limit, IsWeight}}
+use Rattle.graph_types.specs.{Graph.{key_of, stamp_of, IsContent, IsContentIn, Graph, graph_in}, Limits.{LimitsView, IsWeight}}
 use Rattle.graph_types.{specs.declared.{batches.NamedOp.NamedOp, contents.Content.Content, ids.Edge.Edge}, proofs.Keys.get_listed}
+use Rattle.graph_types.{specs.Limits.AreLimits, proofs.LimitsKept.{limits_left_by, places_within}}
 use Rattle.edge_block.specs.{Slots.{IsStamp, Slot, BlockView, entry_in, entries_of, edges_in}, Lending.{LentEdge, lent_of}}
 use Rattle.edge_block.specs.{declared.blocks.Block.Block, Rows.shape_of, Batches.{IsLayoutOf, IsWithin}}
 use Rattle.vertex_names.specs.Book.{Book}
@@ -179,9 +180,10 @@ is_version_zero v blocks copy g is like same = record {
   rows = look_rows_of v blocks copy g is like same;
   within = subst IsWithin (sym same) is.within;
   small = record {
-    names = subst (λ (h : Graph). length h.names ≤ name_limit) (sym same) is.small.names;
-    kinds = subst (λ (h : Graph). length h.kinds ≤ kind_limit) (sym same) is.small.kinds;
+    names = subst (λ (h : Graph). length h.names ≤ h.limits.names) (sym same) is.small.names;
+    kinds = subst (λ (h : Graph). length h.kinds ≤ h.limits.kinds) (sym same) is.small.kinds;
     count = omega arith;
+    limits = subst (λ (h : Graph). AreLimits h.limits) (sym same) is.small.limits;
   };
 }
 
@@ -192,8 +194,8 @@ pub rebased_kept : (names kinds old_names old_kinds : Book) (v : VersionView) (b
     → IsSummary names kinds edges (version_of g batches copy)
 rebased_kept names kinds old_names old_kinds v blocks batches copy g edges is n k none like same =
     subst (λ (bs : List (List NamedOp)). IsSummary names kinds edges (version_of g bs copy)) (sym none) (record {
-      names_are = n ∙ is.names_are ∙ ap (λ (h : Graph). vertex_book h.names) (sym same);
-      kinds_are = k ∙ is.kinds_are ∙ ap (λ (h : Graph). kind_book h.kinds) (sym same);
+      names_are = n ∙ is.names_are ∙ ap vertex_book (sym same);
+      kinds_are = k ∙ is.kinds_are ∙ ap kind_book (sym same);
       edges_are = is.edges_are ∙ ap (λ (h : Graph). len h.edges) (sym same);
       version = is_version_zero v blocks copy g is.version like same;
     })
@@ -253,26 +255,35 @@ pub numbers_long : (a b : List (Arc Block Global)) → numbers_of (block_values 
 numbers_long a b same = grind (arith, common_steps, length-map)
 
 -- the content's lists
-pub same_content : (names kinds : Book) (edges : ℕ) (v : VersionView) (c : Content) → IsSummary names kinds edges v
-    → c.names ≡ names.names → c.kinds ≡ kinds.names → c.edges ≡ edges_in_blocks (blocks_of v.rows) → graph_of c ≡ content v
-same_content names kinds edges v c is n k e = grind (arith, common_steps, rows_each_once)
+pub same_content : (names kinds : Book) (edges : ℕ) (v : VersionView) (c : Content) (l : LimitsView)
+    → IsSummary names kinds edges v
+    → c.names ≡ names.names → c.kinds ≡ kinds.names → c.edges ≡ edges_in_blocks (blocks_of v.rows)
+    → l ≡ v.opening.limits → graph_in l c ≡ content v
+same_content names kinds edges v c l is n k e same = grind (arith, common_steps, rows_each_once, limits_left_by)
 
 -- they are a content
-pub listed_content : (names kinds : Book) (edges : ℕ) (v : VersionView) (c : Content) → IsSummary names kinds edges v
+pub listed_content : (names kinds : Book) (edges : ℕ) (v : VersionView) (c : Content) (l : LimitsView)
+    → IsSummary names kinds edges v
     → AllPairs (λ a b. a ≢ b) c.names → AllPairs (λ a b. a ≢ b) c.kinds → All (λ e. IsStamp (stamp_of e)) c.edges
-    → c.edges ≡ edges_in_blocks (blocks_of v.rows) → graph_of c ≡ content v → IsContent c
-listed_content names kinds edges v c is apart kinds_apart stamps e same =
+    → c.edges ≡ edges_in_blocks (blocks_of v.rows) → graph_in l c ≡ content v → IsContentIn l c
+listed_content names kinds edges v c l is apart kinds_apart stamps e same =
     let each = rows_each_once (content v) v.rows is.version.rows in
     let once = subst (AllPairs (λ (a b : Edge). key_of a ≢ key_of b)) (sym e) each.once in
-    record {
+    let names_few : length c.names ≤ l.names = subst (λ (g : Graph). length g.names ≤ g.limits.names) (sym same)
+    is.version.small.names in
+    let kinds_few : length c.kinds ≤ l.kinds = subst (λ (g : Graph). length g.kinds ≤ g.limits.kinds) (sym same)
+    is.version.small.kinds in
+    let walls : AreLimits l = subst (λ (g : Graph). AreLimits g.limits) (sym same) is.version.small.limits in
+    let content : IsContent c = record {
       names_distinct = apart;
       kinds_distinct = kinds_apart;
-      names_few = subst (λ (g : Graph). length g.names ≤ name_limit) (sym same) is.version.small.names;
-      kinds_few = subst (λ (g : Graph). length g.kinds ≤ kind_limit) (sym same) is.version.small.kinds;
+      names_few = omega (arith, names_few, walls.names);
+      kinds_few = omega (arith, kinds_few, walls.kinds);
+      places_few = places_within l (length c.names) (length c.kinds) walls names_few kinds_few;
       keys_distinct = once;
       edges_within = λ k d lt.
           let x = get_or c.edges k d in
-          let there : is_some (get (graph_of c).edges (key_of x)) ≡ true = ap is_some (get_listed c.edges once k d lt) in
+          let there : is_some (get (graph_in l c).edges (key_of x)) ≡ true = ap is_some (get_listed c.edges once k d lt) in
           let at = subst IsWithin (sym same) is.version.within (key_of x) there in
           let stamp = stamps k d lt in
           record {
@@ -283,7 +294,8 @@ listed_content names kinds edges v c is apart kinds_apart stamps e same =
             first = stamp.1;
             recent = stamp.2;
           };
-    }
+    } in
+    record { content = content; names_few = names_few; kinds_few = kinds_few }
 
 -- Edges as they are lent
 

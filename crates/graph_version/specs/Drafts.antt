@@ -14,7 +14,7 @@ pub record DraftView : Type 0 where
 
 -- a draft begins as the version that it is drafted over
 abbrev pub drafted_over : VersionView → DraftView
-drafted_over v = record { names = vertex_book (content v).names; kinds = kind_book (content v).kinds; version = v }
+drafted_over v = record { names = vertex_book (content v); kinds = kind_book (content v); version = v }
 
 -- a draft with one more batch
 abbrev pub with_batch : DraftView → List NamedOp → DraftView
@@ -27,6 +27,6 @@ pub record ReplacesRow (source : ℕ) (row : List BlockView) (before after : Dra
 
 -- a draft that is a version: its rows have what its batches leave, and its books have the names
 pub record IsWhole (d : DraftView) : Type 0 where
-  pub names_are : d.names ≡ vertex_book (content d.version).names
-  pub kinds_are : d.kinds ≡ kind_book (content d.version).kinds
+  pub names_are : d.names ≡ vertex_book (content d.version)
+  pub kinds_are : d.kinds ≡ kind_book (content d.version)
   pub version : IsVersion d.version

@@ -1,7 +1,7 @@
 -- The graph that a list of arcs shows: an edge of the first kind along each arc between its vertices.
 use Rattle.std.specs.Prelude.{ℕ, List, [], ◌∷◌, ◌++◌, cond, map, filter, replicate, nat_lt, Bool, ◌&&◌, ◌==◌, pos}
 use Rattle.std.specs.declared.option.Option.TheVariants.{None}
-use Rattle.graph_types.specs.{Graph.{Graph, map_of}, declared.ids.{Edge.Edge, Filter.Filter}}
+use Rattle.graph_types.specs.{Graph.{Graph, map_of}, Limits.standard_limits, declared.ids.{Edge.Edge, Filter.Filter}}
 
 -- the edge along an arc, of weight 0 and time 0
 abbrev pub edge_along : ℕ × ℕ → Edge
@@ -25,7 +25,12 @@ leaves count source arc = (arc.0 == source) && is_within count arc
 -- the graph of so many vertices with these arcs
 abbrev pub along : ℕ → List (ℕ × ℕ) → Graph
 along count arcs =
-    record { names = replicate count []; kinds = []; edges = map_of (map edge_along (filter (is_within count) arcs)) }
+    record {
+      names = replicate count [];
+      kinds = [];
+      edges = map_of (map edge_along (filter (is_within count) arcs));
+      limits = standard_limits;
+    }
 
 -- all edges of it
 abbrev pub all_edges : Filter

@@ -1,7 +1,7 @@
 -- A version of a graph: what it began with, its batches, and its rows of blocks.
 use Rattle.std.specs.Prelude.{◌≡◌, ◌≢◌, ℕ, ◌≤◌, List, [], map, length, All, AllPairs, Bool, false, ◌==◌}
 use Rattle.std.specs.List.{list_any, list_all}
-use Rattle.graph_types.specs.{Graph.Graph, Limits.{name_limit, kind_limit, batch_limit}, Step.{left_by, empty_graph}}
+use Rattle.graph_types.specs.{Graph.Graph, Limits.{LimitsView, AreLimits, standard_limits}, Step.{left_by, empty_graph_in}}
 use Rattle.graph_types.specs.declared.batches.NamedOp.{NamedOp}
 use Rattle.edge_block.specs.{Slots.{BlockView, is_free}, Rows.{Shape, shape_of}, Batches.{IsLayoutOf, IsWithin}}
 use Rattle.version_pages.specs.Rows.{row_of, blocks_of, numbers_of}
@@ -31,11 +31,12 @@ pub record AreRowsOf (g : Graph) (rows : List (List BlockView)) : Type 0 where
   pub blocks : (source : ℕ) → All (IsBlockOf source) (row_of rows source)
   pub numbers : AllPairs ◌≢◌ (numbers_of (blocks_of rows))
 
--- the limits
+-- it is within its limits, and these are within the walls
 pub record IsSmall (v : VersionView) : Type 0 where
-  pub names : length (content v).names ≤ name_limit
-  pub kinds : length (content v).kinds ≤ kind_limit
-  pub count : length v.batches ≤ batch_limit
+  pub names : length (content v).names ≤ (content v).limits.names
+  pub kinds : length (content v).kinds ≤ (content v).limits.kinds
+  pub count : length v.batches ≤ (content v).limits.batches
+  pub limits : AreLimits (content v).limits
 
 -- what is true of every version: its rows have its content, whose edges join its vertices, and it is within the limits
 pub record IsVersion (v : VersionView) : Type 0 where
@@ -43,9 +44,12 @@ pub record IsVersion (v : VersionView) : Type 0 where
   pub within : IsWithin (content v)
   pub small : IsSmall v
 
--- the version without batches
+-- the version without batches, under these limits and under the standard ones
+abbrev pub empty_version_in : LimitsView → VersionView
+empty_version_in limits = record { opening = empty_graph_in limits; batches = []; rows = [] }
+
 abbrev pub empty_version : VersionView
-empty_version = record { opening = empty_graph; batches = []; rows = [] }
+empty_version = empty_version_in standard_limits
 
 -- whether a number is in a list
 abbrev pub is_in : ℕ → List ℕ → Bool

@@ -1,7 +1,7 @@
 //! Version 0 of a store that opens with what a version holds.
 
 ghost use Rattle.std.specs.Prelude.{◌≡◌, ◌≢◌, ◌++◌, ℕ, [], length, map, slice_index_or, All, AllPairs, IfOk, OnOk};
-ghost use Rattle.graph_types.specs.Graph.{graph_of, stamp_of};
+ghost use Rattle.graph_types.specs.Graph.{graph_in, stamp_of};
 ghost use Rattle.edge_block.specs.Slots.{IsStamp};
 ghost use Rattle.version_pages.specs.Rows.{row_of, blocks_of, numbers_of, Replaces};
 ghost use Rattle.version_pages.specs.Sharing.{block_value, block_values};
@@ -58,14 +58,17 @@ impl Version {
 
     /// Its content as plain lists.
     fn contents(&self, alloc: Global) -> Result<ListedContent, AllocError>
-        ensures { IfOk result (λ listed. graph_of listed.content ≡ content self.now) }
+        ensures { IfOk result (λ listed. graph_in listed.limits listed.content ≡ content self.now) }
     {
         let content = Content {
             names: List::of(names_in(alloc, &self.names)?),
             kinds: List::of(names_in(alloc, &self.kinds)?),
             edges: List::of(edges_in(alloc, &self.rows)?),
         };
-        Ok(ListedContent { content })
+        Ok(ListedContent {
+            content,
+            limits: self.opening.limits(),
+        })
     }
 }
 

@@ -3,6 +3,7 @@
 ghost use Rattle.std.specs.Prelude.{◌≡◌, ◌≤◌, ◌<◌, ◌↔◌, ℕ, length, OnOk};
 ghost use Rattle.std.specs.List.{Contains};
 ghost use Rattle.graph_types.specs.Graph.{Graph};
+ghost use Rattle.graph_types.specs.Limits.{most_names};
 ghost use Rattle.graph_types.specs.Analyses.{LeadsTo};
 ghost use Rattle.graph_types.specs.declared.ids.Filter.{Filter};
 
@@ -16,11 +17,11 @@ pub trait ViewEdges {
     /// The graph whose edges they are.
     ghost graph: { Self → Graph };
 
-    /// How many vertices the graph has, at most 65,536; their numbers are those below. Each edge of the view is
+    /// How many vertices the graph has, at most 67,108,863; their numbers are those below. Each edge of the view is
     /// between vertices of the graph.
     fn vertex_count(&self) -> usize
         ensures is { result ≡ length (graph self.now).names }
-        ensures few { result ≤ 65536 }
+        ensures few { result ≤ most_names }
         ensures within { (a b : ℕ) → LeadsTo (filter self.now) (graph self.now) a b
             → (a < length (graph self.now).names) × (b < length (graph self.now).names) };
 

@@ -2,13 +2,14 @@
 
 ghost use Rattle.std.specs.Prelude.{◌≡◌, ◌%◌, ◌^◌, ◌++◌, ◌∷◌, [], List, length, MatchOption};
 ghost use Rattle.std.specs.Option.{option_map};
-ghost use Rattle.graph_types.specs.Graph.{IsContent, graph_of};
+ghost use Rattle.graph_types.specs.Graph.{IsContentIn, graph_in};
+ghost use Rattle.graph_types.specs.Limits.{AreLimits};
 ghost use Rattle.graph_types.specs.declared.batches.NamedOp.{NamedOp};
 ghost use Rattle.edge_block.specs.Lending.{lent_edge};
 ghost use Rattle.version_pages.specs.Rows.{row_of, blocks_of, numbers_of};
 ghost use Rattle.version_pages.specs.Sharing.{block_values};
 ghost use Rattle.version_pages.specs.Ages.{IsNextOld};
-ghost use Rattle.graph_version.specs.Versions.{IsVersion, empty_version, content};
+ghost use Rattle.graph_version.specs.Versions.{IsVersion, empty_version, empty_version_in, content};
 ghost use Rattle.edge_block.specs.Rows.{shape_of, block_at};
 ghost use Rattle.graph_version.specs.Edges.{lent_to};
 ghost use Rattle.graph_version.specs.Kept.{vertex_book, kind_book, edge_total};
@@ -16,18 +17,12 @@ ghost use Rattle.graph_version.specs.Kept.{vertex_book, kind_book, edge_total};
 use crate::lending::{BlockNumbers, RowIter};
 use crate::opening::Opening;
 use edge_block::{Block, EdgeRef};
-use graph_types::{Batch, Content, KindId, VertexId};
+use graph_types::{Batch, Content, KindId, Limits, VertexId};
 use std::alloc::Global;
 use std::marker::Model;
 use std::sync::Arc;
 use version_pages::{BatchIter, BatchList, Rows};
 use vertex_names::NameBook;
-
-/// How many vertices a graph may have.
-const NAMES: u32 = 65_536;
-
-/// How many kinds a graph may have.
-const KINDS: u32 = 64;
 
 /// A graph after some batches. It never changes.
 ///
@@ -75,14 +70,26 @@ impl Version {
     ghost use Rattle.version_pages.specs.BatchLending.{batches_left};
     ghost use Rattle.graph_version.specs.Lending.{lent_at, lent_in_blocks, row_left, numbers_left};
 
-    /// The version without batches: no name, no kind, no edge. It takes no memory.
+    /// The version without batches, under the standard limits: no name, no kind, no edge. It takes no memory.
     pub fn empty(alloc: Global) -> Version
         ensures { result ≡ empty_version }
     {
+        Version::empty_within(alloc, Limits::standard())
+    }
+
+    /// The version without batches, under these limits. It takes no memory.
+    ///
+    /// ```
+    /// let version = Version::empty_within(alloc, Limits::new(2_000_000, 4, 1_000_000)?);
+    /// assert_eq!(rt; version.limits().names(), 2_000_000);
+    /// ```
+    pub fn empty_within(alloc: Global, limits: Limits) -> Version
+        ensures { result ≡ empty_version_in limits }
+    {
         Version {
-            opening: Opening::empty(alloc),
-            names: NameBook::new(alloc, NAMES),
-            kinds: NameBook::new(alloc, KINDS),
+            opening: Opening::empty(alloc, limits),
+            names: NameBook::new(alloc, limits.names()),
+            kinds: NameBook::new(alloc, limits.kinds()),
             batches: BatchList::new(alloc),
             rows: Rows::new(alloc),
             edges: 0,
@@ -91,10 +98,20 @@ impl Version {
 
     /// What it began with, before its first batch: a content within the limits, with each edge listed once. It takes no memory.
     pub fn opening(&self) -> &Content
-        ensures graph { graph_of result.now ≡ self.now.opening }
-        ensures content { IsContent result.now }
+        ensures graph { graph_in self.now.opening.limits result.now ≡ self.now.opening }
+        ensures content { IsContentIn self.now.opening.limits result.now }
     {
         self.opening.content()
+    }
+
+    /// How many names, kinds and batches there may be, in this version and in each that follows it.
+    pub fn limits(&self) -> Limits
+        ensures limits { result ≡ (content self.now).limits }
+        ensures opening { result ≡ self.now.opening.limits }
+        ensures walls { AreLimits result }
+        ensures version { IsVersion self.now }
+    {
+        self.opening.limits()
     }
 
     /// How many batches there are.
@@ -123,7 +140,7 @@ impl Version {
 
     /// The vertex names: a vertex's number is the place of its name.
     pub fn names(&self) -> &NameBook
-        ensures names { result.now ≡ vertex_book (content self.now).names }
+        ensures names { result.now ≡ vertex_book (content self.now) }
         ensures version { IsVersion self.now }
     {
         &self.names
@@ -131,7 +148,7 @@ impl Version {
 
     /// The kind names.
     pub fn kinds(&self) -> &NameBook
-        ensures { result.now ≡ kind_book (content self.now).kinds }
+        ensures { result.now ≡ kind_book (content self.now) }
     {
         &self.kinds
     }

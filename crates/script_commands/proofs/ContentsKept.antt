@@ -2,8 +2,8 @@
 use Rattle.std.proofs.Common.{◌≡◌, ℕ, ◌≤◌, List, [], ◌∷◌, ◌++◌, true, false, length, Option, Some, None, option_map}
 use Rattle.std.proofs.{Common.{option_to_list, IfSome, All, ℤ, refl, sym, ap, subst, arith, cond}, lemmas.Bool.Decides.nat_tests}
 use Rattle.std.{proofs.lemmas.List.Elements.{All-head, All-tail}, specs.{FinMap.get, Prelude.◌+ℤ◌}}
-use Rattle.graph_types.specs.{Limits.{IsWeight, IsTime, is_weight, is_time, name_limit, kind_limit}, Graph.{Graph, Key, Stamp}}
-use Rattle.graph_types.specs.{Graph.{stamp_of, map_of, graph_of, without, content_of, IsAt, IsContent}, Changes.AreMarks}
+use Rattle.graph_types.specs.{Limits.{IsWeight, IsTime, is_weight, is_time, LimitsView, AreLimits}, Graph.{Graph, Key, Stamp}}
+use Rattle.graph_types.specs.{Graph.{stamp_of, map_of, graph_in, without, content_of, IsAt, IsContent, IsContentIn}, Changes.AreMarks}
 use Rattle.graph_types.specs.{Changes.{IsChange, option_stamp}, Step.{names_made, kinds_made, stamp_after, changed_key, changed}}
 use Rattle.graph_types.specs.{Step.{later, after, after_all}, Valid.IsValid, declared.ids.Edge.Edge}
 use Rattle.graph_types.specs.declared.changes.EdgeChange.{EdgeChange, TheVariants.{Insert as ToInsert, Incr as ToIncr}}
@@ -11,7 +11,7 @@ use Rattle.graph_types.specs.declared.changes.{EdgeChange.TheVariants.Remove as 
 use Rattle.graph_types.specs.declared.batches.NamedOp.{NamedOp, TheVariants.{Insert, Incr, Remove, Expire}}
 use Rattle.graph_types.specs.declared.contents.Content.{Content}
 use Rattle.graph_types.proofs.{Expiry.map_of-later, NameLists.length-after_all-names, NameLists.length-after_all-kinds}
-use Rattle.graph_model.proofs.OneOperation.{AreMarks-found, IsApplied, IsContent-applied, IsContent-later, graph_of-applied}
+use Rattle.graph_model.proofs.OneOperation.{AreMarks-found, IsApplied, IsContentIn-applied, IsContentIn-later, graph_in-applied}
 
 -- the marks that a stamp shows
 abbrev marks_of : Stamp → EdgeMarks
@@ -70,16 +70,16 @@ put_there : (key : Key) (o : Option Stamp) → IfSome o InRange → IfSome (opti
 put_there key None are = tt
 put_there key (Some s) are = record { key_is = refl; weight = are.weight; first = are.first; recent = are.recent }
 
--- a content whose graph is this
-abbrev pub HasContent : Graph → Type 0
-HasContent g = (c : Content) × IsContent c × (graph_of c ≡ g)
+-- a content within these limits whose graph is this
+abbrev pub HasContent : LimitsView → Graph → Type 0
+HasContent l g = (c : Content) × IsContentIn l c × (graph_in l c ≡ g)
 
-content_changed : (change : EdgeChange) (kind source target : List ℕ) (c : Content) → IsContent c → IsChange change
-    → length (changed change kind source target (graph_of c)).names ≤ name_limit
-    → length (changed change kind source target (graph_of c)).kinds ≤ kind_limit
-    → HasContent (changed change kind source target (graph_of c))
-content_changed change kind source target c is fits names kinds =
-    let key : Key = changed_key change kind source target (graph_of c) in
+content_changed : (l : LimitsView) → AreLimits l → (change : EdgeChange) (kind source target : List ℕ) (c : Content)
+    → IsContentIn l c → IsChange change → length (changed change kind source target (graph_in l c)).names ≤ l.names
+    → length (changed change kind source target (graph_in l c)).kinds ≤ l.kinds
+    → HasContent l (changed change kind source target (graph_in l c))
+content_changed l are change kind source target c is fits names kinds =
+    let key : Key = changed_key change kind source target (graph_in l c) in
     let stamp : Option Stamp = stamp_after change (get (map_of c.edges) key) in
     let put : Option Edge = option_map (edge_at key) stamp in
     let new : Content = content_of (names_made change source target c.names) (kinds_made change kind c.kinds)
@@ -89,43 +89,44 @@ content_changed change kind source target c is fits names kinds =
       kinds = refl;
       key_is = refl;
       stamp = stamps_put key stamp;
-      at = put_there key stamp (after_in_range change (get (map_of c.edges) key) fits (found_in_range c key is));
+      at = put_there key stamp (after_in_range change (get (map_of c.edges) key) fits (found_in_range c key is.content));
       edges = refl;
     } in (
       new,
-      IsContent-applied change kind source target c new key put step is names kinds,
-      graph_of-applied change kind source target c new key put step,
+      IsContentIn-applied l change kind source target c new key put are step is names kinds,
+      graph_in-applied change kind source target c new key put step l,
     )
 
 time_fits : (time : ℕ) → is_time time ≡ true → IsTime time
 time_fits time is = grind (arith, nat_tests)
 
-content_after : (op : NamedOp) (c : Content) → IsContent c → IsValid op → length (after op (graph_of c)).names ≤ name_limit
-    → length (after op (graph_of c)).kinds ≤ kind_limit → HasContent (after op (graph_of c))
-content_after (Insert kind source target weight time) c is valid names kinds =
-    content_changed (ToInsert weight time) kind source target c is (weight_fits weight valid.weight, time_fits time valid.time) names kinds
-content_after (Incr kind source target amount time) c is valid names kinds =
-    content_changed (ToIncr amount time) kind source target c is (weight_fits amount valid.weight, time_fits time valid.time) names kinds
-content_after (Remove kind source target) c is valid names kinds =
-    content_changed ToRemove kind source target c is tt names kinds
-content_after (Expire time) c is valid names kinds = (
+content_after : (l : LimitsView) → AreLimits l → (op : NamedOp) (c : Content) → IsContentIn l c → IsValid op
+    → length (after op (graph_in l c)).names ≤ l.names → length (after op (graph_in l c)).kinds ≤ l.kinds
+    → HasContent l (after op (graph_in l c))
+content_after l are (Insert kind source target weight time) c is valid names kinds =
+    content_changed l are (ToInsert weight time) kind source target c is (weight_fits weight valid.weight, time_fits time valid.time) names kinds
+content_after l are (Incr kind source target amount time) c is valid names kinds =
+    content_changed l are (ToIncr amount time) kind source target c is (weight_fits amount valid.weight, time_fits time valid.time) names kinds
+content_after l are (Remove kind source target) c is valid names kinds =
+    content_changed l are ToRemove kind source target c is tt names kinds
+content_after l are (Expire time) c is valid names kinds = (
   content_of c.names c.kinds (later time c.edges),
-  IsContent-later time c is,
-  ap (λ edges. let g : Graph = record { names = c.names; kinds = c.kinds; edges = edges } in g)
-      (map_of-later time c.edges is.keys_distinct),
+  IsContentIn-later l time c is,
+  ap (λ edges. let g : Graph = record { names = c.names; kinds = c.kinds; edges = edges; limits = l } in g)
+      (map_of-later time c.edges is.content.keys_distinct),
 )
 
-pub content_after_all : (ops : List NamedOp) (c : Content) → IsContent c → All IsValid ops
-    → length (after_all ops (graph_of c)).names ≤ name_limit → length (after_all ops (graph_of c)).kinds ≤ kind_limit
-    → HasContent (after_all ops (graph_of c))
-content_after_all [] c is valid names kinds = (c, is, refl)
-content_after_all (op ∷ ops) c is valid names kinds =
-    let g : Graph = after op (graph_of c) in
+pub content_after_all : (l : LimitsView) → AreLimits l → (ops : List NamedOp) (c : Content) → IsContentIn l c → All IsValid ops
+    → length (after_all ops (graph_in l c)).names ≤ l.names → length (after_all ops (graph_in l c)).kinds ≤ l.kinds
+    → HasContent l (after_all ops (graph_in l c))
+content_after_all l are [] c is valid names kinds = (c, is, refl)
+content_after_all l are (op ∷ ops) c is valid names kinds =
+    let g : Graph = after op (graph_in l c) in
     let names_more = length-after_all-names ops g in
     let kinds_more = length-after_all-kinds ops g in
-    let one : HasContent g = content_after op c is (All-head IsValid op ops valid) (omega (arith, names, names_more))
+    let one : HasContent l g = content_after l are op c is (All-head IsValid op ops valid) (omega (arith, names, names_more))
     (omega (arith, kinds, kinds_more)) in
-    subst (λ (h : Graph). HasContent (after_all ops h)) one.2
-    (content_after_all ops one.0 one.1 (All-tail IsValid op ops valid)
-    (subst (λ (h : Graph). length (after_all ops h).names ≤ name_limit) (sym one.2) names)
-    (subst (λ (h : Graph). length (after_all ops h).kinds ≤ kind_limit) (sym one.2) kinds))
+    subst (λ (h : Graph). HasContent l (after_all ops h)) one.2
+    (content_after_all l are ops one.0 one.1 (All-tail IsValid op ops valid)
+    (subst (λ (h : Graph). length (after_all ops h).names ≤ l.names) (sym one.2) names)
+    (subst (λ (h : Graph). length (after_all ops h).kinds ≤ l.kinds) (sym one.2) kinds))

@@ -10,7 +10,7 @@ use Rattle.block_reclamation.specs.Copies.{needs}
 use Rattle.block_reclamation.specs.Copies as copies
 use Rattle.feed_csv.specs.declared.command.Command.TheVariants.{Collect, Commit, Stat}
 use Rattle.graph_types.specs.{Step.{after_all, left_by, outcomes}, declared.batches.{NamedOp.NamedOp, Outcome.Outcome}}
-use Rattle.graph_version.specs.{Kept.edge_total, Versions.content, Versions.layout_of, Versions.empty_version}
+use Rattle.graph_version.specs.{Kept.edge_total, Versions.content, Versions.layout_of, Versions.empty_version_in}
 use Rattle.store_steps.specs.Desks.{DeskView, IsCollected, AcceptedCounts, CollectedCounts, births_in, is_retired_by}
 use Rattle.store_steps.{specs.{Opening.opened_desk, Steps.Accepts}, proofs.StatusCounts.{accepted_counts, collected_counts}}
 use Rattle.stream_store.specs.Configs.{ConfigView}
@@ -109,7 +109,7 @@ pub length-replicate : (n : ℕ) → length (replicate n Free) ≡ n
 length-replicate zero = refl
 length-replicate (suc n) = ap suc (length-replicate n)
 
-pub shows_opened : (d : DeskView) (config : ConfigView) → d ≡ opened_desk config.blocks empty_version
+pub shows_opened : (d : DeskView) (config : ConfigView) → d ≡ opened_desk config.blocks (empty_version_in config.limits)
     → ShowsDesk d (beginning (set_up config)).state
 shows_opened d config opened = rw opened (record {
   opening = refl;

@@ -6,7 +6,7 @@ use Rattle.edge_block.specs.{Batches.{layout_after, sum_below, taken_by}, Rows.S
 use Rattle.block_reclamation.specs.{declared.copies.{Pin.Pin, PinCopy.PinCopy, TheConstants.SEATS}, Copies.needs}
 use Rattle.block_reclamation.specs.Copies as copies
 use Rattle.batch_shards.specs.Births.{births_after, dropped_births}
-use Rattle.graph_types.specs.{Graph.Graph, Step.{after_all, empty_graph, left_by, outcomes}, View.in_view, Valid.push_refusal}
+use Rattle.graph_types.specs.{Graph.Graph, Step.{after_all, empty_graph_in, left_by, outcomes}, View.in_view, Valid.push_refusal}
 use Rattle.graph_types.specs.{Answer.{IsAnswer, resolved}, declared.batches.{NamedOp.NamedOp, PushError.PushError}}
 use Rattle.graph_types.specs.declared.requests.{Request.Request, Reply.Reply, AskError.AskError}
 use Rattle.graph_types.specs.declared.batches.PushError.TheVariants as push
@@ -30,9 +30,9 @@ pub record Setup : Type 0 where
   pub blocks : ℕ
   pub seats : ℕ
 
--- a configuration opens with the empty graph; how many workers there are changes nothing that is written
+-- a configuration opens with the empty graph, under its limits; how many workers there are changes nothing that is written
 abbrev pub set_up : ConfigView → Setup
-set_up config = record { opening = empty_graph; blocks = config.blocks; seats = config.seats }
+set_up config = record { opening = empty_graph_in config.limits; blocks = config.blocks; seats = config.seats }
 
 -- of a retired block: the number of the version whose batch took it, and of the one whose batch dropped it
 pub record Dates : Type 0 where

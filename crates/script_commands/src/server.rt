@@ -4,7 +4,7 @@ ghost use Rattle.std.specs.Prelude.{◌≡◌, ℕ, ◌≢◌, ◌≤◌, [], le
 ghost use Rattle.std.specs.Prelude.{OnOk, OnErr, None, Ok, Err};
 ghost use Rattle.std.specs.List.{range_with_len};
 ghost use Rattle.block_reclamation.specs.Board.{no_pins};
-ghost use Rattle.graph_version.specs.Versions.{empty_version};
+ghost use Rattle.graph_version.specs.Versions.{empty_version_in};
 ghost use Rattle.graph_version.specs.Rebased.{IsRebased};
 ghost use Rattle.store_steps.specs.Opening.{opened_desk};
 ghost use Rattle.graph_types.specs.Valid.{IsValid};
@@ -101,7 +101,7 @@ impl Server {
         board: Board,
         seats: Vec<Seat>,
     ) -> Result<Server, AllocError>
-        requires desk { desk.desk ≡ opened_desk config.blocks empty_version }
+        requires desk { desk.desk ≡ opened_desk config.blocks (empty_version_in config.limits) }
         requires board { board ≡ no_pins }
         requires seats { length seats.items ≡ config.seats }
         requires few { length seats.items ≤ 16 }

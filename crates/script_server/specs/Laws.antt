@@ -1,7 +1,7 @@
 -- Laws about the text of a script.
 use Rattle.std.specs.Prelude.{◌≡◌, ◌<◌, ℕ, List, length}
 use Rattle.feed_csv.specs.Records.{record_limit, records_of}
-use Rattle.graph_types.specs.{Graph.{graph_of, IsContent}, declared.contents.Content.Content}
+use Rattle.graph_types.specs.{Graph.{graph_in, IsContentIn}, Limits.AreLimits, declared.contents.Content.Content}
 use Rattle.stream_store.specs.Configs.{ConfigView}
 use Rattle.script_server.specs.Executions.{IsFullText}
 use Rattle.script_commands.specs.States.{Progress, Setup, set_up}
@@ -15,8 +15,9 @@ HasOneText =
 
 -- a script of fewer records than the limit has a text: over each configuration, and where the store begins with a content
 pub record HasSomeText : Type 0 where
-  pub from_nothing : (config : ConfigView) (bytes : List ℕ) → length (records_of bytes) < record_limit
+  pub from_nothing : (config : ConfigView) (bytes : List ℕ) → AreLimits config.limits → length (records_of bytes) < record_limit
       → (text : List ℕ) × (there : Progress) × IsFullText (set_up config) (records_of bytes) text there
-  pub from_content : (setup : Setup) (opening : Content) (bytes : List ℕ) → IsContent opening → graph_of opening ≡ setup.opening
+  pub from_content : (setup : Setup) (opening : Content) (bytes : List ℕ) → AreLimits setup.opening.limits
+      → IsContentIn setup.opening.limits opening → graph_in setup.opening.limits opening ≡ setup.opening
       → length (records_of bytes) < record_limit
       → (text : List ℕ) × (there : Progress) × IsFullText setup (records_of bytes) text there

@@ -8,7 +8,7 @@ use Rattle.clap.specs.{Matches.ReadsOne, Matches.first_value, Matches.one_text, 
 use Rattle.clap.specs.declared.{builder.value_parser.ValueParser.TheVariants.Unsigned, parser.matches.Found.Found}
 use Rattle.clap.specs.Walk.{Row, Text, one_of, rows_of}
 use Rattle.clap.proofs.{WalkLemmas.{first_value-rows, one_text-rows}, ValueTestLemmas.{Accepts-accepts, accepts-Accepts}}
-use Rattle.stream_store.specs.{Configs.AreSizesWithin, Configs.ConfigView, declared.config.BadConfig.BadConfig}
+use Rattle.stream_store.specs.{Configs.{AreSizesWithin, ConfigView, standard_config}, declared.config.BadConfig.BadConfig}
 use Rattle.stinger_server.specs.Program.{is_quiet, number_within, sizes_given, sizes_of}
 
 -- a number, where it lies within limits
@@ -76,7 +76,7 @@ module _ {E : Type 0} (gives : List ℕ → Result ℕ E → Type 0) (k least mo
 abbrev sized : Option ℕ → Option ℕ → Option ℕ → Option ConfigView
 sized workers blocks seats =
     option_and_then (λ w. option_and_then (λ b. option_and_then
-    (λ s. Some (record { workers = w; blocks = b; seats = s })) seats) blocks) workers
+    (λ s. Some (standard_config w b s)) seats) blocks) workers
 
 no_blocks : (workers seats : Option ℕ) → sized workers None seats ≡ None
 no_blocks None seats = refl
@@ -101,7 +101,7 @@ all_within workers blocks seats w b s = record {
 -- a configuration is made of just the numbers within their limits
 pub sizes_made : (workers blocks seats : ℕ) (made : Result ConfigView BadConfig)
     → MatchResult made
-    (λ config. (config ≡ record { workers = workers; blocks = blocks; seats = seats }) × AreSizesWithin workers blocks seats)
+    (λ config. (config ≡ standard_config workers blocks seats) × AreSizesWithin workers blocks seats)
     (λ _. AreSizesWithin workers blocks seats → ⊥)
     → sizes_given made ≡ sized (within 1 8 workers) (within 16 65536 blocks) (within 1 16 seats)
 sizes_made workers blocks seats (Ok config) valid =

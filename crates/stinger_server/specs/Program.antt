@@ -8,7 +8,7 @@ use Rattle.clap.specs.{ValueTests.is_unsigned_in, declared.builder.value_parser.
 use Rattle.clap.specs.declared.{builder.action.ArgAction.TheVariants.SetTrue, error.kind.ErrorKind.ErrorKind}
 use Rattle.clap.specs.declared.error.kind.ErrorKind.TheVariants.{DisplayHelp}
 use Rattle.feed_csv.specs.Records.{records_of}
-use Rattle.stream_store.specs.{Configs.{ConfigView, AreSizesWithin}, declared.config.BadConfig.BadConfig}
+use Rattle.stream_store.specs.{Configs.{ConfigView, AreSizesWithin, standard_config}, declared.config.BadConfig.BadConfig}
 use Rattle.stinger_server.specs.declared.arguments.{RunOptions.RunOptions, Order.Order}
 use Rattle.stinger_server.specs.declared.arguments.Order.TheVariants as order
 use Rattle.script_server.specs.declared.script.{ServeFault.{ServeFault, TheVariants.{Read, Start, Write}}, Summary.Summary}
@@ -33,7 +33,7 @@ pub data Asked : Type 0 where
 
 -- a run of the default sizes, with its progress
 abbrev pub default_run : RunView
-default_run = record { sizes = record { workers = 4; blocks = 16384; seats = 2 }; quiet = false }
+default_run = record { sizes = standard_config 4 16384 2; quiet = false }
 
 -- a script is to be served
 abbrev pub is_served : Asked → Bool
@@ -107,7 +107,7 @@ number_within least most text = option_and_then
 abbrev pub sizes_of : List Row → Option ConfigView
 sizes_of options =
     option_and_then (λ workers. option_and_then (λ blocks. option_and_then
-    (λ seats. Some (record { workers = workers; blocks = blocks; seats = seats }))
+    (λ seats. Some (standard_config workers blocks seats))
     (number_within 1 16 (one_of (codes "seats") options)))
     (number_within 16 65536 (one_of (codes "blocks") options)))
     (number_within 1 8 (one_of (codes "workers") options))
@@ -160,7 +160,7 @@ asked arguments = if is_version arguments then Version else asked_of_command arg
 
 -- what the options of a run, a configuration and an order of the program stand for
 abbrev pub sizes_in : RunOptions → ConfigView
-sizes_in options = record { workers = options.workers; blocks = options.blocks; seats = options.seats }
+sizes_in options = standard_config options.workers options.blocks options.seats
 
 abbrev pub run_in : RunOptions → RunView
 run_in options = record { sizes = sizes_in options; quiet = options.quiet }
@@ -268,13 +268,13 @@ EachAsks wanted (arguments ∷ more) = (asked arguments ≡ wanted) × EachAsks 
 -- the arguments of each of these lines ask for a script served with so many workers, blocks and seats, with its progress
 abbrev pub EachServes : ℕ → ℕ → ℕ → List (List ℕ) → Type 0
 EachServes workers blocks seats lines =
-    EachAsks (Serve (record { sizes = record { workers = workers; blocks = blocks; seats = seats }; quiet = false }))
+    EachAsks (Serve (record { sizes = standard_config workers blocks seats; quiet = false }))
     (map arguments_of lines)
 
 -- the same without its progress
 abbrev pub EachServesQuietly : ℕ → ℕ → ℕ → List (List ℕ) → Type 0
 EachServesQuietly workers blocks seats lines =
-    EachAsks (Serve (record { sizes = record { workers = workers; blocks = blocks; seats = seats }; quiet = true }))
+    EachAsks (Serve (record { sizes = standard_config workers blocks seats; quiet = true }))
     (map arguments_of lines)
 
 -- the arguments of each of these lines ask for a drive of so many readers

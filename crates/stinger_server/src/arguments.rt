@@ -2,6 +2,7 @@
 
 ghost use Rattle.std.specs.Prelude.{◌≡◌, ◌≢◌, false, IfOk, map, OnOk, option_and_then};
 ghost use Rattle.std.specs.Option.{option_map_or};
+ghost use Rattle.stream_store.specs.Configs.{standard_limits};
 ghost use Rattle.clap.specs.Words.{kind_of, subcommand_rows_of};
 ghost use Rattle.stinger_server.specs.Program.{asked, asked_by_kind, asked_for, asked_if_any, asked_of_command};
 ghost use Rattle.stinger_server.specs.Program.{asked_of_subcommand};
@@ -100,7 +101,8 @@ fn readers(matches: &ArgMatches<'_>) -> Option<usize>
 
 /// The configuration that the options of a run stand for.
 fn configure(matches: &ArgMatches<'_>) -> Result<Config, BadConfig>
-    ensures { sizes_given result ≡ option_and_then (λ run. sizes_of run.1) (subcommand_rows_of matches.now) }
+    ensures sizes { sizes_given result ≡ option_and_then (λ run. sizes_of run.1) (subcommand_rows_of matches.now) }
+    ensures standard { IfOk result (λ config. config.limits ≡ standard_limits) }
 {
     let (_, options) = matches.subcommand().ok_or(BadConfig)?;
     let workers: usize = options.get_one("workers").ok_or(BadConfig)?;
@@ -111,6 +113,7 @@ fn configure(matches: &ArgMatches<'_>) -> Result<Config, BadConfig>
 
 /// The options of a run of this configuration.
 fn options_of(config: Config, quiet: bool) -> RunOptions
+    requires { config.limits ≡ standard_limits }
     ensures { run_in result ≡ record { sizes = config; quiet = quiet } }
 {
     RunOptions {

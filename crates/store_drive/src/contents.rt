@@ -1,7 +1,8 @@
 //! What the plain application leaves of a version's batches.
 
 ghost use Rattle.std.specs.Prelude.{◌≡◌, IfOk, OnOk};
-ghost use Rattle.graph_types.specs.Graph.{graph_of, IsContent};
+ghost use Rattle.graph_types.specs.Graph.{graph_of, IsContentIn};
+ghost use Rattle.graph_types.specs.Limits.{standard_limits};
 ghost use Rattle.graph_types.specs.Step.{empty_graph, left_by};
 ghost use Rattle.store_drive.specs.Reports.{plain_word};
 
@@ -26,7 +27,7 @@ impl From<PlainError> for DriveWord {
 /// The content without names and edges.
 #[tactic(auto, using(graph_types::proofs::Empty::empty_content))]
 fn empty(alloc: Global) -> Content
-    ensures content { IsContent result }
+    ensures content { IsContentIn standard_limits result }
     ensures graph { graph_of result ≡ empty_graph }
 {
     Content {
@@ -38,7 +39,7 @@ fn empty(alloc: Global) -> Content
 
 /// The content that the version's batches leave, one after another, of the empty one.
 pub(crate) fn content_of(alloc: Global, version: &Version) -> Result<Content, DriveWord>
-    ensures content { IfOk result IsContent }
+    ensures content { IfOk result (IsContentIn standard_limits) }
     ensures graph { IfOk result (λ content. graph_of content ≡ left_by version.now.batches empty_graph) }
 {
     let mut content = empty(alloc);

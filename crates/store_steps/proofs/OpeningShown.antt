@@ -5,16 +5,16 @@ use Rattle.std.proofs.lemmas.{List.Elements.{All-head, All-tail, All-cons}, Grin
 use Rattle.std.specs.{Option.option_map, Prelude.{map, slice_get, slice_set, if◌then◌else◌}, List.flat_map}
 use Rattle.std.specs.declared.option.Option.TheVariants.{None, Some}
 use Rattle.block_pool.{proofs.Grants.length-marked, specs.Pools.marked, specs.Pools.is_used_at}
-use Rattle.graph_types.specs.{Graph.graph_of, Graph.content_of, Graph.IsContent, declared.contents.Content.Content}
+use Rattle.graph_types.specs.{Graph.graph_in, Graph.content_of, Graph.IsContentIn, Limits.{LimitsView, AreLimits}, declared.contents.Content.Content}
 use Rattle.graph_types.specs.{Step.left_by, declared.ids.Edge.Edge}
 use Rattle.edge_block.specs.Slots.{BlockView}
 use Rattle.graph_version.specs.{Rows.{blocks_of, numbers_of}, Edges.{edges_in_block, edges_in_blocks}, Versions.VersionView}
-use Rattle.graph_version.{specs.Versions.{content, empty_version}, proofs.{Empty.is_empty_version, Shown.rows_each_once}}
+use Rattle.graph_version.{specs.Versions.{content, empty_version_in}, proofs.{Empty.is_empty_version_in, Shown.rows_each_once}}
 use Rattle.block_reclamation.specs.{Status.is_listed, Status.is_used, Status.is_at, Copies.pin_at}
 use Rattle.block_reclamation.specs.declared.status.BlockStatus.{BlockStatus, TheVariants.Free, TheVariants.Used}
 use Rattle.epoch_core.specs.{Versions.{AreEdgesOf, edges_at, edges_of}, Worlds.{seat_pin, IsStart}}
 use Rattle.epoch_core.specs.{declared.session_states.SessionState.TheVariants.Idle, Opened.{Lists, numbers_in, heap_with}}
-use Rattle.epoch_core.{specs.Opened.{status_with, IsOpening}, proofs.Steps.{all_idle, free_at}}
+use Rattle.epoch_core.{specs.Opened.{status_with, IsOpeningIn}, proofs.Steps.{all_idle, free_at}}
 use Rattle.store_steps.{specs.Desks.IsDesk, specs.Shown.ShowsWorld, proofs.NumberLists.differ_from, proofs.ChangedLists.marked_at}
 use Rattle.store_steps.specs.Opening.{opened_desk, opened_start, lists_of, IsVersionZero, OpensAsMachine, OpensBlank}
 use Rattle.store_steps.proofs.Filling as filling
@@ -118,7 +118,7 @@ used_or_free : (t : Bool) → (if t then option_map (λ _. Used 0) (Some Free) e
 used_or_free t = grind (arith, common_steps)
 
 module _ (sessions blocks : ℕ) (v : VersionView) (c : Content) (zero_is : IsVersionZero blocks v)
-    (same : graph_of c ≡ v.opening) where
+    (same : graph_in v.opening.limits c ≡ v.opening) where
   abbrev bs : List BlockView
   bs = blocks_of v.rows
 
@@ -131,15 +131,15 @@ module _ (sessions blocks : ℕ) (v : VersionView) (c : Content) (zero_is : IsVe
   apart : AllPairs ◌≢◌ (numbers_of bs)
   apart = zero_is.version.rows.numbers
 
-  shown_edges : AreEdgesOf (edges_in_blocks bs) (graph_of c)
+  shown_edges : AreEdgesOf (edges_in_blocks bs) (graph_in v.opening.limits c)
   shown_edges = grind (arith, common_steps, rows_each_once, content_alone)
 
-  is_opening : IsContent c → IsOpening blocks c (lists_of v)
+  is_opening : IsContentIn v.opening.limits c → IsOpeningIn v.opening.limits blocks c (lists_of v)
   is_opening is = record {
     content_is = is;
     within = within_paired blocks bs zero_is.within;
     different = subst (λ ns. AllPairs ◌≢◌ ns) (sym (numbers_paired bs)) apart;
-    shown = subst (λ edges. AreEdgesOf edges (graph_of c)) (sym (edges_paired bs)) shown_edges;
+    shown = subst (λ edges. AreEdgesOf edges (graph_in v.opening.limits c)) (sym (edges_paired bs)) shown_edges;
   }
 
   status_start : (b : ℕ) → b < blocks → slice_get status b ≡ Some (if is_listed b (numbers_in (pairs bs)) then Used 0 else Free)
@@ -160,7 +160,7 @@ module _ (sessions blocks : ℕ) (v : VersionView) (c : Content) (zero_is : IsVe
     within = subst (λ n. All (λ b. b < n) (numbers_in (pairs bs))) (sym long)
         (subst (λ ns. All (λ b. b < blocks) ns) (sym (numbers_paired bs)) zero_is.within);
     different = subst (λ ns. AllPairs ◌≢◌ ns) (sym (numbers_paired bs)) apart;
-    shown = subst (λ edges. AreEdgesOf edges (graph_of c))
+    shown = subst (λ edges. AreEdgesOf edges (graph_in v.opening.limits c))
         (sym (ap (edges_of heap) (numbers_paired bs) ∙ filling.edges_from heap bs (edges_opened blocks bs zero_is.within apart)))
         shown_edges;
     status = λ b low. status_start b (omega (arith, low, long));
@@ -193,13 +193,14 @@ module _ (sessions blocks : ℕ) (v : VersionView) (c : Content) (zero_is : IsVe
 
 -- Over no blocks
 
-empty_is_zero : (blocks : ℕ) → IsVersionZero blocks empty_version
-empty_is_zero blocks = record { version = is_empty_version; alone = refl; within = λ k d h. absurd (omega arith) }
+empty_is_zero : (limits : LimitsView) → AreLimits limits → (blocks : ℕ) → IsVersionZero blocks (empty_version_in limits)
+empty_is_zero limits are blocks = record { version = is_empty_version_in limits are; alone = refl; within = λ k d h. absurd (omega arith) }
 
-pub blank_is_desk : (blocks : ℕ) → IsDesk (opened_desk blocks empty_version)
-blank_is_desk blocks = opened_is_desk blocks empty_version (empty_is_zero blocks)
+pub blank_is_desk : (limits : LimitsView) → AreLimits limits → (blocks : ℕ) → IsDesk (opened_desk blocks (empty_version_in limits))
+blank_is_desk limits are blocks = opened_is_desk blocks (empty_version_in limits) (empty_is_zero limits are blocks)
 
-pub opens_blank : (sessions blocks : ℕ) → OpensBlank sessions blocks
-opens_blank sessions blocks =
-    let opens = opens_as_machine sessions blocks empty_version (content_of [] [] []) (empty_is_zero blocks) refl in
-    record { desk = blank_is_desk blocks; shown = opens.shown; board = opens.board }
+pub opens_blank : (limits : LimitsView) → AreLimits limits → (sessions blocks : ℕ) → OpensBlank limits sessions blocks
+opens_blank limits are sessions blocks =
+    let opens = opens_as_machine sessions blocks (empty_version_in limits) (content_of [] [] [])
+    (empty_is_zero limits are blocks) refl in
+    record { desk = blank_is_desk limits are blocks; shown = opens.shown; board = opens.board }

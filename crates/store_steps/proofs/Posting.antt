@@ -5,8 +5,9 @@ use Rattle.std.proofs.lemmas.{List.{length-map, get_or_default}, Option.slice_ge
 use Rattle.std.{proofs.lemmas.Bool.{le-leb, or_left}, specs.Prelude.{slice_get, if◌then◌else◌, All, Contains}}
 use Rattle.std.specs.{Option.option_map, List.list_all, declared.option.Option.TheVariants.{None, Some}}
 use Rattle.block_pool.{proofs.Grants.length-marked, specs.Pools.is_free_at, specs.Pools.is_used_at}
-use Rattle.graph_types.specs.{Limits.batch_limit, Step.is_within_limits, declared.batches.NamedOp.NamedOp}
-use Rattle.graph_types.proofs.More.{left_more}
+use Rattle.graph_types.specs.{Step.is_within_limits, declared.batches.NamedOp.NamedOp}
+use Rattle.graph_types.specs.{Graph.Graph, Limits.LimitsView}
+use Rattle.graph_types.proofs.{More.left_more, LimitsKept.{limits_after_all, limits_left_by}}
 use Rattle.edge_block.specs.Slots.{BlockView}
 use Rattle.graph_version.specs.{Rows.blocks_of, Rows.numbers_of, Edges.edges_in_block, Edges.edges_in_blocks, Edges.AreEachOnce}
 use Rattle.graph_version.{specs.Versions.content, proofs.Shown.rows_each_once}
@@ -14,6 +15,7 @@ use Rattle.block_reclamation.specs.Status.{is_listed, is_used, is_at, is_granted
 use Rattle.block_reclamation.specs.declared.status.BlockStatus.{BlockStatus, TheVariants.Free, TheVariants.Granted}
 use Rattle.epoch_core.specs.{declared.{states.Version.Version, events.Event.TheVariants.Post}, Blocks.{all_differ, after_post}}
 use Rattle.epoch_core.specs.{Posts.posted, Worlds.{World, last_blocks}, Versions.{AreEdgesOf, edges_at, edges_of}}
+use Rattle.epoch_core.specs.Versions.{batches_at, graph_at, opening_graph}
 use Rattle.epoch_core.{specs.Posting.{is_listable, version_by, can_post, graph_after, are_edges_of}, proofs.Lists.all_listed}
 use Rattle.epoch_core.proofs.{Lists.length_enumerated, Edges.Decides-edges, Changes.{version_next, batches_all}, Posted.status_at}
 use Rattle.store_steps.specs.{Journal.{Applied, Ledger, is_legal}, Shown.ShowsWorld, Desks.{DeskView, IsDesk, IsAccepted}}
@@ -179,7 +181,11 @@ posts a w shows =
     edges_from (ready a w).heap (new_blocks a) (λ k d h. (all k d h).edges) in
     let shown : AreEdgesOf (edges_in_blocks (new_blocks a)) (content a.new.last) =
     record { once = each.once; same = each.same } in
-    five _ _ _ _ _ (lt-ltb (length w.versions) batch_limit (omega arith))
+    let limits : (content a.new.last).limits ≡ w.opening.limits =
+    sym (ap (λ (g : Graph). g.limits) graph) ∙ limits_after_all a.ops (graph_at w.opening w.versions (length w.versions))
+    ∙ limits_left_by (batches_at w.versions (length w.versions)) (opening_graph w.opening) in
+    let most = ap (λ (l : LimitsView). l.batches) limits in
+    five _ _ _ _ _ (lt-ltb (length w.versions) w.opening.limits.batches (omega arith))
     (numbers_all (is_listable (ready a w).status (last_blocks w)) (new_blocks a) (λ k d h. (all k d h).listable))
     (differ_from (last_numbers a.new) a.after.version.rows.numbers)
     (ap is_within_limits graph ∙ and_from _ _ (le-leb _ _ a.after.version.small.names) (le-leb _ _ a.after.version.small.kinds))

@@ -3,13 +3,14 @@ use Rattle.std.proofs.Common.{◌≡◌, ℕ, zero, suc, ◌<◌, true, List, []
 use Rattle.std.proofs.{Common.arith, lemmas.Grind.common_steps, lemmas.List.length-map, lemmas.Option.slice_get-get_or}
 use Rattle.std.specs.{Option.unwrap_or, Option.option_map, Option.option_and_then, Prelude.slice_get, Prelude.is_some}
 use Rattle.std.specs.declared.option.Option.{Option, TheVariants.None, TheVariants.Some}
-use Rattle.epoch_core.specs.Worlds.{seat_pin, World, MachineState, IsStart, start_world, last_number, session_of, held_in}
+use Rattle.graph_types.specs.Limits.{LimitsView, AreLimits}
+use Rattle.epoch_core.specs.Worlds.{seat_pin, World, MachineState, IsStart, start_world_in, last_number, session_of, held_in}
 use Rattle.epoch_core.specs.declared.events.Event.{Event, TheVariants.{Floor, Pin, Enter, Settle, Ask, Read, Reply, Release}}
 use Rattle.epoch_core.specs.declared.session_states.SessionState.{SessionState, TheVariants.{Idle, Pinned, Holding, Asking}}
 use Rattle.epoch_core.specs.{Epochs.PinsInOrder, Blocks.put, Runs.{run, next_world, is_done}, Machine.{step, move, to_pin}}
 use Rattle.epoch_core.{specs.Machine.{to_enter, to_settle, with_sessions}, proofs.Moves.{Moved, moved, floored, session_after}}
 use Rattle.epoch_core.proofs.{Steps.{always_sound, idle_at}, Sizes.size_run, Epochs.pins_in_order}
-use Rattle.graph_version.specs.Versions.{empty_version}
+use Rattle.graph_version.specs.Versions.{empty_version_in}
 use Rattle.block_reclamation.specs.{declared.copies.PinCopy.PinCopy, Board.BoardState, Board.with_pin}
 use Rattle.block_reclamation.specs.Copies.{pin_at, unsettled, settled, copy_of}
 use Rattle.store_steps.specs.{Desks.DeskView, Shown.ShowsWorld, Histories.IsUnseen, Steps.IsTaken, Opening.opened_desk}
@@ -197,10 +198,10 @@ stays_reached start is_start = record {
   entered = entered_holds start.world;
 }
 
-pub blank_reached : (sessions blocks : ℕ)
-    → IsReached (start_world sessions blocks) [] (opened_store (opened_desk blocks empty_version))
-blank_reached sessions blocks = record {
-  desk = (opens_blank sessions blocks).shown;
-  board = (opens_blank sessions blocks).board;
+pub blank_reached : (limits : LimitsView) → AreLimits limits → (sessions blocks : ℕ)
+    → IsReached (start_world_in limits sessions blocks) [] (opened_store (opened_desk blocks (empty_version_in limits)))
+blank_reached limits are sessions blocks = record {
+  desk = (opens_blank limits are sessions blocks).shown;
+  board = (opens_blank limits are sessions blocks).board;
   copied_is = refl;
 }

@@ -2,15 +2,16 @@
 
 ghost use Rattle.std.specs.Prelude.{◌≡◌, ℕ, ◌+◌, ◌≤◌, List, [], ◌∷◌, ◌++◌, length, true, false, None};
 ghost use Rattle.std.specs.Option.{option_and_then};
-ghost use Rattle.graph_types.specs.Graph.{graph_of};
+ghost use Rattle.graph_types.specs.Graph.{graph_in};
+ghost use Rattle.graph_types.specs.Limits.{LimitsView, AreLimits};
 ghost use Rattle.graph_types.specs.declared.contents.Content.{Content};
 ghost use Rattle.graph_types.specs.declared.batches.NamedOp.{NamedOp};
 ghost use Rattle.edge_block.specs.Slots.{BlockView};
 ghost use Rattle.graph_version.specs.Rows.{numbers_of};
-ghost use Rattle.graph_version.specs.Versions.{VersionView, empty_version};
+ghost use Rattle.graph_version.specs.Versions.{VersionView, empty_version_in};
 ghost use Rattle.block_reclamation.specs.Status.{is_listed};
 ghost use Rattle.block_reclamation.specs.declared.copies.PinCopy.{PinCopy};
-ghost use Rattle.epoch_core.specs.Worlds.{MachineState, IsStart, start_world};
+ghost use Rattle.epoch_core.specs.Worlds.{MachineState, IsStart, start_world_in};
 ghost use Rattle.block_pool.specs.Pools.{retired, is_free_at, marked, changed, is_used_at};
 ghost use Rattle.block_reclamation.specs.declared.status.BlockStatus.TheVariants.{Free, Granted, Used};
 ghost use Rattle.store_steps.specs.Journal.{Entry, Applied, Ledger, entered, replay};
@@ -98,8 +99,8 @@ pub fn law_board_steps()
 /// - `blank`: over the version without blocks, where the machine starts with all blocks free.
 pub fn law_opening_shown()
     ensures opened { (sessions blocks : ℕ) (v : VersionView) (content : Content) → IsVersionZero blocks v
-        → graph_of content ≡ v.opening → OpensAsMachine sessions blocks v content }
-    ensures blank { (sessions blocks : ℕ) → OpensBlank sessions blocks }
+        → graph_in v.opening.limits content ≡ v.opening → OpensAsMachine sessions blocks v content }
+    ensures blank { (limits : LimitsView) → AreLimits limits → (sessions blocks : ℕ) → OpensBlank limits sessions blocks }
 {}
 
 /// Events that are all done are a run of the machine; and a session's entering, asking, reading and replying change
@@ -117,8 +118,8 @@ pub fn law_histories()
 /// - `blank`: the opening over no blocks is one, where all blocks are free.
 pub fn law_stays_reached()
     ensures reached { (start : MachineState) → IsStart start → StaysReached start.world }
-    ensures blank { (sessions blocks : ℕ)
-        → IsReached (start_world sessions blocks) [] (opened_store (opened_desk blocks empty_version)) }
+    ensures blank { (limits : LimitsView) → AreLimits limits → (sessions blocks : ℕ)
+        → IsReached (start_world_in limits sessions blocks) [] (opened_store (opened_desk blocks (empty_version_in limits))) }
 {}
 
 /// Held snapshots, where the desk and the board show what a run of the machine leaves.

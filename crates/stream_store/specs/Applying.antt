@@ -1,6 +1,6 @@
 -- What a batch is planned for, and what its receipt says.
 use Rattle.std.specs.Prelude.{◌≡◌, ℕ, ◌+◌, ◌<◌, nat_lt, if◌then◌else◌, List, length}
-use Rattle.graph_types.specs.{Limits.batch_limit, Step.outcomes, declared.batches.{NamedOp.NamedOp, Outcome.Outcome}}
+use Rattle.graph_types.specs.{Step.outcomes, declared.batches.{NamedOp.NamedOp, Outcome.Outcome}}
 use Rattle.graph_version.specs.{Rows.row_of, Versions.VersionView, Versions.content}
 use Rattle.batch_apply.specs.{OldRows.AreOldRows, OldRows.expiry_time, declared.old.OldRow.OldRow}
 use Rattle.batch_apply.specs.{Planned.IsPlan, Planned.MeetsNeitherLimit, declared.plans.Plan.Plan}
@@ -14,7 +14,7 @@ workers_for workers many = if nat_lt many 2048 then 1 else workers
 
 -- a batch that the version's limits admit, and its plan for as many of these workers as share it
 pub record IsAdmitted (v : VersionView) (workers : ℕ) (ops : List NamedOp) (plan : Plan) : Type 0 where
-  pub few : length v.batches < batch_limit
+  pub few : length v.batches < (content v).limits.batches
   pub limits : MeetsNeitherLimit ops (content v)
   pub old : List OldRow
   pub old_are : AreOldRows (expiry_time ops) (row_of v.rows) old

@@ -1,8 +1,9 @@
 -- Seats and sessions.
 use Rattle.std.specs.Prelude.{◌≡◌, ℕ, Option, Some, None, Result}
 use Rattle.logbook.specs.Pages.{Book}
-use Rattle.graph_types.specs.{Graph.Graph, Answer.IsAnswer, declared.requests.{Request.Request, Reply.Reply, AskError.AskError}}
-use Rattle.graph_version.specs.Versions.{VersionView, content, empty_version}
+use Rattle.graph_types.specs.{Graph.{Graph, unlimited}, Limits.{LimitsView, standard_limits}}
+use Rattle.graph_types.specs.{Answer.IsAnswer, declared.requests.{Request.Request, Reply.Reply, AskError.AskError}}
+use Rattle.graph_version.specs.Versions.{VersionView, content, empty_version_in}
 use Rattle.version_shelf.specs.Shelves.{ToldView}
 
 -- a seat: its number, and the newest version that its reader entered or learnt
@@ -40,13 +41,16 @@ seat_of s = record { number = s.number; seen = s.seen }
 abbrev pub HasSeen : Book → VersionView → SeatView → Type 0
 HasSeen book version s = s.seen ≡ record { book = book; version = version }
 
--- a seat of a store that opened without blocks
-abbrev pub IsNewSeat : Book → SeatView → Type 0
-IsNewSeat book s = HasSeen book empty_version s
+-- a seat of a store that opened without blocks, under these limits and under the standard ones
+abbrev pub IsNewSeatIn : LimitsView → Book → SeatView → Type 0
+IsNewSeatIn limits book s = HasSeen book (empty_version_in limits) s
 
--- two sessions, of whatever stores and after whatever batches: where they hold versions of equal content, equal requests
--- have equal answers
+abbrev pub IsNewSeat : Book → SeatView → Type 0
+IsNewSeat book s = IsNewSeatIn standard_limits book s
+
+-- two sessions, of whatever stores, under whatever limits and after whatever batches: where they hold versions of equal
+-- content, equal requests have equal answers
 abbrev pub AnswersByContent : Type 0
 AnswersByContent =
-    (here there : SessionView) (request : Request) (x y : Result Reply AskError) → held_graph here ≡ held_graph there
+    (here there : SessionView) (request : Request) (x y : Result Reply AskError) → unlimited (held_graph here) ≡ unlimited (held_graph there)
     → IsAnswer request (held_graph here) x → IsAnswer request (held_graph there) y → x ≡ y

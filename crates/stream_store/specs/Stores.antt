@@ -1,7 +1,7 @@
 -- A store behind locks: what its calls answer, where what the locks held is not known.
 use Rattle.std.specs.Prelude.{◌≡◌, ℕ, ◌<◌, List, [], ◌∷◌, ◌++◌, length}
 use Rattle.logbook.specs.Pages.{Book}
-use Rattle.graph_types.specs.{Graph.Graph, Limits.batch_limit}
+use Rattle.graph_types.specs.Graph.{Graph}
 use Rattle.graph_types.specs.{Step.outcomes, Step.left_by, declared.batches.NamedOp.NamedOp, declared.batches.Outcome.Outcome}
 use Rattle.graph_version.specs.Versions.{VersionView, IsVersion}
 use Rattle.batch_apply.specs.Planned.{MeetsNeitherLimit}
@@ -26,7 +26,7 @@ pub record IsReceiptOf (ops : List NamedOp) (number : ℕ) (results : List Outco
   pub ends : told.version.batches ≡ earlier ++ ops ∷ []
   pub number_is : number ≡ length told.version.batches
   pub outcomes_are : results ≡ outcomes ops (left_by earlier told.version.opening)
-  pub few : length earlier < batch_limit
+  pub few : length earlier < (left_by earlier told.version.opening).limits.batches
   pub limits : MeetsNeitherLimit ops (left_by earlier told.version.opening)
 
 -- there is a version that began with this graph, and a number of free blocks, at which the batch is so refused

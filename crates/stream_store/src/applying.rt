@@ -50,7 +50,7 @@ pub(crate) fn plan_next<R: Threads + Sync>(
     ensures admitted { IfOk result (IsAdmitted last.now workers batch.now) }
     ensures refused { IfErr result (λ e. (free : ℕ) → Refuses last.now free batch.now e) }
 {
-    if last.number() >= 65_536 {
+    if last.number() >= u64::from(last.limits().batches()) {
         return Err(ApplyError::BatchLimit);
     }
     let old = old_rows(alloc, last, batch)?;

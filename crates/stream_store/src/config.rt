@@ -1,35 +1,42 @@
 //! How large a store is.
 
 ghost use Rattle.std.specs.Prelude.{◌≡◌, MatchResult};
-ghost use Rattle.stream_store.specs.Configs.{AreSizesWithin};
+ghost use Rattle.stream_store.specs.Configs.{AreSizesWithin, IsConfig, standard_config};
 
+use graph_types::{Limits, STANDARD_SIZE};
 use std::marker::Model;
 use thiserror::Error;
 
+/// A store has at most so many blocks.
+const MOST_BLOCKS: u32 = 4_294_963_199;
+
 /// How many workers apply a batch, how many blocks there are, and how many seats readers have: 1 to 8, 16 to 65,536 and
-/// 1 to 16.
+/// 1 to 16; or as many blocks as a store can have, under limits of one's own.
 ///
 /// ```
 /// let config = Config::new(4, 1_024, 2)?;
 /// assert_eq!(rt; config.seats(), 2);
+/// let large = Config::within(Limits::new(2_000_000, 4, 1_000_000)?, 4, 8_000_000, 2)?;
+/// assert_eq!(rt; large.limits().names(), 2_000_000);
 /// ```
 #[derive(Clone, Copy, Debug, PartialEq, Eq)]
 pub struct Config {
     workers: usize,
     blocks: u32,
     seats: usize,
+    limits: Limits,
 }
 
 impl Model for Config {
-    ghost use Rattle.stream_store.specs.Configs.{ConfigView, AreSizesWithin};
+    ghost use Rattle.stream_store.specs.Configs.{ConfigView, IsConfig};
 
     ghost Value = { ConfigView };
 
-    ghost view = { λ c. record { workers = c.workers; blocks = c.blocks; seats = c.seats } };
+    ghost view = { λ c. record { workers = c.workers; blocks = c.blocks; seats = c.seats; limits = c.limits } };
 
-    ghost invariant = { λ c. AreSizesWithin c.workers c.blocks c.seats };
+    ghost invariant = { λ c. IsConfig (record { workers = c.workers; blocks = c.blocks; seats = c.seats; limits = c.limits }) };
 
-    ghost inverse = { λ c. record { workers = c.workers; blocks = c.blocks; seats = c.seats } };
+    ghost inverse = { λ c. record { workers = c.workers; blocks = c.blocks; seats = c.seats; limits = c.limits } };
 }
 
 /// A number that is past its limits.
@@ -38,17 +45,37 @@ impl Model for Config {
 pub struct BadConfig;
 
 impl Config {
-    /// A configuration of so many workers, blocks and seats, where each is within its limits.
+    /// A configuration of so many workers, blocks and seats, where each is within its limits; the store has the standard
+    /// limits.
     pub fn new(workers: usize, blocks: u32, seats: usize) -> Result<Config, BadConfig>
         ensures { MatchResult result
-            (λ config. (config ≡ record { workers = workers; blocks = blocks; seats = seats })
-            × AreSizesWithin workers blocks seats)
+            (λ config. (config ≡ standard_config workers blocks seats) × AreSizesWithin workers blocks seats)
             (λ _. AreSizesWithin workers blocks seats → ⊥) }
     {
+        if blocks > STANDARD_SIZE {
+            return Err(BadConfig);
+        }
+        Config::within(Limits::standard(), workers, blocks, seats)
+    }
+
+    /// A configuration of a store under these limits: 1 to 8 workers, 16 to 4,294,963,199 blocks, and 1 to 16 seats.
+    pub fn within(
+        limits: Limits,
+        workers: usize,
+        blocks: u32,
+        seats: usize,
+    ) -> Result<Config, BadConfig>
+        ensures { MatchResult result
+            (λ config. (config ≡ record { workers = workers; blocks = blocks; seats = seats; limits = limits })
+            × IsConfig config)
+            (λ _. IsConfig (record { workers = workers; blocks = blocks; seats = seats; limits = limits }) → ⊥) }
+    {
+        // The limits tell with each of their numbers that they are within the walls.
+        let _names = limits.names();
         let is_within = 1 <= workers
             && workers <= 8
             && 16 <= blocks
-            && blocks <= 65_536
+            && blocks <= MOST_BLOCKS
             && 1 <= seats
             && seats <= 16;
         if !is_within {
@@ -58,13 +85,14 @@ impl Config {
             workers,
             blocks,
             seats,
+            limits,
         })
     }
 
     /// The number of workers.
     pub fn workers(self) -> usize
         ensures number { result ≡ self.workers }
-        ensures limits { AreSizesWithin self.workers self.blocks self.seats }
+        ensures limits { IsConfig self }
     {
         self.workers
     }
@@ -72,7 +100,7 @@ impl Config {
     /// The number of blocks.
     pub fn blocks(self) -> u32
         ensures number { result ≡ self.blocks }
-        ensures limits { AreSizesWithin self.workers self.blocks self.seats }
+        ensures limits { IsConfig self }
     {
         self.blocks
     }
@@ -80,8 +108,16 @@ impl Config {
     /// The number of seats.
     pub fn seats(self) -> usize
         ensures number { result ≡ self.seats }
-        ensures limits { AreSizesWithin self.workers self.blocks self.seats }
+        ensures limits { IsConfig self }
     {
         self.seats
+    }
+
+    /// How many names, kinds and batches there may be.
+    pub fn limits(self) -> Limits
+        ensures value { result ≡ self.limits }
+        ensures limits { IsConfig self }
+    {
+        self.limits
     }
 }

@@ -3,13 +3,13 @@
 ghost use Rattle.std.specs.Prelude.{◌≡◌, ◌<◌, length, map, IfOk, IfErr, Err, All};
 ghost use Rattle.std.specs.List.{range_with_len};
 ghost use Rattle.block_reclamation.specs.Board.{no_pins};
-ghost use Rattle.graph_version.specs.Versions.{empty_version};
+ghost use Rattle.graph_version.specs.Versions.{empty_version_in};
 ghost use Rattle.graph_version.specs.Rebased.{IsRebased};
 ghost use Rattle.store_steps.specs.Opening.{IsVersionZero, opened_desk};
 ghost use Rattle.stream_store.specs.Opened.{IsOpeningOf};
 ghost use Rattle.stream_store.specs.Openings.{RefusesOpening};
 ghost use Rattle.desk.specs.Refusals.{block_count};
-ghost use Rattle.stream_store.specs.Seats.{SeatView, HasSeen, IsNewSeat};
+ghost use Rattle.stream_store.specs.Seats.{SeatView, HasSeen, IsNewSeatIn};
 ghost use Rattle.stream_store.specs.Stores.{IsSeatOf};
 
 use crate::config::Config;
@@ -62,12 +62,12 @@ impl Model for Opened {
 
 impl Store<Brand> {
     /// Opens a store without edges: version 0, an empty journal, all blocks free, no pins, and seats, numbered from 0, that have
-    /// seen version 0. It waits for nobody.
+    /// seen version 0. The store has the configuration's limits. It waits for nobody.
     pub fn open<R: Wait>(rt: &R, alloc: Global, config: Config) -> Result<Opened, OpenError>
         ensures desk { IfOk result (λ o. o.desk
-            ≡ record { book = o.desk.book; workers = config.workers; desk = opened_desk config.blocks empty_version }) }
+            ≡ record { book = o.desk.book; workers = config.workers; desk = opened_desk config.blocks (empty_version_in config.limits) }) }
         ensures board { IfOk result (λ o. o.board ≡ no_pins) }
-        ensures seats { IfOk result (λ o. (length o.seats ≡ config.seats) × All (IsNewSeat o.desk.book) o.seats) }
+        ensures seats { IfOk result (λ o. (length o.seats ≡ config.seats) × All (IsNewSeatIn config.limits o.desk.book) o.seats) }
         ensures numbers { IfOk result (λ o. map (λ (s : SeatView). s.number) o.seats ≡ range_with_len 0 (length o.seats)) }
         ensures refused { IfErr result (RefusesOpening 0 config.blocks) }
     {
@@ -76,7 +76,7 @@ impl Store<Brand> {
     }
 
     /// Opens a store with what a version holds, for which it copies the version's blocks: version 0 begins with the version's
-    /// content, its rows are laid out as the version's, and all blocks but its own are free. It waits for nobody.
+    /// content under its limits, its rows are laid out as the version's, and all blocks but its own are free. It waits for nobody.
     ///
     /// `PoolEmpty` exactly where the version has more blocks than the configuration.
     pub fn open_from<R: Wait>(

@@ -5,13 +5,13 @@ ghost use Rattle.std.specs.List.{range_with_len};
 ghost use Rattle.std.specs.Arc.{arc_value};
 ghost use Rattle.block_reclamation.specs.Board.{no_pins};
 ghost use Rattle.graph_version.specs.declared.versions.Version.{Version};
-ghost use Rattle.graph_version.specs.Versions.{VersionView, empty_version};
+ghost use Rattle.graph_version.specs.Versions.{VersionView, empty_version_in};
 ghost use Rattle.graph_version.specs.Rebased.{IsRebased};
 ghost use Rattle.version_shelf.specs.Shelves.{opened_shelf};
 ghost use Rattle.store_steps.specs.Opening.{IsVersionZero, opened_desk};
 ghost use Rattle.stream_store.specs.Openings.{RefusesOpening};
 ghost use Rattle.desk.specs.Refusals.{block_count};
-ghost use Rattle.stream_store.specs.Seats.{SeatView, HasSeen, IsNewSeat};
+ghost use Rattle.stream_store.specs.Seats.{SeatView, HasSeen, IsNewSeatIn};
 
 use crate::config::Config;
 use crate::posting::Desk;
@@ -60,24 +60,29 @@ impl From<desk::OpenError> for OpenError {
 }
 
 /// A desk, a board and the seats, numbered from 0, all of one opening: version 0, an empty journal, all blocks free, no
-/// pins, and seats that have seen version 0. It waits for nobody.
+/// pins, and seats that have seen version 0. The store has the configuration's limits. It waits for nobody.
 pub fn open_parts<R: Wait>(
     rt: &R,
     alloc: Global,
     config: Config,
 ) -> Result<(Desk, Board, Vec<Seat>), OpenError>
     ensures desk { IfOk result (λ r. r.0
-        ≡ record { book = r.0.book; workers = config.workers; desk = opened_desk config.blocks empty_version }) }
+        ≡ record { book = r.0.book; workers = config.workers; desk = opened_desk config.blocks (empty_version_in config.limits) }) }
     ensures board { IfOk result (λ r. r.1 ≡ no_pins) }
-    ensures seats { IfOk result (λ r. (length r.2.items ≡ config.seats) × All (IsNewSeat r.0.book) r.2.items) }
+    ensures seats { IfOk result (λ r. (length r.2.items ≡ config.seats) × All (IsNewSeatIn config.limits r.0.book) r.2.items) }
     ensures numbers { IfOk result (λ r. map (λ (s : SeatView). s.number) r.2.items ≡ range_with_len 0 (length r.2.items)) }
     ensures refused { IfErr result (RefusesOpening 0 config.blocks) }
 {
-    open_over(rt, alloc, config, desk::Desk::open(alloc, config.blocks())?)
+    open_over(
+        rt,
+        alloc,
+        config,
+        desk::Desk::open_within(alloc, config.limits(), config.blocks())?,
+    )
 }
 
 /// The same with what a version holds, for which it copies the version's blocks: version 0 begins with the version's
-/// content, its rows are laid out as the version's, and all blocks but its own are free. It waits for nobody.
+/// content under its limits, its rows are laid out as the version's, and all blocks but its own are free. It waits for nobody.
 ///
 /// `PoolEmpty` exactly where the version has more blocks than the configuration.
 pub fn open_parts_from<R: Wait>(

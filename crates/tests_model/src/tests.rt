@@ -15,6 +15,7 @@ mod graphs;
 mod growths;
 mod lanes;
 mod laws;
+mod limits;
 mod machines;
 mod made;
 mod name_books;

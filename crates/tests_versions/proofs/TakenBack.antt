@@ -6,7 +6,7 @@ use Rattle.graph_types.specs.{Graph.key_cmp, Step.empty_graph, declared.batches.
 use Rattle.edge_block.specs.{Slots.BlockView, Rows.{shape_of, row_at, IsRow}}
 use Rattle.graph_version.specs.{Rows.{row_of, numbers_of}, Versions.{IsBlockOf, AreRowsOf, empty_version}, Drafts.DraftView}
 use Rattle.graph_version.specs.Drafts.{drafted_over, with_batch, ReplacesRow, IsWhole}
-use Rattle.graph_version.proofs.{Totals.same_blocks, Totals.at_source, Totals.elsewhere, Empty.no_row}
+use Rattle.graph_version.proofs.{Totals.same_blocks, Totals.at_source, Totals.elsewhere, Empty.{no_row, standard_are_limits}}
 
 no_block : (s : ℕ) → All (IsBlockOf s) []
 no_block s k d h = absurd (omega arith)
@@ -37,7 +37,7 @@ whole_over rows none = record {
   version = record {
     rows = bare rows none;
     within = λ k is. absurd (true≢false (sym is ∙ ap is_some (get-empty key_cmp k)));
-    small = record { names = omega arith; kinds = omega arith; count = omega arith };
+    small = record { names = omega arith; kinds = omega arith; count = omega arith; limits = standard_are_limits };
   };
 }
 

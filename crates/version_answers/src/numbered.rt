@@ -162,6 +162,8 @@ fn kind_number(version: &Version, name: &Name) -> Option<KindId>
         (number_of (content version.now).kinds name.now) }
 {
     let number = version.kinds().number(name.as_str())?;
+    // The limits tell that a kind's number has 8 bits.
+    let _limits = version.limits();
     Some(KindId(number as u8))
 }
 

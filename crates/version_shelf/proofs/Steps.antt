@@ -1,7 +1,8 @@
 -- The steps of the shelf keep its rule.
 use Rattle.graph_types.specs.declared.batches.NamedOp.{NamedOp}
 use Rattle.std.proofs.Common.{◌≡◌, ℕ, ◌≢◌, ◌⊎◌, Bool, true, false, MatchBool, List, [], ◌∷◌, ◌++◌, set, refl, sym, ap, subst, ◌∙◌}
-use Rattle.std.{proofs.{Common.{⊎_elim, Option, Some, None, IfSome, IfOk, Result, Ok, Err}, lemmas.Option.same_Some}, specs.Result.result_ok}
+use Rattle.std.{proofs.{Common.{⊎_elim, Option, Some, None, IfSome, IfOk, Result, Ok, Err}, lemmas.Option.same_Some}, specs.{Result.result_ok, Prelude.IsSome}}
+use Rattle.std.proofs.lemmas.Bool.{false≢true}
 use mathlib.Core.Option.{some}
 use mathlib.Core.List.{IsPrefix}
 use lib.ListN.{get_elem?}
@@ -90,3 +91,32 @@ pub ends_with_last : (batches posted others : List (List NamedOp)) (next last : 
     → batches ≡ posted ++ last ∷ []
 ends_with_last batches posted others next last p q = p
     ∙ ap (λ x. posted ++ x ∷ []) (same_last posted others next last (sym p ∙ q))
+
+-- A glance at a place leaves what is seen there of one shelf, and so is what it told
+
+module _ (old new shown : Option ToldView) (newest : ToldView)
+    (glanced : (before : ToldView) → old ≡ Some before → (after : ToldView) × (new ≡ Some after) × IsOfOneShelf before after
+    × IfSome shown (λ told. IsOfOneShelf before told))
+    (seen : IsSome old × IfSome old (λ s. IsOfOneShelf s newest)) where
+  one_before : (before : ToldView) × (old ≡ Some before) × IsOfOneShelf before newest
+  one_before = go old refl seen where
+    go : (o : Option ToldView) → old ≡ o → IsSome o × IfSome o (λ s. IsOfOneShelf s newest)
+        → (before : ToldView) × (old ≡ Some before) × IsOfOneShelf before newest
+    go None is there = absurd (false≢true there.0)
+    go (Some before) is there = (before, is, there.1)
+
+  pub one_shelf_kept : IsSome new × IfSome new (λ s. IsOfOneShelf s newest)
+  one_shelf_kept =
+      let (before, is, one) = one_before in
+      let (after, there, same, told) = glanced before is in
+      subst (λ (o : Option ToldView). IsSome o × IfSome o (λ s. IsOfOneShelf s newest)) (sym there)
+      (refl, (sym same.0 ∙ one.0, sym same.1 ∙ one.1))
+
+  pub one_shelf_told : (told : ToldView) → shown ≡ Some told → IsSome new × IfSome new (λ s. IsOfOneShelf s told)
+  one_shelf_told told tells =
+      let (before, is, one) = one_before in
+      let (after, there, same, others) = glanced before is in
+      let other : IsOfOneShelf before told =
+      subst (λ (o : Option ToldView). IfSome o (λ t. IsOfOneShelf before t)) tells others in
+      subst (λ (o : Option ToldView). IsSome o × IfSome o (λ s. IsOfOneShelf s told)) (sym there)
+      (refl, (sym same.0 ∙ other.0, sym same.1 ∙ other.1))

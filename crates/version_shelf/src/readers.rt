@@ -83,7 +83,15 @@ impl ShelfReader {
     pub fn look(&mut self)
         ensures { Begins self.old self.new }
     {
-        let shown = replace_with(&mut self.place, (), |place, _| glance(place));
+        let shown = replace_with(
+            &mut self.place,
+            (),
+            |place: ReaderPlace, _: ()| -> (ReaderPlace, Option<Told>)
+                ensures { (before : ToldView) → view place.place ≡ Some before → (after : ToldView)
+                    × (view result.0.place ≡ Some after) × IsOfOneShelf before after
+                    × IfSome result.1 (λ told. IsOfOneShelf before told) }
+            { glance(place) },
+        );
         if let Some(told) = shown {
             if self.newest.is_below(&told) {
                 self.newest = told;

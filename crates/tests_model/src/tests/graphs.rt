@@ -2,7 +2,8 @@
 // compares what they come to, the names, the kinds and how many edges they leave, and `REQUEST => WORDS` asks.
 
 ghost use Rattle.std.specs.Prelude.{◌≡◌, IfOk};
-ghost use Rattle.graph_types.specs.Graph.{IsContent};
+ghost use Rattle.graph_types.specs.Graph.{IsContentIn};
+ghost use Rattle.graph_types.specs.Limits.{standard_limits};
 ghost use Rattle.epoch_core.specs.Worlds.{empty_opening};
 
 use super::checks::{same, tell_refused};
@@ -17,7 +18,7 @@ use std::process::Abort;
 /// A content without names, kinds and edges.
 #[tactic(auto, using(graph_types::proofs::Empty::empty_content))]
 pub(super) fn empty(alloc: Global) -> Content
-    ensures content { IsContent result }
+    ensures content { IsContentIn standard_limits result }
     ensures empty { result ≡ empty_opening.content }
 {
     Content {
@@ -28,8 +29,8 @@ pub(super) fn empty(alloc: Global) -> Content
 }
 
 fn apply(alloc: Global, content: &mut Content, batch: &Batch) -> Result<(), LineError>
-    requires { IsContent content.old }
-    ensures { IsContent content.new }
+    requires { IsContentIn standard_limits content.old }
+    ensures { IsContentIn standard_limits content.new }
 {
     match plain_apply(alloc, content, batch) {
         Ok(_) => Ok(()),
@@ -39,7 +40,7 @@ fn apply(alloc: Global, content: &mut Content, batch: &Batch) -> Result<(), Line
 }
 
 fn content_with(alloc: Global, batch: &Batch) -> Result<Content, LineError>
-    ensures { IfOk result IsContent }
+    ensures { IfOk result (IsContentIn standard_limits) }
 {
     let mut content = empty(alloc);
     match apply(alloc, &mut content, batch) {
@@ -50,13 +51,13 @@ fn content_with(alloc: Global, batch: &Batch) -> Result<Content, LineError>
 
 /// What these operations leave of nothing.
 pub(super) fn content_of(alloc: Global, ops: &str) -> Result<Content, LineError>
-    ensures { IfOk result IsContent }
+    ensures { IfOk result (IsContentIn standard_limits) }
 {
     content_with(alloc, &batch(alloc, ops)?)
 }
 
 // What was told of a batch, and the content that it left.
-fn check_left(
+pub(super) fn check_left(
     rt: &impl Abort,
     alloc: Global,
     told: &Result<Vec<Outcome>, PlainError>,
@@ -78,8 +79,8 @@ fn check_batch(
     batch: &Batch,
     wanted: &str,
 ) -> Result<(), LineError>
-    requires { IsContent content.old }
-    ensures { IsContent content.new }
+    requires { IsContentIn standard_limits content.old }
+    ensures { IsContentIn standard_limits content.new }
 {
     check_left(
         rt,
@@ -109,7 +110,7 @@ fn check_request(
     request: &Request,
     wanted: &str,
 ) -> Result<(), LineError>
-    requires { IsContent content.now }
+    requires { IsContentIn standard_limits content.now }
 {
     check_reply(rt, alloc, &plain_reply(alloc, content, request), wanted)
 }
@@ -121,8 +122,8 @@ fn check_told(
     text: &str,
     wanted: &str,
 ) -> Result<(), LineError>
-    requires { IsContent content.old }
-    ensures { IsContent content.new }
+    requires { IsContentIn standard_limits content.old }
+    ensures { IsContentIn standard_limits content.new }
 {
     match text.strip_prefix("apply ") {
         Some(ops) => check_batch(rt, alloc, content, &batch(alloc, ops)?, wanted),
@@ -136,8 +137,8 @@ fn check_line(
     content: &mut Content,
     line: &str,
 ) -> Result<(), LineError>
-    requires { IsContent content.old }
-    ensures { IsContent content.new }
+    requires { IsContentIn standard_limits content.old }
+    ensures { IsContentIn standard_limits content.new }
 {
     match line.split_once(" => ") {
         Some((text, wanted)) => check_told(rt, alloc, content, text, wanted),
@@ -156,8 +157,8 @@ fn sizes(content: &Content) -> (usize, usize, usize) {
 
 // Does what a line says, and tells whether a growth was refused: then the content is as large as before.
 fn is_refused(rt: &impl Abort, alloc: Global, content: &mut Content, line: &str) -> bool
-    requires { IsContent content.old }
-    ensures { IsContent content.new }
+    requires { IsContentIn standard_limits content.old }
+    ensures { IsContentIn standard_limits content.new }
 {
     let before = sizes(content);
     let told = check_line(rt, alloc, content, line);
@@ -170,7 +171,7 @@ fn is_refused(rt: &impl Abort, alloc: Global, content: &mut Content, line: &str)
 }
 
 fn is_table_refused(rt: &impl Abort, alloc: Global, content: &mut Content, table: &str) -> bool
-    requires { IsContent content.old }
+    requires { IsContentIn standard_limits content.old }
 {
     for line in table.lines() {
         if is_refused(rt, alloc, content, line) {

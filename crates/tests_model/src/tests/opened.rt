@@ -1,7 +1,8 @@
 // A machine over an opening content: what a batch leaves, in one block.
 
 ghost use Rattle.std.specs.Prelude.{◌≡◌, ◌<◌, ◌≤◌, IfOk, length};
-ghost use Rattle.graph_types.specs.Graph.{IsContent};
+ghost use Rattle.graph_types.specs.Graph.{IsContentIn};
+ghost use Rattle.graph_types.specs.Limits.{standard_limits};
 
 use super::checks::{only_refused, same};
 use super::graphs::content_of;
@@ -14,7 +15,7 @@ use std::alloc::Global;
 // One session over two blocks, of which block 1 has the edges of the content.
 #[tactic(auto, using(crate::proofs::Openings::in_one))]
 fn opened(alloc: Global, content: &Content) -> Result<Core, OutOfMemory>
-    requires content { IsContent content.now }
+    requires content { IsContentIn standard_limits content.now }
     ensures { IfOk result (λ core. length core.world.sessions ≡ 1) }
 {
     let edges = Vec::from_slice(alloc, content.edges.as_slice())?;

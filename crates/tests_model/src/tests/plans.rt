@@ -10,7 +10,7 @@ use super::texts::check_shown;
 use super::values::{LineError, batch, numbers};
 use block_reclamation::BlockStatus;
 use epoch_core::{Opening, Version, blocks_at, content_with, plan_post};
-use graph_types::{Batch, Edge, List};
+use graph_types::{Batch, Edge, Limits, List};
 use std::alloc::{AllocError, Global};
 use std::process::Abort;
 use std::slice::from_ref;
@@ -32,6 +32,7 @@ fn opening(alloc: Global) -> Result<Opening, LineError> {
     Ok(Opening {
         blocks: numbers(alloc, "7")?,
         content: content_of(alloc, "i,m,x,y,1,1")?,
+        limits: Limits::standard(),
     })
 }
 
@@ -86,6 +87,7 @@ fn without_edges(alloc: Global) -> Opening
     Opening {
         content: empty(alloc),
         blocks: List::of(Vec::new(alloc)),
+        limits: Limits::standard(),
     }
 }
 

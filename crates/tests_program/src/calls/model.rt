@@ -1,6 +1,7 @@
 // The model: its types, batches, and the slow functions over lists.
 
-ghost use Rattle.graph_types.specs.Graph.{IsContent};
+ghost use Rattle.graph_types.specs.Graph.{IsContentIn};
+ghost use Rattle.graph_types.specs.Limits.{standard_limits};
 
 use graph_model::{
     AskError, Batch, Content, Degree, Edge, Filter, KindId, List, Name, NamedFilter, NamedOp,
@@ -79,13 +80,13 @@ fn degrees_of(reply: &Reply) -> Option<&[(Name, Degree)]> {
 }
 
 fn applies(alloc: Global, content: &mut Content, batch: &Batch) -> Result<Vec<Outcome>, PlainError>
-    requires { IsContent content.old }
+    requires { IsContentIn standard_limits content.old }
 {
     plain_apply(alloc, content, batch)
 }
 
 fn answers(alloc: Global, content: &Content, request: &Request) -> Result<Reply, AskError>
-    requires { IsContent content.now }
+    requires { IsContentIn standard_limits content.now }
 {
     plain_reply(alloc, content, request)
 }

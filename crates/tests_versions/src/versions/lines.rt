@@ -2,7 +2,8 @@
 // a batch, with what is told of it; `rebase` begins anew with what the version holds.
 
 ghost use Rattle.std.specs.Prelude.{◌<◌};
-ghost use Rattle.graph_types.specs.Graph.{IsContent};
+ghost use Rattle.graph_types.specs.Graph.{IsContentIn};
+ghost use Rattle.graph_types.specs.Limits.{standard_limits};
 
 use super::rebased::begun_anew;
 use super::sames::{check_same, write_row};
@@ -66,8 +67,8 @@ fn check_batch<R: Threads + Sync + Abort>(
     line: &str,
 ) -> Version
     requires workers { 0 < workers }
-    requires content { IsContent content.old }
-    ensures { IsContent content.new }
+    requires content { IsContentIn standard_limits content.old }
+    ensures { IsContentIn standard_limits content.new }
 {
     let (ops, wanted) = line.split_once(" => ").expect(rt, "a batch");
     let next = applied(rt, alloc, &PassAll, workers, version, ops).expect(rt, "the next version");
@@ -88,8 +89,8 @@ pub(super) fn stepped<R: Threads + Sync + Abort>(
     line: &str,
 ) -> Version
     requires workers { 0 < workers }
-    requires content { IsContent content.old }
-    ensures { IsContent content.new }
+    requires content { IsContentIn standard_limits content.old }
+    ensures { IsContentIn standard_limits content.new }
 {
     if line == "rebase" {
         return begun_anew(rt, alloc, version, content);

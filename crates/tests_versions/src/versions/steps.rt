@@ -5,7 +5,8 @@ ghost use Rattle.std.specs.List.{sum_by};
 ghost use Rattle.graph_version.specs.Rows as rows;
 ghost use Rattle.batch_shards.specs.RowBlocks.{numbers_of};
 ghost use Rattle.graph_version.specs.Versions.{content, is_in};
-ghost use Rattle.graph_types.specs.Graph.{IsContent};
+ghost use Rattle.graph_types.specs.Graph.{IsContentIn};
+ghost use Rattle.graph_types.specs.Limits.{standard_limits};
 
 use super::ops::batch_of;
 use crate::blocks::fresh_blocks;
@@ -22,7 +23,7 @@ use std::thread::Threads;
 /// The content without names and edges.
 #[tactic(auto, using(graph_types::proofs::Empty::empty_content))]
 pub(super) fn empty(alloc: Global) -> Content
-    ensures { IsContent result }
+    ensures { IsContentIn standard_limits result }
 {
     Content {
         names: List::of(Vec::new(alloc)),
@@ -70,7 +71,7 @@ fn applied_batch<R: Threads + Sync, G: Gate + Sync>(
     batch: Batch,
 ) -> Option<Applied>
     requires workers { 0 < workers }
-    requires few { length version.now.batches < 65536 }
+    requires few { length version.now.batches < (content version.now).limits.batches }
 {
     let plan = plan(alloc, version, &batch, workers).ok()?;
     let blocks = blocks_for(alloc, version, &plan)?;
@@ -91,7 +92,7 @@ pub(super) fn applied<R: Threads + Sync, G: Gate + Sync>(
 ) -> Option<Applied>
     requires workers { 0 < workers }
 {
-    if version.number() >= 65_536 {
+    if version.number() >= u64::from(version.limits().batches()) {
         return None;
     }
     match batch_of(alloc, ops) {
@@ -115,8 +116,8 @@ pub(super) fn first<R: Threads + Sync, G: Gate + Sync>(
 
 /// The outcomes of operations that are applied plainly.
 fn plain(alloc: Global, content: &mut Content, ops: &str) -> Option<Vec<Outcome>>
-    requires { IsContent content.old }
-    ensures { IsContent content.new }
+    requires { IsContentIn standard_limits content.old }
+    ensures { IsContentIn standard_limits content.new }
 {
     match batch_of(alloc, ops) {
         Some(batch) => plain_apply(alloc, content, &batch).ok(),
@@ -132,8 +133,8 @@ pub(super) fn check_plain(
     ops: &str,
     told: &[Outcome],
 )
-    requires { IsContent content.old }
-    ensures { IsContent content.new }
+    requires { IsContentIn standard_limits content.old }
+    ensures { IsContentIn standard_limits content.new }
 {
     let outcomes = plain(alloc, content, ops).expect(rt, "the plain application");
     assert_eq!(rt; outcomes.as_slice(), told);

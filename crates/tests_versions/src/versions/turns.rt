@@ -1,6 +1,7 @@
 // Many versions one after another, at the ends of the pages of 32 batches that they share.
 
-ghost use Rattle.graph_types.specs.Graph.{IsContent};
+ghost use Rattle.graph_types.specs.Graph.{IsContentIn};
+ghost use Rattle.graph_types.specs.Limits.{standard_limits};
 
 use super::lines::stepped;
 use super::ops::write_filled;
@@ -63,8 +64,8 @@ fn turned<R: Threads + Sync + Abort>(
     content: &mut Content,
     number: u64,
 ) -> Version
-    requires { IsContent content.old }
-    ensures { IsContent content.new }
+    requires { IsContentIn standard_limits content.old }
+    ensures { IsContentIn standard_limits content.new }
 {
     let next = stepped(
         rt,

@@ -17,7 +17,8 @@ resolve_batch-requires-clause-within c = (
 
 pub resolve_batch-requires-clause-limit : goal.resolve_batch-requires-clause-limit
 resolve_batch-requires-clause-limit c =
-    subst (λ (b : Book). b.limit ≤ 64) (sym (c.in_ok-kinds.ensures ∙ c.kinds.ensures)) (omega arith)
+    subst (λ (b : Book). b.limit ≤ 64) (sym (c.in_ok-kinds.ensures ∙ c.kinds.ensures))
+    (omega (arith, c.names.ensures.version.small.limits.kinds))
 
 pub resolve_batch-requires-clause-valid : goal.resolve_batch-requires-clause-valid
 resolve_batch-requires-clause-valid c =

@@ -56,4 +56,4 @@ overflow_add-from c =
     let within : c.in-Some.source.0 < length (content c.args.version.now).names =
     old_is_within c.args.version.now c.row_blocks.ensures.version c.expiry_time-time.result c.in-Some.source.0
     (some_counted c.expiry_time-time.result (row_of c.args.version.now.rows c.in-Some.source.0) next.1) in
-    omega (arith, within, c.row_blocks.ensures.version.small.names)
+    omega (arith, within, c.row_blocks.ensures.version.small.names, c.row_blocks.ensures.version.small.limits.names)

@@ -1,19 +1,28 @@
-use Rattle.std.proofs.Common.{◌≡◌, ℕ, List, ◌∷◌, [], ◌++◌, refl, sym, ap, subst, ◌∙◌}
+use Rattle.std.proofs.Common.{◌≡◌, ℕ, List, length, ◌∷◌, [], ◌++◌, refl, sym, ap, subst, ◌∙◌}
 use Rattle.std.specs.{Prelude.if◌then◌else◌, Option.option_map, declared.option.Option.{Option, TheVariants.{None, Some}}}
-use Rattle.graph_types.specs.{Graph.IsContent, declared.ids.Edge.Edge, declared.batches.NamedOp.NamedOp}
+use Rattle.graph_types.specs.{Graph.{IsContentIn, graph_in}, declared.ids.Edge.Edge, declared.batches.NamedOp.NamedOp}
 use Rattle.epoch_core.specs.declared.{states.{Version.Version, Opening.Opening}, step.Step.TheVariants.{Done, Skipped}}
 use Rattle.epoch_core.specs.{declared.events.Event.TheVariants.Post, Worlds.{HasContents, World}, Blocks.Stepped}
 use Rattle.epoch_core.specs.{Posting.{IsPlanOf, graph_after, last_content, version_by}, Cores.state_of, Machine.step}
-use Rattle.epoch_core.{specs.{Posts.posted, Versions.IsContentGraph}, proofs.{Read.last_is_content, Cores.contents_posted}}
+use Rattle.epoch_core.{specs.{Posts.posted, Versions.{IsContentGraph, graph_at}}, proofs.{Read.{last_is_content, last_graph_is}, Cores.contents_posted}}
 use Rattle.block_reclamation.specs.declared.status.BlockStatus.{BlockStatus}
 use Rattle.epoch_core.proofs.advancing.post.Goals as goal
 
 pub plan_post-requires-clause-content : goal.plan_post-requires-clause-content
 plan_post-requires-clause-content c =
     let o : Opening = c.args.parts.now.opening in
-    subst (λ heap. IsContent (last_content o heap c.as_slice-3.result.now)) (sym c.as_slice.ensures.value)
-    (subst (λ versions. IsContent (last_content o c.args.parts.now.heap.items versions)) (sym c.as_slice-3.ensures.value)
+    subst (λ heap. IsContentIn o.limits (last_content o heap c.as_slice-3.result.now)) (sym c.as_slice.ensures.value)
+    (subst (λ versions. IsContentIn o.limits (last_content o c.args.parts.now.heap.items versions)) (sym c.as_slice-3.ensures.value)
     (last_is_content (state_of c.args.parts.now).world c.requires.sound c.requires.contents))
+
+pub plan_post-requires-clause-graph : goal.plan_post-requires-clause-graph
+plan_post-requires-clause-graph c =
+    let o : Opening = c.args.parts.now.opening in
+    let versions = c.as_slice-3.result.now in
+    subst (λ heap. graph_in o.limits (last_content o heap versions) ≡ graph_at o versions (length versions))
+    (sym c.as_slice.ensures.value)
+    (subst (λ vs. graph_in o.limits (last_content o c.args.parts.now.heap.items vs) ≡ graph_at o vs (length vs))
+    (sym c.as_slice-3.ensures.value) (last_graph_is (state_of c.args.parts.now).world c.requires.sound))
 
 pub returns-in_err-push-clause-contents : goal.returns-in_err-push-clause-contents
 returns-in_err-push-clause-contents c = subst (HasContents c.args.parts.now.opening)

@@ -6,4 +6,4 @@ returns c =
     let kinds = c.no_items-2.ensures in
     let edges = c.no_items-3.ensures in
     let blocks = c.no_items-4.ensures in
-    λ i. record { content = record { names = names i; kinds = kinds i; edges = edges i }; blocks = blocks i }
+    λ i. record { content = record { names = names i; kinds = kinds i; edges = edges i }; blocks = blocks i; limits = c.args.limits }

@@ -1,6 +1,7 @@
 use Rattle.std.proofs.Common.{◌≡◌, ◌<◌, ◌≤◌, ◌⊎◌, ℕ, suc, length, ◌∙◌, sym, ap, List, subst, drop}
 use Rattle.std.proofs.lemmas.{List.take_at, List.length-replicate, Result.IfOk-weaker}
 use Rattle.std.specs.{Prelude.All, Prelude.count_by, Prelude.replicate, declared.alloc.Global.Global, declared.vec.Vec.Vec}
+use Rattle.graph_types.specs.Limits.{most_names}
 use Rattle.graph_types.specs.{Graph.graph_of, Analyses.AreCoreNumbers, Arcs.at, Arcs.AreUpper}
 use Rattle.graph_model.{specs.Links.supports, proofs.Links.joined_within, proofs.Links.first_upper}
 use Rattle.graph_model.proofs.{Links.more_upper, Links.cores_done, Links.cores_few, cores.plain_cores.Goals.{After-lower_once, After-deref-3}}
@@ -73,7 +74,7 @@ ended c counts =
 pub shortened-requires : goal.shortened-requires
 shortened-requires c =
     let end = ended (goal.at.shortened-requires c).After-deref-3 (counted (goal.at.shortened-requires c).After-lower_once) in
-    subst (λ (xs : List ℕ). All (λ number. number ≤ 65536) xs) (sym end.0)
+    subst (λ (xs : List ℕ). All (λ number. number ≤ most_names) xs) (sym end.0)
     (cores_few c.args.filter (graph_of c.args.content.now) (length c.args.content.now.names) c.in_ok-links.links.items
     c.in_ok-links.ensures.links (joined_within c.args.filter c.args.content.now c.requires) c.rounds.numbers.items
     c.requires.names_few end.1)

@@ -11,4 +11,4 @@ returns-in_err-make_names_of-clause-refused c =
     (length-names_left-drop c.args.ops.now c.loop-op.op-index c.op-item.result c.loop-op.all.items c.loop-op-test.true
     c.op-item.is) in
     let p = err_from_is_err_and c.from_residual-in_err-make_names_of.result c.from_residual-in_err-make_names_of.ensures.1 in
-    rw (p.1, p.2) (IsNamesRefusal-more _ _ _ more c.in_err-make_names_of.ensures.refused)
+    rw (p.1, p.2) (IsNamesRefusal-more _ _ _ _ more c.in_err-make_names_of.ensures.refused)

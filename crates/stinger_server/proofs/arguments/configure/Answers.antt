@@ -4,29 +4,29 @@ use Rattle.stinger_server.{specs.Program.{sizes_given, sizes_of}, proofs.Options
 use Rattle.stinger_server.proofs.Options.{nothing_met, unread, within, without_blocks, without_seats, without_workers}
 use Rattle.stinger_server.proofs.arguments.configure.Goals as goal
 
-pub returns-in_err-workers : goal.returns-in_err-workers
-returns-in_err-workers c =
+pub returns-in_err-workers-clause-sizes : goal.returns-in_err-workers-clause-sizes
+returns-in_err-workers-clause-sizes c =
     let f = found_of c.in_ok-options.options.now in
     nothing_met sizes_of (subcommand_rows_of c.args.matches.now) (rows_of f) (sizes_given c.from_residual-in_err-workers.result)
     (search rules) (search rules) (without_workers (rows_of f) (unread 64 1 8 (omega arith) (omega arith) f
     (codes "workers") c.get_one.result c.get_one.ensures.none c.get_one.ensures.value (search rules)))
 
-pub returns-in_err-blocks : goal.returns-in_err-blocks
-returns-in_err-blocks c =
+pub returns-in_err-blocks-clause-sizes : goal.returns-in_err-blocks-clause-sizes
+returns-in_err-blocks-clause-sizes c =
     let f = found_of c.in_ok-options.options.now in
     nothing_met sizes_of (subcommand_rows_of c.args.matches.now) (rows_of f) (sizes_given c.from_residual-in_err-blocks.result)
     (search rules) (search rules) (without_blocks (rows_of f) (unread 32 16 65536 (omega arith) (omega arith) f
     (codes "blocks") c.get_one-2.result c.get_one-2.ensures.none c.get_one-2.ensures.value (search rules)))
 
-pub returns-in_err-seats : goal.returns-in_err-seats
-returns-in_err-seats c =
+pub returns-in_err-seats-clause-sizes : goal.returns-in_err-seats-clause-sizes
+returns-in_err-seats-clause-sizes c =
     let f = found_of c.in_ok-options.options.now in
     nothing_met sizes_of (subcommand_rows_of c.args.matches.now) (rows_of f) (sizes_given c.from_residual-in_err-seats.result)
     (search rules) (search rules) (without_seats (rows_of f) (unread 64 1 16 (omega arith) (omega arith) f
     (codes "seats") c.get_one-3.result c.get_one-3.ensures.none c.get_one-3.ensures.value (search rules)))
 
-pub returns : goal.returns
-returns c =
+pub returns-clause-sizes : goal.returns-clause-sizes
+returns-clause-sizes c =
     let f = found_of c.in_ok-options.options.now in
     let run : option_map (λ p. p.1) (subcommand_rows_of c.args.matches.now) ≡ Some (rows_of f) = search rules in
     let workers = option_read 64 1 8 (omega arith) (omega arith) f (codes "workers") c.get_one.result

@@ -1,10 +1,10 @@
 -- The steps of the body are those of a change on plain lists.
 use Rattle.std.{proofs.Common.{◌≡◌, ◌≤◌, ◌∙◌, ℕ, List, length, ap, arith}, specs.{Option.option_map, FinMap.get}}
 use Rattle.std.proofs.lemmas.Grind.{common_steps}
-use Rattle.graph_types.specs.{Graph.{graph_of, map_of}, Step.{number_of, changed_key}, Changes.option_stamp}
+use Rattle.graph_types.specs.{Graph.{graph_in, map_of}, Step.{number_of, changed_key}, Changes.option_stamp}
 use Rattle.graph_types.proofs.NameNumbers.{number_at_most}
 use Rattle.graph_model.{specs.Drafts.{shown_by, shown_key, edge_with}, proofs.OneOperation.{IsApplied, AreMarks-found}}
-use Rattle.graph_model.proofs.OneOperation.{graph_of-applied, IsContent-applied}
+use Rattle.graph_model.proofs.OneOperation.{graph_in-applied, IsContentIn-applied}
 use Rattle.graph_model.proofs.drafts.Draft.change.Goals as goal
 
 at_most : (read names : List (List ℕ)) (name : List ℕ) (number : ℕ) → number ≡ number_of read name → read ≡ names
@@ -14,21 +14,42 @@ at_most read names name number is same = omega (arith, is, number_at_most read n
 pub of-key-requires-clause-kind : goal.of-key-requires-clause-kind
 of-key-requires-clause-kind c =
     let place = at_most _ _ _ _ c.number_of.ensures c.as_slice.ensures.value in
-    omega (arith, place, c.in_ok-make_kind.ensures.few c.requires.content.kinds_few)
+    omega (
+      arith,
+      place,
+      c.in_ok-make_kind.ensures.few
+          (omega (arith, c.requires.content.kinds_few, c.kinds.ensures.number)),
+      c.kinds.ensures.number,
+      c.kinds.ensures.limits.kinds,
+    )
 
 pub of-key-requires-clause-source : goal.of-key-requires-clause-source
 of-key-requires-clause-source c =
     let place = at_most _ _ _ _ c.number_of-2.ensures c.as_slice-2.ensures.value in
-    omega (arith, place, c.in_ok-make_names.ensures.few c.requires.content.names_few)
+    omega (
+      arith,
+      place,
+      c.in_ok-make_names.ensures.few
+          (omega (arith, c.requires.content.names_few, c.names.ensures.number)),
+      c.names.ensures.number,
+      c.names.ensures.limits.names,
+    )
 
 pub of-key-requires-clause-target : goal.of-key-requires-clause-target
 of-key-requires-clause-target c =
     let place = at_most _ _ _ _ c.number_of-3.ensures c.as_slice-3.ensures.value in
-    omega (arith, place, c.in_ok-make_names.ensures.few c.requires.content.names_few)
+    omega (
+      arith,
+      place,
+      c.in_ok-make_names.ensures.few
+          (omega (arith, c.requires.content.names_few, c.names.ensures.number)),
+      c.names.ensures.number,
+      c.names.ensures.limits.names,
+    )
 
 pub change_edge-outcome-requires-clause-before : goal.change_edge-outcome-requires-clause-before
 change_edge-outcome-requires-clause-before c =
-    AreMarks-found (shown_by c.args.self.now) (shown_key c.of-key.result) c.marks_at-before.result c.requires.content
+    AreMarks-found (shown_by c.args.self.now) (shown_key c.of-key.result) c.marks_at-before.result c.requires.content.content
     (c.marks_at-before.ensures ∙ ap (λ edges. get (map_of edges) (shown_key c.of-key.result)) c.as_slice-4.ensures.value)
 
 stood : (c : goal.In_ok-put_at) → option_stamp c.marks_at-before.result
@@ -36,7 +57,7 @@ stood : (c : goal.In_ok-put_at) → option_stamp c.marks_at-before.result
 stood c = c.marks_at-before.ensures ∙ ap (λ edges. get (map_of edges) (shown_key c.of-key.result)) c.as_slice-4.ensures.value
 
 numbers : (c : goal.In_ok-put_at) → shown_key c.of-key.result
-    ≡ changed_key c.args.change c.args.kind.now c.args.source.now c.args.target.now (graph_of (shown_by c.args.self.now))
+    ≡ changed_key c.args.change c.args.kind.now c.args.source.now c.args.target.now (graph_in c.args.limits (shown_by c.args.self.now))
 numbers c = grind (arith, common_steps)
 
 applied : (c : goal.In_ok-put_at)
@@ -46,9 +67,19 @@ applied : (c : goal.In_ok-put_at)
 applied c = grind (arith, common_steps)
 
 pub returns-clause-graph : goal.returns-clause-graph
-returns-clause-graph c = graph_of-applied _ _ _ _ _ _ _ _ (applied c)
+returns-clause-graph c = graph_in-applied _ _ _ _ _ _ _ _ (applied c) c.args.limits
 
 pub returns-clause-content : goal.returns-clause-content
 returns-clause-content c =
-    IsContent-applied _ _ _ _ _ _ _ _ (applied c) c.requires.content (c.in_ok-make_names.ensures.few c.requires.content.names_few)
-    (c.in_ok-make_kind.ensures.few c.requires.content.kinds_few)
+    IsContentIn-applied _ _ _ _ _ _ _ _ _ c.names.ensures.limits (applied c) c.requires.content (omega (
+      arith,
+      c.in_ok-make_names.ensures.few
+          (omega (arith, c.requires.content.names_few, c.names.ensures.number)),
+      c.names.ensures.number,
+    ))
+    (omega (
+      arith,
+      c.in_ok-make_kind.ensures.few
+          (omega (arith, c.requires.content.kinds_few, c.kinds.ensures.number)),
+      c.kinds.ensures.number,
+    ))

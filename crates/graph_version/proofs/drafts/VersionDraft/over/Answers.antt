@@ -5,7 +5,7 @@ use Rattle.graph_version.proofs.drafts.VersionDraft.over.Goals as goal
 pub returns : goal.returns
 returns c =
     let names = c.in_ok-share.ensures ∙ c.version.invariant.names_are
-    ∙ ap (λ (v : VersionView). vertex_book (content v).names) c.version.view_is in
+    ∙ ap (λ (v : VersionView). vertex_book (content v)) c.version.view_is in
     let kinds = c.in_ok-share-2.ensures ∙ c.version.invariant.kinds_are
-    ∙ ap (λ (v : VersionView). kind_book (content v).kinds) c.version.view_is in
+    ∙ ap (λ (v : VersionView). kind_book (content v)) c.version.view_is in
     rw (names, kinds) at c.over_named.ensures

@@ -1,8 +1,6 @@
-use Rattle.std.proofs.Common.{ap}
-use Rattle.graph_types.specs.Graph.{graph_of}
 use Rattle.graph_version.proofs.Drafting.{drafted}
 use Rattle.graph_version.proofs.drafts.VersionDraft.over_named.Goals as goal
 
 pub returns : goal.returns
-returns c = rw (← c.version.view_is) (drafted _ _ _ _ _ _ _ _ (ap graph_of c.in_ok-share-3.ensures) c.in_ok-share.ensures
+returns c = rw (← c.version.view_is) (drafted _ _ _ _ _ _ _ _ c.in_ok-share-3.ensures c.in_ok-share.ensures
     c.in_ok-share-2.ensures)

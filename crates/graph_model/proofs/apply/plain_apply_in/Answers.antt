@@ -1,5 +1,5 @@
 use Rattle.std.proofs.Common.{rules}
-use Rattle.graph_model.proofs.apply.plain_apply.Goals as goal
+use Rattle.graph_model.proofs.apply.plain_apply_in.Goals as goal
 
 -- Their searches are long where they fail.
 

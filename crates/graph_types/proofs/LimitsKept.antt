@@ -1,0 +1,72 @@
+-- What operations and batches do leaves the limits as they were, and no answer depends on them.
+use Rattle.std.proofs.Common.{◌≡◌, ℕ, ◌≤◌, ◌*◌, ◌∙◌, refl, arith, List, [], ◌∷◌, Some, None}
+use Rattle.std.{proofs.lemmas.Nat.mul-le, specs.Prelude.{Result, Ok, Err}, specs.declared.option.Option.Option}
+use Rattle.graph_types.specs.{Graph.{Graph}, Limits.{LimitsView, AreLimits, most_places}}
+use Rattle.graph_types.specs.{Analyses.{AreLevels, IsLevel}, Step.{after, after_all, left_by}, Answer.{IsAnswer, IsReply, refusal}}
+use Rattle.graph_types.specs.{Laws.{IsFreeOfLimits, KeepLimits}, declared.{ids.Filter.Filter, batches.NamedOp.NamedOp}}
+use Rattle.graph_types.specs.declared.batches.NamedOp.TheVariants.{Insert, Incr, Remove, Expire}
+use Rattle.graph_types.specs.declared.requests.{Request.{Request, TheVariants.Levels as AskLevels}, Reply.Reply, AskError.AskError}
+use Rattle.graph_types.specs.declared.requests.Request.TheVariants.{Labels as AskLabels, Cores as AskCores, Degrees as AskDegrees}
+use Rattle.graph_types.specs.declared.requests.Request.TheVariants.{OneEdge as AskOneEdge}
+
+-- Limits stay
+
+pub limits_after : (op : NamedOp) (g : Graph) → (after op g).limits ≡ g.limits
+limits_after (Insert kind source target weight time) g = refl
+limits_after (Incr kind source target amount time) g = refl
+limits_after (Remove kind source target) g = refl
+limits_after (Expire time) g = refl
+
+pub limits_after_all : (ops : List NamedOp) (g : Graph) → (after_all ops g).limits ≡ g.limits
+limits_after_all [] g = refl
+limits_after_all (op ∷ ops) g = limits_after_all ops (after op g) ∙ limits_after op g
+
+pub limits_left_by : (batches : List (List NamedOp)) (g : Graph) → (left_by batches g).limits ≡ g.limits
+limits_left_by [] g = refl
+limits_left_by (batch ∷ batches) g = limits_left_by batches (after_all batch g) ∙ limits_after_all batch g
+
+pub keep_limits : KeepLimits
+keep_limits = record { ops = limits_after_all; batches = limits_left_by }
+
+-- Answers don't see them
+
+same_level : (f : Filter) (g : Graph) (l : LimitsView) (source v : ℕ) (level : Option ℕ) → IsLevel f g source v level
+    → IsLevel f (record g { limits = l }) source v level
+same_level f g l source v None is = is
+same_level f g l source v (Some n) is = is
+
+same_levels : (f : Filter) (g : Graph) (l : LimitsView) (source : ℕ) (levels : List (Option ℕ)) → AreLevels f g source levels
+    → AreLevels f (record g { limits = l }) source levels
+same_levels f g l source levels are = record {
+  one_each = are.one_each;
+  each = λ v level h. same_level f g l source v level (are.each v level h);
+}
+
+same_refusal : (request : Request) (g : Graph) (l : LimitsView) → refusal request (record g { limits = l }) ≡ refusal request g
+same_refusal (AskLevels source filter) g l = refl
+same_refusal (AskLabels filter) g l = refl
+same_refusal (AskCores filter) g l = refl
+same_refusal (AskDegrees filter) g l = refl
+same_refusal (AskOneEdge kind source target) g l = refl
+
+same_reply : (request : Request) (g : Graph) (l : LimitsView) (reply : Reply) → IsReply request g reply
+    → IsReply request (record g { limits = l }) reply
+same_reply (AskLevels source filter) g l reply is = (is.0, same_levels _ g l _ is.0 is.1, is.2)
+same_reply (AskLabels filter) g l reply is = is
+same_reply (AskCores filter) g l reply is = is
+same_reply (AskDegrees filter) g l reply is = is
+same_reply (AskOneEdge kind source target) g l reply is = is
+
+pub same_answer : (request : Request) (g : Graph) (l : LimitsView) (answer : Result Reply AskError) → IsAnswer request g answer
+    → IsAnswer request (record g { limits = l }) answer
+same_answer request g l (Ok reply) is = (same_refusal request g l ∙ is.0, same_reply request g l reply is.1)
+same_answer request g l (Err error) is = same_refusal request g l ∙ is
+
+pub free_of_limits : IsFreeOfLimits
+free_of_limits request g l answer = (same_answer request g l answer, same_answer request (record g { limits = l }) g.limits answer)
+
+-- Within limits there are no more places than these have
+pub places_within : (l : LimitsView) (names kinds : ℕ) → AreLimits l → names ≤ l.names → kinds ≤ l.kinds
+    → names * kinds ≤ most_places
+places_within l names kinds are few_names few_kinds =
+    omega (arith, mul-le names kinds l.names l.kinds few_names few_kinds, are.places)
