@@ -73,7 +73,8 @@ def cost_line(name: str, below: Dict[str, List[str]], minutes: Dict[str, str]) -
     count = len(above(name, below))
     who = {0: "no crate stands on it", 1: "one crate stands on it"}.get(count, f"{count} crates stand on it")
     cost = f" costs {minutes[name]} minutes of processor time" if name in minutes else " has to be proved"
-    return f"A change{cost} ([the map](../../docs/ARCHITECTURE.md#the-map)): {who}. `rt ci $(tools/crates-above {name})` proves all."
+    return (f"A change{cost} ([the map](../../docs/ARCHITECTURE.md#the-map)): {who}.\n"
+            f"`rt ci $(tools/crates-above {name})` proves all of it.")
 
 
 def part(crate: Crate, below: Dict[str, List[str]], minutes: Dict[str, str]) -> str:
@@ -81,9 +82,9 @@ def part(crate: Crate, below: Dict[str, List[str]], minutes: Dict[str, str]) -> 
     table = ["| | what it is | calls |", "|---|---|---|", *listed] if listed else ["It has no public calls."]
     stands = [it for it in below[crate.name] if it in below]
     kit = [it for it in below[crate.name] if it not in below]
-    on = f"It stands on {code(stands)}." if stands else "It stands on no other crate of this repository."
-    more = f" Of the kit it takes {code(kit)}." if kit else ""
-    lines = [FIRST, "", *table, "", on + more, "", cost_line(crate.name, below, minutes), "", LAST]
+    on = f"It stands on {code(stands)}" if stands else "It stands on no other crate of this repository"
+    more = f", and takes {code(kit)} from the kit." if kit else "."
+    lines = [FIRST, "", *table, "", on + more, "", *cost_line(crate.name, below, minutes).splitlines(), "", LAST]
     return "\n".join(wrapped for line in lines for wrapped in wrap(line))
 
 
