@@ -19,7 +19,7 @@ function show() {
     for (const node of heads) {
         node.hidden = words.length > 0;
     }
-    count.textContent = words.length ? `${found} of ${items.length}` : `${items.length}`;
+    count.textContent = words.length ? `${found} of ${items.length}` : `${items.length} items`;
 }
 
 // A link leads to an item that the search hides, or to a folded definition: it is shown.
