@@ -210,7 +210,7 @@ def public_docstrings():
 
 
 def words_astray(pages):
-    words, texts = table_of_words(), {it: it.read_text(encoding="utf-8") for it in pages}
+    words, texts = table_of_words(), {it: written(it) for it in pages}
     first = (TOP / "README.md").read_text(encoding="utf-8")
     used = [text for page, text in texts.items() if page != WORDS] + list(public_docstrings())
     for word in dict.fromkeys(words):
@@ -316,7 +316,7 @@ def main():
         "links": [it for page in pages for it in dead_links(page)],
         "names of definitions": [it for page in pages for it in undefined_names(page)],
         "crates": [*unnamed_crates(), *misnamed_crates()],
-        "words": list(words_astray(told)),
+        "words": list(words_astray([*told, *rooms()])),
         "plain English": [it for page in plain for it in coined_words(page)],
         "READMEs of crates": [*long_rooms(), *readmes.stale(TOP)],
         "programs over the library": list(unshown_programs()),

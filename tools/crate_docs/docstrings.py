@@ -39,8 +39,9 @@ def rendered(doc: str) -> str:
     return "".join([*found, prose(doc[place:])])
 
 
-def first_sentence(doc: str) -> str:
-    """Returns the first sentence of a docstring, on one line and without links."""
+def first_sentence(doc: str, long: int = 200) -> str:
+    """Returns the first sentence of a docstring, on one line and without links; of one that is long its first part."""
     plain = LINKED.sub(r"\1", " ".join(re.split(r"\n\s*\n", doc.strip(), maxsplit=1)[0].split()))
     # A full stop ends one, but not two as between `a` .. `b`, nor one before a small letter.
-    return re.split(r"(?<=[^.][.?!])\s+(?=[^a-z])", plain)[0]
+    first = re.split(r"(?<=[^.][.?!])\s+(?=[^a-z])", plain)[0]
+    return first if len(first) <= long else re.split(r"[;:] ", first)[0].rstrip(".") + "."
