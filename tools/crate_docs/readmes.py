@@ -72,7 +72,8 @@ def costs(page: str) -> Dict[str, str]:
 def cost_line(name: str, below: Dict[str, List[str]], minutes: Dict[str, str]) -> str:
     count = len(above(name, below))
     who = {0: "no crate stands on it", 1: "one crate stands on it"}.get(count, f"{count} crates stand on it")
-    cost = f" costs {minutes[name]} minutes of processor time" if name in minutes else " has to be proved"
+    unit = "minute" if minutes.get(name) == "1" else "minutes"
+    cost = f" costs {minutes[name]} {unit} of processor time" if name in minutes else " has to be proved"
     return (f"A change{cost} ([the map](../../docs/ARCHITECTURE.md#the-map)): {who}.\n"
             f"`rt ci $(tools/crates-above {name})` proves all of it.")
 
