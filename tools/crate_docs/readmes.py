@@ -125,9 +125,9 @@ def stale(top: pathlib.Path) -> Iterator[str]:
             yield f"{path.relative_to(top)}: its list is stale: tools/docs --readmes writes it"
 
 
-def write(top: pathlib.Path) -> Iterator[pathlib.Path]:
+def written(top: pathlib.Path) -> Iterator[pathlib.Path]:
     """Writes the READMEs that aren't as they should be, and yields their paths."""
     for path, text, wanted in readmes(top):
         if text != wanted:
             path.write_text(wanted, encoding="utf-8")
-            yield path
+            yield path.relative_to(top)
