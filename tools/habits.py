@@ -3,7 +3,8 @@
 
 - A line of a page or a script has at most 130 characters; a row of a table and an indented line, as what is typed, may be
   longer. (`rt fmt` lays code out.)
-- A sentence of README.md, CONTRIBUTING.md and docs/ has at most 30 words. A span of code is one word, a link's target none.
+- A sentence of README.md, CONTRIBUTING.md, docs/ and the crates' READMEs has at most 30 words. A span of code is one word, a
+  link's target none.
 - A link of a page leads to a file of the repository, and to a heading of it where it names one. One that shows a name, as
   [`step`](FILE.antt), leads to the file of specs that defines it.
 - Each crate of crates.txt is named in docs/ARCHITECTURE.md, and stands on crates that crates.txt lists or the kit has.
@@ -11,7 +12,9 @@
 - ARCHITECTURE's table of words has each word once, and each is used on another page or in a docstring of something public. A
   word of this house (HOUSE) that a page uses stands in that table, or that page or the README explains it, where it shows
   it *so*.
-- A page of PLAIN has no word of COINED, and none of its sentences begins with one of OPENERS, unless it is a question.
+- A page of PLAIN, or a crate's README, has no word of COINED, and none of its sentences begins with one of OPENERS, unless it
+  is a question.
+- Each crate has a README of fewer than 60 lines, whose list of calls is the one that `tools/docs --readmes` writes.
 - docs/LIBRARY.md shows each program that stands on `misteluk`: its row of crates.txt, and each of its files as it is.
 - No definition, and no lemma with its name and type, stands twice in `specs/` and `proofs/`.
 - A wrong body names files of its crate, and has pairs of an old line, which stands in its file once, and a new one.
@@ -25,11 +28,13 @@ import subprocess
 import sys
 
 import statements
+from crate_docs import readmes
 
 TOP = pathlib.Path(__file__).resolve().parent.parent
 WIDTH = 130
 SUBJECT = 72
 SENTENCE = 30
+ROOM = 60
 # Subjects of before this one were written without the rule.
 SINCE = "cf1127e"
 PAGES = {".md", ".py", ".rs", ""}
@@ -81,10 +86,20 @@ def wide_lines(path):
             yield f"{path.relative_to(TOP)}:{number}: {len(line)} characters"
 
 
+def written(page):
+    """Returns a page without what is made from docstrings, or typed."""
+    text = re.sub(re.escape(readmes.FIRST) + ".*?" + re.escape(readmes.LAST), blank, page.read_text(encoding="utf-8"), flags=re.S)
+    return FENCED.sub(blank, text)
+
+
+def blank(found):
+    return "\n" * found[0].count("\n")
+
+
 def sentences(page):
     """Yields a page's sentences, but for those of tables, headings and what is typed; a span of code stands as one word."""
     lines = []
-    for line in FENCED.sub("", page.read_text(encoding="utf-8")).splitlines():
+    for line in written(page).splitlines():
         is_apart = line.startswith(("|", "#", "    "))
         # What begins an item of a list begins a sentence.
         lines.append("" if is_apart else re.sub(r"^\s*(?:[-*]|\d+\.) ", "\n", line.removeprefix("> ")))
@@ -195,7 +210,7 @@ def public_docstrings():
 
 
 def words_astray(pages):
-    words, texts = table_of_words(), {it: it.read_text(encoding="utf-8") for it in pages}
+    words, texts = table_of_words(), {it: written(it) for it in pages}
     first = (TOP / "README.md").read_text(encoding="utf-8")
     used = [text for page, text in texts.items() if page != WORDS] + list(public_docstrings())
     for word in dict.fromkeys(words):
@@ -212,8 +227,7 @@ def words_astray(pages):
 def coined_words(page):
     """Yields what a plain page says in coined words, outside of code, what stands in quotes, headings and links' targets."""
     name = page.relative_to(TOP)
-    text = FENCED.sub(lambda it: "\n" * it[0].count("\n"), page.read_text(encoding="utf-8"))
-    for number, line in enumerate(text.splitlines(), 1):
+    for number, line in enumerate(written(page).splitlines(), 1):
         if not line.startswith(("#", "    ")):
             plain = re.sub(r"`[^`]*`|\"[^\"]*\"", "", re.sub(r"\]\([^)]*\)", "]", line))
             for words, better in COINED.items():
@@ -225,10 +239,23 @@ def coined_words(page):
             yield f"{name}: a sentence begins with {first[1]}: {' '.join(sentence.split()[:8])} .."
 
 
+def rooms():
+    """Returns the crates' READMEs."""
+    return sorted((TOP / "crates").glob("*/README.md"))
+
+
+def long_rooms():
+    for page in rooms():
+        count = len(page.read_text(encoding="utf-8").splitlines())
+        if count >= ROOM:
+            yield f"{page.relative_to(TOP)} has {count} lines"
+
+
 def programs():
     """Returns each program over the library that others learn from: its row of crates.txt, and its files."""
     found = [row for row in rows() if "misteluk" in row.partition(":")[2].split()]
-    return {row: [TOP / it for it in git("ls-files", f"crates/{row.partition(':')[0].split()[0]}")] for row in found}
+    paths = {row: git("ls-files", f"crates/{row.partition(':')[0].split()[0]}") for row in found}
+    return {row: [TOP / it for it in them if not it.endswith("README.md")] for row, them in paths.items()}
 
 
 def unshown_programs():
@@ -281,15 +308,17 @@ def main():
     known = files()
     pages = [it for it in known if it.suffix == ".md"]
     told = [it for it in pages if it.parent == TOP / "docs" or it.name in ("README.md", "CONTRIBUTING.md") and it.parent == TOP]
+    plain = [*(TOP / it for it in PLAIN if (TOP / it).exists()), *rooms()]
     edits = [it for it in known if it.suffix == ".edit"]
     habits = {
         "width of lines": [it for path in known if path.suffix in PAGES for it in wide_lines(path)],
-        "length of sentences": [it for page in told for it in long_sentences(page)],
+        "length of sentences": [it for page in [*told, *rooms()] for it in long_sentences(page)],
         "links": [it for page in pages for it in dead_links(page)],
         "names of definitions": [it for page in pages for it in undefined_names(page)],
         "crates": [*unnamed_crates(), *misnamed_crates()],
-        "words": list(words_astray(told)),
-        "plain English": [it for page in PLAIN if (TOP / page).exists() for it in coined_words(TOP / page)],
+        "words": list(words_astray([*told, *rooms()])),
+        "plain English": [it for page in plain for it in coined_words(page)],
+        "READMEs of crates": [*long_rooms(), *readmes.stale(TOP)],
         "programs over the library": list(unshown_programs()),
         "statements": list(statements.told_twice(TOP)),
         "wrong bodies": [it for path in edits for it in lost_edits(path)],

@@ -1,7 +1,11 @@
 """Statements of `specs/` and `proofs/`: the definitions, and the lemmas by their name and type."""
+from __future__ import annotations
+
 import collections
 import itertools
+import pathlib
 import re
+from typing import Callable, Dict, FrozenSet, Iterator, List, Set, Tuple
 
 ITEM = re.compile(r"(?P<words>(?:(?:pub|abbrev|unfoldable) )*)(?P<kind>(?:record|data) )?(?P<name>[^\s:]+) ")
 APART = ("--", "use ", "pub use ", "mod ", "pub mod ", "infix", "unfolding ")
@@ -9,11 +13,11 @@ BOUND = re.compile(r"[({]([^(){}:]+) :")
 WORD = re.compile(r"[^\s(){},;.]+")
 
 
-def indent_of(line):
+def indent_of(line: str) -> int:
     return len(line) - len(line.lstrip())
 
 
-def block_end(lines, start, is_within):
+def block_end(lines: List[str], start: int, is_within: Callable[[str], bool]) -> int:
     """Returns the place behind a block that begins at a line, without the blank lines at its end."""
     end = start + 1
     while end < len(lines) and is_within(lines[end]):
@@ -23,16 +27,17 @@ def block_end(lines, start, is_within):
     return end
 
 
-def is_deeper(indent, may_be_blank=False):
+def is_deeper(indent: int, may_be_blank: bool = False) -> Callable[[str], bool]:
     return lambda line: indent_of(line) > indent if line.strip() else may_be_blank
 
 
-def spread(path):
+def spread(path: str) -> List[str]:
     """Returns the names that an import brings in, each as a path: `A.{B.c, D}` as `A.B.c` and `A.D`."""
     head, brace, rest = path.partition("{")
     if not brace:
         return [path.strip()] if path.strip() else []
-    parts, depth, part = [], 0, ""
+    parts: List[str] = []
+    depth, part = 0, ""
     for letter in rest.rpartition("}")[0]:
         depth += {"{": 1, "}": -1}.get(letter, 0)
         if letter == "," and depth == 0:
@@ -43,7 +48,7 @@ def spread(path):
     return [head.strip() + name for it in [*parts, part] for name in spread(it.strip())]
 
 
-def imports(text, crates):
+def imports(text: str, crates: Set[str]) -> Dict[str, str]:
     """Returns which crate of the repository a word that a file imports comes from."""
     found = {}
     for path in re.findall(r"^(?:pub )?use ([^\n]*)", text, re.M):
@@ -55,11 +60,11 @@ def imports(text, crates):
     return found
 
 
-def statements(lines, is_definitions):
+def statements(lines: List[str], is_definitions: bool) -> Iterator[Tuple[int, str, str]]:
     """Yields each statement of a file: its line, its name, and its text with what the modules round it take.
 
     A lemma's proof is no part of it, and a definition's cases are. A goal that a proof file answers is no statement."""
-    around = []
+    around: List[Tuple[int, List[str]]] = []
     place = 0
     while place < len(lines):
         line, indent = lines[place], indent_of(lines[place])
@@ -84,16 +89,16 @@ def statements(lines, is_definitions):
         place = end
 
 
-def text_of(around, lines, words):
+def text_of(around: List[Tuple[int, List[str]]], lines: List[str], words: str) -> str:
     whole = [line.strip() for line in itertools.chain(*(head for _, head in around), [lines[0].strip()[len(words):]], lines[1:])]
     return " ".join(" ".join(line for line in whole if not line.startswith("--")).split())
 
 
-def doubled(top):
+def doubled(top: pathlib.Path) -> List[Tuple[str, List[str]]]:
     """Returns each statement that stands more than once, by its name and places: the same text, in words of the same crates."""
     paths = [it for kind in ("specs", "proofs") for it in sorted(top.glob(f"crates/*/{kind}/**/*.antt"))]
     crates = {it.relative_to(top).parts[1] for it in paths}
-    found = collections.defaultdict(list)
+    found: Dict[Tuple[str, str, FrozenSet[Tuple[str, str]]], List[str]] = collections.defaultdict(list)
     for path in paths:
         text = path.read_text(encoding="utf-8")
         place = path.relative_to(top)
@@ -106,9 +111,9 @@ def doubled(top):
     return [(name, places) for (name, _, _), places in found.items() if len(places) > 1]
 
 
-def told_twice(top):
+def told_twice(top: pathlib.Path) -> Iterator[str]:
     """Yields each statement that stands more than once."""
-    twice = collections.defaultdict(list)
+    twice: Dict[str, List[str]] = collections.defaultdict(list)
     for name, places in doubled(top):
         twice[name] += places
     for name, places in twice.items():
