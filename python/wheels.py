@@ -79,7 +79,7 @@ def metadata(version: str) -> bytes:
 
 def package() -> Files:
     """The package's own files."""
-    found = sorted(it for it in (HERE / "misteluk").rglob("*") if it.suffix in (".py", ".typed", ".css", ".js"))
+    found = sorted(it for it in (HERE / "misteluk").rglob("*") if it.suffix in (".py", ".typed", ".css", ".html", ".js"))
     return {it.relative_to(HERE).as_posix(): (it.read_bytes(), False) for it in found}
 
 

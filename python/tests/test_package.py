@@ -51,7 +51,7 @@ class Wheels(Case):
             self.assertEqual([name for name, mode in modes.items() if mode & 0o111], [wheels.PROGRAM])
             self.assertIn("Root-Is-Purelib: false\nTag: py3-none-linux_x86_64\n", packed.read(f"{about}/WHEEL").decode())
             own = {it.relative_to(HERE.parent).as_posix() for it in (HERE.parent / "misteluk").rglob("*")
-                   if it.suffix in (".py", ".typed", ".css", ".js")}
+                   if it.suffix in (".py", ".typed", ".css", ".html", ".js")}
             self.assertEqual({it for it in record if it.startswith("misteluk/")}, own | {wheels.PROGRAM})
 
     def elf(self) -> str:

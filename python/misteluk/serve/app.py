@@ -10,7 +10,7 @@ from typing import Any, Callable, Dict, Iterator, List, Mapping, Optional, Seque
 
 from starlette.applications import Starlette
 from starlette.exceptions import HTTPException
-from starlette.requests import Request
+from starlette.requests import ClientDisconnect, Request
 from starlette.responses import Response
 from starlette.routing import Route
 
@@ -73,6 +73,8 @@ class Api:
                 return await handle(request)
             except (StoreError, Denied, ValueError, TypeError) as fault:
                 return told_fault(fault)
+            except ClientDisconnect:  # (nobody reads it)
+                return Response(status_code=400)
         return call
 
     # What is asked.

@@ -111,7 +111,11 @@ class ServedEngine:
     def __init__(self, talk: Talk) -> None:
         self.talk, self.is_closed = talk, False
         self.guard = self._guard = Guard()
-        told = talk.call("GET", "/v1/stat").json()
+        try:
+            told = talk.call("GET", "/v1/stat").json()
+        except BaseException:
+            talk.close()
+            raise
         try:
             self.blocks, self.seats = int(told["blocks"]["all"]), int(told["seats"])
             self.units, self.idle = Units(**told["units"]).checked(), float(told["limits"]["idle"])
@@ -200,6 +204,9 @@ class ServedEngine:
 
     @alone
     def release(self, version: ServedVersion) -> None:
+        self._release(version)
+
+    def _release(self, version: ServedVersion) -> None:
         if self._held.get(version.slot) is version:
             del self._held[version.slot]
         if version.is_held and not self.is_closed:
@@ -224,7 +231,7 @@ class ServedEngine:
         if self.is_closed:
             return
         for it in list(self._held.values()):
-            self.release(it)
+            self._release(it)
         if self._feeder:
             self._left(f"/v1/feeder/{part(self._feeder)}")
         self.is_closed = True
