@@ -5,6 +5,7 @@ import base64
 import json
 import os
 import pathlib
+import shutil
 import subprocess
 import tempfile
 from typing import Any, Dict, List, Optional
@@ -17,11 +18,11 @@ class Browser:
     """A browser with one page. `see` evaluates an expression there."""
 
     def __init__(self, width: int = 1280, height: int = 900) -> None:
-        self._room = tempfile.TemporaryDirectory()
+        self._room = tempfile.mkdtemp()
         asked, told = os.pipe(), os.pipe()
         words = [CHROMIUM or "", "--headless", "--no-sandbox", "--disable-gpu", "--hide-scrollbars", "--disable-extensions",
                  "--no-first-run", "--remote-debugging-pipe", "--disable-features=IsolateSandboxedIframes",
-                 f"--window-size={width},{height}", f"--user-data-dir={self._room.name}", "about:blank"]
+                 f"--window-size={width},{height}", f"--user-data-dir={self._room}", "about:blank"]
 
         def ends() -> None:  # (Chromium reads descriptor 3 and writes 4)
             mine = os.dup(asked[0]), os.dup(told[1])
@@ -91,8 +92,13 @@ class Browser:
         pathlib.Path(path).write_bytes(base64.b64decode(found["data"]))
 
     def close(self) -> None:
-        self._process.kill()
-        self._process.wait()
+        self._page = None
+        try:
+            self._call("Browser.close")
+            self._process.wait(30)
+        except (AssertionError, OSError, subprocess.TimeoutExpired):
+            self._process.kill()
+            self._process.wait()
         self._out.close()
         self._in.close()
-        self._room.cleanup()
+        shutil.rmtree(self._room, ignore_errors=True)

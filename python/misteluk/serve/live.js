@@ -2,8 +2,8 @@
 (() => {
     const the = (name) => document.getElementById(name);
     const number = (it) => it.toLocaleString("en");
-    // The version that this page holds, and the one that it looks at beside.
-    let held = null, wait = null, limit = 60;
+    // The version that this page holds, and the last one that it was told of.
+    let held = null, last = 0, wait = null, limit = 60;
 
     const token = () => sessionStorage.getItem("token");
     const ask = async (path, method = "GET") => {
@@ -53,7 +53,7 @@
     };
     const choices = (versions) => {
         const select = the("beside"), chosen = select.value;
-        const options = versions.filter((it) => !it.is_last || it.version === Number(chosen)).map((it) => {
+        const options = versions.filter((it) => !it.is_last || it.version === held?.version).map((it) => {
             const option = element("option", `version ${number(it.version)}`);
             option.value = it.version;
             return option;
@@ -76,7 +76,7 @@
         the("rate").textContent = number(Math.round(told.feed.rows_a_second));
         const fault = told.feed.error ? `: ${told.feed.error}.` : "";
         the("feed").textContent = `${states[told.feed.state] ?? ""}${fault} ${number(told.feed.rows)} rows came in.`;
-        limit = told.limits.idle;
+        [limit, last] = [told.limits.idle, told.version];
         if (held !== null && !told.held.some((it) => it.version === held.version)) held = null;
         the("held").tBodies[0].replaceChildren(...told.held.map(row));
         choices(told.held);
@@ -114,7 +114,8 @@
     });
     const show = trying(async () => {
         const given = new URLSearchParams({ vertex: the("vertex").value.trim(), hops: the("hops").value });
-        if (the("beside").value !== "") given.set("beside", the("beside").value);
+        const beside = the("beside").value;
+        if (beside !== "" && Number(beside) !== last) given.set("beside", beside);
         const view = the("view");
         view.hidden = true;
         view.srcdoc = await (await ask(`v1/view?${given}`)).text();
