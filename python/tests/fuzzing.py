@@ -6,20 +6,25 @@ import socket
 import sys
 from typing import List, Tuple
 
-NAMES = ("ana", "funnel", "Иванов", "%", "%00", "%ff", "..", "a b", "*", "~~0123456789abcdefghij", "x" * 300, "", "0", "-1", "null",
-         "18446744073709551616", "1e9", "%F0%9F%98%80", "'", '"', "<script>", "\\", "%2e%2e%2f", "true", "nan", "2024-03-04")
+NAMES = ("ana", "funnel", "Иванов", "%", "%00", "%ff", "..", "a b", "*", "~~0123456789abcdefghij", "x" * 300, "", "0", "-1",
+         "null", "18446744073709551616", "1e9", "%F0%9F%98%80", "'", '"', "<script>", "\\", "%2e%2e%2f", "true", "nan",
+         "2024-03-04")
 PATHS = ("", "v1", "v1/stat", "v1/edge", "v1/out_of", "v1/into", "v1/edges", "v1/levels", "v1/within", "v1/path", "v1/degrees",
-         "v1/weights_in", "v1/components", "v1/cores", "v1/names", "v1/view", "v1/sessions", "v1/sessions/zed", "v1/sessions/zed/ask",
-         "v1/rows", "v1/feeder", "v1/feeder/zed", "v1/feeder/zed/batches/1", "openapi.json", "live.js", "../etc/passwd", "//")
-FIELDS = ("kind", "source", "target", "vertex", "hops", "since", "until", "top", "by", "like", "session", "version", "beside", "most",
-          "direction", "feeder", "zed")
+         "v1/weights_in", "v1/components", "v1/cores", "v1/names", "v1/view", "v1/sessions", "v1/sessions/zed",
+         "v1/sessions/zed/ask", "v1/rows", "v1/feeder", "v1/feeder/zed", "v1/feeder/zed/batches/1", "openapi.json", "live.js",
+         "../etc/passwd", "//")
+FIELDS = ("kind", "source", "target", "vertex", "hops", "since", "until", "top", "by", "like", "session", "version", "beside",
+          "most", "direction", "feeder", "zed")
 METHODS = ("GET", "GET", "GET", "POST", "POST", "PUT", "DELETE", "HEAD", "PATCH", "OPTIONS", "ZED")
-BODIES = ("", "{}", "[]", "null", '{"rows": []}', '{"rows": [["add", "k", "a", "b", 1, 1]]}', '{"call": "cores"}', '{"call": "found", "ends": 5}',
-          '{"call": "edges", "since": -1}', '{"operations": "a,k,x,y,1,1\\n"}', '{"operations": "commit\\n", "texts": {}}', "add,k,a,b,1,1",
-          "[" * 5_000, '{"rows": [["add", "\\ud800", "a", "b"]]}', '{"rows": {}}', "\x00", "add,k,\"a", "expire,99999999999999999999")
+BODIES = ("", "{}", "[]", "null", '{"rows": []}', '{"rows": [["add", "k", "a", "b", 1, 1]]}', '{"call": "cores"}', "\x00",
+          '{"call": "found", "ends": 5}', '{"call": "edges", "since": -1}', '{"operations": "a,k,x,y,1,1\\n"}', "add,k,a,b,1,1",
+          '{"operations": "commit\\n", "texts": {}}', "[" * 5_000, '{"rows": [["add", "\\ud800", "a", "b"]]}', '{"rows": {}}',
+          "add,k,\"a", "expire,99999999999999999999")
+HOSTS = ("localhost", "127.0.0.1", "evil")
 KINDS = ("application/json", "text/csv", "text/html", "", "application/json; charset=utf-16", "multipart/form-data")
 BROKEN = (b"GET / HTTP/1.1\r\n\r\n", b"\x16\x03\x01\x02\x00", b"GET /v1/stat HTTP/9.9\r\nHost: localhost\r\n\r\n", b"GET\r\n\r\n",
-          b"POST /v1/rows HTTP/1.1\r\nHost: localhost\r\nContent-Length: -5\r\n\r\n", b"GET " + b"/x" * 40_000 + b" HTTP/1.1\r\n\r\n",
+          b"POST /v1/rows HTTP/1.1\r\nHost: localhost\r\nContent-Length: -5\r\n\r\n",
+          b"GET " + b"/x" * 40_000 + b" HTTP/1.1\r\n\r\n",
           b"POST /v1/rows HTTP/1.1\r\nHost: localhost\r\nTransfer-Encoding: chunked\r\nContent-Type: text/csv\r\n\r\nzz\r\n",
           b"GET /v1/stat HTTP/1.1\r\nHost: localhost\r\n" + b"X-Y: z\r\n" * 3_000 + b"\r\n")
 
@@ -36,7 +41,7 @@ def request(chance: random.Random) -> bytes:
     if body and chance.random() < 0.3:
         at = chance.randrange(len(body))
         body = body[:at] + bytes([chance.randrange(256)]) + body[at + 1:]
-    lines = [f"{chance.choice(METHODS)} /{path} HTTP/1.1".replace(" b", "%20b"), f"Host: {chance.choice(('localhost', '127.0.0.1', 'evil'))}",
+    lines = [f"{chance.choice(METHODS)} /{path} HTTP/1.1".replace(" b", "%20b"), f"Host: {chance.choice(HOSTS)}",
              "Connection: close", f"Content-Type: {chance.choice(KINDS)}", f"Content-Length: {len(body)}"]
     return "\r\n".join([*lines, "", ""]).encode("utf-8") + body
 

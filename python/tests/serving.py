@@ -47,7 +47,8 @@ class Clock:
 class ServeCase(Case):
     """A case with a server."""
 
-    def serve(self, listen: str = "127.0.0.1:0", token: Optional[str] = None, limits: Limits = Limits(), **options: Any) -> Server:
+    def serve(self, listen: str = "127.0.0.1:0", token: Optional[str] = None, limits: Limits = Limits(),
+              **options: Any) -> Server:
         store = misteluk.Store(seats=16, endless=True, **options)
         self.addCleanup(self.let_go, store)
         server = Server(store, listen, token=token, limits=limits).start()

@@ -82,6 +82,7 @@ class Wheels(Case):
         self.assertEqual(told["License"], "MIT OR Apache-2.0")
         self.assertIn("help(misteluk)", told.get_payload())
         self.assertIn('networkx ; extra == "all"', told.get_all("Requires-Dist"))
+        self.assertIn('starlette ; extra == "serve"', told.get_all("Requires-Dist"))
 
     @unittest.skipUnless(optional("tomllib"), "tomllib is not there")
     def test_pyproject_is_read_as_python_reads_it(self):
@@ -90,7 +91,7 @@ class Wheels(Case):
             said = tomllib.load(file)["project"]
         scripts = [f'{name} = "{place}"' for name, place in said["scripts"].items()]
         self.assertEqual(wheels.project(), (said["name"], said["version"], said["description"], said["requires-python"],
-                                            said["license"]["text"], said["optional-dependencies"]["all"], scripts))
+                                            said["license"]["text"], said["optional-dependencies"], scripts))
 
     def test_one_version(self):
         program = run(find_program(), "--version", stderr=subprocess.DEVNULL).stdout.split()[-1]

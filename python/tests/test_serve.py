@@ -1,29 +1,16 @@
-"""A server: what it answers beside a store in this process, who may feed it, versions that are shared, and who gets in."""
+"""A server: what it answers, beside a store in this process, and who may feed it."""
 import asyncio
-import io
 import json
-import os
-import signal
 import socket
-import stat
-import subprocess
-import sys
 import threading
 import unittest
-from contextlib import redirect_stderr
 
-from serving import FEED, HAS_PACKAGES, NO_PACKAGES, OF_LIBRARY, Clock, ServeCase
-from support import ENGINE, HERE, Case, as_soon_as
+from serving import FEED, ServeCase
+from support import as_soon_as
 
 import misteluk
-from misteluk import Busy, Edge, NoSeat, NoServer, NotAllowed, Served, SessionClosed, connect, connect_async
-from misteluk.command.main import main
-from misteluk.serve.board import Board, Full
-from misteluk.serve.feeding import Feeding, checked_operations
-from misteluk.serve.limits import Limits
-
-if HAS_PACKAGES:
-    from misteluk.serve.server import Address, Server, token_of
+from misteluk import Busy, Edge, Served, connect, connect_async
+from misteluk.serve.feeding import checked_operations
 
 
 class Answers(ServeCase):
@@ -96,8 +83,8 @@ class Answers(ServeCase):
                 async with await connect_async(self.server.url) as other:
                     return levels, edge, walk, len(graph), bool(await session.diff(other))
         found = asyncio.run(both())
-        self.assertEqual(found, ({"ana": 0, "funnel": 1, "offshore": 2}, Edge(950, 1, 1), ["boss", "ana", "funnel", "offshore"], 1,
-                                 False))
+        walk = ["boss", "ana", "funnel", "offshore"]
+        self.assertEqual(found, ({"ana": 0, "funnel": 1, "offshore": 2}, Edge(950, 1, 1), walk, 1, False))
 
     def test_a_slow_reader_delays_nobody(self):
         """It reads nothing of a long answer while others ask and the feed goes on; then it gets all of it, of its version."""
@@ -145,9 +132,10 @@ class Feeds(ServeCase):
         found = self.post("/v1/rows", {"rows": [*rows, ["add", "k", "", "b", 1, 1]]})
         self.assertEqual((found.status, found.json["error"]), (400, "BadName"))
         self.assertIn("row 5001", found.json["reason"])
-        for wrong in ({}, {"rows": 5}, {"rows": [5]}, {"rows": []}, {"rows": [["add", "k", 5, "b", 1, 1]]}, {"rows": [["open", "0"]]},
-                      {"rows": [["add", "k", "a"]]}, {"rows": [["add", "k", "a", "b", 1.5, 1]]}, {"rows": [["add", "k", "\ud800", "b"]]}):
-            self.assertEqual(self.post("/v1/rows", wrong).status, 400, wrong)
+        for wrong in (5, [5], [], {}, [["add", "k", 5, "b", 1, 1]], [["open", "0"]], [["add", "k", "a"]],
+                      [["add", "k", "a", "b", 1.5, 1]], [["add", "k", "\ud800", "b", 1, 1]]):
+            self.assertEqual(self.post("/v1/rows", {"rows": wrong}).status, 400, wrong)
+        self.assertEqual(self.post("/v1/rows", {}).status, 400)
         self.assertEqual(self.ask("/v1/stat").json["edges"], 0)
         self.assertEqual(self.post("/v1/rows", {"rows": rows}).json["batches"], 2)
         self.assertEqual(self.ask("/v1/stat").json["edges"], 5_000)
@@ -179,8 +167,9 @@ class Feeds(ServeCase):
         seat = self.post("/v1/feeder").json["feeder"]
         forged = {"operations": "a,k,~~AAAAAAAAAAAAAAAAAAAA,y,5,1\n", "texts": {"~~AAAAAAAAAAAAAAAAAAAA": "Иванов Пётр"}}
         self.assertEqual(self.post(f"/v1/feeder/{seat}/batches/1", forged).json["error"], "BadName")
-        for text in ("commit\n", "open,0\n", "a,k,x,y,5,1", "a,k,x y,z,5,1\n", "a,k,x,y,5\n", "a,k,x\x1cy,z,5,1\n", 'a,k,"x,y,5,1\n', "\n",
-                     "i,k,x,y,9223372036854775807,1\n", "x,-1\n"):
+        for text in ("commit\n", "open,0\n", "a,k,x,y,5,1", "a,k,x y,z,5,1\n", "a,k,x,y,5\n", "a,k,x\x1cy,z,5,1\n",
+                     'a,k,"x,y,5,1\n',
+                     "\n", "i,k,x,y,9223372036854775807,1\n", "x,-1\n"):
             self.assertRaises(misteluk.Refused, checked_operations, text)
             self.assertEqual(self.post(f"/v1/feeder/{seat}/batches/1", {"operations": text}).status, 400, text)
         self.assertEqual(self.ask("/v1/stat").json["edges"], 0)
@@ -229,334 +218,6 @@ class Feeds(ServeCase):
         for it in threads:
             it.join()
         self.assertEqual((wrong, set(edge.weight for *_, edge in self.server.store.open().edges("turn"))), ([], {40}))
-
-
-@unittest.skipUnless(ENGINE == "library", OF_LIBRARY)
-class Versions(Case):
-    """The board, by a clock of its own."""
-
-    def setUp(self):
-        super().setUp()
-        self.clock = Clock()
-        self.at = self.store(seats=16, endless=True)
-        self.board = Board(self.at, Limits(idle=60, clients=40), self.clock)
-
-    def advance(self):
-        self.at.add("k", "a", "b", 1, 1)
-        self.at.commit()
-        self.board.advance()
-
-    def told(self):
-        return [(it.version, it.clients) for it in self.board.held()]
-
-    def test_clients_of_one_version_share_it(self):
-        leases = [self.board.lease() for _ in range(20)]
-        self.advance()
-        self.assertEqual(self.told(), [(0, 20), (1, 0)])
-        for it in leases:
-            self.board.let_go(it.name)
-        self.assertEqual((self.told(), self.at.engine.open_count), ([(1, 0)], 1))
-
-    def test_sixteen_versions(self):
-        """What comes beyond is told when it may ask again; and then it may."""
-        leases = []
-        for _ in range(16):
-            leases.append(self.board.lease())
-            self.clock.now += 1
-            self.advance()
-        with self.assertRaises(Full) as told:
-            self.board.lease()
-        self.assertEqual((told.exception.word, told.exception.after, len(self.told())), ("NoSeat", 44, 16))
-        self.clock.now += 43.5
-        self.assertRaises(Full, self.board.lease)
-        self.clock.now += 0.5
-        self.assertEqual(self.board.lease().shared.version, 16)
-        self.assertRaisesRegex(SessionClosed, "silent for 60 s", self.board.keep, leases[0].name)
-        self.assertEqual(self.board.keep(leases[1].name).shared.version, 1)
-
-    def test_who_asks_isn_t_silent(self):
-        lease = self.board.lease()
-        self.clock.now = 59
-        with self.board.lent(lease.name) as session:
-            self.clock.now = 500
-            self.assertEqual((self.board.sweep(), session.version), (0, 0))
-        self.advance()
-        self.clock.now = 559
-        self.assertEqual((self.board.sweep(), self.told()), (0, [(0, 1), (1, 0)]))
-        self.clock.now = 560
-        self.assertEqual((self.board.sweep(), self.told()), (1, [(1, 0)]))
-
-    def test_so_many_clients(self):
-        for _ in range(40):
-            self.board.lease()
-        with self.assertRaises(Full) as told:
-            self.board.lease()
-        self.assertEqual((told.exception.word, told.exception.after), ("Full", 60))
-
-    def test_a_version_that_is_asked_stays(self):
-        """Also where its client lets it go meanwhile, and where the next one comes."""
-        with self.board.lent() as session:
-            self.advance()
-            self.assertEqual((len(session), self.told()), (0, [(0, 0), (1, 0)]))
-        self.assertEqual(self.told(), [(1, 0)])
-        lease = self.board.lease()
-        with self.board.lent(lease.name) as session:
-            self.board.let_go(lease.name)
-            self.advance()
-            self.assertEqual(len(session), 1)
-        self.assertEqual(self.told(), [(2, 0)])
-
-    def test_a_version_by_its_number(self):
-        """One that somebody holds can be held by others."""
-        first = self.board.lease()
-        self.advance()
-        second = self.board.lease(0)
-        self.assertEqual((second.shared, self.told()), (first.shared, [(0, 2), (1, 0)]))
-        self.assertRaisesRegex(SessionClosed, "version 7 isn't held", self.board.lease, 7)
-
-    def test_a_feeder_that_is_silent(self):
-        feeding = Feeding(self.board, Limits(idle=60), self.clock)
-        first = feeding.claim()
-        self.clock.now = 59
-        self.assertRaises(Busy, feeding.claim)
-        self.assertEqual(feeding.batch(first.name, 1, "a,k,x,y,1,1\n", {}, True).inserted, 1)
-        self.clock.now = 118
-        self.assertRaises(Busy, feeding.claim)
-        self.clock.now = 119
-        feeding.claim()
-        self.assertRaises(SessionClosed, feeding.batch, first.name, 2, "a,k,x,y,1,1\n", {}, True)
-
-    def test_the_rate(self):
-        feeding = Feeding(self.board, Limits(), self.clock)
-        self.clock.now = 20
-        feeding.rows([["add", "k", "a", f"t{it}", "1", "1"] for it in range(50)])
-        self.assertEqual((feeding.told()["rows"], feeding.told()["rows_a_second"]), (50, 5.0))
-        self.clock.now = 40
-        self.assertEqual(feeding.told()["rows_a_second"], 0)
-
-
-class Clients(ServeCase):
-    def test_seats_over_http(self):
-        self.fed()
-        sessions = []
-        self.addCleanup(lambda: [it.close() for it in sessions])
-        for it in range(16):
-            sessions.append(connect(self.server.url))
-            self.assertEqual(self.post("/v1/rows", {"rows": [["add", "k", "a", "b", 1, 1]]}).status, 200)
-        found = self.post("/v1/sessions")
-        self.assertEqual((found.status, found.json["error"]), (503, "NoSeat"))
-        self.assertTrue(0 < int(found.headers["retry-after"]) <= 60)
-        self.assertRaisesRegex(NoSeat, "ask again in", connect, self.server.url)
-        self.assertEqual(sessions[3].version, 4)
-        sessions.pop().close()
-        with connect(self.server.url) as session:
-            self.assertEqual(session.version, 17)
-        with connect(self.server.url, version=4) as session:
-            self.assertEqual(session.version, 4)
-
-    def test_a_version_that_was_let_go(self):
-        self.fed()
-        with connect(self.server.url) as session:
-            self.assertEqual(self.ask(f"/v1/sessions/{session.held.name}", "DELETE").status, 204)
-            self.assertRaisesRegex(SessionClosed, "the server let version 1 go", session.cores)
-            self.assertFalse(session.is_open)
-
-    def test_no_server(self):
-        with socket.socket() as free:
-            free.bind(("127.0.0.1", 0))
-            self.assertRaisesRegex(NoServer, "doesn't answer", connect, f"http://127.0.0.1:{free.getsockname()[1]}")
-        self.assertRaisesRegex(NoServer, "doesn't answer", connect, f"unix:{self.room}/none")
-        for wrong in ("7700", "ftp://localhost", "http://", "unix:"):
-            self.assertRaisesRegex(ValueError, "a server's address", connect, wrong)
-
-    def test_it_takes_no_other_end(self):
-        self.fed()
-        with Served(self.server.url) as store:
-            self.assertRaisesRegex(misteluk.StoreError, "by the server alone", store.renew)
-            self.assertRaisesRegex(misteluk.StoreError, "by the server alone", store.rebase, store.open())
-
-
-class Doors(ServeCase):
-    """Who gets in."""
-
-    def test_a_token(self):
-        self.serve(token="open sesame".replace(" ", "-"))
-        self.assertEqual(self.ask("/v1/stat").status, 401)
-        self.assertEqual(self.ask("/v1/stat", Authorization="Bearer open-sesamE").status, 401)
-        self.assertEqual(self.ask("/v1/stat", Authorization="Basic open-sesame").status, 401)
-        self.assertEqual(self.ask("/v1/stat", Authorization="Bearer \xe9").status, 401)
-        self.assertEqual(self.ask("/v1/stat", Authorization="Bearer open-sesame").status, 200)
-        self.assertEqual(self.ask("/").status, 200)
-        self.assertRaises(NotAllowed, connect, self.server.url)
-        self.assertRaises(NotAllowed, connect, self.server.url, token="another-one")
-        with connect(self.server.url, token="open-sesame") as session:
-            self.assertEqual(session.version, 0)
-
-    def test_pages_of_others_get_nothing(self):
-        """A name of another machine that leads here, and a page of another origin, are told no."""
-        self.fed()
-        port = self.server.address.port
-        for headers in ({"Host": f"evil.example:{port}"}, {"Host": ""}, {"Host": "127.0.0.1.evil.example"}, {"Host": "[::1"},
-                        {"Origin": "http://evil.example"}, {"Origin": "null"}, {"Sec-Fetch-Site": "cross-site"}):
-            self.assertEqual(self.ask("/v1/stat", **headers).status, 403, headers)
-        self.assertEqual(self.ask("/v1/stat", Host=f"localhost:{port}", Origin=f"http://localhost:{port}").status, 200)
-
-    def test_other_machines_want_a_token(self):
-        with misteluk.Store() as store:
-            for listen in ("0.0.0.0:0", "[::]:0", "192.0.2.1:0"):
-                self.assertRaisesRegex(ValueError, "that wants a token", Server, store, listen)
-            for wrong in ("7700", "localhost:", "localhost:99999", ":7700", "unix:", "localhost:x"):
-                self.assertRaisesRegex(ValueError, "an address is", Server, store, wrong)
-            for wrong in ("short", "with space", "päßwörter"):
-                self.assertRaisesRegex(ValueError, "a token has", Server, store, "127.0.0.1:0", token=wrong)
-        self.assertEqual(Address.of("[::1]:7").url, "http://[::1]:7")
-
-    def test_a_token_of_a_file(self):
-        path = self.file("token", "open-sesame\n")
-        os.chmod(path, 0o644)
-        self.assertRaisesRegex(ValueError, "can be read by others", token_of, path)
-        os.chmod(path, 0o600)
-        self.assertEqual(token_of(path), "open-sesame")
-
-    def test_a_unix_socket(self):
-        """It is its owner's alone from the first; one that a server left is taken, and one that is in use isn't."""
-        path = str(self.room / "socket")
-        with socket.socket(socket.AF_UNIX) as left:
-            left.bind(path)
-        server = self.serve(f"unix:{path}")
-        self.assertEqual(stat.S_IMODE(os.stat(path).st_mode), 0o600)
-        with Served(server.url) as store:
-            store.add("k", "a", "b", 5, 1)
-            store.commit()
-            with connect(f"unix:{path}") as session:
-                self.assertEqual(session.edge("k", "a", "b"), Edge(5, 1, 1))
-        with misteluk.Store() as other:
-            self.assertRaises(OSError, Server, other, f"unix:{path}")
-            self.file("plain", "text")
-            self.assertRaises(OSError, Server, other, f"unix:{self.room / 'plain'}")
-        server.stop()
-        self.assertEqual((os.path.exists(path), (self.room / "plain").read_text()), (False, "text"))
-
-    def test_bodies_have_an_end(self):
-        self.serve(limits=Limits(body=1_024))
-        self.assertEqual(self.ask("/v1/rows", "POST", b"x" * 2_000, Content_Type="text/csv").status, 413)
-        self.assertEqual(self.post("/v1/rows", {"rows": FEED}).status, 200)
-        for name, value in (("body", 5), ("clients", 0), ("questions", 99), ("idle", 0), ("time", float("nan"))):
-            self.assertRaises(ValueError, Limits(**{name: value}).checked)
-
-    def test_a_question_that_takes_too_long(self):
-        """It is told so, and lets its version go when it comes to its end."""
-        self.serve(limits=Limits(time=0.2, questions=1))
-        gate = threading.Event()
-        self.addCleanup(gate.set)
-        session = self.server.board._last.session
-        held, session.held = session.held, Slow(session.held, gate)
-        self.addCleanup(setattr, session, "held", held)
-        found = self.ask("/v1/cores")
-        self.assertEqual((found.status, found.json["error"]), (503, "TooLong"))
-        self.assertEqual(self.ask("/v1/stat").status, 200)
-        gate.set()
-        as_soon_as(lambda: not self.server.board._last.is_needed)
-
-    def test_headers_of_each_response(self):
-        self.fed()
-        for path in ("/", "/v1/stat", "/v1/edges", "/v1/nothing", "/live.js"):
-            self.assertEqual(self.ask(path).headers["x-content-type-options"], "nosniff")
-        self.assertIn("default-src 'none'", self.ask("/").headers["content-security-policy"])
-        self.assertNotIn("uvicorn", str(self.ask("/").headers))
-
-
-class Slow:
-    """A held version that answers when it is told to."""
-
-    def __init__(self, held, gate):
-        self._held, self._gate = held, gate
-
-    def cores(self, scope):
-        self._gate.wait(60)
-        return self._held.cores(scope)
-
-    def __getattr__(self, name):
-        return getattr(self._held, name)
-
-
-class Commands(ServeCase):
-    """`misteluk serve` as a process, and what each side sees when another one is killed."""
-
-    def begin(self, *words, **how):
-        env = {**os.environ, "PYTHONPATH": str(HERE.parent)}
-        env.pop("MISTELUK_ENGINE", None)
-        done = subprocess.Popen([sys.executable, "-m", "misteluk", "serve", *words], stdout=subprocess.PIPE, stderr=subprocess.PIPE,
-                                text=True, env=env, **how)
-        self.addCleanup(done.communicate)
-        self.addCleanup(done.kill)
-        return done, done.stdout.readline()
-
-    def test_a_signal_ends_it(self):
-        """All that was read is in, and it says so."""
-        path = str(self.room / "socket")
-        done, told = self.begin("-", "--add", "--source", "1", "--target", "2", "--listen", f"unix:{path}", "--every", "10ms",
-                                stdin=subprocess.PIPE)
-        self.addCleanup(done.stdin.close)
-        self.assertEqual(told, f"misteluk: unix:{path} serves standard input, for this user alone\n")
-        done.stdin.write("ana,bob\nbob,cat\n")
-        done.stdin.flush()
-        with Served(f"unix:{path}") as store:
-            as_soon_as(lambda: store.stat().edges == 2)
-            done.send_signal(signal.SIGTERM)
-            said = done.communicate(timeout=60)[1]
-        self.assertEqual((done.returncode, said.splitlines()[-1]), (0, "misteluk: ended at version 1, of 2 edges"))
-        self.assertFalse(os.path.exists(path))
-
-    def test_a_server_that_is_killed(self):
-        """Its clients are told so; the next one takes its socket, and they connect anew."""
-        path = str(self.room / "socket")
-        done, _ = self.begin("--listen", f"unix:{path}")
-        store = Served(f"unix:{path}")
-        session = store.open()
-        done.kill()
-        done.wait()
-        store.add("k", "a", "b", 5, 1)
-        for call in (session.cores, store.commit, store.stat):
-            self.assertRaisesRegex(NoServer, "doesn't answer", call)
-        self.assertEqual(store.pending, 1)
-        self.begin("--listen", f"unix:{path}")
-        self.assertEqual(store.commit().inserted, 1)
-        self.assertRaisesRegex(SessionClosed, "let version 0 go", session.cores)
-        session.close()
-        with store.open() as other:
-            self.assertEqual(other.edge("k", "a", "b"), Edge(5, 1, 1))
-        store.close()
-
-    def test_clients_that_are_killed(self):
-        """What they hold is let go when they were silent for long enough, and so is the seat of the one that fed."""
-        path = str(self.room / "socket")
-        self.begin("--listen", f"unix:{path}", "--idle", "0.5")
-        code = (f"import misteluk, os; s = misteluk.Served('unix:{path}'); s.add('k', 'a', 'b'); s.commit(); t = s.open(); "
-                "s.add('k', 'a', 'b'); s.commit(); os.kill(os.getpid(), 9)")
-        done = subprocess.run([sys.executable, "-c", code], env={**os.environ, "PYTHONPATH": str(HERE.parent)}, timeout=60)
-        self.assertEqual(done.returncode, -9)
-        with Served(f"unix:{path}") as store:
-            as_soon_as(lambda: len(store.engine.talk.call("GET", "/v1/stat").json()["held"]) == 1)
-            store.add("k", "a", "b")
-            self.assertEqual(store.commit().version, 3)
-
-    def test_what_isn_t_taken(self):
-        for words, told in ((["--listen", "0.0.0.0:0"], "wants a token"), ([__file__], "a feed wants --set or --add"),
-                            (["--engine", "program"], "runs no program"), (["--listen", "nowhere"], "an address is"),
-                            (["--idle", "0", "--listen", "127.0.0.1:0"], "idle is a number"), (["--token-file", "/none"], "No such file")):
-            said = io.StringIO()
-            with redirect_stderr(said):
-                self.assertEqual(main(["serve", *words]), 1, words)
-            self.assertIn(told, said.getvalue())
-
-
-class Packages(Case):
-    @unittest.skipIf(HAS_PACKAGES, "starlette and uvicorn are there")
-    def test_without_them(self):
-        from misteluk.serve.server import Server as Bare
-        with misteluk.Store() as store:
-            self.assertRaisesRegex(misteluk.Missing, "a server needs (starlette|uvicorn)", Bare, store, "127.0.0.1:0")
 
 
 if __name__ == "__main__":

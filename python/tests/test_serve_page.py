@@ -6,7 +6,8 @@ from browsing import Browser
 from pages import CHROMIUM, NO_CHROMIUM
 from serving import ServeCase
 
-ODD = ("<script>alert(1)</script>", "</script><img src=x onerror=document.title='hit'>", "O\"Brien & 'Sons'", "Иванов Пётр", "a b")
+ODD = ("<script>alert(1)</script>", "</script><img src=x onerror=document.title='hit'>", "O\"Brien & 'Sons'", "Иванов Пётр",
+       "a b")
 
 
 @unittest.skipUnless(CHROMIUM, NO_CHROMIUM)

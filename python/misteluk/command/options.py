@@ -46,8 +46,8 @@ def add_feed_options(parser: argparse.ArgumentParser, blocks: Optional[str] = BL
                      saved: str = "", is_needed: bool = True) -> None:
     """Options of a feed; `saved` says what a saved file, or none, in its place is for, where there may be one."""
     count: Any = None if is_needed else "?"
-    parser.add_argument("file", nargs=count, help=f"a delimited file, an edge list (SNAP), or a Matrix Market file; .gz is unpacked; - is "
-                        f"standard input{saved}")
+    parser.add_argument("file", nargs=count, help=f"a delimited file, an edge list (SNAP), or a Matrix Market file; .gz is "
+                        f"unpacked; - is standard input{saved}")
     way = parser.add_mutually_exclusive_group(required=not saved)
     way.add_argument("--set", dest="by", action="store_const", const="set", help="a later row sets the weight of its edge anew")
     way.add_argument("--add", dest="by", action="store_const", const="add", help="a later row adds to the weight of its edge")

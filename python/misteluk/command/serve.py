@@ -66,9 +66,8 @@ def serve(words: argparse.Namespace, how: Dict[str, Any]) -> int:
 def follow(server: Server, words: argparse.Namespace, how: Dict[str, Any]) -> None:
     """Has the feed go in that is named."""
     if words.file is not None:
-        following = server.store.follow(words.file, every=words.every, keep=words.keep, batch=words.batch, skip_bad=words.skip_bad,
-                                        progress=False, **how)
-        server.feeding.follow(following)
+        pace = {"every": words.every, "keep": words.keep, "batch": words.batch, "skip_bad": words.skip_bad}
+        server.feeding.follow(server.store.follow(words.file, progress=False, **pace, **how))
 
 
 def tell(server: Server, words: argparse.Namespace, token: Optional[str]) -> None:

@@ -36,8 +36,8 @@ def choose(engine: Optional[str] = None, program: Optional[Path] = None) -> Tupl
     return LIBRARY, "it can be loaded"
 
 
-def make_engine(engine: "Union[str, Engine, None]", blocks: Optional[int], seats: int, workers: int, program: Optional[Path], timeout: float,
-                endless: bool) -> Engine:
+def make_engine(engine: "Union[str, Engine, None]", blocks: Optional[int], seats: int, workers: int, program: Optional[Path],
+                timeout: float, endless: bool) -> Engine:
     """An engine with an empty store; or the one that is given, as it is."""
     if engine is not None and not isinstance(engine, str):
         return engine

@@ -273,7 +273,8 @@ class Connected(Session[Any, Any]):
         self.store.close()
 
 
-def connect(url: str, *, version: Optional[int] = None, token: Optional[str] = None, timeout: float = 60.0) -> "Session[Any, Any]":
+def connect(url: str, *, version: Optional[int] = None, token: Optional[str] = None,
+            timeout: float = 60.0) -> "Session[Any, Any]":
     """A session that holds the last version of a server's store, or this version, where somebody holds it. All that a session of
     a store in this process answers it answers too, and `session.store` opens others.
 

@@ -36,7 +36,8 @@ def _parameter(it: Parameter, place: str = "query") -> Dict[str, Any]:
 def _faults() -> Dict[str, Any]:
     told = {"type": "object", "required": ["error", "reason"],
             "properties": {"error": {"type": "string"}, "reason": {"type": "string"}, "retry_after": {"type": "integer"}}}
-    return {str(status): {"description": text, "content": {"application/json": {"schema": told}}} for status, text in FAULTS.items()}
+    content = {"application/json": {"schema": told}}
+    return {str(status): {"description": text, "content": content} for status, text in FAULTS.items()}
 
 
 def _question(it: Question) -> Dict[str, Any]:

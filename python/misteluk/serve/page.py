@@ -13,5 +13,5 @@ def _sum(text: str) -> str:
 
 # (a frame that is given as a text has the policy of the page that gives it: the one script that such a page has is told by its
 # sum, so that no other one runs)
-POLICY = (f"default-src 'none'; script-src 'self' 'sha256-{_sum(script())}'; style-src 'self' 'unsafe-inline'; connect-src 'self'; "
-          "base-uri 'none'; form-action 'none'; frame-ancestors 'none'")
+POLICY = (f"default-src 'none'; script-src 'self' 'sha256-{_sum(script())}'; style-src 'self' 'unsafe-inline'; "
+          "connect-src 'self'; base-uri 'none'; form-action 'none'; frame-ancestors 'none'")

@@ -174,6 +174,7 @@ TOP = (Parameter("top", "the rows with the greatest values alone, so many", leas
 BY = (Parameter("by", "by which column the greatest are", choices=tuple(BY_COLUMN)),)
 VERTEX = (Parameter("vertex", "a vertex's name", True),)
 ENDS = (Parameter("source", "a vertex's name", True), Parameter("target", "a vertex's name", True))
+WAY = Parameter("direction", "along edges, or either way", choices=("out", "both"))
 HOPS = Parameter("hops", "how many steps away", True, 0, 1_000)
 
 QUESTIONS = (
@@ -184,7 +185,7 @@ QUESTIONS = (
     Question("levels", "how many steps each vertex is from a source that is reached from it",
              (Parameter("source", "a vertex's name", True), *SCOPE, *TOP), _levels),
     Question("within", "the vertices within so many steps",
-             (*VERTEX, HOPS, Parameter("direction", "along edges, or either way", choices=("out", "both")), *SCOPE, *TOP), _within),
+             (*VERTEX, HOPS, WAY, *SCOPE, *TOP), _within),
     Question("path", "a shortest walk as its names, or null", (*ENDS, *SCOPE), _path),
     Question("degrees", "how many edges go out of each vertex and come in, and the weight that goes out", (*SCOPE, *TOP, *BY),
              _table("degrees")),

@@ -85,7 +85,8 @@ CALLS = {"degrees": False, "labels": False, "cores": False, "edges": False, "lev
 
 def _scope(given: Mapping[str, Any]) -> Scope:
     kind = given.get("kind")
-    return Scope(None if kind is None else _text(kind), _time(given.get("since", 0)), _time(given.get("until", records.MOST_TIME)))
+    since, until = _time(given.get("since", 0)), _time(given.get("until", records.MOST_TIME))
+    return Scope(None if kind is None else _text(kind), since, until)
 
 
 def _text(value: object) -> str:
