@@ -67,6 +67,7 @@ class Hostile(unittest.TestCase):
         codes = [
             it.batch_length(batch, number), it.batch_insert(batch, *edge, 1, 1), it.batch_add(batch, *edge, 1, 1),
             it.batch_remove(batch, *edge), it.batch_expire(batch, 1),
+            it.batch_columns(batch, *name, where, 1, *name, where, 1, *[where, 1] * 6, number),
             it.desk_apply(desk, self.batch.handle, counts), it.desk_apply(self.desk.handle, batch, counts),
             it.desk_apply(desk, batch, counts), it.desk_collect(desk, number), it.desk_stat(desk, interface.Stat()),
             it.desk_insert_columns(desk, *name, *name, *[where, 1] * 5, counts, number),

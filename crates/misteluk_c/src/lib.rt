@@ -6,6 +6,7 @@
 
 ghost use Rattle.std.specs.Prelude.{◌≡◌};
 
+mod appending;
 mod batches;
 mod codes;
 mod desks;

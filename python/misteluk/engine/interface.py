@@ -10,6 +10,10 @@ Memory = Union[int, bytes, "Array[Any]"]
 INTERFACE = 1
 ANY_KIND = 0xFFFF_FFFF
 NOT_REACHED = 0xFFFF_FFFF
+INSERT = 0
+ADD = 1
+REMOVE = 2
+EXPIRE = 3
 
 
 class Code(enum.IntEnum):
@@ -115,6 +119,9 @@ FUNCTIONS: Dict[str, Tuple[Any, List[Any]]] = {
     "batch_add": (c_uint32, [POINTER(Batch), c_void_p, c_size_t, c_void_p, c_size_t, c_void_p, c_size_t, c_int64, c_uint64]),
     "batch_remove": (c_uint32, [POINTER(Batch), c_void_p, c_size_t, c_void_p, c_size_t, c_void_p, c_size_t]),
     "batch_expire": (c_uint32, [POINTER(Batch), c_uint64]),
+    "batch_columns": (c_uint32, [POINTER(Batch), c_void_p, c_size_t, c_void_p, c_size_t, c_void_p, c_size_t, c_void_p,
+        c_size_t, c_void_p, c_size_t, c_void_p, c_size_t, c_void_p, c_size_t, c_void_p, c_size_t, c_void_p, c_size_t, c_void_p,
+        c_size_t, POINTER(c_uint64)]),
     "desk_new": (c_uint32, [c_uint32, POINTER(Desk)]),
     "desk_free": (None, [Desk]),
     "desk_apply": (c_uint32, [POINTER(Desk), POINTER(Batch), POINTER(Counts)]),
@@ -156,6 +163,8 @@ class Library:
     batch_add: Callable[[Batch, Memory, int, Memory, int, Memory, int, int, int], int]
     batch_remove: Callable[[Batch, Memory, int, Memory, int, Memory, int], int]
     batch_expire: Callable[[Batch, int], int]
+    batch_columns: Callable[[Batch, Memory, int, Memory, int, Memory, int, Memory, int, Memory, int, Memory, int, Memory,
+        int, Memory, int, Memory, int, Memory, int, c_uint64], int]
     desk_new: Callable[[int, Desk], int]
     desk_free: Callable[[Desk], None]
     desk_apply: Callable[[Desk, Batch, Counts], int]
