@@ -1,6 +1,9 @@
 //! Operations of any sort, in columns.
 
-ghost use Rattle.std.specs.Prelude.{◌≡◌, ◌≤◌, ◌<◌, ◌-◌, length, OnOk, IfOk, IfErr, OnErr, MatchResult};
+ghost use Rattle.std.specs.Prelude.{◌≡◌, ◌<◌, ◌&&◌, length, true, IsTrue, IfOk, IfErr, MatchResult, Ok, Err};
+ghost use Rattle.batch_columns.specs.Dictionaries.{IsInserted};
+ghost use Rattle.batch_columns.specs.Operations.{table_of, edge_operation_at, operation_at, IsExtended, RefusesOperations};
+ghost use Rattle.batch_columns.specs.Operations as specs;
 
 use crate::bytes::{push_add, push_expire, push_insert, push_remove};
 use crate::columns::{InsertError, name_at};
@@ -48,13 +51,27 @@ pub struct Operations<'a> {
     pub times: &'a [u64],
 }
 
-/// Appends an operation on an edge, or changes nothing.
+/// A pushed operation's answer, as that of an operation in columns.
+fn told(answer: Result<(), PushError>) -> Result<(), InsertError>
+    ensures { MatchResult answer (λ done. result ≡ Ok done) (λ error. result ≡ Err (InsertError.Refused error)) }
+{
+    match answer {
+        Ok(()) => Ok(()),
+        Err(error) => Err(InsertError::Refused(error)),
+    }
+}
+
+/// Appends the operation on an edge at a place, or changes nothing.
 fn push_edge(
     alloc: Global,
     batch: &mut Batch,
     operations: &Operations<'_>,
     place: usize,
-) -> Result<(), InsertError> {
+) -> Result<(), InsertError>
+    requires within { place < length operations.now.sorts.now }
+    requires alike { specs.are_alike (table_of operations.now) ≡ true }
+    ensures { IsInserted (edge_operation_at (table_of operations.now) place) batch.old batch.new result }
+{
     let Some(kind) = name_at(
         operations.kind_text,
         operations.kind_ends,
@@ -68,20 +85,12 @@ fn push_edge(
     let Some(target) = name_at(operations.text, operations.ends, operations.targets[place]) else {
         return Err(InsertError::BadNumber);
     };
-    let weight = operations.weights[place];
-    let time = operations.times[place];
+    let (weight, time) = (operations.weights[place], operations.times[place]);
     match operations.sorts[place] {
         INSERT => told(push_insert(alloc, batch, kind, source, target, weight, time)),
         ADD => told(push_add(alloc, batch, kind, source, target, weight, time)),
         REMOVE => told(push_remove(alloc, batch, kind, source, target)),
         _ => Err(InsertError::BadNumber),
-    }
-}
-
-fn told(answer: Result<(), PushError>) -> Result<(), InsertError> {
-    match answer {
-        Ok(()) => Ok(()),
-        Err(error) => Err(InsertError::Refused(error)),
     }
 }
 
@@ -91,7 +100,11 @@ fn push_at(
     batch: &mut Batch,
     operations: &Operations<'_>,
     place: usize,
-) -> Result<(), InsertError> {
+) -> Result<(), InsertError>
+    requires within { place < length operations.now.sorts.now }
+    requires alike { specs.are_alike (table_of operations.now) ≡ true }
+    ensures { IsInserted (operation_at (table_of operations.now) place) batch.old batch.new result }
+{
     if operations.sorts[place] == EXPIRE {
         return told(push_expire(batch, operations.times[place]));
     }
@@ -99,7 +112,9 @@ fn push_at(
 }
 
 /// Whether the columns have one length.
-fn are_alike(operations: &Operations<'_>) -> bool {
+fn are_alike(operations: &Operations<'_>) -> bool
+    ensures { result ≡ specs.are_alike (table_of operations.now) }
+{
     let count = operations.sorts.len();
     operations.kinds.len() == count
         && operations.sources.len() == count
@@ -108,8 +123,10 @@ fn are_alike(operations: &Operations<'_>) -> bool {
         && operations.times.len() == count
 }
 
-/// A batch like another, with room for so many operations more where that one is empty.
-fn copy_with_room(alloc: Global, batch: &Batch, count: usize) -> Result<Batch, AllocError> {
+/// A batch like another; where that is empty, with room for so many operations.
+fn copy_with_room(alloc: Global, batch: &Batch, count: usize) -> Result<Batch, AllocError>
+    ensures { IfOk result (λ copy. copy ≡ batch.now) }
+{
     if batch.is_empty() {
         Ok(Batch::with_room(alloc, count))
     } else {
@@ -118,27 +135,38 @@ fn copy_with_room(alloc: Global, batch: &Batch, count: usize) -> Result<Batch, A
 }
 
 /// A batch with the operations from place `done` on behind its own, as many as there are and as it has room for. `done` becomes the
-/// first place that isn't in; or, where an operation is refused, its place.
+/// first place that isn't in; or, where an operation is refused, the place of the first that is.
+///
+/// ```
+/// let mut done = 0;
+/// let batch = with_operations(alloc, &Batch::new(alloc), &operations, &mut done)?;
+/// ```
 pub fn with_operations(
     alloc: Global,
     batch: &Batch,
     operations: &Operations<'_>,
     done: &mut u64,
-) -> Result<Batch, OperationsError> {
+) -> Result<Batch, OperationsError>
+    ensures extended { IfOk result (IsExtended (table_of operations.now) done.old batch.now done.new) }
+    ensures refused { IfErr result (RefusesOperations (table_of operations.now) done.old batch.now done.new) }
+{
     if !are_alike(operations) {
         return Err(OperationsError::BadLength);
     }
-    let from = *done as usize;
-    let count = operations.sorts.len().saturating_sub(from);
-    let to = from + count.min(OPERATION_LIMIT - batch.len());
-    let Ok(mut longer) = copy_with_room(alloc, batch, to - from) else {
+    let count = operations.sorts.len();
+    let mut place = *done as usize;
+    let Ok(mut longer) = copy_with_room(alloc, batch, count.saturating_sub(place)) else {
         return Err(OperationsError::OutOfMemory);
     };
-    for place in from..to {
-        if let Err(error) = push_at(alloc, &mut longer, operations, place) {
-            return Err(OperationsError::Refused(error));
+    while longer.len() < OPERATION_LIMIT && place < count {
+        match push_at(alloc, &mut longer, operations, place) {
+            Ok(()) => place += 1,
+            Err(error) => {
+                *done = place as u64;
+                return Err(OperationsError::Refused(error));
+            }
         }
-        *done = place as u64 + 1;
     }
+    *done = place as u64;
     Ok(longer)
 }
