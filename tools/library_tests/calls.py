@@ -190,10 +190,20 @@ class Version(Owner):
 
 
 class Desk(Owner):
-    def __init__(self, library: Library, blocks: int) -> None:
+    """A desk, under limits of its own where some are given: how many names, kinds and batches."""
+
+    def __init__(self, library: Library, blocks: int, limits: Optional[Tuple[int, int, int]] = None) -> None:
         super().__init__(library)
         self.handle = interface.Desk()
-        must(library.desk_new(blocks, self.handle))
+        if limits is None:
+            must(library.desk_new(blocks, self.handle))
+        else:
+            must(library.desk_new_within(interface.Limits(*limits), blocks, self.handle))
+
+    def limits(self) -> Tuple[int, ...]:
+        out = interface.Limits()
+        must(self.library.desk_limits(self.handle, out))
+        return fields(out)
 
     def free(self) -> None:
         self.library.desk_free(self.handle)
@@ -250,7 +260,7 @@ def parted(text: bytes, ends: Sequence[int]) -> List[bytes]:
     return [text[start:end] for start, end in zip([0, *ends], ends)]
 
 
-def fields(told: "interface.Counts | interface.Stat | interface.Size | interface.Hold") -> Tuple[int, ...]:
+def fields(told: "interface.Counts | interface.Stat | interface.Size | interface.Hold | interface.Limits") -> Tuple[int, ...]:
     """What a struct of numbers has."""
     return tuple(getattr(told, name) for name, _ in told._fields_)
 

@@ -45,6 +45,8 @@ pub(crate) const NO_KIND: u32 = 17;
 
 pub(crate) const NO_EDGE: u32 = 18;
 
+pub(crate) const BAD_LIMITS: u32 = 19;
+
 /// What a call about columns is told by.
 pub(crate) fn columns_code(answer: Result<(), ColumnError>) -> u32
     ensures { result ≡ codes.columns_code answer }

@@ -11,6 +11,7 @@ mod batches;
 mod codes;
 mod desks;
 mod inserting;
+mod opening;
 #[cfg(test)]
 mod tests;
 mod versions;

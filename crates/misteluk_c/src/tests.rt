@@ -7,11 +7,13 @@ use crate::batches::{
 };
 use crate::desks::{
     DeskStat, HoldNumbers, misteluk_desk_apply, misteluk_desk_collect, misteluk_desk_free,
-    misteluk_desk_hold, misteluk_desk_new, misteluk_desk_rebase, misteluk_desk_release,
-    misteluk_desk_stat,
+    misteluk_desk_hold, misteluk_desk_rebase, misteluk_desk_release, misteluk_desk_stat,
 };
 use crate::inserting::misteluk_desk_insert_columns;
 use crate::misteluk_interface;
+use crate::opening::{
+    DeskLimits, misteluk_desk_limits, misteluk_desk_new, misteluk_desk_new_within,
+};
 use crate::versions::{
     misteluk_version_clone, misteluk_version_cores, misteluk_version_degrees,
     misteluk_version_edge, misteluk_version_edges, misteluk_version_free, misteluk_version_kind,
@@ -113,6 +115,23 @@ fn apply(alloc: Global, batch: &mut Handle, desk: &mut Handle, version: &mut Han
         misteluk_desk_release(alloc, desk, hold),
         misteluk_desk_rebase(alloc, desk),
     ];
+    sum(&codes)
+}
+
+/// The codes of a desk under limits of its own, which ends.
+fn open_within(alloc: Global) -> u32 {
+    let mut desk = Handle::empty(alloc);
+    let mut limits = DeskLimits {
+        names: 3,
+        kinds: 2,
+        batches: 2,
+    };
+    let given = limits;
+    let codes = [
+        misteluk_desk_new_within(alloc, &given, 65_537, &mut desk),
+        misteluk_desk_limits(alloc, &mut desk, &mut limits),
+    ];
+    misteluk_desk_free(alloc, desk);
     sum(&codes)
 }
 
@@ -233,6 +252,7 @@ fn each_is_called(rt: HostRuntime) {
     let mut version = Handle::empty(alloc);
     let mut other = Handle::empty(alloc);
     let codes = [
+        open_within(alloc),
         fill(alloc, &mut batch),
         apply(alloc, &mut batch, &mut desk, &mut version),
         look_up(alloc, &mut version, &mut other),
