@@ -110,8 +110,8 @@ class Hostile(unittest.TestCase):
 
     def test_limits_past_their_walls(self) -> None:
         desk, most = interface.Desk(), (1 << 32) - 1
-        for limits in ((1 << 26, 0, 0), (most, 0, 0), (1, 65, 1), (0, most, 0), (131_073, 64, 1), (8_388_607, 1, 1), (1 << 25, 1 << 7, 1),
-                       (most, most, most)):
+        for limits in ((1 << 26, 0, 0), (most, 0, 0), (1, 65, 1), (0, most, 0), (131_073, 64, 1), (8_388_607, 1, 1),
+                       (1 << 25, 1 << 7, 1), (most, most, most)):
             for blocks in (0, 16):
                 self.refuses(Code.BAD_LIMITS, self.library.desk_new_within(interface.Limits(*limits), blocks, desk))
         for blocks in (0, 15, 4_294_963_200, most):
