@@ -41,26 +41,40 @@ enum {
     MISTELUK_BAD_NAME = 5,      /* a name is 1 to 64 bytes, each from 0x21 to 0x7E; a kind's is not "*" */
     MISTELUK_BAD_WEIGHT = 6,    /* a weight is at most 2^40 in size */
     MISTELUK_BAD_TIME = 7,      /* a time is below 2^63 */
-    MISTELUK_BAD_NUMBER = 8,    /* an index past its dictionary, or ends that fall or leave their text */
-    MISTELUK_BAD_BLOCKS = 9,    /* a desk has 16 to 65,536 blocks */
+    MISTELUK_BAD_NUMBER = 8,    /* an index past its dictionary, ends that fall or leave their text, or no sort of operation */
+    MISTELUK_BAD_BLOCKS = 9,    /* a desk has at least 16 blocks, and at most 65,536, or 4,294,963,199 under limits of its own */
     MISTELUK_BATCH_FULL = 10,   /* a batch has at most 4,096 operations */
-    MISTELUK_BATCHES_FULL = 11, /* a desk accepts at most 65,536 batches between two rebases */
-    MISTELUK_NAMES_FULL = 12,   /* a graph has at most 65,536 vertices */
-    MISTELUK_KINDS_FULL = 13,   /* a graph has at most 64 kinds */
+    MISTELUK_BATCHES_FULL = 11, /* as many batches as the desk's limits allow were accepted since it opened or was rebased */
+    MISTELUK_NAMES_FULL = 12,   /* the batch would leave more vertices than the desk's limits allow */
+    MISTELUK_KINDS_FULL = 13,   /* the batch would leave more kinds than the desk's limits allow */
     MISTELUK_BLOCKS_FULL = 14,  /* fewer blocks are free than the batch asks for */
     MISTELUK_NO_SEAT = 15,      /* 16 versions are held, or what is to be released isn't held */
     MISTELUK_NO_VERTEX = 16,
     MISTELUK_NO_KIND = 17,
-    MISTELUK_NO_EDGE = 18
+    MISTELUK_NO_EDGE = 18,
+    MISTELUK_BAD_LIMITS = 19    /* limits past their walls, which stand beside misteluk_limits */
 };
 
 /* What stands for "any kind" where a kind's number is asked for, and for "not reached" among levels. */
 #define MISTELUK_ANY_KIND UINT32_MAX
 #define MISTELUK_NOT_REACHED UINT32_MAX
 
+/* The sorts of operations, where these are a column. */
+#define MISTELUK_INSERT 0
+#define MISTELUK_ADD 1
+#define MISTELUK_REMOVE 2
+#define MISTELUK_EXPIRE 3
+
 typedef struct { void *at; } misteluk_desk;
 typedef struct { void *at; } misteluk_batch;
 typedef struct { void *at; } misteluk_version;
+
+/* How many vertices and kinds the graph of a desk may have, and how many batches the desk accepts until it is rebased. A desk
+ * that is opened without limits of its own has 65,536, 64 and 65,536. No limits pass these walls: 67,108,863 vertices, 64 kinds,
+ * and vertices times kinds at most 8,388,606. So a sum of weights is below 2^63. */
+typedef struct {
+    uint32_t names, kinds, batches;
+} misteluk_limits;
 
 /* What became of a batch's operations, each counted once but an expiry, which counts the edges that it took away. */
 typedef struct {
@@ -119,11 +133,29 @@ uint32_t misteluk_batch_remove(misteluk_batch *batch, const char *kind, size_t k
     size_t source_length, const char *target, size_t target_length);
 /* Appends an expiry: each edge whose recent time is before this one is taken away. NO_HANDLE, BAD_TIME, BATCH_FULL, or MEMORY. */
 uint32_t misteluk_batch_expire(misteluk_batch *batch, uint64_t time);
+/* Appends operations of any sort, MISTELUK_INSERT to MISTELUK_EXPIRE, from place `*done` of the columns on: all that there are,
+ * or as many as the batch has room for. `*done` becomes the first place that isn't in, where one goes on with the next batch; one
+ * past the last place stays as it is, and nothing is appended. Kinds are numbers in one dictionary of names, sources and targets
+ * in another: the name of number n are the bytes of its text from ends[n - 1], or from 0, to below ends[n]. Names that no
+ * operation has aren't looked at, nor are a removal's weight and time, nor of an expiry anything but its time. Where an operation
+ * is refused, the batch is as it was, with none of the call's operations, and `*done` is the place of the first that is refused.
+ * NO_HANDLE; BAD_LENGTH where the columns differ, and `*done` is as it was; of an operation BAD_NUMBER, also of a sort that there
+ * is none of, BAD_NAME, BAD_WEIGHT, BAD_TIME in this order; or MEMORY. */
+uint32_t misteluk_batch_columns(misteluk_batch *batch, const char *kind_text, size_t kind_text_length, const uint64_t *kind_ends,
+    size_t kind_ends_length, const char *text, size_t text_length, const uint64_t *ends, size_t ends_length,
+    const uint8_t *operations, size_t operations_length, const uint32_t *kinds, size_t kinds_length, const uint32_t *sources,
+    size_t sources_length, const uint32_t *targets, size_t targets_length, const int64_t *weights, size_t weights_length,
+    const uint64_t *times, size_t times_length, uint64_t *done);
 
 /* The desk */
 
 /* Opens a desk without edges, with so many blocks, each for 32 edges of one source and kind. BAD_BLOCKS, HELD_ALREADY, MEMORY. */
 uint32_t misteluk_desk_new(uint32_t blocks, misteluk_desk *out);
+/* The same under limits of one's own, which the desk keeps, also behind a rebase. Each block takes some 40 bytes from the
+ * opening on. BAD_LIMITS, BAD_BLOCKS, HELD_ALREADY, MEMORY. */
+uint32_t misteluk_desk_new_within(const misteluk_limits *limits, uint32_t blocks, misteluk_desk *out);
+/* Tells the limits of a desk. NO_HANDLE. */
+uint32_t misteluk_desk_limits(misteluk_desk *desk, misteluk_limits *out);
 /* Ends a desk. Versions that were held answer on, until they are freed. A handle that holds nothing may be given. */
 void misteluk_desk_free(misteluk_desk desk);
 /* Applies a batch, operation after operation, and empties it. NO_HANDLE, BATCHES_FULL, NAMES_FULL, KINDS_FULL, BLOCKS_FULL in
@@ -191,10 +223,10 @@ uint32_t misteluk_version_cores(misteluk_version *version, const misteluk_view *
 uint32_t misteluk_version_row(misteluk_version *version, const misteluk_view *view, uint32_t source, uint32_t *kinds,
     size_t kinds_length, uint32_t *targets, size_t targets_length, int64_t *weights, size_t weights_length, uint64_t *firsts,
     size_t firsts_length, uint64_t *recents, size_t recents_length, uint64_t *count);
-/* Writes the edges that the view lets through of the sources from `*source` on, source by source, each one's whole row, as many as
- * the columns hold. `count` tells how many were written, and `*source` is the first source that isn't in: the number of vertices
- * where all are. One that is past all vertices stays as it is, and nothing is written. NO_HANDLE, NO_KIND, BAD_LENGTH where the
- * columns differ or not even the next row fits (then `count` tells how long it is). */
+/* Writes the edges that the view lets through of the sources from `*source` on, source by source, each one's whole row, as many
+ * as the columns hold. `count` tells how many were written, and `*source` is the first source that isn't in: the number of
+ * vertices where all are. One that is past all vertices stays as it is, and nothing is written. NO_HANDLE, NO_KIND, BAD_LENGTH
+ * where the columns differ or not even the next row fits (then `count` tells how long it is). */
 uint32_t misteluk_version_edges(misteluk_version *version, const misteluk_view *view, uint32_t *source, uint32_t *kinds,
     size_t kinds_length, uint32_t *sources, size_t sources_length, uint32_t *targets, size_t targets_length, int64_t *weights,
     size_t weights_length, uint64_t *firsts, size_t firsts_length, uint64_t *recents, size_t recents_length, uint64_t *count);

@@ -38,7 +38,7 @@ class Project(NamedTuple):
     description: str
     python: str
     licence: str
-    optional: List[str]
+    optional: Dict[str, List[str]]
     scripts: List[str]
 
 
@@ -52,10 +52,11 @@ def project() -> Project:
             raise ValueError(f"pyproject.toml has no line {name} = \"..\"")
         return found[1]
 
-    extras = re.search(r"(?m)^all = \[(.*)\]$", text)
+    extras = re.search(r"(?m)^\[project\.optional-dependencies\]\n((?:\w.*\n)+)", text)
+    optional = {line.partition(" ")[0]: re.findall(r'"(.*?)"', line) for line in (extras[1] if extras else "").splitlines()}
     scripts = re.search(r"(?m)^\[project\.scripts\]\n((?:\w.*\n)+)", text)
     return Project(value("name"), value("version"), value("description"), value("requires-python"), value("license"),
-                   re.findall(r'"(.*?)"', extras[1] if extras else ""), (scripts[1] if scripts else "").splitlines())
+                   optional, (scripts[1] if scripts else "").splitlines())
 
 
 def licences() -> Files:
@@ -71,15 +72,16 @@ def metadata(version: str) -> bytes:
              f"Requires-Python: {it.python}", f"License: {it.licence}", *(f"License-File: {name}" for name in licences()),
              "Classifier: License :: OSI Approved :: MIT License",
              "Classifier: License :: OSI Approved :: Apache Software License",
-             "Classifier: Operating System :: POSIX :: Linux", "Classifier: Typing :: Typed", "Provides-Extra: all",
-             *(f'Requires-Dist: {name} ; extra == "all"' for name in it.optional),
+             "Classifier: Operating System :: POSIX :: Linux", "Classifier: Typing :: Typed",
+             *(f"Provides-Extra: {extra}" for extra in it.optional),
+             *(f'Requires-Dist: {name} ; extra == "{extra}"' for extra, names in it.optional.items() for name in names),
              "Description-Content-Type: text/markdown", ""]
     return "\n".join([*lines, (HERE / "README.md").read_text(encoding="utf-8")]).encode()
 
 
 def package() -> Files:
     """The package's own files."""
-    found = sorted(it for it in (HERE / "misteluk").rglob("*") if it.suffix in (".py", ".typed", ".css", ".js"))
+    found = sorted(it for it in (HERE / "misteluk").rglob("*") if it.suffix in (".py", ".typed", ".css", ".html", ".js"))
     return {it.relative_to(HERE).as_posix(): (it.read_bytes(), False) for it in found}
 
 

@@ -12,10 +12,10 @@ Python's standard library is enough; pandas, networkx, matplotlib and tqdm are u
 """
 from .engine.finding import find_library, find_program
 from .errors import (AlreadyOpen, BadCommand, BadFields, BadName, BadRows, BadSlot, BadTime, BadWeight, BadWindow, BatchFull,
-                     BatchLimit, FeedFault, Incomplete, KindsFull, LeftOut, LibraryNotFound, Misread, Missing, NamesFull,
-                     NearLimit, NoAnswer, NoKind, NoMemory, NoSeat, NotOpen, NotRenewed, NoVertex, OperationsRefused, OutOfMemory,
-                     OverLimit, PartsFailed, Place, PoolEmpty, ProgramEnded, ProgramNotFound, RecordLimit, Refused, SaveFault,
-                     SessionClosed, StoreError, Uncommitted)
+                     BatchLimit, Busy, FeedFault, Incomplete, KindsFull, LeftOut, LibraryNotFound, Misread, Missing, NamesFull,
+                     NearLimit, NoAnswer, NoKind, NoMemory, NoSeat, NoServer, NotAllowed, NotOpen, NotRenewed, NoVertex,
+                     OperationsRefused, OutOfMemory, OverLimit, PartsFailed, Place, PoolEmpty, ProgramEnded, ProgramNotFound,
+                     RecordLimit, Refused, SaveFault, SessionClosed, StoreError, Uncommitted)
 from .feeds.delimited import delimited
 from .feeds.feed import Columns, Feed, matrix_market, snap
 from .feeds.following import Followed, Following, follow
@@ -26,6 +26,8 @@ from .fleet.fleet import Fleet
 from .lint import lint
 from .page.view import View, view
 from .saving import Saved
+from .serve.awaited import AwaitedSession, connect_async
+from .serve.client import Served, connect
 from .session import Session
 from .store import Store
 from .values.answers import Answer, Collected, Commit, Degree, Edge, Neighbor, Rebased, Renewed, Stat
@@ -34,7 +36,7 @@ from .version import VERSION as __version__
 
 # What there is, in the order in which a newcomer meets it.
 __all__ = [
-    "Store", "Session", "Fleet",
+    "Store", "Session", "Fleet", "connect", "connect_async", "Served", "AwaitedSession",
     "load", "survey", "load_in_steps", "Loaded", "Survey", "follow", "Following", "Followed",
     "Columns", "ReadAs", "Feed", "open_feed", "delimited", "snap", "matrix_market",
     "from_networkx", "from_pandas", "from_columns", "from_rows",
@@ -42,8 +44,8 @@ __all__ = [
     "Stat", "view", "View", "lint",
     "find_library", "find_program",
     "StoreError", "Refused", "Place", "AlreadyOpen", "BadCommand", "BadFields", "BadName", "BadRows", "BadSlot", "BadTime",
-    "BadWeight", "BadWindow", "BatchFull", "BatchLimit", "FeedFault", "Incomplete", "KindsFull", "LeftOut", "LibraryNotFound",
-    "Misread", "Missing", "NamesFull", "NearLimit", "NoAnswer", "NoKind", "NoMemory", "NoSeat", "NoVertex", "NotOpen",
-    "NotRenewed", "OperationsRefused", "OutOfMemory", "OverLimit", "PartsFailed", "PoolEmpty", "ProgramEnded", "ProgramNotFound",
-    "RecordLimit", "SaveFault", "SessionClosed", "Uncommitted",
+    "BadWeight", "BadWindow", "BatchFull", "BatchLimit", "Busy", "FeedFault", "Incomplete", "KindsFull", "LeftOut",
+    "LibraryNotFound", "Misread", "Missing", "NamesFull", "NearLimit", "NoAnswer", "NoKind", "NoMemory", "NoSeat", "NoServer",
+    "NotAllowed", "NoVertex", "NotOpen", "NotRenewed", "OperationsRefused", "OutOfMemory", "OverLimit", "PartsFailed",
+    "PoolEmpty", "ProgramEnded", "ProgramNotFound", "RecordLimit", "SaveFault", "SessionClosed", "Uncommitted",
 ]

@@ -283,6 +283,19 @@ class OutOfMemory(ProgramEnded):
     """The program found no memory for a record, and ended."""
 
 
+class Busy(StoreError):
+    """Another one feeds the store that a server has: one does at a time."""
+
+
+class NoServer(StoreError, ConnectionError):
+    """No server answers at this address, or it went away amid an answer. What was to be fed may be fed again by the same call:
+    the server takes no batch twice."""
+
+
+class NotAllowed(StoreError, PermissionError):
+    """The server takes no call without the right token, nor one that it is told by a page of another origin."""
+
+
 class Misread(StoreError):
     """The program wrote a line that answers no record that was sent: it isn't the program that this package knows."""
 

@@ -6,12 +6,12 @@ import warnings
 from datetime import datetime
 from decimal import Decimal
 from types import TracebackType
-from typing import TYPE_CHECKING, Any, Generic, List, Literal, Optional, Type, overload
+from typing import TYPE_CHECKING, Any, Generic, List, Literal, Optional, Type, Union, overload
 
 from .engine.finding import Path
 from .engine.guard import put
 from .engine.making import make_engine
-from .engine.protocol import Denied
+from .engine.protocol import Denied, Engine
 from .feeds.opening import reads
 from .errors import NoSeat, PoolEmpty, StoreError, Uncommitted
 from .ledger import Ledger
@@ -113,7 +113,7 @@ class Store(Generic[W, T]):
     def __init__(self, *, blocks: Optional[int] = None, seats: int = records.USUAL_SEATS, workers: int = records.USUAL_WORKERS,
                  program: Optional[Path] = None, timeout: float = 60.0, weight_scale: Optional[int] = None,
                  times: Optional[str] = None, decimals: str = "decimal", endless: bool = False,
-                 rounding: Optional[str] = None, engine: Optional[str] = None) -> None:
+                 rounding: Optional[str] = None, engine: "Union[str, Engine, None]" = None) -> None:
         self._is_closed = True
         units = Units(1 if weight_scale is None else weight_scale, times or "number", decimals, rounding).checked()
         self.engine = make_engine(engine, blocks, seats, workers, program, timeout, endless)

@@ -15,9 +15,12 @@ from support import HERE, find_program, optional  # noqa: E402
 from misteluk import LibraryNotFound, find_library  # noqa: E402
 
 # What is said of a test that is of one engine, and so isn't missed over the other.
-OF_ONE_ENGINE = r"\.\.\. skipped 'of (?:pipes|the library|the program) alone'"
+OF_ONE_ENGINE = r"\.\.\. skipped 'of (?:pipes|the library|the program|stores in process) alone'"
 # Files of tests that make no store, or that say themselves over which engine they run: once is enough for them.
 ONCE = ("lint", "package", "records", "release", "types")
+# Files of tests that also run over stores that a server has, and what a server needs.
+SERVED = ("arrays", "names", "objects", "store", "units", "view", "walking")
+OF_SERVER = ("starlette", "uvicorn")
 
 
 def engines() -> List[str]:
@@ -54,7 +57,7 @@ def faults(text: str) -> str:
 def main(*wanted: str) -> int:
     names = sorted(it for it in os.listdir(HERE) if re.fullmatch(r"test_\w+\.py", it))
     names = [it for it in names if not wanted or it[5:-3] in wanted]
-    missing = [it for it in ("networkx", "pandas", "matplotlib", "tqdm") if not optional(it)]
+    missing = [it for it in ("networkx", "pandas", "matplotlib", "tqdm", *OF_SERVER) if not optional(it)]
     print(f"python/check: {sys.executable} ({sys.version.split()[0]}) runs {find_program()}")
     if missing:
         print(f"python/check: without {', '.join(missing)}: what needs them is passed over (apt-get install "
@@ -63,6 +66,8 @@ def main(*wanted: str) -> int:
     with concurrent.futures.ThreadPoolExecutor(2) as pool:
         over = engines()
         parts = [(name, engine) for name in names for engine in (over[:1] if name[5:-3] in ONCE else over)]
+        if not NAMED and over[0] == "library" and not set(OF_SERVER) & set(missing):
+            parts += [(name, "served") for name in names if name[5:-3] in SERVED]
         for name, seconds, text in pool.map(run, parts):
             ran = re.search(r"(?m)^Ran (\d+) tests? in", text)
             bad = sum(map(int, re.findall(r"(?:failures|errors)=(\d+)", text.splitlines()[-1] if text else "")))

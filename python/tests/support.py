@@ -16,6 +16,8 @@ from typing import Any, Callable, Dict, List, Tuple
 
 # Which engine the tests run over: each file of them runs over the one and the other, but those of pipes alone.
 ENGINE = os.environ.setdefault("MISTELUK_ENGINE", "library")
+SERVED = "served"
+IN_PROCESS = "of stores in process alone"
 OF_PIPES = "of pipes alone"
 HERE = pathlib.Path(__file__).resolve().parent
 TOP = HERE.parent.parent
@@ -26,6 +28,12 @@ sys.path.insert(0, str(HERE.parent))
 
 from misteluk import Store, find_program  # noqa: E402
 from misteluk.command.main import main  # noqa: E402
+
+
+if ENGINE == SERVED:
+    import served
+    os.environ["MISTELUK_ENGINE"] = "library"
+    served.serve_all()
 
 
 def optional(name: str) -> Any:
@@ -56,6 +64,8 @@ class Case(unittest.TestCase):
     maxDiff = None
 
     def setUp(self) -> None:
+        if ENGINE == SERVED and self.id().partition(".")[2] in served.NOT_SERVED:
+            self.skipTest(IN_PROCESS)
         room = tempfile.TemporaryDirectory()
         self.addCleanup(room.cleanup)
         self.room = pathlib.Path(room.name)

@@ -51,7 +51,7 @@ class Wheels(Case):
             self.assertEqual([name for name, mode in modes.items() if mode & 0o111], [wheels.PROGRAM])
             self.assertIn("Root-Is-Purelib: false\nTag: py3-none-linux_x86_64\n", packed.read(f"{about}/WHEEL").decode())
             own = {it.relative_to(HERE.parent).as_posix() for it in (HERE.parent / "misteluk").rglob("*")
-                   if it.suffix in (".py", ".typed", ".css", ".js")}
+                   if it.suffix in (".py", ".typed", ".css", ".html", ".js")}
             self.assertEqual({it for it in record if it.startswith("misteluk/")}, own | {wheels.PROGRAM})
 
     def elf(self) -> str:
@@ -82,6 +82,7 @@ class Wheels(Case):
         self.assertEqual(told["License"], "MIT OR Apache-2.0")
         self.assertIn("help(misteluk)", told.get_payload())
         self.assertIn('networkx ; extra == "all"', told.get_all("Requires-Dist"))
+        self.assertIn('starlette ; extra == "serve"', told.get_all("Requires-Dist"))
 
     @unittest.skipUnless(optional("tomllib"), "tomllib is not there")
     def test_pyproject_is_read_as_python_reads_it(self):
@@ -90,7 +91,7 @@ class Wheels(Case):
             said = tomllib.load(file)["project"]
         scripts = [f'{name} = "{place}"' for name, place in said["scripts"].items()]
         self.assertEqual(wheels.project(), (said["name"], said["version"], said["description"], said["requires-python"],
-                                            said["license"]["text"], said["optional-dependencies"]["all"], scripts))
+                                            said["license"]["text"], said["optional-dependencies"], scripts))
 
     def test_one_version(self):
         program = run(find_program(), "--version", stderr=subprocess.DEVNULL).stdout.split()[-1]

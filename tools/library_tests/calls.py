@@ -5,7 +5,7 @@ import array
 import itertools
 import pathlib
 import sys
-from ctypes import c_uint32, c_uint64, create_string_buffer
+from ctypes import Array, c_uint32, c_uint64, create_string_buffer
 from typing import Any, Dict, Iterator, List, Optional, Sequence, Tuple
 
 TOP = pathlib.Path(__file__).resolve().parent.parent.parent
@@ -19,6 +19,8 @@ __all__ = ["ANY_KIND", "EVER", "NOT_REACHED", "TOP", "Batch", "Code", "Desk", "L
 EVER = (0, (1 << 64) - 1)
 # A row of a table of edges: kind, source, target, weight, first and recent time.
 Row = Tuple[int, int, int, int, int, int]
+# An operation in columns: its sort, the places of its kind, source and target among names, its weight and its time.
+Operation = Tuple[int, int, int, int, int, int]
 
 
 class Refused(Exception):
@@ -75,6 +77,16 @@ class Batch(Owner):
 
     def expire(self, time: int) -> None:
         must(self.library.batch_expire(self.handle, time))
+
+    def append(self, kinds: Sequence[bytes], names: Sequence[bytes], operations: Sequence[Operation],
+               done: int = 0) -> Tuple[Code, int]:
+        """Appends operations in columns from a place on. Hands back the code, and the place that the call tells."""
+        told = c_uint64(done)
+        # (a column is never empty here: none may be at NULL)
+        columns = [array.array(it, [op[place] for op in operations] or [0]) for place, it in enumerate("BIIIqQ")]
+        words = [it for each in columns for it in (at(each), len(operations))]
+        code = self.calls.batch_columns(self.handle, *dictionary(kinds), *dictionary(names), *words, told)
+        return Code(code), told.value
 
     def __len__(self) -> int:
         out = c_uint64()
@@ -178,10 +190,20 @@ class Version(Owner):
 
 
 class Desk(Owner):
-    def __init__(self, library: Library, blocks: int) -> None:
+    """A desk, under limits of its own where some are given: how many names, kinds and batches."""
+
+    def __init__(self, library: Library, blocks: int, limits: Optional[Tuple[int, int, int]] = None) -> None:
         super().__init__(library)
         self.handle = interface.Desk()
-        must(library.desk_new(blocks, self.handle))
+        if limits is None:
+            must(library.desk_new(blocks, self.handle))
+        else:
+            must(library.desk_new_within(interface.Limits(*limits), blocks, self.handle))
+
+    def limits(self) -> Tuple[int, ...]:
+        out = interface.Limits()
+        must(self.library.desk_limits(self.handle, out))
+        return fields(out)
 
     def free(self) -> None:
         self.library.desk_free(self.handle)
@@ -196,14 +218,11 @@ class Desk(Owner):
                        edges: Sequence[Tuple[int, int, int, int]]) -> Tuple[Code, int, interface.Counts]:
         """Inserts edges, each with the places of two names, a weight and a time. Hands back the code, how many are in, and what
         became of them."""
-        text, ends, none = b"".join(names), column("Q", len(names)), column("Q", 0)
-        for place, name in enumerate(names):
-            ends[place] = len(name) + (ends[place - 1] if place else 0)
+        none = column("Q", 0)
         columns = [array.array(it, [edge[place] for edge in edges]) for place, it in enumerate("IIqQ")]
         counts, done = interface.Counts(), c_uint64()
         told = [it for each in columns for it in (at(each if each else none), len(edges))]
-        code = self.calls.desk_insert_columns(self.handle, kind, len(kind), text, len(text), at(ends), len(names), *told, counts,
-                                                done)
+        code = self.calls.desk_insert_columns(self.handle, kind, len(kind), *dictionary(names), *told, counts, done)
         return Code(code), done.value, counts
 
     def collect(self) -> int:
@@ -231,11 +250,17 @@ class Desk(Owner):
         must(self.library.desk_rebase(self.handle))
 
 
+def dictionary(names: Sequence[bytes]) -> Tuple[bytes, int, "Array[c_uint64]", int]:
+    """Names as a call takes them: their bytes one after another, and where each ends, with their lengths."""
+    text, ends = b"".join(names), itertools.accumulate(map(len, names))
+    return text, len(text), (c_uint64 * max(len(names), 1))(*ends), len(names)
+
+
 def parted(text: bytes, ends: Sequence[int]) -> List[bytes]:
     return [text[start:end] for start, end in zip([0, *ends], ends)]
 
 
-def fields(told: "interface.Counts | interface.Stat | interface.Size | interface.Hold") -> Tuple[int, ...]:
+def fields(told: "interface.Counts | interface.Stat | interface.Size | interface.Hold | interface.Limits") -> Tuple[int, ...]:
     """What a struct of numbers has."""
     return tuple(getattr(told, name) for name, _ in told._fields_)
 

@@ -67,8 +67,10 @@ class Hostile(unittest.TestCase):
         codes = [
             it.batch_length(batch, number), it.batch_insert(batch, *edge, 1, 1), it.batch_add(batch, *edge, 1, 1),
             it.batch_remove(batch, *edge), it.batch_expire(batch, 1),
+            it.batch_columns(batch, *name, where, 1, *name, where, 1, *[where, 1] * 6, number),
             it.desk_apply(desk, self.batch.handle, counts), it.desk_apply(self.desk.handle, batch, counts),
             it.desk_apply(desk, batch, counts), it.desk_collect(desk, number), it.desk_stat(desk, interface.Stat()),
+            it.desk_limits(desk, interface.Limits()),
             it.desk_insert_columns(desk, *name, *name, *[where, 1] * 5, counts, number),
             it.desk_hold(desk, none, interface.Hold()), it.desk_release(desk, interface.Hold()), it.desk_rebase(desk),
             it.version_clone(none, interface.Version()), it.version_size(none, interface.Size()),
@@ -88,6 +90,7 @@ class Hostile(unittest.TestCase):
         copy = self.held.clone()
         kept = [self.batch.handle.at, self.desk.handle.at, held.at, copy.handle.at]
         codes = [it.batch_new(self.batch.handle), it.desk_new(16, self.desk.handle),
+                 it.desk_new_within(interface.Limits(3, 2, 2), 16, self.desk.handle),
                  it.desk_hold(self.desk.handle, held, interface.Hold()), it.version_clone(held, copy.handle)]
         self.assertEqual(codes, [Code.HELD_ALREADY] * len(codes))
         self.assertEqual([self.batch.handle.at, self.desk.handle.at, held.at, copy.handle.at], kept)
@@ -104,6 +107,20 @@ class Hostile(unittest.TestCase):
             self.assertIsNone(desk.at)
         for blocks in (16, 65_536):
             Desk(library(), blocks).free()
+
+    def test_limits_past_their_walls(self) -> None:
+        desk, most = interface.Desk(), (1 << 32) - 1
+        for limits in ((1 << 26, 0, 0), (most, 0, 0), (1, 65, 1), (0, most, 0), (131_073, 64, 1), (8_388_607, 1, 1),
+                       (1 << 25, 1 << 7, 1), (most, most, most)):
+            for blocks in (0, 16):
+                self.refuses(Code.BAD_LIMITS, self.library.desk_new_within(interface.Limits(*limits), blocks, desk))
+        for blocks in (0, 15, 4_294_963_200, most):
+            self.refuses(Code.BAD_BLOCKS, self.library.desk_new_within(interface.Limits(1, 1, 1), blocks, desk))
+        self.assertIsNone(desk.at)
+        for limits in ((67_108_863, 0, most), (8_388_606, 1, 0), (131_071, 64, 0), (0, 0, 0)):
+            opened = Desk(library(), 65_537, limits)
+            self.assertEqual(opened.limits(), limits)
+            opened.free()
 
     def test_texts_that_are_no_names(self) -> None:
         for bad in NO_NAMES:

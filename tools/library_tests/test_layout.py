@@ -13,6 +13,7 @@ KINDS = [it for it in vars(interface).values() if isinstance(it, type) and issub
 STRUCTS: Dict[str, Type[ctypes.Structure]] = {it.__name__.lower(): it for it in KINDS if it is not ctypes.Structure}
 NUMBERS = {it.name: it.value for it in Code}
 NUMBERS |= {"INTERFACE": interface.INTERFACE, "ANY_KIND": ANY_KIND, "NOT_REACHED": NOT_REACHED}
+NUMBERS |= {"INSERT": interface.INSERT, "ADD": interface.ADD, "REMOVE": interface.REMOVE, "EXPIRE": interface.EXPIRE}
 
 
 def lines() -> Dict[str, int]:
@@ -31,7 +32,7 @@ def lines() -> Dict[str, int]:
 class Layout(unittest.TestCase):
     def test_structs_and_numbers_are_those_of_the_header(self) -> None:
         wanted = lines()
-        self.assertEqual(set(STRUCTS), {"desk", "batch", "version", "counts", "stat", "size", "hold", "edge", "view"})
+        self.assertEqual(set(STRUCTS), {"desk", "batch", "version", "limits", "counts", "stat", "size", "hold", "edge", "view"})
         text: List[str] = ["#include <misteluk.h>", "#include <stdio.h>", "int main(void) {"]
         text += [f'    printf("%llu\\n", (unsigned long long)({it}));' for it in wanted]
         with tempfile.TemporaryDirectory() as folder:

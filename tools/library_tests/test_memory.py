@@ -8,9 +8,10 @@ import tempfile
 import unittest
 from typing import Callable, List, Optional, Tuple
 
-from calls import TOP, Batch, Code, Desk, Library, Owner, Refused, Version, fields, must, view, whole
+from calls import TOP, Batch, Code, Desk, Library, Operation, Owner, Refused, Version, fields, interface, must, view, whole
 from places import compiler, linker, static_library
 
+INSERT, ADD, REMOVE, EXPIRE = interface.INSERT, interface.ADD, interface.REMOVE, interface.EXPIRE
 FIRST = [(b"k", b"a", b"b", 1, 5), (b"k", b"b", b"c", 2, 6), (b"m", b"a", b"c", 3, 7), (b"k", b"c", b"a", 4, 8)]
 
 
@@ -74,7 +75,11 @@ CALLS: "dict[str, Callable[[State], object]]" = {
     "batch_add": lambda it: it.batch.add(b"k", b"x", b"y", 1, 1),
     "batch_remove": lambda it: it.batch.remove(b"k", b"a", b"b"),
     "batch_expire": lambda it: it.batch.expire(3),
+    "batch_columns": lambda it: append(it.batch),
+    "batch_columns of an empty one": lambda it: append_alone(it),
     "desk_new": lambda it: it.made.append(Desk(it.library, 16)),
+    "desk_new_within": lambda it: it.made.append(Desk(it.library, 65_537, (3, 2, 2))),
+    "desk_limits": lambda it: it.desk.limits(),
     "desk_apply": lambda it: fields(it.desk.apply(it.batch)),
     "desk_insert_columns": lambda it: insert_columns(it),
     "desk_hold": lambda it: it.made.append(it.desk.hold()),
@@ -91,6 +96,23 @@ CALLS: "dict[str, Callable[[State], object]]" = {
     "desk_collect": lambda it: it.desk.collect(),
     "desk_stat": lambda it: fields(it.desk.stat()),
 }
+
+
+def append(batch: Batch) -> object:
+    rows: List[Operation] = [(INSERT, 0, 0, 1, 5, 5), (ADD, 1, 1, 2, 6, 6), (REMOVE, 0, 0, 1, 0, 0), (EXPIRE, 0, 0, 0, 0, 7)]
+    code, done = batch.append([b"q", b"k"], [b"a", b"new", b"names"], rows)
+    assert done == 4 or code != Code.OK
+    must(code)
+    return len(batch)
+
+
+def append_alone(state: State) -> object:
+    """Operations in an empty batch, which asks for the room of all of them at once."""
+    batch = Batch(state.library)
+    try:
+        return append(batch)
+    finally:
+        batch.free()
 
 
 def insert_columns(state: State) -> object:

@@ -9,6 +9,7 @@ import unittest
 
 from calls import TOP, Code, interface
 
+MAKERS = ("interface", "batch_new", "desk_new", "desk_new_within")
 PAGE = (TOP / "docs/C.md").read_text(encoding="utf-8")
 
 
@@ -26,7 +27,7 @@ class Page(unittest.TestCase):
         codes = {code for it in found for code in re.findall(r"`([A-Z_]+)`", it[2])}
         self.assertEqual(codes, set(Code.__members__) - {"OK"})
         for name, told in zip(names, found):
-            takes_a_handle = interface.FUNCTIONS[name][0] is not None and name not in ("interface", "batch_new", "desk_new")
+            takes_a_handle = interface.FUNCTIONS[name][0] is not None and name not in MAKERS
             says_it = "NO_HANDLE" in told[2] or told[2].startswith(("the same", "those of `batch_insert`"))
             self.assertEqual(says_it, takes_a_handle, name)
 

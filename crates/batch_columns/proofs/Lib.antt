@@ -1,1 +1,2 @@
 pub mod NameTexts
+pub mod OneMore

@@ -1,1 +1,2 @@
 pub mod Dictionaries
+pub mod Operations

@@ -1,9 +1,11 @@
-//! Batches from bytes and columns: operations whose names are bytes that nobody has looked at, and insertions whose vertices are
-//! numbers in a dictionary of names, as Apache Arrow lays out a column of texts.
+//! Batches from bytes and columns: operations whose names are bytes that nobody has looked at, and operations whose kinds and
+//! vertices are numbers in dictionaries of names, as Apache Arrow lays out a column of texts.
 #![tactic(auto)]
 
 mod bytes;
 mod columns;
+mod operations;
 
 pub use bytes::{push_add, push_expire, push_insert, push_remove};
 pub use columns::{InsertError, insert_numbers};
+pub use operations::{Operations, OperationsError, with_operations};

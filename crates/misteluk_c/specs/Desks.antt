@@ -26,13 +26,6 @@ apply_code refused.KindsFull = 13
 apply_code (refused.PoolEmpty needed free) = 14
 apply_code refused.OutOfMemory = 1
 
--- a desk of so many blocks is opened, or there are too few or too many of them
-abbrev pub Opens : ℕ → Option Held → Option Held → ℕ → Type 0
-Opens blocks old new code =
-    MatchBool (nat_le 16 blocks && nat_le blocks 65536)
-    (Makes old new code (λ held. desk_in held ≡ Some (opened_owned (opened_desk blocks empty_version) 0)))
-    ((code ≡ 9) × (new ≡ old))
-
 -- a batch is accepted, and its handle is empty then; or refused, and all is as it was
 abbrev pub TellsApplied : OwnedView → List NamedOp → OwnedView → Option Held → ℕ → Counts → Type 0
 TellsApplied old ops new batch code counts =

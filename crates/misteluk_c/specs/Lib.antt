@@ -1,3 +1,4 @@
 pub mod Codes
 pub mod Held
 pub mod Desks
+pub mod Opening

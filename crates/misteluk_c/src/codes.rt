@@ -3,6 +3,7 @@
 ghost use Rattle.std.specs.Prelude.{◌≡◌};
 ghost use Rattle.misteluk_c.specs.Codes as codes;
 
+use batch_columns::{InsertError, OperationsError};
 use graph_types::PushError;
 use version_columns::{ColumnError, TextError};
 
@@ -44,6 +45,8 @@ pub(crate) const NO_KIND: u32 = 17;
 
 pub(crate) const NO_EDGE: u32 = 18;
 
+pub(crate) const BAD_LIMITS: u32 = 19;
+
 /// What a call about columns is told by.
 pub(crate) fn columns_code(answer: Result<(), ColumnError>) -> u32
     ensures { result ≡ codes.columns_code answer }
@@ -78,6 +81,23 @@ pub(crate) fn push_code(answer: Result<(), PushError>) -> u32
         Err(PushError::BadTime) => BAD_TIME,
         Err(PushError::BatchFull) => BATCH_FULL,
         Err(PushError::OutOfMemory) => MEMORY,
+    }
+}
+
+/// What an operation of columns is told by.
+pub(crate) fn insert_code(error: InsertError) -> u32 {
+    match error {
+        InsertError::BadNumber => BAD_NUMBER,
+        InsertError::Refused(error) => push_code(Err(error)),
+    }
+}
+
+/// What operations in columns that aren't appended are told by.
+pub(crate) fn operations_code(error: OperationsError) -> u32 {
+    match error {
+        OperationsError::BadLength => BAD_LENGTH,
+        OperationsError::Refused(error) => insert_code(error),
+        OperationsError::OutOfMemory => MEMORY,
     }
 }
 

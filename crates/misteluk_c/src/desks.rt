@@ -3,11 +3,10 @@
 ghost use Rattle.std.specs.Prelude.{◌≡◌, ◌≢◌, ℕ, Some, None};
 ghost use Rattle.misteluk_c.specs.Held.{batch_in, version_in, Asks};
 ghost use Rattle.misteluk_c.specs.Desks as desks;
-ghost use Rattle.misteluk_c.specs.Desks.{desk_in, Opens, TellsApply, TellsApplied, TellsCollect, TellsHeld, TellsHold, TellsRelease, TellsRebase, stat_of};
+ghost use Rattle.misteluk_c.specs.Desks.{desk_in, TellsApply, TellsApplied, TellsCollect, TellsHeld, TellsHold, TellsRelease, TellsRebase, stat_of};
 
 use crate::codes::{
-    BAD_BLOCKS, BATCHES_FULL, BLOCKS_FULL, HELD_ALREADY, KINDS_FULL, MEMORY, NAMES_FULL, NO_HANDLE,
-    NO_SEAT, OK,
+    BATCHES_FULL, BLOCKS_FULL, HELD_ALREADY, KINDS_FULL, MEMORY, NAMES_FULL, NO_HANDLE, NO_SEAT, OK,
 };
 use desk::{ApplyError, Desk, Hold, HoldError, OwnedDesk};
 use desk_counts::Counts;
@@ -16,11 +15,6 @@ use std::alloc::Global;
 use std::mem::replace;
 use std::sync::Arc;
 use store_handles::{Handle, Held};
-
-/// How many blocks a desk has.
-const LEAST_BLOCKS: u32 = 16;
-
-const MOST_BLOCKS: u32 = 65_536;
 
 /// The last version, and the blocks.
 #[derive(Clone, Copy)]
@@ -41,27 +35,6 @@ pub struct DeskStat {
 pub struct HoldNumbers {
     pub opening: u64,
     pub number: u64,
-}
-
-/// Opens a desk without edges.
-#[unsafe(no_mangle)]
-pub extern "C" fn misteluk_desk_new(alloc: Global, blocks: u32, out: &mut Handle) -> u32
-    ensures { Opens blocks out.old.held out.new.held result }
-{
-    if blocks < LEAST_BLOCKS || blocks > MOST_BLOCKS {
-        return BAD_BLOCKS;
-    }
-    if !out.is_empty() {
-        return HELD_ALREADY;
-    }
-    let Ok(desk) = Desk::open(alloc, blocks) else {
-        return MEMORY;
-    };
-    let Ok(boxed) = Box::new(alloc, Held::Desk(OwnedDesk::over(desk))) else {
-        return MEMORY;
-    };
-    out.put(boxed);
-    OK
 }
 
 /// Ends what a handle holds, if it holds anything.

@@ -1,8 +1,7 @@
 //! Insertions in columns.
 
-use crate::codes::{BAD_LENGTH, BAD_NUMBER, MEMORY, NO_HANDLE, OK, push_code};
+use crate::codes::{BAD_LENGTH, MEMORY, NO_HANDLE, OK, insert_code};
 use crate::desks::apply_code;
-use batch_columns::InsertError;
 use desk_columns::{InsertColumnsError, Insertions, insert_columns};
 use desk_counts::Counts;
 use std::alloc::Global;
@@ -36,7 +35,7 @@ pub extern "C" fn misteluk_desk_insert_columns(
         return NO_HANDLE;
     };
     let code = match &mut *held {
-        Held::Desk(desk) => insert_code(insert_columns(alloc, desk, &insertions, counts, done)),
+        Held::Desk(desk) => columns_code(insert_columns(alloc, desk, &insertions, counts, done)),
         _ => NO_HANDLE,
     };
     desk.put(held);
@@ -44,12 +43,11 @@ pub extern "C" fn misteluk_desk_insert_columns(
 }
 
 /// What insertions in columns are told by.
-fn insert_code(answer: Result<(), InsertColumnsError>) -> u32 {
+fn columns_code(answer: Result<(), InsertColumnsError>) -> u32 {
     match answer {
         Ok(()) => OK,
         Err(InsertColumnsError::BadLength) => BAD_LENGTH,
-        Err(InsertColumnsError::BadInsertion(InsertError::BadNumber)) => BAD_NUMBER,
-        Err(InsertColumnsError::BadInsertion(InsertError::Refused(error))) => push_code(Err(error)),
+        Err(InsertColumnsError::BadInsertion(error)) => insert_code(error),
         Err(InsertColumnsError::Refused(error)) => apply_code(error),
         Err(InsertColumnsError::OutOfMemory) => MEMORY,
     }

@@ -6,10 +6,12 @@
 
 ghost use Rattle.std.specs.Prelude.{◌≡◌};
 
+mod appending;
 mod batches;
 mod codes;
 mod desks;
 mod inserting;
+mod opening;
 #[cfg(test)]
 mod tests;
 mod versions;

@@ -1,16 +1,19 @@
 //! Each function is called once on its happy path. What the library is compiled from without a proof is what these reach.
 
+use crate::appending::misteluk_batch_columns;
 use crate::batches::{
     misteluk_batch_add, misteluk_batch_expire, misteluk_batch_free, misteluk_batch_insert,
     misteluk_batch_length, misteluk_batch_new, misteluk_batch_remove,
 };
 use crate::desks::{
     DeskStat, HoldNumbers, misteluk_desk_apply, misteluk_desk_collect, misteluk_desk_free,
-    misteluk_desk_hold, misteluk_desk_new, misteluk_desk_rebase, misteluk_desk_release,
-    misteluk_desk_stat,
+    misteluk_desk_hold, misteluk_desk_rebase, misteluk_desk_release, misteluk_desk_stat,
 };
 use crate::inserting::misteluk_desk_insert_columns;
 use crate::misteluk_interface;
+use crate::opening::{
+    DeskLimits, misteluk_desk_limits, misteluk_desk_new, misteluk_desk_new_within,
+};
 use crate::versions::{
     misteluk_version_clone, misteluk_version_cores, misteluk_version_degrees,
     misteluk_version_edge, misteluk_version_edges, misteluk_version_free, misteluk_version_kind,
@@ -37,9 +40,30 @@ fn fill(alloc: Global, batch: &mut Handle) -> u32 {
         misteluk_batch_add(alloc, batch, b"k", b"a", b"b", 1, 2),
         misteluk_batch_remove(alloc, batch, b"k", b"a", b"c"),
         misteluk_batch_expire(alloc, batch, 0),
+        append(alloc, batch),
         misteluk_batch_length(alloc, batch, &mut length),
     ];
     sum(&codes)
+}
+
+/// The code of one operation of each sort, in columns.
+fn append(alloc: Global, batch: &mut Handle) -> u32 {
+    let mut done = 0_u64;
+    misteluk_batch_columns(
+        alloc,
+        batch,
+        b"k",
+        &[1],
+        b"ab",
+        &[1, 2],
+        &[0, 1, 2, 3],
+        &[0, 0, 0, 0],
+        &[0, 0, 1, 0],
+        &[1, 1, 0, 0],
+        &[1, 2, 0, 0],
+        &[2, 3, 0, 1],
+        &mut done,
+    )
 }
 
 fn sum(codes: &[u32]) -> u32 {
@@ -94,6 +118,23 @@ fn apply(alloc: Global, batch: &mut Handle, desk: &mut Handle, version: &mut Han
     sum(&codes)
 }
 
+/// The codes of a desk under limits of its own, which ends.
+fn open_within(alloc: Global) -> u32 {
+    let mut desk = Handle::empty(alloc);
+    let mut limits = DeskLimits {
+        names: 3,
+        kinds: 2,
+        batches: 2,
+    };
+    let given = limits;
+    let codes = [
+        misteluk_desk_new_within(alloc, &given, 65_537, &mut desk),
+        misteluk_desk_limits(alloc, &mut desk, &mut limits),
+    ];
+    misteluk_desk_free(alloc, desk);
+    sum(&codes)
+}
+
 /// The codes of a version's calls about names and single edges.
 fn look_up(alloc: Global, version: &mut Handle, other: &mut Handle) -> u32 {
     let mut size = VersionSize {
@@ -124,55 +165,83 @@ fn look_up(alloc: Global, version: &mut Handle, other: &mut Handle) -> u32 {
     sum(&codes)
 }
 
-/// The codes of a version's tables and columns.
+/// The codes of a version's tables.
 fn ask(alloc: Global, version: &mut Handle) -> u32 {
-    let mut kinds = [0_u32; 2];
-    let mut sources = [0_u32; 2];
-    let mut targets = [0_u32; 2];
+    let mut outgoing = [0_u32; 2];
+    let mut incoming = [0_u32; 2];
     let mut weights = [0_i64; 2];
-    let mut firsts = [0_u64; 2];
-    let mut recents = [0_u64; 2];
-    let mut source = 0_u32;
-    let mut count = 0_u64;
     let codes = [
         misteluk_version_degrees(
             alloc,
             version,
             &EVERY,
-            &mut sources,
-            &mut targets,
+            &mut outgoing,
+            &mut incoming,
             &mut weights,
         ),
-        misteluk_version_levels(alloc, version, &EVERY, 0, &mut targets),
-        misteluk_version_labels(alloc, version, &EVERY, &mut targets),
-        misteluk_version_cores(alloc, version, &EVERY, &mut targets),
-        misteluk_version_row(
-            alloc,
-            version,
-            &EVERY,
-            0,
-            &mut kinds,
-            &mut targets,
-            &mut weights,
-            &mut firsts,
-            &mut recents,
-            &mut count,
-        ),
-        misteluk_version_edges(
-            alloc,
-            version,
-            &EVERY,
-            &mut source,
-            &mut kinds,
-            &mut sources,
-            &mut targets,
-            &mut weights,
-            &mut firsts,
-            &mut recents,
-            &mut count,
-        ),
+        misteluk_version_levels(alloc, version, &EVERY, 0, &mut outgoing),
+        misteluk_version_labels(alloc, version, &EVERY, &mut outgoing),
+        misteluk_version_cores(alloc, version, &EVERY, &mut outgoing),
     ];
     sum(&codes)
+}
+
+/// Columns for two edges.
+#[derive(Clone, Copy)]
+struct Columns {
+    kinds: [u32; 2],
+    sources: [u32; 2],
+    targets: [u32; 2],
+    weights: [i64; 2],
+    firsts: [u64; 2],
+    recents: [u64; 2],
+}
+
+const EMPTY: Columns = Columns {
+    kinds: [0; 2],
+    sources: [0; 2],
+    targets: [0; 2],
+    weights: [0; 2],
+    firsts: [0; 2],
+    recents: [0; 2],
+};
+
+/// The code of one source's edges.
+fn read_row(alloc: Global, version: &mut Handle) -> u32 {
+    let mut into = EMPTY;
+    let mut count = 0_u64;
+    misteluk_version_row(
+        alloc,
+        version,
+        &EVERY,
+        0,
+        &mut into.kinds,
+        &mut into.targets,
+        &mut into.weights,
+        &mut into.firsts,
+        &mut into.recents,
+        &mut count,
+    )
+}
+
+/// The code of all edges.
+fn read_edges(alloc: Global, version: &mut Handle) -> u32 {
+    let mut into = EMPTY;
+    let mut source = 0_u32;
+    let mut count = 0_u64;
+    misteluk_version_edges(
+        alloc,
+        version,
+        &EVERY,
+        &mut source,
+        &mut into.kinds,
+        &mut into.sources,
+        &mut into.targets,
+        &mut into.weights,
+        &mut into.firsts,
+        &mut into.recents,
+        &mut count,
+    )
 }
 
 #[test]
@@ -183,10 +252,13 @@ fn each_is_called(rt: HostRuntime) {
     let mut version = Handle::empty(alloc);
     let mut other = Handle::empty(alloc);
     let codes = [
+        open_within(alloc),
         fill(alloc, &mut batch),
         apply(alloc, &mut batch, &mut desk, &mut version),
         look_up(alloc, &mut version, &mut other),
         ask(alloc, &mut version),
+        read_row(alloc, &mut version),
+        read_edges(alloc, &mut version),
     ];
     misteluk_batch_free(alloc, batch);
     misteluk_desk_free(alloc, desk);

@@ -1,6 +1,6 @@
 -- Names are text, of 64 bytes at most; and several of them one after another.
-use Rattle.std.proofs.Common.{◌≡◌, ℕ, ◌+◌, ◌*◌, ◌≤◌, ◌<◌, List, [], ◌∷◌, ◌++◌, zero, suc, length, get_or, take, drop, Some, Bool, true, false, subst}
-use Rattle.std.proofs.Common.{refl, sym, ap, ◌∙◌, arith, add-zero, length-append, append_assoc, append-nil}
+use Rattle.std.proofs.Common.{◌≡◌, ℕ, ◌+◌, ◌≤◌, ◌<◌, List, [], ◌∷◌, ◌++◌, length, get_or, take, drop, Some, Bool, true, false, subst}
+use Rattle.std.proofs.Common.{sym, ap, ◌∙◌, arith, add-zero, append-nil}
 use Rattle.std.proofs.lemmas.{Bool.and_parts, Bool.Decides.nat_tests, List.take_more, List.get_or-drop, List.length-drop}
 use Rattle.std.proofs.lemmas.{List.Sums.{sum_by-append, sum_by-cons, sum_by-take-le}, List.{take-take, drop-drop}, Option.{get_or_from_slice_get, slice_get_within}, Grind.flat_map-append}
 use Rattle.std.proofs.lemmas.{List.Folds.list_any_none, Slice.Eq.bytes_eq-Decides}

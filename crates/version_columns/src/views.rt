@@ -43,6 +43,8 @@ pub fn filter_of(version: &Version, view: &View) -> Option<Filter>
     let kind = if view.kind == NO_NUMBER {
         None
     } else if (view.kind as usize) < version.kinds().len() {
+        // The version tells with its limits that it has at most 64 kinds.
+        let _limits = version.limits();
         Some(KindId(view.kind as u8))
     } else {
         return None;

@@ -1,4 +1,4 @@
-"""What `misteluk` does: load, fleet, restore, follow, lint, picture, doctor."""
+"""What `misteluk` does: load, fleet, restore, follow, serve, lint, picture, doctor."""
 from __future__ import annotations
 
 import argparse
@@ -10,7 +10,7 @@ import warnings
 from contextlib import contextmanager
 from typing import Any, Dict, Iterator, List, Optional
 
-from . import around, doctor, follow as telling
+from . import around, doctor, follow as telling, serve
 
 from .. import files, pictures
 
@@ -164,6 +164,10 @@ def run_follow(words: argparse.Namespace) -> int:
         return telling.follow(words, store, form_of_feed(words))
 
 
+def run_serve(words: argparse.Namespace) -> int:
+    return serve.serve(words, form_of_feed(words))
+
+
 def run_doctor(words: argparse.Namespace) -> int:
     told, is_well = doctor.look(words.engine, words.program)
     print(*told, sep="\n")
@@ -285,8 +289,8 @@ def main(words: Optional[List[str]] = None) -> int:
         if isinstance(it, io.TextIOWrapper):  # (a name that the terminal has no signs for)
             it.reconfigure(errors="backslashreplace")
     try:
-        run = {"load": run_load, "fleet": run_fleet, "restore": run_restore, "follow": run_follow, "lint": run_lint,
-               "picture": run_picture, "doctor": run_doctor}
+        run = {"load": run_load, "fleet": run_fleet, "restore": run_restore, "follow": run_follow, "serve": run_serve,
+               "lint": run_lint, "picture": run_picture, "doctor": run_doctor}
         status = run[parsed.command](parsed)
         if sys.stdout:
             sys.stdout.flush()

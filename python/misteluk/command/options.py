@@ -4,7 +4,7 @@ from __future__ import annotations
 import argparse
 from typing import Any, Optional
 
-from . import around
+from . import around, serve
 
 from ..values import records
 from ..values.answers import BY_COLUMN
@@ -43,10 +43,11 @@ QUESTIONS = ("degrees, components, cores or edges, with a kind behind them or no
 
 
 def add_feed_options(parser: argparse.ArgumentParser, blocks: Optional[str] = BLOCKS, edge_lists: bool = True,
-                     saved: str = "") -> None:
-    """Options of a feed; `saved` says what a saved file in its place is for, where it may be one."""
-    parser.add_argument("file", help=f"a delimited file, an edge list (SNAP), or a Matrix Market file; .gz is unpacked; - is "
-                        f"standard input{saved}")
+                     saved: str = "", is_needed: bool = True) -> None:
+    """Options of a feed; `saved` says what a saved file, or none, in its place is for, where there may be one."""
+    count: Any = None if is_needed else "?"
+    parser.add_argument("file", nargs=count, help=f"a delimited file, an edge list (SNAP), or a Matrix Market file; .gz is "
+                        f"unpacked; - is standard input{saved}")
     way = parser.add_mutually_exclusive_group(required=not saved)
     way.add_argument("--set", dest="by", action="store_const", const="set", help="a later row sets the weight of its edge anew")
     way.add_argument("--add", dest="by", action="store_const", const="add", help="a later row adds to the weight of its edge")
@@ -144,19 +145,30 @@ def add_fleet(fleet: argparse.ArgumentParser) -> None:
     add_window(fleet)
 
 
-def add_follow(follow: argparse.ArgumentParser) -> None:
-    add_feed_options(follow, blocks=f"{records.MOST_BLOCKS:,}")
-    live = follow.add_argument_group("what goes in and out, and when")
+def add_pace(live: Any) -> None:
     live.add_argument("--every", default="1s", metavar="TIME", help="commit when a row has waited so long, as 500ms, 1s or 5m, "
                       "and when a batch is full (1s)")
     live.add_argument("--keep", metavar="TIME", help="let edges go that weren't touched for so long by the feed's own times: as "
                       "12h or 14d where they are dates, else a whole number")
+
+
+def add_follow(follow: argparse.ArgumentParser) -> None:
+    add_feed_options(follow, blocks=f"{records.MOST_BLOCKS:,}")
+    live = follow.add_argument_group("what goes in and out, and when")
+    add_pace(live)
     live.add_argument("--until-end", action="store_true", help="end at the file's end, and don't wait for what it grows by")
     told = follow.add_argument_group("what is told behind each commit")
     told.add_argument("--ask", action="append", default=[], type=asked, metavar="QUESTION", help=QUESTIONS)
     told.add_argument("--within", metavar="TIME", help="answer over edges that were touched within so long of the newest time")
     told.add_argument("--json", action="store_true", help="tell each commit and each answer as a line of JSON")
     add_table_options(told)
+
+
+def add_serve(parser: argparse.ArgumentParser) -> None:
+    add_feed_options(parser, blocks=f"{records.MOST_BLOCKS:,}", saved="; without one a client posts the rows", is_needed=False)
+    live = parser.add_argument_group("what goes in and out, and when")
+    add_pace(live)
+    serve.add_options(parser)
 
 
 def add_lint(check: argparse.ArgumentParser) -> None:
@@ -197,6 +209,7 @@ def make_parser() -> argparse.ArgumentParser:
     add_fleet(commands.add_parser("fleet", help="part a file's rows by a column, load each part into its own store, and ask all"))
     add_restore(commands.add_parser("restore", help="make a store of a saved file, and ask"))
     add_follow(commands.add_parser("follow", help="load a file that grows, or standard input, as it comes; Ctrl-C ends it"))
+    add_serve(commands.add_parser("serve", help="serve a live graph over HTTP: one feed, and many who ask; Ctrl-C ends it"))
     add_lint(commands.add_parser("lint", help="tell each refused record of a script, with its line, field and reason"))
     look = commands.add_parser("doctor", help="tell which engine runs, where it is, whether it was proved, and its limits")
     add_engine(look)

@@ -10,6 +10,10 @@ Memory = Union[int, bytes, "Array[Any]"]
 INTERFACE = 1
 ANY_KIND = 0xFFFF_FFFF
 NOT_REACHED = 0xFFFF_FFFF
+INSERT = 0
+ADD = 1
+REMOVE = 2
+EXPIRE = 3
 
 
 class Code(enum.IntEnum):
@@ -34,6 +38,7 @@ class Code(enum.IntEnum):
     NO_VERTEX = 16
     NO_KIND = 17
     NO_EDGE = 18
+    BAD_LIMITS = 19
 
 
 class Desk(Structure):
@@ -49,6 +54,13 @@ class Batch(Structure):
 class Version(Structure):
     _fields_ = [("at", c_void_p)]
     at: Any
+
+
+class Limits(Structure):
+    _fields_ = [("names", c_uint32), ("kinds", c_uint32), ("batches", c_uint32)]
+    names: int
+    kinds: int
+    batches: int
 
 
 class Counts(Structure):
@@ -115,7 +127,12 @@ FUNCTIONS: Dict[str, Tuple[Any, List[Any]]] = {
     "batch_add": (c_uint32, [POINTER(Batch), c_void_p, c_size_t, c_void_p, c_size_t, c_void_p, c_size_t, c_int64, c_uint64]),
     "batch_remove": (c_uint32, [POINTER(Batch), c_void_p, c_size_t, c_void_p, c_size_t, c_void_p, c_size_t]),
     "batch_expire": (c_uint32, [POINTER(Batch), c_uint64]),
+    "batch_columns": (c_uint32, [POINTER(Batch), c_void_p, c_size_t, c_void_p, c_size_t, c_void_p, c_size_t, c_void_p,
+        c_size_t, c_void_p, c_size_t, c_void_p, c_size_t, c_void_p, c_size_t, c_void_p, c_size_t, c_void_p, c_size_t, c_void_p,
+        c_size_t, POINTER(c_uint64)]),
     "desk_new": (c_uint32, [c_uint32, POINTER(Desk)]),
+    "desk_new_within": (c_uint32, [POINTER(Limits), c_uint32, POINTER(Desk)]),
+    "desk_limits": (c_uint32, [POINTER(Desk), POINTER(Limits)]),
     "desk_free": (None, [Desk]),
     "desk_apply": (c_uint32, [POINTER(Desk), POINTER(Batch), POINTER(Counts)]),
     "desk_insert_columns": (c_uint32, [POINTER(Desk), c_void_p, c_size_t, c_void_p, c_size_t, c_void_p, c_size_t, c_void_p,
@@ -156,7 +173,11 @@ class Library:
     batch_add: Callable[[Batch, Memory, int, Memory, int, Memory, int, int, int], int]
     batch_remove: Callable[[Batch, Memory, int, Memory, int, Memory, int], int]
     batch_expire: Callable[[Batch, int], int]
+    batch_columns: Callable[[Batch, Memory, int, Memory, int, Memory, int, Memory, int, Memory, int, Memory, int, Memory,
+        int, Memory, int, Memory, int, Memory, int, c_uint64], int]
     desk_new: Callable[[int, Desk], int]
+    desk_new_within: Callable[[Limits, int, Desk], int]
+    desk_limits: Callable[[Desk, Limits], int]
     desk_free: Callable[[Desk], None]
     desk_apply: Callable[[Desk, Batch, Counts], int]
     desk_insert_columns: Callable[[Desk, Memory, int, Memory, int, Memory, int, Memory, int, Memory, int, Memory, int,

@@ -2,7 +2,7 @@
 from __future__ import annotations
 
 import os
-from typing import Optional, Tuple
+from typing import Optional, Tuple, Union
 
 from .finding import Path, find_library, find_program
 from .calling import opened
@@ -36,9 +36,11 @@ def choose(engine: Optional[str] = None, program: Optional[Path] = None) -> Tupl
     return LIBRARY, "it can be loaded"
 
 
-def make_engine(engine: Optional[str], blocks: Optional[int], seats: int, workers: int, program: Optional[Path], timeout: float,
-                endless: bool) -> Engine:
-    """An engine with an empty store."""
+def make_engine(engine: "Union[str, Engine, None]", blocks: Optional[int], seats: int, workers: int, program: Optional[Path],
+                timeout: float, endless: bool) -> Engine:
+    """An engine with an empty store; or the one that is given, as it is."""
+    if engine is not None and not isinstance(engine, str):
+        return engine
     if blocks is not None:
         within("blocks", blocks, records.LEAST_BLOCKS, records.MOST_BLOCKS)
     within("seats", seats, 1, records.MOST_SEATS)

@@ -100,5 +100,9 @@
             body.append(...[...body.rows].sort(order));
         });
     }
+    // A page that shows this one in a frame is told how high it is.
+    if (parent !== window) {
+        new ResizeObserver(() => parent.postMessage({ height: document.body.offsetHeight }, "*")).observe(document.body);
+    }
     show();
 })();

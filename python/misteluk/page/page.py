@@ -32,6 +32,11 @@ def _part(name: str) -> str:
     return (pkgutil.get_data(__package__ or "misteluk", name) or b"").decode("utf-8")
 
 
+def script() -> str:
+    """The one script that a page has, the same in each."""
+    return f"\n{_part('page.js')}"
+
+
 def counted(count: int, word: str) -> str:
     """How many there are, in words."""
     many = "vertices" if word == "vertex" else f"{word}s"
@@ -105,7 +110,7 @@ class Page:
                 f'<meta name="viewport" content="width=device-width, initial-scale=1">\n<title>{escape(self.title)}</title>\n'
                 f"<style>\n{_part('page.css')}</style>\n</head>\n<body>\n<main>\n{self._header()}{self._legend()}"
                 f'<div class="{"both" if self.is_two else "alone"}">\n{pictures}{tables}</div>\n{self._notes()}</main>\n'
-                f"<script>\n{_part('page.js')}</script>\n</body>\n</html>\n")
+                f"<script>{script()}</script>\n</body>\n</html>\n")
 
     def _header(self) -> str:
         sides = " beside ".join(side.label for side in self.it.sides)

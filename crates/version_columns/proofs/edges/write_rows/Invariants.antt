@@ -1,5 +1,4 @@
-use Rattle.std.proofs.Common.{◌≡◌, ◌-◌, ◌≤◌, ◌⊎◌, length}
-use Rattle.graph_version.specs.Versions.{content}
+use Rattle.std.proofs.Common.{◌≡◌, ◌-◌, ◌≤◌, length}
 use Rattle.version_columns.specs.Rows.{columns, with_edges, with_values, rows_from, sources_from}
 use Rattle.version_columns.proofs.edges.write_rows.Given as goal
 

@@ -1,4 +1,4 @@
-use Rattle.std.proofs.Common.{◌≡◌, ◌<◌, ◌≤◌, ℕ, List, [], length, get_or, ap, sym, subst, arith}
+use Rattle.std.proofs.Common.{◌≡◌, ◌<◌, ◌≤◌, [], length, get_or, ap, arith}
 use Rattle.std.proofs.lemmas.{List.Sums.sum_by_more, Option.{get_or_from_slice_get, slice_get_within}}
 use Rattle.version_columns.proofs.NameTexts.{name_short}
 use Rattle.version_columns.proofs.lookups.bytes_in.Goals as goal

@@ -1,4 +1,4 @@
-use Rattle.std.proofs.Common.{◌≡◌, ◌+◌, ◌<◌, ◌≤◌, ℕ, List, ◌∷◌, [], ◌++◌, length, take, drop, sym, ap, ◌∙◌, arith, add-zero}
+use Rattle.std.proofs.Common.{◌≡◌, ◌+◌, ◌∷◌, [], ◌++◌, length, take, drop, sym, ap, ◌∙◌, arith}
 use Rattle.std.proofs.lemmas.List.{take_more_set}
 use Rattle.version_columns.specs.{Lookups.byte_count, Texts.{joined, ends_from, chosen}}
 use Rattle.version_columns.proofs.NameTexts.{chosen_more, byte_count-more, joined-more, ends_from-more, fewer_bytes, drop_later}

@@ -1,6 +1,6 @@
 use Rattle.std.proofs.Common.{◌≡◌, ◌+◌, length}
 use Rattle.edge_block.specs.Lending.{edges_left}
-use Rattle.version_columns.specs.Rows.{block_edges, columns, with_edges, AreLong}
+use Rattle.version_columns.specs.Rows.{block_edges, columns, with_edges}
 use Rattle.version_columns.proofs.rows.write_block.Given as goal
 
 abbrev pub invariant-loop-edge : goal.invariant-loop-edge

@@ -2,7 +2,7 @@ use Rattle.std.proofs.Common.{◌≡◌, ◌++◌, ◌+◌, List, length, get_or
 use Rattle.std.specs.declared.{sync.Arc.Arc, alloc.Global.Global}
 use Rattle.edge_block.specs.{Lending.LentEdge, declared.blocks.Block.Block}
 use Rattle.graph_version.specs.Sharing.{block_value, block_values}
-use Rattle.version_columns.specs.Rows.{Columns, block_edges, edges_of, columns, with_edges}
+use Rattle.version_columns.specs.Rows.{block_edges, edges_of, columns, with_edges}
 use Rattle.version_columns.proofs.Columns.{next_edges, with_edges-append}
 use Rattle.version_columns.proofs.rows.write_blocks.Goals as goal
 

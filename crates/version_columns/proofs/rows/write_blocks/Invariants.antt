@@ -1,6 +1,6 @@
 use Rattle.std.proofs.Common.{◌≡◌, ◌+◌, length, drop}
 use Rattle.graph_version.specs.Sharing.{block_values}
-use Rattle.version_columns.specs.Rows.{edges_of, columns, with_edges, AreLong}
+use Rattle.version_columns.specs.Rows.{edges_of, columns, with_edges}
 use Rattle.version_columns.proofs.rows.write_blocks.Given as goal
 
 abbrev pub invariant-loop-block : goal.invariant-loop-block

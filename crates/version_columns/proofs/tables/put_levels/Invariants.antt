@@ -1,4 +1,4 @@
-use Rattle.std.proofs.Common.{◌≡◌, ◌++◌, ◌-◌, map, take, drop, length}
+use Rattle.std.proofs.Common.{◌≡◌, map, take}
 use Rattle.std.specs.Prelude.{unwrap_or}
 use Rattle.version_columns.specs.Views.{no_number}
 use Rattle.version_columns.proofs.tables.put_levels.Given as goal

@@ -1,0 +1,50 @@
+-- One operation more of columns.
+use Rattle.std.proofs.Common.{◌≡◌, ◌≤◌, ℕ, zero, suc, ◌+◌, ◌-◌, List, [], ◌∷◌, ◌++◌, length, Option, Some, None, refl, sym, ap, ◌∙◌, arith}
+use Rattle.std.proofs.Common.{length-append, append_assoc}
+use Rattle.std.specs.Prelude.{Ok}
+use Rattle.graph_types.specs.declared.batches.NamedOp.{NamedOp}
+use Rattle.batch_columns.specs.{Dictionaries.{joined, IsInserted}, Operations.{OperationTable, operation_at, operations_from}}
+
+-- the parts of a list that is joined
+pub joined_parts : (op : Option NamedOp) (rest : Option (List NamedOp)) (all : List NamedOp) → joined op rest ≡ Some all
+    → (one : NamedOp) × (others : List NamedOp) × (op ≡ Some one) × (rest ≡ Some others) × (all ≡ one ∷ others)
+joined_parts (Some one) (Some others) all is = (one, others, refl, refl, cc)
+joined_parts (Some one) None all is = cc
+joined_parts None rest all is = cc
+
+pub operation_more : (t : OperationTable) (at n : ℕ) (ops : List NamedOp) (op : NamedOp) → operations_from t at n ≡ Some ops
+    → operation_at t (at + n) ≡ Some op → operations_from t at (suc n) ≡ Some (ops ++ op ∷ [])
+operation_more t at zero ops op are is =
+    let none : ops ≡ [] = cc in
+    rw none (ap (λ o. joined o (Some [])) (ap (operation_at t) (omega arith) ∙ is))
+operation_more t at (suc n) ops op are is =
+    let parts = joined_parts (operation_at t at) (operations_from t (at + 1) n) ops are in
+    let place : at + 1 + n ≡ at + suc n = omega arith in
+    let rest = operation_more t (at + 1) n parts.1 op parts.3 (ap (operation_at t) place ∙ is) in
+    rw parts.4 (ap (λ o. joined o (operations_from t (at + 1) (suc n))) parts.2 ∙ ap (joined (Some parts.0)) rest)
+
+-- what an operation that is in was
+pub inserted_op : (o : Option NamedOp) (old new : List NamedOp) (done : Unit {0}) → IsInserted o old new (Ok done)
+    → (op : NamedOp) × (o ≡ Some op) × (new ≡ old ++ op ∷ [])
+inserted_op None old new done is = cc is.0
+inserted_op (Some op) old new done is = (op, refl, is.1)
+
+-- a batch, and the operations of so many places behind it
+abbrev pub Extends : OperationTable → ℕ → ℕ → List NamedOp → List NamedOp → Type 0
+Extends t from n old new = (ops : List NamedOp) × (operations_from t from n ≡ Some ops) × (new ≡ old ++ ops)
+
+-- each place has one operation
+pub one_longer : (o : Option NamedOp) (old new : List NamedOp) (done : Unit {0}) → IsInserted o old new (Ok done)
+    → length new ≡ length old + 1
+one_longer o old new done pushed =
+    let (op, here, is) = inserted_op o old new done pushed in rw is (length-append old (op ∷ []))
+
+pub extended_more : (t : OperationTable) (from place : ℕ) (old longer new : List NamedOp) (done : Unit {0}) → from ≤ place
+    → Extends t from (place - from) old longer → IsInserted (operation_at t place) longer new (Ok done)
+    → Extends t from (place + 1 - from) old new
+extended_more t from place old longer new done order (ops, are, is) pushed =
+    let (op, here, longer_is) = inserted_op (operation_at t place) longer new done pushed in
+    let at : from + (place - from) ≡ place = omega arith in
+    let more = operation_more t from (place - from) ops op are (ap (operation_at t) at ∙ here) in
+    let n : suc (place - from) ≡ place + 1 - from = omega arith in
+    (ops ++ op ∷ [], ap (operations_from t from) (sym n) ∙ more, longer_is ∙ ap (λ l. l ++ op ∷ []) is ∙ append_assoc old ops (op ∷ []))

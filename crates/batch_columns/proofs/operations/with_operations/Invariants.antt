@@ -1,0 +1,17 @@
+use Rattle.std.proofs.Common.{◌≡◌, ◌≤◌, ◌+◌, ◌-◌, ◌++◌, List, length, Some}
+use Rattle.graph_types.specs.declared.batches.NamedOp.{NamedOp}
+use Rattle.batch_columns.specs.Operations.{table_of, operations_from}
+use Rattle.batch_columns.proofs.operations.with_operations.Given as goal
+
+-- the operations before the place are behind the batch's own
+abbrev pub invariant-loop-alloc : goal.invariant-loop-alloc
+invariant-loop-alloc l = record {
+  order : l.fn.done ≤ l.place;
+  within : l.place - l.fn.done ≤ l.count - l.fn.done;
+  few : length l.longer ≡ length l.batch + (l.place - l.fn.done);
+  extended : (ops : List NamedOp) × (operations_from (table_of l.operations) l.fn.done (l.place - l.fn.done) ≡ Some ops)
+      × (l.longer ≡ l.batch ++ ops);
+}
+
+abbrev pub decreases-loop-alloc : goal.decreases-loop-alloc
+decreases-loop-alloc l = l.count - l.place

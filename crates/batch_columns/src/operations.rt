@@ -1,0 +1,172 @@
+//! Operations of any sort, in columns.
+
+ghost use Rattle.std.specs.Prelude.{◌≡◌, ◌<◌, ◌&&◌, length, true, IsTrue, IfOk, IfErr, MatchResult, Ok, Err};
+ghost use Rattle.batch_columns.specs.Dictionaries.{IsInserted};
+ghost use Rattle.batch_columns.specs.Operations.{table_of, edge_operation_at, operation_at, IsExtended, RefusesOperations};
+ghost use Rattle.batch_columns.specs.Operations as specs;
+
+use crate::bytes::{push_add, push_expire, push_insert, push_remove};
+use crate::columns::{InsertError, name_at};
+use graph_types::{Batch, PushError};
+use std::alloc::{AllocError, Global};
+use thiserror::Error;
+
+/// The sorts of operations, as a column has them.
+pub const INSERT: u8 = 0;
+
+pub const ADD: u8 = 1;
+
+pub const REMOVE: u8 = 2;
+
+pub const EXPIRE: u8 = 3;
+
+/// How many operations a batch has at the most.
+const OPERATION_LIMIT: usize = 4096;
+
+/// Why operations in columns were not appended.
+#[derive(Clone, Copy, Debug, PartialEq, Eq, Error)]
+pub enum OperationsError {
+    #[error("the columns differ in length")]
+    BadLength,
+    #[error("{0}")]
+    Refused(InsertError),
+    #[error("out of memory")]
+    OutOfMemory,
+}
+
+/// Operations, one at each place of six columns. Kinds, and sources and targets, are numbers in dictionaries of names: the name of
+/// number n are the bytes of the text from where the name before it ends, or from 0, to below where it ends. An expiry has a time
+/// alone, and a removal has neither weight nor time: what stands there in the other columns isn't looked at.
+#[derive(Clone, Copy)]
+pub struct Operations<'a> {
+    pub kind_text: &'a [u8],
+    pub kind_ends: &'a [u64],
+    pub text: &'a [u8],
+    pub ends: &'a [u64],
+    pub sorts: &'a [u8],
+    pub kinds: &'a [u32],
+    pub sources: &'a [u32],
+    pub targets: &'a [u32],
+    pub weights: &'a [i64],
+    pub times: &'a [u64],
+}
+
+/// A pushed operation's answer, as that of an operation in columns.
+fn told(answer: Result<(), PushError>) -> Result<(), InsertError>
+    ensures { MatchResult answer (λ done. result ≡ Ok done) (λ error. result ≡ Err (InsertError.Refused error)) }
+{
+    match answer {
+        Ok(()) => Ok(()),
+        Err(error) => Err(InsertError::Refused(error)),
+    }
+}
+
+/// Appends the operation on an edge at a place, or changes nothing.
+fn push_edge(
+    alloc: Global,
+    batch: &mut Batch,
+    operations: &Operations<'_>,
+    place: usize,
+) -> Result<(), InsertError>
+    requires within { place < length operations.now.sorts.now }
+    requires alike { specs.are_alike (table_of operations.now) ≡ true }
+    ensures { IsInserted (edge_operation_at (table_of operations.now) place) batch.old batch.new result }
+{
+    let Some(kind) = name_at(
+        operations.kind_text,
+        operations.kind_ends,
+        operations.kinds[place],
+    ) else {
+        return Err(InsertError::BadNumber);
+    };
+    let Some(source) = name_at(operations.text, operations.ends, operations.sources[place]) else {
+        return Err(InsertError::BadNumber);
+    };
+    let Some(target) = name_at(operations.text, operations.ends, operations.targets[place]) else {
+        return Err(InsertError::BadNumber);
+    };
+    let (weight, time) = (operations.weights[place], operations.times[place]);
+    match operations.sorts[place] {
+        INSERT => told(push_insert(alloc, batch, kind, source, target, weight, time)),
+        ADD => told(push_add(alloc, batch, kind, source, target, weight, time)),
+        REMOVE => told(push_remove(alloc, batch, kind, source, target)),
+        _ => Err(InsertError::BadNumber),
+    }
+}
+
+/// Appends the operation at a place, or changes nothing.
+fn push_at(
+    alloc: Global,
+    batch: &mut Batch,
+    operations: &Operations<'_>,
+    place: usize,
+) -> Result<(), InsertError>
+    requires within { place < length operations.now.sorts.now }
+    requires alike { specs.are_alike (table_of operations.now) ≡ true }
+    ensures { IsInserted (operation_at (table_of operations.now) place) batch.old batch.new result }
+{
+    if operations.sorts[place] == EXPIRE {
+        return told(push_expire(batch, operations.times[place]));
+    }
+    push_edge(alloc, batch, operations, place)
+}
+
+/// Whether the columns have one length.
+fn are_alike(operations: &Operations<'_>) -> bool
+    ensures { result ≡ specs.are_alike (table_of operations.now) }
+{
+    let count = operations.sorts.len();
+    operations.kinds.len() == count
+        && operations.sources.len() == count
+        && operations.targets.len() == count
+        && operations.weights.len() == count
+        && operations.times.len() == count
+}
+
+/// A batch like another; where that is empty, with room for so many operations.
+fn copy_with_room(alloc: Global, batch: &Batch, count: usize) -> Result<Batch, AllocError>
+    ensures { IfOk result (λ copy. copy ≡ batch.now) }
+{
+    if batch.is_empty() {
+        Ok(Batch::with_room(alloc, count))
+    } else {
+        batch.clone()
+    }
+}
+
+/// A batch with the operations from place `done` on behind its own, as many as there are and as it has room for. `done` becomes the
+/// first place that isn't in; or, where an operation is refused, the place of the first that is.
+///
+/// ```
+/// let mut done = 0;
+/// let batch = with_operations(alloc, &Batch::new(alloc), &operations, &mut done)?;
+/// ```
+pub fn with_operations(
+    alloc: Global,
+    batch: &Batch,
+    operations: &Operations<'_>,
+    done: &mut u64,
+) -> Result<Batch, OperationsError>
+    ensures extended { IfOk result (IsExtended (table_of operations.now) done.old batch.now done.new) }
+    ensures refused { IfErr result (RefusesOperations (table_of operations.now) done.old batch.now done.new) }
+{
+    if !are_alike(operations) {
+        return Err(OperationsError::BadLength);
+    }
+    let count = operations.sorts.len();
+    let mut place = *done as usize;
+    let Ok(mut longer) = copy_with_room(alloc, batch, count.saturating_sub(place)) else {
+        return Err(OperationsError::OutOfMemory);
+    };
+    while longer.len() < OPERATION_LIMIT && place < count {
+        match push_at(alloc, &mut longer, operations, place) {
+            Ok(()) => place += 1,
+            Err(error) => {
+                *done = place as u64;
+                return Err(OperationsError::Refused(error));
+            }
+        }
+    }
+    *done = place as u64;
+    Ok(longer)
+}

@@ -1,0 +1,44 @@
+-- What the calls that open a desk tell.
+use Rattle.std.specs.Prelude.{◌≡◌, ◌⊎◌, ◌<◌, ◌≤◌, ℕ, Option, Some}
+use Rattle.graph_types.specs.Limits.{LimitsView, AreLimits, standard_limits, standard_size}
+use Rattle.graph_version.specs.Versions.{content, empty_version_in}
+use Rattle.block_reclamation.specs.Status.{most_blocks}
+use Rattle.store_steps.specs.{Desks.DeskView, Opening.opened_desk}
+use Rattle.desk.specs.Owned.{opened_owned}
+use Rattle.store_handles.specs.declared.held.Held.{Held}
+use Rattle.misteluk_c.specs.declared.opening.DeskLimits.{DeskLimits}
+use Rattle.misteluk_c.specs.{Held.Makes, Desks.desk_in}
+
+-- the limits as C has them
+abbrev pub limits_of : DeskLimits → LimitsView
+limits_of limits = record { names = limits.names; kinds = limits.kinds; batches = limits.batches }
+
+abbrev pub limits_told : DeskView → DeskLimits
+limits_told d =
+    record {
+      names = (content d.last).limits.names;
+      kinds = (content d.last).limits.kinds;
+      batches = (content d.last).limits.batches;
+    }
+
+-- a desk without edges is opened, in a handle that held nothing
+abbrev pub OpensIn : LimitsView → ℕ → Option Held → Option Held → ℕ → Type 0
+OpensIn limits blocks old new code =
+    Makes old new code (λ held. desk_in held ≡ Some (opened_owned (opened_desk blocks (empty_version_in limits)) 0))
+
+-- there are too few blocks, or more than the most
+abbrev pub RefusesBlocks : ℕ → ℕ → Option Held → Option Held → ℕ → Type 0
+RefusesBlocks most blocks old new code = ((blocks < 16) ⊎ (most < blocks)) × (code ≡ 9) × (new ≡ old)
+
+-- under the standard limits
+abbrev pub Opens : ℕ → Option Held → Option Held → ℕ → Type 0
+Opens blocks old new code =
+    ((16 ≤ blocks) × (blocks ≤ standard_size) × OpensIn standard_limits blocks old new code)
+    ⊎ RefusesBlocks standard_size blocks old new code
+
+-- under limits of its own, where these are within the walls
+abbrev pub OpensWithin : DeskLimits → ℕ → Option Held → Option Held → ℕ → Type 0
+OpensWithin limits blocks old new code =
+    (AreLimits (limits_of limits) × (((16 ≤ blocks) × (blocks ≤ most_blocks) × OpensIn (limits_of limits) blocks old new code)
+    ⊎ RefusesBlocks most_blocks blocks old new code))
+    ⊎ ((AreLimits (limits_of limits) → ⊥) × (code ≡ 19) × (new ≡ old))

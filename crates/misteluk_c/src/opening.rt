@@ -1,0 +1,115 @@
+//! Desks that open, and their limits.
+
+ghost use Rattle.std.specs.Prelude.{◌≡◌, ◌≤◌, Some};
+ghost use Rattle.graph_version.specs.Versions.{empty_version_in};
+ghost use Rattle.block_reclamation.specs.Status.{most_blocks};
+ghost use Rattle.store_steps.specs.Opening.{opened_desk};
+ghost use Rattle.desk.specs.Owned.{opened_owned};
+ghost use Rattle.misteluk_c.specs.Held.{Asks, Makes};
+ghost use Rattle.misteluk_c.specs.Desks.{desk_in};
+ghost use Rattle.misteluk_c.specs.Opening.{Opens, OpensWithin, limits_told};
+
+use crate::codes::{BAD_BLOCKS, BAD_LIMITS, HELD_ALREADY, MEMORY, NO_HANDLE, OK};
+use desk::{Desk, OwnedDesk};
+use graph_types::{Limits, STANDARD_SIZE};
+use std::alloc::Global;
+use store_handles::{Handle, Held};
+
+/// How many blocks a desk has at the least, and at the most under limits of its own.
+const LEAST_BLOCKS: u32 = 16;
+
+const MOST_BLOCKS: u32 = 4_294_963_199;
+
+/// How many vertices, kinds and batches a desk takes.
+#[derive(Clone, Copy)]
+#[repr(C)]
+pub struct DeskLimits {
+    pub names: u32,
+    pub kinds: u32,
+    pub batches: u32,
+}
+
+/// Opens a desk without edges, under the standard limits.
+#[unsafe(no_mangle)]
+pub extern "C" fn misteluk_desk_new(alloc: Global, blocks: u32, out: &mut Handle) -> u32
+    ensures { Opens blocks out.old.held out.new.held result }
+{
+    if blocks < LEAST_BLOCKS || blocks > STANDARD_SIZE {
+        return BAD_BLOCKS;
+    }
+    open_in(alloc, Limits::standard(), blocks, out)
+}
+
+/// Opens a desk without edges, under limits of its own.
+#[unsafe(no_mangle)]
+pub extern "C" fn misteluk_desk_new_within(
+    alloc: Global,
+    limits: &DeskLimits,
+    blocks: u32,
+    out: &mut Handle,
+) -> u32
+    ensures { OpensWithin limits.now blocks out.old.held out.new.held result }
+{
+    let Ok(limits) = Limits::new(limits.names, limits.kinds, limits.batches) else {
+        return BAD_LIMITS;
+    };
+    if blocks < LEAST_BLOCKS || blocks > MOST_BLOCKS {
+        return BAD_BLOCKS;
+    }
+    open_in(alloc, limits, blocks, out)
+}
+
+/// Opens a desk in a handle that holds nothing.
+fn open_in(alloc: Global, limits: Limits, blocks: u32, out: &mut Handle) -> u32
+    requires least { 16 ≤ blocks }
+    requires most { blocks ≤ most_blocks }
+    ensures { Makes out.old.held out.new.held result
+        (λ held. desk_in held ≡ Some (opened_owned (opened_desk blocks (empty_version_in limits)) 0)) }
+{
+    if !out.is_empty() {
+        return HELD_ALREADY;
+    }
+    let Ok(desk) = Desk::open_within(alloc, limits, blocks) else {
+        return MEMORY;
+    };
+    let Ok(boxed) = Box::new(alloc, Held::Desk(OwnedDesk::over(desk))) else {
+        return MEMORY;
+    };
+    out.put(boxed);
+    OK
+}
+
+/// Tells the limits that a desk was opened under.
+#[unsafe(no_mangle)]
+pub extern "C" fn misteluk_desk_limits(
+    alloc: Global,
+    desk: &mut Handle,
+    out: &mut DeskLimits,
+) -> u32
+    ensures told { Asks (desk_in desk.old.held) result (λ o. (result ≡ 0) × (out.new ≡ limits_told o.desk)) }
+    ensures same { desk.new.held ≡ desk.old.held }
+{
+    let Some(held) = desk.take(alloc) else {
+        return NO_HANDLE;
+    };
+    let code = match &*held {
+        Held::Desk(desk) => {
+            *out = limits_of(desk.desk());
+            OK
+        }
+        _ => NO_HANDLE,
+    };
+    desk.put(held);
+    code
+}
+
+fn limits_of(desk: &Desk) -> DeskLimits
+    ensures { result ≡ limits_told desk.now }
+{
+    let limits = desk.last().limits();
+    DeskLimits {
+        names: limits.names(),
+        kinds: limits.kinds(),
+        batches: limits.batches(),
+    }
+}

@@ -1,0 +1,76 @@
+"""`misteluk serve`: a live graph for one feed and many analysts."""
+from __future__ import annotations
+
+import argparse
+import signal
+import sys
+from typing import Any, Dict, Optional
+
+from ..engine.making import LIBRARY
+from ..feeds.feed import STANDARD_INPUT
+from ..serve.limits import Limits
+from ..serve.server import USUAL, Server, token_of
+from ..store import Store
+from ..values import records
+
+# How long one thread of the server may run before another has its turn, in seconds: a feed at full speed else has most of them.
+TURN = 0.0005
+
+
+def add_options(parser: argparse.ArgumentParser) -> None:
+    usual = Limits()
+    listen = parser.add_argument_group("where, and for whom")
+    listen.add_argument("--listen", default=USUAL, metavar="ADDRESS", help=f"HOST:PORT, or unix:PATH for a socket that its owner "
+                        f"alone may use ({USUAL})")
+    listen.add_argument("--token-file", metavar="PATH", help="a file that has the token which each request must bear; else "
+                        "MISTELUK_TOKEN. An address that other machines reach wants one")
+    listen.add_argument("--idle", type=float, default=usual.idle, metavar="SECONDS", help="let a client's version go when it was "
+                        f"silent for so long ({usual.idle:g})")
+    listen.add_argument("--clients", type=int, default=usual.clients, metavar="N", help=f"how many sessions there may be "
+                        f"({usual.clients:,})")
+    listen.add_argument("--body", type=int, default=usual.body, metavar="BYTES", help=f"how long a request's body may be "
+                        f"({usual.body:,})")
+    listen.add_argument("--longest", type=float, default=usual.time, metavar="SECONDS", help="how long an answer may take "
+                        f"({usual.time:g})")
+    listen.add_argument("--questions", type=int, default=usual.questions, metavar="N", help="how many questions over the whole "
+                        f"graph are answered at once ({usual.questions})")
+
+
+def serve(words: argparse.Namespace, how: Dict[str, Any]) -> int:
+    """Serves a store until a signal ends it."""
+    limits = Limits(words.idle, words.clients, words.body, words.longest, words.questions)
+    if words.file is not None and words.by is None:
+        raise ValueError("a feed wants --set or --add")
+    if words.program is not None or words.engine not in (None, LIBRARY):
+        raise ValueError("a server has its store in its own process, by the library, and runs no program")
+    token = token_of(words.token_file)
+    with Store(blocks=words.blocks or records.MOST_BLOCKS, seats=records.MOST_SEATS, endless=True, engine=LIBRARY,
+               weight_scale=words.weight_scale, times="iso" if words.dates else words.times,
+               rounding=words.rounding) as store:
+        server = Server(store, words.listen, token=token, limits=limits)
+        before, sys_turn = signal.getsignal(signal.SIGINT), sys.getswitchinterval()
+        sys.setswitchinterval(TURN)
+        try:
+            follow(server, words, how)
+            tell(server, words, token)
+            server.run()
+        except KeyboardInterrupt:  # (how a server ends)
+            pass
+        finally:
+            sys.setswitchinterval(sys_turn)
+            signal.signal(signal.SIGINT, before)
+        print(f"misteluk: ended at version {server.board.stat.version}, of {server.board.stat.edges} edges", file=sys.stderr)
+    return 0
+
+
+def follow(server: Server, words: argparse.Namespace, how: Dict[str, Any]) -> None:
+    """Has the feed go in that is named."""
+    if words.file is not None:
+        pace = {"every": words.every, "keep": words.keep, "batch": words.batch, "skip_bad": words.skip_bad}
+        server.feeding.follow(server.store.follow(words.file, progress=False, **pace, **how))
+
+
+def tell(server: Server, words: argparse.Namespace, token: Optional[str]) -> None:
+    feed = {None: "the rows that a client posts", STANDARD_INPUT: "standard input"}.get(words.file, words.file)
+    whom = "those that have the token" if token else "this user alone" if server.address.path else "this machine alone"
+    print(f"misteluk: {server.url} serves {feed}, for {whom}", flush=True)

@@ -1,0 +1,284 @@
+"""The server's calls over HTTP, each by its route."""
+from __future__ import annotations
+
+import csv
+import io
+import json
+import pkgutil
+from typing import Any, Callable, Dict, Iterator, List, Mapping, Optional, Sequence, Tuple
+
+from starlette.applications import Starlette
+from starlette.exceptions import HTTPException
+from starlette.requests import ClientDisconnect, Request
+from starlette.responses import Response
+from starlette.routing import Route
+
+from . import wire
+from .board import Board, Full, Lease
+from .feeding import Feeding
+from .flow import Pool, Streamed, first_of, within
+from .limits import Limits
+from .openapi import described
+from .page import POLICY
+from .questions import HELD, QUESTIONS, Question
+from ..engine.protocol import Denied
+from ..errors import Busy, NoKind, NoMemory, NoVertex, PoolEmpty, Refused, SessionClosed, StoreError
+from ..values.units import whole_text
+
+QUICK_THREADS = 4
+# What batches are refused for that were right.
+NO_ROOM = ("PoolEmpty", "NamesFull", "KindsFull", "BatchLimit")
+
+
+class TooLarge(ValueError):
+    """A body is longer than the server takes."""
+
+
+class Api:
+    """The calls of a server over a board and a feed."""
+
+    def __init__(self, board: Board, feeding: Feeding, limits: Limits) -> None:
+        self.board, self.feeding, self.limits = board, feeding, limits
+        self.store = board.store
+        self.quick = Pool(QUICK_THREADS, limits, "quick")
+        self.slow = Pool(limits.questions, limits, "whole")
+        self.feed = Pool(1, limits, "rows")
+
+    def app(self) -> Starlette:
+        call = self._call
+        files = [Route(f"/{name}", _file(name or "live.html", media), methods=["GET"]) for name, media in
+                 (("", "text/html; charset=utf-8"), ("live.css", "text/css"), ("live.js", "text/javascript"))]
+        asked = [Route(f"/v1/{it.name}", call(self._asking(it)), methods=["GET"]) for it in QUESTIONS]
+        held = [Route("/v1/sessions/{session}/ask", call(self.ask), methods=["POST"]),
+                Route("/v1/sessions", call(self.hold), methods=["POST"]),
+                Route("/v1/sessions/{session}", call(self.keep), methods=["PUT"]),
+                Route("/v1/sessions/{session}", call(self.let_go), methods=["DELETE"])]
+        fed = [Route("/v1/rows", call(self.rows), methods=["POST"]), Route("/v1/feeder", call(self.claim), methods=["POST"]),
+               Route("/v1/feeder/{feeder}", call(self.leave), methods=["DELETE"]),
+               Route("/v1/feeder/{feeder}/batches/{number:int}", call(self.batch), methods=["POST"]),
+               Route("/v1/feeder/{feeder}/batches/{number:int}", call(self.landed), methods=["DELETE"])]
+        told = [Route("/v1/stat", call(self.stat), methods=["GET"]),
+                Route("/openapi.json", call(self.description), methods=["GET"])]
+        # (routes are looked through in order: those that are asked most come first)
+        return Starlette(routes=[*held, *asked, *told, *fed, *files], exception_handlers={HTTPException: _no_route})
+
+    def close(self) -> None:
+        for it in (self.quick, self.slow, self.feed):
+            it.close()
+
+    def _call(self, handle: Callable[[Request], Any]) -> Callable[[Request], Any]:
+        """A call whose faults are told as JSON."""
+        async def call(request: Request) -> Any:
+            try:
+                return await handle(request)
+            except (StoreError, Denied, ValueError, TypeError) as fault:
+                return told_fault(fault)
+            except ClientDisconnect:  # (nobody reads it)
+                return Response(status_code=400)
+        return call
+
+    # What is asked.
+
+    def _asking(self, question: Question) -> Callable[[Request], Any]:
+        parameters = {it.name: it for it in (*question.parameters, *HELD)}
+
+        async def handle(request: Request) -> Any:
+            given: Dict[str, Any] = {}
+            for name, text in request.query_params.multi_items():
+                if name not in parameters or name in given:
+                    raise ValueError(f"{question.name} takes each of these once: {', '.join(parameters)}")
+                given[name] = parameters[name].read(text)
+            for it in question.parameters:
+                if it.is_needed and not given.get(it.name):
+                    if it.least is None or it.name not in given:
+                        raise ValueError(f"{question.name} is asked with {it.name}: {it.about}")
+            return await self._answered(lambda: self._parts(question, given), question.media, question.is_quick)
+        return handle
+
+    def _parts(self, question: Question, given: Dict[str, Any]) -> Iterator[bytes]:
+        beside = given.get("beside")
+        with self.board.lent(given.get("session"), given.get("version")) as session:
+            if beside is None:
+                yield from question.answer(session, given)
+                return
+            with self.board.lent(version=beside) as other:
+                yield from question.answer(session, {**given, "beside_session": other})
+
+    async def _answered(self, parts: Callable[[], Iterator[bytes]], media: str, is_quick: bool) -> Any:
+        pool = self.quick if is_quick else self.slow
+        flow, first, is_more = await pool.run(lambda: first_of(parts), lambda it: it[0].close())
+        if not is_more:
+            return Response(first, media_type=media)
+        return Streamed(flow, first, media, self.slow, self.limits)
+
+    async def stat(self, request: Request) -> Response:
+        """What the store holds; no question waits for the feed by it."""
+        stat, units = self.board.stat, self.store.ledger.terms.units
+        told = {"version": stat.version, "vertices": stat.names, "edges": stat.edges,
+                "blocks": {"all": self.store.blocks, "free": stat.free, "retired": stat.retired, "used": stat.used},
+                "held": [it._asdict() for it in await self.quick.run(self.board.held)], "seats": self.store.seats,
+                "feed": self.feeding.told(), "limits": self.limits._asdict(),
+                "units": {"weight_scale": units.weight_scale, "times": units.times, "decimals": units.decimals,
+                          "rounding": units.rounding}}
+        return _json(told)
+
+    async def description(self, request: Request) -> Response:
+        return _json(described())
+
+    # Sessions.
+
+    async def hold(self, request: Request) -> Response:
+        version = HELD[1].read(request.query_params["version"]) if "version" in request.query_params else None
+        lease = await self.quick.run(lambda: self.board.lease(version), lambda it: self.board.let_go(it.name))
+        return _json(_lease(lease, self.limits), 201)
+
+    async def keep(self, request: Request) -> Response:
+        lease = await self.quick.run(lambda: self.board.keep(request.path_params["session"]))
+        return _json(_lease(lease, self.limits))
+
+    async def let_go(self, request: Request) -> Response:
+        await self.quick.run(lambda: self.board.let_go(request.path_params["session"]))
+        return Response(status_code=204)
+
+    async def ask(self, request: Request) -> Any:
+        """A question of a client in Python, in the engine's terms."""
+        asked = await self._object(request)
+        name, call = request.path_params["session"], asked.get("call")
+
+        def parts() -> Iterator[bytes]:
+            with self.board.lent(name) as session:
+                yield from wire.asked(session.held, str(call), asked, self.store.ledger.terms.names)
+        return await self._answered(parts, wire.COLUMNS, call in ("found", "out_of"))
+
+    # The feed.
+
+    async def rows(self, request: Request) -> Response:
+        """Rows of a client, in the user's terms."""
+        name = request.query_params.get("feeder")
+        body, kind = await self._body(request), request.headers.get("content-type", "").partition(";")[0].strip()
+        if kind not in ("text/csv", "application/json"):
+            raise ValueError("rows are text/csv or application/json, as their Content-Type says")
+        found = _rows_of_csv(body) if kind == "text/csv" else _rows_of_json(_loaded(body))
+        return _json((await self.feed.run(lambda: self.feeding.rows(found, name)))._asdict())
+
+    async def claim(self, request: Request) -> Response:
+        feeder = await self.feed.run(self.feeding.claim, lambda it: self.feeding.let_go(it.name))
+        return _json({"feeder": feeder.name, "idle": self.limits.idle}, 201)
+
+    async def leave(self, request: Request) -> Response:
+        await self.feed.run(lambda: self.feeding.let_go(request.path_params["feeder"]))
+        return Response(status_code=204)
+
+    async def batch(self, request: Request) -> Response:
+        """A batch of a client in Python, in the engine's terms."""
+        it, given = request.path_params, await self._object(request)
+        text, texts, collect = given.get("operations"), given.get("texts", {}), bool(given.get("collect", True))
+        if not isinstance(text, str) or not isinstance(texts, dict) or not all(isinstance(name, str) for name in texts.values()):
+            raise ValueError("a batch has operations, a text, and texts by their ids")
+        records: str = text
+        receipt = await self.feed.run(lambda: self.feeding.batch(it["feeder"], it["number"], records, texts, collect))
+        return _json(receipt._asdict())
+
+    async def landed(self, request: Request) -> Response:
+        it = request.path_params
+        receipt = await self.feed.run(lambda: self.feeding.landed(it["feeder"], it["number"]))
+        return _json({"receipt": None if receipt is None else receipt._asdict()})
+
+    # Bodies.
+
+    async def _body(self, request: Request) -> bytes:
+        """The body; no more of it is read than may be."""
+        found = bytearray()
+        async with within(self.limits.time, "the request's body doesn't come"):
+            async for part in request.stream():
+                found.extend(part)
+                if len(found) > self.limits.body:
+                    raise TooLarge(f"a body has at most {self.limits.body:,} bytes")
+        return bytes(found)
+
+    async def _object(self, request: Request) -> Mapping[str, Any]:
+        found = _loaded(await self._body(request))
+        if not isinstance(found, dict):
+            raise ValueError("the body is an object of JSON")
+        return found
+
+
+def _lease(lease: Lease, limits: Limits) -> Dict[str, Any]:
+    return {"session": lease.name, "version": lease.shared.version, "vertices": lease.shared.session.names, "idle": limits.idle}
+
+
+def _json(told: Dict[str, Any], status: int = 200, headers: Optional[Dict[str, str]] = None) -> Response:
+    return Response(json.dumps(told).encode("ascii") + b"\n", status, headers, wire.JSON)
+
+
+def _file(name: str, media: str) -> Callable[[Request], Any]:
+    """A file of the package, which is the page or a part of it."""
+    data = pkgutil.get_data(__package__ or "", name) or b""
+
+    async def handle(request: Request) -> Response:
+        return Response(data, headers={"content-security-policy": POLICY}, media_type=media)
+    return handle
+
+
+def _no_route(request: Request, fault: Exception) -> Response:
+    status = getattr(fault, "status_code", 404)
+    reason = "there is no such call: /openapi.json tells which there are" if status == 404 else "this call has another method"
+    return _json(wire.fault("NoCall", reason), status, getattr(fault, "headers", None))
+
+
+# Rows.
+
+def _loaded(body: bytes) -> Any:
+    try:
+        return json.loads(body)
+    except RecursionError:
+        raise ValueError("the body is no JSON that has an end") from None
+
+
+def _rows_of_csv(body: bytes) -> "List[List[str]]":
+    try:
+        return [row for row in csv.reader(io.StringIO(body.decode("utf-8"), newline=""), strict=True) if row]
+    except csv.Error as fault:
+        raise ValueError(f"this is no CSV: {fault}") from None
+
+
+def _rows_of_json(found: Any) -> "Sequence[Sequence[str]]":
+    rows = found.get("rows") if isinstance(found, dict) else None
+    if not isinstance(rows, list) or not all(isinstance(row, list) for row in rows):
+        raise ValueError('rows are {"rows": [["add", KIND, SOURCE, TARGET, AMOUNT, TIME], ..]}')
+    return [[_field(at, it) for at, it in enumerate(row)] for row in rows]
+
+
+def _field(at: int, value: Any) -> str:
+    """A field's text; numbers stand for weights and times alone."""
+    if isinstance(value, str) or type(value) in (int, float) and (at > 3 or at == 1):
+        return whole_text(value)
+    raise ValueError("a row has texts, and numbers as weight or time")
+
+
+# Faults.
+
+def told_fault(fault: Exception) -> Response:
+    """A fault as a client is told it."""
+    if isinstance(fault, Full):
+        return _json(wire.fault(fault.word, str(fault), fault.after), 503, {"retry-after": str(fault.after)})
+    if isinstance(fault, TooLarge):
+        return _json(wire.fault("TooLarge", str(fault)), 413, {"connection": "close"})
+    status, word = _status(fault)
+    more: Dict[str, Any] = {"denied": True} if isinstance(fault, Denied) else {}
+    if isinstance(fault, Denied) and fault.stat is not None:
+        more["stat"] = fault.stat._asdict()
+    return _json(wire.fault(word, fault.told if isinstance(fault, Refused) else str(fault), **more), status)
+
+
+def _status(fault: Exception) -> Tuple[int, str]:
+    word = getattr(fault, "word", "") or type(fault).__name__
+    if isinstance(fault, (NoVertex, NoKind)) or word in ("NoVertex", "NoKind"):
+        return 404, word
+    if isinstance(fault, SessionClosed):
+        return 410, word
+    if isinstance(fault, (Busy, PoolEmpty)) or word in NO_ROOM:
+        return 409, word
+    if isinstance(fault, NoMemory):
+        return 503, word
+    return 400, word if isinstance(fault, (StoreError, Denied)) else "BadRequest"

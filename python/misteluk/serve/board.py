@@ -1,0 +1,217 @@
+"""The versions that a server holds, and who holds them: the last one, and those that clients have."""
+from __future__ import annotations
+
+import math
+import secrets
+import threading
+import time
+from collections import deque
+from contextlib import contextmanager
+from typing import Any, Callable, Deque, Dict, Iterator, List, NamedTuple, Optional
+
+from .limits import Limits
+from ..errors import NoSeat, SessionClosed, StoreError
+from ..session import Session
+from ..store import Store
+from ..values.answers import Stat
+
+
+class Full(StoreError):
+    """There is no room for one more client, or for what it asks; `after` says in how many seconds it may ask again."""
+
+    def __init__(self, word: str, text: str, after: int) -> None:
+        self.word, self.after = word, after
+        super().__init__(text)
+
+
+class Shared:
+    """A version that is held, with the leases of those that hold it, and how many questions it is asked right now."""
+
+    def __init__(self, session: "Session[Any, Any]") -> None:
+        self.session, self.version = session, session.version
+        self.leases: "Dict[str, Lease]" = {}
+        self.asked = 0
+
+    @property
+    def is_needed(self) -> bool:
+        return bool(self.leases) or self.asked > 0
+
+
+class Lease:
+    """One client's hold of a version: when it last was heard of, and how many of its questions are being answered."""
+
+    def __init__(self, shared: Shared, heard: float) -> None:
+        self.name, self.shared, self.heard, self.asked = secrets.token_urlsafe(15), shared, heard, 0
+
+
+class Held(NamedTuple):
+    """A version that is held, as it is told: by how many clients, and whether it is the last one."""
+
+    version: int
+    vertices: int
+    clients: int
+    is_last: bool
+
+
+class Board:
+    """The versions of a store that are held. Whoever feeds the store calls `advance` behind each commit; so a question for the
+    last version never waits for the feed. At most as many versions are held as the store has seats."""
+
+    def __init__(self, store: "Store[Any, Any]", limits: Limits, clock: Callable[[], float] = time.monotonic) -> None:
+        self.store, self.limits, self._clock = store, limits, clock
+        self._lock = threading.Lock()
+        # Sessions that are to be closed, which waits for a batch that is being applied: never with the lock.
+        self._gone: "Deque[Session[Any, Any]]" = deque()
+        self._held: Dict[int, Shared] = {}
+        self._leases: Dict[str, Lease] = {}
+        self._last: Optional[Shared] = None
+        self.stat: Stat = store.stat()
+        self.advance()
+
+    def advance(self) -> None:
+        """Holds the last version in the place of the one before. Where all seats hold versions that clients have, there is none
+        that is last until one of them is let go."""
+        with self._locked():
+            self.stat = self.store.stat()
+            before, self._last = self._last, None
+            if before is not None and len(self._held) == self.store.seats:
+                self._drop(before)
+            self._hold_last()
+            if before is not None:
+                self._drop(before)
+
+    @contextmanager
+    def _locked(self) -> Iterator[None]:
+        """Has the board alone; behind that the sessions are closed that were let go, and the last version is held if there is
+        room now."""
+        with self._lock:
+            yield
+        if not self._gone:
+            return
+        self._close_gone()
+        if self._last is None:
+            with self._lock:
+                self._hold_last()
+
+    def _close_gone(self) -> None:
+        while self._gone:
+            try:
+                self._gone.popleft().close()
+            except IndexError:  # (another thread took it)
+                return
+
+    def _hold_last(self) -> None:
+        """Holds the last version, where there is a seat for it and it isn't held."""
+        known = self._last or self._held.get(self.stat.version)
+        if known is None:
+            self._close_gone()
+            try:
+                session = self.store.open()
+            except NoSeat:
+                return
+            known = self._held.setdefault(session.version, Shared(session))
+        self._last = known
+
+    def _drop(self, shared: Shared) -> None:
+        """Lets a version go that nobody needs."""
+        if not shared.is_needed and shared is not self._last and self._held.get(shared.version) is shared:
+            del self._held[shared.version]
+            self._gone.append(shared.session)
+
+    # What clients hold.
+
+    def lease(self, version: Optional[int] = None) -> Lease:
+        """A hold of the last version, or of this one, where it is held. Raises `Full` where there are too many."""
+        self.sweep()
+        with self._locked():
+            if len(self._leases) >= self.limits.clients:
+                raise Full("Full", f"there are {self.limits.clients} sessions, which is how many this server allows",
+                           self._first_end(self._leases.values()))
+            lease = Lease(self._find(version), self._clock())
+            self._leases[lease.name] = lease.shared.leases[lease.name] = lease
+            return lease
+
+    def _find(self, version: Optional[int]) -> Shared:
+        if version is not None:
+            if version not in self._held:
+                raise SessionClosed(f"version {version} isn't held")
+            return self._held[version]
+        if self._last is None:
+            ends = [self._last_end(it) for it in self._held.values()]
+            raise Full("NoSeat", f"all {self.store.seats} seats hold other versions that clients have", min(ends, default=1))
+        return self._last
+
+    def keep(self, name: str) -> Lease:
+        """Notes that this client was heard of. Raises `SessionClosed` where its version was let go."""
+        with self._lock:
+            return self._known(name)
+
+    def _known(self, name: str) -> Lease:
+        lease = self._leases.get(name)
+        if lease is None:
+            raise SessionClosed(f"this server holds no version for this session: a client lets it go, or is silent for "
+                                f"{self.limits.idle:g} s")
+        lease.heard = self._clock()
+        return lease
+
+    def let_go(self, name: str) -> None:
+        """Lets a client's version go; what is being answered of it is answered to its end."""
+        with self._locked():
+            self._end(self._known(name))
+
+    def _end(self, lease: Lease) -> None:
+        del self._leases[lease.name], lease.shared.leases[lease.name]
+        self._drop(lease.shared)
+
+    def sweep(self) -> int:
+        """Lets go what silent clients hold, and gives how many they were."""
+        with self._locked():
+            before = self._clock() - self.limits.idle
+            silent = [it for it in self._leases.values() if not it.asked and it.heard <= before]
+            for it in silent:
+                self._end(it)
+            return len(silent)
+
+    # What is asked.
+
+    @contextmanager
+    def lent(self, name: Optional[str] = None, version: Optional[int] = None) -> "Iterator[Session[Any, Any]]":
+        """The session of a client, or that of a version, or of the last one, for as long as a question takes."""
+        with self._locked():
+            lease = None if name is None else self._known(name)
+            shared = self._find(version) if lease is None else lease.shared
+            shared.asked += 1
+            if lease is not None:
+                lease.asked += 1
+        try:
+            yield shared.session
+        finally:
+            with self._locked():
+                shared.asked -= 1
+                if lease is not None:
+                    lease.asked, lease.heard = lease.asked - 1, self._clock()
+                self._drop(shared)
+
+    # What is told.
+
+    def held(self) -> List[Held]:
+        """The versions that are held, in order."""
+        with self._lock:
+            return [Held(it.version, it.session.names, len(it.leases), it is self._last)
+                    for it in sorted(self._held.values(), key=lambda it: it.version)]
+
+    def _first_end(self, leases: Any) -> int:
+        """In how many seconds the first of these leases ends, if its client stays silent."""
+        ends = [it.heard + self.limits.idle - self._clock() for it in leases]
+        return max(1, math.ceil(min(ends, default=1.0)))
+
+    def _last_end(self, shared: Shared) -> int:
+        """In how many seconds a version is let go, if all its clients stay silent."""
+        return max((self._first_end([it]) for it in shared.leases.values()), default=1)
+
+    def close(self) -> None:
+        """Lets all go."""
+        with self._lock:
+            self._gone.extend(it.session for it in self._held.values())
+            self._held, self._leases, self._last = {}, {}, None
+        self._close_gone()

@@ -1,0 +1,291 @@
+"""A store that a server has, as an engine: its sessions are those of a store in this process."""
+from __future__ import annotations
+
+import re
+from array import array
+from typing import Any, Callable, Dict, List, Mapping, Optional, Sequence, Tuple, Union
+
+from . import wire
+from .talk import Talk, part
+from ..engine.guard import Guard, alone
+from ..engine.protocol import Arrays, Denied, Ends, Marks, Operations, Receipt, Scope
+from ..errors import SessionClosed, StoreError
+from ..session import Session
+from ..store import Store
+from ..values.answers import Collected, Commit, Rebased, Renewed, Stat
+from ..values.names import NameTable
+from ..values.units import Units
+
+_AN_ID = re.compile(rb"~~[A-Za-z0-9_-]{20}")
+
+
+class ServedVersion:
+    """A version that a server holds for this client, and what it answers."""
+
+    def __init__(self, engine: "ServedEngine", told: Mapping[str, Any], slot: int) -> None:
+        self.slot, self.number, self.count = slot, int(told["version"]), int(told["vertices"])
+        self.name, self._engine = str(told["session"]), engine
+        self.is_held = True
+        self._lists: Dict[str, List[str]] = {}
+
+    @property
+    def is_open(self) -> bool:
+        return self.is_held and not self._engine.is_closed
+
+    def close(self) -> None:
+        self._engine.release(self)
+
+    def _ask(self, call: str, **given: Any) -> bytes:
+        self._engine.guard.check()
+        if not self.is_open:
+            raise SessionClosed(f"the session of version {self.number} is closed")
+        try:
+            return self._engine.talk.call("POST", f"/v1/sessions/{part(self.name)}/ask", {"call": call, **given}).body
+        except SessionClosed:
+            self.is_held = False
+            raise SessionClosed(f"the server let version {self.number} go: this session was silent for {self._engine.idle:g} s, "
+                                "or the server is another one by now. Open another session") from None
+
+    def _columns(self, call: str, scope: Scope, **given: Any) -> "List[array[int]]":
+        return wire.unpacked(self._ask(call, kind=scope.kind, since=scope.since, until=scope.until, **given))
+
+    def _list(self, call: str) -> List[str]:
+        if call not in self._lists:
+            self._lists[call] = wire.taken(wire.loaded(self._ask(call)), self._engine.names)
+        return self._lists[call]
+
+    def names(self) -> List[str]:
+        return self._list("names")
+
+    def kinds(self) -> List[str]:
+        return self._list("kinds")
+
+    def degrees(self, scope: Scope) -> "Tuple[array[int], array[int], array[int]]":
+        out, into, weights = self._columns("degrees", scope)
+        return out, into, weights
+
+    def labels(self, scope: Scope) -> "array[int]":
+        return self._columns("labels", scope)[0]
+
+    def cores(self, scope: Scope) -> "array[int]":
+        return self._columns("cores", scope)[0]
+
+    def levels(self, scope: Scope, source: str) -> "Tuple[Sequence[int], array[int]]":
+        reached, levels = self._columns("levels", scope, name=source)
+        return reached, levels
+
+    def found(self, ends: Sequence[Ends]) -> "List[Union[Marks, Denied, None]]":
+        told = wire.loaded(self._ask("found", ends=list(ends)))
+        return [Denied(it) if isinstance(it, str) else it if it is None else (it[0], it[1], it[2]) for it in told]
+
+    def edge(self, ends: Ends) -> Optional[Marks]:
+        found = self.found([ends])[0]
+        if isinstance(found, Denied):
+            raise found
+        return found
+
+    def edges(self, scope: Scope) -> Arrays:
+        return Arrays(*self._columns("edges", scope))
+
+    def out_of(self, scope: Scope, name: str) -> Arrays:
+        return Arrays(*self._columns("out_of", scope, name=name))
+
+    def into(self, scope: Scope, name: str) -> Arrays:
+        return Arrays(*self._columns("into", scope, name=name))
+
+
+class ServedFlight:
+    """A batch on its way to a server, by its number: the server applies it once, however often it is sent."""
+
+    def __init__(self, batch: Operations, collect: bool) -> None:
+        self.batch, self.collect, self.cut = batch, collect, []  # type: Operations, bool, List[None]
+        self.feeder, self.number = "", 0
+
+
+class ServedEngine:
+    """The store of a server. The first batch takes the seat of the one that feeds it; it is given back at the end."""
+
+    name = "served"
+    records_sent, records_left = 0, None
+
+    def __init__(self, talk: Talk) -> None:
+        self.talk, self.is_closed = talk, False
+        self.guard = self._guard = Guard()
+        try:
+            told = talk.call("GET", "/v1/stat").json()
+        except BaseException:
+            talk.close()
+            raise
+        try:
+            self.blocks, self.seats = int(told["blocks"]["all"]), int(told["seats"])
+            self.units, self.idle = Units(**told["units"]).checked(), float(told["limits"]["idle"])
+        except (KeyError, TypeError):
+            raise StoreError(f"{talk.url} is no server of a store") from None
+        # The texts of names that go as ids, which the store's terms share.
+        self.names = NameTable()
+        self._held: Dict[int, ServedVersion] = {}
+        self._feeder, self._number = "", 0
+
+    @property
+    def has_ended(self) -> bool:
+        return self.is_closed
+
+    @property
+    def is_elsewhere(self) -> bool:
+        return self.guard.is_elsewhere
+
+    @property
+    def open_count(self) -> int:
+        return len(self._held)
+
+    def told(self) -> str:
+        return f"the server {self.talk.url}"
+
+    # Batches.
+
+    def flight(self, batch: Operations, collect: bool) -> ServedFlight:
+        return ServedFlight(batch, collect)
+
+    @alone
+    def fly(self, flight: ServedFlight) -> Receipt:
+        if not self._feeder:
+            self._feeder = str(self.talk.call("POST", "/v1/feeder").json()["feeder"])
+        if flight.feeder != self._feeder:
+            self._number += 1
+            flight.feeder, flight.number = self._feeder, self._number
+        ids = {it.decode("ascii") for it in _AN_ID.findall(flight.batch.text)}
+        texts = {it: self.names.to_user(it) for it in ids if self.names.to_user(it) != it}
+        body = {"operations": flight.batch.text.decode("ascii"), "texts": texts, "collect": flight.collect}
+        return Receipt(Commit(**self._of_batch("POST", flight, body)))
+
+    def _of_batch(self, method: str, flight: ServedFlight, body: Optional[Mapping[str, Any]] = None) -> Dict[str, Any]:
+        path = f"/v1/feeder/{part(flight.feeder)}/batches/{flight.number}"
+        try:
+            return self.talk.call(method, path, body).json()
+        except SessionClosed as fault:
+            self._feeder = ""
+            raise SessionClosed(f"{fault}. What is pending stays so; the next commit takes the seat again") from None
+
+    @alone
+    def landed(self, flight: ServedFlight) -> Optional[Receipt]:
+        if not flight.feeder or flight.feeder != self._feeder:
+            return None
+        found = self._of_batch("DELETE", flight)["receipt"]
+        flight.feeder = ""
+        return None if found is None else Receipt(Commit(**found))
+
+    # Versions.
+
+    def stat(self) -> Stat:
+        self._must_be_open()
+        told = self.talk.call("GET", "/v1/stat").json()
+        blocks = told["blocks"]
+        return Stat(told["version"], told["vertices"], told["edges"], blocks["free"], blocks["retired"], blocks["used"])
+
+    def collect(self) -> Collected:
+        """Nothing: the server collects behind each batch."""
+        stat = self.stat()
+        return Collected(min((it.number for it in self._held.values()), default=stat.version), 0, stat.retired)
+
+    def _must_be_open(self) -> None:
+        self.guard.check()
+        if self.is_closed:
+            raise StoreError("the store is closed")
+
+    @alone
+    def hold(self, slot: Optional[int], version: Optional[int] = None) -> ServedVersion:
+        self._must_be_open()
+        if slot in self._held:
+            raise Denied("AlreadyOpen")
+        at = next(it for it in range(len(self._held) + 1) if it not in self._held) if slot is None else slot
+        path = "/v1/sessions" if version is None else f"/v1/sessions?version={version}"
+        self._held[at] = found = ServedVersion(self, self.talk.call("POST", path).json(), at)
+        return found
+
+    @alone
+    def release(self, version: ServedVersion) -> None:
+        self._release(version)
+
+    def _release(self, version: ServedVersion) -> None:
+        if self._held.get(version.slot) is version:
+            del self._held[version.slot]
+        if version.is_held and not self.is_closed:
+            version.is_held = False
+            self._left(f"/v1/sessions/{part(version.name)}")
+
+    def _left(self, path: str) -> None:
+        """Gives back what the server has for this client; one that doesn't answer lets it go by itself."""
+        try:
+            self.talk.ask("DELETE", path)
+        except StoreError:
+            pass
+
+    def rebase(self, version: Any) -> Rebased:
+        raise StoreError("a server's store is begun anew by the server alone")
+
+    def renew(self) -> Renewed:
+        raise StoreError("a server's store is begun anew by the server alone")
+
+    @alone
+    def close(self) -> None:
+        if self.is_closed:
+            return
+        for it in list(self._held.values()):
+            self._release(it)
+        if self._feeder:
+            self._left(f"/v1/feeder/{part(self._feeder)}")
+        self.is_closed = True
+        self.talk.close()
+
+    def kill(self) -> None:
+        self.close()
+
+
+class Served(Store[Any, Any]):
+    """A store that a server has (`misteluk serve`): sessions of its versions, and a feed for it.
+
+        with Served("http://127.0.0.1:7700") as store:
+            store.add("transfer", "ana", "bob", 5, time=1)
+            store.commit()
+
+    One client feeds a store at a time: the first commit takes the seat, and raises `Busy` where another one has it; `close` gives
+    it back. Its sessions are let go where they are silent for as long as the server says (`--idle`). `token` is the server's,
+    else that of the variable MISTELUK_TOKEN. `timeout`: for how many seconds the server may be silent.
+
+    Raises `NoServer` where none answers, and `NotAllowed` where it doesn't let this client in.
+    """
+
+    def __init__(self, url: str, *, token: Optional[str] = None, timeout: float = 60.0) -> None:
+        self._is_closed = True
+        engine = ServedEngine(Talk(url, token, timeout))
+        begin: Callable[..., None] = super().__init__
+        begin(engine=engine, weight_scale=engine.units.weight_scale, times=engine.units.times, decimals=engine.units.decimals,
+              rounding=engine.units.rounding)
+        self.ledger.terms.names = engine.names
+
+
+class Connected(Session[Any, Any]):
+    """A session whose connection ends with it."""
+
+    def close(self) -> None:
+        super().close()
+        self.store.discard()
+        self.store.close()
+
+
+def connect(url: str, *, version: Optional[int] = None, token: Optional[str] = None,
+            timeout: float = 60.0) -> "Session[Any, Any]":
+    """A session that holds the last version of a server's store, or this version, where somebody holds it. All that a session of
+    a store in this process answers it answers too, and `session.store` opens others.
+
+        with misteluk.connect("http://127.0.0.1:7700") as session:
+            print(session.version, session.levels("ana"))
+
+    `url` is `http://HOST:PORT` or `unix:PATH`. See `Served` for the rest."""
+    store = Served(url, token=token, timeout=timeout)
+    engine: Any = store.engine
+    try:
+        return Connected(store, engine.hold(None, version))
+    except BaseException:
+        store.close()
+        raise

@@ -1,0 +1,224 @@
+"""The one who feeds a server's store: a file that is followed, standard input, or a client that posts rows."""
+from __future__ import annotations
+
+import secrets
+import sys
+import threading
+import time
+from collections import deque
+from typing import Any, Callable, Deque, Dict, List, Mapping, Optional, Sequence, Tuple
+
+from .board import Board
+from .limits import Limits
+from ..engine.protocol import Denied, Operations
+from ..errors import Busy, SessionClosed, StoreError, refusal
+from ..feeds.feed import parts_of
+from ..feeds.following import Following
+from ..ledger import sum_of
+from ..values import records
+from ..values.answers import Commit
+from ..values.names import is_plain
+
+# What a client calls an operation, and the command of its record.
+COMMANDS = {"insert": "i", "add": "a", "remove": "r", "expire": "x"}
+# Over how many seconds the feed's rate is told.
+RATED = 10.0
+
+
+class Rate:
+    """How many rows came in of late."""
+
+    def __init__(self, clock: Callable[[], float]) -> None:
+        self._clock, self._begun = clock, clock()
+        self._rows: Deque[Tuple[float, int]] = deque()
+        self.total = 0
+
+    def add(self, rows: int) -> None:
+        self.total += rows
+        self._rows.append((self._clock(), rows))
+        while len(self._rows) > 2 and self._rows[0][0] < self._clock() - RATED:
+            self._rows.popleft()
+
+    def a_second(self) -> float:
+        """Rows a second, over the last ten seconds."""
+        now = self._clock()
+        rows = sum(rows for when, rows in list(self._rows) if when >= now - RATED)
+        return rows / min(max(now - self._begun, 1.0), RATED)
+
+
+class Feeder:
+    """A client's seat as the one that feeds: the number of its last batch, and what that did."""
+
+    def __init__(self, heard: float) -> None:
+        self.name, self.heard, self.number = secrets.token_urlsafe(15), heard, 0
+        self.receipt: Optional[Commit] = None
+
+
+class Feeding:
+    """Who feeds the store, one at a time; another one is told `Busy`."""
+
+    def __init__(self, board: Board, limits: Limits, clock: Callable[[], float] = time.monotonic) -> None:
+        self.board, self.store, self.limits, self._clock = board, board.store, limits, clock
+        self.rate = Rate(clock)
+        self.state, self.fault = "open", ""
+        self._lock = threading.RLock()
+        self._feeder: Optional[Feeder] = None
+        self._following: Optional[Following] = None
+        self._thread: Optional[threading.Thread] = None
+
+    # A feed that is followed.
+
+    def follow(self, following: Following) -> None:
+        """Has a feed go in by a thread of its own, until it ends or `close` ends it."""
+        self._following, self.state = following, "followed"
+        self._thread = threading.Thread(target=self._run, args=(following,), name="feed")
+        self._thread.start()
+
+    def _run(self, following: Following) -> None:
+        before = 0
+        try:
+            for step in following:
+                self.rate.add(step.rows - before)
+                before = step.rows
+                self.board.advance()
+            self.state = "ended"
+        except (StoreError, ValueError, OSError) as fault:
+            # (a client is told the word alone: the rest names files of this machine)
+            self.state, self.fault = "failed", getattr(fault, "word", "") or type(fault).__name__
+            self.store.discard()
+            self.board.advance()
+            print(f"misteluk: the feed ended: {fault}", file=sys.stderr)
+        finally:
+            following.close()
+
+    # A client that feeds.
+
+    @property
+    def _is_followed(self) -> bool:
+        return self.state == "followed"
+
+    def claim(self) -> Feeder:
+        """The seat. Raises `Busy` where it is taken, but by a client that was silent too long."""
+        with self._lock:
+            if self._is_followed:
+                raise Busy("this server follows a feed of its own")
+            if self._feeder is not None and self._feeder.heard > self._clock() - self.limits.idle:
+                raise Busy("another client feeds this store")
+            self._feeder = Feeder(self._clock())
+            return self._feeder
+
+    def _known(self, name: str) -> Feeder:
+        if self._feeder is None or self._feeder.name != name:
+            raise SessionClosed(f"this client doesn't feed the store any more: it gave its seat back, or was silent for "
+                                f"{self.limits.idle:g} s")
+        self._feeder.heard = self._clock()
+        return self._feeder
+
+    def let_go(self, name: str) -> None:
+        with self._lock:
+            self._known(name)
+            self._feeder = None
+
+    def batch(self, name: str, number: int, text: str, texts: Mapping[str, str], collect: bool) -> Commit:
+        """Applies a batch of records in the engine's terms, once for each number. `texts` has those of ids."""
+        with self._lock:
+            feeder = self._known(name)
+            if feeder.number != number:
+                self._take_texts(texts)
+                operations = checked_operations(text)
+                feeder.receipt, feeder.number = self._apply(operations, collect), number
+            if feeder.receipt is None:
+                raise SessionClosed(f"batch {number} was given up")
+            return feeder.receipt
+
+    def landed(self, name: str, number: int) -> Optional[Commit]:
+        """What the batch of this number did; `None` where it didn't come, and then it can't any more."""
+        with self._lock:
+            feeder = self._known(name)
+            if feeder.number != number:
+                feeder.receipt, feeder.number = None, number
+            return feeder.receipt
+
+    def _take_texts(self, texts: Mapping[str, str]) -> None:
+        """Takes the texts of ids, which are made of them: no client can tell another text for one."""
+        names = self.store.ledger.terms.names
+        for name, text in texts.items():
+            if is_plain(text) or names.to_program(text, keep=False) != name:
+                raise refusal("BadName", f"{name} is no id of {text!r}")
+        for text in texts.values():
+            names.to_program(text)
+
+    def _apply(self, operations: Operations, collect: bool) -> Commit:
+        engine = self.store.engine
+        receipt = engine.fly(engine.flight(operations, collect)).commit
+        self.rate.add(operations.size)
+        self.board.advance()
+        return receipt
+
+    # Rows in the user's terms.
+
+    def rows(self, rows: Sequence[Sequence[str]], name: Optional[str] = None) -> Commit:
+        """Applies rows, each an operation's word and fields, in batches; all of them are checked before. Raises `Busy` where
+        another feeds the store."""
+        with self._lock:
+            if name is None:
+                self.let_go(self.claim().name)
+            else:
+                self._known(name)
+            if not rows:
+                raise ValueError("there are no rows")
+            done: List[Commit] = []
+            for part in parts_of(self._records(rows), records.MOST_OPERATIONS):
+                try:
+                    done.append(self._apply(Operations("".join(part).encode("ascii"), len(part)), True))
+                except Denied as fault:
+                    first = len(done) * records.MOST_OPERATIONS + 1
+                    raise refusal(fault.word, f"the rows before row {first} are in, and none behind it") from None
+            return sum_of(done)
+
+    def _records(self, rows: Sequence[Sequence[str]]) -> List[str]:
+        """The records of rows. Raises a `Refused` for the first row that is none; no name is kept then."""
+        terms, ledger = self.store.ledger.terms, self.store.ledger
+        asked = [(COMMANDS.get(row[0] if row else "", ""), *row[1:]) for row in rows]
+        for at, fields in enumerate(asked, 1):
+            if not fields[0]:
+                raise refusal("BadCommand", f"row {at}: an operation is {', '.join(COMMANDS)}", advice="")
+            faults = terms.faults_of(fields)
+            if faults:
+                told = terms.refusal(faults[0])
+                raise refusal(faults[0].word, f"row {at}: {told.fault or faults[0]}")
+        found = [records.record(terms.turned(fields)[0]) for fields in asked]
+        ledger.kinds.update(dict.fromkeys(fields[1] for fields in asked if fields[0] != "x"))
+        return found
+
+    # What is told, and the end.
+
+    def told(self) -> Dict[str, Any]:
+        """Who feeds the store, and how fast."""
+        state = self.state
+        if self._feeder is not None and self._feeder.heard > self._clock() - self.limits.idle and not self._is_followed:
+            state = "a client feeds"
+        return {"state": state, "rows": self.rate.total, "rows_a_second": round(self.rate.a_second(), 1),
+                **({"error": self.fault} if self.fault else {})}
+
+    def close(self) -> None:
+        """Ends the feed that is followed: what was read goes in."""
+        if self._following is not None and self._thread is not None:
+            self._following.stop()
+            self._thread.join()
+
+
+def checked_operations(text: str) -> Operations:
+    """Records of operations that a client sent. Raises a `Refused` where one breaks a rule."""
+    *lines, rest = text.split("\n")
+    if len(lines) > records.MOST_OPERATIONS:
+        raise refusal("BatchFull")
+    if rest or not records.are_plain_operations(text):
+        for at, line in enumerate([*lines, *filter(None, [rest])], 1):
+            fields = records.split_record(line)
+            faults = records.faults_of(fields)
+            if faults:
+                raise refusal(faults[0].word, f"row {at}: {faults[0]}", advice="")
+            if fields[0] not in records.OPERATIONS or records.record(fields) != f"{line}\n" or rest:
+                raise refusal("BadCommand", f"row {at} is no operation", advice="")
+    return Operations(text.encode("ascii"), len(lines))

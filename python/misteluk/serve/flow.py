@@ -1,0 +1,140 @@
+"""Answers on their way: made in worker threads, part by part, and no faster than their reader takes them."""
+from __future__ import annotations
+
+import asyncio
+import threading
+from concurrent.futures import Future, ThreadPoolExecutor
+from contextlib import asynccontextmanager
+from typing import Any, AsyncIterator, Awaitable, Callable, Dict, Iterator, List, MutableMapping, Optional, Tuple, TypeVar
+
+from .board import Full
+from .limits import BYTES_AT_ONCE, Limits
+
+R = TypeVar("R")
+Message = MutableMapping[str, Any]
+Send = Callable[[Message], Awaitable[None]]
+Receive = Callable[[], Awaitable[Message]]
+# How many questions may wait for each that is answered.
+WAITING = 100
+
+
+@asynccontextmanager
+async def within(seconds: float, reason: str) -> AsyncIterator[None]:
+    """What is awaited here ends within so many seconds, or by `Full`. (`asyncio.wait_for` makes a task of it each time.)"""
+    task, is_late = asyncio.current_task(), False
+
+    def end() -> None:
+        nonlocal is_late
+        is_late = True
+        if task is not None:
+            task.cancel()
+    timer = asyncio.get_running_loop().call_later(seconds, end)
+    try:
+        yield
+    except asyncio.CancelledError:
+        if is_late:
+            raise Full("TooLong", reason, 1) from None
+        raise
+    finally:
+        timer.cancel()
+
+
+class Pool:
+    """Threads that answer questions; those that wait are answered in turn."""
+
+    def __init__(self, threads: int, limits: Limits, name: str) -> None:
+        self._threads, self._limits = threads, limits
+        self._pool = ThreadPoolExecutor(threads, thread_name_prefix=name)
+        self._waiting = 0
+
+    async def run(self, call: Callable[[], R], undo: Optional[Callable[[Any], object]] = None) -> R:
+        """What a call gives, made by one of the threads. Raises `Full` where too many wait, and where it takes too long; what it
+        gives too late is undone."""
+        if self._waiting >= WAITING * self._threads:
+            raise Full("TooMany", "too many questions are waiting for an answer", 1)
+        self._waiting += 1
+        made: "Future[R]" = self._pool.submit(call)
+        try:
+            async with within(self._limits.time, f"the answer takes longer than {self._limits.time:g} s"):
+                return await asyncio.shield(asyncio.wrap_future(made))
+        except (Full, asyncio.CancelledError):
+            made.add_done_callback(lambda it: undo(it.result()) if undo and not it.cancelled() and not it.exception() else None)
+            raise
+        finally:
+            self._waiting -= 1
+
+    def close(self) -> None:
+        self._pool.shutdown(wait=False)
+
+
+class Flow:
+    """An answer that is made part by part, by one thread at a time."""
+
+    def __init__(self, parts: Iterator[bytes]) -> None:
+        self._parts, self._lock = parts, threading.Lock()
+
+    def more(self) -> Tuple[bytes, bool]:
+        """The next bytes, and whether there are more."""
+        with self._lock:
+            found: List[bytes] = []
+            size = 0
+            for it in self._parts:
+                found.append(it)
+                size += len(it)
+                if size >= BYTES_AT_ONCE:
+                    return b"".join(found), True
+            return b"".join(found), False
+
+    def close(self) -> None:
+        """Lets go what the answer was made of."""
+        with self._lock:
+            close = getattr(self._parts, "close", None)
+            if close is not None:
+                close()
+
+
+class Streamed:
+    """A response that is written as its reader takes it. Nothing is made for one that went; and one that takes nothing for too
+    long is left, so that it doesn't keep the version that it asked."""
+
+    def __init__(self, flow: Flow, first: bytes, media: str, pool: Pool, limits: Limits) -> None:
+        self._flow, self._first, self._pool, self._limits = flow, first, pool, limits
+        self._headers = [(b"content-type", media.encode("ascii"))]
+
+    async def __call__(self, scope: Any, receive: Receive, send: Send) -> None:
+        gone = asyncio.ensure_future(self._gone(receive))
+        try:
+            await send({"type": "http.response.start", "status": 200, "headers": self._headers})
+            part, is_more = self._first, True
+            while not gone.done():
+                async with within(self._limits.idle, "the answer isn't read"):
+                    await send({"type": "http.response.body", "body": part, "more_body": is_more})
+                if not is_more:
+                    break
+                part, is_more = await self._pool.run(self._flow.more)
+        finally:
+            gone.cancel()
+            await asyncio.get_running_loop().run_in_executor(None, self._flow.close)
+
+    @staticmethod
+    async def _gone(receive: Receive) -> None:
+        """Ends when the reader goes."""
+        while (await receive())["type"] != "http.disconnect":
+            pass
+
+
+def first_of(parts: Callable[[], Iterator[bytes]]) -> "Tuple[Flow, bytes, bool]":
+    """An answer with its first bytes, and whether there are more. What goes wrong before these is raised."""
+    flow = Flow(parts())
+    try:
+        first, is_more = flow.more()
+    except BaseException:
+        flow.close()
+        raise
+    return flow, first, is_more
+
+
+def header(scope: Any, name: bytes) -> str:
+    """A header's text, or none."""
+    found: Dict[bytes, bytes] = dict(scope["headers"])
+    return found.get(name, b"").decode("latin-1")

@@ -1,0 +1,90 @@
+"""Who gets in: by a token, or from this machine alone; and what each response says to a browser."""
+from __future__ import annotations
+
+import hmac
+import json
+import sys
+import traceback
+from typing import Any, Awaitable, Callable, Dict, Optional
+from urllib.parse import urlsplit
+
+from . import wire
+from .flow import Message, Receive, Send, header
+
+App = Callable[[Any, Receive, Send], Awaitable[None]]
+# What has no data, so that a browser can ask for the token by it.
+OPEN = ("/", "/live.js", "/live.css", "/openapi.json")
+LOOPBACK = frozenset(("localhost", "127.0.0.1", "::1"))
+HEADERS = [(b"x-content-type-options", b"nosniff"), (b"cache-control", b"no-store"), (b"referrer-policy", b"no-referrer"),
+           (b"cross-origin-resource-policy", b"same-origin")]
+
+
+class Gate:
+    """Lets requests in to the app that may ask. Without a token a request must be for this machine by its `Host`, so that no
+    name of another one leads here, unless it comes by a Unix socket (`is_local`). None is let in from a page of another
+    origin."""
+
+    def __init__(self, app: App, token: Optional[str], is_local: bool) -> None:
+        self._app, self._token, self._is_local = app, token, is_local
+
+    async def __call__(self, scope: Any, receive: Receive, send: Send) -> None:
+        if scope["type"] == "websocket":
+            await send({"type": "websocket.close", "code": 1003})
+            return
+        if scope["type"] != "http":
+            await self._app(scope, receive, send)
+            return
+        has_begun = False
+
+        async def told(message: Message) -> None:
+            nonlocal has_begun
+            if message["type"] == "http.response.start":
+                has_begun = True
+                message = {**message, "headers": [*message.get("headers", []), *HEADERS]}
+            await send(message)
+        refused = self._refused(scope)
+        if refused is not None:
+            await _tell(told, *refused)
+            return
+        try:
+            await self._app(scope, receive, told)
+        except Exception:  # (a client is told nothing of it)
+            traceback.print_exc(file=sys.stderr)
+            if has_begun:
+                raise
+            await _tell(told, 500, wire.fault("Fault", "the server has a fault, and its log tells which"))
+
+    def _refused(self, scope: Any) -> "Optional[tuple[int, Dict[str, Any]]]":
+        """The status and what is told where a request isn't let in."""
+        host, origin = header(scope, b"host"), header(scope, b"origin")
+        is_elsewhere = header(scope, b"sec-fetch-site") in ("cross-site", "same-site") and scope["path"] not in OPEN
+        if is_elsewhere or origin and urlsplit(origin).netloc != host:
+            return 403, wire.fault("NotAllowed", "a page of another origin can't ask this server")
+        if self._token is None:
+            if not self._is_local and _name_of(host) not in LOOPBACK:
+                return 403, wire.fault("NotAllowed", "this server is for its own machine, as localhost")
+            return None
+        if scope["path"] in OPEN:
+            return None
+        way, _, given = header(scope, b"authorization").partition(" ")
+        is_right = hmac.compare_digest(given.strip().encode("utf-8"), self._token.encode("utf-8"))
+        if way.casefold() == "bearer" and is_right:
+            return None
+        return 401, wire.fault("NotAllowed", "the header `Authorization: Bearer TOKEN` has to have this server's token")
+
+
+def _name_of(host: str) -> str:
+    """The name of a `Host`, without its port."""
+    try:
+        return urlsplit(f"//{host}").hostname or ""
+    except ValueError:
+        return ""
+
+
+async def _tell(send: Send, status: int, told: Dict[str, Any]) -> None:
+    body = json.dumps(told).encode("ascii") + b"\n"
+    headers = [(b"content-type", b"application/json"), (b"content-length", str(len(body)).encode("ascii"))]
+    if status == 401:
+        headers.append((b"www-authenticate", b"Bearer"))
+    await send({"type": "http.response.start", "status": status, "headers": headers})
+    await send({"type": "http.response.body", "body": body})

@@ -1,0 +1,33 @@
+"""What a server allows its clients."""
+from __future__ import annotations
+
+from typing import NamedTuple
+
+from ..values.limits import within
+
+# How many rows an answer is written by at once: short steps leave other questions their turn.
+ROWS_AT_ONCE = 2_048
+# How many bytes of an answer's columns are written at once.
+BYTES_AT_ONCE = 1 << 18
+
+
+class Limits(NamedTuple):
+    """`idle`: after how many seconds of silence a client's version, or its seat as the feeder, is let go. `clients`: how many
+    sessions there may be. `body`: how many bytes a request's body may have. `time`: how many seconds a question may take.
+    `questions`: how many questions that go over the whole graph are answered at once, and a hundred times as many may wait."""
+
+    idle: float = 60.0
+    clients: int = 1_000
+    body: int = 8 << 20
+    time: float = 60.0
+    questions: int = 4
+
+    def checked(self) -> "Limits":
+        """Itself; raises `ValueError` where one of them is out of range."""
+        within("clients", self.clients, 1, 100_000)
+        within("body", self.body, 1_024, 1 << 30)
+        within("questions", self.questions, 1, 64)
+        for name in ("idle", "time"):
+            if not 0 < getattr(self, name) <= 1e6:
+                raise ValueError(f"{name} is a number of seconds above 0, and not {getattr(self, name)}")
+        return self

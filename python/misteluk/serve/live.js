@@ -1,0 +1,143 @@
+"use strict";
+(() => {
+    const the = (name) => document.getElementById(name);
+    const number = (it) => it.toLocaleString("en");
+    // The version that this page holds, and the last one that it was told of.
+    let held = null, last = 0, wait = null, limit = 60;
+
+    const token = () => sessionStorage.getItem("token");
+    const ask = async (path, method = "GET") => {
+        const headers = token() ? { Authorization: `Bearer ${token()}` } : {};
+        const answer = await fetch(path, { method, headers, cache: "no-store" });
+        if (answer.status === 401) the("entry").hidden = false;
+        if (!answer.ok) {
+            const told = await answer.json().catch(() => ({ reason: `status ${answer.status}` }));
+            throw new Error(told.retry_after ? `${told.reason}; again in ${told.retry_after} s` : told.reason);
+        }
+        return answer;
+    };
+    const tell = (fault) => {
+        the("fault").hidden = !fault;
+        the("fault").textContent = fault ? fault.message : "";
+    };
+    const trying = (act) => async (event) => {
+        event?.preventDefault();
+        try {
+            await act(event);
+            tell(null);
+        } catch (fault) {
+            tell(fault);
+        }
+    };
+
+    // What the store holds.
+    const element = (name, text) => {
+        const made = document.createElement(name);
+        made.textContent = text;
+        return made;
+    };
+    const row = (it) => {
+        const made = document.createElement("tr"), mine = held !== null && held.version === it.version;
+        const by = `${it.clients} ${it.clients === 1 ? "client" : "clients"}${mine ? ", this page one" : ""}`;
+        made.append(element("td", it.is_last ? `${number(it.version)}, the last` : number(it.version)));
+        made.append(element("td", number(it.vertices)), element("td", by));
+        const act = element("td", "");
+        if (mine) {
+            const button = element("button", "Let go");
+            button.type = "button";
+            button.addEventListener("click", trying(letGo));
+            act.append(button);
+        }
+        made.append(act);
+        return made;
+    };
+    const choices = (versions) => {
+        const select = the("beside"), chosen = select.value;
+        const options = versions.filter((it) => !it.is_last || it.version === held?.version).map((it) => {
+            const option = element("option", `version ${number(it.version)}`);
+            option.value = it.version;
+            return option;
+        });
+        const none = element("option", "no other version");
+        none.value = "";
+        select.replaceChildren(none, ...options);
+        select.value = options.some((it) => it.value === chosen) ? chosen : "";
+    };
+    const states = {
+        open: "No one feeds it.", followed: "Its feed is followed.", ended: "Its feed came to its end.",
+        failed: "Its feed was ended by a fault", "a client feeds": "A client feeds it.",
+    };
+    const look = trying(async () => {
+        const told = await (await ask("v1/stat")).json();
+        the("entry").hidden = true;
+        the("edges").textContent = number(told.edges);
+        the("vertices").textContent = number(told.vertices);
+        the("version").textContent = number(told.version);
+        the("rate").textContent = number(Math.round(told.feed.rows_a_second));
+        const fault = told.feed.error ? `: ${told.feed.error}.` : "";
+        the("feed").textContent = `${states[told.feed.state] ?? ""}${fault} ${number(told.feed.rows)} rows came in.`;
+        [limit, last] = [told.limits.idle, told.version];
+        if (held !== null && !told.held.some((it) => it.version === held.version)) held = null;
+        the("held").tBodies[0].replaceChildren(...told.held.map(row));
+        choices(told.held);
+        the("hold").disabled = held !== null;
+    });
+
+    // A version that this page holds, so that later ones can be seen beside it.
+    const hold = async () => {
+        held = await (await ask("v1/sessions", "POST")).json();
+        await look();
+        the("beside").value = held.version;
+    };
+    const letGo = async () => {
+        const gone = held;
+        held = null;
+        await ask(`v1/sessions/${gone.session}`, "DELETE");
+        await look();
+    };
+    const keep = async () => {
+        if (held === null) return;
+        await ask(`v1/sessions/${held.session}`, "PUT").catch(() => { held = null; });
+    };
+
+    // A vertex, and its neighborhood.
+    const find = trying(async () => {
+        const text = the("vertex").value.trim();
+        const names = text === "" ? [] : (await (await ask(`v1/names?top=12&like=${encodeURIComponent(text)}`)).json()).columns.name;
+        the("names").replaceChildren(...names.map((name) => {
+            const item = document.createElement("li"), button = element("button", name);
+            button.type = "button";
+            button.addEventListener("click", () => { the("vertex").value = name; the("look").requestSubmit(); });
+            item.append(button);
+            return item;
+        }));
+    });
+    const show = trying(async () => {
+        const given = new URLSearchParams({ vertex: the("vertex").value.trim(), hops: the("hops").value });
+        const beside = the("beside").value;
+        if (beside !== "" && Number(beside) !== last) given.set("beside", beside);
+        const view = the("view");
+        view.hidden = true;
+        view.srcdoc = await (await ask(`v1/view?${given}`)).text();
+        view.hidden = false;
+        the("names").replaceChildren();
+    });
+
+    the("entry").addEventListener("submit", trying(async () => {
+        sessionStorage.setItem("token", the("token").value);
+        the("token").value = "";
+        await look();
+    }));
+    the("hold").addEventListener("click", trying(hold));
+    the("look").addEventListener("submit", show);
+    the("vertex").addEventListener("input", () => { clearTimeout(wait); wait = setTimeout(find, 150); });
+    // (the frame, which can do nothing else here, tells how high it is)
+    addEventListener("message", (event) => {
+        const height = event.source === the("view").contentWindow ? Number(event.data?.height) : 0;
+        if (height > 0 && height < 100000) the("view").style.height = `${Math.ceil(height) + 4}px`;
+    });
+    setInterval(look, 1000);
+    const kept = () => setTimeout(async () => { await keep(); kept(); }, Math.min(limit / 3, 20) * 1000);
+    kept();
+    look();
+})();

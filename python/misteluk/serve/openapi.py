@@ -1,0 +1,76 @@
+"""The description of a server's calls, as OpenAPI has it: made of the questions themselves."""
+from __future__ import annotations
+
+from typing import Any, Dict, Optional
+
+from .questions import HELD, QUESTIONS, Parameter, Question
+from ..version import VERSION
+
+# What each fault is told for, by its status.
+FAULTS = {400: "it isn't asked so", 401: "the token is wrong or lacks", 404: "the version has no such vertex or kind",
+          410: "the session's version was let go", 503: "no seat, or too many ask; `Retry-After` has seconds"}
+# Calls beside the questions: what each does, and what its body is.
+CALLS: Dict[str, Dict[str, Any]] = {
+    "/v1/stat": {"get": "what the store holds, who holds which version, and how fast it is fed"},
+    "/v1/sessions": {"post": "holds the last version, or `version`, until the session is let go or silent too long"},
+    "/v1/sessions/{session}": {"put": "says that the session is in use", "delete": "lets its version go"},
+    "/v1/sessions/{session}/ask": {"post": "a question of the client in Python, whose answer is columns of bytes"},
+    "/v1/rows": {"post": "applies rows: text/csv or JSON, each an operation (insert, add, remove, expire) and its fields"},
+    "/v1/feeder": {"post": "takes the seat of the one that feeds the store; 409 where another has it"},
+    "/v1/feeder/{feeder}": {"delete": "gives that seat back"},
+    "/v1/feeder/{feeder}/batches/{number}": {"post": "a batch of the client in Python, applied once for each number",
+                                             "delete": "what that batch did; it can't come any more"},
+}
+OF_ROWS = {"text/csv": {"schema": {"type": "string"}, "example": "add,transfer,ana,bob,5,1\n"},
+           "application/json": {"schema": {"type": "object"}, "example": {"rows": [["add", "transfer", "ana", "bob", 5, 1]]}}}
+
+
+def _parameter(it: Parameter, place: str = "query") -> Dict[str, Any]:
+    schema: Dict[str, Any] = {"type": "string" if it.least is None else "integer"}
+    for name, value in (("minimum", it.least), ("maximum", it.most), ("enum", list(it.choices) or None)):
+        if value is not None:
+            schema[name] = value
+    return {"name": it.name, "in": place, "required": it.is_needed, "description": it.about, "schema": schema}
+
+
+def _faults() -> Dict[str, Any]:
+    told = {"type": "object", "required": ["error", "reason"],
+            "properties": {"error": {"type": "string"}, "reason": {"type": "string"}, "retry_after": {"type": "integer"}}}
+    content = {"application/json": {"schema": told}}
+    return {str(status): {"description": text, "content": content} for status, text in FAULTS.items()}
+
+
+def _question(it: Question) -> Dict[str, Any]:
+    media, *_ = it.media.partition(";")
+    schema = {"type": "object" if media == "application/json" else "string"}
+    answer = {"description": it.about, "content": {media: {"schema": schema}}}
+    return {"get": {"summary": it.about, "operationId": it.name, "parameters": list(map(_parameter, (*it.parameters, *HELD))),
+                    "responses": {"200": answer, **_faults()}}}
+
+
+def _call(path: str, method: str, about: str) -> Dict[str, Any]:
+    named = [part[1:-1] for part in path.split("/") if part.startswith("{")]
+    told: Dict[str, Any] = {"summary": about, "parameters": [_parameter(Parameter(it, it, True), "path") for it in named],
+                            "responses": {"2XX": {"description": about}, **_faults()}}
+    body: Optional[Dict[str, Any]] = OF_ROWS if path == "/v1/rows" else None
+    if path.endswith("/ask") or "batches" in path and method == "post":
+        body = {"application/json": {"schema": {"type": "object"}}}
+    if body is not None:
+        told["requestBody"] = {"required": True, "content": body}
+    if path == "/v1/sessions":
+        told["parameters"].append(_parameter(HELD[1]))
+    if path == "/v1/rows":
+        told["parameters"].append(_parameter(Parameter("feeder", "the seat of the one that feeds, where it was taken")))
+    return told
+
+
+def described() -> Dict[str, Any]:
+    """The description of each call."""
+    paths: Dict[str, Any] = {f"/v1/{it.name}": _question(it) for it in QUESTIONS}
+    for path, methods in CALLS.items():
+        paths[path] = {method: _call(path, method, about) for method, about in methods.items()}
+    return {"openapi": "3.0.3",
+            "info": {"title": "Misteluk", "version": VERSION,
+                     "description": "One live graph, one feed, many analysts. Each answer names its version."},
+            "components": {"securitySchemes": {"token": {"type": "http", "scheme": "bearer"}}},
+            "security": [{"token": []}, {}], "paths": paths}

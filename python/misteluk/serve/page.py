@@ -1,0 +1,17 @@
+"""What a browser may do with the server's page: load its own files, and show a neighborhood's page in a frame."""
+from __future__ import annotations
+
+import base64
+import hashlib
+
+from ..page.page import script
+
+
+def _sum(text: str) -> str:
+    return base64.b64encode(hashlib.sha256(text.encode("utf-8")).digest()).decode("ascii")
+
+
+# (a frame that is given as a text has the policy of the page that gives it: the one script that such a page has is told by its
+# sum, so that no other one runs)
+POLICY = (f"default-src 'none'; script-src 'self' 'sha256-{_sum(script())}'; style-src 'self' 'unsafe-inline'; "
+          "connect-src 'self'; base-uri 'none'; form-action 'none'; frame-ancestors 'none'")

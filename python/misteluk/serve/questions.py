@@ -1,0 +1,200 @@
+"""Questions in the user's terms, as they are asked by a URL, and their answers as JSON, written part by part."""
+from __future__ import annotations
+
+import json
+from typing import Any, Callable, Dict, Iterator, List, Mapping, NamedTuple, Optional, Sequence, Tuple
+
+from .limits import ROWS_AT_ONCE
+from ..command.questions import for_json
+from ..page.view import MOST_DRAWN, MOST_HOPS, USUAL_DRAWN, view
+from ..session import Session
+from ..values.answers import BY_COLUMN, Answer, Edge, Values
+from ..values.edges import Edges
+
+Given = Mapping[str, Any]
+# The rows of a column from one place to another.
+Part = Callable[[int, int], Sequence[Any]]
+
+
+class Parameter(NamedTuple):
+    """What a question is asked with: a text, or a number from the least to the most."""
+
+    name: str
+    about: str
+    is_needed: bool = False
+    least: Optional[int] = None
+    most: Optional[int] = None
+    choices: Tuple[str, ...] = ()
+
+    def read(self, text: str) -> Any:
+        """The value; raises `ValueError` where the text is none."""
+        if self.choices and text not in self.choices:
+            raise ValueError(f"{self.name} is one of {', '.join(self.choices)}")
+        if self.least is None:
+            return text
+        if not text.isascii() or not text.isdigit() or len(text) > 19 or not self.least <= int(text) <= (self.most or int(text)):
+            most = "" if self.most is None else f" to {self.most:,}"
+            raise ValueError(f"{self.name} is a whole number from {self.least}{most}")
+        return int(text)
+
+
+class Question(NamedTuple):
+    """A question: its name in the URL, what it tells, what it is asked with, and what answers it. One that is `quick` looks at a
+    part of the graph alone."""
+
+    name: str
+    about: str
+    parameters: Tuple[Parameter, ...]
+    answer: Callable[["Session[Any, Any]", Given], Iterator[bytes]]
+    is_quick: bool = False
+    media: str = "application/json"
+
+
+# What is written.
+
+def whole(session: "Session[Any, Any]", told: Dict[str, Any]) -> Iterator[bytes]:
+    """A short answer."""
+    yield json.dumps({"version": session.version, **told}, default=for_json).encode("ascii") + b"\n"
+
+
+def columns(head: Dict[str, Any], count: int, parts: Dict[str, Part]) -> Iterator[bytes]:
+    """Columns of one length, as lists by name."""
+    yield json.dumps({**head, "rows": count}).encode("ascii")[:-1] + b', "columns": {'
+    for before, (name, part) in zip(["", *[", "] * len(parts)], parts.items()):
+        yield f'{before}"{name}": ['.encode("ascii")
+        for at in range(0, count, ROWS_AT_ONCE):
+            rows = json.dumps(list(part(at, min(at + ROWS_AT_ONCE, count))), default=for_json)[1:-1]
+            yield (f", {rows}" if at else rows).encode("ascii")
+        yield b"]"
+    yield b"}}\n"
+
+
+def table(session: "Session[Any, Any]", found: "Answer[Any]", given: Given) -> Iterator[bytes]:
+    """A table by name: all of its rows, or those with the greatest values."""
+    head = {"version": session.version}
+    if "top" in given:
+        rows = found.top(given["top"], given.get("by"))
+        fields = list(found.columns)
+        values: List[Any] = [list(it) for it in zip(*(it if len(fields) > 1 else (it,) for _, it in rows))] or [[]] * len(fields)
+        told = {"name": [name for name, _ in rows], **dict(zip(fields, values))}
+        return columns(head, len(rows), {name: _rows(it) for name, it in told.items()})
+    return columns(head, len(found), {"name": _rows(found.names), **{name: _values(it) for name, it in found.columns.items()}})
+
+
+def _rows(rows: Sequence[Any]) -> Part:
+    return lambda first, end: rows[first:end]
+
+
+def _values(it: Values) -> Part:
+    return lambda first, end: it.values[first:end] if it.told is None else it.told(it.values[first:end])
+
+
+def edges_parts(found: Edges) -> Dict[str, Part]:
+    """The columns of edges."""
+    kinds, names, units = found.kinds, found.names, found.units
+    return {"kind": lambda a, b: list(map(kinds.__getitem__, found.kind[a:b])),
+            "source": lambda a, b: list(map(names.__getitem__, found.source[a:b])),
+            "target": lambda a, b: list(map(names.__getitem__, found.target[a:b])),
+            "weight": lambda a, b: units.all_weights_to_user(found.weight[a:b]),
+            "first": lambda a, b: units.all_times_to_user(found.first[a:b]),
+            "recent": lambda a, b: units.all_times_to_user(found.recent[a:b])}
+
+
+def edges(session: "Session[Any, Any]", found: Edges, given: Given) -> Iterator[bytes]:
+    """Edges: all of them, or those with the greatest weights."""
+    if "top" in given:
+        rows = found.top(given["top"])
+        told = dict(zip(("kind", "source", "target", *Edge._fields), zip(*((*ends, *edge) for *ends, edge in rows))))
+        parts = {it: _rows(told.get(it, ())) for it in edges_parts(found)}
+        return columns({"version": session.version}, len(rows), parts)
+    return columns({"version": session.version}, len(found), edges_parts(found))
+
+
+# What is asked.
+
+def _scope(given: Given) -> Dict[str, Any]:
+    return {it: given[it] for it in ("kind", "since", "until") if it in given}
+
+
+def _table(name: str) -> Callable[["Session[Any, Any]", Given], Iterator[bytes]]:
+    return lambda session, given: table(session, getattr(session, name)(**_scope(given)), given)
+
+
+def _levels(session: "Session[Any, Any]", given: Given) -> Iterator[bytes]:
+    return table(session, session.levels(given["source"], **_scope(given)), given)
+
+
+def _within(session: "Session[Any, Any]", given: Given) -> Iterator[bytes]:
+    is_directed = given.get("direction", "out") == "out"
+    return table(session, session.within(given["vertex"], given["hops"], **_scope(given), directed=is_directed), given)
+
+
+def _edge(session: "Session[Any, Any]", given: Given) -> Iterator[bytes]:
+    found = session.edge(given["kind"], given["source"], given["target"])
+    return whole(session, {"edge": None if found is None else found._asdict()})
+
+
+def _edges(session: "Session[Any, Any]", given: Given) -> Iterator[bytes]:
+    return edges(session, session.edges_columns(**_scope(given)), given)
+
+
+def _out_of(session: "Session[Any, Any]", given: Given) -> Iterator[bytes]:
+    return edges(session, session.edges_out_of(given["vertex"], **_scope(given)), given)
+
+
+def _into(session: "Session[Any, Any]", given: Given) -> Iterator[bytes]:
+    return edges(session, session.edges_into(given["vertex"], **_scope(given)), given)
+
+
+def _path(session: "Session[Any, Any]", given: Given) -> Iterator[bytes]:
+    return whole(session, {"path": session.path(given["source"], given["target"], **_scope(given))})
+
+
+def _names(session: "Session[Any, Any]", given: Given) -> Iterator[bytes]:
+    """Names that have a text, those that begin with it first."""
+    text = given.get("like", "").casefold()
+    all_names = session.store.ledger.terms.names.all_to_user(session.held.names())
+    found = [it for it in all_names if text in it.casefold()]
+    found.sort(key=lambda it: (not it.casefold().startswith(text), len(it)))
+    names = found[:given.get("top", 20)]
+    return columns({"version": session.version, "found": len(found)}, len(names), {"name": _rows(names)})
+
+
+def _view(session: "Session[Any, Any]", given: Given) -> Iterator[bytes]:
+    made = view(session, given["vertex"], given.get("hops", 2), given.get("beside_session"), **_scope(given),
+                most=given.get("most", USUAL_DRAWN))
+    yield made.html.encode("utf-8")
+
+
+HELD = (Parameter("session", "the session whose version is asked; else the last version, or that of `version`"),
+        Parameter("version", "a version that is held, by its number", least=0))
+SCOPE = (Parameter("kind", "edges of this kind; else of any"),
+         Parameter("since", "edges with a recent time from this on"), Parameter("until", "and up to this"))
+TOP = (Parameter("top", "the rows with the greatest values alone, so many", least=0, most=100_000),)
+BY = (Parameter("by", "by which column the greatest are", choices=tuple(BY_COLUMN)),)
+VERTEX = (Parameter("vertex", "a vertex's name", True),)
+ENDS = (Parameter("source", "a vertex's name", True), Parameter("target", "a vertex's name", True))
+WAY = Parameter("direction", "along edges, or either way", choices=("out", "both"))
+HOPS = Parameter("hops", "how many steps away", True, 0, 1_000)
+
+QUESTIONS = (
+    Question("edge", "one edge, or null", (Parameter("kind", "a kind", True), *ENDS), _edge, True),
+    Question("out_of", "the edges that go out of a vertex", (*VERTEX, *SCOPE, *TOP), _out_of, True),
+    Question("into", "the edges that come into a vertex", (*VERTEX, *SCOPE, *TOP), _into),
+    Question("edges", "all edges", (*SCOPE, *TOP), _edges),
+    Question("levels", "how many steps each vertex is from a source that is reached from it",
+             (Parameter("source", "a vertex's name", True), *SCOPE, *TOP), _levels),
+    Question("within", "the vertices within so many steps",
+             (*VERTEX, HOPS, WAY, *SCOPE, *TOP), _within),
+    Question("path", "a shortest walk as its names, or null", (*ENDS, *SCOPE), _path),
+    Question("degrees", "how many edges go out of each vertex and come in, and the weight that goes out", (*SCOPE, *TOP, *BY),
+             _table("degrees")),
+    Question("weights_in", "the weight that comes into each vertex", (*SCOPE, *TOP), _table("weights_in")),
+    Question("components", "a label for each vertex, the same for those that edges join", SCOPE, _table("components")),
+    Question("cores", "each vertex's core number", (*SCOPE, *TOP), _table("cores")),
+    Question("names", "names of vertices that have a text", (Parameter("like", "a part of a name"), *TOP), _names),
+    Question("view", "a page of a vertex's neighborhood, beside that of another version where one is said",
+             (*VERTEX, HOPS._replace(is_needed=False, most=MOST_HOPS), Parameter("beside", "a version that is held", least=0),
+              Parameter("most", "how many vertices are drawn", least=1, most=MOST_DRAWN), *SCOPE), _view,
+             media="text/html; charset=utf-8"),
+)

@@ -1,0 +1,198 @@
+"""A server that runs: where it listens, and its end."""
+from __future__ import annotations
+
+import os
+import socket
+import stat
+import threading
+from typing import Any, List, NamedTuple, Optional
+
+from .board import Board
+from .feeding import Feeding
+from .limits import Limits
+from ..errors import Missing, StoreError
+from ..store import Store
+
+UNIX = "unix:"
+LOOPBACK = ("localhost", "127.0.0.1", "::1")
+USUAL = "127.0.0.1:7700"
+# How many connections may be there for each client that may be, and for those that hold nothing.
+CONNECTIONS = 64
+
+
+class Address(NamedTuple):
+    """Where a server listens: at a host and port, or at the path of a Unix socket."""
+
+    host: str = ""
+    port: int = 0
+    path: str = ""
+
+    @staticmethod
+    def of(text: str) -> "Address":
+        """The address that a text says: `127.0.0.1:7700`, `[::1]:7700`, `unix:PATH`. Raises `ValueError` for another."""
+        if text.startswith(UNIX) and len(text) > len(UNIX):
+            return Address(path=text[len(UNIX):])
+        host, mark, port = text.rpartition(":")
+        if not mark or not host or not port.isascii() or not port.isdigit() or int(port) > 65_535:
+            raise ValueError(f"an address is HOST:PORT, as {USUAL}, or unix:PATH, and not {text!r}")
+        return Address(host[1:-1] if host.startswith("[") and host.endswith("]") else host, int(port))
+
+    @property
+    def is_of_here(self) -> bool:
+        """Whether only this machine reaches it."""
+        return bool(self.path) or self.host in LOOPBACK
+
+    @property
+    def url(self) -> str:
+        host = f"[{self.host}]" if ":" in self.host else self.host
+        return f"{UNIX}{self.path}" if self.path else f"http://{host}:{self.port}"
+
+    def bound(self) -> "tuple[socket.socket, Address]":
+        """A socket that listens there, and the address that it got. Raises `OSError`."""
+        if self.path:
+            return _bound_unix(self.path), self
+        family, kind, proto, _, place = socket.getaddrinfo(self.host, self.port, type=socket.SOCK_STREAM)[0]
+        found = socket.socket(family, kind, proto)
+        try:
+            found.setsockopt(socket.SOL_SOCKET, socket.SO_REUSEADDR, 1)
+            found.bind(place)
+            found.listen(128)
+        except OSError:
+            found.close()
+            raise
+        return found, self._replace(port=found.getsockname()[1])
+
+
+def _bound_unix(path: str) -> socket.socket:
+    """A Unix socket that its owner alone may use. One that a server left takes no place."""
+    found = socket.socket(socket.AF_UNIX, socket.SOCK_STREAM)
+    before = os.umask(0o177)  # (the socket has its mode from the first)
+    try:
+        try:
+            found.bind(path)
+        except OSError:
+            if not _is_left(path):
+                raise
+            os.unlink(path)
+            found.bind(path)
+        found.listen(128)
+    except OSError:
+        found.close()
+        raise
+    finally:
+        os.umask(before)
+    return found
+
+
+def _is_left(path: str) -> bool:
+    """Whether a socket stands there that nobody listens at."""
+    try:
+        if not stat.S_ISSOCK(os.stat(path).st_mode):
+            return False
+        with socket.socket(socket.AF_UNIX, socket.SOCK_STREAM) as other:
+            other.connect(path)
+    except ConnectionRefusedError:
+        return True
+    except OSError:
+        pass
+    return False
+
+
+class Server:
+    """A store that is served. `start` begins to answer, in a thread of its own; `run` does so in this one, until it is ended."""
+
+    def __init__(self, store: "Store[Any, Any]", listen: str = USUAL, *, token: Optional[str] = None,
+                 limits: Limits = Limits()) -> None:
+        address = Address.of(listen)
+        if token is None and not address.is_of_here:
+            raise ValueError(f"{listen} can be reached from other machines: that wants a token (--token-file, or MISTELUK_TOKEN)")
+        if token is not None and (len(token) < 8 or not token.isascii() or not token.isprintable() or " " in token):
+            raise ValueError("a token has at least 8 printable ASCII signs, and no space")
+        if store.engine.name != "library":
+            raise ValueError("a server has its store in its own process: it takes engine='library'")
+        self.limits, self.store = limits.checked(), store
+        self._socket, self.address = address.bound()
+        self.board = Board(store, self.limits)
+        self.feeding = Feeding(self.board, self.limits)
+        self._runner, self._api = self._made(token)
+        self._thread: Optional[threading.Thread] = None
+
+    def _made(self, token: Optional[str]) -> Any:
+        """What runs the app."""
+        try:
+            import uvicorn
+            from .app import Api
+        except ImportError as fault:
+            self._leave()
+            raise Missing(f"{str(fault.name).partition('.')[0]}", "a server") from None
+        from .gate import Gate
+        api = Api(self.board, self.feeding, self.limits)
+        gate = Gate(api.app(), token, bool(self.address.path))
+        config = uvicorn.Config(gate, log_level="critical", access_log=False, lifespan="off", server_header=False, proxy_headers=False,
+                                limit_concurrency=self.limits.clients + CONNECTIONS, timeout_keep_alive=int(self.limits.idle) + 5)
+        return uvicorn.Server(config), api
+
+    @property
+    def url(self) -> str:
+        return self.address.url
+
+    def run(self) -> None:
+        """Answers until a signal comes, or `stop` is called; then the feed ends, and all is let go."""
+        sweeping = threading.Event()
+        sweeper = threading.Thread(target=self._sweep, args=(sweeping,), name="sweeper", daemon=True)
+        sweeper.start()
+        try:
+            self._runner.run(sockets=[self._socket])
+        finally:
+            sweeping.set()
+            sweeper.join()
+            self.feeding.close()
+            self._api.close()
+            self.board.close()
+            self._leave()
+
+    def _sweep(self, is_over: threading.Event) -> None:
+        while not is_over.wait(min(self.limits.idle / 4, 5.0)):
+            try:
+                self.board.sweep()
+            except StoreError:  # (the store was closed)
+                return
+
+    def start(self) -> "Server":
+        self._thread = threading.Thread(target=self.run, name="server")
+        self._thread.start()
+        return self
+
+    def stop(self) -> None:
+        """Ends it, and waits for that."""
+        self._runner.should_exit = True
+        if self._thread is not None:
+            self._thread.join()
+
+    def _leave(self) -> None:
+        self._socket.close()
+        if self.address.path:
+            try:
+                os.unlink(self.address.path)
+            except FileNotFoundError:
+                pass
+
+    def __enter__(self) -> "Server":
+        return self.start()
+
+    def __exit__(self, *_: object) -> None:
+        self.stop()
+
+
+def token_of(path: Optional[str]) -> Optional[str]:
+    """The token that a file has, or else the variable MISTELUK_TOKEN; or none. Raises `ValueError` for a file that others may
+    read."""
+    if path is None:
+        return os.environ.get("MISTELUK_TOKEN") or None
+    with open(path, encoding="ascii") as file:
+        if os.fstat(file.fileno()).st_mode & 0o077:
+            raise ValueError(f"{path} can be read by others: chmod 600 {path}")
+        return file.read().strip()
+
+
+__all__: List[str] = ["Address", "Limits", "Server", "token_of"]

@@ -1,0 +1,142 @@
+"""How a client talks with a server: requests over connections that are kept, of which each thread takes one."""
+from __future__ import annotations
+
+import json
+import os
+import socket
+from collections import deque
+from http.client import HTTPConnection, HTTPException, HTTPResponse, HTTPSConnection
+from typing import Any, Deque, Dict, Mapping, NamedTuple, Optional, Tuple
+from urllib.parse import quote, urlsplit
+
+from .server import UNIX
+from ..engine.protocol import Denied
+from ..errors import Busy, Misread, NoAnswer, NoMemory, NoSeat, NoServer, NotAllowed, SessionClosed, StoreError, refusal
+from ..values.answers import Stat
+
+JSON = "application/json"
+
+
+class OfUnix(HTTPConnection):
+    """A connection to a Unix socket."""
+
+    def __init__(self, path: str, timeout: float) -> None:
+        super().__init__("localhost", timeout=timeout)
+        self._path = path
+
+    def connect(self) -> None:
+        self.sock = socket.socket(socket.AF_UNIX, socket.SOCK_STREAM)
+        self.sock.settimeout(self.timeout)
+        self.sock.connect(self._path)
+
+
+class Told(NamedTuple):
+    """What a server answered."""
+
+    status: int
+    media: str
+    body: bytes
+    retry_after: str = ""
+
+    def json(self) -> Dict[str, Any]:
+        try:
+            found = json.loads(self.body) if self.body else {}
+        except ValueError:
+            found = None
+        if not isinstance(found, dict):
+            raise Misread("what answers there is no server of a store")
+        return found
+
+
+class Talk:
+    """Requests to one server. `url` is `http://HOST:PORT`, `https://..`, or `unix:PATH`."""
+
+    def __init__(self, url: str, token: Optional[str] = None, timeout: float = 60.0) -> None:
+        self.url, self.timeout = url, timeout
+        parts = urlsplit(url)
+        if not (url.startswith(UNIX) and parts.path or parts.scheme in ("http", "https") and parts.hostname):
+            raise ValueError(f"a server's address is http://HOST:PORT or unix:PATH, and not {url!r}")
+        self._parts = parts
+        token = token or os.environ.get("MISTELUK_TOKEN")
+        self._headers = {"Authorization": f"Bearer {token}"} if token else {}
+        self._idle: Deque[HTTPConnection] = deque()
+        self._process = os.getpid()
+
+    def _connection(self) -> Tuple[HTTPConnection, bool]:
+        """A connection, and whether it was used before."""
+        if os.getpid() != self._process:
+            self._idle, self._process = deque(), os.getpid()
+        try:
+            return self._idle.pop(), True
+        except IndexError:
+            pass
+        if self.url.startswith(UNIX):
+            return OfUnix(self.url[len(UNIX):], self.timeout), False
+        kind = HTTPSConnection if self._parts.scheme == "https" else HTTPConnection
+        return kind(self._parts.hostname or "", self._parts.port, timeout=self.timeout), False
+
+    def ask(self, method: str, path: str, body: Optional[Mapping[str, Any]] = None) -> Told:
+        """What a request gives. A connection that the server closed meanwhile is made anew once: no call does harm that is made
+        twice."""
+        connection, is_old = self._connection()
+        try:
+            return self._on(connection, method, path, body)
+        except (ConnectionError, HTTPException) as fault:
+            connection.close()
+            if not is_old:
+                raise NoServer(f"{self.url} doesn't answer: {fault or type(fault).__name__}") from fault
+            self._idle.clear()
+            return self.ask(method, path, body)
+        except TimeoutError as fault:
+            connection.close()
+            raise NoAnswer(f"{self.url} was silent for {self.timeout:g} s") from fault
+        except OSError as fault:
+            connection.close()
+            raise NoServer(f"{self.url} doesn't answer: {fault}") from fault
+        except BaseException:
+            connection.close()
+            raise
+
+    def _on(self, connection: HTTPConnection, method: str, path: str, body: Optional[Mapping[str, Any]]) -> Told:
+        given = None if body is None else json.dumps(body).encode("ascii")
+        connection.request(method, path, given, {**self._headers, **({} if given is None else {"Content-Type": JSON})})
+        response: HTTPResponse = connection.getresponse()
+        media = response.headers.get_content_type()
+        told = Told(response.status, media, response.read(), response.headers.get("Retry-After", ""))
+        self._idle.append(connection)
+        return told
+
+    def call(self, method: str, path: str, body: Optional[Mapping[str, Any]] = None) -> Told:
+        """What a request gives; a fault that the server tells is raised."""
+        told = self.ask(method, path, body)
+        if told.status >= 400:
+            raise fault_of(told)
+        return told
+
+    def close(self) -> None:
+        while self._idle:
+            self._idle.pop().close()
+
+
+def part(name: str) -> str:
+    """A name as a part of a path."""
+    return quote(name, safe="")
+
+
+def fault_of(told: Told) -> Exception:
+    """What is raised for a fault that the server told."""
+    if told.media != JSON:
+        return NoServer(f"the server is busy, or there is another one: status {told.status}")
+    found = told.json()
+    word, reason = str(found.get("error", "")), str(found.get("reason", ""))
+    if found.get("denied"):
+        return Denied(word, stat=Stat(**found["stat"]) if "stat" in found else None)
+    again = f"; ask again in {told.retry_after} s" if told.retry_after else ""
+    known: Dict[str, Any] = {"NoSeat": NoSeat, "NotAllowed": NotAllowed, "Busy": Busy, "SessionClosed": SessionClosed,
+                             "NoMemory": NoMemory, "TooLong": NoAnswer}
+    if word in known:
+        fault: Exception = known[word](f"{reason}{again}")
+        return fault
+    if told.status == 400 and word == "BadRequest":
+        return ValueError(reason)
+    return refusal(word, reason) if told.status in (400, 404, 409) else StoreError(f"{word}: {reason}{again}")

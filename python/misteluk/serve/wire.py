@@ -1,0 +1,127 @@
+"""What a server and its clients in Python write to each other: a version's columns as they are in memory, and faults.
+
+A client in Python asks as an engine is asked, in the engine's terms, so that its sessions are those of a store in the process.
+An answer of columns is a line of JSON that tells their types and lengths, and then their bytes, the least one of a number first.
+"""
+from __future__ import annotations
+
+import json
+import sys
+from array import array
+from typing import Any, Dict, Iterator, List, Mapping, Optional, Sequence
+
+from .limits import BYTES_AT_ONCE
+from ..engine.protocol import Denied, Held, Scope
+from ..errors import Misread
+from ..values import records
+from ..values.names import MARK, NameTable
+
+# The media types of what is written.
+COLUMNS, JSON = "application/octet-stream", "application/json"
+# How many bytes the numbers of a column may have: those that are used here.
+WIDTHS = {"I": 4, "q": 8, "Q": 8}
+
+
+# Columns.
+
+def packed(columns: "Sequence[array[int]]") -> Iterator[bytes]:
+    """Columns as bytes, part by part."""
+    yield json.dumps([[it.typecode, len(it)] for it in columns]).encode("ascii") + b"\n"
+    for it in columns:
+        step = BYTES_AT_ONCE // it.itemsize
+        for at in range(0, len(it), step):
+            yield _least_first(it[at:at + step]).tobytes()
+
+
+def unpacked(data: bytes) -> "List[array[int]]":
+    """The columns of such bytes. Raises `ValueError` where they aren't whole."""
+    end = data.index(b"\n")
+    found, at = [], end + 1
+    for code, count in json.loads(data[:end]):
+        column, size = array(code), WIDTHS[code] * count
+        column.frombytes(data[at:at + size])
+        found.append(_least_first(column))
+        at += size
+    if at != len(data):
+        raise ValueError("an answer's columns aren't whole")
+    return found
+
+
+def _least_first(column: "array[int]") -> "array[int]":
+    if sys.byteorder == "big":
+        column.byteswap()
+    return column
+
+
+def loaded(data: bytes) -> Any:
+    """What an answer of JSON has. Raises `Misread` where it is none."""
+    try:
+        return json.loads(data)
+    except ValueError:
+        raise Misread("the server's answer is no JSON") from None
+
+
+# Questions, as `Held` is asked.
+
+def asked(held: Held, call: str, given: Mapping[str, Any], names: NameTable) -> Iterator[bytes]:
+    """What a held version answers to a call of `Held`. Raises `ValueError` for a call that there isn't, and `Denied`."""
+    if call in ("names", "kinds"):
+        return iter([_json(_named(held.names() if call == "names" else held.kinds(), names))])
+    if call == "found":
+        ends = [(_text(kind), _text(source), _text(target)) for kind, source, target in given.get("ends", ())]
+        return iter([_json([it.word if isinstance(it, Denied) else it for it in held.found(ends)])])
+    if call not in CALLS:
+        raise ValueError(f"a version isn't asked for {call!r}")
+    scope = _scope(given)
+    found: Any = getattr(held, call)(scope, *([_text(given.get("name"))] if CALLS[call] else []))
+    if call == "levels":
+        found = array("I", found[0]), found[1]
+    return packed([found] if isinstance(found, array) else found)
+
+
+# The calls that give columns, and whether they are of a name.
+CALLS = {"degrees": False, "labels": False, "cores": False, "edges": False, "levels": True, "out_of": True, "into": True}
+
+
+def _scope(given: Mapping[str, Any]) -> Scope:
+    kind = given.get("kind")
+    since, until = _time(given.get("since", 0)), _time(given.get("until", records.MOST_TIME))
+    return Scope(None if kind is None else _text(kind), since, until)
+
+
+def _text(value: object) -> str:
+    """A name in the engine's terms."""
+    reason = records.name_reason(value) if isinstance(value, str) else "a name is a text"
+    if reason:
+        raise ValueError(reason)
+    return str(value)
+
+
+def _time(value: object) -> int:
+    if type(value) is not int or not 0 <= value <= records.MOST_TIME:
+        raise ValueError("a time is a whole number from 0 on")
+    return value
+
+
+def _named(names: Sequence[str], table: NameTable) -> Dict[str, Any]:
+    texts = {it: table.to_user(it) for it in names if it.startswith(MARK)}
+    return {"names": names, "texts": {it: text for it, text in texts.items() if text != it}}
+
+
+def taken(told: Dict[str, Any], table: NameTable) -> List[str]:
+    """The names that were told, whose texts the table takes. Raises `ValueError` where a text isn't its id's."""
+    for name, text in told["texts"].items():
+        if table.to_program(text) != name:
+            raise ValueError(f"the server has {name} for {text!r}")
+    return list(told["names"])
+
+
+def _json(value: Any) -> bytes:
+    return json.dumps(value).encode("ascii")
+
+
+# Faults.
+
+def fault(word: str, reason: str, after: Optional[int] = None, **more: Any) -> Dict[str, Any]:
+    """What is told of a fault."""
+    return {"error": word, "reason": reason, **({} if after is None else {"retry_after": after}), **more}

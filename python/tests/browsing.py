@@ -1,0 +1,104 @@
+"""Headless Chromium as a person uses it: pages of a server, clicks, and what is seen, by its own protocol over two pipes."""
+from __future__ import annotations
+
+import base64
+import json
+import os
+import pathlib
+import shutil
+import subprocess
+import tempfile
+from typing import Any, Dict, List, Optional
+
+from pages import CHROMIUM
+from support import as_soon_as
+
+
+class Browser:
+    """A browser with one page. `see` evaluates an expression there."""
+
+    def __init__(self, width: int = 1280, height: int = 900) -> None:
+        self._room = tempfile.mkdtemp()
+        asked, told = os.pipe(), os.pipe()
+        words = [CHROMIUM or "", "--headless", "--no-sandbox", "--disable-gpu", "--hide-scrollbars", "--disable-extensions",
+                 "--no-first-run", "--remote-debugging-pipe", "--disable-features=IsolateSandboxedIframes",
+                 f"--window-size={width},{height}", f"--user-data-dir={self._room}", "about:blank"]
+
+        def ends() -> None:  # (Chromium reads descriptor 3 and writes 4)
+            mine = os.dup(asked[0]), os.dup(told[1])
+            os.dup2(mine[0], 3)
+            os.dup2(mine[1], 4)
+        self._process = subprocess.Popen(words, stdout=subprocess.DEVNULL, stderr=subprocess.DEVNULL, preexec_fn=ends,
+                                         pass_fds=(3, 4, asked[0], told[1]))
+        os.close(asked[0])
+        os.close(told[1])
+        self._out, self._in = os.fdopen(asked[1], "wb", buffering=0), os.fdopen(told[0], "rb", buffering=0)
+        self._number, self._left = 0, b""
+        self._page: Optional[str] = None
+        self.logged: List[str] = []
+        target = self._call("Target.createTarget", url="about:blank")["targetId"]
+        self._page = self._call("Target.attachToTarget", targetId=target, flatten=True)["sessionId"]
+        self._call("Runtime.enable")
+        self._call("Log.enable")
+
+    def _call(self, method: str, **given: Any) -> Dict[str, Any]:
+        self._number += 1
+        told = {"id": self._number, "method": method, "params": given, **({"sessionId": self._page} if self._page else {})}
+        self._out.write(json.dumps(told).encode() + b"\0")
+        while True:
+            found = self._next()
+            if found.get("id") == self._number:
+                if "error" in found:
+                    raise AssertionError(f"{method}: {found['error']}")
+                return dict(found["result"])
+            if found.get("method") == "Log.entryAdded":
+                self.logged.append(found["params"]["entry"]["text"])
+
+    def _next(self) -> Dict[str, Any]:
+        while b"\0" not in self._left:
+            more = self._in.read(65_536)
+            if not more:
+                raise AssertionError("the browser ended")
+            self._left += more
+        line, _, self._left = self._left.partition(b"\0")
+        return dict(json.loads(line))
+
+    def go(self, url: str) -> None:
+        self._call("Page.navigate", url=url)
+        as_soon_as(lambda: self.see("document.readyState") == "complete")
+
+    def see(self, expression: str) -> Any:
+        """What an expression of JavaScript gives."""
+        found = self._call("Runtime.evaluate", expression=expression, awaitPromise=True, returnByValue=True)
+        if "exceptionDetails" in found:
+            raise AssertionError(found["exceptionDetails"])
+        return found["result"].get("value")
+
+    def wait_for(self, expression: str) -> Any:
+        """The first value of an expression that is true."""
+        found: List[Any] = []
+
+        def is_so() -> bool:
+            found[:] = [self.see(expression)]
+            return bool(found[0])
+        as_soon_as(is_so)
+        return found[0]
+
+    def size(self, width: int, height: int, is_phone: bool = False) -> None:
+        self._call("Emulation.setDeviceMetricsOverride", width=width, height=height, deviceScaleFactor=1, mobile=is_phone)
+
+    def picture(self, path: "str | os.PathLike[str]", whole: bool = False) -> None:
+        found = self._call("Page.captureScreenshot", format="png", captureBeyondViewport=whole)
+        pathlib.Path(path).write_bytes(base64.b64decode(found["data"]))
+
+    def close(self) -> None:
+        self._page = None
+        try:
+            self._call("Browser.close")
+            self._process.wait(30)
+        except (AssertionError, OSError, subprocess.TimeoutExpired):
+            self._process.kill()
+            self._process.wait()
+        self._out.close()
+        self._in.close()
+        shutil.rmtree(self._room, ignore_errors=True)

@@ -1,0 +1,82 @@
+"""Requests that no client means: made by chance of right ones, each of which a server must answer, and none by a fault."""
+from __future__ import annotations
+
+import random
+import socket
+import sys
+from typing import List, Tuple
+
+NAMES = ("ana", "funnel", "Иванов", "%", "%00", "%ff", "..", "a b", "*", "~~0123456789abcdefghij", "x" * 300, "", "0", "-1",
+         "null", "18446744073709551616", "1e9", "%F0%9F%98%80", "'", '"', "<script>", "\\", "%2e%2e%2f", "true", "nan",
+         "2024-03-04")
+PATHS = ("", "v1", "v1/stat", "v1/edge", "v1/out_of", "v1/into", "v1/edges", "v1/levels", "v1/within", "v1/path", "v1/degrees",
+         "v1/weights_in", "v1/components", "v1/cores", "v1/names", "v1/view", "v1/sessions", "v1/sessions/zed",
+         "v1/sessions/zed/ask", "v1/rows", "v1/feeder", "v1/feeder/zed", "v1/feeder/zed/batches/1", "openapi.json", "live.js",
+         "../etc/passwd", "//")
+FIELDS = ("kind", "source", "target", "vertex", "hops", "since", "until", "top", "by", "like", "session", "version", "beside",
+          "most", "direction", "feeder", "zed")
+METHODS = ("GET", "GET", "GET", "POST", "POST", "PUT", "DELETE", "HEAD", "PATCH", "OPTIONS", "ZED")
+BODIES = ("", "{}", "[]", "null", '{"rows": []}', '{"rows": [["add", "k", "a", "b", 1, 1]]}', '{"call": "cores"}', "\x00",
+          '{"call": "found", "ends": 5}', '{"call": "edges", "since": -1}', '{"operations": "a,k,x,y,1,1\\n"}', "add,k,a,b,1,1",
+          '{"operations": "commit\\n", "texts": {}}', "[" * 5_000, '{"rows": [["add", "\\ud800", "a", "b"]]}', '{"rows": {}}',
+          "add,k,\"a", "expire,99999999999999999999")
+HOSTS = ("localhost", "127.0.0.1", "evil")
+KINDS = ("application/json", "text/csv", "text/html", "", "application/json; charset=utf-16", "multipart/form-data")
+BROKEN = (b"GET / HTTP/1.1\r\n\r\n", b"\x16\x03\x01\x02\x00", b"GET /v1/stat HTTP/9.9\r\nHost: localhost\r\n\r\n", b"GET\r\n\r\n",
+          b"POST /v1/rows HTTP/1.1\r\nHost: localhost\r\nContent-Length: -5\r\n\r\n",
+          b"GET " + b"/x" * 40_000 + b" HTTP/1.1\r\n\r\n",
+          b"POST /v1/rows HTTP/1.1\r\nHost: localhost\r\nTransfer-Encoding: chunked\r\nContent-Type: text/csv\r\n\r\nzz\r\n",
+          b"GET /v1/stat HTTP/1.1\r\nHost: localhost\r\n" + b"X-Y: z\r\n" * 3_000 + b"\r\n")
+
+
+def request(chance: random.Random) -> bytes:
+    """A request as its bytes."""
+    if chance.random() < 0.02:
+        return chance.choice(BROKEN)
+    path = chance.choice(PATHS)
+    if chance.random() < 0.7:
+        fields = (f"{chance.choice(FIELDS)}={chance.choice(NAMES)}" for _ in range(chance.randrange(5)))
+        path += "?" + "&".join(fields)
+    body = chance.choice(BODIES).encode("utf-8", "surrogatepass") if chance.random() < 0.4 else b""
+    if body and chance.random() < 0.3:
+        at = chance.randrange(len(body))
+        body = body[:at] + bytes([chance.randrange(256)]) + body[at + 1:]
+    lines = [f"{chance.choice(METHODS)} /{path} HTTP/1.1".replace(" b", "%20b"), f"Host: {chance.choice(HOSTS)}",
+             "Connection: close", f"Content-Type: {chance.choice(KINDS)}", f"Content-Length: {len(body)}"]
+    return "\r\n".join([*lines, "", ""]).encode("utf-8") + body
+
+
+def answer(port: int, asked: bytes, seconds: float) -> bytes:
+    """What the server says until it closes; none where it takes longer than so many seconds."""
+    with socket.create_connection(("127.0.0.1", port), timeout=seconds) as link:
+        parts: List[bytes] = []
+        try:
+            link.sendall(asked)
+            if asked in BROKEN:
+                link.shutdown(socket.SHUT_WR)
+            while not parts or parts[-1]:
+                parts.append(link.recv(1 << 16))
+        except TimeoutError:
+            return b""
+        except OSError:  # (it closed amid what it was sent)
+            parts.append(b"closed")
+        return b"".join(parts) or b"closed"
+
+
+def fuzz(port: int, count: int, seed: int, seconds: float = 30.0) -> Tuple[List[Tuple[bytes, bytes]], int]:
+    """Asks so many requests, and gives those that were answered by a fault or not at all, and how many were answered well."""
+    chance, wrong, well = random.Random(seed), [], 0
+    for _ in range(count):
+        asked = request(chance)
+        told = answer(port, asked, seconds)
+        if not told or told.startswith(b"HTTP/1.1 500") or b"Traceback" in told:
+            wrong.append((asked, told[:500]))
+        well += told.startswith(b"HTTP/1.1 2")
+    return wrong, well
+
+
+if __name__ == "__main__":  # python3 fuzzing.py PORT COUNT SEED: a server that runs elsewhere
+    found, right = fuzz(*map(int, sys.argv[1:4]))
+    for it in found[:10]:
+        print(*it, sep="\n", end="\n\n")
+    print(f"{len(found)} answered by a fault or not at all, {right} answered well")

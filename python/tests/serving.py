@@ -1,0 +1,90 @@
+"""What the tests of the server share: one that runs in this process, and requests as a client without Python makes them."""
+from __future__ import annotations
+
+import http.client
+import json
+import pathlib
+import unittest
+from typing import Any, Dict, NamedTuple, Optional
+
+from support import ENGINE, Case, optional
+
+import misteluk
+from misteluk.serve.limits import Limits
+from misteluk.serve.server import Server
+
+HAS_PACKAGES = all(map(optional, ("starlette", "uvicorn")))
+NO_PACKAGES = "starlette or uvicorn is not there"
+OF_LIBRARY = "of the library alone"
+FEED = (("add", "transfer", "ana", "funnel", 980, 1), ("add", "transfer", "ben", "funnel", 950, 1),
+        ("add", "transfer", "funnel", "offshore", 3850, 3), ("add", "owes", "boss", "ana", 2100, 1))
+
+
+class Told(NamedTuple):
+    """A response: its status, its headers by small names, and its body."""
+
+    status: int
+    headers: Dict[str, str]
+    body: bytes
+
+    @property
+    def json(self) -> Any:
+        return json.loads(self.body)
+
+
+class Clock:
+    """A clock that stands still until it is told to go on."""
+
+    def __init__(self) -> None:
+        self.now = 0.0
+
+    def __call__(self) -> float:
+        return self.now
+
+
+@unittest.skipUnless(ENGINE == "library", OF_LIBRARY)
+@unittest.skipUnless(HAS_PACKAGES, NO_PACKAGES)
+class ServeCase(Case):
+    """A case with a server."""
+
+    def serve(self, listen: str = "127.0.0.1:0", token: Optional[str] = None, limits: Limits = Limits(),
+              **options: Any) -> Server:
+        store = misteluk.Store(seats=16, endless=True, **options)
+        self.addCleanup(self.let_go, store)
+        server = Server(store, listen, token=token, limits=limits).start()
+        self.addCleanup(server.stop)
+        self.server = server
+        return server
+
+    def fed(self, *rows: Any, **options: Any) -> Server:
+        """A server whose store has these rows, or those of the example."""
+        server = self.serve(**options)
+        self.assertEqual(self.post("/v1/rows", {"rows": rows or FEED}).status, 200)
+        return server
+
+    def ask(self, path: str, method: str = "GET", body: Optional[bytes] = None, **headers: str) -> Told:
+        connection = http.client.HTTPConnection("127.0.0.1", self.server.address.port, timeout=60)
+        try:
+            connection.request(method, path, body, {name.replace("_", "-"): value for name, value in headers.items()})
+            found = connection.getresponse()
+            return Told(found.status, {name.lower(): value for name, value in found.headers.items()}, found.read())
+        finally:
+            connection.close()
+
+    def post(self, path: str, told: Any = None, **headers: str) -> Told:
+        if told is None:
+            return self.ask(path, "POST", **headers)
+        return self.ask(path, "POST", json.dumps(told).encode(), Content_Type="application/json", **headers)
+
+    def rows_of(self, path: str) -> Any:
+        """The rows of an answer, as texts and numbers."""
+        found = self.ask(path)
+        self.assertEqual(found.status, 200, found.body)
+        columns = found.json["columns"]
+        rows = list(zip(*columns.values()))
+        self.assertEqual(found.json["rows"], len(rows))
+        return rows
+
+    def rooms_of(self, text: str) -> bool:
+        """Whether a text names a place of this machine."""
+        return any(it in text for it in (str(self.room), str(pathlib.Path(misteluk.__file__).parent), "/home", "Traceback"))

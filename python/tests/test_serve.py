@@ -1,0 +1,224 @@
+"""A server: what it answers, beside a store in this process, and who may feed it."""
+import asyncio
+import json
+import socket
+import threading
+import unittest
+
+from serving import FEED, ServeCase
+from support import as_soon_as
+
+import misteluk
+from misteluk import Busy, Edge, Served, connect, connect_async
+from misteluk.serve.feeding import checked_operations
+
+
+class Answers(ServeCase):
+    def test_as_in_this_process(self):
+        """Each question by its URL has what a session in this process has."""
+        self.fed()
+        session = self.server.store.open()
+        self.assertEqual(self.ask("/v1/edge?kind=transfer&source=ana&target=funnel").json,
+                         {"version": 1, "edge": {"weight": 980, "first": 1, "recent": 1}})
+        self.assertIsNone(self.ask("/v1/edge?kind=owes&source=ana&target=funnel").json["edge"])
+        self.assertEqual(dict(self.rows_of("/v1/levels?source=ana")), session.levels("ana"))
+        self.assertEqual(dict(self.rows_of("/v1/cores")), session.cores())
+        self.assertEqual(dict(self.rows_of("/v1/components?kind=owes")), session.components("owes"))
+        self.assertEqual(dict(self.rows_of("/v1/weights_in?since=3")), session.weights_in(since=3))
+        self.assertEqual({name: tuple(it) for name, *it in self.rows_of("/v1/degrees")}, session.degrees().dict())
+        self.assertEqual(self.rows_of("/v1/degrees?top=1&by=weight"), [("funnel", 1, 2, 3850)])
+        self.assertEqual(self.rows_of("/v1/edges"), [(*ends, *edge) for *ends, edge in session.edges()])
+        self.assertEqual(self.rows_of("/v1/edges?top=1"), [("transfer", "funnel", "offshore", 3850, 3, 3)])
+        self.assertEqual(self.rows_of("/v1/out_of?vertex=funnel"), [("transfer", "funnel", "offshore", 3850, 3, 3)])
+        self.assertEqual([row[1] for row in self.rows_of("/v1/into?vertex=funnel")], ["ana", "ben"])
+        self.assertEqual(self.ask("/v1/path?source=ana&target=offshore").json["path"], ["ana", "funnel", "offshore"])
+        self.assertEqual(dict(self.rows_of("/v1/within?vertex=ben&hops=1&direction=both")), {"ben": 0, "funnel": 1})
+        self.assertEqual(self.rows_of("/v1/names?like=N"), [("ana",), ("ben",), ("funnel",)])
+        self.assertIn(b"Around funnel", self.ask("/v1/view?vertex=funnel").body)
+
+    def test_units(self):
+        """Weights that are decimals are texts, as dates are."""
+        self.serve(weight_scale=100, times="iso")
+        self.assertEqual(self.post("/v1/rows", {"rows": [["add", "k", "Иванов Пётр", "b", "0.10", "2024-03-04"]]}).status, 200)
+        self.assertEqual(self.rows_of("/v1/edges"), [("k", "Иванов Пётр", "b", "0.10", *["2024-03-04T00:00:00+00:00"] * 2)])
+        with connect(self.server.url) as session:
+            self.assertEqual(str(session.into("b")["Иванов Пётр"].weight), "0.10")
+
+    def test_what_can_t_be_answered(self):
+        """Each with its status, a word and a reason; none names a place of this machine."""
+        self.fed()
+        for status, word, path in (
+                (404, "NoVertex", "/v1/levels?source=zed"), (404, "NoKind", "/v1/degrees?kind=zed"), (400, "BadWindow",
+                "/v1/edges?since=5&until=2"), (400, "BadTime", "/v1/edges?since=monday"), (400, "BadRequest", "/v1/levels"),
+                (400, "BadRequest", "/v1/levels?sorce=ana"), (400, "BadRequest", "/v1/levels?source=ana&source=ben"),
+                (400, "BadRequest", "/v1/within?vertex=ana&hops=-1"), (400, "BadRequest", "/v1/degrees?top=2&by=height"),
+                (404, "NoCall", "/v1/sql?q=1"), (404, "NoCall", "/etc/passwd"), (410, "SessionClosed", "/v1/cores?session=zed"),
+                (410, "SessionClosed", "/v1/cores?version=77"), (400, "BadName", "/v1/edge?kind=*&source=ana&target=ben")):
+            found = self.ask(path)
+            self.assertEqual((found.status, found.json["error"]), (status, word), path)
+            self.assertFalse(self.rooms_of(found.json["reason"]), found.body)
+        self.assertEqual(self.post("/v1/edges").status, 405)
+
+    def test_the_description(self):
+        """Each call that is described is there, and each that is there is described."""
+        self.fed()
+        told = self.ask("/openapi.json").json
+        app = self.server._api.app()
+        there = {(it.path.replace(":int", ""), method.lower()) for it in app.routes for method in it.methods
+                 if it.path.startswith("/v1/") and method != "HEAD"}
+        self.assertEqual({(path, method) for path, it in told["paths"].items() for method in it}, there)
+        for path, it in told["paths"].items():
+            for parameter in it.get("get", {}).get("parameters", ()):
+                if parameter["schema"].get("minimum") is not None:
+                    self.assertEqual(self.ask(f"{path}?{parameter['name']}=x").json["error"], "BadRequest", path)
+
+    def test_awaited(self):
+        self.fed()
+
+        async def both():
+            async with await connect_async(self.server.url) as session:
+                levels, edge, walk = await asyncio.gather(session.levels("ana"), session.edge("transfer", "ben", "funnel"),
+                                                          session.path("boss", "offshore"))
+                graph = await session.ask(session.session.edges_columns, kind="owes")
+                async with await connect_async(self.server.url) as other:
+                    return levels, edge, walk, len(graph), bool(await session.diff(other))
+        found = asyncio.run(both())
+        walk = ["boss", "ana", "funnel", "offshore"]
+        self.assertEqual(found, ({"ana": 0, "funnel": 1, "offshore": 2}, Edge(950, 1, 1), walk, 1, False))
+
+    def test_a_slow_reader_delays_nobody(self):
+        """It reads nothing of a long answer while others ask and the feed goes on; then it gets all of it, of its version."""
+        self.serve()
+        count = 200_000
+        self.server.store.load([(f"s{it % 300}", f"target-{it // 300}", it, it) for it in range(count)], by="set", progress=False)
+        self.server.board.advance()
+        version = self.ask("/v1/stat").json["version"]
+        reader = socket.create_connection(("127.0.0.1", self.server.address.port))
+        self.addCleanup(reader.close)
+        reader.setsockopt(socket.SOL_SOCKET, socket.SO_RCVBUF, 1 << 16)
+        reader.sendall(b"GET /v1/edges HTTP/1.1\r\nHost: localhost\r\nConnection: close\r\n\r\n")
+        as_soon_as(lambda: self.server.board._last.asked)
+        for it in range(20):
+            self.assertEqual(self.post("/v1/rows", {"rows": [["add", "k", "more", f"t{it}", 1, 1]]}).status, 200)
+            self.assertEqual(self.ask("/v1/cores?top=1").status, 200)
+        self.assertIn(version, [it["version"] for it in self.ask("/v1/stat").json["held"]])
+        parts = []
+        while not parts or parts[-1]:
+            parts.append(reader.recv(1 << 16))
+        body = b"".join(parts).partition(b"\r\n\r\n")[2]
+        told = json.loads(b"".join(body.split(b"\r\n")[1::2]))
+        self.assertEqual((told["version"], told["rows"], sum(told["columns"]["weight"])),
+                         (version, count, sum(range(count))))
+        as_soon_as(lambda: [it["version"] for it in self.ask("/v1/stat").json["held"]] == [version + 20])
+
+
+class Feeds(ServeCase):
+    def test_one_feeds(self):
+        """A second one is told so, until the first one gives its seat back."""
+        self.serve()
+        with Served(self.server.url) as first, Served(self.server.url) as second:
+            first.add("k", "a", "b", 5, 1)
+            first.commit()
+            second.add("k", "a", "b", 5, 1)
+            self.assertRaisesRegex(Busy, "another client feeds", second.commit)
+            self.assertEqual(self.post("/v1/rows", {"rows": FEED}).json["error"], "Busy")
+            self.assertEqual(self.post("/v1/feeder").status, 409)
+            first.close()
+            self.assertEqual(second.commit().updated, 1)
+
+    def test_rows_are_checked_before_any_goes_in(self):
+        self.serve()
+        rows = [["add", "k", "a", f"t{it}", 1, 1] for it in range(5_000)]
+        found = self.post("/v1/rows", {"rows": [*rows, ["add", "k", "", "b", 1, 1]]})
+        self.assertEqual((found.status, found.json["error"]), (400, "BadName"))
+        self.assertIn("row 5001", found.json["reason"])
+        for wrong in (5, [5], [], {}, [["add", "k", 5, "b", 1, 1]], [["open", "0"]], [["add", "k", "a"]],
+                      [["add", "k", "a", "b", 1.5, 1]], [["add", "k", "\ud800", "b", 1, 1]]):
+            self.assertEqual(self.post("/v1/rows", {"rows": wrong}).status, 400, wrong)
+        self.assertEqual(self.post("/v1/rows", {}).status, 400)
+        self.assertEqual(self.ask("/v1/stat").json["edges"], 0)
+        self.assertEqual(self.post("/v1/rows", {"rows": rows}).json["batches"], 2)
+        self.assertEqual(self.ask("/v1/stat").json["edges"], 5_000)
+
+    def test_rows_of_csv(self):
+        self.serve()
+        body = 'add,transfer,"O\'Brien, Sons",bob,5,1\nremove,transfer,ana,bob\nexpire,0\n'.encode()
+        self.assertEqual(self.ask("/v1/rows", "POST", body, Content_Type="text/csv").json["absent"], 1)
+        self.assertEqual(self.rows_of("/v1/levels?source=O%27Brien,%20Sons")[1], ("bob", 1))
+        self.assertEqual(self.ask("/v1/rows", "POST", body, Content_Type="text/html").status, 400)
+        self.assertEqual(self.ask("/v1/rows", "POST", b'add,"k', Content_Type="text/csv").status, 400)
+
+    def test_a_batch_goes_in_once(self):
+        """However often it is sent; and one that is given up can't come any more."""
+        self.serve()
+        seat = self.post("/v1/feeder").json["feeder"]
+        for _ in range(3):
+            told = self.post(f"/v1/feeder/{seat}/batches/1", {"operations": "a,k,x,y,5,1\n"})
+            self.assertEqual((told.status, told.json["version"]), (200, 1))
+        self.assertEqual(self.rows_of("/v1/edges")[0][3], 5)
+        self.assertIsNone(self.ask(f"/v1/feeder/{seat}/batches/2", "DELETE").json["receipt"])
+        self.assertEqual(self.post(f"/v1/feeder/{seat}/batches/2", {"operations": "a,k,x,y,5,1\n"}).status, 410)
+        self.assertEqual(self.ask(f"/v1/feeder/{seat}/batches/2", "DELETE").json["receipt"], None)
+        self.assertEqual(self.rows_of("/v1/edges")[0][3], 5)
+
+    def test_no_client_changes_what_a_name_is(self):
+        """A text for an id that isn't its own is refused, and so is a record that is no operation."""
+        self.serve()
+        seat = self.post("/v1/feeder").json["feeder"]
+        forged = {"operations": "a,k,~~AAAAAAAAAAAAAAAAAAAA,y,5,1\n", "texts": {"~~AAAAAAAAAAAAAAAAAAAA": "Иванов Пётр"}}
+        self.assertEqual(self.post(f"/v1/feeder/{seat}/batches/1", forged).json["error"], "BadName")
+        for text in ("commit\n", "open,0\n", "a,k,x,y,5,1", "a,k,x y,z,5,1\n", "a,k,x,y,5\n", "a,k,x\x1cy,z,5,1\n",
+                     'a,k,"x,y,5,1\n',
+                     "\n", "i,k,x,y,9223372036854775807,1\n", "x,-1\n"):
+            self.assertRaises(misteluk.Refused, checked_operations, text)
+            self.assertEqual(self.post(f"/v1/feeder/{seat}/batches/1", {"operations": text}).status, 400, text)
+        self.assertEqual(self.ask("/v1/stat").json["edges"], 0)
+
+    def test_a_file_that_grows(self):
+        path = self.file("feed.csv", "ana,bob,5,1\n")
+        self.serve()
+        following = self.server.store.follow(path, by="add", every=0.01, columns=misteluk.Columns(1, 2, weight=3, time=4))
+        self.server.feeding.follow(following)
+        as_soon_as(lambda: self.ask("/v1/stat").json["edges"] == 1)
+        self.assertEqual(self.post("/v1/rows", {"rows": FEED}).json["error"], "Busy")
+        with open(path, "a") as file:
+            file.write("bob,cat,7,2\n")
+        as_soon_as(lambda: self.ask("/v1/stat").json["feed"]["rows"] == 2)
+        self.assertEqual(self.rows_of("/v1/out_of?vertex=bob"), [("link", "bob", "cat", 7, 2, 2)])
+        with open(path, "a") as file:
+            file.write("bob,cat,many,2\n")
+        as_soon_as(lambda: self.ask("/v1/stat").json["feed"]["state"] == "failed")
+        self.assertEqual(self.ask("/v1/stat").json["feed"]["error"], "BadRows")
+        self.assertEqual(self.post("/v1/rows", {"rows": FEED}).status, 200)
+
+    def test_beside_a_feed_at_full_speed(self):
+        """Clients that ask meanwhile: each answer is of one version, and versions don't go back."""
+        self.fed(["add", "turn", "s0", "t", 0, 1])
+        wrong, answers, is_over = [], [], threading.Event()
+
+        def watch():
+            before = 0
+            while not is_over.is_set():
+                with connect(self.server.url) as session:
+                    found = {source: edge.weight for _, source, _, edge in session.edges("turn")}
+                    if session.version < before or len(set(found.values())) > 1:
+                        wrong.append((before, session.version, found))
+                    before = session.version
+                    answers.append(before)
+        threads = [threading.Thread(target=watch) for _ in range(3)]
+        for it in threads:
+            it.start()
+        with Served(self.server.url) as feed:
+            for _ in range(40):
+                for it in range(20):
+                    feed.add("turn", f"s{it}", "t", 1, 1)
+                feed.commit()
+        as_soon_as(lambda: 41 in answers)
+        is_over.set()
+        for it in threads:
+            it.join()
+        self.assertEqual((wrong, set(edge.weight for *_, edge in self.server.store.open().edges("turn"))), ([], {40}))
+
+
+if __name__ == "__main__":
+    unittest.main()

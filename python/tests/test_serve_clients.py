@@ -1,0 +1,249 @@
+"""A server's clients, who gets in, and `misteluk serve` as a process."""
+import io
+import os
+import signal
+import socket
+import stat
+import subprocess
+import sys
+import threading
+import unittest
+from contextlib import redirect_stderr
+
+from serving import FEED, HAS_PACKAGES, ServeCase
+from support import HERE, Case, as_soon_as
+
+import misteluk
+from misteluk import Edge, NoSeat, NoServer, NotAllowed, Served, SessionClosed, connect
+from misteluk.command.main import main
+from misteluk.serve.limits import Limits
+from misteluk.serve.server import Address, Server, token_of
+
+
+class Clients(ServeCase):
+    def test_seats_over_http(self):
+        self.fed()
+        sessions = []
+        self.addCleanup(lambda: [it.close() for it in sessions])
+        for it in range(16):
+            sessions.append(connect(self.server.url))
+            self.assertEqual(self.post("/v1/rows", {"rows": [["add", "k", "a", "b", 1, 1]]}).status, 200)
+        found = self.post("/v1/sessions")
+        self.assertEqual((found.status, found.json["error"]), (503, "NoSeat"))
+        self.assertTrue(0 < int(found.headers["retry-after"]) <= 60)
+        self.assertRaisesRegex(NoSeat, "ask again in", connect, self.server.url)
+        self.assertEqual(sessions[3].version, 4)
+        sessions.pop().close()
+        with connect(self.server.url) as session:
+            self.assertEqual(session.version, 17)
+        with connect(self.server.url, version=4) as session:
+            self.assertEqual(session.version, 4)
+
+    def test_a_version_that_was_let_go(self):
+        self.fed()
+        with connect(self.server.url) as session:
+            self.assertEqual(self.ask(f"/v1/sessions/{session.held.name}", "DELETE").status, 204)
+            self.assertRaisesRegex(SessionClosed, "the server let version 1 go", session.cores)
+            self.assertFalse(session.is_open)
+
+    def test_no_server(self):
+        with socket.socket() as free:
+            free.bind(("127.0.0.1", 0))
+            self.assertRaisesRegex(NoServer, "doesn't answer", connect, f"http://127.0.0.1:{free.getsockname()[1]}")
+        self.assertRaisesRegex(NoServer, "doesn't answer", connect, f"unix:{self.room}/none")
+        for wrong in ("7700", "ftp://localhost", "http://", "unix:"):
+            self.assertRaisesRegex(ValueError, "a server's address", connect, wrong)
+
+    def test_it_takes_no_other_end(self):
+        self.fed()
+        with Served(self.server.url) as store:
+            self.assertRaisesRegex(misteluk.StoreError, "by the server alone", store.renew)
+            self.assertRaisesRegex(misteluk.StoreError, "by the server alone", store.rebase, store.open())
+
+
+class Doors(ServeCase):
+    """Who gets in."""
+
+    def test_a_token(self):
+        self.serve(token="open sesame".replace(" ", "-"))
+        self.assertEqual(self.ask("/v1/stat").status, 401)
+        self.assertEqual(self.ask("/v1/stat", Authorization="Bearer open-sesamE").status, 401)
+        self.assertEqual(self.ask("/v1/stat", Authorization="Basic open-sesame").status, 401)
+        self.assertEqual(self.ask("/v1/stat", Authorization="Bearer \xe9").status, 401)
+        self.assertEqual(self.ask("/v1/stat", Authorization="Bearer open-sesame").status, 200)
+        self.assertEqual(self.ask("/").status, 200)
+        self.assertRaises(NotAllowed, connect, self.server.url)
+        self.assertRaises(NotAllowed, connect, self.server.url, token="another-one")
+        with connect(self.server.url, token="open-sesame") as session:
+            self.assertEqual(session.version, 0)
+
+    def test_pages_of_others_get_nothing(self):
+        """A name of another machine that leads here, and a page of another origin, are told no."""
+        self.fed()
+        port = self.server.address.port
+        for headers in ({"Host": f"evil.example:{port}"}, {"Host": ""}, {"Host": "127.0.0.1.evil.example"}, {"Host": "[::1"},
+                        {"Origin": "http://evil.example"}, {"Origin": "null"}, {"Sec-Fetch-Site": "cross-site"}):
+            self.assertEqual(self.ask("/v1/stat", **headers).status, 403, headers)
+        self.assertEqual(self.ask("/v1/stat", Host=f"localhost:{port}", Origin=f"http://localhost:{port}").status, 200)
+
+    def test_other_machines_want_a_token(self):
+        with misteluk.Store() as store:
+            for listen in ("0.0.0.0:0", "[::]:0", "192.0.2.1:0"):
+                self.assertRaisesRegex(ValueError, "that wants a token", Server, store, listen)
+            for wrong in ("7700", "localhost:", "localhost:99999", ":7700", "unix:", "localhost:x"):
+                self.assertRaisesRegex(ValueError, "an address is", Server, store, wrong)
+            for wrong in ("short", "with space", "päßwörter"):
+                self.assertRaisesRegex(ValueError, "a token has", Server, store, "127.0.0.1:0", token=wrong)
+        self.assertEqual(Address.of("[::1]:7").url, "http://[::1]:7")
+
+    def test_a_token_of_a_file(self):
+        path = self.file("token", "open-sesame\n")
+        os.chmod(path, 0o644)
+        self.assertRaisesRegex(ValueError, "can be read by others", token_of, path)
+        os.chmod(path, 0o600)
+        self.assertEqual(token_of(path), "open-sesame")
+
+    def test_a_unix_socket(self):
+        """It is its owner's alone from the first; one that a server left is taken, and one that is in use isn't."""
+        path = str(self.room / "socket")
+        with socket.socket(socket.AF_UNIX) as left:
+            left.bind(path)
+        server = self.serve(f"unix:{path}")
+        self.assertEqual(stat.S_IMODE(os.stat(path).st_mode), 0o600)
+        with Served(server.url) as store:
+            store.add("k", "a", "b", 5, 1)
+            store.commit()
+            with connect(f"unix:{path}") as session:
+                self.assertEqual(session.edge("k", "a", "b"), Edge(5, 1, 1))
+        with misteluk.Store() as other:
+            self.assertRaises(OSError, Server, other, f"unix:{path}")
+            self.file("plain", "text")
+            self.assertRaises(OSError, Server, other, f"unix:{self.room / 'plain'}")
+        server.stop()
+        self.assertEqual((os.path.exists(path), (self.room / "plain").read_text()), (False, "text"))
+
+    def test_bodies_have_an_end(self):
+        self.serve(limits=Limits(body=1_024))
+        self.assertEqual(self.ask("/v1/rows", "POST", b"x" * 2_000, Content_Type="text/csv").status, 413)
+        self.assertEqual(self.post("/v1/rows", {"rows": FEED}).status, 200)
+        for name, value in (("body", 5), ("clients", 0), ("questions", 99), ("idle", 0), ("time", float("nan"))):
+            self.assertRaises(ValueError, Limits(**{name: value}).checked)
+
+    def test_a_question_that_takes_too_long(self):
+        """It is told so, and lets its version go when it comes to its end."""
+        self.serve(limits=Limits(time=0.2, questions=1))
+        gate = threading.Event()
+        self.addCleanup(gate.set)
+        session = self.server.board._last.session
+        held, session.held = session.held, Slow(session.held, gate)
+        self.addCleanup(setattr, session, "held", held)
+        found = self.ask("/v1/cores")
+        self.assertEqual((found.status, found.json["error"]), (503, "TooLong"))
+        self.assertEqual(self.ask("/v1/stat").status, 200)
+        gate.set()
+        as_soon_as(lambda: not self.server.board._last.is_needed)
+
+    def test_headers_of_each_response(self):
+        self.fed()
+        for path in ("/", "/v1/stat", "/v1/edges", "/v1/nothing", "/live.js"):
+            self.assertEqual(self.ask(path).headers["x-content-type-options"], "nosniff")
+        self.assertIn("default-src 'none'", self.ask("/").headers["content-security-policy"])
+        self.assertNotIn("uvicorn", str(self.ask("/").headers))
+
+
+class Slow:
+    """A held version that answers when it is told to."""
+
+    def __init__(self, held, gate):
+        self._held, self._gate = held, gate
+
+    def cores(self, scope):
+        self._gate.wait(60)
+        return self._held.cores(scope)
+
+    def __getattr__(self, name):
+        return getattr(self._held, name)
+
+
+class Commands(ServeCase):
+    """`misteluk serve` as a process, and what each side sees when another one is killed."""
+
+    def begin(self, *words, **how):
+        env = {**os.environ, "PYTHONPATH": str(HERE.parent)}
+        env.pop("MISTELUK_ENGINE", None)
+        done = subprocess.Popen([sys.executable, "-m", "misteluk", "serve", *words], stdout=subprocess.PIPE,
+                                stderr=subprocess.PIPE, text=True, env=env, **how)
+        self.addCleanup(done.communicate)
+        self.addCleanup(done.kill)
+        return done, done.stdout.readline()
+
+    def test_a_signal_ends_it(self):
+        """All that was read is in, and it says so."""
+        path = str(self.room / "socket")
+        done, told = self.begin("-", "--add", "--source", "1", "--target", "2", "--listen", f"unix:{path}", "--every", "10ms",
+                                stdin=subprocess.PIPE)
+        self.addCleanup(done.stdin.close)
+        self.assertEqual(told, f"misteluk: unix:{path} serves standard input, for this user alone\n")
+        done.stdin.write("ana,bob\nbob,cat\n")
+        done.stdin.flush()
+        with Served(f"unix:{path}") as store:
+            as_soon_as(lambda: store.stat().edges == 2)
+            done.send_signal(signal.SIGTERM)
+            said = done.communicate(timeout=60)[1]
+        self.assertEqual((done.returncode, said.splitlines()[-1]), (0, "misteluk: ended at version 1, of 2 edges"))
+        self.assertFalse(os.path.exists(path))
+
+    def test_a_server_that_is_killed(self):
+        """Its clients are told so; the next one takes its socket, and they connect anew."""
+        path = str(self.room / "socket")
+        done, _ = self.begin("--listen", f"unix:{path}")
+        store = Served(f"unix:{path}")
+        session = store.open()
+        done.kill()
+        done.wait()
+        store.add("k", "a", "b", 5, 1)
+        for call in (session.cores, store.commit, store.stat):
+            self.assertRaisesRegex(NoServer, "doesn't answer", call)
+        self.assertEqual(store.pending, 1)
+        self.begin("--listen", f"unix:{path}")
+        self.assertEqual(store.commit().inserted, 1)
+        self.assertRaisesRegex(SessionClosed, "let version 0 go", session.cores)
+        session.close()
+        with store.open() as other:
+            self.assertEqual(other.edge("k", "a", "b"), Edge(5, 1, 1))
+        store.close()
+
+    def test_clients_that_are_killed(self):
+        """What they hold is let go when they were silent for long enough, and so is the seat of the one that fed."""
+        path = str(self.room / "socket")
+        self.begin("--listen", f"unix:{path}", "--idle", "0.5")
+        code = (f"import misteluk, os; s = misteluk.Served('unix:{path}'); s.add('k', 'a', 'b'); s.commit(); t = s.open(); "
+                "s.add('k', 'a', 'b'); s.commit(); os.kill(os.getpid(), 9)")
+        done = subprocess.run([sys.executable, "-c", code], env={**os.environ, "PYTHONPATH": str(HERE.parent)}, timeout=60)
+        self.assertEqual(done.returncode, -9)
+        with Served(f"unix:{path}") as store:
+            as_soon_as(lambda: len(store.engine.talk.call("GET", "/v1/stat").json()["held"]) == 1)
+            store.add("k", "a", "b")
+            self.assertEqual(store.commit().version, 3)
+
+    def test_what_isn_t_taken(self):
+        for words, told in ((["--listen", "0.0.0.0:0"], "wants a token"), ([__file__], "a feed wants --set or --add"),
+                            (["--engine", "program"], "runs no program"), (["--listen", "nowhere"], "an address is"),
+                            (["--idle", "0", "--listen", "127.0.0.1:0"], "idle is a number"),
+                            (["--token-file", "/none"], "No such file")):
+            said = io.StringIO()
+            with redirect_stderr(said):
+                self.assertEqual(main(["serve", *words]), 1, words)
+            self.assertIn(told, said.getvalue())
+
+
+class Packages(Case):
+    @unittest.skipIf(HAS_PACKAGES, "starlette and uvicorn are there")
+    def test_without_them(self):
+        from misteluk.serve.server import Server as Bare
+        with misteluk.Store() as store:
+            self.assertRaisesRegex(misteluk.Missing, "a server needs (starlette|uvicorn)", Bare, store, "127.0.0.1:0")
+
+
+if __name__ == "__main__":
+    unittest.main()

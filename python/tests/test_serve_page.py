@@ -1,0 +1,111 @@
+"""The server's page in Chromium: what it tells, search, two versions beside each other, hostile names, a token, a phone."""
+import json
+import unittest
+
+from browsing import Browser
+from pages import CHROMIUM, NO_CHROMIUM
+from serving import ServeCase
+
+ODD = ("<script>alert(1)</script>", "</script><img src=x onerror=document.title='hit'>", "O\"Brien & 'Sons'", "Иванов Пётр",
+       "a b")
+
+
+@unittest.skipUnless(CHROMIUM, NO_CHROMIUM)
+class Page(ServeCase):
+    def open(self, **how):
+        browser = Browser(**how)
+        self.addCleanup(browser.close)
+        browser.go(self.server.url)
+        return browser
+
+    def text(self, browser, name):
+        return browser.see(f"document.getElementById({json.dumps(name)}).textContent")
+
+    def look(self, browser, vertex):
+        browser.see(f"document.getElementById('vertex').value = {json.dumps(vertex)}; "
+                    "document.getElementById('look').requestSubmit()")
+        return browser.wait_for("!document.getElementById('view').hidden && document.getElementById('view').srcdoc")
+
+    def test_what_it_tells(self):
+        """And it goes on telling: what comes in is seen, without the page being loaded again."""
+        self.fed()
+        browser = self.open()
+        browser.wait_for("document.getElementById('edges').textContent === '4'")
+        self.assertEqual((self.text(browser, "vertices"), self.text(browser, "version")), ("5", "1"))
+        self.post("/v1/rows", {"rows": [["add", "transfer", "zed", "funnel", 7, 5]]})
+        browser.wait_for("document.getElementById('edges').textContent === '5'")
+        self.assertIn("5 rows came in", self.text(browser, "feed"))
+        self.assertEqual(browser.logged, [])
+
+    def test_search_and_two_versions(self):
+        self.fed()
+        browser = self.open()
+        browser.wait_for("document.getElementById('edges').textContent === '4'")
+        browser.see("document.getElementById('hold').click()")
+        browser.wait_for("document.getElementById('held').textContent.includes('this page one')")
+        self.assertEqual([it["clients"] for it in self.ask("/v1/stat").json["held"]], [1])
+        self.post("/v1/rows", {"rows": [["remove", "transfer", "ben", "funnel"], ["add", "transfer", "zed", "funnel", 7, 5],
+                                        ["add", "transfer", "funnel", "offshore", -940, 6]]})
+        browser.see("const it = document.getElementById('vertex'); it.value = 'FUN'; it.dispatchEvent(new Event('input'))")
+        browser.wait_for("document.querySelector('#names button')?.textContent === 'funnel'")
+        browser.wait_for("document.getElementById('version').textContent === '2'")
+        browser.wait_for("document.getElementById('beside').value === '1'")
+        browser.see("document.querySelector('#names button').click()")
+        page = browser.wait_for("!document.getElementById('view').hidden && document.getElementById('view').srcdoc")
+        for mark in ('id="gone"', 'id="new"', 'id="changed"', "version 1", "version 2"):
+            self.assertIn(mark, page)
+        browser.wait_for("document.getElementById('view').style.height !== ''")  # (its script ran, under the page's policy)
+        browser.see("[...document.querySelectorAll('#held button')].find((it) => it.textContent === 'Let go').click()")
+        browser.wait_for("!document.getElementById('held').textContent.includes('this page one')")
+        self.assertEqual([it["version"] for it in self.ask("/v1/stat").json["held"]], [2])
+        self.assertEqual(browser.logged, [])
+
+    def test_hostile_names(self):
+        """They are text wherever they stand."""
+        self.fed(*(["add", "k", name, "hub", 1, 1] for name in ODD))
+        browser = self.open()
+        browser.wait_for("document.getElementById('edges').textContent === '5'")
+        browser.see("const it = document.getElementById('vertex'); it.value = '<'; it.dispatchEvent(new Event('input'))")
+        browser.wait_for("document.querySelectorAll('#names button').length === 2")
+        found = browser.see("[...document.querySelectorAll('#names button')].map((it) => it.textContent)")
+        self.assertEqual(set(found), set(ODD[:2]))
+        for name in ODD:
+            browser.see("document.getElementById('view').hidden = true")
+            self.look(browser, name)
+            browser.wait_for("document.getElementById('view').style.height !== ''")
+        self.assertEqual((browser.see("document.title"), browser.see("document.querySelectorAll('img').length")), ("Misteluk", 0))
+        self.assertEqual(browser.logged, [])
+
+    def test_a_name_that_isn_t_there(self):
+        self.fed()
+        browser = self.open()
+        browser.see("document.getElementById('vertex').value = 'nobody'; document.getElementById('look').requestSubmit()")
+        told = browser.wait_for("!document.getElementById('fault').hidden && document.getElementById('fault').textContent")
+        self.assertIn("nobody", told)
+
+    def test_a_token(self):
+        self.serve(token="open-sesame")
+        browser = self.open()
+        browser.wait_for("!document.getElementById('entry').hidden")
+        self.assertEqual(self.text(browser, "edges"), "–")
+        for token, expression in (("wrong-one", "!document.getElementById('fault').hidden"),
+                                  ("open-sesame", "document.getElementById('edges').textContent === '0'")):
+            browser.see(f"document.getElementById('token').value = '{token}'; document.getElementById('entry').requestSubmit()")
+            browser.wait_for(expression)
+        browser.wait_for("document.getElementById('entry').hidden")
+
+    def test_a_phone(self):
+        """Nothing is wider than the screen."""
+        self.fed(*(["add", "k", "hub", f"{'a-long-name-' * 8}{it}", 1, 1] for it in range(6)))
+        browser = self.open()
+        browser.size(375, 700, True)
+        browser.wait_for("document.getElementById('edges').textContent === '6'")
+        browser.see("const it = document.getElementById('vertex'); it.value = 'long'; it.dispatchEvent(new Event('input'))")
+        browser.wait_for("document.querySelectorAll('#names button').length === 6")
+        self.assertLessEqual(browser.see("document.documentElement.scrollWidth"), 375)
+        self.look(browser, "hub")
+        self.assertLessEqual(browser.see("document.documentElement.scrollWidth"), 375)
+
+
+if __name__ == "__main__":
+    unittest.main()

@@ -1,0 +1,118 @@
+"""Versions that clients share, and the seat of the one that feeds, by a clock of the tests' own."""
+import unittest
+
+from serving import OF_LIBRARY, Clock
+from support import ENGINE, Case
+
+from misteluk import Busy, SessionClosed
+from misteluk.serve.board import Board, Full
+from misteluk.serve.feeding import Feeding
+from misteluk.serve.limits import Limits
+
+
+@unittest.skipUnless(ENGINE == "library", OF_LIBRARY)
+class Versions(Case):
+    """The board, by a clock of its own."""
+
+    def setUp(self):
+        super().setUp()
+        self.clock = Clock()
+        self.at = self.store(seats=16, endless=True)
+        self.board = Board(self.at, Limits(idle=60, clients=40), self.clock)
+
+    def advance(self):
+        self.at.add("k", "a", "b", 1, 1)
+        self.at.commit()
+        self.board.advance()
+
+    def told(self):
+        return [(it.version, it.clients) for it in self.board.held()]
+
+    def test_clients_of_one_version_share_it(self):
+        leases = [self.board.lease() for _ in range(20)]
+        self.advance()
+        self.assertEqual(self.told(), [(0, 20), (1, 0)])
+        for it in leases:
+            self.board.let_go(it.name)
+        self.assertEqual((self.told(), self.at.engine.open_count), ([(1, 0)], 1))
+
+    def test_sixteen_versions(self):
+        """What comes beyond is told when it may ask again; and then it may."""
+        leases = []
+        for _ in range(16):
+            leases.append(self.board.lease())
+            self.clock.now += 1
+            self.advance()
+        with self.assertRaises(Full) as told:
+            self.board.lease()
+        self.assertEqual((told.exception.word, told.exception.after, len(self.told())), ("NoSeat", 44, 16))
+        self.clock.now += 43.5
+        self.assertRaises(Full, self.board.lease)
+        self.clock.now += 0.5
+        self.assertEqual(self.board.lease().shared.version, 16)
+        self.assertRaisesRegex(SessionClosed, "silent for 60 s", self.board.keep, leases[0].name)
+        self.assertEqual(self.board.keep(leases[1].name).shared.version, 1)
+
+    def test_who_asks_isn_t_silent(self):
+        lease = self.board.lease()
+        self.clock.now = 59
+        with self.board.lent(lease.name) as session:
+            self.clock.now = 500
+            self.assertEqual((self.board.sweep(), session.version), (0, 0))
+        self.advance()
+        self.clock.now = 559
+        self.assertEqual((self.board.sweep(), self.told()), (0, [(0, 1), (1, 0)]))
+        self.clock.now = 560
+        self.assertEqual((self.board.sweep(), self.told()), (1, [(1, 0)]))
+
+    def test_so_many_clients(self):
+        for _ in range(40):
+            self.board.lease()
+        with self.assertRaises(Full) as told:
+            self.board.lease()
+        self.assertEqual((told.exception.word, told.exception.after), ("Full", 60))
+
+    def test_a_version_that_is_asked_stays(self):
+        """Also where its client lets it go meanwhile, and where the next one comes."""
+        with self.board.lent() as session:
+            self.advance()
+            self.assertEqual((len(session), self.told()), (0, [(0, 0), (1, 0)]))
+        self.assertEqual(self.told(), [(1, 0)])
+        lease = self.board.lease()
+        with self.board.lent(lease.name) as session:
+            self.board.let_go(lease.name)
+            self.advance()
+            self.assertEqual(len(session), 1)
+        self.assertEqual(self.told(), [(2, 0)])
+
+    def test_a_version_by_its_number(self):
+        """One that somebody holds can be held by others."""
+        first = self.board.lease()
+        self.advance()
+        second = self.board.lease(0)
+        self.assertEqual((second.shared, self.told()), (first.shared, [(0, 2), (1, 0)]))
+        self.assertRaisesRegex(SessionClosed, "version 7 isn't held", self.board.lease, 7)
+
+    def test_a_feeder_that_is_silent(self):
+        feeding = Feeding(self.board, Limits(idle=60), self.clock)
+        first = feeding.claim()
+        self.clock.now = 59
+        self.assertRaises(Busy, feeding.claim)
+        self.assertEqual(feeding.batch(first.name, 1, "a,k,x,y,1,1\n", {}, True).inserted, 1)
+        self.clock.now = 118
+        self.assertRaises(Busy, feeding.claim)
+        self.clock.now = 119
+        feeding.claim()
+        self.assertRaises(SessionClosed, feeding.batch, first.name, 2, "a,k,x,y,1,1\n", {}, True)
+
+    def test_the_rate(self):
+        feeding = Feeding(self.board, Limits(), self.clock)
+        self.clock.now = 20
+        feeding.rows([["add", "k", "a", f"t{it}", "1", "1"] for it in range(50)])
+        self.assertEqual((feeding.told()["rows"], feeding.told()["rows_a_second"]), (50, 5.0))
+        self.clock.now = 40
+        self.assertEqual(feeding.told()["rows_a_second"], 0)
+
+
+if __name__ == "__main__":
+    unittest.main()
