@@ -232,8 +232,14 @@ class LibraryVersion:
 
 
 def by_target(edges: Arrays, count: int) -> "Tuple[Sequence[int], array[int]]":
-    """The places of edges in order of their targets, and where those of each target begin."""
+    """The places of edges in order of their targets, and where those of each target begin. (Loops let other threads have their
+    turn; a sort of all of them would keep these waiting.)"""
     counts = [0] * (count + 1)
     for it in edges.targets:
         counts[it + 1] += 1
-    return array("I", sorted(range(edges.size), key=edges.targets.__getitem__)), array("I", accumulate(counts))
+    ends, order = array("I", accumulate(counts)), array("I", bytes(4 * edges.size))
+    free = list(ends)
+    for at, it in enumerate(edges.targets):
+        order[free[it]] = at
+        free[it] += 1
+    return order, ends

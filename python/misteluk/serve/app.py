@@ -1,7 +1,6 @@
 """The server's calls over HTTP, each by its route."""
 from __future__ import annotations
 
-import asyncio
 import csv
 import io
 import json
@@ -17,7 +16,7 @@ from starlette.routing import Route
 from . import wire
 from .board import Board, Full, Lease
 from .feeding import Feeding
-from .flow import Pool, Streamed, first_of
+from .flow import Pool, Streamed, first_of, within
 from .limits import Limits
 from .openapi import described
 from .page import POLICY
@@ -50,17 +49,18 @@ class Api:
         files = [Route(f"/{name}", _file(name or "live.html", media), methods=["GET"]) for name, media in
                  (("", "text/html; charset=utf-8"), ("live.css", "text/css"), ("live.js", "text/javascript"))]
         asked = [Route(f"/v1/{it.name}", call(self._asking(it)), methods=["GET"]) for it in QUESTIONS]
-        held = [Route("/v1/sessions", call(self.hold), methods=["POST"]),
+        held = [Route("/v1/sessions/{session}/ask", call(self.ask), methods=["POST"]),
+                Route("/v1/sessions", call(self.hold), methods=["POST"]),
                 Route("/v1/sessions/{session}", call(self.keep), methods=["PUT"]),
-                Route("/v1/sessions/{session}", call(self.let_go), methods=["DELETE"]),
-                Route("/v1/sessions/{session}/ask", call(self.ask), methods=["POST"])]
+                Route("/v1/sessions/{session}", call(self.let_go), methods=["DELETE"])]
         fed = [Route("/v1/rows", call(self.rows), methods=["POST"]), Route("/v1/feeder", call(self.claim), methods=["POST"]),
                Route("/v1/feeder/{feeder}", call(self.leave), methods=["DELETE"]),
                Route("/v1/feeder/{feeder}/batches/{number:int}", call(self.batch), methods=["POST"]),
                Route("/v1/feeder/{feeder}/batches/{number:int}", call(self.landed), methods=["DELETE"])]
         told = [Route("/v1/stat", call(self.stat), methods=["GET"]),
                 Route("/openapi.json", call(self.description), methods=["GET"])]
-        return Starlette(routes=[*files, *told, *asked, *held, *fed], exception_handlers={HTTPException: _no_route})
+        # (routes are looked through in order: those that are asked most come first)
+        return Starlette(routes=[*held, *asked, *told, *fed, *files], exception_handlers={HTTPException: _no_route})
 
     def close(self) -> None:
         for it in (self.quick, self.slow, self.feed):
@@ -189,16 +189,11 @@ class Api:
     async def _body(self, request: Request) -> bytes:
         """The body; no more of it is read than may be."""
         found = bytearray()
-
-        async def read() -> None:
+        async with within(self.limits.time, "the request's body doesn't come"):
             async for part in request.stream():
                 found.extend(part)
                 if len(found) > self.limits.body:
                     raise TooLarge(f"a body has at most {self.limits.body:,} bytes")
-        try:
-            await asyncio.wait_for(read(), self.limits.time)
-        except asyncio.TimeoutError:
-            raise Full("TooLong", "the request's body doesn't come", 1) from None
         return bytes(found)
 
     async def _object(self, request: Request) -> Mapping[str, Any]:

@@ -4,7 +4,8 @@ from __future__ import annotations
 import asyncio
 import threading
 from concurrent.futures import Future, ThreadPoolExecutor
-from typing import Any, Awaitable, Callable, Dict, Iterator, List, MutableMapping, Optional, Tuple, TypeVar
+from contextlib import asynccontextmanager
+from typing import Any, AsyncIterator, Awaitable, Callable, Dict, Iterator, List, MutableMapping, Optional, Tuple, TypeVar
 
 from .board import Full
 from .limits import BYTES_AT_ONCE, Limits
@@ -15,6 +16,27 @@ Send = Callable[[Message], Awaitable[None]]
 Receive = Callable[[], Awaitable[Message]]
 # How many questions may wait for each that is answered.
 WAITING = 100
+
+
+@asynccontextmanager
+async def within(seconds: float, reason: str) -> AsyncIterator[None]:
+    """What is awaited here ends within so many seconds, or by `Full`. (`asyncio.wait_for` makes a task of it each time.)"""
+    task, is_late = asyncio.current_task(), False
+
+    def end() -> None:
+        nonlocal is_late
+        is_late = True
+        if task is not None:
+            task.cancel()
+    timer = asyncio.get_running_loop().call_later(seconds, end)
+    try:
+        yield
+    except asyncio.CancelledError:
+        if is_late:
+            raise Full("TooLong", reason, 1) from None
+        raise
+    finally:
+        timer.cancel()
 
 
 class Pool:
@@ -33,12 +55,11 @@ class Pool:
         self._waiting += 1
         made: "Future[R]" = self._pool.submit(call)
         try:
-            return await asyncio.wait_for(asyncio.shield(asyncio.wrap_future(made)), self._limits.time)
-        except (asyncio.TimeoutError, asyncio.CancelledError) as fault:
+            async with within(self._limits.time, f"the answer takes longer than {self._limits.time:g} s"):
+                return await asyncio.shield(asyncio.wrap_future(made))
+        except (Full, asyncio.CancelledError):
             made.add_done_callback(lambda it: undo(it.result()) if undo and not it.cancelled() and not it.exception() else None)
-            if isinstance(fault, asyncio.CancelledError):
-                raise
-            raise Full("TooLong", f"the answer takes longer than {self._limits.time:g} s", 1) from None
+            raise
         finally:
             self._waiting -= 1
 
@@ -86,8 +107,8 @@ class Streamed:
             await send({"type": "http.response.start", "status": 200, "headers": self._headers})
             part, is_more = self._first, True
             while not gone.done():
-                body = {"type": "http.response.body", "body": part, "more_body": is_more}
-                await asyncio.wait_for(send(body), self._limits.idle)
+                async with within(self._limits.idle, "the answer isn't read"):
+                    await send({"type": "http.response.body", "body": part, "more_body": is_more})
                 if not is_more:
                     break
                 part, is_more = await self._pool.run(self._flow.more)
