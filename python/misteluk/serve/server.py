@@ -128,7 +128,8 @@ class Server:
         from .gate import Gate
         api = Api(self.board, self.feeding, self.limits)
         gate = Gate(api.app(), token, bool(self.address.path))
-            raise ValueError(f"{listen} can be reached from other machines: that wants a token (--token-file)")
+        config = uvicorn.Config(gate, log_level="critical", access_log=False, lifespan="off", server_header=False,
+                                proxy_headers=False,
                                 limit_concurrency=self.limits.clients + CONNECTIONS, timeout_keep_alive=int(self.limits.idle) + 5)
         return uvicorn.Server(config), api
 
