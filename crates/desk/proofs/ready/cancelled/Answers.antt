@@ -7,14 +7,14 @@ use Rattle.desk.proofs.ready.cancelled.Goals as goal
 
 pub give_back_numbers-requires : goal.give_back_numbers-requires
 give_back_numbers-requires c =
-    back_used (old_of c.args.parts c.args.numbers.items).pool c.args.parts.pool c.args.numbers.items c.requires.free c.requires.granted
+    back_used (old_of c.args.parts.value c.args.numbers.items).pool c.args.parts.value.pool c.args.numbers.items c.requires.free c.requires.granted
 
 pub invariant_of-result : goal.invariant_of-result
 invariant_of-result c =
-    kept_same (old_of c.args.parts c.args.numbers.items) _ _ _ _ _ c.requires.before
+    kept_same (old_of c.args.parts.value c.args.numbers.items) _ _ _ _ _ c.requires.before
     (λ i. record {
-      opened = c.args.parts.opened;
-      last = arc_value {X = Version} c.args.parts.last;
-      journal = map entry_of c.args.parts.journal.items;
+      opened = c.args.parts.value.opened;
+      last = arc_value {X = Version} c.args.parts.value.last;
+      journal = map entry_of c.args.parts.value.journal.items;
       pool = c.give_back_numbers.ensures i;
     }) refl (omega arith)

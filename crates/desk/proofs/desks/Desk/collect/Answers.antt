@@ -10,7 +10,7 @@ use Rattle.desk.proofs.desks.Desk.collect.Goals as goal
 
 pub enter_collection-requires : goal.enter_collection-requires
 enter_collection-requires c = λ some.
-    let past = past_and_left c.args.copy.now c.self.inside.parts.pool in
+    let past = past_and_left c.args.copy.now c.self.inside.parts.value.pool in
     let room = c.self.invariant.room_is in
     let count = c.recycle-recycled.ensures.count in
     omega arith
@@ -18,11 +18,11 @@ enter_collection-requires c = λ some.
 -- the desk as it was, and once the collection is entered
 abbrev old : After-enter_collection → DeskView
 old c =
-    let p = c.self.inside.parts in desk_of p.opened (arc_value {X = Version} p.last) p.journal.items p.pool
+    let p = c.self.inside.parts.value in desk_of p.opened (arc_value {X = Version} p.last) p.journal.items p.pool
 
 abbrev new : After-enter_collection → DeskView
 new c =
-    let p = c.self.inside.parts in
+    let p = c.self.inside.parts.value in
     desk_of p.opened (arc_value {X = Version} p.last) c.enter_collection.new.journal.items c.recycle-recycled.new.self
 
 is_new : (c : After-enter_collection) → new c ≡ desk_collected (old c) c.args.copy.now
@@ -34,9 +34,9 @@ collected c = is_collected (old c) (new c) c.args.copy.now (is_new c)
 pub invariant_of-self : goal.invariant_of-self
 invariant_of-self c =
     let a = (goal.at.invariant_of-self c).After-enter_collection in
-    let low : c.args.copy.now.last ≤ length (arc_value {X = Version} c.self.inside.parts.last).batches =
+    let low : c.args.copy.now.last ≤ length (arc_value {X = Version} c.self.inside.parts.value.last).batches =
     subst (λ (d : DeskView). c.args.copy.now.last ≤ length d.last.batches) (sym c.self.view_is) c.requires in
-    let past = past_and_left c.args.copy.now c.self.inside.parts.pool in
+    let past = past_and_left c.args.copy.now c.self.inside.parts.value.pool in
     let left = ap (count_by is_retired) c.recycle-recycled.ensures.pool in
     let room = c.self.invariant.room_is in
     let count = c.recycle-recycled.ensures.count in

@@ -6,14 +6,14 @@ use Rattle.desk.proofs.desks.Desk.grant.Goals as goal
 pub of-requires : goal.of-requires
 of-requires c =
     let e = c.in-Ok.ensures in
-    granted_from c.self.inside.parts c.grant_for.new.parts c.in-Ok.numbers.items e.free e.granted e.same.0 e.same.1 e.same.2
+    granted_from c.self.inside.parts.value c.grant_for.new.parts c.in-Ok.numbers.items e.free e.granted e.same.0 e.same.1 e.same.2
     c.self.invariant
 
 pub returns-in-Ok-clause-granted : goal.returns-in-Ok-clause-granted
 returns-in-Ok-clause-granted c =
     let e = c.in-Ok.ensures in
     c.of.ensures ∙ (λ i. record {
-      old = (old_same c.self.inside.parts c.grant_for.new.parts c.in-Ok.numbers.items e.free e.granted e.same.0 e.same.1 e.same.2
+      old = (old_same c.self.inside.parts.value c.grant_for.new.parts c.in-Ok.numbers.items e.free e.granted e.same.0 e.same.1 e.same.2
           ∙ c.self.view_is) i;
       ops = batch_value c.args.batch;
       numbers = e.numbers i;
