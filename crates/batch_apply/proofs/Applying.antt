@@ -147,10 +147,10 @@ module _ (v : VersionView) (ops : List NamedOp) (workers : ℕ) (positive : 0 < 
               kinds = subst (λ h. length h.kinds ≤ h.limits.kinds) (sym (content_next after))
                   (rw (limits_after_all ops g) (no_more g.limits.kinds (length (after_all ops g).kinds) limits.1));
               count = (
-                let long = length-append v.batches (ops ∷ []) in
-                let same = ap (λ h. h.limits.batches) (content_next after) ∙ ap (λ l. l.batches) (limits_after_all ops g) in
-                omega (arith, long, few, same)
-              );
+                  let long = length-append v.batches (ops ∷ []) in
+                  let same = ap (λ h. h.limits.batches) (content_next after) ∙ ap (λ l. l.batches) (limits_after_all ops g) in
+                  omega (arith, long, few, same)
+                  );
               limits = subst (λ h. AreLimits h.limits) (sym (content_next after))
                   (rw (limits_after_all ops g) is.small.limits);
             };

@@ -10,6 +10,7 @@ ghost use Rattle.stream_store.specs.Opened.{IsOpeningOf};
 use crate::edges::{Edges, insertions};
 use crate::requests::ask_each;
 use batch_apply::PassAll;
+use graph_types::STANDARD_SIZE;
 use graph_version::Version;
 use std::env;
 use std::marker::Brand;
@@ -180,7 +181,7 @@ fn run<R: Threads + Wait + Sync + CpuClock + Print + AllocGlobal>(
     rt: &R,
     rounds: Option<u32>,
 ) -> bool {
-    let Ok(config) = Config::new(1, 65_536, 1) else {
+    let Ok(config) = Config::new(1, STANDARD_SIZE, 1) else {
         return false;
     };
     match Store::open(rt, rt.alloc(), config) {

@@ -203,9 +203,9 @@ impl Desk {
     /// Plans a batch and makes the next version, by the caller alone, with all the memory that its acceptance takes; or refuses
     /// the batch, and gives the desk back as it was. Who wants a refused batch back keeps a shared copy of it.
     ///
-    /// Refused are, in this order: a batch after 65,536 others, one that would leave more than 65,536 vertex names, one
-    /// that would leave more than 64 kinds, and one that asks for more blocks than are free. Want of memory refuses it
-    /// too, at any place.
+    /// Refused are, in this order: a batch behind as many as the limits allow, one that would leave more vertex names than
+    /// these, one that would leave more kinds, and one that asks for more blocks than are free. Want of memory refuses it too,
+    /// at any place.
     ///
     /// ```
     /// let desk = match desk.begin(batch) {

@@ -6,11 +6,11 @@ use thiserror::Error;
 /// Why a batch was refused: the first of these that holds. Want of memory may come at any place.
 #[derive(Clone, Copy, Debug, PartialEq, Eq, Error)]
 pub enum ApplyError {
-    #[error("65,536 batches were applied")]
+    #[error("as many batches were applied as the limit allows")]
     BatchLimit,
-    #[error("the batch would leave more than 65,536 vertex names")]
+    #[error("the batch would leave more vertex names than the limit allows")]
     NamesFull,
-    #[error("the batch would leave more than 64 kinds")]
+    #[error("the batch would leave more kinds than the limit allows")]
     KindsFull,
     #[error("{needed} blocks are needed and {free} are free")]
     PoolEmpty { needed: u32, free: u32 },

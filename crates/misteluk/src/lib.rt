@@ -5,8 +5,8 @@ pub use batch_apply::{Gate, PassAll};
 pub use block_reclamation::{Board, Pin, PinCopy, SeatNo};
 pub use edge_block::EdgeRef;
 pub use graph_types::{
-    AskError, BadLimits, Batch, Content, Degree, Edge, Filter, KindId, Limits, List, Name, NamedFilter,
-    NamedOp, Outcome, PushError, Reply, Request, VertexId, is_kind_name, is_name,
+    AskError, BadLimits, Batch, Content, Degree, Edge, Filter, KindId, Limits, List, Name,
+    NamedFilter, NamedOp, Outcome, PushError, Reply, Request, VertexId, is_kind_name, is_name,
 };
 pub use graph_version::Version;
 pub use stream_store::{

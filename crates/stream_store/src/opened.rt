@@ -62,7 +62,7 @@ impl Model for Opened {
 
 impl Store<Brand> {
     /// Opens a store without edges: version 0, an empty journal, all blocks free, no pins, and seats, numbered from 0, that have
-    /// seen version 0. It waits for nobody.
+    /// seen version 0. The store has the configuration's limits. It waits for nobody.
     pub fn open<R: Wait>(rt: &R, alloc: Global, config: Config) -> Result<Opened, OpenError>
         ensures desk { IfOk result (λ o. o.desk
             ≡ record { book = o.desk.book; workers = config.workers; desk = opened_desk config.blocks (empty_version_in config.limits) }) }
@@ -76,7 +76,7 @@ impl Store<Brand> {
     }
 
     /// Opens a store with what a version holds, for which it copies the version's blocks: version 0 begins with the version's
-    /// content, its rows are laid out as the version's, and all blocks but its own are free. It waits for nobody.
+    /// content under its limits, its rows are laid out as the version's, and all blocks but its own are free. It waits for nobody.
     ///
     /// `PoolEmpty` exactly where the version has more blocks than the configuration.
     pub fn open_from<R: Wait>(

@@ -73,11 +73,16 @@ pub fn open_parts<R: Wait>(
     ensures numbers { IfOk result (λ r. map (λ (s : SeatView). s.number) r.2.items ≡ range_with_len 0 (length r.2.items)) }
     ensures refused { IfErr result (RefusesOpening 0 config.blocks) }
 {
-    open_over(rt, alloc, config, desk::Desk::open_within(alloc, config.limits(), config.blocks())?)
+    open_over(
+        rt,
+        alloc,
+        config,
+        desk::Desk::open_within(alloc, config.limits(), config.blocks())?,
+    )
 }
 
 /// The same with what a version holds, for which it copies the version's blocks: version 0 begins with the version's
-/// content, its rows are laid out as the version's, and all blocks but its own are free. It waits for nobody.
+/// content under its limits, its rows are laid out as the version's, and all blocks but its own are free. It waits for nobody.
 ///
 /// `PoolEmpty` exactly where the version has more blocks than the configuration.
 pub fn open_parts_from<R: Wait>(

@@ -99,9 +99,9 @@ impl Desk {
     /// Applies a batch, and posts the version that it leaves; or refuses it, and leaves all as it was. Its workers work at
     /// once and tell `gate` of themselves; no outcome depends on how many there are.
     ///
-    /// Refused are, in this order: a batch after 65,536 others, one that would leave more than 65,536 vertex names, one
-    /// that would leave more than 64 kinds, and one that asks for more blocks than are free. Want of memory refuses it
-    /// too, at any place.
+    /// Refused are, in this order: a batch behind as many as the limits allow, one that would leave more vertex names than
+    /// these, one that would leave more kinds, and one that asks for more blocks than are free. Want of memory refuses it too,
+    /// at any place.
     pub fn apply<R: Threads + Wait + Sync, G: Gate + Sync>(
         &mut self,
         rt: &R,

@@ -42,7 +42,11 @@ fn limits_keep_to_the_walls(rt: HostRuntime) {
     for limits in PAST {
         same(&rt, told(limits), None);
     }
-    same(&rt, Limits::new(65_536, 64, 65_536).ok(), Some(Limits::standard()));
+    same(
+        &rt,
+        Limits::new(65_536, 64, 65_536).ok(),
+        Some(Limits::standard()),
+    );
 }
 
 // What a batch comes to under these limits, and the content that it leaves.
@@ -67,7 +71,10 @@ const TINY: [(&str, &str); 5] = [
         "i,k,a,b,1,1 i,l,b,c,1,1",
         "Inserted Inserted names a b c kinds k l edges 2",
     ),
-    ("i,k,a,c,1,1 i,k,c,d,1,1", "NamesFull names a b c kinds k l edges 2"),
+    (
+        "i,k,a,c,1,1 i,k,c,d,1,1",
+        "NamesFull names a b c kinds k l edges 2",
+    ),
     ("i,m,a,b,1,1", "KindsFull names a b c kinds k l edges 2"),
     ("i,m,c,d,1,1", "NamesFull names a b c kinds k l edges 2"),
     (

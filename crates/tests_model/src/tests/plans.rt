@@ -32,6 +32,7 @@ fn opening(alloc: Global) -> Result<Opening, LineError> {
     Ok(Opening {
         blocks: numbers(alloc, "7")?,
         content: content_of(alloc, "i,m,x,y,1,1")?,
+        limits: Limits::standard(),
     })
 }
 

@@ -1,11 +1,11 @@
-// Batches of operations, all of them of kind `k`: an operation as a plain value, and batches of them by name.
+// Batches of operations: an operation as a plain value, and batches of them by name.
 
 use super::texts::{push_numbers, split_at, split_word};
 use graph_types::{Batch, NamedOp};
 use std::alloc::{AllocError, Global};
 
-/// An operation: `i` inserts, `a` adds to the weight, `r` removes, `x` expires; its source and target, its weight or amount, its
-/// time.
+/// An operation: `i` inserts, `a` adds to the weight, `r` removes, `x` expires, with a kind behind a colon where that isn't `k`;
+/// its source and target, its weight or amount, its time.
 pub(super) type Op<'a> = (&'a str, &'a str, &'a str, i64, u64);
 
 /// Batches by name, and the operations of each.
@@ -28,6 +28,11 @@ old twice: x - - 0 2, i a b 1 3, r b c 0 0, x - - 0 4
 aged: i a b 1 10, i a c 2 20, i b a 3 15
 expired: x - - 0 15, i a d 4 5
 expired twice: x - - 0 15, i a b 6 30, x - - 0 21
+triangle: i a b 1 1, i:l b c 1 1, i c a 1 1
+fourth name: i:l a b 2 2, i c d 1 1
+third kind: i a b 2 2, i:m b c 1 1
+fourth and third: i:m c d 1 1
+unnamed: i b a 2 2, r:m a d 0 0
 ";
 
 /// Batches of many insertions by name: how many there are, and from how many sources to how many targets in turn.
@@ -64,11 +69,12 @@ fn op_of(text: &str) -> Op<'_> {
 
 fn operation(alloc: Global, op: Op) -> Result<NamedOp, AllocError> {
     let (word, source, target, weight, time) = op;
+    let (word, kind) = word.split_once(":").unwrap_or((word, "k"));
     match word {
-        "i" => NamedOp::insert(alloc, "k", source, target, weight, time),
-        "a" => NamedOp::incr(alloc, "k", source, target, weight, time),
+        "i" => NamedOp::insert(alloc, kind, source, target, weight, time),
+        "a" => NamedOp::incr(alloc, kind, source, target, weight, time),
         "x" => Ok(NamedOp::expire(time)),
-        _ => NamedOp::remove(alloc, "k", source, target),
+        _ => NamedOp::remove(alloc, kind, source, target),
     }
 }
 

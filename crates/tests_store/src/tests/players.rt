@@ -9,6 +9,7 @@ use super::places::Place;
 use super::stages::{End, Front, Stage, apply_at};
 use super::texts::{split_at, split_word};
 use batch_apply::PassAll;
+use graph_types::Limits;
 use std::alloc::{AllocError, Global};
 use std::io::Print;
 use std::marker::Brand;
@@ -25,6 +26,7 @@ struct Play<'a> {
     name: &'a str,
     workers: usize,
     blocks: u32,
+    limits: &'a str,
     from: &'a str,
     at_desk: &'a str,
     shared: &'a str,
@@ -34,13 +36,17 @@ struct Play<'a> {
     may_refuse: bool,
 }
 
-/// A play's text is a line of its workers, blocks and name; `begin with BATCH` where it opens with the version that the batch makes; lines
-/// at the desk; where it is shared, `share` and the lines then; and `close => NUMBER` with the lines behind the end. Without lines at
+/// A play's text is a line of its workers, blocks and name; `limits NAMES KINDS BATCHES` where these aren't the standard ones;
+/// `begin with BATCH` where it opens with the version that the batch makes; lines at the desk; where it is shared, `share` and the lines then; and `close => NUMBER` with the lines behind the end. Without lines at
 /// the desk its store opens as a user's does. A number that can't be read is one that no store opens with, or ends at.
 fn play_of(text: &str, may_refuse: bool) -> Play<'_> {
     let (head, lines) = split_at(text, "\n");
     let (workers, head) = split_word(head);
     let (blocks, name) = split_word(head);
+    let (limits, lines) = match lines.strip_prefix("limits ") {
+        Some(lines) => split_at(lines, "\n"),
+        None => ("", lines),
+    };
     let (before, last) = split_at(lines, "close => ");
     let (last, ended) = split_at(last, "\n");
     let (before, shared) = split_at(before, "share\n");
@@ -49,6 +55,7 @@ fn play_of(text: &str, may_refuse: bool) -> Play<'_> {
         name,
         workers: workers.parse().unwrap_or(0),
         blocks: blocks.parse().unwrap_or(0),
+        limits,
         from,
         at_desk,
         shared,
@@ -270,10 +277,28 @@ fn check_new<R: Threads + Wait + Sync + Abort + Print>(
     Ok(())
 }
 
+/// The limits of three numbers in a text, where they are within the walls.
+fn limits_of(text: &str) -> Option<Limits> {
+    let (names, text) = split_word(text);
+    let (kinds, batches) = split_word(text);
+    let names = names.parse().ok()?;
+    let kinds = kinds.parse().ok()?;
+    Limits::new(names, kinds, batches.parse().ok()?).ok()
+}
+
+/// The configuration of a play's store: under limits of its own where it has any.
+fn config_of(play: &Play) -> Option<Config> {
+    if play.limits.is_empty() {
+        return Config::new(play.workers, play.blocks, 4).ok();
+    }
+    let limits = limits_of(play.limits)?;
+    Config::within(limits, play.workers, play.blocks, 4).ok()
+}
+
 /// Plays over a new store. Where its opening is refused, nothing was opened, and the next one opens, since one growth alone is
 /// refused.
 fn check_play<R: Threads + Wait + Sync + Abort + Print>(rt: &R, alloc: Global, play: &Play) {
-    let config = Config::new(play.workers, play.blocks, 4).expect(rt, "within the limits");
+    let config = config_of(play).expect(rt, "within the limits");
     if let Err(error) = check_new(rt, alloc, config, play) {
         let is_so = play.may_refuse && error == OpenError::OutOfMemory;
         check_so(rt, is_so, play.name);
