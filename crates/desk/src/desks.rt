@@ -220,8 +220,8 @@ impl Desk {
         ensures refused { IfErr result (λ e. Refuses self.last (count_by is_free self.pool) (batch_value batch) e.1) }
         ensures unchanged { IfErr result (λ e. e.0 ≡ self) }
     {
-        let alloc = self.parts.alloc;
-        let plan = match plan_next(alloc, &self.parts.last, &batch) {
+        let alloc = self.allocator();
+        let plan = match plan_next(alloc, self.last(), &batch) {
             Ok(plan) => plan,
             Err(error) => return Err((self, error)),
         };
@@ -279,9 +279,10 @@ impl Desk {
         ensures recycled { result.recycled ≡ count_by (is_reclaimable copy.now) self.old.pool }
         ensures retired { result.retired ≡ count_by is_retired self.new.pool }
     {
-        let recycled = self.parts.pool.recycle(copy);
-        enter_collection(&mut self.parts.journal, copy, recycled);
-        let retired = self.parts.pool.retired();
+        let parts = &mut *self.parts;
+        let recycled = parts.pool.recycle(copy);
+        enter_collection(&mut parts.journal, copy, recycled);
+        let retired = parts.pool.retired();
         Collected {
             floor: copy.floor(),
             recycled,

@@ -250,16 +250,16 @@ impl Ready {
             dropped,
             unused,
         } = prepared;
-        let number = next_number(&parts.last);
-        born_blocks(&mut parts.pool, taken.as_slice(), number);
+        let kept = &mut *parts;
+        let number = next_number(&kept.last);
+        born_blocks(&mut kept.pool, taken.as_slice(), number);
         let entry = JournalEntry::Applied {
             batch,
             taken,
             dropped: dropped_numbers,
         };
-        let Parts { last, journal, .. } = &mut *parts;
-        accept(last, journal, version, entry);
-        move_blocks(&mut parts.pool, dropped, unused, number);
+        accept(&mut kept.last, &mut kept.journal, version, entry);
+        move_blocks(&mut kept.pool, dropped, unused, number);
         (Desk { parts }, Accepted { number, outcomes })
     }
 
