@@ -11,7 +11,7 @@ use Rattle.block_reclamation.specs.Status.{is_at, is_listed, is_used, IsDated}
 use Rattle.epoch_core.specs.declared.{session_states.SessionState.TheVariants.Idle, events.Event.{Event, TheVariants.Reply}}
 use Rattle.epoch_core.specs.declared.events.Event.TheVariants.{Release, Take, Fill, Post, Floor, Recycle, Pin, Enter, Settle, Ask}
 use Rattle.epoch_core.specs.{declared.events.Event.TheVariants.Read, Posts.posted, Worlds.{IsStart, World, last_number, session_of}}
-use Rattle.epoch_core.specs.Worlds.start_in
+use Rattle.epoch_core.specs.Worlds.{start_in}
 use Rattle.epoch_core.specs.Versions.{blocks_at}
 use Rattle.epoch_core.specs.{Worlds.MachineState, Sound.{IsDatedAt, IsListedAsDated, IsListedAt, IsNamed, IsSound}, Blocks.{changed_at, taken, reclaimed}}
 use Rattle.epoch_core.specs.{Runs.{next_world, run}, Posting.can_post, Machine.{step, with_heap, with_status}}

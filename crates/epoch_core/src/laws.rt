@@ -56,7 +56,7 @@ pub fn law_exact_collection()
     ensures may_be_held { CollectionsLeaveWhatMayBeHeld }
 {}
 
-/// The rule of a Post: in every world it is done exactly where there are fewer than 65,536 batches, each block is
+/// The rule of a Post: in every world it is done exactly where there are fewer batches than its limits allow, each block is
 /// granted or of the last version, none is listed twice, the batch meets no limit on names or kinds, and the edges in
 /// the blocks, taken together, are each once the edges that the batch leaves of the last version.
 pub fn law_post()

@@ -1,3 +1,4 @@
+pub mod Configured
 pub mod ReceiptLaws
 pub mod Rows
 pub mod Seated

@@ -3,9 +3,10 @@ use Rattle.std.proofs.Common.{◌≡◌, ℕ, zero, suc, ◌+◌, ◌<◌, List,
 use Rattle.std.proofs.{Common.{◌∙◌, arith}, lemmas.List.{map-append, length-append, Elements.{All-head, All-tail, All-cons}}}
 use Rattle.std.{proofs.lemmas.Grind.common_steps, specs.{List.range_with_len, Prelude.{All, slice_index_or}}}
 use Rattle.logbook.specs.Pages.{Book}
+use Rattle.graph_types.specs.Graph.{Graph}
 use Rattle.graph_version.specs.Versions.{VersionView}
 use Rattle.version_shelf.specs.Shelves.{ToldView}
-use Rattle.stream_store.specs.Seats.{SeatView, HasSeen}
+use Rattle.stream_store.specs.{Seats.{SeatView, HasSeen}, Stores.IsSeatOf}
 
 abbrev IsNew : Book → VersionView → ToldView → Type 0
 IsNew book version x = x ≡ record { book = book; version = version }
@@ -57,3 +58,10 @@ pub seen_more : (seats more : List SeatView) (s : SeatView) (x : ToldView) (xs y
     ∷ [] → s.seen ≡ x → xs ≡ x ∷ ys
     → map (λ (t : SeatView). t.seen) seats ++ xs ≡ readers → map (λ (t : SeatView). t.seen) more ++ ys ≡ readers
 seen_more seats more s x xs ys readers items is cut same = grind (arith, common_steps)
+
+-- seats that have seen one version alone are of the opening with which that began
+pub of_opening : (book here : Book) (opening : Graph) (version : VersionView) (seats : List SeatView) → here ≡ book
+    → version.opening ≡ opening → All (HasSeen here version) seats → All (IsSeatOf book opening) seats
+of_opening book here opening version seats same began all = λ k d h.
+    let seen = all k d h in
+    record { book_is = ap (λ (x : ToldView). x.book) seen ∙ same; opening_is = ap (λ (x : ToldView). x.version.opening) seen ∙ began }

@@ -4,6 +4,7 @@
 // replies it has.
 
 ghost use Rattle.std.specs.Prelude.{◌≡◌, ◌≤◌, ◌<◌, length};
+ghost use Rattle.block_reclamation.specs.Status.{most_blocks};
 
 use super::checks::same;
 use super::events::event;
@@ -115,7 +116,7 @@ pub(super) fn check_new(
     requires some_sessions { 1 ≤ sessions }
     requires few_sessions { sessions ≤ 16 }
     requires some_blocks { 1 ≤ blocks }
-    requires few_blocks { blocks ≤ 65536 }
+    requires few_blocks { blocks ≤ most_blocks }
 {
     let mut core = Core::new(alloc, sessions, blocks).expect(rt, "a machine");
     for table in tables {

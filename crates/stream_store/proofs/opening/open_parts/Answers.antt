@@ -14,5 +14,5 @@ open_over-requires g c =
       },
       subst (λ n. c.in_ok-open_within.field-0 ≡ opened_desk n (empty_version_in limits)) c.blocks-2.ensures.number
           (c.in_ok-open_within.ensures
-          ∙ ap (λ l. opened_desk c.blocks-2.result (empty_version_in l)) c.limits-2.ensures.value),
+          ∙ ap (λ l. opened_desk c.blocks-2.result (empty_version_in l)) c.limits.ensures.value),
     )

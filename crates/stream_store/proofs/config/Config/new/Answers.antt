@@ -1,10 +1,6 @@
-use Rattle.std.proofs.Common.{rules}
+use Rattle.stream_store.proofs.Configured.{standard_made}
 use Rattle.stream_store.proofs.config.Config.new.Goals as goal
 
--- Their searches are long where they fail.
-
-pub invariant_of-result : goal.invariant_of-result
-invariant_of-result c = search rules
-
 pub returns : goal.returns
-returns c = search rules
+returns c = standard_made c.args.workers c.args.blocks c.args.seats c.standard.result c.within.result c.standard.ensures.value
+    c.standard.ensures.limits c.if-blocks-gt-STANDARD_SIZE.false c.within.ensures
