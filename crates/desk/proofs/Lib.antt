@@ -1,4 +1,5 @@
 pub mod Collections
+pub mod Filling
 pub mod Handing
 pub mod Moving
 pub mod OwnedLaws

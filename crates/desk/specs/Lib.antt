@@ -1,4 +1,5 @@
 pub mod Applying
+pub mod Copies
 pub mod Kept
 pub mod Openings
 pub mod Owned

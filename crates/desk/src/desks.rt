@@ -24,6 +24,7 @@ ghost use Rattle.desk.specs.Kept.{entry_of};
 ghost use Rattle.desk.specs.Openings.{OpensWith, RefusesOpening};
 
 use crate::applying::plan_next;
+use crate::copies::KeptCopy;
 use crate::entries::{JournalEntry, enter};
 use crate::errors::{ApplyError, OpenError};
 use crate::ready::{Accepted, Granted, Load, Ready, grant_for};
@@ -57,7 +58,8 @@ pub(crate) struct Parts {
 /// assert_eq!(rt; desk.stat().number, accepted.number);
 /// ```
 pub struct Desk {
-    pub(crate) parts: Parts,
+    /// In a place of their own, so that a desk is handed on as a pointer.
+    pub(crate) parts: Box<Parts>,
 }
 
 // Written by hand: who lets one go rests on this function, and not on how each part is let go.
@@ -78,9 +80,10 @@ impl Model for Desk {
 
     ghost coded = { Prim.hlevel (codes, graph_code) };
 
-    ghost view = { λ d. desk_in d.parts };
+    ghost view = { λ d. desk_in d.parts.value };
 
-    ghost invariant = { λ d. IsKept (desk_in d.parts) (vec_len d.parts.journal) (vec_capacity d.parts.journal) };
+    ghost invariant = { λ d.
+        IsKept (desk_in d.parts.value) (vec_len d.parts.value.journal) (vec_capacity d.parts.value.journal) };
 }
 
 /// What a collection answers: its floor, how many blocks it recycled, and how many stay retired.
@@ -119,7 +122,7 @@ impl Desk {
         ensures { IfOk result (λ d. d ≡ opened_desk blocks (empty_version_in limits)) }
     {
         let zero = Zero::blank(alloc, limits, blocks)?;
-        Ok(Desk::opened(alloc, blocks, zero))
+        Desk::opened(alloc, blocks, zero)
     }
 
     /// A desk with what a version holds, for which it copies the version's blocks: version 0 begins with the version's content,
@@ -144,29 +147,30 @@ impl Desk {
             });
         }
         let zero = Zero::over(alloc, blocks, version)?;
-        Ok(Desk::opened(alloc, blocks, zero))
+        Ok(Desk::opened(alloc, blocks, zero)?)
     }
 
-    /// The desk at its opening, over version 0. It takes no memory.
-    fn opened(alloc: Global, blocks: u32, zero: Zero) -> Desk
+    /// The desk at its opening, over version 0.
+    fn opened(alloc: Global, blocks: u32, zero: Zero) -> Result<Desk, AllocError>
         requires least { 16 ≤ blocks }
         requires zero { OpensWith blocks zero }
-        ensures { result ≡ opened_desk blocks (arc_value {X = Version} zero.version) }
+        ensures { IfOk result (λ d. d ≡ opened_desk blocks (arc_value {X = Version} zero.version)) }
     {
         let Zero {
             version,
             numbers,
             pool,
         } = zero;
-        Desk {
-            parts: Parts {
-                alloc,
-                opened: numbers,
-                last: version,
-                pool,
-                journal: Vec::new(alloc),
-            },
-        }
+        let parts = Parts {
+            alloc,
+            opened: numbers,
+            last: version,
+            pool,
+            journal: Vec::new(alloc),
+        };
+        Ok(Desk {
+            parts: Box::new(alloc, parts)?,
+        })
     }
 
     /// Grants blocks for a batch that was planned over the last version; or refuses it, and gives the desk back as it was. What is
@@ -216,8 +220,8 @@ impl Desk {
         ensures refused { IfErr result (λ e. Refuses self.last (count_by is_free self.pool) (batch_value batch) e.1) }
         ensures unchanged { IfErr result (λ e. e.0 ≡ self) }
     {
-        let alloc = self.parts.alloc;
-        let plan = match plan_next(alloc, &self.parts.last, &batch) {
+        let alloc = self.allocator();
+        let plan = match plan_next(alloc, self.last(), &batch) {
             Ok(plan) => plan,
             Err(error) => return Err((self, error)),
         };
@@ -275,9 +279,10 @@ impl Desk {
         ensures recycled { result.recycled ≡ count_by (is_reclaimable copy.now) self.old.pool }
         ensures retired { result.retired ≡ count_by is_retired self.new.pool }
     {
-        let recycled = self.parts.pool.recycle(copy);
-        enter_collection(&mut self.parts.journal, *copy, recycled);
-        let retired = self.parts.pool.retired();
+        let parts = &mut *self.parts;
+        let recycled = parts.pool.recycle(copy);
+        enter_collection(&mut parts.journal, copy, recycled);
+        let retired = parts.pool.retired();
         Collected {
             floor: copy.floor(),
             recycled,
@@ -296,7 +301,7 @@ impl Desk {
             last,
             pool: _pool,
             journal: _journal,
-        } = parts;
+        } = Box::into_inner(parts);
         last
     }
 
@@ -329,7 +334,7 @@ impl Desk {
         ensures retired { result.retired ≡ count_by is_retired self.now.pool }
         ensures used { result.used ≡ count_by is_in_use self.now.pool }
     {
-        let Parts { last, pool, .. } = &self.parts;
+        let Parts { last, pool, .. } = &*self.parts;
         Stat {
             number: last.number(),
             names: last.names().len(),
@@ -365,13 +370,14 @@ impl Desk {
 }
 
 /// Enters a collection that recycled a block, for which there is room.
-fn enter_collection(journal: &mut Vec<JournalEntry>, copy: PinCopy, recycled: u32)
+fn enter_collection(journal: &mut Vec<JournalEntry>, copy: &PinCopy, recycled: u32)
     requires { 0 < recycled → vec_len journal.old < vec_capacity journal.old }
-    ensures entries { map entry_of journal.new.items ≡ map entry_of journal.old.items ++ collections copy recycled }
+    ensures entries { map entry_of journal.new.items ≡ map entry_of journal.old.items ++ collections copy.now recycled }
     ensures len { vec_len journal.new ≤ vec_len journal.old + recycled }
     ensures capacity { vec_capacity journal.old ≤ vec_capacity journal.new }
 {
     if recycled > 0 {
+        let copy = KeptCopy::of(copy);
         enter(journal, JournalEntry::Collected { copy, recycled });
     }
 }

@@ -2,7 +2,7 @@
 
 ghost use Rattle.std.specs.Prelude.{◌≡◌, ◌+◌, ◌<◌, ◌≤◌, ◌++◌, ◌∷◌, [], vec_capacity, vec_len};
 
-use block_reclamation::PinCopy;
+use crate::copies::KeptCopy;
 use graph_types::{Batch, List};
 use std::sync::Arc;
 
@@ -17,7 +17,7 @@ pub enum JournalEntry {
     },
     /// A collection by this copy of the pins that recycled this many blocks, at least one.
     Collected {
-        copy: PinCopy,
+        copy: KeptCopy,
         recycled: u32,
     },
 }

@@ -11,6 +11,7 @@
 #![tactic(auto)]
 
 mod applying;
+mod copies;
 mod desks;
 mod entries;
 mod errors;
@@ -20,6 +21,7 @@ mod ready;
 mod seats;
 mod zero;
 
+pub use copies::KeptCopy;
 pub use desks::{Collected, Desk, Stat};
 pub use entries::JournalEntry;
 pub use errors::{ApplyError, HoldError, OpenError, ReleaseError};

@@ -45,7 +45,7 @@ pub struct Load {
 
 /// A desk that has granted blocks for a batch. It ends in [`ready`](Granted::ready); where it is dropped, so is the desk.
 pub struct Granted {
-    parts: Parts,
+    parts: Box<Parts>,
     numbers: Vec<u32>,
     batch: Arc<Batch>,
 }
@@ -72,12 +72,12 @@ impl Model for Granted {
     ghost coded = { Prim.hlevel (codes, graph_code) };
 
     ghost view = { λ g. record {
-      old = old_of g.parts g.numbers.items;
+      old = old_of g.parts.value g.numbers.items;
       ops = batch_value g.batch;
       numbers = g.numbers.items;
     } };
 
-    ghost invariant = { λ g. IsGranted g.parts g.numbers.items };
+    ghost invariant = { λ g. IsGranted g.parts.value g.numbers.items };
 }
 
 /// A desk with a batch that is ready: the next version is made, and there is room for all that its acceptance takes. It ends in
@@ -89,7 +89,7 @@ impl Model for Granted {
 /// let desk = if shown.is_ok() { ready.finish().0 } else { ready.cancel() };
 /// ```
 pub struct Ready {
-    parts: Parts,
+    parts: Box<Parts>,
     numbers: Vec<u32>,
     prepared: Prepared,
 }
@@ -114,9 +114,9 @@ impl Model for Ready {
 
     ghost coded = { Prim.hlevel (codes, graph_code) };
 
-    ghost view = { λ r. ready_of r.parts r.numbers.items r.prepared };
+    ghost view = { λ r. ready_of r.parts.value r.numbers.items r.prepared };
 
-    ghost invariant = { λ r. IsReady r.parts r.numbers.items r.prepared };
+    ghost invariant = { λ r. IsReady r.parts.value r.numbers.items r.prepared };
 }
 
 /// The answer to an accepted batch: the number of the version that it made, and its operations' outcomes in their order.
@@ -128,10 +128,10 @@ pub struct Accepted {
 
 impl Granted {
     /// The blocks that were granted to a desk of these parts.
-    pub(crate) fn of(parts: Parts, numbers: Vec<u32>, batch: Arc<Batch>) -> Granted
-        requires { IsGranted parts numbers.items }
+    pub(crate) fn of(parts: Box<Parts>, numbers: Vec<u32>, batch: Arc<Batch>) -> Granted
+        requires { IsGranted parts.value numbers.items }
         ensures { result ≡ record {
-          old = old_of parts numbers.items;
+          old = old_of parts.value numbers.items;
           ops = batch_value batch;
           numbers = numbers.items;
         } }
@@ -171,9 +171,9 @@ impl Granted {
 }
 
 /// The desk of before.
-fn cancelled(mut parts: Parts, numbers: Vec<u32>) -> Desk
-    requires { IsGranted parts numbers.items }
-    ensures { result ≡ old_of parts numbers.items }
+fn cancelled(mut parts: Box<Parts>, numbers: Vec<u32>) -> Desk
+    requires { IsGranted parts.value numbers.items }
+    ensures { result ≡ old_of parts.value numbers.items }
 {
     give_back_numbers(&mut parts.pool, numbers);
     Desk { parts }
@@ -250,15 +250,16 @@ impl Ready {
             dropped,
             unused,
         } = prepared;
-        let number = next_number(&parts.last);
-        born_blocks(&mut parts.pool, taken.as_slice(), number);
+        let kept = &mut *parts;
+        let number = next_number(&kept.last);
+        born_blocks(&mut kept.pool, taken.as_slice(), number);
         let entry = JournalEntry::Applied {
             batch,
             taken,
             dropped: dropped_numbers,
         };
-        accept(&mut parts.last, &mut parts.journal, version, entry);
-        move_blocks(&mut parts.pool, dropped, unused, number);
+        accept(&mut kept.last, &mut kept.journal, version, entry);
+        move_blocks(&mut kept.pool, dropped, unused, number);
         (Desk { parts }, Accepted { number, outcomes })
     }
 
@@ -282,9 +283,9 @@ impl Ready {
     }
 
     /// The next version was prepared for a desk of these parts.
-    fn of(parts: Parts, numbers: Vec<u32>, prepared: Prepared) -> Ready
-        requires { IsReady parts numbers.items prepared }
-        ensures old { result.old ≡ old_of parts numbers.items }
+    fn of(parts: Box<Parts>, numbers: Vec<u32>, prepared: Prepared) -> Ready
+        requires { IsReady parts.value numbers.items prepared }
+        ensures old { result.old ≡ old_of parts.value numbers.items }
         ensures ops { result.ops ≡ ops_of prepared }
         ensures accepts { Accepts result.old result.ops result.new }
     {

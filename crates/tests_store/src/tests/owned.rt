@@ -126,8 +126,15 @@ fn tell_rebase(desk: &mut OwnedDesk, text: &mut String) -> Result<(), AllocError
     push_numbers(text, &[desk.opening()])
 }
 
+/// What a refusal is to leave: the counts, the journal, and how often the desk was opened anew.
+fn push_kept(text: &mut String, desk: &OwnedDesk) -> Result<(), AllocError> {
+    push_stat(text, desk.desk().stat())?;
+    push_journal(text, desk.desk().journal())?;
+    push_numbers(text, &[desk.opening()])
+}
+
 /// Does a line, and tells of it.
-fn tell(
+pub(super) fn tell(
     alloc: Global,
     desk: &mut OwnedDesk,
     line: &str,
@@ -141,6 +148,7 @@ fn tell(
         "collect" => push_collected(text, desk.collect()),
         "stat" => push_stat(text, desk.desk().stat()),
         "journal" => push_journal(text, desk.desk().journal()),
+        "kept" => push_kept(text, desk),
         _ => tell_rebase(desk, text),
     }
 }
@@ -158,14 +166,15 @@ fn check_play(rt: &impl Abort, alloc: Global, desk: &mut OwnedDesk, play: &str) 
     }
 }
 
-fn owned(rt: &impl Abort, alloc: Global) -> OwnedDesk {
-    OwnedDesk::over(Desk::open(alloc, 48).expect(rt, "a desk"))
+pub(super) fn owned(alloc: Global) -> Result<OwnedDesk, AllocError> {
+    Ok(OwnedDesk::over(Desk::open(alloc, 48)?))
 }
 
 #[test]
 fn plays_at_an_owned_desk(rt: HostRuntime) {
     for play in PLAYS {
-        check_play(&rt, rt.alloc(), &mut owned(&rt, rt.alloc()), play);
+        let mut desk = owned(rt.alloc()).expect(&rt, "a desk");
+        check_play(&rt, rt.alloc(), &mut desk, play);
     }
 }
 

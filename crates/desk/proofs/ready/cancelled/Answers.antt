@@ -1,20 +1,26 @@
-use Rattle.std.proofs.Common.{refl, map, arith}
+use Rattle.std.proofs.Common.{refl, map, sym, subst, arith}
 use Rattle.std.specs.Arc.{arc_value}
 use Rattle.graph_version.specs.declared.versions.Version.{Version}
-use Rattle.desk.specs.{Kept.entry_of, Ready.old_of}
+use Rattle.desk.specs.{Kept.entry_of, Ready.{IsGranted, old_of}, declared.desks.Parts.Parts}
 use Rattle.desk.proofs.{Handing.back_used, Collections.kept_same}
 use Rattle.desk.proofs.ready.cancelled.Goals as goal
 
 pub give_back_numbers-requires : goal.give_back_numbers-requires
 give_back_numbers-requires c =
-    back_used (old_of c.args.parts c.args.numbers.items).pool c.args.parts.pool c.args.numbers.items c.requires.free c.requires.granted
+    let p = c.deref_mut.result.now in
+    let is : IsGranted p c.args.numbers.items =
+    subst (λ (q : Parts). IsGranted q c.args.numbers.items) (sym c.deref_mut.ensures.value) c.requires in
+    back_used (old_of p c.args.numbers.items).pool p.pool c.args.numbers.items is.free is.granted
 
 pub invariant_of-result : goal.invariant_of-result
 invariant_of-result c =
-    kept_same (old_of c.args.parts c.args.numbers.items) _ _ _ _ _ c.requires.before
+    let p = c.deref_mut.result.now in
+    let is : IsGranted p c.args.numbers.items =
+    subst (λ (q : Parts). IsGranted q c.args.numbers.items) (sym c.deref_mut.ensures.value) c.requires in
+    kept_same (old_of p c.args.numbers.items) _ _ _ _ _ is.before
     (λ i. record {
-      opened = c.args.parts.opened;
-      last = arc_value {X = Version} c.args.parts.last;
-      journal = map entry_of c.args.parts.journal.items;
+      opened = p.opened;
+      last = arc_value {X = Version} p.last;
+      journal = map entry_of p.journal.items;
       pool = c.give_back_numbers.ensures i;
     }) refl (omega arith)

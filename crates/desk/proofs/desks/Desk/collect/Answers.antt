@@ -1,28 +1,36 @@
-use Rattle.std.proofs.Common.{◌≡◌, ℕ, ◌≤◌, length, sym, ap, subst, ◌∙◌, arith, count_by}
+use Rattle.std.proofs.Common.{◌≡◌, ℕ, ◌≤◌, length, sym, ap, subst, ◌∙◌, arith, count_by, vec_len, vec_capacity}
 use Rattle.std.{proofs.lemmas.Grind.common_steps, specs.Arc.arc_value}
 use Rattle.graph_version.specs.declared.versions.Version.{Version}
 use Rattle.block_reclamation.specs.Status.{is_reclaimable, is_retired}
 use Rattle.store_steps.{specs.{Desks.{DeskView, IsCollected, births_in}, Steps.{TakesAt, recycling}}, proofs.Collecting.collected_takes}
 use Rattle.store_steps.proofs.CollectedDesk.{past_and_left, is_collected, births_collected, desk_collected}
-use Rattle.desk.{specs.Kept.desk_of, proofs.desks.Desk.collect.Goals.After-enter_collection}
-use Rattle.desk.proofs.Collections.{collection_kept}
+use Rattle.desk.{specs.{Kept.{IsKept, desk_in, desk_of}, declared.desks.Parts.Parts}, proofs.Collections.collection_kept}
+use Rattle.desk.proofs.desks.Desk.collect.Goals.{After-recycle-recycled, After-enter_collection}
 use Rattle.desk.proofs.desks.Desk.collect.Goals as goal
+
+-- what is lent of the desk
+kept : (c : After-recycle-recycled) → IsKept (desk_in c.deref_mut-parts.result.now) (vec_len c.deref_mut-parts.result.now.journal)
+    (vec_capacity c.deref_mut-parts.result.now.journal)
+kept c = subst (λ (q : Parts). IsKept (desk_in q) (vec_len q.journal) (vec_capacity q.journal)) (sym c.deref_mut-parts.ensures.value)
+    c.self.invariant
+
+shown : (c : After-recycle-recycled) → desk_in c.deref_mut-parts.result.now ≡ c.args.self.now
+shown c = ap desk_in c.deref_mut-parts.ensures.value ∙ c.self.view_is
 
 pub enter_collection-requires : goal.enter_collection-requires
 enter_collection-requires c = λ some.
-    let past = past_and_left c.args.copy.now c.self.inside.parts.pool in
-    let room = c.self.invariant.room_is in
+    let past = past_and_left c.args.copy.now c.deref_mut-parts.result.now.pool in
+    let room = (kept (goal.at.enter_collection-requires c).After-recycle-recycled).room_is in
     let count = c.recycle-recycled.ensures.count in
     omega arith
 
 -- the desk as it was, and once the collection is entered
 abbrev old : After-enter_collection → DeskView
-old c =
-    let p = c.self.inside.parts in desk_of p.opened (arc_value {X = Version} p.last) p.journal.items p.pool
+old c = desk_in c.deref_mut-parts.result.now
 
 abbrev new : After-enter_collection → DeskView
 new c =
-    let p = c.self.inside.parts in
+    let p = c.deref_mut-parts.result.now in
     desk_of p.opened (arc_value {X = Version} p.last) c.enter_collection.new.journal.items c.recycle-recycled.new.self
 
 is_new : (c : After-enter_collection) → new c ≡ desk_collected (old c) c.args.copy.now
@@ -34,32 +42,37 @@ collected c = is_collected (old c) (new c) c.args.copy.now (is_new c)
 pub invariant_of-self : goal.invariant_of-self
 invariant_of-self c =
     let a = (goal.at.invariant_of-self c).After-enter_collection in
-    let low : c.args.copy.now.last ≤ length (arc_value {X = Version} c.self.inside.parts.last).batches =
-    subst (λ (d : DeskView). c.args.copy.now.last ≤ length d.last.batches) (sym c.self.view_is) c.requires in
-    let past = past_and_left c.args.copy.now c.self.inside.parts.pool in
+    let b = (goal.at.invariant_of-self c).After-recycle-recycled in
+    let low : c.args.copy.now.last ≤ length (arc_value {X = Version} c.deref_mut-parts.result.now.last).batches =
+    subst (λ (d : DeskView). c.args.copy.now.last ≤ length d.last.batches) (sym (shown b)) c.requires in
+    let past = past_and_left c.args.copy.now c.deref_mut-parts.result.now.pool in
     let left = ap (count_by is_retired) c.recycle-recycled.ensures.pool in
-    let room = c.self.invariant.room_is in
+    let room = (kept b).room_is in
     let count = c.recycle-recycled.ensures.count in
-    collection_kept (old a) (new a) c.args.copy.now _ _ _ _ c.self.invariant low (is_new a)
+    collection_kept (old a) (new a) c.args.copy.now _ _ _ _ (kept b) low (is_new a)
     (omega (arith, past, left, room, count, c.enter_collection.ensures.len, c.enter_collection.ensures.capacity))
 
 pub returns-clause-steps : goal.returns-clause-steps
 returns-clause-steps c =
     let a = (goal.at.returns-clause-steps c).After-enter_collection in
-    subst (λ (d : DeskView). TakesAt c.args.copy.now d (recycling c.args.copy.now d.pool) (new a)) c.self.view_is
+    subst (λ (d : DeskView). TakesAt c.args.copy.now d (recycling c.args.copy.now d.pool) (new a))
+    (shown (goal.at.returns-clause-steps c).After-recycle-recycled)
     (collected_takes (old a) (new a) c.args.copy.now (collected a))
 
 pub returns-clause-collected : goal.returns-clause-collected
 returns-clause-collected c =
     let a = (goal.at.returns-clause-collected c).After-enter_collection in
-    subst (λ (d : DeskView). IsCollected d c.args.copy.now (new a)) c.self.view_is (collected a)
+    subst (λ (d : DeskView). IsCollected d c.args.copy.now (new a)) (shown (goal.at.returns-clause-collected c).After-recycle-recycled)
+    (collected a)
 
 pub returns-clause-births : goal.returns-clause-births
 returns-clause-births c =
     let a = (goal.at.returns-clause-births c).After-enter_collection in
-    subst (λ (d : DeskView). (source : ℕ) → births_in (new a) source ≡ births_in d source) c.self.view_is
-    (births_collected (old a) (new a) c.args.copy.now c.self.invariant.desk (collected a))
+    let b = (goal.at.returns-clause-births c).After-recycle-recycled in
+    subst (λ (d : DeskView). (source : ℕ) → births_in (new a) source ≡ births_in d source) (shown b)
+    (births_collected (old a) (new a) c.args.copy.now (kept b).desk (collected a))
 
 pub returns-clause-recycled : goal.returns-clause-recycled
 returns-clause-recycled c =
-    c.recycle-recycled.ensures.count ∙ ap (λ (d : DeskView). count_by (is_reclaimable c.args.copy.now) d.pool) c.self.view_is
+    c.recycle-recycled.ensures.count ∙ ap (λ (d : DeskView). count_by (is_reclaimable c.args.copy.now) d.pool)
+    (shown (goal.at.returns-clause-recycled c).After-recycle-recycled)
