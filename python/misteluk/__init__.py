@@ -28,7 +28,7 @@ from .page.view import View, view
 from .saving import Saved
 from .session import Session
 from .store import Store
-from .values.answers import Answer, Collected, Commit, Degree, Edge, Neighbor, Rebased, Renewed, Stat
+from .values.answers import Answer, Collected, Commit, Components, Degree, Edge, Neighbor, Rebased, Renewed, Stat
 from .values.edges import Changed, Diff, Edges
 from .version import VERSION as __version__
 
@@ -38,7 +38,7 @@ __all__ = [
     "load", "survey", "load_in_steps", "Loaded", "Survey", "follow", "Following", "Followed",
     "Columns", "ReadAs", "Feed", "open_feed", "delimited", "snap", "matrix_market",
     "from_networkx", "from_pandas", "from_columns", "from_rows",
-    "Answer", "Edges", "Diff", "Changed", "Collected", "Commit", "Degree", "Edge", "Neighbor", "Rebased", "Renewed", "Saved",
+    "Answer", "Components", "Edges", "Diff", "Changed", "Collected", "Commit", "Degree", "Edge", "Neighbor", "Rebased", "Renewed", "Saved",
     "Stat", "view", "View", "lint",
     "find_library", "find_program",
     "StoreError", "Refused", "Place", "AlreadyOpen", "BadCommand", "BadFields", "BadName", "BadRows", "BadSlot", "BadTime",

@@ -17,7 +17,7 @@ from . import files
 
 from .values import records
 from .engine.copies import Content, content_of, operations_of
-from .engine.protocol import Operations
+from .engine.operations import REMOVE, Operations, Row, records_of, row_of
 from .errors import Missing, OverLimit, PoolEmpty, SaveFault, StoreError
 from .feeds.feed import escaped, parts_of
 from .engine.finding import Path
@@ -68,7 +68,7 @@ class Found(NamedTuple):
 
     facts: Dict[str, str]
     texts: Dict[str, str]
-    operations: List[str]
+    operations: List[Row]
 
     def count(self, fact: str) -> int:
         return int(self.facts[fact])
@@ -77,15 +77,15 @@ class Found(NamedTuple):
 class Room:
     """How many blocks the edges take behind each operation of a copy, in a store that is collected behind each batch."""
 
-    def __init__(self, operations: Sequence[str]) -> None:
+    def __init__(self, operations: Sequence[Row]) -> None:
         self.behind = array("I", [0])
         edges: Set[Tuple[str, ...]] = set()
         degrees: Dict[Tuple[str, ...], int] = {}
         used = 0
-        for fields in map(records.split_record, operations):
-            edge, source = tuple(fields[1:4]), tuple(fields[1:3])
+        for code, *ends, _, __ in operations:
+            edge, source = tuple(ends), tuple(ends[:2])
             degree = degrees.get(source, 0)
-            if fields[0] == "r":
+            if code == REMOVE:
                 edges.remove(edge)
                 degrees[source] = degree - 1
                 used -= (degree - 1) % records.BLOCK_EDGES == 0
@@ -130,9 +130,9 @@ def save(session: "Session[Any, Any]", path: Path, progress: Optional[bool] = No
 
 # What is written.
 
-def _script(head: str, operations: Sequence[str], size: int) -> bytes:
+def _script(head: str, operations: Sequence[Row], size: int) -> bytes:
     """The whole file; the operations in batches of this size."""
-    batches = ("".join([*it, "commit\ncollect\n"]) for it in parts_of(operations, size or 1))
+    batches = (f"{records_of(it)}commit\ncollect\n" for it in parts_of(operations, size or 1))
     told = "".join([head, *batches]).encode("ascii")
     return f"{_OPENING}i,{KIND},form:{FORM},{hashlib.sha256(told).hexdigest()},0,0\n".encode("ascii") + told
 
@@ -189,7 +189,8 @@ def found_in(data: bytes, name: str) -> Found:
         raise SaveFault(f"{name} is damaged or cut: its digest is another than that of what it has. Nothing is restored")
     head, _, body = told.decode("ascii").partition(_END)
     facts, texts = _told(head)
-    return Found(facts, texts, [it for it in body.splitlines(True) if it[1] == ","])
+    lines = (it for it in body.splitlines() if it[1] == ",")
+    return Found(facts, texts, list(map(row_of, map(records.split_record, lines))))
 
 
 def _told(head: str) -> Tuple[Dict[str, str], Dict[str, str]]:
@@ -232,10 +233,10 @@ def _fill(store: "Store[Any, Any]", found: Found, size: int, told: Progress) -> 
     ledger = store.ledger
     ledger.terms.names.put(found.texts)
     for part in parts_of(found.operations, size or 1):
-        ledger.apply(Operations("".join(part).encode("ascii"), len(part)), True)
+        ledger.apply(Operations(part), True)
         told.step(len(part))
     told.end()
-    kinds = dict.fromkeys(records.split_record(it)[1] for it in found.operations)
+    kinds = dict.fromkeys(it[1] for it in found.operations)
     ledger.kinds.update(dict.fromkeys(map(ledger.terms.names.to_user, kinds)))
 
 

@@ -6,18 +6,19 @@ import warnings
 from datetime import datetime
 from decimal import Decimal
 from types import TracebackType
-from typing import TYPE_CHECKING, Any, Generic, List, Literal, Optional, Type, overload
+from typing import TYPE_CHECKING, Any, Dict, Generic, List, Literal, Optional, Type, overload
 
 from .engine.finding import Path
 from .engine.guard import put
 from .engine.making import make_engine
+from .engine.operations import ADD, EXPIRE, INSERT, REMOVE
 from .engine.protocol import Denied
 from .feeds.opening import reads
 from .errors import NoSeat, PoolEmpty, StoreError, Uncommitted
 from .ledger import Ledger
 from .session import Session
 from .values import records
-from .values.answers import Collected, Commit, Rebased, Renewed, Stat, T, W
+from .values.answers import Collected, Commit, Rebased, Renewed, Stat, T, W, shown_as_html
 from .values.limits import within
 from .values.units import Amount, Moment, Units
 
@@ -127,22 +128,22 @@ class Store(Generic[W, T]):
 
     def insert(self, kind: str, source: str, target: str, weight: Amount = 1, time: Moment = 0) -> None:
         """Adds an edge, or sets the weight of the one that is there."""
-        self.ledger.keep(("i", kind, source, target, weight, time), f"i,{kind},{source},{target},{weight},{time}\n")
+        self.ledger.keep(INSERT, kind, source, target, weight, time)
 
     def add(self, kind: str, source: str, target: str, amount: Amount = 1, time: Moment = 0) -> None:
         """Adds to the weight of the edge that is there, or adds the edge. Repeated transfers want this one."""
-        self.ledger.keep(("a", kind, source, target, amount, time), f"a,{kind},{source},{target},{amount},{time}\n")
+        self.ledger.keep(ADD, kind, source, target, amount, time)
 
     def remove(self, kind: str, source: str, target: str) -> None:
         """Takes the edge away; that there was none the receipt of `commit` counts."""
-        self.ledger.keep(("r", kind, source, target), "")
+        self.ledger.keep(REMOVE, kind, source, target, 0, 0)
 
     def expire(self, time: Moment) -> None:
         """Takes away each edge whose recent time is before this time; the receipt of `commit` counts them.
 
         Its batch asks for as many free blocks more as are used.
         """
-        self.ledger.keep(("x", time), "")
+        self.ledger.keep(EXPIRE, "", "", "", 0, time)
 
     @property
     def pending(self) -> int:
@@ -214,13 +215,11 @@ class Store(Generic[W, T]):
 
     def stat(self) -> Stat:
         """The last version's number, names and edges, and the blocks."""
-        with self.ledger.terms.told_of("stat"):
-            return self.engine.stat()
+        return self.engine.stat()
 
     def collect(self) -> Collected:
         """Frees each replaced block that no open session's version has."""
-        with self.ledger.terms.told_of("collect"):
-            return self.engine.collect()
+        return self.engine.collect()
 
     def open(self, slot: Optional[int] = None) -> Session[W, T]:
         """A session that holds the last version, in the first free slot or in that one. One that nobody has any more, as where
@@ -236,7 +235,7 @@ class Store(Generic[W, T]):
             more = f", or make the store with more seats ({most} at most)" if self.seats < most else ""
             raise NoSeat(f"all {self.seats} seats hold sessions: close one{more}") from None
         except Denied as fault:
-            raise self.ledger.terms.denied(fault, ("open", str(slot))) from None
+            raise self.ledger.terms.denied(fault, f"open({slot})") from None
 
     def rebase(self, session: Session[Any, Any]) -> Rebased:
         """Begins the store anew with the graph of the version that the session holds, which is version 0 from then on.
@@ -256,7 +255,7 @@ class Store(Generic[W, T]):
             return (self.engine.rebase(session.held), put(self, "_rebasing", None))[0]
         except Denied as fault:
             if fault.word != "PoolEmpty":
-                raise self.ledger.terms.denied(fault, ("rebase", str(session.slot))) from None
+                raise self.ledger.terms.denied(fault, f"rebase({session!r})") from None
             text = f"a copy of version {session.version} finds no room in {self.blocks} blocks, and nothing was changed"
             raise PoolEmpty(needed=self.blocks + 1, free=None, text=text,
                             advice="Save the session, and restore it with more blocks") from None
@@ -343,6 +342,15 @@ class Store(Generic[W, T]):
     def __del__(self) -> None:
         if not getattr(self, "_is_closed", True) and not sys.is_finalizing() and not self.engine.is_elsewhere:
             warnings.warn("a store was let go without close()", ResourceWarning, stacklevel=2)
+
+    def _repr_html_(self) -> str:
+        """What a notebook shows."""
+        told: Dict[str, object] = {"engine": self.engine.told(), "state": "closed"}
+        if not (self._is_closed or self.engine.is_elsewhere):
+            it = self.stat()
+            told.update(state=f"{self.engine.open_count} of {self.seats} seats open, {self.pending} pending", version=it.version,
+                        vertices=it.names, edges=it.edges, blocks=f"{it.used:,} used of {self.blocks:,}, {it.retired:,} retired")
+        return shown_as_html("Store", told)
 
     def __repr__(self) -> str:
         state = f"{self.engine.open_count} of {self.seats} seats open, {self.pending} pending, by {self.engine.told()}"

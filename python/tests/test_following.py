@@ -196,7 +196,7 @@ class Following(Case):
         followed = self.follow(self.file("late.csv", text_of(rows)), store, keep=10, batch=20, until_end=True)
         for _ in range(2):
             self.assertRaises(misteluk.PoolEmpty, next, followed)
-            self.assertEqual((store.pending, store.ledger.pending.count("x,90\n")), (18, 1))
+            self.assertEqual((store.pending, store.ledger.told_pending.count("x,90\n")), (18, 1))
 
     def test_batches_are_full(self):
         path = self.file("full.csv", text_of(some_rows(10_000)))

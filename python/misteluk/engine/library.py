@@ -13,13 +13,14 @@ from ctypes import c_uint64
 from typing import Any, Dict, List, Optional, Tuple
 
 from . import interface
-from .calling import Known, LibraryFlight, check, opened, refusal_of
+from .calling import Known, LibraryFlight, check, fill, opened, refusal_of
 from .copies import Content, content_of, operations_of
 from .finding import find_library
 from .guard import Guard, Notes, Owned, Step, alone
 from .held import LibraryVersion, Opening
 from .interface import Code
-from .protocol import Operations, Denied, Receipt
+from .operations import Operations
+from .protocol import Denied, Receipt
 from ..errors import NoSeat, StoreError
 from ..values import records
 from ..values.answers import Collected, Commit, Rebased, Renewed, Stat
@@ -44,6 +45,8 @@ class LibraryEngine:
         self.guard = self._guard = Guard()
         self._held: "Dict[int, weakref.ref[LibraryVersion]]" = {}
         self._versions: "List[weakref.ref[LibraryVersion]]" = []
+        # The handle of a batch that was applied, and so has no operation: the next one takes it.
+        self._empty: List[Owned] = []
         self._rebased: Optional[Tuple[LibraryVersion, Rebased]] = None
         self._opening = self._new(0)
 
@@ -101,7 +104,14 @@ class LibraryEngine:
     # Batches.
 
     def flight(self, batch: Operations, collect: bool) -> LibraryFlight:
-        return LibraryFlight(self.library, self.handles, batch, collect)
+        owned = self._empty.pop() if self._empty else self._new_batch()
+        fill(self.library, owned.raw, batch)
+        return LibraryFlight(batch, collect, owned)
+
+    def _new_batch(self) -> Owned:
+        owned = Owned(interface.Batch(), self.handles.batches)
+        check(self.library.batch_new(owned.raw))
+        return owned
 
     @alone
     def landed(self, flight: LibraryFlight) -> Optional[Receipt]:
@@ -124,7 +134,7 @@ class LibraryEngine:
             opening, is_more = helped
 
     def _receipt(self, opening: Opening, flight: LibraryFlight) -> Receipt:
-        it = flight.counts
+        it, self._empty = flight.counts, [flight.owned]
         if flight.collect:
             self._collect(opening)
         return Receipt(Commit(it.version + opening.before, it.inserted, it.updated, it.removed, it.absent, it.overflowed, 1,
@@ -215,7 +225,7 @@ class LibraryEngine:
         at = 0
         while at < len(operations):
             part = operations[at:at + min(records.MOST_OPERATIONS, max(self._stat(opening).free, 1))]
-            flight = self.flight(Operations("".join(part).encode("ascii"), len(part)), True)
+            flight = self.flight(Operations(part), True)
             check(self.library.desk_apply(opening.desk.raw, flight.owned.raw, flight.counts))
             self._collect(opening)
             at += len(part)

@@ -7,9 +7,9 @@ to version within an opening.
 from __future__ import annotations
 
 from array import array
-from typing import Any, Callable, List, NamedTuple, Optional, Protocol, Sequence, Tuple
+from typing import Any, List, NamedTuple, Optional, Protocol, Sequence, Tuple
 
-from ..errors import Place
+from .operations import Operations
 from ..values import records
 from ..values.answers import Collected, Commit, Rebased, Renewed, Stat
 
@@ -65,19 +65,6 @@ class Arrays(NamedTuple):
         if scope.since > 0 or scope.until < records.MOST_TIME:
             found = [at for at in found if scope.since <= self.recents[at] <= scope.until]
         return found
-
-
-class Operations(NamedTuple):
-    """Operations that go in together: their records, how many they are, and where each came from, by its place."""
-
-    text: bytes
-    size: int
-    place: Optional[Callable[[int], Place]] = None
-
-    @property
-    def expires(self) -> bool:
-        """Whether an operation expires edges; then the batch asks for the used blocks too."""
-        return self.text.startswith(b"x,") or b"\nx," in self.text
 
 
 class Receipt(NamedTuple):

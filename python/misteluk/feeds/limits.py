@@ -29,7 +29,7 @@ def check(found: "Survey", *, skip_bad: bool = False) -> None:
         raise BadRows(found.feed, found.bad, found.rows, found.faults, found.fault_counts)
     limits = ("names", found.names, records.MOST_NAMES), ("kinds", len(found.kinds), records.MOST_KINDS)
     over = [f"{count} {what}, where a store takes {most}" for what, count, most in limits if count > most]
-    if found.needed > records.MOST_BLOCKS:
+    if not found.surely_fits(records.MOST_BLOCKS) and found.needed > records.MOST_BLOCKS:
         over.append(f"{found.blocks} blocks for its edges and {found.needed} for its batches, where a store has at most "
                     f"{records.MOST_BLOCKS}; {_smaller(found, records.MOST_BLOCKS, found.blocks)}")
     if over:
@@ -39,11 +39,12 @@ def check(found: "Survey", *, skip_bad: bool = False) -> None:
 def check_room(store: "Store[Any, Any]", found: "Survey", used: int, count: int) -> None:
     """Raises where the store's blocks can't be enough: the edges before a batch take at least those that they need alone, or
     those in use now. And where a program's records can't."""
-    needed, left = found.needed_beside(used), store.records_left
+    left = store.records_left
     if left is not None and (count > left or len(found.parts) > records.MOST_BATCHES):
         raise OverLimit(f"{found.feed} has {count} records with its commits and collections, in {len(found.parts)} batches, and "
                         f"this run takes {left} records more of {records.MOST_RECORDS}, and {records.MOST_BATCHES} batches. "
                         "Nothing was sent", found.counts())
+    needed = 0 if found.surely_fits(store.blocks, used) else found.needed_beside(used)
     if needed > store.blocks:
         text = (f"{found.feed} needs at least {needed} blocks in batches of {max(len(it.lines) for it in found.parts)}, and the "
                 f"store was made with {store.blocks}; nothing was sent")
