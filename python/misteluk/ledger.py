@@ -235,7 +235,7 @@ class Ledger:
             return PoolEmpty(needed=needed, free=fault.stat.free, record=fault.record, place=place,
                              advice=self._room_advice(batch.size, needed, fault.stat))
         left = f"the batch of {batch.size} operations is pending still" if of_pending else ""
-        return refusal(fault.word, left, record=fault.record, place=place)
+        return refusal(fault.word, left, record=fault.record, place=place, advice=fault.advice)
 
     def _room_advice(self, size: int, needed: int, stat: Stat) -> str:
         """What helps where a batch of so many operations needs more blocks than are free: only what wasn't done already."""
@@ -246,8 +246,8 @@ class Ledger:
             ways.append(smaller)
         elif size > 1 and not ways and room > needed - size:
             ways.append(f"{collect}, and {smaller}")
-        if self.engine.blocks < records.MOST_BLOCKS:
-            ways.append(f"give the store more blocks ({records.MOST_BLOCKS:,} at most)")
+        if self.engine.blocks < self.engine.most_blocks:
+            ways.append(f"give the store more blocks ({self.engine.most_blocks:,} at most)")
         told = "; or ".join(ways)
         return told[:1].upper() + told[1:]
 

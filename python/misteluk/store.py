@@ -10,7 +10,7 @@ from typing import TYPE_CHECKING, Any, Dict, Generic, List, Literal, Optional, T
 
 from .engine.finding import Path
 from .engine.guard import put
-from .engine.making import make_engine
+from .engine.making import LIBRARY, choose, make_engine
 from .engine.operations import ADD, EXPIRE, INSERT, REMOVE
 from .engine.protocol import Denied
 from .feeds.opening import reads
@@ -19,7 +19,7 @@ from .ledger import Ledger
 from .session import Session
 from .values import records
 from .values.answers import Collected, Commit, Rebased, Renewed, Stat, T, W, shown_as_html
-from .values.limits import within
+from .values.limits import Limits, within
 from .values.units import Amount, Moment, Units
 
 if TYPE_CHECKING:
@@ -43,9 +43,10 @@ class Store(Generic[W, T]):
     variable MISTELUK_ENGINE says, and else the library, where it can be loaded. `program` names the program to run (see
     `find_program`), and so the second. A program shares no memory with what else this process loads; it takes 999,999 records.
 
-    `blocks`: how many blocks hold edges, 16 to 65,536; each has room for 32 edges of one kind and source, and takes 1 KB once it
-    is used. Else the library has all, and the program 16,384. `seats`: how many sessions may be open at once, 1 to 16.
-    `workers`: how many threads of the program apply a batch, 1 to 8.
+    `blocks`: how many blocks hold edges, from 16 on; each has room for 32 edges of one kind and source, and takes 1 KB once it is
+    used. Else the library has 65,536, and more once they are needed; a program has 16,384, and takes up to 65,536. `limits`: how
+    many vertices, kinds and batches a store in this process takes at most (see `misteluk.Limits`). `seats`: how many sessions may
+    be open at once, 1 to 16. `workers`: how many threads of the program apply a batch, 1 to 8.
     Any text is a name, of a vertex or a kind, but an empty one; `*` alone is no kind. See `misteluk.names`.
 
     `weight_scale`: weights are decimal numbers of so many parts, as 100 for cents; else whole numbers. It divides a power of ten.
@@ -67,58 +68,58 @@ class Store(Generic[W, T]):
     def __init__(self: "Store[int, int]", *, weight_scale: Literal[1], times: Optional[Literal["number"]] = None,
                  decimals: str = "decimal", blocks: Optional[int] = None, seats: int = ..., workers: int = ...,
                  program: Optional[Path] = None, timeout: float = ..., endless: bool = False,
-                 rounding: Optional[str] = None, engine: Optional[str] = None) -> None: ...
+                 rounding: Optional[str] = None, engine: Optional[str] = None, limits: Optional[Limits] = None) -> None: ...
 
     @overload
     def __init__(self: "Store[int, int]", *, weight_scale: Optional[Literal[1]] = None, times: Literal["number"],
                  decimals: str = "decimal", blocks: Optional[int] = None, seats: int = ..., workers: int = ...,
                  program: Optional[Path] = None, timeout: float = ..., endless: bool = False,
-                 rounding: Optional[str] = None, engine: Optional[str] = None) -> None: ...
+                 rounding: Optional[str] = None, engine: Optional[str] = None, limits: Optional[Limits] = None) -> None: ...
 
     @overload
     def __init__(self: "Store[int, datetime]", *, weight_scale: Optional[Literal[1]] = None, times: Literal["iso"],
                  decimals: str = "decimal", blocks: Optional[int] = None, seats: int = ..., workers: int = ...,
                  program: Optional[Path] = None, timeout: float = ..., endless: bool = False,
-                 rounding: Optional[str] = None, engine: Optional[str] = None) -> None: ...
+                 rounding: Optional[str] = None, engine: Optional[str] = None, limits: Optional[Limits] = None) -> None: ...
 
     @overload
     def __init__(self: "Store[Decimal, int]", *, weight_scale: int, times: Optional[Literal["number"]] = None,
                  decimals: Literal["decimal"] = "decimal", blocks: Optional[int] = None, seats: int = ..., workers: int = ...,
                  program: Optional[Path] = None, timeout: float = ..., endless: bool = False,
-                 rounding: Optional[str] = None, engine: Optional[str] = None) -> None: ...
+                 rounding: Optional[str] = None, engine: Optional[str] = None, limits: Optional[Limits] = None) -> None: ...
 
     @overload
     def __init__(self: "Store[Decimal, datetime]", *, weight_scale: int, times: Literal["iso"],
                  decimals: Literal["decimal"] = "decimal", blocks: Optional[int] = None, seats: int = ..., workers: int = ...,
                  program: Optional[Path] = None, timeout: float = ..., endless: bool = False,
-                 rounding: Optional[str] = None, engine: Optional[str] = None) -> None: ...
+                 rounding: Optional[str] = None, engine: Optional[str] = None, limits: Optional[Limits] = None) -> None: ...
 
     @overload
     def __init__(self: "Store[float, int]", *, weight_scale: int, times: Optional[Literal["number"]] = None,
                  decimals: Literal["float"], blocks: Optional[int] = None, seats: int = ..., workers: int = ...,
                  program: Optional[Path] = None, timeout: float = ..., endless: bool = False,
-                 rounding: Optional[str] = None, engine: Optional[str] = None) -> None: ...
+                 rounding: Optional[str] = None, engine: Optional[str] = None, limits: Optional[Limits] = None) -> None: ...
 
     @overload
     def __init__(self: "Store[float, datetime]", *, weight_scale: int, times: Literal["iso"],
                  decimals: Literal["float"], blocks: Optional[int] = None, seats: int = ..., workers: int = ...,
                  program: Optional[Path] = None, timeout: float = ..., endless: bool = False,
-                 rounding: Optional[str] = None, engine: Optional[str] = None) -> None: ...
+                 rounding: Optional[str] = None, engine: Optional[str] = None, limits: Optional[Limits] = None) -> None: ...
 
     @overload
     def __init__(self: "Store[Any, Any]", *, weight_scale: Optional[int] = None, times: Optional[str] = None,
                  decimals: str = "decimal", blocks: Optional[int] = None, seats: int = ..., workers: int = ...,
                  program: Optional[Path] = None, timeout: float = ..., endless: bool = False,
-                 rounding: Optional[str] = None, engine: Optional[str] = None) -> None: ...
+                 rounding: Optional[str] = None, engine: Optional[str] = None, limits: Optional[Limits] = None) -> None: ...
 
     def __init__(self, *, blocks: Optional[int] = None, seats: int = records.USUAL_SEATS, workers: int = records.USUAL_WORKERS,
                  program: Optional[Path] = None, timeout: float = 60.0, weight_scale: Optional[int] = None,
                  times: Optional[str] = None, decimals: str = "decimal", endless: bool = False,
-                 rounding: Optional[str] = None, engine: Optional[str] = None) -> None:
+                 rounding: Optional[str] = None, engine: Optional[str] = None, limits: Optional[Limits] = None) -> None:
         self._is_closed = True
         units = Units(1 if weight_scale is None else weight_scale, times or "number", decimals, rounding).checked()
-        self.engine = make_engine(engine, blocks, seats, workers, program, timeout, endless)
-        self.blocks, self.seats = self.engine.blocks, self.engine.seats
+        self.engine = make_engine(engine, blocks, seats, workers, program, timeout, endless, limits)
+        self.seats = self.engine.seats
         self.ledger = Ledger(self.engine, units, weight_scale is not None or times is not None)
         self._renewals: List[Renewed] = []
         self._rebasing: Optional[Session[Any, Any]] = None
@@ -144,6 +145,11 @@ class Store(Generic[W, T]):
         Its batch asks for as many free blocks more as are used.
         """
         self.ledger.keep(EXPIRE, "", "", "", 0, time)
+
+    @property
+    def blocks(self) -> int:
+        """How many blocks it has. In this process they become more once they are needed, where none were said."""
+        return self.engine.blocks
 
     @property
     def pending(self) -> int:
@@ -209,7 +215,8 @@ class Store(Generic[W, T]):
 
         def make(found: int, weight_scale: Optional[int], times: Optional[str]) -> "Store[Any, Any]":
             return cls(blocks=found, weight_scale=weight_scale, times=times, **options)
-        return restore(path, make, blocks, progress)
+        in_process = choose(options.get("engine"), options.get("program"))[0] == LIBRARY
+        return restore(path, make, blocks, progress, in_process)
 
     # Requests.
 

@@ -140,11 +140,13 @@ class Stores(Case):
         session = store.open()
         nobody = "Никто Никтович"
         self.refused(misteluk.NoVertex, f": levels({nobody!r})", lambda: session.levels(nobody))
-        self.refused(misteluk.NoVertex, f"edge({self.KIND!r}, {IVANOV!r}, {nobody!r})", lambda: session.edge(self.KIND, IVANOV, nobody))
+        self.refused(misteluk.NoVertex, f"edge({self.KIND!r}, {IVANOV!r}, {nobody!r})",
+                     lambda: session.edge(self.KIND, IVANOV, nobody))
         self.refused(misteluk.NoVertex, nobody, lambda: session.edges([(self.KIND, IVANOV, WANG), (self.KIND, IVANOV, nobody)]))
         self.refused(misteluk.NoVertex, nobody, lambda: session.into(nobody))
         self.refused(misteluk.NoKind, f"degrees(kind={nobody!r})", lambda: session.degrees(nobody))
-        self.refused(misteluk.BadWindow, f"levels({IVANOV!r}, since=3, until=2): since 3 is after until 2", lambda: session.levels(IVANOV, since=3, until=2))
+        self.refused(misteluk.BadWindow, f"levels({IVANOV!r}, since=3, until=2): since 3 is after until 2",
+                     lambda: session.levels(IVANOV, since=3, until=2))
         self.refused(misteluk.NoVertex, r"'a b\nc'", lambda: session.levels("a b\nc"))
         self.assertEqual(session.edges([(self.KIND, nobody, WANG), (nobody, IVANOV, WANG)], missing=7), [7, 7])
         self.assertEqual(len(store.ledger.terms.names), len(OTHERS) + 1)  # (a question keeps no name)

@@ -300,8 +300,8 @@ class Stores(Case):
         store.open().close()
 
     def test_arguments(self):
-        for wrong in ({"blocks": 15}, {"blocks": 65_537}, {"seats": 17}, {"workers": 0}, {"timeout": 0}, {"weight_scale": 0},
-                      {"weight_scale": -1}, {"weight_scale": 3}):
+        for wrong in ({"blocks": 15}, {"blocks": 65_537 if ENGINE == "program" else 1 << 32}, {"seats": 17}, {"workers": 0},
+                      {"timeout": 0}, {"weight_scale": 0}, {"weight_scale": -1}, {"weight_scale": 3}):
             with self.assertRaises(ValueError):
                 Store(**wrong)
         self.assertEqual(self.store("insert k a b 1 1", blocks=16, seats=16, workers=8).open(15).version, 1)

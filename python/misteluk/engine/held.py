@@ -12,6 +12,7 @@ from .guard import Guard, Notes, Owned, Step
 from .interface import Code, Library
 from .protocol import WHOLE, Arrays, Denied, Ends, Marks, Scope
 from ..errors import SessionClosed
+from ..values.limits import Limits
 
 # What no hold has.
 NO_HOLD = (1 << 64) - 1
@@ -21,12 +22,15 @@ A_ROW = 32
 
 class Opening(NamedTuple):
     """What an engine has from one beginning anew to the next: its desk, and the holds that are to be given back there; how many
-    versions were made before; its names; and the version at which it is about to begin anew, with the step by which it does."""
+    versions were made before; its names; the desk's blocks and limits; and the version at which it is about to begin anew, with
+    the step by which it does."""
 
     desk: Owned
     holds: Notes
     before: int
     known: Known
+    blocks: int
+    shape: Limits
     anew: Optional[Tuple[int, Step]] = None
 
 

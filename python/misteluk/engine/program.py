@@ -20,6 +20,7 @@ from ..errors import NearLimit, NoSeat, NotRenewed, ProgramEnded, RecordLimit, S
 from ..feeds.progress import MANY, Progress
 from ..values import records
 from ..values.answers import Collected, Commit, Rebased, Renewed, Stat
+from ..values.limits import OF_PROGRAM
 
 # How many requests are sent at once where many are asked.
 ASK_AT_ONCE = 4_096
@@ -56,6 +57,7 @@ class ProgramEngine:
     interrupt ends the waiting for it."""
 
     name = "program"
+    limits, most_blocks, grows = OF_PROGRAM, records.MOST_BLOCKS, False
 
     def __init__(self, program: str, blocks: int, seats: int, workers: int, timeout: float) -> None:
         self.program, self.blocks, self.seats = program, blocks, seats
@@ -172,6 +174,9 @@ class ProgramEngine:
             self.make_room(1)
             del self._held[at]
             self.ask(("close", str(at)))
+
+    def fit(self, vertices: int, kinds: int, blocks: int) -> None:
+        """It has the room that it was begun with."""
 
     # Batches.
 

@@ -131,11 +131,16 @@ class Survey:
         """How many blocks a store needs of which so many are used."""
         return max((it.beside(used) for it in self._counted.needs), default=0)
 
-    def surely_fits(self, blocks: int, used: int = 0) -> bool:
-        """Whether so many blocks, of which so many are used, are enough, as is seen before edges are counted."""
+    @property
+    def room(self) -> int:
+        """How many blocks are enough, as is seen before edges are counted."""
         count = self.rows - self.bad
         edges = min(count, self.names * len(self.kinds)) + count // records.BLOCK_EDGES
-        return max(edges, used) + max((len(it.lines) for it in self.parts), default=0) <= blocks
+        return edges + max((len(it.lines) for it in self.parts), default=0)
+
+    def surely_fits(self, blocks: int, used: int = 0) -> bool:
+        """Whether so many blocks, of which so many are used, are surely enough."""
+        return used + self.room <= blocks
 
     @property
     def times(self) -> Tuple[Any, Any]:
@@ -358,7 +363,7 @@ def load(store: "Store[Any, Any]", data: Any, *, by: str, batch: int = records.M
 
 def load_in_steps(store: "Store[Any, Any]", found: Survey, *, collect: bool = True, skip_bad: bool = False) -> Iterator[Commit]:
     """Loads a survey batch by batch: what each did is given before the next is applied: sessions can be opened between."""
-    check(found, skip_bad=skip_bad)
+    check(found, skip_bad=skip_bad, limits=store.engine.limits, most_blocks=store.engine.most_blocks)
     store.ledger.settle()
     if store.pending and not store.is_closed:  # (a closed store says that it is, as soon as it is asked for its blocks)
         text = f"{store.pending} operations are pending: commit or discard them before a load"

@@ -167,8 +167,8 @@ def are_names(texts: Iterable[str]) -> bool:
 
 
 def whole_numbers(texts: Sequence[str], code: str, digits: int) -> "Optional[array[int]]":
-    """The numbers that texts are, where it is seen at once that each is a whole one of at most so many signs, a minus sign where the
-    array's code has one; `None` for others, which may be some too."""
+    """The numbers that texts are, where it is seen at once that each is a whole one of at most so many signs, a minus sign where
+    the array's code has one; `None` for others, which may be some too."""
     signs = "".join(texts)
     plain = signs if code.isupper() else signs.replace("-", "")
     if not (plain.isdigit() and signs.isascii() and len(max(texts, key=len)) <= digits):
