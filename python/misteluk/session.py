@@ -73,8 +73,8 @@ class Session(Generic[W, T]):
     def _scope(self, call: str, kind: Optional[str], since: Moment, until: Moment, *names: str) -> "Tuple[Scope, str]":
         """Which edges count, and the call as it was made. Raises where a name is none, the kind none, or the window no window."""
         self.must_be_open()
-        if kind is None and since == 0 and until == records.MOST_TIME and not names:
-            return Scope(), f"{call}()"
+        if kind is None and since == 0 and until == records.MOST_TIME and self._terms.right.issuperset(names):
+            return Scope(), called(call, *names)
         must_be_texts((*names, kind or records.ANY))
         said = (("kind", kind, None), ("since", since, 0), ("until", until, records.MOST_TIME))
         told = called(call, *names, **{name: it for name, it, usual in said if str(it) != str(usual)})

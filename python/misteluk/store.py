@@ -6,7 +6,7 @@ import warnings
 from datetime import datetime
 from decimal import Decimal
 from types import TracebackType
-from typing import TYPE_CHECKING, Any, Dict, Generic, List, Literal, Optional, Type, overload
+from typing import TYPE_CHECKING, Any, Callable, Dict, Generic, List, Literal, Optional, Type, TypeVar, overload
 
 from .engine.finding import Path
 from .engine.guard import put
@@ -26,6 +26,7 @@ if TYPE_CHECKING:
     from .feeds.following import Following, Span
     from .feeds.loading import Loaded
 
+R = TypeVar("R")
 
 class Store(Generic[W, T]):
     """A graph that changes by batches; sessions hold versions of it.
@@ -222,11 +223,17 @@ class Store(Generic[W, T]):
 
     def stat(self) -> Stat:
         """The last version's number, names and edges, and the blocks."""
-        return self.engine.stat()
+        return self._asked("stat", self.engine.stat)
 
     def collect(self) -> Collected:
         """Frees each replaced block that no open session's version has."""
-        return self.engine.collect()
+        return self._asked("collect", self.engine.collect)
+
+    def _asked(self, told: str, call: Callable[[], R]) -> R:
+        try:
+            return call()
+        except Denied as fault:
+            raise self.ledger.terms.denied(fault, told) from None
 
     def open(self, slot: Optional[int] = None) -> Session[W, T]:
         """A session that holds the last version, in the first free slot or in that one. One that nobody has any more, as where

@@ -344,7 +344,8 @@ class Following(Case):
         self.let_go = self.kill
         for where, name, fault in ((calls.Calls, "make", made_at_once), (following.Following, "_keep_untaken", lambda *_: None)):
             with mock.patch.object(where, name, fault), self.assertRaises((Exception, KeyboardInterrupt)):
-                self.interrupted(60)
+                for _ in range(9):  # (where a timer's interrupts miss it, others don't)
+                    self.interrupted(60)
 
     def test_an_edge_list(self):
         path = self.file("list.txt", "# edges\n1 2 7\n2\t3\t8\n")

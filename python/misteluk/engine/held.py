@@ -2,6 +2,7 @@
 from __future__ import annotations
 
 from array import array
+from collections import Counter
 from ctypes import c_uint32, c_uint64
 from itertools import accumulate, chain
 from typing import Any, List, NamedTuple, Optional, Protocol, Sequence, Tuple, Union
@@ -16,8 +17,8 @@ from ..values.limits import Limits
 
 # What no hold has.
 NO_HOLD = (1 << 64) - 1
-# How many edges of a vertex are asked for at first.
-A_ROW = 32
+# How many edges of a vertex are asked for at first; and from how many on numpy is worth to be loaded.
+A_ROW, MANY = 32, 50_000
 
 
 class Opening(NamedTuple):
@@ -238,6 +239,17 @@ class LibraryVersion:
 def by_target(edges: Arrays, count: int) -> "Tuple[Sequence[int], array[int]]":
     """The places of edges in order of their targets, and where those of each target begin."""
     counts = [0] * (count + 1)
-    for it in edges.targets:
-        counts[it + 1] += 1
-    return array("I", sorted(range(edges.size), key=edges.targets.__getitem__)), array("I", accumulate(counts))
+    for target, edges_in in Counter(edges.targets).items():
+        counts[target + 1] = edges_in
+    return _in_order(edges.targets), array("I", accumulate(counts))
+
+
+def _in_order(numbers: "array[int]") -> "array[int]":
+    """The places of numbers from the least on, by numpy where that is there."""
+    if len(numbers) >= MANY:
+        try:
+            import numpy
+            return array("I", numpy.argsort(numpy.asarray(numbers), kind="stable").astype("uint32").tobytes())
+        except ImportError:
+            pass
+    return array("I", sorted(range(len(numbers)), key=numbers.__getitem__))
