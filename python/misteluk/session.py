@@ -2,16 +2,16 @@
 from __future__ import annotations
 
 from array import array
-from operator import add
 from typing import (TYPE_CHECKING, Any, Callable, Dict, Generic, Iterable, Iterator, List, Optional, Sequence, Tuple, TypeVar,
                     Union, overload)
 
+from . import walks
 from .engine.finding import Path
 from .engine.protocol import Arrays, Denied, Scope, Held
-from .errors import BadName, Incomplete, NoKind, NoVertex, SessionClosed, refusal
+from .errors import BadName, NoKind, NoVertex, SessionClosed, refusal
 from .values import records
 from .values.answers import Answer, Components, Degree, Edge, Neighbor, T, Values, W, degrees, shown_as_html
-from .values.edges import Diff, Edges, Told
+from .values.edges import Diff, Edges
 from .values.names import called, must_be_texts
 from .values.terms import Terms
 from .values.units import Moment
@@ -277,12 +277,12 @@ class Session(Generic[W, T]):
                until: Moment = records.MOST_TIME) -> Dict[str, Edge[W, T]]:
         """The edges that go out of the source, by target. Of several kinds to one target the weights are summed, with the least
         first time and the greatest recent one."""
-        return _summed(self.edges_out_of(source, kind, since, until), 2)
+        return walks.summed(self.edges_out_of(source, kind, since, until), 2)
 
     def into(self, target: str, kind: Optional[str] = None, since: Moment = 0,
              until: Moment = records.MOST_TIME) -> Dict[str, Edge[W, T]]:
         """Who sends to the target: the edges that come in, by source; as `out_of`."""
-        return _summed(self.edges_into(target, kind, since, until), 1)
+        return walks.summed(self.edges_into(target, kind, since, until), 1)
 
     def neighbors(self, vertex: str, kind: Optional[str] = None, since: Moment = 0,
                   until: Moment = records.MOST_TIME) -> Dict[str, Neighbor[W, T]]:
@@ -308,16 +308,7 @@ class Session(Generic[W, T]):
         if target not in levels:
             self._asked(self.held.levels, asked, scope, self._terms.names.to_program(target, keep=False))
             return None
-        walk: List[Told] = []
-        at = target
-        while levels[at] > 0:
-            step = next((it for it in self.edges_into(at, kind, since, until) if levels.get(it[1]) == levels[at] - 1), None)
-            if step is None:
-                raise Incomplete(f"{at!r} has an edge from a vertex {levels[at] - 1} steps off, by the levels, and the client "
-                                 "knows of none")
-            walk.append(step)
-            at = step[1]
-        walk.reverse()
+        walk = walks.back(self, levels, target, kind, since, until)
         if edges:
             return walk
         return [source, *(it[2] for it in walk)]
@@ -332,23 +323,9 @@ class Session(Generic[W, T]):
             levels = self.levels(vertex, kind, since, until)
             near = {name: level for name, level in levels.items() if level <= hops}
         else:
-            near = self._reached(vertex, hops, kind, since, until)
+            near = walks.reached(self, vertex, hops, kind, since, until)
         asked = self._scope(f"within {hops} of", kind, since, until, vertex)[1]
         return self._answer("level", asked, {"level": Values(array("I", near.values()))}, list(near))
-
-    def _reached(self, vertex: str, hops: int, kind: Optional[str], since: Moment, until: Moment) -> Dict[str, int]:
-        near, front = {vertex: 0}, [vertex]
-        self.edges_out_of(vertex, kind, since, until)  # (raises where the version doesn't have the vertex or the kind)
-        for hop in range(1, hops + 1):
-            found: Dict[str, None] = {}
-            for name in front:
-                found.update(dict.fromkeys(it[2] for it in self.edges_out_of(name, kind, since, until)))
-                found.update(dict.fromkeys(it[1] for it in self.edges_into(name, kind, since, until)))
-            front = [it for it in found if it not in near]
-            if not front:
-                break
-            near.update(dict.fromkeys(front, hop))
-        return near
 
     # What it is, and its end.
 
@@ -414,14 +391,3 @@ class Session(Generic[W, T]):
 
     def __repr__(self) -> str:
         return f"<Session of version {self.version} in slot {self.slot}: {'open' if self.is_open else 'closed'}>"
-
-
-def _summed(edges: Edges, end: int) -> Dict[str, Edge[Any, Any]]:
-    """Edges by one of their ends; those of several kinds are one."""
-    found: Dict[str, Edge[Any, Any]] = {}
-    for *ends, edge in edges:
-        name: Any = ends[end]
-        other = found.get(name)
-        found[name] = edge if other is None else Edge(add(other.weight, edge.weight), min(other.first, edge.first),
-                                                      max(other.recent, edge.recent))
-    return found

@@ -132,8 +132,8 @@ class Room(Case):
             store.insert("road", "v1", "v2")
             self.assertEqual((store.commit().version, store.engine._opening.shape[:2]), (3, (32, 2)))
             store.insert("rail", "v1", "v2")
-            with self.assertRaisesRegex(misteluk.KindsFull, "There would be 28 vertices, where the store takes 21 beside 3 kinds. "
-                                                            "No store takes more"):
+            told = "There would be 28 vertices, where the store takes 21 beside 3 kinds. No store takes more"
+            with self.assertRaisesRegex(misteluk.KindsFull, told):
                 store.commit()
             self.assertEqual((store.discard(), sorted(held.edges())), (1, before[2]))
 

@@ -237,19 +237,18 @@ class LibraryVersion:
 
 
 def by_target(edges: Arrays, count: int) -> "Tuple[Sequence[int], array[int]]":
-    """The places of edges in order of their targets, and where those of each target begin."""
-    counts = [0] * (count + 1)
-    for target, edges_in in Counter(edges.targets).items():
-        counts[target + 1] = edges_in
-    return _in_order(edges.targets), array("I", accumulate(counts))
-
-
-def _in_order(numbers: "array[int]") -> "array[int]":
-    """The places of numbers from the least on, by numpy where that is there."""
-    if len(numbers) >= MANY:
+    """The places of edges in order of their targets, and where those of each target begin; by numpy where they are many and it is
+    there. (Else in a loop, which lets other threads have their turn: a sort of all of them would keep these waiting.)"""
+    counts = Counter(edges.targets)
+    ends = array("I", accumulate(map(counts.__getitem__, range(count)), initial=0))
+    if edges.size >= MANY:
         try:
             import numpy
-            return array("I", numpy.argsort(numpy.asarray(numbers), kind="stable").astype("uint32").tobytes())
+            return array("I", numpy.argsort(numpy.asarray(edges.targets), kind="stable").astype("uint32").tobytes()), ends
         except ImportError:
             pass
-    return array("I", sorted(range(len(numbers)), key=numbers.__getitem__))
+    order, free = array("I", bytes(4 * edges.size)), list(ends)
+    for at, it in enumerate(edges.targets):
+        order[free[it]] = at
+        free[it] += 1
+    return order, ends
