@@ -30,18 +30,19 @@ from .serve.awaited import AwaitedSession, connect_async
 from .serve.client import Served, connect
 from .session import Session
 from .store import Store
-from .values.answers import Answer, Collected, Commit, Degree, Edge, Neighbor, Rebased, Renewed, Stat
+from .values.answers import Answer, Collected, Commit, Components, Degree, Edge, Neighbor, Rebased, Renewed, Stat
 from .values.edges import Changed, Diff, Edges
+from .values.limits import Limits
 from .version import VERSION as __version__
 
 # What there is, in the order in which a newcomer meets it.
 __all__ = [
-    "Store", "Session", "Fleet", "connect", "connect_async", "Served", "AwaitedSession",
+    "Store", "Session", "Fleet", "Limits", "connect", "connect_async", "Served", "AwaitedSession",
     "load", "survey", "load_in_steps", "Loaded", "Survey", "follow", "Following", "Followed",
     "Columns", "ReadAs", "Feed", "open_feed", "delimited", "snap", "matrix_market",
     "from_networkx", "from_pandas", "from_columns", "from_rows",
-    "Answer", "Edges", "Diff", "Changed", "Collected", "Commit", "Degree", "Edge", "Neighbor", "Rebased", "Renewed", "Saved",
-    "Stat", "view", "View", "lint",
+    "Answer", "Components", "Edges", "Diff", "Changed", "Collected", "Commit", "Degree", "Edge", "Neighbor", "Rebased", "Renewed",
+    "Saved", "Stat", "view", "View", "lint",
     "find_library", "find_program",
     "StoreError", "Refused", "Place", "AlreadyOpen", "BadCommand", "BadFields", "BadName", "BadRows", "BadSlot", "BadTime",
     "BadWeight", "BadWindow", "BatchFull", "BatchLimit", "Busy", "FeedFault", "Incomplete", "KindsFull", "LeftOut",

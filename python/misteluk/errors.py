@@ -127,17 +127,18 @@ class BatchFull(Refused):
 
 class BatchLimit(Refused):
     word = "BatchLimit"
-    advice = "A store takes at most 65,536 batches: make them larger, or begin it anew from a session (Store.rebase)"
+    advice = ("A program takes at most 65,536 batches: make them larger, or begin it anew from a session (Store.rebase), or take a "
+              "store in this process (engine='library')")
 
 
 class NamesFull(Refused):
     word = "NamesFull"
-    advice = "A graph has at most 65,536 names, those of removed edges too"
+    advice = "A program's graph has at most 65,536 names, those of removed edges too: a store in this process takes more"
 
 
 class KindsFull(Refused):
     word = "KindsFull"
-    advice = "A graph has at most 64 kinds"
+    advice = "A graph has at most 64 kinds, those of removed edges too"
 
 
 class PoolEmpty(Refused):
@@ -145,8 +146,7 @@ class PoolEmpty(Refused):
     say how many those are."""
 
     word = "PoolEmpty"
-    advice = ("Collect, close a session that holds an old version, make batches smaller, or give the store more blocks (65,536 "
-              "at most)")
+    advice = "Collect, close a session that holds an old version, make batches smaller, or give the store more blocks"
 
     def __init__(self, *, needed: int, free: Optional[int], record: Optional[int] = None, place: Optional[Place] = None,
                  text: str = "", advice: Optional[str] = None) -> None:

@@ -5,10 +5,11 @@ operations are taken from those that are pending by the step that notes so: the 
 """
 from __future__ import annotations
 
-from typing import Dict, List, NamedTuple, Optional, Sequence, Tuple
+from typing import Any, Dict, List, NamedTuple, Optional, Sequence, Tuple
 
 from .engine.guard import FORKS, Guard, alone
-from .engine.protocol import Operations, Denied, Engine, Flight, Receipt
+from .engine.operations import COMMANDS, EXPIRE, REMOVE, Operations, Row
+from .engine.protocol import Denied, Engine, Flight, Receipt
 from .errors import OperationsRefused, PoolEmpty, Refused, StoreError, refusal
 from .values import records
 from .values.answers import Commit, Stat
@@ -32,11 +33,11 @@ class Books(NamedTuple):
 
 
 class Ledger:
-    """The pending operations of a store, as records in the engine's terms, and what became of its batches."""
+    """The pending operations of a store, in the engine's terms, and what became of its batches."""
 
     def __init__(self, engine: Engine, units: Units, units_are_set: bool) -> None:
         self.engine, self.terms, self.units_are_set = engine, Terms(units=units), units_are_set
-        self.pending: List[str] = []
+        self.pending: List[Row] = []
         # The kinds that the store was told of, in order.
         self.kinds: Dict[str, None] = {}
         self.is_closed = False
@@ -47,19 +48,35 @@ class Ledger:
 
     # What is pending.
 
-    def keep(self, fields: Sequence[object], plain: str) -> None:
-        """Keeps an operation. `plain` is its record, where that needs no quotes; most are seen to be right so."""
-        if self._guard.forks != len(FORKS):
-            self._guard.check()
+    def keep(self, code: int, kind: Any, source: Any, target: Any, weight: Any, time: Any) -> None:
+        """Keeps an operation. Most are seen to be right as they stand."""
+        right = self.terms.right
+        if (kind in self.kinds and kind in right and source in right and target in right and self._are_numbers(weight, time)
+                and self._guard.forks == len(FORKS) and not self.is_closed):
+            self.pending.append((code, kind, source, target, weight, time))
+        else:
+            self._keep(code, (kind, source, target), weight, time)
+
+    def _are_numbers(self, weight: Any, time: Any) -> bool:
+        """Whether a weight and a time are the engine's as they stand."""
+        return (type(weight) is int is type(time) and -records.MOST_WEIGHT <= weight <= records.MOST_WEIGHT
+                and 0 <= time <= records.MOST_TIME and self.terms.units.are_plain)
+
+    def _keep(self, code: int, names: Tuple[Any, Any, Any], weight: Any, time: Any) -> None:
+        """Keeps an operation, or raises where a rule is broken."""
+        self._guard.check()
         if self.is_closed:
             raise StoreError("the store is closed")
-        must_be_texts(fields[1:4] if len(fields) > 2 else ())
-        if not (records.is_plain_operation(plain) and self.terms.is_as_it_is(plain)):
-            plain = self.terms.record([whole_text(it) for it in fields])
+        must_be_texts(names if code != EXPIRE else ())
+        if self.terms.are_as_they_are(names) and self._are_numbers(weight, time):
+            row: Row = (code, *names, weight, time)
+        else:
+            fields = {EXPIRE: (time,), REMOVE: names}.get(code, (*names, weight, time))
+            row = self.terms.row([COMMANDS[code], *map(whole_text, fields)])
         self.units_are_set = True
-        if len(fields) > 2:
-            self.kinds.setdefault(str(fields[1]))
-        self.pending.append(plain)
+        if code != EXPIRE:
+            self.kinds.setdefault(names[0])
+        self.pending.append(row)
 
     @property
     def told_pending(self) -> List[str]:
@@ -117,7 +134,7 @@ class Ledger:
             left = len(self.pending)
             while left or not self._books.untold:
                 part = self.pending[:min(batch, left)]
-                self._fly(Operations("".join(part).encode("ascii"), len(part)), collect, True)
+                self._fly(Operations(part), collect, True)
                 left -= len(part)
         except Refused as fault:
             if self._books.untold:
@@ -129,8 +146,10 @@ class Ledger:
     def _forget_taken(self) -> None:
         """Lets go what was told. (Where that is broken off, it's found gone the next time.)"""
         count = len(self.taken)
+        if not count:
+            return
         told = {id(it) for receipts in self.taken[:count] for it in receipts}
-        self._books = self._books._replace(untold=tuple(it for it in self._books.untold if id(it) not in told))
+        self._books = Books(tuple([it for it in self._books.untold if id(it) not in told]), *self._books[1:])
         del self.taken[:count]
 
     @alone
@@ -204,7 +223,7 @@ class Ledger:
         return receipt
 
     def _refusal(self, batch: Operations, at: int, word: str) -> Refused:
-        line = self.terms.told(batch.text.decode("ascii").split("\n")[at])
+        line = self.terms.told(batch.rows[at])
         return refusal(word, line, place=batch.place(at) if batch.place else None)
 
     # What is refused.
@@ -216,7 +235,7 @@ class Ledger:
             return PoolEmpty(needed=needed, free=fault.stat.free, record=fault.record, place=place,
                              advice=self._room_advice(batch.size, needed, fault.stat))
         left = f"the batch of {batch.size} operations is pending still" if of_pending else ""
-        return refusal(fault.word, left, record=fault.record, place=place)
+        return refusal(fault.word, left, record=fault.record, place=place, advice=fault.advice)
 
     def _room_advice(self, size: int, needed: int, stat: Stat) -> str:
         """What helps where a batch of so many operations needs more blocks than are free: only what wasn't done already."""
@@ -227,13 +246,15 @@ class Ledger:
             ways.append(smaller)
         elif size > 1 and not ways and room > needed - size:
             ways.append(f"{collect}, and {smaller}")
-        if self.engine.blocks < records.MOST_BLOCKS:
-            ways.append(f"give the store more blocks ({records.MOST_BLOCKS:,} at most)")
+        if self.engine.blocks < self.engine.most_blocks:
+            ways.append(f"give the store more blocks ({self.engine.most_blocks:,} at most)")
         told = "; or ".join(ways)
         return told[:1].upper() + told[1:]
 
 
 def sum_of(receipts: Sequence[Commit]) -> Commit:
     """What several batches did, as one: the last one's version, and the sums of the counts."""
+    if len(receipts) == 1:
+        return receipts[0]
     counts = [sum(column) for column in zip(*(it[1:] for it in receipts))]
     return Commit(receipts[-1].version, *counts)

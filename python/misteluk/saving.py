@@ -17,7 +17,7 @@ from . import files
 
 from .values import records
 from .engine.copies import Content, content_of, operations_of
-from .engine.protocol import Operations
+from .engine.operations import REMOVE, Operations, Row, records_of, row_of
 from .errors import Missing, OverLimit, PoolEmpty, SaveFault, StoreError
 from .feeds.feed import escaped, parts_of
 from .engine.finding import Path
@@ -54,8 +54,9 @@ class Saved(NamedTuple):
     blocks: int
 
     def __str__(self) -> str:
-        return (f"{self.path}: version {self.version} with {size_of(self.names, self.edges)}, in {self.records} records for "
-                f"`stinger run --blocks {self.blocks}`")
+        is_script = self.records <= records.MOST_RECORDS and self.blocks <= records.MOST_BLOCKS
+        told = f" for `stinger run --blocks {self.blocks}`" if is_script else ", more than `stinger run` takes"
+        return f"{self.path}: version {self.version} with {size_of(self.names, self.edges)}, in {self.records} records{told}"
 
 
 def size_of(names: int, edges: int) -> str:
@@ -68,7 +69,7 @@ class Found(NamedTuple):
 
     facts: Dict[str, str]
     texts: Dict[str, str]
-    operations: List[str]
+    operations: List[Row]
 
     def count(self, fact: str) -> int:
         return int(self.facts[fact])
@@ -77,15 +78,15 @@ class Found(NamedTuple):
 class Room:
     """How many blocks the edges take behind each operation of a copy, in a store that is collected behind each batch."""
 
-    def __init__(self, operations: Sequence[str]) -> None:
+    def __init__(self, operations: Sequence[Row]) -> None:
         self.behind = array("I", [0])
         edges: Set[Tuple[str, ...]] = set()
         degrees: Dict[Tuple[str, ...], int] = {}
         used = 0
-        for fields in map(records.split_record, operations):
-            edge, source = tuple(fields[1:4]), tuple(fields[1:3])
+        for code, *ends, _, __ in operations:
+            edge, source = tuple(ends), tuple(ends[:2])
             degree = degrees.get(source, 0)
-            if fields[0] == "r":
+            if code == REMOVE:
                 edges.remove(edge)
                 degrees[source] = degree - 1
                 used -= (degree - 1) % records.BLOCK_EDGES == 0
@@ -101,8 +102,10 @@ class Room:
         return max((self.behind[at] + min(batch, count - at) for at in range(0, count, batch)), default=0)
 
     def fitting(self) -> int:
-        """How many blocks a store needs, the usual number or more; batches are smaller where it would be more than there are."""
-        return min(max(records.USUAL_BLOCKS, self.needed(records.MOST_OPERATIONS)), records.MOST_BLOCKS)
+        """How many blocks a store needs, the usual number or more; batches are smaller where it would be more than a program has,
+        unless even one operation finds none there."""
+        needed = max(records.USUAL_BLOCKS, self.needed(records.MOST_OPERATIONS))
+        return min(needed, records.MOST_BLOCKS) if self.needed(1) <= records.MOST_BLOCKS else needed
 
     def batch(self, blocks: int) -> int:
         """The size of batches for which so many blocks are enough, or 0."""
@@ -121,7 +124,8 @@ def save(session: "Session[Any, Any]", path: Path, progress: Optional[bool] = No
     operations = list(operations_of(content))
     room = Room(operations)
     blocks = room.fitting()
-    script = _script(_head(session, content, blocks), operations, room.batch(blocks))
+    size = room.batch(blocks) or records.MOST_OPERATIONS
+    script = _script(_head(session, content, blocks), operations, size)
     with files.whole(path) as file, files.packer(file, ending) as packed:
         for at in range(0, len(script), _WRITTEN_AT_ONCE):
             packed.write(script[at:at + _WRITTEN_AT_ONCE])
@@ -130,9 +134,9 @@ def save(session: "Session[Any, Any]", path: Path, progress: Optional[bool] = No
 
 # What is written.
 
-def _script(head: str, operations: Sequence[str], size: int) -> bytes:
+def _script(head: str, operations: Sequence[Row], size: int) -> bytes:
     """The whole file; the operations in batches of this size."""
-    batches = ("".join([*it, "commit\ncollect\n"]) for it in parts_of(operations, size or 1))
+    batches = (f"{records_of(it)}commit\ncollect\n" for it in parts_of(operations, size))
     told = "".join([head, *batches]).encode("ascii")
     return f"{_OPENING}i,{KIND},form:{FORM},{hashlib.sha256(told).hexdigest()},0,0\n".encode("ascii") + told
 
@@ -142,7 +146,7 @@ def _head(session: "Session[Any, Any]", content: Content, needed: int) -> str:
     names and blocks are enough."""
     store, units = session.store, session.store.units
     facts = {"version": session.version, "names": len(content.names), "edges": len(content.edges), "blocks": store.blocks,
-             "needed": needed}
+             "needed": needed, **({"grows": 1} if store.engine.grows else {})}
     told = [(it, str(value)) for it, value in facts.items()]
     if store.ledger.units_are_set:
         told += [("weight_scale", str(units.weight_scale)), ("times", units.times)]
@@ -189,7 +193,8 @@ def found_in(data: bytes, name: str) -> Found:
         raise SaveFault(f"{name} is damaged or cut: its digest is another than that of what it has. Nothing is restored")
     head, _, body = told.decode("ascii").partition(_END)
     facts, texts = _told(head)
-    return Found(facts, texts, [it for it in body.splitlines(True) if it[1] == ","])
+    lines = (it for it in body.splitlines() if it[1] == ",")
+    return Found(facts, texts, list(map(row_of, map(records.split_record, lines))))
 
 
 def _told(head: str) -> Tuple[Dict[str, str], Dict[str, str]]:
@@ -203,18 +208,26 @@ def _told(head: str) -> Tuple[Dict[str, str], Dict[str, str]]:
 
 
 def restore(path: Path, make: "Callable[[int, Optional[int], Optional[str]], Store[Any, Any]]", blocks: Optional[int],
-            progress: Optional[bool]) -> "Store[Any, Any]":
+            progress: Optional[bool], in_process: bool) -> "Store[Any, Any]":
     """A store of a saved file. `make` makes it, with so many blocks, and a weight scale and times where those are said. See
     `Store.restore`."""
     found = read(path)
-    room = Room(found.operations)
-    if blocks is None:
-        blocks = found.count("blocks") if room.batch(found.count("blocks")) else room.fitting()
-    size = _batch(os.fspath(path), found, room, blocks)
+    grows = in_process and blocks is None and "grows" in found.facts
+    size = records.MOST_OPERATIONS
+    if grows:
+        blocks = found.count("blocks")
+    else:
+        room = Room(found.operations)
+        if blocks is None:
+            most = found.count("blocks") if in_process else min(found.count("blocks"), records.MOST_BLOCKS)
+            blocks = most if room.batch(most) else room.fitting() if in_process else min(room.fitting(), records.MOST_BLOCKS)
+        size = _batch(os.fspath(path), found, room, blocks)
     scale = int(found.facts["weight_scale"]) if "weight_scale" in found.facts else None
     store: Optional[Store[Any, Any]] = None
     try:
         store = make(blocks, scale, found.facts.get("times"))
+        store.engine.grows = grows
+        store.engine.fit(found.count("names"), len({it[1] for it in found.operations}), found.count("needed"))
         _must_fit(store, os.fspath(path), found, size)
         _fill(store, found, size, Progress(f"restoring {os.fspath(path)}", len(found.operations), progress))
         stat, wanted = store.stat(), (found.count("names"), found.count("edges"))
@@ -232,10 +245,10 @@ def _fill(store: "Store[Any, Any]", found: Found, size: int, told: Progress) -> 
     ledger = store.ledger
     ledger.terms.names.put(found.texts)
     for part in parts_of(found.operations, size or 1):
-        ledger.apply(Operations("".join(part).encode("ascii"), len(part)), True)
+        ledger.apply(Operations(part), True)
         told.step(len(part))
     told.end()
-    kinds = dict.fromkeys(records.split_record(it)[1] for it in found.operations)
+    kinds = dict.fromkeys(it[1] for it in found.operations)
     ledger.kinds.update(dict.fromkeys(map(ledger.terms.names.to_user, kinds)))
 
 

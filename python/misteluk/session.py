@@ -2,17 +2,17 @@
 from __future__ import annotations
 
 from array import array
-from operator import add
 from typing import (TYPE_CHECKING, Any, Callable, Dict, Generic, Iterable, Iterator, List, Optional, Sequence, Tuple, TypeVar,
                     Union, overload)
 
+from . import walks
 from .engine.finding import Path
 from .engine.protocol import Arrays, Denied, Scope, Held
-from .errors import BadName, Incomplete, NoKind, NoVertex, SessionClosed, refusal
+from .errors import BadName, NoKind, NoVertex, SessionClosed, refusal
 from .values import records
-from .values.answers import Answer, Values, Degree, Edge, Neighbor, T, W, degrees
-from .values.edges import Diff, Edges, Told
-from .values.names import must_be_texts, shown
+from .values.answers import Answer, Components, Degree, Edge, Neighbor, T, Values, W, degrees, shown_as_html
+from .values.edges import Diff, Edges
+from .values.names import called, must_be_texts
 from .values.terms import Terms
 from .values.units import Moment
 
@@ -63,30 +63,31 @@ class Session(Generic[W, T]):
 
     # How the version is asked.
 
-    def _asked(self, call: Callable[..., R], fields: Sequence[str], *given: Any) -> R:
-        """What a call gives. What it denies is told in the user's terms: `fields` say what was asked."""
+    def _asked(self, call: Callable[..., R], told: str, *given: Any) -> R:
+        """What a call gives. What it denies is told as of this call."""
         try:
             return call(*given)
         except Denied as fault:
-            raise self._terms.denied(fault, fields) from None
+            raise self._terms.denied(fault, told) from None
 
-    def _scope(self, command: str, kind: Optional[str], since: Moment, until: Moment,
-               *names: str) -> "Tuple[Scope, Sequence[str]]":
-        """Which edges count, and what is asked as fields. Raises where a name is none, the kind none, or the window no window."""
+    def _scope(self, call: str, kind: Optional[str], since: Moment, until: Moment, *names: str) -> "Tuple[Scope, str]":
+        """Which edges count, and the call as it was made. Raises where a name is none, the kind none, or the window no window."""
         self.must_be_open()
-        asked = (command, str(self.slot), *names, kind or records.ANY, str(since), str(until))
-        must_be_texts(asked)
+        if kind is None and since == 0 and until == records.MOST_TIME and self._terms.right.issuperset(names):
+            return Scope(), called(call, *names)
+        must_be_texts((*names, kind or records.ANY))
+        said = (("kind", kind, None), ("since", since, 0), ("until", until, records.MOST_TIME))
+        told = called(call, *names, **{name: it for name, it, usual in said if str(it) != str(usual)})
         terms = self._terms
-        if kind is None and since == 0 and until == records.MOST_TIME and not names:
-            return Scope(), asked
-        for fault in terms.faults_of(asked, records.MOST_SEATS):
+        fields = ["bfs" if names else "deg", str(self.slot), *names[:1], kind or records.ANY, str(since), str(until)]
+        for fault in terms.faults_of(fields, records.MOST_SEATS):
             raise terms.refusal(fault)
         begin = int(terms.units.time_to_program(str(since)))
         end = int(terms.units.time_to_program(str(until), is_end=True))
         if begin > end:
-            raise refusal("BadWindow", f"{','.join(map(shown, asked))}: since {since} is after until {until}")
+            raise refusal("BadWindow", f"{told}: since {since} is after until {until}")
         of_kind = None if kind in (None, records.ANY) else terms.names.to_program(str(kind), keep=False)
-        return Scope(of_kind, begin, end), asked
+        return Scope(of_kind, begin, end), told
 
     def _all_names(self) -> List[str]:
         """The vertices by number, as a user names them."""
@@ -94,10 +95,11 @@ class Session(Generic[W, T]):
             self._names = list(self._terms.names.all_to_user(self.held.names()))
         return self._names
 
-    def _answer(self, value: str, asked: Sequence[str], columns: Dict[str, Values],
+    def _answer(self, value: str, asked: str, columns: Dict[str, Values],
                 names: Optional[Sequence[str]] = None) -> "Answer[Any]":
         names = self._all_names() if names is None else names
-        return Answer.of(names, columns, self.version, ",".join(asked), value)
+        found: Answer[Any] = Answer.of(names, columns, self.version, asked, value)
+        return found
 
     def _edges(self, found: Arrays) -> Edges:
         kinds = list(self._terms.names.all_to_user(self.held.kinds()))
@@ -108,58 +110,62 @@ class Session(Generic[W, T]):
     def levels(self, source: str, kind: Optional[str] = None, since: Moment = 0,
                until: Moment = records.MOST_TIME) -> Answer[int]:
         """The least number of edges on a walk from the source, for each vertex that one reaches."""
-        scope, asked = self._scope("bfs", kind, since, until, source)
+        scope, asked = self._scope("levels", kind, since, until, source)
         name = self._terms.names.to_program(source, keep=False)
         reached, levels = self._asked(self.held.levels, asked, scope, name)
         names = self._all_names()
         names = names if len(reached) == len(names) else list(map(names.__getitem__, reached))
         return self._answer("level", asked, {"level": Values(levels)}, names)
 
-    def components(self, kind: Optional[str] = None, since: Moment = 0, until: Moment = records.MOST_TIME) -> Answer[str]:
+    def components(self, kind: Optional[str] = None, since: Moment = 0, until: Moment = records.MOST_TIME) -> Components:
         """A label for each vertex: the first of the vertices that walks join to it, direction ignored."""
-        scope, asked = self._scope("comp", kind, since, until)
+        scope, asked = self._scope("components", kind, since, until)
         labels, names = self._asked(self.held.labels, asked, scope), self._all_names()
-        return self._answer("label", asked, {"label": Values(labels, lambda it: list(map(names.__getitem__, it)))})
+        columns = {"label": Values(labels, lambda it: list(map(names.__getitem__, it)))}
+        found: Components = Components.of(names, columns, self.version, asked, "label")
+        return found
 
     def cores(self, kind: Optional[str] = None, since: Moment = 0, until: Moment = records.MOST_TIME) -> Answer[int]:
         """Core numbers (Seidman 1983): the greatest k so that the vertex is in a set of which each has k neighbors in it."""
-        scope, asked = self._scope("core", kind, since, until)
+        scope, asked = self._scope("cores", kind, since, until)
         return self._answer("core", asked, {"core": Values(self._asked(self.held.cores, asked, scope))})
 
     def degrees(self, kind: Optional[str] = None, since: Moment = 0, until: Moment = records.MOST_TIME) -> Answer[Degree[W]]:
         """For each vertex how many edges go out and come in, and the weight that goes out."""
-        scope, asked = self._scope("deg", kind, since, until)
+        scope, asked = self._scope("degrees", kind, since, until)
         found = self._asked(self.held.degrees, asked, scope)
         return self._answer("degree", asked, degrees(*found, self._terms.units.weights_told))
 
     def weights_in(self, kind: Optional[str] = None, since: Moment = 0, until: Moment = records.MOST_TIME) -> Answer[W]:
         """For each vertex the weight that comes in."""
-        scope, asked = self._scope("deg", kind, since, until)
+        scope, asked = self._scope("weights_in", kind, since, until)
         found = self._asked(self.held.edges, asked, scope)
         weights = array("q", bytes(8 * self.names))
         for target, weight in zip(found.targets, found.weights):
             weights[target] += weight
-        asked = ("weights_in", *asked[2:])
         return self._answer("weight_in", asked, {"weight_in": Values(weights, self._terms.units.weights_told)})
 
     # One edge, and all.
 
     def edge(self, kind: str, source: str, target: str) -> Optional[Edge[W, T]]:
         """One edge, or `None`. Raises `NoKind` or `NoVertex` for names that the version doesn't have."""
-        asked = ("edge", str(self.slot), kind, source, target)
-        marks = self._asked(self.held.edge, asked, self._ends(asked))
+        ends = kind, source, target
+        try:
+            marks = self.held.edge(self._ends(ends))
+        except Denied as fault:
+            raise self._terms.denied(fault, called("edge", *ends)) from None
         return None if marks is None else self._terms.units.edge_to_user(*marks)
 
-    def _ends(self, asked: Sequence[str]) -> Ends:
+    def _ends(self, ends: Ends) -> Ends:
         """An edge's ends in the engine's terms. Raises where one of them is no name."""
-        text = ",".join(map(str, asked)) + "\n"
-        if not (records.is_plain_edge(text) and self._terms.has_no_id(text)):
-            must_be_texts(asked)
-            for fault in self._terms.faults_of(asked, records.MOST_SEATS):
+        kind, source, target = ends
+        right = self._terms.right
+        if kind not in right or source not in right or target not in right:
+            must_be_texts(ends)
+            asked = ("edge", "0", *ends)
+            for fault in self._terms.faults_of(asked):
                 raise self._terms.refusal(fault)
-            asked = self._terms.turned(asked, keep=False)[0]
-        must_be_texts(asked)
-        _, _, kind, source, target = asked
+            _, _, kind, source, target = self._terms.turned(asked, keep=False)[0]
         return kind, source, target
 
     @overload
@@ -191,21 +197,21 @@ class Session(Generic[W, T]):
         for it in edges:
             if isinstance(it, str) or len(it) != 3:
                 raise TypeError(f"an edge is asked for by its kind, source and target, and not by {it!r}")
-        return self._some_edges([("edge", str(self.slot), *it) for it in edges], missing)
+        return self._some_edges(edges, missing)
 
-    def _some_edges(self, asked: "List[Tuple[str, ...]]", missing: Any) -> "List[Any]":
+    def _some_edges(self, asked: "List[Ends]", missing: Any) -> "List[Any]":
         self.must_be_open()
         found: List[Any] = []
-        for fields, it in zip(asked, self._asked(self.held.found, (), list(map(self._ends, asked)))):
+        for ends, it in zip(asked, self._asked(self.held.found, "edges", list(map(self._ends, asked)))):
             if isinstance(it, Denied) and missing is RAISE:
-                raise self._terms.denied(it, fields)
+                raise self._terms.denied(it, called("edge", *ends))
             told = it is None or isinstance(it, Denied)
             found.append((missing if it else None) if told else self._terms.units.edge_to_user(*it))  # type: ignore[misc]
         return found
 
     def edges_columns(self, kind: Optional[str] = None, since: Moment = 0, until: Moment = records.MOST_TIME) -> Edges:
         """All edges as arrays with names. See `misteluk.Edges`."""
-        scope, asked = self._scope("deg", kind, since, until)
+        scope, asked = self._scope("edges", kind, since, until)
         return self._edges(self._asked(self.held.edges, asked, scope))
 
     def edges_frame(self, kind: Optional[str] = None, since: Moment = 0, until: Moment = records.MOST_TIME) -> "pandas.DataFrame":
@@ -253,7 +259,7 @@ class Session(Generic[W, T]):
     # From vertex to vertex.
 
     def _beside(self, vertex: str, kind: Optional[str], since: Moment, until: Moment, is_out: bool) -> Edges:
-        scope, asked = self._scope("bfs", kind, since, until, vertex)
+        scope, asked = self._scope("out_of" if is_out else "into", kind, since, until, vertex)
         name = self._terms.names.to_program(vertex, keep=False)
         return self._edges(self._asked(self.held.out_of if is_out else self.held.into, asked, scope, name))
 
@@ -271,12 +277,12 @@ class Session(Generic[W, T]):
                until: Moment = records.MOST_TIME) -> Dict[str, Edge[W, T]]:
         """The edges that go out of the source, by target. Of several kinds to one target the weights are summed, with the least
         first time and the greatest recent one."""
-        return _summed(self.edges_out_of(source, kind, since, until), 2)
+        return walks.summed(self.edges_out_of(source, kind, since, until), 2)
 
     def into(self, target: str, kind: Optional[str] = None, since: Moment = 0,
              until: Moment = records.MOST_TIME) -> Dict[str, Edge[W, T]]:
         """Who sends to the target: the edges that come in, by source; as `out_of`."""
-        return _summed(self.edges_into(target, kind, since, until), 1)
+        return walks.summed(self.edges_into(target, kind, since, until), 1)
 
     def neighbors(self, vertex: str, kind: Optional[str] = None, since: Moment = 0,
                   until: Moment = records.MOST_TIME) -> Dict[str, Neighbor[W, T]]:
@@ -297,21 +303,12 @@ class Session(Generic[W, T]):
              edges: bool = False) -> Any:
         """A shortest walk from the source to the target, along edges, as the names on it with both ends; `None` where there is
         none. With `edges=True` as its edges, (kind, source, target, `Edge`) each, one of several kinds that join two names."""
-        scope, asked = self._scope("bfs", kind, since, until, target)
+        scope, asked = self._scope("path", kind, since, until, target)
         levels = self.levels(source, kind, since, until)
         if target not in levels:
             self._asked(self.held.levels, asked, scope, self._terms.names.to_program(target, keep=False))
             return None
-        walk: List[Told] = []
-        at = target
-        while levels[at] > 0:
-            step = next((it for it in self.edges_into(at, kind, since, until) if levels.get(it[1]) == levels[at] - 1), None)
-            if step is None:
-                raise Incomplete(f"{at!r} has an edge from a vertex {levels[at] - 1} steps off, by the levels, and the client "
-                                 "knows of none")
-            walk.append(step)
-            at = step[1]
-        walk.reverse()
+        walk = walks.back(self, levels, target, kind, since, until)
         if edges:
             return walk
         return [source, *(it[2] for it in walk)]
@@ -326,24 +323,9 @@ class Session(Generic[W, T]):
             levels = self.levels(vertex, kind, since, until)
             near = {name: level for name, level in levels.items() if level <= hops}
         else:
-            near = self._reached(vertex, hops, kind, since, until)
-        asked = ("within", vertex, str(hops), kind or records.ANY, str(since), str(until))
-        rows = list(near), {"level": Values(array("I", near.values()))}
-        return Answer.of(*rows, self.version, ",".join(asked), "level")
-
-    def _reached(self, vertex: str, hops: int, kind: Optional[str], since: Moment, until: Moment) -> Dict[str, int]:
-        near, front = {vertex: 0}, [vertex]
-        self.edges_out_of(vertex, kind, since, until)  # (raises where the version doesn't have the vertex or the kind)
-        for hop in range(1, hops + 1):
-            found: Dict[str, None] = {}
-            for name in front:
-                found.update(dict.fromkeys(it[2] for it in self.edges_out_of(name, kind, since, until)))
-                found.update(dict.fromkeys(it[1] for it in self.edges_into(name, kind, since, until)))
-            front = [it for it in found if it not in near]
-            if not front:
-                break
-            near.update(dict.fromkeys(front, hop))
-        return near
+            near = walks.reached(self, vertex, hops, kind, since, until)
+        asked = self._scope(f"within {hops} of", kind, since, until, vertex)[1]
+        return self._answer("level", asked, {"level": Values(array("I", near.values()))}, list(near))
 
     # What it is, and its end.
 
@@ -353,7 +335,8 @@ class Session(Generic[W, T]):
             if isinstance(it, str):
                 return self._has(it)
             if isinstance(it, tuple) and len(it) == 3 and all(isinstance(part, str) for part in it):
-                return self._some_edges([("edge", str(self.slot), *it)], None) != [None]
+                kind, source, target = it
+                return self._some_edges([(kind, source, target)], None) != [None]
         except BadName:
             return False
         raise TypeError(f"a name, or a kind, source and target, may be in a session, and not {it!r}")
@@ -367,7 +350,7 @@ class Session(Generic[W, T]):
 
     def __len__(self) -> int:
         """How many edges the version has."""
-        return sum(self._asked(self.held.degrees, (), Scope())[0])
+        return sum(self.held.degrees(Scope())[0])
 
     def __bool__(self) -> bool:
         """True: a session without edges is a session."""
@@ -398,16 +381,13 @@ class Session(Generic[W, T]):
     def __exit__(self, *_: object) -> None:
         self.close()
 
+    def _repr_html_(self) -> str:
+        """What a notebook shows."""
+        if not self.is_open:
+            return shown_as_html(f"Session of version {self.version}", {"state": "closed"})
+        count = len(self)
+        return shown_as_html(f"Session of version {self.version}", {
+            "vertices": self.names, "edges": count, "kinds": ", ".join(self._terms.names.all_to_user(self.held.kinds()))})
+
     def __repr__(self) -> str:
         return f"<Session of version {self.version} in slot {self.slot}: {'open' if self.is_open else 'closed'}>"
-
-
-def _summed(edges: Edges, end: int) -> Dict[str, Edge[Any, Any]]:
-    """Edges by one of their ends; those of several kinds are one."""
-    found: Dict[str, Edge[Any, Any]] = {}
-    for *ends, edge in edges:
-        name: Any = ends[end]
-        other = found.get(name)
-        found[name] = edge if other is None else Edge(add(other.weight, edge.weight), min(other.first, edge.first),
-                                                      max(other.recent, edge.recent))
-    return found

@@ -6,25 +6,27 @@ import warnings
 from datetime import datetime
 from decimal import Decimal
 from types import TracebackType
-from typing import TYPE_CHECKING, Any, Generic, List, Literal, Optional, Type, Union, overload
+from typing import TYPE_CHECKING, Any, Dict, Generic, List, Literal, Optional, Type, Union, overload
 
 from .engine.finding import Path
 from .engine.guard import put
-from .engine.making import make_engine
+from .engine.making import LIBRARY, choose, make_engine
+from .engine.operations import ADD, EXPIRE, INSERT, REMOVE
 from .engine.protocol import Denied, Engine
 from .feeds.opening import reads
 from .errors import NoSeat, PoolEmpty, StoreError, Uncommitted
 from .ledger import Ledger
 from .session import Session
 from .values import records
-from .values.answers import Collected, Commit, Rebased, Renewed, Stat, T, W
-from .values.limits import within
+from .values.answers import Collected, Commit, Rebased, Renewed, Stat, T, W, shown_as_html
+from .values.limits import Limits, within
 from .values.units import Amount, Moment, Units
 
 if TYPE_CHECKING:
     from .feeds.following import Following, Span
     from .feeds.loading import Loaded
 
+R = TypeVar("R")
 
 class Store(Generic[W, T]):
     """A graph that changes by batches; sessions hold versions of it.
@@ -42,9 +44,10 @@ class Store(Generic[W, T]):
     variable MISTELUK_ENGINE says, and else the library, where it can be loaded. `program` names the program to run (see
     `find_program`), and so the second. A program shares no memory with what else this process loads; it takes 999,999 records.
 
-    `blocks`: how many blocks hold edges, 16 to 65,536; each has room for 32 edges of one kind and source, and takes 1 KB once it
-    is used. Else the library has all, and the program 16,384. `seats`: how many sessions may be open at once, 1 to 16.
-    `workers`: how many threads of the program apply a batch, 1 to 8.
+    `blocks`: how many blocks hold edges, from 16 on; each has room for 32 edges of one kind and source, and takes 1 KB once it is
+    used. Else the library has 65,536, and more once they are needed; a program has 16,384, and takes up to 65,536. `limits`: how
+    many vertices, kinds and batches a store in this process takes at most (see `misteluk.Limits`). `seats`: how many sessions may
+    be open at once, 1 to 16. `workers`: how many threads of the program apply a batch, 1 to 8.
     Any text is a name, of a vertex or a kind, but an empty one; `*` alone is no kind. See `misteluk.names`.
 
     `weight_scale`: weights are decimal numbers of so many parts, as 100 for cents; else whole numbers. It divides a power of ten.
@@ -66,58 +69,59 @@ class Store(Generic[W, T]):
     def __init__(self: "Store[int, int]", *, weight_scale: Literal[1], times: Optional[Literal["number"]] = None,
                  decimals: str = "decimal", blocks: Optional[int] = None, seats: int = ..., workers: int = ...,
                  program: Optional[Path] = None, timeout: float = ..., endless: bool = False,
-                 rounding: Optional[str] = None, engine: Optional[str] = None) -> None: ...
+                 rounding: Optional[str] = None, engine: Optional[str] = None, limits: Optional[Limits] = None) -> None: ...
 
     @overload
     def __init__(self: "Store[int, int]", *, weight_scale: Optional[Literal[1]] = None, times: Literal["number"],
                  decimals: str = "decimal", blocks: Optional[int] = None, seats: int = ..., workers: int = ...,
                  program: Optional[Path] = None, timeout: float = ..., endless: bool = False,
-                 rounding: Optional[str] = None, engine: Optional[str] = None) -> None: ...
+                 rounding: Optional[str] = None, engine: Optional[str] = None, limits: Optional[Limits] = None) -> None: ...
 
     @overload
     def __init__(self: "Store[int, datetime]", *, weight_scale: Optional[Literal[1]] = None, times: Literal["iso"],
                  decimals: str = "decimal", blocks: Optional[int] = None, seats: int = ..., workers: int = ...,
                  program: Optional[Path] = None, timeout: float = ..., endless: bool = False,
-                 rounding: Optional[str] = None, engine: Optional[str] = None) -> None: ...
+                 rounding: Optional[str] = None, engine: Optional[str] = None, limits: Optional[Limits] = None) -> None: ...
 
     @overload
     def __init__(self: "Store[Decimal, int]", *, weight_scale: int, times: Optional[Literal["number"]] = None,
                  decimals: Literal["decimal"] = "decimal", blocks: Optional[int] = None, seats: int = ..., workers: int = ...,
                  program: Optional[Path] = None, timeout: float = ..., endless: bool = False,
-                 rounding: Optional[str] = None, engine: Optional[str] = None) -> None: ...
+                 rounding: Optional[str] = None, engine: Optional[str] = None, limits: Optional[Limits] = None) -> None: ...
 
     @overload
     def __init__(self: "Store[Decimal, datetime]", *, weight_scale: int, times: Literal["iso"],
                  decimals: Literal["decimal"] = "decimal", blocks: Optional[int] = None, seats: int = ..., workers: int = ...,
                  program: Optional[Path] = None, timeout: float = ..., endless: bool = False,
-                 rounding: Optional[str] = None, engine: Optional[str] = None) -> None: ...
+                 rounding: Optional[str] = None, engine: Optional[str] = None, limits: Optional[Limits] = None) -> None: ...
 
     @overload
     def __init__(self: "Store[float, int]", *, weight_scale: int, times: Optional[Literal["number"]] = None,
                  decimals: Literal["float"], blocks: Optional[int] = None, seats: int = ..., workers: int = ...,
                  program: Optional[Path] = None, timeout: float = ..., endless: bool = False,
-                 rounding: Optional[str] = None, engine: Optional[str] = None) -> None: ...
+                 rounding: Optional[str] = None, engine: Optional[str] = None, limits: Optional[Limits] = None) -> None: ...
 
     @overload
     def __init__(self: "Store[float, datetime]", *, weight_scale: int, times: Literal["iso"],
                  decimals: Literal["float"], blocks: Optional[int] = None, seats: int = ..., workers: int = ...,
                  program: Optional[Path] = None, timeout: float = ..., endless: bool = False,
-                 rounding: Optional[str] = None, engine: Optional[str] = None) -> None: ...
+                 rounding: Optional[str] = None, engine: Optional[str] = None, limits: Optional[Limits] = None) -> None: ...
 
     @overload
     def __init__(self: "Store[Any, Any]", *, weight_scale: Optional[int] = None, times: Optional[str] = None,
                  decimals: str = "decimal", blocks: Optional[int] = None, seats: int = ..., workers: int = ...,
                  program: Optional[Path] = None, timeout: float = ..., endless: bool = False,
-                 rounding: Optional[str] = None, engine: Optional[str] = None) -> None: ...
+                 rounding: Optional[str] = None, engine: Optional[str] = None, limits: Optional[Limits] = None) -> None: ...
 
     def __init__(self, *, blocks: Optional[int] = None, seats: int = records.USUAL_SEATS, workers: int = records.USUAL_WORKERS,
                  program: Optional[Path] = None, timeout: float = 60.0, weight_scale: Optional[int] = None,
                  times: Optional[str] = None, decimals: str = "decimal", endless: bool = False,
-                 rounding: Optional[str] = None, engine: "Union[str, Engine, None]" = None) -> None:
+                 rounding: Optional[str] = None, engine: "Union[str, Engine, None]" = None,
+                 limits: Optional[Limits] = None) -> None:
         self._is_closed = True
         units = Units(1 if weight_scale is None else weight_scale, times or "number", decimals, rounding).checked()
-        self.engine = make_engine(engine, blocks, seats, workers, program, timeout, endless)
-        self.blocks, self.seats = self.engine.blocks, self.engine.seats
+        self.engine = make_engine(engine, blocks, seats, workers, program, timeout, endless, limits)
+        self.seats = self.engine.seats
         self.ledger = Ledger(self.engine, units, weight_scale is not None or times is not None)
         self._renewals: List[Renewed] = []
         self._rebasing: Optional[Session[Any, Any]] = None
@@ -127,22 +131,27 @@ class Store(Generic[W, T]):
 
     def insert(self, kind: str, source: str, target: str, weight: Amount = 1, time: Moment = 0) -> None:
         """Adds an edge, or sets the weight of the one that is there."""
-        self.ledger.keep(("i", kind, source, target, weight, time), f"i,{kind},{source},{target},{weight},{time}\n")
+        self.ledger.keep(INSERT, kind, source, target, weight, time)
 
     def add(self, kind: str, source: str, target: str, amount: Amount = 1, time: Moment = 0) -> None:
         """Adds to the weight of the edge that is there, or adds the edge. Repeated transfers want this one."""
-        self.ledger.keep(("a", kind, source, target, amount, time), f"a,{kind},{source},{target},{amount},{time}\n")
+        self.ledger.keep(ADD, kind, source, target, amount, time)
 
     def remove(self, kind: str, source: str, target: str) -> None:
         """Takes the edge away; that there was none the receipt of `commit` counts."""
-        self.ledger.keep(("r", kind, source, target), "")
+        self.ledger.keep(REMOVE, kind, source, target, 0, 0)
 
     def expire(self, time: Moment) -> None:
         """Takes away each edge whose recent time is before this time; the receipt of `commit` counts them.
 
         Its batch asks for as many free blocks more as are used.
         """
-        self.ledger.keep(("x", time), "")
+        self.ledger.keep(EXPIRE, "", "", "", 0, time)
+
+    @property
+    def blocks(self) -> int:
+        """How many blocks it has. In this process they become more once they are needed, where none were said."""
+        return self.engine.blocks
 
     @property
     def pending(self) -> int:
@@ -208,19 +217,24 @@ class Store(Generic[W, T]):
 
         def make(found: int, weight_scale: Optional[int], times: Optional[str]) -> "Store[Any, Any]":
             return cls(blocks=found, weight_scale=weight_scale, times=times, **options)
-        return restore(path, make, blocks, progress)
+        in_process = choose(options.get("engine"), options.get("program"))[0] == LIBRARY
+        return restore(path, make, blocks, progress, in_process)
 
     # Requests.
 
     def stat(self) -> Stat:
         """The last version's number, names and edges, and the blocks."""
-        with self.ledger.terms.told_of("stat"):
-            return self.engine.stat()
+        return self._asked("stat", self.engine.stat)
 
     def collect(self) -> Collected:
         """Frees each replaced block that no open session's version has."""
-        with self.ledger.terms.told_of("collect"):
-            return self.engine.collect()
+        return self._asked("collect", self.engine.collect)
+
+    def _asked(self, told: str, call: Callable[[], R]) -> R:
+        try:
+            return call()
+        except Denied as fault:
+            raise self.ledger.terms.denied(fault, told) from None
 
     def open(self, slot: Optional[int] = None) -> Session[W, T]:
         """A session that holds the last version, in the first free slot or in that one. One that nobody has any more, as where
@@ -236,7 +250,7 @@ class Store(Generic[W, T]):
             more = f", or make the store with more seats ({most} at most)" if self.seats < most else ""
             raise NoSeat(f"all {self.seats} seats hold sessions: close one{more}") from None
         except Denied as fault:
-            raise self.ledger.terms.denied(fault, ("open", str(slot))) from None
+            raise self.ledger.terms.denied(fault, f"open({slot})") from None
 
     def rebase(self, session: Session[Any, Any]) -> Rebased:
         """Begins the store anew with the graph of the version that the session holds, which is version 0 from then on.
@@ -256,7 +270,7 @@ class Store(Generic[W, T]):
             return (self.engine.rebase(session.held), put(self, "_rebasing", None))[0]
         except Denied as fault:
             if fault.word != "PoolEmpty":
-                raise self.ledger.terms.denied(fault, ("rebase", str(session.slot))) from None
+                raise self.ledger.terms.denied(fault, f"rebase({session!r})") from None
             text = f"a copy of version {session.version} finds no room in {self.blocks} blocks, and nothing was changed"
             raise PoolEmpty(needed=self.blocks + 1, free=None, text=text,
                             advice="Save the session, and restore it with more blocks") from None
@@ -343,6 +357,15 @@ class Store(Generic[W, T]):
     def __del__(self) -> None:
         if not getattr(self, "_is_closed", True) and not sys.is_finalizing() and not self.engine.is_elsewhere:
             warnings.warn("a store was let go without close()", ResourceWarning, stacklevel=2)
+
+    def _repr_html_(self) -> str:
+        """What a notebook shows."""
+        told: Dict[str, object] = {"engine": self.engine.told(), "state": "closed"}
+        if not (self._is_closed or self.engine.is_elsewhere):
+            it = self.stat()
+            told.update(state=f"{self.engine.open_count} of {self.seats} seats open, {self.pending} pending", version=it.version,
+                        vertices=it.names, edges=it.edges, blocks=f"{it.used:,} used of {self.blocks:,}, {it.retired:,} retired")
+        return shown_as_html("Store", told)
 
     def __repr__(self) -> str:
         state = f"{self.engine.open_count} of {self.seats} seats open, {self.pending} pending, by {self.engine.told()}"

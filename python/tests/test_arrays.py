@@ -3,11 +3,15 @@ import json
 import pickle
 import random
 import unittest
+from array import array
+from unittest import mock
 
 from support import Case, optional
 
 import misteluk
 from misteluk import Changed, Degree, Edge
+from misteluk.engine import held
+from misteluk.engine.protocol import Arrays
 
 numpy, pandas, igraph, scipy = map(optional, ("numpy", "pandas", "igraph", "scipy"))
 ROADS = ("insert road ulm kiel 5 1", "insert road kiel bonn 7 2", "insert rail ulm bonn 3 3")
@@ -53,6 +57,22 @@ class Tables(Case):
         self.assertEqual(session.components().numpy()["label"].tolist(), ["ulm"] * 3)
         frame = session.degrees().frame()
         self.assertEqual((list(frame.index), frame["weight_out"].tolist()), (["ulm", "kiel", "bonn"], [8.0, 7.0, 0.0]))
+
+
+class ByTarget(unittest.TestCase):
+    def test_the_order_of_targets(self):
+        """By numpy, where it is there, and in a loop: edges in order of their targets, those of one in order of their places."""
+        made = random.Random(5)
+        for count in (1, 2, 40):
+            for _ in range(20):
+                edges = Arrays.of(made.randrange(120))
+                edges.targets[:] = array("I", (made.randrange(count) for _ in range(edges.size)))
+                wanted = [at for _, at in sorted((it, at) for at, it in enumerate(edges.targets))]
+                begins = [sum(it < target for it in edges.targets) for target in range(count + 1)]
+                for many in (0, 1_000):
+                    with self.subTest(many=many), mock.patch.object(held, "MANY", many):
+                        order, ends = held.by_target(edges, count)
+                        self.assertEqual((list(order), list(ends)), (wanted, begins))
 
 
 class EdgesOfAVersion(Case):

@@ -10,7 +10,8 @@ import unittest
 from contextlib import redirect_stderr, redirect_stdout
 
 from pages import CHROMIUM
-from support import HERE, IS_REPOSITORY, NO_REPOSITORY, TOP, Case, CommandCase, find_program, optional, words_of
+from support import (ENGINE, HERE, IS_REPOSITORY, NO_REPOSITORY, TOP, Case, CommandCase, find_program, optional,
+                     words_of)
 
 import misteluk
 from misteluk import pictures
@@ -126,7 +127,8 @@ class Commands(CommandCase):
     def test_save_and_restore(self):
         """What is saved is asked again; a file that is none is told of, and nothing is begun."""
         path = str(self.room / "g.csv.bz2")
-        saved = f"{path}: version 1 with 6 names and 4 edges, in 19 records for `stinger run --blocks 16384`"
+        count = 20 if ENGINE == "library" else 19  # (the file of a store in process says that it grows)
+        saved = f"{path}: version 1 with 6 names and 4 edges, in {count} records for `stinger run --blocks 16384`"
         degrees = "degrees: 6 names, greatest by out\n  a out 2 in 0 weight 7"
         self.load(f"{saved}\n{degrees}", "--add", "--save", path, "--ask", "degrees", "--top", "1")
         status, out, err = self.run_it("restore", path, "--ask", "degrees", "--top", "1", "--blocks", "64", "--levels", "x")

@@ -8,7 +8,7 @@ from support import ENGINE, OF_PIPES, Case
 import misteluk
 from misteluk.engine import copies as copying
 from misteluk.engine.copies import content_of, operations_of
-from misteluk.engine.protocol import Operations
+from misteluk.engine.operations import INSERT, Operations
 
 KINDS = ("road", 'a,"kind"', "rail")
 WINDOWS = ({}, {"since": 30}, {"until": 40}, {"since": 20, "until": 50}, {"since": 61, "until": 61})
@@ -53,7 +53,7 @@ class Copies(Case):
         operations = list(operations_of(content))
         for at in range(0, len(operations), 4):
             part = operations[at:at + 4]
-            store.ledger.apply(Operations("".join(part).encode(), len(part)), True)
+            store.ledger.apply(Operations(part), True)
         return store.open()
 
     def differ(self, seed):
@@ -74,8 +74,8 @@ class Copies(Case):
 
     def test_faults_are_found(self):
         """A copy without first times, with names out of order, and without the loops that make names known."""
-        def recent_alone(edge, quoted):
-            yield f"i,{quoted[edge[0]]},{quoted[edge[1]]},{quoted[edge[2]]},{edge[3]},{edge[5]}\n"
+        def recent_alone(edge):
+            yield (INSERT, *edge[:4], edge[5])
 
         def out_of_order(content):
             return [list(content.edges), *([] for _ in content.names)]
@@ -90,7 +90,7 @@ class Copies(Case):
         self.assertEqual(content, (["road", "rail"], ["a", "b", "c", "d"], edges))
         active = content.without_idle_names()
         self.assertEqual((active.kinds, active.names), (["road"], ["a", "b", "d"]))
-        self.assertEqual(list(operations_of(active)), ["i,road,a,b,1,1\n", "i,road,d,b,3,3\n"])
+        self.assertEqual(list(operations_of(active)), [(INSERT, "road", "a", "b", 1, 1), (INSERT, "road", "d", "b", 3, 3)])
         self.assertEqual(list(operations_of(copying.Content([], [], []))), [])
 
     @unittest.skipUnless(ENGINE == "program", OF_PIPES)

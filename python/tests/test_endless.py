@@ -5,7 +5,7 @@ from unittest import mock
 from support import ENGINE, Case
 
 import misteluk
-from misteluk import Edge, Store
+from misteluk import Limits, Edge, Store
 from misteluk.engine import library
 
 
@@ -61,7 +61,7 @@ class Endless(Case):
         self.assertEqual(sum(edge.weight for *_, edge in held.edges()), 30)
 
     def full(self, endless):
-        store = self.store(endless=endless, blocks=65536)
+        store = self.store(endless=endless, blocks=65536, limits=Limits(vertices=65536))
         rows = [(f"v{it}", f"v{it + 1}") for it in range(0, 65536, 2)]
         store.load(rows, by="set", progress=False)
         for source, target in rows[:100]:

@@ -244,9 +244,11 @@ class Loads(Case):
         self.assertIn(told, str(fault.exception))
         self.assertEqual(store.stat().version, 0)
 
+    @unittest.skipUnless(ENGINE == "program", OF_PIPES)
     def test_limits_are_told_before_anything_is_sent(self):
-        self.over("f has 65538 names, where a store takes 65536", [(1, "k", "a", f"b{it}", "1", "0") for it in range(65_537)])
-        self.over("f has 65 kinds, where a store takes 64", [(1, f"k{it}", "a", "b", "1", "0") for it in range(65)])
+        self.over("f has 65,538 vertices, where the store takes 65,536. A store in this process takes more (engine='library'). "
+                  "Nothing is loaded", [(1, "k", "a", f"b{it}", "1", "0") for it in range(65_537)])
+        self.over("f has 65 kinds, where the store takes 64", [(1, f"k{it}", "a", "b", "1", "0") for it in range(65)])
         # Batch 17 of 4,096 begins behind row 65,536, where 63,000 blocks are in use.
         self.over("63000 blocks for its edges and 67096 for its batches", [
             (1, f"k{it % 2}", f"a{it % 63_000 // 2}", "b", "1", "0") for it in range(71_000)])

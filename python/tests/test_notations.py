@@ -259,7 +259,8 @@ class Advice(Case):
         self.assertIn("batches of 2 fit (batch=2, --batch 2)", fault.exception.advice)
         self.assertEqual(self.store(blocks=22).load(rows * 2, by="set", batch=2).commit.inserted, 20)
 
-    def test_blocks_that_no_store_has(self):
+    @unittest.skipUnless(ENGINE == "program", OF_PIPES)
+    def test_blocks_that_no_program_has(self):
         rows = [("a%d" % (it % 32_768), "b", 1, 0, "kl"[it // 32_768 % 2]) for it in range(65_536)]
         with self.assertRaises(misteluk.OverLimit) as fault:
             self.store().load([*rows, *rows[:5_000]], by="set")

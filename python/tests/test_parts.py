@@ -106,10 +106,11 @@ class Few(Case):
         self.assertRaisesRegex(BadRows, "say its encoding", self.fleet, path)
         self.assertEqual(list(self.fleet(path, encoding="latin-1").parts), ["\xdc"])
 
+    @unittest.skipUnless(ENGINE == "program", OF_PIPES)
     def test_a_part_is_over_its_limits_alone(self):
         rows = [("big", f"a{it}", f"b{it}", 1) for it in range(33_000)] + [("small", "a", "b", 1)]
         found = []
-        with self.assertRaisesRegex(PartsFailed, "part 'big': OverLimit: rows has 66000 names") as told:
+        with self.assertRaisesRegex(PartsFailed, "part 'big': OverLimit: rows has 66,000 vertices") as told:
             found += self.fleet(rows).ask("degrees")
         self.assertEqual(([key for key, _ in found], type(told.exception.faults["big"])), (["small"], OverLimit))
 

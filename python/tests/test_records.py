@@ -1,6 +1,7 @@
 """The rules of records, beside the program, which is their judge."""
 import random
 import unittest
+from array import array
 
 from support import Case, words_of
 
@@ -60,23 +61,35 @@ class Records(Case):
         for fields in (["i", "a,b", 'a"b', "c", "1", "2"], ["r", '"', ",", '","'], ["commit"], ["r", "", "a", ""]):
             self.assertEqual(records.split_record(records.record(fields)), fields)
 
-    def test_plain_lines_are_right_ones(self):
-        right = "i,k,a,b,1,2\na,k,*,!,-999999999999,999999999999999999\n"
-        self.assertTrue(records.are_plain_operations(right))
-        for it in ("i,*,a,b,1,2\n", "i,k,a,b,1\n", "i,k,a b,b,1,2\n", "i,k,,b,1,2\n", "i,k,a,b,1.5,2\n", "r,k,a,b\n",
-                   "i,k,a,b,1,-2\n", 'i,k,",b,1,2\n', f"i,k,{'a' * 65},b,1,2\n", "i,k,a,\u00e9,1,2\n", "i,k,a,b,1,\u0661\n"):
-            self.assertFalse(records.are_plain_operations(right + it), it)
+    def test_names_that_are_seen_at_once(self):
+        """To be as they stand are right names, of which a kind is none that isn't one."""
+        terms, seen = Terms(), 0
+        for it in [*NAMES, "~~", "a~~b", id_of("é"), "a\n"]:
+            with self.subTest(it):
+                if terms.are_as_they_are([it]):
+                    seen += 1
+                    self.assertEqual((terms.names.to_program(it), records.kind_reason(it)), (it, None))
+                    self.assertEqual(records.are_names([it]), True)
+                self.assertEqual(terms.are_as_they_are(["right", it]), it in terms.right)
+                self.assertEqual([bool(name) for name in terms.names_of([it, "right"], is_kind=True)],
+                                 [bool(it) and it != "*", True])
+        self.assertGreater(seen, 2)
+        self.assertLessEqual(seen, len(NAMES) + 2)
 
-    def test_a_plain_question_is_the_record_that_it_would_be(self):
-        """Also through a store's terms, where ids stand for other names; and most of what is asked is seen to be plain."""
-        random_, terms, plain = random.Random(3), Terms(units=Units(100, "iso")), 0
-        for _ in range(20_000):
-            fields = ["edge", "15", *(random_.choice(["a"] * 20 + [*NAMES, "~~", id_of("é"), "a~~b"]) for _ in range(3))]
-            text = ",".join(fields) + "\n"
-            if records.is_plain_edge(text) and terms.has_no_id(text):
-                plain += 1
-                self.assertEqual((records.record(terms.turned(fields, keep=False)[0]), terms.faults_of(fields)), (text, []))
-        self.assertGreater(plain, 5_000)
+    def test_numbers_that_are_seen_at_once(self):
+        """Each column of texts is told as its texts are, one by one."""
+        made = random.Random(4)
+        texts = ["0", "1", "-1", "007", "-0", "12345", "1" * 12, "1" * 13, "1" * 19, "0" * 20, "", "-", "--1", "1-", "5-5", "+1",
+                 " 1", "1_0", "1.5", "-1.5", ".5", "-.5", "5.", ".", "1.2.3", "1e3", "\u0661", "\u00b2", str(2 ** 40), "99.999",
+                 "x"]
+        for units in (Units(), Units(100), Units(100, rounding="half-even"), Units(1, rounding="half-even"), Units(8)):
+            for _ in range(300):
+                column = [made.choice(texts) for _ in range(made.randrange(1, 4))]
+                with self.subTest(column, units=units):
+                    self.assertEqual(list(units.weights_of(column)), [units._weight_of(it) for it in column])
+                    self.assertEqual(list(units.times_of(column)), [units._time_of(it) for it in column])
+        self.assertEqual(records.whole_numbers(["5", "-7"], "q", 12), array("q", [5, -7]))
+        self.assertIsNone(records.whole_numbers(["5", "-7"], "Q", 12))
 
 
 if __name__ == "__main__":

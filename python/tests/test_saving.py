@@ -16,7 +16,7 @@ from support import ENGINE, OF_PIPES, Case, find_program
 import misteluk
 from misteluk import Store, names, saving
 from misteluk.engine import copies as copying, program as engine_program
-from misteluk.engine.protocol import Operations
+from misteluk.engine.operations import INSERT, Operations
 from misteluk.values import records
 
 WINDOWS = ((0, records.MOST_TIME), (30, records.MOST_TIME), (10, 40))
@@ -82,8 +82,8 @@ class Saving(Case):
         self.assertEqual([self.differ(seed, ENDINGS[seed % 4]) for seed in range(6)], [0] * 6)
 
     def test_faults_are_found(self):
-        def recent_alone(edge, quoted):
-            yield f"i,{quoted[edge[0]]},{quoted[edge[1]]},{quoted[edge[2]]},{edge[3]},{edge[5]}\n"
+        def recent_alone(edge):
+            yield (INSERT, *edge[:4], edge[5])
         for where, name, fault in ((copying, "_edge", recent_alone), (copying, "_loop", lambda *_: iter(())),
                                    (names.NameTable, "put", lambda *_: None)):
             with self.subTest(name), mock.patch.object(where, name, fault):
@@ -231,12 +231,12 @@ class Limits(Case):
             room, store = saving.Room(operations), self.store(blocks=64)
             for at in range(0, len(operations), 5):
                 part = operations[at:at + 5]
-                store.ledger.apply(Operations("".join(part).encode("ascii"), len(part)), True)
+                store.ledger.apply(Operations(part), True)
                 self.assertEqual(store.stat().used, room.behind[at + len(part)])
 
     def test_a_graph_of_all_blocks(self):
         """Where batches of the usual size need more blocks than there are, they are smaller."""
-        operations = [f"i,k,s{it},t,1,1\n" for it in range(records.MOST_BLOCKS - 10)]
+        operations = [(INSERT, "k", f"s{it}", "t", 1, 1) for it in range(records.MOST_BLOCKS - 10)]
         room = saving.Room(operations)
         self.assertEqual((room.fitting(), room.batch(records.MOST_BLOCKS), room.batch(room.needed(1) - 1)), (65_526, 4096, 0))
         self.assertEqual(saving.Room([*operations, operations[0]]).batch(records.MOST_BLOCKS), 4096)

@@ -238,7 +238,7 @@ class Views(Case):
     def test_an_edge_that_the_client_doesnt_know(self):
         """The program's degrees tell it, and no page is made without it."""
         first, _ = self.pair(BEFORE, AFTER)
-        with mock.patch("misteluk.engine.candidates.Candidates.into", lambda *_: ["ana"]):
+        with mock.patch("misteluk.engine.index.Candidates.into", lambda *_: ["ana"]):
             self.assertRaisesRegex(misteluk.Incomplete, "'funnel' has 1 edges out and 2 in, .* knows of 1 and 1", view, first,
                                    "funnel")
 

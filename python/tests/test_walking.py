@@ -174,8 +174,8 @@ class Walks(Case):
         """Should a candidate be lost, calls that need all edges say so, and a path that would need it too."""
         store = self.store("insert k a b 1 1", "insert k b c 1 1")
         session = store.open()
-        right = store.engine.index.candidates(None)
-        store.engine.index._folded = right.__class__(right.kinds, right.names, right.keys[:1], right.latest[:1], right.gone)
+        right = store.engine.index.candidates()
+        store.engine.index._sorted = right.__class__(right.kinds, right.names, right.keys[:1])
         for call in (session.edges, session.weights_in, lambda: session.to_csv(self.room / "x"),
                      lambda: session.path("a", "c")):
             with self.assertRaises(misteluk.Incomplete):
@@ -317,8 +317,8 @@ class Calls(Case):
 
     @unittest.skipUnless(ENGINE == "program", OF_PIPES)
     def test_progress(self):
-        """At a terminal it is told of many edges: while they are sorted for the first question, and while they are asked for. The
-        clock goes on by a second each time that it is looked at."""
+        """At a terminal it is told of many edges while they are asked for. The clock goes on by a second each time that it is
+        looked at."""
         clock = mock.patch.object(progress, "time", types.SimpleNamespace(monotonic=itertools.count().__next__))
         self.addCleanup(clock.stop)
         clock.start()
@@ -329,10 +329,9 @@ class Calls(Case):
         store = self.store()
         store.load([(f"s{it % 300}", f"t{it}") for it in range(25_000)], by="set", progress=False)
         session = store.open()
-        for word, call in (("sorting edges", lambda: session.into("t7")), ("asking for edges", session.weights_in)):
-            with redirect_stderr(Terminal()) as told:
-                call()
-            self.assertIn(word, told.getvalue())
+        with redirect_stderr(Terminal()) as told:
+            session.weights_in()
+        self.assertIn("asking for edges", told.getvalue())
         with redirect_stderr(Terminal()) as told:
             self.assertEqual(len(list(session.edges())), 25_000)
             self.store("insert k a b 1 1").open().weights_in()

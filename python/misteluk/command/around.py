@@ -2,6 +2,7 @@
 from __future__ import annotations
 
 import argparse
+from dataclasses import replace
 from itertools import accumulate
 from typing import Any, Dict, List, Optional, Tuple
 
@@ -55,7 +56,7 @@ def _rows_before(words: argparse.Namespace, found: Survey) -> int:
     if words.at is None:
         return sum(it <= words.at_line for it in lines)
     last = int(found.terms.units.time_to_program(words.at, is_end=True))
-    is_late = [int(it.rpartition(b",")[2]) > last for part in found.parts for it in part.text.splitlines()]
+    is_late = [it > last for part in found.parts for it in part.columns.times]
     rows = is_late.index(True) if True in is_late else len(is_late)
     if not all(is_late[rows:]):
         early = lines[is_late.index(False, rows)]
@@ -73,4 +74,4 @@ def _cut(found: Survey, rows: int) -> Tuple[Survey, int]:
         done += size
         parts += [part.some(slice(room)), part.some(slice(room, None))] if 0 < room < size else [part]
     ends = accumulate(len(part.lines) for part in parts)
-    return found._replace(parts=parts), sum(it <= rows for it in ends)
+    return replace(found, parts=parts), sum(it <= rows for it in ends)

@@ -12,7 +12,8 @@ from ..engine.calling import opened
 from ..engine.making import LIBRARY, PROGRAM, VARIABLE, choose
 from ..errors import StoreError
 from ..store import Store
-from ..values import records
+from ..values import limits, records
+from ..values.limits import Limits
 from ..version import VERSION
 
 
@@ -26,6 +27,16 @@ def made(path: str) -> str:
     if place.parent.name == "out" and place.parents[2].name == "crates":
         return "proved here"
     return "compiled, or of elsewhere: not known to be proved"
+
+
+def limits_of(name: str) -> str:
+    """How much a store takes at most, by its engine."""
+    if name == PROGRAM:
+        return (f"{records.MOST_NAMES:,} vertices, {records.MOST_KINDS} kinds, {records.MOST_BLOCKS:,} blocks; a run takes "
+                f"{records.MOST_RECORDS:,} records and {records.MOST_BATCHES:,} batches")
+    told = ", ".join(f"{Limits(kinds=it).shape(0, 0).vertices:,} with {it}" for it in (2, 8, limits.MOST_KINDS))
+    return (f"{limits.MOST_PRODUCT:,} vertices with 1 kind, {told}, unless Store(limits=..) says fewer; {limits.MOST_BLOCKS:,} "
+            "blocks")
 
 
 def look(engine: Optional[str], program: Optional[Path]) -> Tuple[List[str], bool]:
@@ -55,7 +66,5 @@ def look(engine: Optional[str], program: Optional[Path]) -> Tuple[List[str], boo
             told.append(f"a store of {store.blocks} blocks and {store.seats} seats answers{'' if is_well else ' WRONGLY'}")
     except StoreError as fault:
         return [*told, f"no store can be made: {fault}"], False
-    of_run = "" if name == LIBRARY else f"; a run takes {records.MOST_RECORDS:,} records and {records.MOST_BATCHES:,} batches"
-    told.append(f"limits: {records.MOST_NAMES:,} vertices, {records.MOST_KINDS} kinds, {records.MOST_BLOCKS:,} blocks, batches "
-                f"of {records.MOST_OPERATIONS:,}{of_run}")
+    told.append(f"limits: {limits_of(name)}; batches of {records.MOST_OPERATIONS:,}")
     return told, is_well

@@ -15,9 +15,10 @@ from . import around, doctor, follow as telling, serve
 from .. import files, pictures
 
 from ..values import records
+from ..values.limits import OF_PROGRAM
 from ..errors import NoKind, NoVertex, StoreError
 from ..feeds.feed import STANDARD_INPUT, feed_name
-from ..engine.making import LIBRARY, choose
+from ..engine.making import LIBRARY, PROGRAM, choose
 from ..fleet.fleet import Fleet
 from ..lint import lint
 from ..feeds.loading import Survey, check, load, load_in_steps, survey
@@ -30,6 +31,8 @@ from ..session import Session
 from ..store import Store
 
 
+# What a run of a program takes.
+OF_RUN: Dict[str, Any] = {"limits": OF_PROGRAM, "most_blocks": records.MOST_BLOCKS}
 # The status that a shell tells of a command whose output lost its reader.
 ITS_READER_WENT = 128 + 13
 
@@ -44,7 +47,8 @@ def form_of_feed(words: argparse.Namespace) -> Dict[str, Any]:
 
 def read(words: argparse.Namespace) -> Survey:
     found = survey(words.file, batch=words.batch, rounding=words.rounding, **form_of_feed(words))
-    check(found, skip_bad=words.skip_bad)
+    is_program = choose(words.engine, words.program)[0] == PROGRAM
+    check(found, skip_bad=words.skip_bad, **(OF_RUN if is_program else {}))
     return found
 
 
@@ -54,9 +58,10 @@ def engine_of(words: argparse.Namespace) -> Dict[str, Any]:
 
 
 def make_store(words: argparse.Namespace, found: Survey, holds: bool = False) -> Store[Any, Any]:
-    """A store with the blocks that are said, or else enough; as many as there can be where old versions are held."""
-    blocks = words.blocks or (records.MOST_BLOCKS if holds else found.fitting())
-    return Store(blocks=blocks, **engine_of(words))
+    """A store with the blocks that are said, or else enough: a program has as many as there can be where versions are held."""
+    if choose(words.engine, words.program)[0] == LIBRARY:
+        return Store(blocks=words.blocks, **engine_of(words))
+    return Store(blocks=words.blocks or (records.MOST_BLOCKS if holds else found.fitting()), **engine_of(words))
 
 
 def window(words: argparse.Namespace) -> Dict[str, Any]:
@@ -159,8 +164,8 @@ def run_fleet(words: argparse.Namespace) -> int:
 
 def run_follow(words: argparse.Namespace) -> int:
     is_endless = choose(words.engine, words.program)[0] == LIBRARY
-    with Store(blocks=words.blocks or records.MOST_BLOCKS, endless=is_endless, rounding=words.rounding,
-               **engine_of(words)) as store:
+    blocks = words.blocks or (None if is_endless else records.MOST_BLOCKS)
+    with Store(blocks=blocks, endless=is_endless, rounding=words.rounding, **engine_of(words)) as store:
         return telling.follow(words, store, form_of_feed(words))
 
 

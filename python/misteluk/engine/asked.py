@@ -5,8 +5,8 @@ from array import array
 from typing import Any, Callable, Dict, Iterable, List, Optional, Protocol, Sequence, Tuple, Union
 
 from .calls import Calls, talks
-from .candidates import Candidates
 from .conversation import Awaited, one_line
+from .index import Candidates
 from .protocol import WHOLE, Arrays, Denied, Ends, Marks, Scope
 from ..errors import Incomplete, Misread, SessionClosed
 from ..values import records

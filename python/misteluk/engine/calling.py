@@ -4,19 +4,22 @@ from __future__ import annotations
 import os
 import threading
 from array import array
-from itertools import chain, repeat
+from ctypes import c_uint64
+from itertools import chain
 from typing import Any, Dict, List, NamedTuple, Optional, Tuple
 
 from . import interface
 from .guard import Notes, Owned, Step
 from .interface import Code, Library
-from .protocol import Operations, Denied
+from .operations import EXPIRE, INSERT, REMOVE, Numbered, Operations
+from .protocol import Denied
 from ..errors import LibraryNotFound, NoMemory, StoreError
-from ..values import records
 
 # The words of codes that the client's users know.
 WORDS = {Code.BATCHES_FULL: "BatchLimit", Code.NAMES_FULL: "NamesFull", Code.KINDS_FULL: "KindsFull",
          Code.BLOCKS_FULL: "PoolEmpty", Code.NO_VERTEX: "NoVertex", Code.NO_KIND: "NoKind"}
+# Up to so many operations each have a call of their own.
+FEW = 6
 _OPENED: "Dict[Tuple[str, int], Tuple[Library, Handles]]" = {}
 
 
@@ -92,45 +95,35 @@ class Known(NamedTuple):
 class LibraryFlight:
     """A batch on its way: in a handle of C, which is emptied as it is applied."""
 
-    def __init__(self, library: Library, handles: Handles, batch: Operations, collect: bool) -> None:
-        self.batch, self.collect = batch, collect
+    __slots__ = ("batch", "collect", "cut", "owned", "counts", "step")
+
+    def __init__(self, batch: Operations, collect: bool, owned: Owned) -> None:
+        self.batch, self.collect, self.owned = batch, collect, owned
         self.cut: List[None] = []
-        self.owned, self.counts = Owned(interface.Batch(), handles.batches), interface.Counts()
+        self.counts = interface.Counts()
         self.step: Optional[Step] = None
-        check(library.batch_new(self.owned.raw))
-        fill(library, self.owned.raw, batch.text.decode("ascii"), batch.size)
 
 
-def fill(library: Library, raw: interface.Batch, text: str, size: int) -> None:
-    """Puts records of operations into a batch."""
-    fields = text[:-1].replace("\n", ",").split(",")
-    # (where each sixth field is an insertion's or addition's command, each operation is one)
-    if size and '"' not in text and len(fields) == 6 * size and set(fields[::6]) <= {"i", "a"}:
-        _fill_at_once(library, raw, text.encode("ascii")[:-1].replace(b"\n", b",").split(b","))
+def fill(library: Library, raw: interface.Batch, batch: Operations) -> None:
+    """Puts operations into a batch: few of them one by one, since columns are made for each call."""
+    if batch.size > FEW:
+        _fill_at_once(library, raw, batch.columns)
         return
-    for line in text.splitlines():
-        command, *given = records.split_record(line)
-        names: Any = list(chain.from_iterable((it.encode("ascii"), len(it)) for it in given[:3])) if command != "x" else []
-        code = 0
-        if command == "x":
-            code = library.batch_expire(raw, int(given[0]))
-        elif command == "r":
-            code = library.batch_remove(raw, *names)
+    for code, kind, source, target, weight, time in batch.rows:
+        names: Any = kind.encode("ascii"), len(kind), source.encode("ascii"), len(source), target.encode("ascii"), len(target)
+        if code == EXPIRE:
+            check(library.batch_expire(raw, time))
+        elif code == REMOVE:
+            check(library.batch_remove(raw, *names))
         else:
-            call: Any = library.batch_insert if command == "i" else library.batch_add
-            code = call(raw, *names, int(given[3]), int(given[4]))
-        check(code)
+            call: Any = library.batch_insert if code == INSERT else library.batch_add
+            check(call(raw, *names, weight, time))
 
 
-def _fill_at_once(library: Library, raw: interface.Batch, fields: List[bytes]) -> None:
-    """The same for operations that are all insertions or additions without quotes: the loop is one in C where all are of one
-    sort."""
-    kinds, sources, targets = fields[1::6], fields[2::6], fields[3::6]
-    given: Any = (kinds, map(len, kinds), sources, map(len, sources), targets, map(len, targets), map(int, fields[4::6]),
-                  map(int, fields[5::6]))
-    call_of: Any = {b"i": library.batch_insert, b"a": library.batch_add}
-    if len(set(fields[::6])) == 1:
-        codes: Any = map(call_of[fields[0]], repeat(raw), *given)
-    else:
-        codes = (call_of[command](raw, *it) for command, it in zip(fields[::6], zip(*given)))
-    check(next(filter(None, codes), Code.OK))
+def _fill_at_once(library: Library, raw: interface.Batch, columns: Numbered) -> None:
+    """The same by a call for all, which have room in the batch."""
+    dictionaries = [(text, len(text), address(ends), len(ends)) for text, ends in (columns.of_kinds.encoded,
+                                                                                    columns.of_names.encoded)]
+    places: Any = chain.from_iterable([*dictionaries, *((address(it), len(it)) for it in columns[:6])])
+    append: Any = library.batch_columns
+    check(append(raw, *places, c_uint64()))

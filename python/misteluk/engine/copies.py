@@ -6,13 +6,13 @@ order gets a loop edge, which is inserted and removed.
 """
 from __future__ import annotations
 
-from typing import Any, Dict, Iterator, List, NamedTuple, Tuple
+from typing import Any, Iterator, List, NamedTuple, Tuple
 
+from .operations import INSERT, REMOVE, Row
 from .protocol import WHOLE, Held
-from ..values import records
 
 # An edge's kind, source, target, weight, first and recent time, in the engine's terms.
-Row = Tuple[str, str, str, int, int, int]
+Told = Tuple[str, str, str, int, int, int]
 
 
 class Content(NamedTuple):
@@ -21,7 +21,7 @@ class Content(NamedTuple):
 
     kinds: List[str]
     names: List[str]
-    edges: List[Row]
+    edges: List[Told]
 
     def without_idle_names(self) -> "Content":
         """The same without names and kinds that have no edge."""
@@ -38,54 +38,44 @@ def content_of(version: Held) -> Content:
     return Content(kinds, names, list(rows))
 
 
-class Quoted(Dict[str, str]):
-    """Names as fields of records."""
-
-    def __missing__(self, name: str) -> str:
-        found = self[name] = records.quoted(name)
-        return found
-
-
-def operations_of(content: Content) -> Iterator[str]:
-    """The records that make an empty store hold the content, in order."""
+def operations_of(content: Content) -> Iterator[Row]:
+    """The operations that make an empty store hold the content, in order."""
     if not content.names:
         return
-    quoted = Quoted()
     is_begun = len(content.kinds) > 1
     for kind in content.kinds if is_begun else ():
-        yield from _loop(quoted[kind], quoted[content.names[0]])
+        yield from _loop(kind, content.names[0])
     groups = _by_later_end(content)
     for at, name in enumerate(content.names):
         for edge in groups[at]:
-            yield from _edge(edge, quoted)
+            yield from _edge(edge)
         if groups[at] or is_begun and not at:
             continue
         # An edge from this name to the next one, where there is one, makes both known in their order.
         both = next((place for place, it in enumerate(groups[at + 1]) if it[1] == name), None)
         if both is None:
-            yield from _loop(quoted[content.kinds[0]], quoted[name])
+            yield from _loop(content.kinds[0], name)
         else:
             groups[at + 1].insert(0, groups[at + 1].pop(both))
 
 
-def _by_later_end(content: Content) -> List[List[Row]]:
+def _by_later_end(content: Content) -> List[List[Told]]:
     """The edges by the later one of their ends, in the order of names; behind them is an empty list."""
     rank = {name: at for at, name in enumerate(content.names)}
-    groups: List[List[Row]] = [[] for _ in range(len(content.names) + 1)]
+    groups: List[List[Told]] = [[] for _ in range(len(content.names) + 1)]
     for it in content.edges:
         groups[max(rank[it[1]], rank[it[2]])].append(it)
     return groups
 
 
-def _loop(kind: str, name: str) -> Iterator[str]:
+def _loop(kind: str, name: str) -> Iterator[Row]:
     """A loop edge that is inserted and removed, which makes its name and kind known."""
-    yield f"i,{kind},{name},{name},0,0\n"
-    yield f"r,{kind},{name},{name}\n"
+    yield INSERT, kind, name, name, 0, 0
+    yield REMOVE, kind, name, name, 0, 0
 
 
-def _edge(edge: Row, quoted: Quoted) -> Iterator[str]:
+def _edge(edge: Told) -> Iterator[Row]:
     kind, source, target, weight, first, recent = edge
-    ends = f"i,{quoted[kind]},{quoted[source]},{quoted[target]},{weight}"
-    yield f"{ends},{first}\n"
+    yield INSERT, kind, source, target, weight, first
     if recent != first:
-        yield f"{ends},{recent}\n"
+        yield INSERT, kind, source, target, weight, recent

@@ -12,7 +12,7 @@ import sys
 import threading
 import weakref
 from collections import deque
-from itertools import repeat
+from itertools import repeat, starmap
 from operator import attrgetter
 from types import FrameType
 from typing import Any, Callable, Deque, Dict, List, Optional, TypeVar, cast
@@ -36,7 +36,7 @@ class Step:
 
     def make(self) -> Any:
         if not self.gave:
-            self.gave.extend(map(self.call, *([it] for it in self.given)))
+            self.gave.extend(starmap(self.call, (self.given,)))
         return self.gave[0]
 
 

@@ -2,6 +2,7 @@
 from __future__ import annotations
 
 from array import array
+from collections import Counter
 from ctypes import c_uint32, c_uint64
 from itertools import accumulate, chain
 from typing import Any, List, NamedTuple, Optional, Protocol, Sequence, Tuple, Union
@@ -12,21 +13,25 @@ from .guard import Guard, Notes, Owned, Step
 from .interface import Code, Library
 from .protocol import WHOLE, Arrays, Denied, Ends, Marks, Scope
 from ..errors import SessionClosed
+from ..values.limits import Limits
 
 # What no hold has.
 NO_HOLD = (1 << 64) - 1
-# How many edges of a vertex are asked for at first.
-A_ROW = 32
+# How many edges of a vertex are asked for at first; and from how many on numpy is worth to be loaded.
+A_ROW, MANY = 32, 50_000
 
 
 class Opening(NamedTuple):
     """What an engine has from one beginning anew to the next: its desk, and the holds that are to be given back there; how many
-    versions were made before; its names; and the version at which it is about to begin anew, with the step by which it does."""
+    versions were made before; its names; the desk's blocks and limits; and the version at which it is about to begin anew, with
+    the step by which it does."""
 
     desk: Owned
     holds: Notes
     before: int
     known: Known
+    blocks: int
+    shape: Limits
     anew: Optional[Tuple[int, Step]] = None
 
 
@@ -232,13 +237,17 @@ class LibraryVersion:
 
 
 def by_target(edges: Arrays, count: int) -> "Tuple[Sequence[int], array[int]]":
-    """The places of edges in order of their targets, and where those of each target begin. (Loops let other threads have their
-    turn; a sort of all of them would keep these waiting.)"""
-    counts = [0] * (count + 1)
-    for it in edges.targets:
-        counts[it + 1] += 1
-    ends, order = array("I", accumulate(counts)), array("I", bytes(4 * edges.size))
-    free = list(ends)
+    """The places of edges in order of their targets, and where those of each target begin; by numpy where they are many and it is
+    there. (Else in a loop, which lets other threads have their turn: a sort of all of them would keep these waiting.)"""
+    counts = Counter(edges.targets)
+    ends = array("I", accumulate(map(counts.__getitem__, range(count)), initial=0))
+    if edges.size >= MANY:
+        try:
+            import numpy
+            return array("I", numpy.argsort(numpy.asarray(edges.targets), kind="stable").astype("uint32").tobytes()), ends
+        except ImportError:
+            pass
+    order, free = array("I", bytes(4 * edges.size)), list(ends)
     for at, it in enumerate(edges.targets):
         order[free[it]] = at
         free[it] += 1

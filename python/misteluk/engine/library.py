@@ -10,48 +10,60 @@ import os
 import time
 import weakref
 from ctypes import c_uint64
-from typing import Any, Dict, List, Optional, Tuple
+from typing import Any, Callable, Dict, List, Optional, Sequence, Set, Tuple
 
 from . import interface
-from .calling import Known, LibraryFlight, check, opened, refusal_of
+from .calling import WORDS, Known, LibraryFlight, check, fill, opened, refusal_of
 from .copies import Content, content_of, operations_of
 from .finding import find_library
 from .guard import Guard, Notes, Owned, Step, alone
 from .held import LibraryVersion, Opening
 from .interface import Code
-from .protocol import Operations, Denied, Receipt
+from .operations import REMOVE, Operations
+from .protocol import Denied, Receipt
 from ..errors import NoSeat, StoreError
 from ..values import records
 from ..values.answers import Collected, Commit, Rebased, Renewed, Stat
+from ..values.limits import MOST_BLOCKS, MOST_KINDS, Limits
 
-# What a copy without idle names helps against.
-HELPED_BY_COPY = (Code.NAMES_FULL, Code.KINDS_FULL)
+# How many blocks a desk has at first, and how many times as many one that has room for more.
+FIRST_BLOCKS, MORE_BLOCKS = 65_536, 4
 
 
 class LibraryEngine:
     """A desk in this process. It begins anew by itself where it is full: of batches, or of blocks that held versions need.
-    Versions that are held stay as they are. `endless`: it also lets names and kinds go that have no edge, where they are too
-    many."""
+    Versions that are held stay as they are. Where nothing says how many blocks, vertices or kinds there are at most, a larger
+    desk with the same edges takes its place once they are needed. `endless`: before that it lets names and kinds go that have no
+    edge."""
 
     name = "library"
-    records_sent, records_left = 0, None
+    records_sent, records_left, most_blocks = 0, None, MOST_BLOCKS
 
-    def __init__(self, blocks: int, seats: int, endless: bool, library: "Optional[str | os.PathLike[str]]" = None) -> None:
+    def __init__(self, blocks: Optional[int], seats: int, endless: bool, limits: Limits = Limits(),
+                 library: "Optional[str | os.PathLike[str]]" = None) -> None:
         self.path = find_library(library)
         self.library, self.handles = opened(self.path)
-        self.blocks, self.seats, self._endless = blocks, seats, endless
+        self.grows, self.limits, self.seats, self._endless = blocks is None, limits, seats, endless
         self.is_closed = False
         self.guard = self._guard = Guard()
         self._held: "Dict[int, weakref.ref[LibraryVersion]]" = {}
         self._versions: "List[weakref.ref[LibraryVersion]]" = []
+        # The handle of a batch that was applied, and so has no operation: the next one takes it.
+        self._empty: List[Owned] = []
         self._rebased: Optional[Tuple[LibraryVersion, Rebased]] = None
-        self._opening = self._new(0)
+        # (an endless one has few vertices at first, so that it lets those go that have no edge, before it takes many)
+        is_plain = limits.vertices is limits.kinds is None
+        self._opening = self._new(0, blocks or FIRST_BLOCKS, limits.shape(0, MOST_KINDS if endless and is_plain else 0))
 
-    def _new(self, version: int) -> Opening:
+    def _new(self, version: int, blocks: int, shape: Limits) -> Opening:
         """An opening with an empty desk, of so many versions before."""
         desk = Owned(interface.Desk(), self.handles.desks)
-        check(self.library.desk_new(self.blocks, desk.raw))
-        return Opening(desk, Notes(), version, Known.nothing())
+        check(self.library.desk_new_within(interface.Limits(*shape), blocks, desk.raw))
+        return Opening(desk, Notes(), version, Known.nothing(), blocks, shape)
+
+    @property
+    def blocks(self) -> int:
+        return self._opening.blocks
 
     @property
     def has_ended(self) -> bool:
@@ -101,7 +113,14 @@ class LibraryEngine:
     # Batches.
 
     def flight(self, batch: Operations, collect: bool) -> LibraryFlight:
-        return LibraryFlight(self.library, self.handles, batch, collect)
+        owned = self._empty.pop() if self._empty else self._new_batch()
+        fill(self.library, owned.raw, batch)
+        return LibraryFlight(batch, collect, owned)
+
+    def _new_batch(self) -> Owned:
+        owned = Owned(interface.Batch(), self.handles.batches)
+        check(self.library.batch_new(owned.raw))
+        return owned
 
     @alone
     def landed(self, flight: LibraryFlight) -> Optional[Receipt]:
@@ -110,39 +129,92 @@ class LibraryEngine:
 
     @alone
     def fly(self, flight: LibraryFlight) -> Receipt:
-        opening, is_more = self._settle(), True
+        opening = self._settle()
+        tried: Set[str] = set()
         while True:
             if flight.step is None or flight.step.gave not in ([], [Code.OK]):
                 flight.step = Step(self.library.desk_apply, opening.desk.raw, flight.owned.raw, flight.counts)
             code = flight.step.make()
             if code == Code.OK:
                 return self._receipt(opening, flight)
-            helped = self._help(opening, code) if is_more else None
+            helped = self._help(opening, code, flight, tried)
             if helped is None:
                 flight.step = None
-                raise Denied("PoolEmpty", stat=self._stat(opening)) if code == Code.BLOCKS_FULL else refusal_of(code)
-            opening, is_more = helped
+                raise self._denied(self._opening, code, flight)
+            opening = helped
 
     def _receipt(self, opening: Opening, flight: LibraryFlight) -> Receipt:
-        it = flight.counts
+        it, self._empty = flight.counts, [flight.owned]
         if flight.collect:
             self._collect(opening)
         return Receipt(Commit(it.version + opening.before, it.inserted, it.updated, it.removed, it.absent, it.overflowed, 1,
                               it.expired))
 
-    def _help(self, opening: Opening, code: int) -> Optional[Tuple[Opening, bool]]:
-        """Makes room for a batch that was refused, and tells whether more might help; `None` where nothing does."""
-        if code == Code.BLOCKS_FULL and self._collect(opening):
-            return opening, True
+    def _help(self, opening: Opening, code: int, flight: LibraryFlight, tried: Set[str]) -> Optional[Opening]:
+        """Makes room for a batch that was refused, by what wasn't tried yet; `None` where nothing helps."""
+        is_full = code in (Code.NAMES_FULL, Code.KINDS_FULL)
         stat = self._stat(opening)
-        if code == Code.BATCHES_FULL or code == Code.BLOCKS_FULL and stat.retired:
-            return self._begin_anew(opening, stat), False
-        if code in HELPED_BY_COPY and self._endless:
-            try:
-                return self._copy(self._content(opening).without_idle_names(), stat.version), False
-            except Denied:
-                pass  # (the copy finds no room: what is told is why the batch was refused)
+        ways: Sequence[Tuple[str, object, Callable[[], Optional[Opening]]]] = (
+            ("collect", code == Code.BLOCKS_FULL and self._collect(opening), lambda: opening),
+            ("begin anew", code == Code.BATCHES_FULL or code == Code.BLOCKS_FULL and stat.retired,
+             lambda: self._begin_anew(opening, stat)),
+            ("let go", is_full and self._endless, lambda: self._without_idle_names(opening, stat)),
+            ("grow", is_full or code == Code.BLOCKS_FULL, lambda: self._grown(opening, code, flight)))
+        for name, is_of_use, way in ways:
+            if is_of_use and name not in tried:
+                tried.add(name)
+                found = way()
+                if found is not None:
+                    return found
         return None
+
+    def _without_idle_names(self, opening: Opening, stat: Stat) -> Optional[Opening]:
+        try:
+            return self._copy(self._content(opening).without_idle_names(), stat.version)
+        except Denied:
+            return None  # (the copy finds no room)
+
+    def _wanted(self, opening: Opening, flight: LibraryFlight) -> Tuple[Content, int, int]:
+        """What the last version holds, and how many vertices and kinds there would be with a batch."""
+        content = self._content(opening)
+        rows = [it for it in flight.batch.rows if it[0] < REMOVE]
+        names = {*content.names, *(it[2] for it in rows), *(it[3] for it in rows)}
+        return content, len(names), len({*content.kinds, *(it[1] for it in rows)})
+
+    def _grown(self, opening: Opening, code: int, flight: LibraryFlight) -> Optional[Opening]:
+        """A desk with the same edges, and more room for a batch; `None` where what was said leaves none."""
+        blocks = min(opening.blocks * MORE_BLOCKS, MOST_BLOCKS)
+        if code == Code.BLOCKS_FULL and (not self.grows or blocks == opening.blocks):
+            return None
+        stat = self._stat(opening)
+        opening = self._begin_anew(opening, stat)  # (so that there is a seat to read it by)
+        if code == Code.BLOCKS_FULL:
+            return self._copy(self._content(opening), stat.version, blocks=blocks)
+        content, vertices, kinds = self._wanted(opening, flight)
+        if self.limits.over(vertices, kinds):
+            return None
+        return self._copy(content, stat.version, shape=self.limits.shape(vertices, kinds))
+
+    def _denied(self, opening: Opening, code: int, flight: LibraryFlight) -> Exception:
+        """What is raised where a batch was refused, and nothing helped."""
+        if code == Code.BLOCKS_FULL:
+            return Denied("PoolEmpty", stat=self._stat(opening))
+        if code in (Code.NAMES_FULL, Code.KINDS_FULL):
+            over = self.limits.over(*self._wanted(opening, flight)[1:])
+            return Denied(WORDS[Code(code)], advice=f"There would be {'; '.join(over)}. {self.limits.advice}" if over else None)
+        return refusal_of(code)
+
+    @alone
+    def fit(self, vertices: int, kinds: int, blocks: int) -> None:
+        opening = self._settle()
+        shape, more = opening.shape, opening.blocks
+        if (vertices > (shape.vertices or 0) or kinds > (shape.kinds or 0)) and not self.limits.over(vertices, kinds):
+            shape = self.limits.shape(vertices, kinds)
+        while self.grows and more < min(blocks, MOST_BLOCKS):
+            more = min(more * MORE_BLOCKS, MOST_BLOCKS)
+        if (shape, more) != (opening.shape, opening.blocks):
+            stat = self._stat(opening)
+            self._copy(self._content(self._begin_anew(opening, stat)), stat.version, more, shape)
 
     # Versions.
 
@@ -207,15 +279,16 @@ class LibraryEngine:
         check(code)
         return opening
 
-    def _copy(self, content: Content, number: int) -> Opening:
-        """A new desk takes the place of the one in use, with this content as the version of this number. Its batches are as small
-        as its free blocks want them. Raises `Denied` (PoolEmpty) where even one operation finds none; nothing changes then."""
-        opening = self._new(number)
+    def _copy(self, content: Content, number: int, blocks: Optional[int] = None, shape: Optional[Limits] = None) -> Opening:
+        """A new desk takes the place of the one in use, with this content as the version of this number, and with so many blocks
+        and these limits where they are said. Its batches are as small as its free blocks want them. Raises `Denied` (PoolEmpty)
+        where even one operation finds none; nothing changes then."""
+        opening = self._new(number, blocks or self._opening.blocks, shape or self._opening.shape)
         operations = list(operations_of(content))
         at = 0
         while at < len(operations):
             part = operations[at:at + min(records.MOST_OPERATIONS, max(self._stat(opening).free, 1))]
-            flight = self.flight(Operations("".join(part).encode("ascii"), len(part)), True)
+            flight = self.flight(Operations(part), True)
             check(self.library.desk_apply(opening.desk.raw, flight.owned.raw, flight.counts))
             self._collect(opening)
             at += len(part)

@@ -11,7 +11,7 @@ from .program import ProgramEngine
 from .protocol import Engine
 from ..errors import LibraryNotFound
 from ..values import records
-from ..values.limits import within
+from ..values.limits import MOST_BLOCKS, Limits, within
 
 VARIABLE = "MISTELUK_ENGINE"
 ENGINES = LIBRARY, PROGRAM = "library", "program"
@@ -37,19 +37,20 @@ def choose(engine: Optional[str] = None, program: Optional[Path] = None) -> Tupl
 
 
 def make_engine(engine: "Union[str, Engine, None]", blocks: Optional[int], seats: int, workers: int, program: Optional[Path],
-                timeout: float, endless: bool) -> Engine:
+                timeout: float, endless: bool, limits: Optional[Limits]) -> Engine:
     """An engine with an empty store; or the one that is given, as it is."""
     if engine is not None and not isinstance(engine, str):
         return engine
+    name, why = choose(engine, program)
     if blocks is not None:
-        within("blocks", blocks, records.LEAST_BLOCKS, records.MOST_BLOCKS)
+        within("blocks", blocks, records.LEAST_BLOCKS, MOST_BLOCKS if name == LIBRARY else records.MOST_BLOCKS)
     within("seats", seats, 1, records.MOST_SEATS)
     within("workers", workers, 1, records.MOST_WORKERS)
     if not timeout > 0:
         raise ValueError(f"timeout is a number of seconds above 0, and not {timeout}")
-    name, why = choose(engine, program)
     if name == LIBRARY:
-        return LibraryEngine(blocks or records.MOST_BLOCKS, seats, endless)
-    if endless:
-        raise ValueError(f"an endless store is one in this process, and this would be the program's: {why}")
+        return LibraryEngine(blocks, seats, endless, (limits or Limits()).checked())
+    if endless or limits is not None:
+        what = "an endless store is" if endless else "a store with limits of its own is"
+        raise ValueError(f"{what} one in this process, and this would be the program's: {why}")
     return ProgramEngine(find_program(program), blocks or records.USUAL_BLOCKS, seats, workers, timeout)

@@ -12,14 +12,15 @@ from typing import Any, Callable, Dict, List, NamedTuple, Optional, Sequence, Tu
 
 from .asked import ProgramVersion, numbers
 from .calls import Calls, talks
-from .candidates import Candidates
 from .conversation import Awaited, Conversation, how_ended, one_line
-from .index import Index
-from .protocol import Operations, Denied, Receipt
+from .index import Candidates, Index
+from .operations import Operations
+from .protocol import Denied, Receipt
 from ..errors import NearLimit, NoSeat, NotRenewed, ProgramEnded, RecordLimit, SessionClosed, StoreError
 from ..feeds.progress import MANY, Progress
 from ..values import records
 from ..values.answers import Collected, Commit, Rebased, Renewed, Stat
+from ..values.limits import OF_PROGRAM
 
 # How many requests are sent at once where many are asked.
 ASK_AT_ONCE = 4_096
@@ -56,6 +57,7 @@ class ProgramEngine:
     interrupt ends the waiting for it."""
 
     name = "program"
+    limits, most_blocks, grows = OF_PROGRAM, records.MOST_BLOCKS, False
 
     def __init__(self, program: str, blocks: int, seats: int, workers: int, timeout: float) -> None:
         self.program, self.blocks, self.seats = program, blocks, seats
@@ -157,12 +159,8 @@ class ProgramEngine:
         return answers
 
     def candidates(self) -> Candidates:
-        """Every edge that a version may have which is held, or which is held later."""
-        return self.index.candidates(self._floor())
-
-    def _floor(self) -> Optional[int]:
-        """The least version that is held, if any is."""
-        return min((it.number for it in (held() for held in self._held.values()) if it is not None), default=None)
+        """Every edge that a version may have."""
+        return self.index.candidates()
 
     def _let_orphans_go(self) -> None:
         """Closes what was opened for a call that was broken off, and versions that nobody has."""
@@ -176,6 +174,9 @@ class ProgramEngine:
             self.make_room(1)
             del self._held[at]
             self.ask(("close", str(at)))
+
+    def fit(self, vertices: int, kinds: int, blocks: int) -> None:
+        """It has the room that it was begun with."""
 
     # Batches.
 
@@ -197,7 +198,7 @@ class ProgramEngine:
         batch = flight.batch
         self.make_room(batch.size + 1 + flight.collect)
         before = self.talk.records
-        self.index.tell(batch.text, batch.size)
+        self.index.tell(batch)
         self.talk.tell(batch.text, batch.size)
         done = self.talk.ask("commit\n")
         flight.sent = Sent(before, done, self.talk.ask("collect\n") if flight.collect else done)
@@ -218,7 +219,6 @@ class ProgramEngine:
                     return self._land(flight)
                 raise Denied(sent.done.word, sent.done.number, self._stat() if sent.done.word == "PoolEmpty" else None)
             receipt = committed(sent.done.head or "")
-            self.index.landed(receipt.version, {number - sent.before - 1 for number, _ in refused}, self._floor())
             flight.receipt = Receipt(receipt, [(number - sent.before - 1, word) for number, word in refused])
         return flight.receipt
 
@@ -274,7 +274,6 @@ class ProgramEngine:
             self._let_orphans_go()
             self.make_room(1)
             self._forget_versions()
-            self.index.begun_anew(version.number)
             self._rebasing = version, self.talk.ask(f"rebase,{version.slot}\n")
         answer = self.talk.settle(self._rebasing[1])
         return Rebased(*numbers(self._checked(answer).head or "", "rebase", 4))

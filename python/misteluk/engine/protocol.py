@@ -7,11 +7,12 @@ to version within an opening.
 from __future__ import annotations
 
 from array import array
-from typing import Any, Callable, List, NamedTuple, Optional, Protocol, Sequence, Tuple
+from typing import Any, List, NamedTuple, Optional, Protocol, Sequence, Tuple
 
-from ..errors import Place
+from .operations import Operations
 from ..values import records
 from ..values.answers import Collected, Commit, Rebased, Renewed, Stat
+from ..values.limits import Limits
 
 # An edge by its kind, source and target.
 Ends = Tuple[str, str, str]
@@ -67,19 +68,6 @@ class Arrays(NamedTuple):
         return found
 
 
-class Operations(NamedTuple):
-    """Operations that go in together: their records, how many they are, and where each came from, by its place."""
-
-    text: bytes
-    size: int
-    place: Optional[Callable[[int], Place]] = None
-
-    @property
-    def expires(self) -> bool:
-        """Whether an operation expires edges; then the batch asks for the used blocks too."""
-        return self.text.startswith(b"x,") or b"\nx," in self.text
-
-
 class Receipt(NamedTuple):
     """What a batch did; and the operations that were refused of it, by place and word, though they had been taken for right."""
 
@@ -88,11 +76,11 @@ class Receipt(NamedTuple):
 
 
 class Denied(Exception):
-    """What was asked can't be: the word for that, the record's number where there is one, and of a batch that needs more blocks
-    than are free what the blocks were."""
+    """What was asked can't be: the word for that, the record's number where there is one, of a batch that needs more blocks than
+    are free what the blocks were, and what helps, where that isn't the word's advice."""
 
-    def __init__(self, word: str, record: Optional[int] = None, stat: Optional[Stat] = None) -> None:
-        self.word, self.record, self.stat = word, record, stat
+    def __init__(self, word: str, record: Optional[int] = None, stat: Optional[Stat] = None, advice: Optional[str] = None) -> None:
+        self.word, self.record, self.stat, self.advice = word, record, stat, advice
         super().__init__(word)
 
 
@@ -155,11 +143,17 @@ class Engine(Protocol):
     """A running store. Its calls are made one at a time, and each of them again where an interrupt broke it off."""
 
     name: str
-    blocks: int
     seats: int
+    # What was said of vertices, kinds and batches; how many blocks there can be; and whether they become more as they are needed.
+    limits: Limits
+    most_blocks: int
+    grows: bool
 
     def told(self) -> str:
         """Which engine it is, for a person."""
+
+    @property
+    def blocks(self) -> int: ...
 
     @property
     def open_count(self) -> int:
@@ -178,6 +172,9 @@ class Engine(Protocol):
 
     @property
     def records_left(self) -> Optional[int]: ...
+
+    def fit(self, vertices: int, kinds: int, blocks: int) -> None:
+        """Has room for so many before they come, where it may have more: nothing that is told or held changes."""
 
     def flight(self, batch: Operations, collect: bool) -> Any:
         """A batch that can be applied, with a collection behind it or not. Nothing is done yet."""

@@ -3,7 +3,7 @@ from __future__ import annotations
 
 import csv
 from itertools import chain
-from typing import Iterable, Iterator, List, Optional, Sequence, Tuple
+from typing import Iterable, Iterator, List, Mapping, Optional, Sequence, Tuple, Union
 
 from . import feed as feeds
 from ..errors import FeedFault
@@ -114,7 +114,7 @@ class Picked:
         self.least = max(it for it in self.places if it is not None) + 1
         self.is_first = True
 
-    def of_columns(self, lines: Sequence[int], columns: Sequence[Sequence[str]]) -> Block:
+    def of_columns(self, lines: Sequence[int], columns: Union[Sequence[Sequence[str]], Mapping[int, Sequence[str]]]) -> Block:
         self.is_first = False
         return Block(lines, *([usual] * len(lines) if place is None else columns[place]
                               for place, usual in zip(self.places, self.usual)))

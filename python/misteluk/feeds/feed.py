@@ -10,6 +10,7 @@ from itertools import chain, islice
 from typing import IO, Any, Callable, Iterable, Iterator, List, NamedTuple, Optional, Sequence, Tuple, TypeVar, Union, cast
 
 from ..errors import FeedFault
+from ..values.units import each_once
 
 # Where a row stands (a line of a file, or a row's number from 1), and its kind, source, target, weight and time as texts.
 Row = Tuple[int, str, str, str, str, str]
@@ -24,14 +25,15 @@ T = TypeVar("T")
 
 
 class Block(NamedTuple):
-    """Rows that follow one another, by column: a call turns, checks or writes thousands of fields at once."""
+    """Rows that follow one another, by column: a call turns, checks or writes thousands of fields at once. Weights and times are
+    texts, and in the engine's terms numbers."""
 
     lines: Sequence[int]
     kinds: Sequence[str]
     sources: Sequence[str]
     targets: Sequence[str]
-    weights: Sequence[str]
-    times: Sequence[str]
+    weights: Sequence[Any]
+    times: Sequence[Any]
     # By what each row is parted; none where nothing is.
     keys: Sequence[str] = ()
 
@@ -41,14 +43,9 @@ def rows_of(block: Block) -> Iterator[Row]:
     return cast("Iterator[Row]", zip(*block[:6]))
 
 
-def of_columns(columns: Sequence[Any]) -> Block:
-    """A block of lines, kinds, sources, targets, weights and times, and of keys where rows have some."""
-    return Block(*columns)
-
-
 def part_of(block: Block, rows: slice) -> Block:
     """Some rows of a block."""
-    return of_columns([it[rows] for it in block])
+    return Block(*(it[rows] for it in block))
 
 
 class Table:
@@ -113,15 +110,9 @@ def turned(feed: Feed, *, names: str = "plain") -> Feed:
 
     def blocks() -> Iterator[Block]:
         for it in feed.blocks():
-            kinds, sources, targets = (_each(escaped, column) for column in it[1:4])
+            kinds, sources, targets = (each_once(escaped, column) for column in it[1:4])
             yield Block(it.lines, kinds, sources, targets, it.weights, it.times)
     return Feed(feed.name, Table(blocks))
-
-
-def _each(turn: Callable[[str], str], texts: Sequence[str]) -> List[str]:
-    """The texts turned; those that are the same are turned once."""
-    turned = {it: turn(it) for it in set(texts)}
-    return list(map(turned.__getitem__, texts))
 
 
 def feed_name(path: Path) -> str:

@@ -6,6 +6,7 @@ import re
 import time
 from collections import deque
 from datetime import timedelta
+from itertools import repeat
 from types import TracebackType
 from typing import TYPE_CHECKING, Any, Deque, Iterator, List, NamedTuple, Optional, Tuple, Type, Union
 
@@ -20,6 +21,7 @@ from .growing import DelimitedRows, Growing, Incoming, Opened, Rows, SnapRows
 from .loading import Count, must_be_way
 from .opening import ReadAs, form_of, reads
 from ..engine.calls import Calls
+from ..engine.operations import EXPIRY
 from .progress import Progress
 from ..values.units import MICROSECOND, Units
 
@@ -229,20 +231,19 @@ class Following(Iterator[Followed]):
             self._blocks.appendleft(part_of(block, slice(room, None)))
             block = part_of(block, slice(0, room))
         count, before = self._count, self._count.bad
-        count.rows += len(block.lines)
-        right, text = count.written(block)
-        operations = text.splitlines(keepends=True)
+        right = count.written(block)
         if count.bad > before and not self._pace.skip_bad:
-            right, operations = self._before_the_first_bad(right, operations)
+            right = self._before_the_first_bad(right)
         if not right.lines:
             return
         self._since = self._since if self._lines else time.monotonic()
         self._ledger.kinds.update(dict.fromkeys(map(count.terms.names.to_user, dict.fromkeys(right.kinds))))
-        self._ledger.pending.extend(operations)
+        rows: Any = zip(repeat(count.code), *right[1:6])
+        self._ledger.pending.extend(rows)
         self._lines.extend(right.lines)
-        self._newest = max(self._newest, *map(int, right.times))
+        self._newest = max(self._newest, *right.times)
 
-    def _before_the_first_bad(self, right: Block, operations: List[str]) -> Tuple[Block, List[str]]:
+    def _before_the_first_bad(self, right: Block) -> Block:
         """The rows before the first one that is bad; the feed ends there."""
         count = self._count
         advise(count.faults, Reading(self._pace.how.encoding, self._pace.how.decimal, count.terms.units, self._pace.how.dates))
@@ -252,14 +253,14 @@ class Following(Iterator[Followed]):
         self._ending = BadRows(self.name, count.bad, count.rows, count.faults, count.fault_counts,
                                stands=f"those before line {first} are in, and none behind it")
         self._blocks.clear()
-        return part_of(right, slice(0, keep)), operations[:keep]
+        return part_of(right, slice(0, keep))
 
     def _commit(self) -> Followed:
         """Commits what is pending. Where that is refused or not answered all of it is pending still."""
         bound = self._newest - (self._pace.keep or 0)
         if self._pace.keep is not None and bound > 0 and not self._has_expiry:
             self._has_expiry = True  # (a batch that is sent again has its own)
-            self._ledger.pending.append(f"x,{bound}\n")
+            self._ledger.pending.append((*EXPIRY, bound))
         pending = self.store.pending
         try:
             receipt, told = self._ledger.commit(True, records.MOST_OPERATIONS)
@@ -336,7 +337,7 @@ def follow(store: "Store[Any, Any]", feed: Union[Path, Opened], *, by: str, ever
         raise ValueError(f"format is 'delimited' or 'snap' where a feed is followed, and not {form!r}")
     if store.pending:
         raise Uncommitted(f"{store.pending} operations are pending: commit or discard them before a feed is followed",
-                          list(store.ledger.pending))
+                          store.ledger.told_pending)
     turned(Feed("", ()), names=how.names)
     source = Growing(feed, how.encoding, until_end)
     rows: Rows = (SnapRows(source.name, how.columns.usual_kind, how.third) if form == "snap" else

@@ -6,6 +6,7 @@ from typing import TYPE_CHECKING, Any
 
 from ..values import records
 from ..errors import BadRows, NearLimit, OverLimit, PoolEmpty
+from ..values.limits import MOST_BLOCKS, Limits
 
 # How many records an export takes beside one for each edge: its table, and its kinds.
 FOR_AN_EXPORT = 100
@@ -23,27 +24,30 @@ def _smaller(found: "Survey", blocks: int, used: int) -> str:
     return f"a batch needs as many free blocks as it has operations: batches of {room} fit (batch={room}, --batch {room})"
 
 
-def check(found: "Survey", *, skip_bad: bool = False) -> None:
-    """Raises where rows are bad (unless they are to be passed over), and where the feed is more than an empty store takes."""
+def check(found: "Survey", *, skip_bad: bool = False, limits: Limits = Limits(), most_blocks: int = MOST_BLOCKS) -> None:
+    """Raises where rows are bad (unless they are to be passed over), and where the feed is more than an empty store takes that
+    has these limits, and at most so many blocks."""
     if found.bad and not skip_bad:
         raise BadRows(found.feed, found.bad, found.rows, found.faults, found.fault_counts)
-    limits = ("names", found.names, records.MOST_NAMES), ("kinds", len(found.kinds), records.MOST_KINDS)
-    over = [f"{count} {what}, where a store takes {most}" for what, count, most in limits if count > most]
-    if found.needed > records.MOST_BLOCKS:
+    over = limits.over(found.names, len(found.kinds))
+    advice = f"{limits.advice}. " if over else ""
+    if not found.surely_fits(most_blocks) and found.needed > most_blocks:
         over.append(f"{found.blocks} blocks for its edges and {found.needed} for its batches, where a store has at most "
-                    f"{records.MOST_BLOCKS}; {_smaller(found, records.MOST_BLOCKS, found.blocks)}")
+                    f"{most_blocks}; {_smaller(found, most_blocks, found.blocks)}")
     if over:
-        raise OverLimit(f"{found.feed} has {'; '.join(over)}. Nothing is loaded", found.counts())
+        raise OverLimit(f"{found.feed} has {'; '.join(over)}. {advice}Nothing is loaded", found.counts())
 
 
 def check_room(store: "Store[Any, Any]", found: "Survey", used: int, count: int) -> None:
     """Raises where the store's blocks can't be enough: the edges before a batch take at least those that they need alone, or
     those in use now. And where a program's records can't."""
-    needed, left = found.needed_beside(used), store.records_left
+    left = store.records_left
     if left is not None and (count > left or len(found.parts) > records.MOST_BATCHES):
         raise OverLimit(f"{found.feed} has {count} records with its commits and collections, in {len(found.parts)} batches, and "
                         f"this run takes {left} records more of {records.MOST_RECORDS}, and {records.MOST_BATCHES} batches. "
                         "Nothing was sent", found.counts())
+    store.engine.fit(found.names, len(found.kinds), used + found.room)
+    needed = 0 if found.surely_fits(store.blocks, used) else found.needed_beside(used)
     if needed > store.blocks:
         text = (f"{found.feed} needs at least {needed} blocks in batches of {max(len(it.lines) for it in found.parts)}, and the "
                 f"store was made with {store.blocks}; nothing was sent")
@@ -66,7 +70,7 @@ def _warn_of_records(found: "Survey", left: int) -> None:
 def _room_advice(store: "Store[Any, Any]", found: "Survey", used: int) -> str:
     """What helps where a store has too few blocks: more of them where there can be, and smaller batches where they fit."""
     needed = found.needed_beside(used)
-    more = f"Make the store with blocks={needed} or more" if needed <= records.MOST_BLOCKS else ""
+    more = f"Make the store with blocks={needed} or more" if needed <= store.engine.most_blocks else ""
     fewer = f"{'Make it empty, or free' if used else 'Free'} blocks first" if not more else ""
     smaller = _smaller(found, store.blocks, max(found.blocks, used))
     return "; ".join(it for it in (more or fewer, smaller) if it)

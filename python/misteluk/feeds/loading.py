@@ -3,18 +3,19 @@ from __future__ import annotations
 
 import time
 from array import array
-from collections import Counter, defaultdict
-from itertools import compress, count, repeat
-from operator import rshift
-from typing import TYPE_CHECKING, Any, DefaultDict, Dict, Iterable, Iterator, List, NamedTuple, Optional, Sequence, Set, Tuple
+from collections import Counter
+from dataclasses import dataclass
+from functools import cached_property
+from itertools import compress, repeat
+from operator import lshift, or_, rshift
+from typing import TYPE_CHECKING, Any, Dict, Iterable, Iterator, List, NamedTuple, Optional, Sequence, Set, Tuple
 
 from .advice import advise, as_written
-from .feed import Block, Row, of_columns, part_of, rows_of, turned
+from .feed import Block, rows_of, turned
 from .limits import check as check, check_room
 from .opening import ReadAs, reads
 from .progress import Progress, no_collection
-from ..engine.candidates import BITS, keys_of
-from ..engine.protocol import Operations
+from ..engine.operations import COMMANDS as OF_COMMANDS, Dictionary, Numbered, Operations
 from ..errors import NoAnswer, Place, PoolEmpty, Refused, Uncommitted, refusal
 from ..ledger import sum_of
 from ..values import records
@@ -26,34 +27,33 @@ if TYPE_CHECKING:
     from ..store import Store
 
 COMMANDS = {"set": "i", "add": "a"}
+# More bits than a number of a name has.
+BITS = 32
 # How many faults are told of, beside the first of each rule.
 MOST_FAULTS = 10
 
 
-class Numbers:
-    """The kinds and names of a feed by number, which its batches share."""
-
-    def __init__(self) -> None:
-        self.kinds: DefaultDict[str, int] = defaultdict(count().__next__)
-        self.names: DefaultDict[str, int] = defaultdict(count().__next__)
-
-    def keys(self, blocks: Sequence[Block]) -> "array[int]":
-        """The edges of rows by number: kind, source and target in one."""
-        found = array("Q")
-        for it in blocks:
-            found.extend(array("Q", keys_of(self.kinds, self.names, (it.kinds, it.sources, it.targets))))
-        return found
-
-
 class Part(NamedTuple):
-    """A batch of a feed: its records, and where each came from."""
+    """A batch of a feed: its operations, and where each came from."""
 
-    text: bytes
+    columns: Numbered
     lines: "array[int]"
 
+    @property
+    def text(self) -> bytes:
+        """Its records."""
+        return Operations(columns=self.columns).text
+
     def some(self, rows: slice) -> "Part":
-        """A batch of some of the records."""
-        return Part(b"".join(self.text.splitlines(keepends=True)[rows]), self.lines[rows])
+        """A batch of some of the operations."""
+        return Part(self.columns.some(rows), self.lines[rows])
+
+    def keys(self) -> "Iterator[int]":
+        """The edges by number: kind, source and target in one."""
+        ends = map(or_, map(lshift, self.columns.sources, repeat(BITS)), self.columns.targets)
+        if len(self.columns.of_kinds.numbers) == 1:
+            return ends
+        return map(or_, map(lshift, self.columns.kinds, repeat(2 * BITS)), ends)
 
     def __repr__(self) -> str:
         return f"<Part of {len(self.lines)} records>"
@@ -70,8 +70,29 @@ class Need(NamedTuple):
         return max(self.before, used) + self.operations
 
 
-class Survey(NamedTuple):
-    """What a feed holds: counted, checked, and ready to be sent."""
+class Counted(NamedTuple):
+    """How many edges parts have, and the blocks that these take; and what the last two batches need, since none before them needs
+    as many blocks: each has as many operations and less before it."""
+
+    edges: int
+    blocks: int
+    needs: List[Need]
+
+
+def counted(parts: Sequence[Part]) -> Counted:
+    edges: Set[int] = set()
+    for part in parts[:-2]:
+        edges.update(part.keys())
+    blocks, needs = Blocks(edges), []
+    for part in parts[-2:]:
+        needs.append(Need(blocks.count, len(part.lines)))
+        blocks.put(part.keys())
+    return Counted(len(blocks.edges), blocks.count, needs)
+
+
+@dataclass(frozen=True, repr=False)
+class Survey:
+    """What a feed holds: checked, counted, and ready to be sent. Its edges and their blocks are counted once somebody asks."""
 
     feed: str
     by: str
@@ -79,14 +100,23 @@ class Survey(NamedTuple):
     rows: int
     names: int
     kinds: List[str]
-    edges: int
-    blocks: int
-    needs: List[Need]
     bad: int
     fault_counts: Dict[str, int]
     faults: List[Refused]
     seconds: float
     terms: Terms
+
+    @cached_property
+    def _counted(self) -> Counted:
+        return counted(self.parts)
+
+    @property
+    def edges(self) -> int:
+        return self._counted.edges
+
+    @property
+    def blocks(self) -> int:
+        return self._counted.blocks
 
     def records(self, collect: bool = True) -> int:
         """How many records a load sends: the rows, a commit for each batch, and a collection."""
@@ -99,12 +129,23 @@ class Survey(NamedTuple):
 
     def needed_beside(self, used: int) -> int:
         """How many blocks a store needs of which so many are used."""
-        return max((it.beside(used) for it in self.needs), default=0)
+        return max((it.beside(used) for it in self._counted.needs), default=0)
+
+    @property
+    def room(self) -> int:
+        """How many blocks are enough, as is seen before edges are counted."""
+        count = self.rows - self.bad
+        edges = min(count, self.names * len(self.kinds)) + count // records.BLOCK_EDGES
+        return edges + max((len(it.lines) for it in self.parts), default=0)
+
+    def surely_fits(self, blocks: int, used: int = 0) -> bool:
+        """Whether so many blocks, of which so many are used, are surely enough."""
+        return used + self.room <= blocks
 
     @property
     def times(self) -> Tuple[Any, Any]:
         """The first and the last time, in the units that the feed was counted in."""
-        times = [int(it.rpartition(b",")[2]) for part in self.parts for it in part.text.splitlines()] or [0]
+        times = [it for part in self.parts for it in part.columns.times] or [0]
         return self.terms.units.time_to_user(min(times)), self.terms.units.time_to_user(max(times))
 
     def fitting(self) -> int:
@@ -169,102 +210,92 @@ class Blocks:
 
 
 class Count:
-    """Counts and checks rows, and makes batches of them. A loop over rows is one in C where it can be: there are many rows."""
+    """Checks rows, and makes batches of them. A loop over rows is one in C where it can be: there are many rows."""
 
     def __init__(self, feed: str, by: str, batch: int, terms: Terms, decimal: str = ".") -> None:
         self.begun = time.monotonic()
         self.terms, self.decimal = terms, decimal
         self.feed, self.by, self.command, self.batch = feed, by, COMMANDS[by], batch
+        self.code = OF_COMMANDS.index(self.command)
         self.parts: List[Part] = []
-        # Of the batch that is being filled: its records, where they came from, and its rows.
-        self.texts: List[str] = []
-        self.lines = array("q")
-        self.filling: List[Block] = []
-        # The last full batch, whose rows aren't among the edges yet. None before it needs as many blocks, since each has as many
-        # operations and less before it.
-        self.full: "Optional[array[int]]" = None
-        # The edges, by their numbers.
-        self.table = Numbers()
-        self.edges: Set[int] = set()
+        self.of_kinds, self.of_names = Dictionary(), Dictionary()
+        self.filling = self._empty()
         self.bad = self.rows = 0
         self.faults: List[Refused] = []
         # How many rows break a rule, by its word and field.
         self.fault_counts: Dict[str, int] = {}
 
+    def _empty(self) -> Part:
+        columns: Any = map(array, "BIIIqQ")
+        return Part(Numbered._make([*columns, self.of_kinds, self.of_names]), array("q"))
+
     def take(self, block: Block) -> None:
         """Counts rows, and puts those that can be taken into batches of `batch`."""
-        at = 0
-        while at < len(block.lines):
-            room = self.batch - len(self.lines)
-            self._fill(part_of(block, slice(at, at + room)))
-            at += room
+        weights, times = self.terms.units.weights_of(block.weights), self.terms.units.times_of(block.times)
+        columns = None if None in weights or None in times else self._numbered(block)
+        if columns is not None:
+            self.rows += len(block.lines)
+        else:
+            block = self.written(block)
+            weights, times = block.weights, block.times
+            columns = self._columns(block)
+        self._fill(block.lines, (*columns, weights, times))
 
-    def _fill(self, block: Block) -> None:
+    def _columns(self, block: Block) -> "Tuple[array[int], array[int], array[int]]":
+        names = self.of_names.column
+        return self.of_kinds.column(block.kinds), names(block.sources), names(block.targets)
+
+    def _numbered(self, block: Block) -> "Optional[Tuple[array[int], array[int], array[int]]]":
+        """The numbers of rows' kinds, sources and targets, where each is seen to be the engine's name as it stands."""
+        kinds, names = len(self.of_kinds.numbers), len(self.of_names.numbers)
+        found = self._columns(block)
+        new = [*self.of_kinds.since(kinds), *self.of_names.since(names)]
+        if not new or self.terms.are_as_they_are(new):
+            return found
+        self.of_kinds.forget_since(kinds)
+        self.of_names.forget_since(names)
+        return None
+
+    def _fill(self, lines: Sequence[int], columns: Sequence[Any]) -> None:
+        """Puts rows into batches."""
+        self.filling.columns.codes.frombytes(bytes((self.code,)) * len(lines))
+        for column, values in zip(self.filling.columns[1:6], columns):
+            column.extend(values)
+        self.filling.lines.extend(lines)
+        while len(self.filling.lines) >= self.batch:
+            self.parts.append(self.filling.some(slice(self.batch)))
+            self.filling = self.filling.some(slice(self.batch, None))
+
+    def written(self, block: Block) -> Block:
+        """The rows that can be taken, in the engine's terms; what is wrong with others is counted and told."""
         self.rows += len(block.lines)
-        right, text = self.written(block)
-        if text:
-            self.texts.append(text)
-            self.lines.extend(right.lines)
-            self.filling.append(right)
-        if len(self.lines) == self.batch:
-            self.edges.update(self.full or ())
-            self.full = self._end_batch()
+        found = self.terms.written(block)
+        if not any("" in it for it in found[1:4]) and None not in found.weights and None not in found.times:
+            return found
+        is_right = [bool(kind and source and target) and weight is not None and time is not None
+                    for _, kind, source, target, weight, time in rows_of(found)]
+        for row, right in zip(rows_of(block), is_right):
+            if not right:
+                self._tell((self.command, *row[1:]), row[0])
+        return Block(*(list(compress(it, is_right)) for it in found[:6]))
 
-    def _end_batch(self) -> "array[int]":
-        keys = self.table.keys(self.filling)
-        self.parts.append(Part("".join(self.texts).encode("ascii"), self.lines))
-        self.texts, self.lines, self.filling = [], array("q"), []
-        return keys
-
-    def written(self, block: Block) -> Tuple[Block, str]:
-        """The rows that can be taken, in the program's terms, and their records. Rows that keep every rule as they stand, nearly
-        all of them, are found so all at once, or when they are turned to the program's terms; or else one by one, and the few
-        that are left are looked at field by field."""
-        lines, text = self._lines(block)
-        if self.terms.is_as_it_is(text) and _are_right(lines, text):
-            return block, text
-        turned = self.terms.block(block)
-        lines, text = self._lines(turned)
-        if _are_right(lines, text):
-            return turned, text
-        written = [line if records.is_plain_operation(line) else self._record(row)
-                   for line, row in zip(map("{}\n".format, lines), rows_of(block))]
-        return of_columns([tuple(compress(column, written)) for column in turned]), "".join(written)
-
-    def _lines(self, block: Block) -> Tuple[List[str], str]:
-        """A line for each row, as if no field needed quotes; and all of them."""
-        lines = list(map(",".join, zip(repeat(self.command), *block[1:6])))
-        return lines, "\n".join([*lines, ""])
-
-    def _record(self, row: Row) -> str:
-        """The row's record, or nothing where a rule is broken, which is counted and told."""
-        fields = (self.command, *row[1:])
-        faults = self.terms.faults_of(fields)
-        if not faults:
-            return self.terms.record(fields)
+    def _tell(self, fields: Sequence[str], line: int) -> None:
+        """Counts a row that breaks a rule, and tells of it."""
         self.bad += 1
-        for it in faults:
+        for it in self.terms.faults_of(fields):
             rule = f"{it.word} {it.field}"
             self.fault_counts[rule] = self.fault_counts.get(rule, 0) + 1
             if len(self.faults) < MOST_FAULTS or self.fault_counts[rule] == 1:
-                self.faults.append(self.terms.refusal(as_written(it, self.decimal), place=Place(self.feed, row[0])))
-        return ""
+                self.faults.append(self.terms.refusal(as_written(it, self.decimal), place=Place(self.feed, line)))
 
     def survey(self) -> Survey:
         """What was counted, when all rows were taken."""
-        needs, blocks = [], Blocks(self.edges)
-        for last in (self.full, self._end_batch() if self.filling else None):
-            if last:
-                needs.append(Need(blocks.count, len(last)))
-                blocks.put(last)
-        kinds, names = list(map(self.terms.names.to_user, self.table.kinds)), len(self.table.names)
-        return Survey(self.feed, self.by, self.parts, self.rows, names, kinds, len(self.edges), blocks.count, needs, self.bad,
-                      self.fault_counts, self.faults, time.monotonic() - self.begun, self.terms)
-
-
-def _are_right(lines: List[str], text: str) -> bool:
-    """Whether each line is an operation that keeps every rule, seen at once; others may keep them too."""
-    return records.are_plain_operations(text) and text.count("\n") == len(lines)
+        if self.filling.lines:
+            self.parts.append(self.filling)
+            self.filling = self._empty()
+        kinds = list(map(self.terms.names.to_user, self.of_kinds.names))
+        return Survey(self.feed, self.by, self.parts, self.rows, len(self.of_names.numbers), kinds, self.bad, self.fault_counts,
+                      self.faults, time.monotonic() - self.begun, self.terms)
 
 
 def must_be_way(by: str, batch: int) -> None:
@@ -332,11 +363,11 @@ def load(store: "Store[Any, Any]", data: Any, *, by: str, batch: int = records.M
 
 def load_in_steps(store: "Store[Any, Any]", found: Survey, *, collect: bool = True, skip_bad: bool = False) -> Iterator[Commit]:
     """Loads a survey batch by batch: what each did is given before the next is applied: sessions can be opened between."""
-    check(found, skip_bad=skip_bad)
+    check(found, skip_bad=skip_bad, limits=store.engine.limits, most_blocks=store.engine.most_blocks)
     store.ledger.settle()
     if store.pending and not store.is_closed:  # (a closed store says that it is, as soon as it is asked for its blocks)
         text = f"{store.pending} operations are pending: commit or discard them before a load"
-        raise Uncommitted(text, list(store.ledger.pending))
+        raise Uncommitted(text, store.ledger.told_pending)
     check_room(store, found, store.stat().used, found.records(collect))
     store.ledger.must_agree(found.terms.units)
     if not found.parts:
@@ -349,7 +380,7 @@ def _apply(store: "Store[Any, Any]", found: Survey, at: int, collect: bool) -> C
     """Applies one batch of a feed; a refusal says which lines are not in."""
     part = found.parts[at]
     try:
-        batch = Operations(part.text, len(part.lines), lambda it: Place(found.feed, part.lines[it]))
+        batch = Operations(columns=part.columns, place=lambda it: Place(found.feed, part.lines[it]))
         return store.ledger.apply(batch, collect, (found.terms, found.kinds) if at == 0 else None)
     except NoAnswer as fault:
         raise NoAnswer(f"{fault}; lines {part.lines[0]} to {part.lines[-1]} of {found.feed} were sent, all before them are in, "

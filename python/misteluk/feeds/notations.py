@@ -6,7 +6,7 @@ from datetime import date
 from typing import Callable, Dict, Iterator, List, NamedTuple, Optional, Sequence
 
 from .feed import Block, Feed, Table
-from ..values.units import EPOCH, MICROSECOND
+from ..values.units import EPOCH, MICROSECOND, each_once
 
 DECIMALS = (".", ",")
 # For each form of a date its pattern; behind the date a time of day may stand, which is taken as it is.
@@ -48,8 +48,8 @@ class Notation(NamedTuple):
 
         def blocks() -> Iterator[Block]:
             for it in feed.blocks():
-                weights = _each(with_point, it.weights) if self.decimal == "," else it.weights
-                times = _each(self.date_of, it.times) if self.dates else it.times
+                weights = each_once(with_point, it.weights) if self.decimal == "," else it.weights
+                times = each_once(self.date_of, it.times) if self.dates else it.times
                 yield it._replace(weights=weights, times=times)
         return Feed(feed.name, Table(blocks))
 
@@ -95,9 +95,3 @@ def with_point(text: str) -> str:
     """The number as 1234.50 where it is surely one; else what is given so that it is refused and says why."""
     number = pointed(text)
     return number if number is not None else f"{text} (where decimals stand behind a comma)" if text else text
-
-
-def _each(turn: Callable[[str], str], texts: Sequence[str]) -> List[str]:
-    """The texts turned; those that are the same are turned once."""
-    turned = {it: turn(it) for it in set(texts)}
-    return list(map(turned.__getitem__, texts))

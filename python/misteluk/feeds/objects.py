@@ -3,7 +3,7 @@ from __future__ import annotations
 
 import warnings
 from itertools import chain, count
-from typing import Any, Dict, Iterable, Iterator, List, Mapping, Sequence, Tuple
+from typing import Any, Callable, Dict, Iterable, Iterator, List, Mapping, Sequence, Tuple
 
 from . import feed as feeds
 from .delimited import Picked
@@ -63,12 +63,8 @@ def _warn_of_idle(names: Sequence[str]) -> None:
 
 def from_pandas(frame: Any, columns: Columns = Columns()) -> Feed:
     """A pandas frame. A row with a missing value (`None`, NaN, NaT, NA) in one of the columns is a bad row."""
-    def blocks() -> Iterator[Block]:
-        picked = Picked("frame", columns, [str(it) for it in frame.columns])
-        rows = ([text_of(it) for it in row] for row in frame.itertuples(index=False, name=None))
-        for part in parts_of(zip(rows, count(1)), feeds.ROWS_AT_ONCE):
-            yield from picked.of_rows(part)
-    return Feed("frame", Table(blocks))
+    names = [str(it) for it in frame.columns]
+    return Feed("frame", Table(lambda: _blocks("frame", columns, names, lambda at: list(frame.iloc[:, at]), len(frame))))
 
 
 def from_columns(table: Mapping[str, Iterable[Any]], columns: Columns = Columns()) -> Feed:
@@ -76,13 +72,27 @@ def from_columns(table: Mapping[str, Iterable[Any]], columns: Columns = Columns(
     found = {str(name): list(values) for name, values in table.items()}
     if len(set(map(len, found.values()))) > 1:
         raise FeedFault(f"the columns aren't equally long: {', '.join(f'{name} has {len(it)}' for name, it in found.items())}")
+    values = list(found.values())
+    return Feed("columns", Table(lambda: _blocks("columns", columns, list(found), values.__getitem__, len([*values, []][0]))))
 
-    def blocks() -> Iterator[Block]:
-        picked = Picked("columns", columns, list(found))
-        rows = ([text_of(it) for it in row] for row in zip(*found.values()))
-        for part in parts_of(zip(rows, count(1)), feeds.ROWS_AT_ONCE):
-            yield from picked.of_rows(part)
-    return Feed("columns", Table(blocks))
+
+def _blocks(feed: str, columns: Columns, names: List[str], column: Callable[[int], List[Any]], size: int) -> Iterator[Block]:
+    """The rows of columns that have so many values each; `column` gives them by place."""
+    picked = Picked(feed, columns, names)
+    if size and len(names) < picked.least:
+        raise FeedFault(f"{feed}:1: {len(names)} fields, where the columns need {picked.least}")
+    taken = {place: column(place) for place in picked.places if place is not None} if size else {}
+    for at in range(0, size, feeds.ROWS_AT_ONCE):
+        end = min(at + feeds.ROWS_AT_ONCE, size)
+        yield picked.of_columns(range(at + 1, end + 1), {place: texts_of(it[at:end]) for place, it in taken.items()})
+
+
+def texts_of(values: Sequence[Any]) -> Sequence[str]:
+    """Many values as a feed's texts."""
+    kinds = set(map(type, values))
+    if kinds <= {str, int}:
+        return values if kinds <= {str} else list(map(str, values))
+    return [text_of(it) for it in values]
 
 
 def from_rows(rows: Iterable[Any], columns: Columns = Columns()) -> Feed:
@@ -95,9 +105,12 @@ def from_rows(rows: Iterable[Any], columns: Columns = Columns()) -> Feed:
         if first is None:
             return
         names, picked = _form_of_rows(first, columns)
-        texts = ([text_of(it) for it in row] for row in _even(chain([first], given), names, len(first)))
-        for part in parts_of(zip(texts, count(1)), feeds.ROWS_AT_ONCE):
-            yield from picked.of_rows(part)
+        for part in parts_of(zip(_even(chain([first], given), names, len(first)), count(1)), feeds.ROWS_AT_ONCE):
+            values, lines = zip(*part)
+            if set(map(len, values)) == {len(values[0])} and len(values[0]) >= picked.least:
+                yield picked.of_columns(lines, list(map(texts_of, zip(*values))))
+            else:
+                yield from picked.of_rows([(list(map(text_of, row)), line) for row, line in part])
     return Feed("rows", Table(blocks))
 
 

@@ -124,9 +124,9 @@ class Recipe(NamedTuple):
 
     def make(self, rows: Iterable[Row]) -> Made:
         found = self.survey(rows)
-        blocks = min(max(found.needed, records.LEAST_BLOCKS), records.MOST_BLOCKS)
-        store = Store(blocks=blocks, workers=1, decimals=self.decimals, engine=self.engine, program=self.program,
-                      timeout=self.timeout)
+        blocks = max(found.needed, records.LEAST_BLOCKS)
+        store = Store(blocks=blocks if blocks <= records.MOST_BLOCKS else None, workers=1, decimals=self.decimals,
+                      engine=self.engine, program=self.program, timeout=self.timeout)
         try:
             store.load(found, by=self.by, skip_bad=self.skip_bad, progress=False)
             return Made(store, found.bad)

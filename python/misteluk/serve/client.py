@@ -8,11 +8,13 @@ from typing import Any, Callable, Dict, List, Mapping, Optional, Sequence, Tuple
 from . import wire
 from .talk import Talk, part
 from ..engine.guard import Guard, alone
-from ..engine.protocol import Arrays, Denied, Ends, Marks, Operations, Receipt, Scope
+from ..engine.operations import Operations
+from ..engine.protocol import Arrays, Denied, Ends, Marks, Receipt, Scope
 from ..errors import SessionClosed, StoreError
 from ..session import Session
 from ..store import Store
 from ..values.answers import Collected, Commit, Rebased, Renewed, Stat
+from ..values.limits import MOST_BLOCKS, Limits
 from ..values.names import NameTable
 from ..values.units import Units
 
@@ -108,6 +110,8 @@ class ServedEngine:
 
     name = "served"
     records_sent, records_left = 0, None
+    # The server has room for what comes, or says that it hasn't.
+    limits, most_blocks, grows = Limits(), MOST_BLOCKS, True
 
     def __init__(self, talk: Talk) -> None:
         self.talk, self.is_closed = talk, False
@@ -143,6 +147,9 @@ class ServedEngine:
         return f"the server {self.talk.url}"
 
     # Batches.
+
+    def fit(self, vertices: int, kinds: int, blocks: int) -> None:
+        """Nothing: the server makes room."""
 
     def flight(self, batch: Operations, collect: bool) -> ServedFlight:
         return ServedFlight(batch, collect)

@@ -10,7 +10,8 @@ from typing import Any, Callable, Deque, Dict, List, Mapping, Optional, Sequence
 
 from .board import Board
 from .limits import Limits
-from ..engine.protocol import Denied, Operations
+from ..engine.operations import Operations, Row, row_of
+from ..engine.protocol import Denied
 from ..errors import Busy, SessionClosed, StoreError, refusal
 from ..feeds.feed import parts_of
 from ..feeds.following import Following
@@ -183,18 +184,18 @@ class Feeding:
             finally:
                 self.board.advance()
 
-    def _in_batches(self, found: Sequence[str]) -> Commit:
+    def _in_batches(self, found: Sequence[Row]) -> Commit:
         done: List[Commit] = []
         for part in parts_of(found, records.MOST_OPERATIONS):
             try:
-                done.append(self._apply(Operations("".join(part).encode("ascii"), len(part)), True))
+                done.append(self._apply(Operations(part), True))
             except Denied as fault:
                 first = len(done) * records.MOST_OPERATIONS + 1
                 raise refusal(fault.word, f"the rows before row {first} are in, and none behind it") from None
         return sum_of(done)
 
-    def _records(self, rows: Sequence[Sequence[str]]) -> List[str]:
-        """The records of rows. Raises a `Refused` for the first row that is none; no name is kept then."""
+    def _records(self, rows: Sequence[Sequence[str]]) -> List[Row]:
+        """The operations of rows. Raises a `Refused` for the first row that is none; no name is kept then."""
         terms, ledger = self.store.ledger.terms, self.store.ledger
         asked = [(COMMANDS.get(row[0] if row else "", ""), *row[1:]) for row in rows]
         for at, fields in enumerate(asked, 1):
@@ -204,7 +205,7 @@ class Feeding:
             if faults:
                 told = terms.refusal(faults[0])
                 raise refusal(faults[0].word, f"row {at}: {told.fault or faults[0]}")
-        found = [records.record(terms.turned(fields)[0]) for fields in asked]
+        found = [row_of(terms.turned(fields)[0]) for fields in asked]
         ledger.kinds.update(dict.fromkeys(fields[1] for fields in asked if fields[0] != "x"))
         return found
 
@@ -230,12 +231,13 @@ def checked_operations(text: str) -> Operations:
     *lines, rest = text.split("\n")
     if len(lines) > records.MOST_OPERATIONS:
         raise refusal("BatchFull")
-    if rest or not records.are_plain_operations(text):
-        for at, line in enumerate([*lines, *filter(None, [rest])], 1):
-            fields = records.split_record(line)
-            faults = records.faults_of(fields)
-            if faults:
-                raise refusal(faults[0].word, f"row {at}: {faults[0]}", advice="")
-            if fields[0] not in records.OPERATIONS or records.record(fields) != f"{line}\n" or rest:
-                raise refusal("BadCommand", f"row {at} is no operation", advice="")
-    return Operations(text.encode("ascii"), len(lines))
+    found: List[Row] = []
+    for at, line in enumerate([*lines, *filter(None, [rest])], 1):
+        fields = records.split_record(line)
+        faults = records.faults_of(fields)
+        if faults:
+            raise refusal(faults[0].word, f"row {at}: {faults[0]}", advice="")
+        if fields[0] not in records.OPERATIONS or records.record(fields) != f"{line}\n" or rest:
+            raise refusal("BadCommand", f"row {at} is no operation", advice="")
+        found.append(row_of(fields))
+    return Operations(found)

@@ -3,10 +3,11 @@ from __future__ import annotations
 
 import heapq
 from array import array
+from collections import Counter
 from html import escape
 from itertools import islice
 from typing import (TYPE_CHECKING, Any, Callable, Dict, Generic, ItemsView, Iterator, KeysView, List, Mapping, NamedTuple,
-                    Optional, Sequence, Tuple, TypeVar, ValuesView, cast)
+                    Optional, Sequence, Tuple, TypeVar, ValuesView)
 
 from ..errors import Missing
 
@@ -123,8 +124,8 @@ else:
         into: Optional[Edge]
 
 
-# The columns of degrees as they are named on a command line.
-BY_COLUMN = {"out": "out", "incoming": "into", "weight": "weight_out"}
+# The columns of degrees: also as they are named on a command line.
+BY_COLUMN = {"out": "out", "into": "into", "incoming": "into", "weight": "weight_out"}
 
 
 class Values(NamedTuple):
@@ -154,7 +155,7 @@ class Answer(Mapping[str, V], Generic[V]):
             self.names = list(self._rows)
 
     @classmethod
-    def of(cls, names: Sequence[str], columns: Dict[str, Values], version: int, request: str, value: str) -> "Answer[V]":
+    def of(cls, names: Sequence[str], columns: Dict[str, Values], version: int, request: str, value: str) -> Any:
         """The answer that has these columns; of degrees there are several."""
         answer = cls(version=version, request=request, value=value)
         answer.names, answer.columns, answer._rows = names, columns, None
@@ -201,8 +202,8 @@ class Answer(Mapping[str, V], Generic[V]):
         """What pickles it: its columns, with the values as a user is told them."""
         told = {name: Values(it.all_told()) for name, it in self.columns.items()}
         if self._rows is not None and not told:
-            return _with_rows, (self._rows, self.version, self.request, self.value)
-        return Answer.of, (self.names, told, self.version, self.request, self.value)
+            return _with_rows, (type(self), self._rows, self.version, self.request, self.value)
+        return type(self).of, (self.names, told, self.version, self.request, self.value)
 
     def numpy(self) -> "Dict[str, numpy.ndarray[Any, Any]]":
         """The columns as numpy arrays, each value in the place of its name in `names`: whole numbers, weights in the parts that
@@ -245,23 +246,43 @@ class Answer(Mapping[str, V], Generic[V]):
 
     def top(self, count: int = 10, by: Optional[str] = None) -> "List[Tuple[str, V]]":
         """The rows with the greatest values, greatest first; equal ones in the order of the table. `by` says by which column of
-        degrees: "out" (which they are by where none is said), "incoming" or "weight"; other tables have one column alone."""
+        degrees: "out" (which they are by where none is said), "into" (or "incoming") or "weight"; other tables have one column
+        alone."""
         fields = self._fields()
         field = BY_COLUMN.get(by or "out", by) if len(fields) > 1 or by else fields[0]
         if self.names and field not in fields:
-            raise ValueError(f"by is 'out', 'incoming' or 'weight' for degrees, and not {by!r}")
-        if not self.columns or not self.names:
-            rows: Any = list(self.items())
-            order: Any = [getattr(it, field or "") if len(fields) > 1 else it for _, it in rows]
-            return [rows[at] for at in heapq.nlargest(count, range(len(rows)), key=order.__getitem__)]
-        told = [it.all_told() for it in self.columns.values()]
-        order = told[fields.index(cast(str, field))]
+            raise ValueError(f"by is 'out', 'into' or 'weight' for degrees, and not {by!r}")
+        values: Any = list(self.values()) if not self.columns else None
+        if values is None:
+            columns = [it.all_told() for it in self.columns.values()]
+            values = list(map(Degree, *columns)) if len(columns) > 1 else columns[0]
+        order = [getattr(it, field or "") for it in values] if len(fields) > 1 else values
         places = heapq.nlargest(count, range(len(order)), key=order.__getitem__)
-        rows = zip(*([it[at] for at in places] for it in told)) if len(told) > 1 else None
-        values: Any = [Degree(*it) for it in rows] if rows is not None else [told[0][at] for at in places]
-        return list(zip(map(self.names.__getitem__, places), values))
+        return [(self.names[at], values[at]) for at in places]
 
     most = top
+
+
+class Components(Answer[str]):
+    """A table of components: to each vertex the label of its own, by which one vertex stands for it."""
+
+    def sizes(self) -> Dict[str, int]:
+        """How many vertices each component has, by its label, in the order of the table."""
+        return dict(Counter(self.values()))
+
+    def top(self, count: int = 10, by: Optional[str] = None) -> "List[Tuple[str, Any]]":
+        """The largest components: their labels and how many vertices they have, the largest first. `by` is for degrees."""
+        if by is not None:
+            raise ValueError(f"by is for degrees: components are told by their sizes, and not by {by!r}")
+        return Counter(self.values()).most_common(count)
+
+    most = top
+
+
+def shown_as_html(title: str, told: Mapping[str, object]) -> str:
+    """What a notebook shows of something: a table of what is told of it."""
+    rows = "".join(f"<tr><th>{escape(name)}</th><td>{escape(str(it))}</td></tr>" for name, it in told.items())
+    return f"<table><caption>{escape(title)}</caption>{rows}</table>"
 
 
 def degrees(out: "array[int]", into: "array[int]", weights: "array[int]", told: Any) -> Dict[str, Values]:
@@ -269,5 +290,6 @@ def degrees(out: "array[int]", into: "array[int]", weights: "array[int]", told: 
     return {"out": Values(out), "into": Values(into), "weight_out": Values(weights, told)}
 
 
-def _with_rows(rows: Any, version: int, request: str, value: str) -> "Answer[Any]":
-    return Answer(rows, version=version, request=request, value=value)
+def _with_rows(kind: Any, rows: Any, version: int, request: str, value: str) -> "Answer[Any]":
+    made: Answer[Any] = kind(rows, version=version, request=request, value=value)
+    return made

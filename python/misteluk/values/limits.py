@@ -1,8 +1,69 @@
-"""Numbers that have a least and a greatest value."""
+"""How much a store takes at most, and numbers that have a least and a greatest value."""
+from __future__ import annotations
+
+from typing import List, NamedTuple, Optional
+
+# What no limits pass: kinds, vertices times kinds (so that a sum of weights has room in its type), batches, and blocks.
+MOST_KINDS, MOST_PRODUCT, MOST_BATCHES, MOST_BLOCKS = 64, 8_388_606, (1 << 32) - 1, 4_294_963_199
+USUAL_BATCHES = 65_536
+
+
+class Limits(NamedTuple):
+    """How much a store in this process takes at most: vertices and kinds, those of removed edges too, and batches until it begins
+    anew, by which it lets memory go. What isn't said is as large as the library has room for: 8,388,606 vertices for one kind,
+    half as many for two, 131,071 for 64, which no store passes; and 65,536 batches.
+
+        Store(limits=Limits(vertices=100_000, kinds=4))
+
+    A program takes 65,536 vertices, 64 kinds and 65,536 batches, and no others.
+    """
+
+    vertices: Optional[int] = None
+    kinds: Optional[int] = None
+    batches: Optional[int] = None
+
+    def checked(self) -> "Limits":
+        """Itself; raises `ValueError` where there can't be such limits."""
+        within("kinds", self.kinds or 1, 1, MOST_KINDS)
+        within("batches", self.batches or 1, 1, MOST_BATCHES)
+        within("vertices", self.vertices or 1, 1, MOST_PRODUCT // (self.kinds or 1))
+        if 0 in self:
+            raise ValueError(f"a limit is 1 or more, and these are {self}")
+        return self
+
+    def __repr__(self) -> str:
+        """What was said."""
+        return f"Limits({', '.join(f'{name}={it}' for name, it in self._asdict().items() if it is not None)})"
+
+    def over(self, vertices: int, kinds: int) -> List[str]:
+        """What is more than these limits take, in words; nothing where all has room."""
+        most_kinds = self.kinds or min(MOST_KINDS, MOST_PRODUCT // (self.vertices or 1))
+        of_kinds = self.kinds if self.kinds else max(min(kinds, most_kinds), 1)
+        most, beside = self.vertices or MOST_PRODUCT // of_kinds, f" beside {of_kinds} kind{'s' * (of_kinds != 1)}"
+        found = ((vertices, "vertices", most, "" if self.vertices else beside), (kinds, "kinds", most_kinds, ""))
+        return [f"{count:,} {what}, where the store takes {limit:,}{more}" for count, what, limit, more in found if count > limit]
+
+    @property
+    def advice(self) -> str:
+        """How a store may take more."""
+        if self == OF_PROGRAM:
+            return "A store in this process takes more (engine='library')"
+        return f"Make the store with more than {self}" if self != Limits() else "No store takes more"
+
+    def shape(self, vertices: int, kinds: int) -> "Limits":
+        """The limits for a desk of so many vertices and kinds, for which there is room: with some room to grow."""
+        least = max(vertices, self.vertices or 1)
+        roomy = (it for it in (8, 16, 32, MOST_KINDS) if kinds <= it and it * least <= MOST_PRODUCT)
+        room = self.kinds if self.kinds else next(roomy, max(kinds, 1))
+        return Limits(self.vertices or MOST_PRODUCT // room, room, self.batches or USUAL_BATCHES)
+
+
+# Those of a program.
+OF_PROGRAM = Limits(65_536, 64, 65_536)
 
 
 def within(name: str, value: int, least: int, most: int) -> int:
     """The value; raises `ValueError` where it is less or more than may be."""
     if not least <= value <= most:
-        raise ValueError(f"{name} is from {least} to {most}, and not {value}")
+        raise ValueError(f"{name} is from {least:,} to {most:,}, and not {value:,}")
     return value

@@ -113,3 +113,8 @@ def shown(text: Union[str, object]) -> str:
     """The text for a line of a terminal: one that has signs which aren't printed, as an end of line, within quotes."""
     told = str(text)
     return told if told.isprintable() else repr(told)
+
+
+def called(call: str, *given: object, **named: object) -> str:
+    """A call as it is made, for what is told of it."""
+    return f"{call}({', '.join([*map(repr, given), *(f'{name}={it!r}' for name, it in named.items())])})"

@@ -6,7 +6,8 @@ The program is the judge. These rules say beforehand what it will say, and name 
 from __future__ import annotations
 
 import re
-from typing import Dict, List, NamedTuple, Optional, Sequence, Tuple
+from array import array
+from typing import Dict, Iterable, List, NamedTuple, Optional, Sequence, Tuple
 
 ANY = "*"
 MOST_NAME = 64
@@ -48,13 +49,7 @@ TIME_FIELDS = ("time", "lo", "hi")
 _NAME = re.compile(r"[!-~]{1,64}")
 _DIGITS = re.compile(r"[0-9]{1,19}")
 _TO_BE_QUOTED, _QUOTES_AND_ENDS = re.compile(r'[",\r\n]'), re.compile(r'["\r\n]')
-_ONE_LINE = re.compile(r"[!-~]+\n")
-# Insertions or additions that keep every rule, none of them with a quoted field; numbers a digit short of their limits, so that
-# what doesn't match is looked at one by one.
-_PLAIN = r"[ia],(?!\*,)[!#-+\--~]{1,64},[!#-+\--~]{1,64},[!#-+\--~]{1,64},-?[0-9]{1,12},[0-9]{1,18}\n"
-# A question for an edge, of names as an operation's.
-_PLAIN_EDGE = re.compile(r"edge,[0-9]{1,2},(?!\*,)[!#-+\--~]{1,64},[!#-+\--~]{1,64},[!#-+\--~]{1,64}\n")
-_PLAIN_LINE, _PLAIN_LINES = re.compile(_PLAIN), re.compile(rf"(?:{_PLAIN})*")
+_NAMES = re.compile(r"(?:[!-~]{1,64}\n)*")
 
 
 class Fault(NamedTuple):
@@ -164,24 +159,24 @@ def record(fields: Sequence[str]) -> str:
     return (text or '""') + "\n"
 
 
-def is_plain(text: str) -> bool:
-    """Whether a record is a line of the signs that names have, so that what else is wrong with it the program can tell."""
-    return _ONE_LINE.fullmatch(text) is not None
+def are_names(texts: Iterable[str]) -> bool:
+    """Whether each text is a name, seen at once."""
+    lines = [*texts, ""]
+    text = "\n".join(lines)
+    return _NAMES.fullmatch(text) is not None and text.count("\n") == len(lines) - 1
 
 
-def is_plain_operation(text: str) -> bool:
-    """Whether this is an insertion or addition that keeps every rule, seen at once; another may keep them too."""
-    return _PLAIN_LINE.fullmatch(text) is not None
-
-
-def is_plain_edge(text: str) -> bool:
-    """Whether this is a question for an edge whose names keep every rule and need no quotes, seen at once."""
-    return _PLAIN_EDGE.fullmatch(text) is not None
-
-
-def are_plain_operations(text: str) -> bool:
-    """Whether each line is an operation of which the same is seen."""
-    return _PLAIN_LINES.fullmatch(text) is not None
+def whole_numbers(texts: Sequence[str], code: str, digits: int) -> "Optional[array[int]]":
+    """The numbers that texts are, where it is seen at once that each is a whole one of at most so many signs, a minus sign where
+    the array's code has one; `None` for others, which may be some too."""
+    signs = "".join(texts)
+    plain = signs if code.isupper() else signs.replace("-", "")
+    if not (plain.isdigit() and signs.isascii() and len(max(texts, key=len)) <= digits):
+        return None
+    try:
+        return array(code, list(map(int, texts)))  # (of a list sooner than of what gives one after another)
+    except ValueError:  # (as of an empty text, or of one with a sign within)
+        return None
 
 
 def split_record(text: str) -> List[str]:

@@ -1,15 +1,15 @@
 """What a store's user says and is told, and what the program has for it: names by a table, weights and times by units."""
 from __future__ import annotations
 
-from contextlib import contextmanager
-from typing import Callable, Dict, Iterator, List, Optional, Sequence, Tuple
+from typing import Callable, Collection, Dict, List, Optional, Sequence, Set, Tuple
 
 from . import records
 from ..errors import Refused, refusal
+from ..engine.operations import Row, fields_of, row_of
 from ..engine.protocol import Denied
 from ..feeds.advice import advice_for
 from ..feeds.feed import Block
-from .names import MARK, NameTable, shown
+from .names import MARK, NameTable, text_reason
 from .records import Fault
 from .units import PLAIN, Units
 
@@ -17,6 +17,8 @@ _WORDS: Dict[str, str] = {**dict.fromkeys(records.NAME_FIELDS, "BadName"), **dic
                           **dict.fromkeys(records.TIME_FIELDS, "BadTime")}
 # What a user says for fields of requests.
 _SAID = {"lo": "since", "hi": "until"}
+# How many names are known to be right at most.
+MOST_KNOWN = 1 << 18
 _ORDER = ("BadCommand", "BadFields", "BadName", "BadWeight", "BadTime", "BadSlot")
 
 
@@ -27,11 +29,8 @@ class Terms:
     def __init__(self, names: Optional[NameTable] = None, units: Units = PLAIN) -> None:
         self.names = NameTable() if names is None else names
         self.units = units.checked()
-
-    def is_as_it_is(self, text: str) -> bool:
-        """Whether records of plain signs are the program's as they stand: no unit turns them, and none has a name with an id's
-        form."""
-        return self.units.are_plain and self.has_no_id(text)
+        # Names, and kinds, that are the engine's as they stand, as far as they were looked at.
+        self.right: Set[str] = set()
 
     @staticmethod
     def has_no_id(text: str) -> bool:
@@ -72,32 +71,22 @@ class Terms:
         fault = fault._replace(field=_SAID.get(fault.field or "", fault.field))
         return refusal(fault.word, fault=fault, advice=advice_for(fault, self.units), **where)  # type: ignore[arg-type]
 
-    @contextmanager
-    def told_of(self, *asked: str) -> Iterator[None]:
-        """What an engine denies meanwhile is told as of this record."""
-        try:
-            yield
-        except Denied as fault:
-            raise self.denied(fault, asked) from None
+    @staticmethod
+    def denied(fault: Denied, asked: str) -> Refused:
+        """The exception for what an engine denied where this was asked."""
+        return refusal(fault.word, asked, record=fault.record)
 
-    def denied(self, fault: Denied, asked: Sequence[str]) -> Refused:
-        """The exception for what an engine denied, where this was asked in the user's terms."""
-        told = [it for it in self.faults_of(asked) if it.word == fault.word] if asked else []
-        if told:
-            return self.refusal(told[0], record=fault.record)
-        return refusal(fault.word, ",".join(map(shown, asked)), record=fault.record)
-
-    def record(self, fields: Sequence[str]) -> str:
-        """The program's record of an operation. Raises a `Refused` where a rule is broken."""
+    def row(self, fields: Sequence[str]) -> Row:
+        """The engine's operation for the fields of a record. Raises a `Refused` where a rule is broken."""
         faults = self.faults_of(fields)
         if faults:
             raise self.refusal(faults[0])
-        return records.record(self.turned(fields)[0])
+        return row_of(self.turned(fields)[0])
 
-    def told(self, record: str) -> str:
-        """The user's record of an operation that the program has, without the end of its line."""
-        command, *values = records.split_record(record)
-        fields = zip(records.FORMATS.get(command, ()), values)
+    def told(self, row: Row) -> str:
+        """The user's record of an operation that the engine has, without the end of its line."""
+        command, *values = fields_of(row)
+        fields = zip(records.FORMATS[command], values)
         return records.record([command, *(self._told_field(field, value) for field, value in fields)]).rstrip("\n")
 
     def _told_field(self, field: str, value: str) -> str:
@@ -108,19 +97,31 @@ class Terms:
             self.units.time_to_user if field in records.TIME_FIELDS else None)
         return value if turn is None else str(turn(int(value)))
 
-    def block(self, block: Block) -> Block:
-        """The program's texts for rows of a feed; empty ones, which no field may be, for those that have none."""
-        kinds, sources, targets = map(self.names.all_to_program, (block.kinds, block.sources, block.targets))
-        weights = _each(self.units.weight_to_program, block.weights)
-        return Block(block.lines, kinds, sources, targets, weights, _each(self.units.time_to_program, block.times))
+    # Many at once.
 
+    def names_of(self, texts: Sequence[str], is_kind: bool = False) -> Sequence[str]:
+        """The engine's names for many texts, or kinds; nothing, "", for what is none."""
+        new = set(texts).difference(self.right)
+        if new and not self.are_as_they_are(new):
+            told = {it: self._name_of(it, is_kind) for it in new}
+            return [told.get(it, it) for it in texts]
+        return texts
 
-def _each(turn: Callable[[str], str], texts: Sequence[str]) -> List[str]:
-    """The texts turned; those that are the same are turned once, and those that have nothing to turn to are empty."""
-    turned: Dict[str, str] = {}
-    for it in set(texts):
-        try:
-            turned[it] = turn(it)
-        except ValueError:
-            turned[it] = ""
-    return list(map(turned.__getitem__, texts))
+    def are_as_they_are(self, new: Collection[str]) -> bool:
+        """Whether texts are the engine's names, or kinds, as they stand. Such names are known from then on."""
+        if not records.are_names(new) or records.ANY in new or not self.has_no_id("".join(new)):
+            return False
+        if len(self.right) + len(new) > MOST_KNOWN:
+            self.right.clear()
+        self.right.update(new)
+        return True
+
+    def _name_of(self, text: str, is_kind: bool) -> str:
+        if is_kind and text == records.ANY or text_reason(text):
+            return ""
+        return self.names.to_program(text)
+
+    def written(self, block: Block) -> Block:
+        """The rows of a feed in the engine's terms, weights and times as numbers; and for what is none, nothing, or `None`."""
+        return Block(block.lines, self.names_of(block.kinds, is_kind=True), self.names_of(block.sources),
+                     self.names_of(block.targets), self.units.weights_of(block.weights), self.units.times_of(block.times))

@@ -2,6 +2,7 @@
 from __future__ import annotations
 
 import re
+from array import array
 from datetime import date, datetime, timedelta, timezone
 from decimal import Decimal, InvalidOperation
 from fractions import Fraction
@@ -125,6 +126,35 @@ class Units(NamedTuple):
             when += timedelta(days=1) - MICROSECOND
         return str((when - EPOCH) // MICROSECOND)
 
+    def weights_of(self, texts: Sequence[str]) -> "Sequence[Optional[int]]":
+        """The program's weights for many texts; `None` for what is none."""
+        places = _places_of(self.weight_scale) or 0
+        found = None
+        if self.weight_scale == 1 and self.rounding is None:
+            found = records.whole_numbers(texts, "q", 12)
+        elif self.weight_scale == 10 ** places:
+            found = _with_places(texts, places)
+        return found if found is not None else each_once(self._weight_of, texts)
+
+    def _weight_of(self, text: str) -> Optional[int]:
+        try:
+            whole = self.weight_to_program(text)
+        except ValueError:
+            return None
+        return None if records.weight_reason(whole) else int(whole)
+
+    def times_of(self, texts: Sequence[str]) -> "Sequence[Optional[int]]":
+        """The program's times for many texts; `None` for what is none."""
+        found = records.whole_numbers(texts, "Q", 18) if self.times == NUMBER else None
+        return found if found is not None else each_once(self._time_of, texts)
+
+    def _time_of(self, text: str) -> Optional[int]:
+        try:
+            whole = self.time_to_program(text)
+        except ValueError:
+            return None
+        return None if records.time_reason(whole) else int(whole)
+
     # To the user.
 
     def weight_to_user(self, weight: int) -> Any:
@@ -140,10 +170,10 @@ class Units(NamedTuple):
         return time if self.times == NUMBER else EPOCH + MICROSECOND * time
 
     def all_weights_to_user(self, weights: Sequence[int]) -> Sequence[Any]:
-        return weights if self.weight_scale == 1 else _each(self.weight_to_user, weights)
+        return weights if self.weight_scale == 1 else each_once(self.weight_to_user, weights)
 
     def all_times_to_user(self, times: Sequence[int]) -> Sequence[Any]:
-        return times if self.times == NUMBER else _each(self.time_to_user, times)
+        return times if self.times == NUMBER else each_once(self.time_to_user, times)
 
     @property
     def weights_told(self) -> "Optional[Callable[[Sequence[int]], Sequence[Any]]]":
@@ -157,10 +187,27 @@ class Units(NamedTuple):
         return Edge(self.weight_to_user(weight), self.time_to_user(first), self.time_to_user(recent))
 
 
-def _each(turn: Callable[[Any], Any], values: Sequence[Any]) -> "list[Any]":
+def each_once(turn: Callable[[Any], Any], values: Sequence[Any]) -> "list[Any]":
     """The values turned; those that are the same are turned once."""
     turned = {it: turn(it) for it in set(values)}
     return list(map(turned.__getitem__, values))
+
+
+def _with_places(texts: Sequence[str], places: int) -> "Optional[array[int]]":
+    """The parts that decimal numbers have, of which one has 10 to the power of so many places, where it is seen at once that each
+    is such a number, within the limits; `None` for others, which may be some too."""
+    signs = "".join(texts)
+    if not (signs.replace("-", "").replace(".", "").isdigit() and signs.isascii() and len(max(texts, key=len)) <= 12):
+        return None
+    zeros = "0" * places
+    try:
+        parted = [it.partition(".") for it in texts]
+        found = array("q", [int(whole + (rest + zeros)[:places]) for whole, _, rest in parted])
+    except ValueError:
+        return None
+    is_right = all(whole not in ("", "-") and len(rest) <= places for whole, _, rest in parted)
+    most = records.MOST_WEIGHT
+    return found if is_right and -most <= min(found) and max(found) <= most else None
 
 
 PLAIN = Units()

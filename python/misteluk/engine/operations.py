@@ -1,0 +1,149 @@
+"""Operations that go in together, in the engine's terms: as rows, or as columns whose names stand once each.
+
+A removal has no weight and time, 0, and an expiry nothing but its time.
+"""
+from __future__ import annotations
+
+from array import array
+from collections import defaultdict
+from itertools import accumulate, count, islice
+from operator import itemgetter
+from typing import Any, Callable, DefaultDict, Dict, Iterable, List, NamedTuple, Optional, Sequence, Tuple
+
+from ..errors import Place
+from ..values import records
+
+# What an operation does, as the C interface numbers it; and the commands of records, by that number.
+INSERT, ADD, REMOVE, EXPIRE = range(4)
+COMMANDS = "iarx"
+_FORMS = ("i,{},{},{},{},{}\n", "a,{},{},{},{},{}\n", "r,{},{},{}\n", "x,{4}\n")
+# What an operation does, its kind, source and target, its weight and its time.
+Row = Tuple[int, str, str, str, int, int]
+EXPIRY = (EXPIRE, "", "", "", 0)
+# What stands for the name of an expiry, which has none.
+NO_NAME = "-"
+
+
+class Dictionary:
+    """Names by number, from 0 on, as each was asked for first."""
+
+    def __init__(self) -> None:
+        self.numbers: DefaultDict[str, int] = defaultdict(count().__next__)
+        self._encoded: Tuple[bytes, "array[int]"] = (b"", array("Q"))
+
+    def column(self, names: Sequence[str]) -> "array[int]":
+        """The numbers of names."""
+        if not names or names[0] == names[-1] and names.count(names[0]) == len(names):
+            return array("I", [self.numbers[it] for it in names[:1]]) * len(names)
+        return array("I", itemgetter(*names)(self.numbers))
+
+    def since(self, count: int) -> List[str]:
+        """The names behind the first ones, so many, the last one first."""
+        return list(islice(reversed(self.numbers), len(self.numbers) - count))
+
+    def forget_since(self, number: int) -> None:
+        """Lets the names behind the first ones go, so many."""
+        for it in self.since(number):
+            del self.numbers[it]
+        self.numbers.default_factory = count(number).__next__
+
+    @property
+    def names(self) -> List[str]:
+        return list(self.numbers)
+
+    @property
+    def encoded(self) -> "Tuple[bytes, array[int]]":
+        """The names one after another, and where each ends."""
+        if len(self._encoded[1]) != len(self.numbers):
+            names = [it or NO_NAME for it in self.numbers]
+            self._encoded = "".join(names).encode("ascii"), array("Q", accumulate(map(len, names)))
+        return self._encoded
+
+
+class Numbered(NamedTuple):
+    """Operations as columns of one length: what each does; its kind, source and target by number; its weight and time."""
+
+    codes: "array[int]"
+    kinds: "array[int]"
+    sources: "array[int]"
+    targets: "array[int]"
+    weights: "array[int]"
+    times: "array[int]"
+    of_kinds: Dictionary
+    of_names: Dictionary
+
+    @staticmethod
+    def of(rows: Sequence[Row]) -> "Numbered":
+        codes, kinds, sources, targets, weights, times = zip(*rows) if rows else ((),) * 6
+        of_kinds, of_names = Dictionary(), Dictionary()
+        return Numbered(array("B", codes), of_kinds.column(kinds), of_names.column(sources), of_names.column(targets),
+                       array("q", weights), array("Q", times), of_kinds, of_names)
+
+    def some(self, rows: slice) -> "Numbered":
+        """Some of the operations."""
+        columns: Any = [it[rows] for it in self[:6]]
+        return Numbered._make([*columns, self.of_kinds, self.of_names])
+
+    def rows(self) -> List[Row]:
+        kinds, names = self.of_kinds.names.__getitem__, self.of_names.names.__getitem__
+        rows: Any = zip(self.codes, map(kinds, self.kinds), map(names, self.sources), map(names, self.targets), self.weights,
+                        self.times)
+        return list(rows)
+
+
+class Operations:
+    """Operations that go in together, as rows or as columns, and where each came from, by its place."""
+
+    def __init__(self, rows: Optional[Sequence[Row]] = None, columns: Optional[Numbered] = None,
+                 place: Optional[Callable[[int], Place]] = None) -> None:
+        self._rows, self._columns, self.place = rows, columns, place
+        self.size = len(rows) if rows is not None else len(columns.codes) if columns else 0
+
+    @property
+    def rows(self) -> Sequence[Row]:
+        return self._rows if self._rows is not None else self._columns.rows() if self._columns else ()
+
+    @property
+    def columns(self) -> Numbered:
+        if self._columns is None:
+            self._columns = Numbered.of(self.rows)
+        return self._columns
+
+    @property
+    def expires(self) -> bool:
+        """Whether an operation expires edges; then the batch asks for the used blocks too."""
+        return EXPIRE in (self._columns.codes if self._columns is not None else map(itemgetter(0), self.rows))
+
+    @property
+    def text(self) -> bytes:
+        """Their records, one line each."""
+        return records_of(self.rows).encode("ascii")
+
+
+class Quoted(Dict[str, str]):
+    """Names as fields of records."""
+
+    def __missing__(self, name: str) -> str:
+        found = self[name] = records.quoted(name)
+        return found
+
+
+def records_of(rows: Iterable[Row]) -> str:
+    """The records of operations, one line each."""
+    quoted = Quoted()
+    return "".join([_FORMS[code].format(quoted[kind], quoted[source], quoted[target], weight, time)
+                    for code, kind, source, target, weight, time in rows])
+
+
+def row_of(fields: Sequence[str]) -> Row:
+    """The operation that the fields of a record say."""
+    code = COMMANDS.index(fields[0])
+    if code == EXPIRE:
+        return (*EXPIRY, int(fields[1]))
+    weight, time = map(int, fields[4:] or "00")
+    return (code, fields[1], fields[2], fields[3], weight, time)
+
+
+def fields_of(row: Row) -> List[str]:
+    """The fields of an operation's record."""
+    return records.split_record(records_of([row]))

@@ -1,0 +1,225 @@
+"""How much a store takes: limits that are said, and a store in process that has more room once it is needed."""
+import unittest
+from unittest import mock
+
+from interrupting import at_line, handler, interrupt_now
+from support import ENGINE, Case
+
+import misteluk
+from misteluk import Columns, Limits, Store
+from misteluk.command.main import main
+from misteluk.engine import interface, library
+from misteluk.feeds.feed import Feed
+from misteluk.values import limits
+
+OF_LIBRARY = "of the library alone"
+
+
+class OfLimits(unittest.TestCase):
+    def test_walls(self):
+        """Vertices times kinds are at most 8,388,606, and kinds at most 64, whatever is said."""
+        for wrong in (Limits(vertices=8_388_607), Limits(kinds=65), Limits(vertices=131_072, kinds=64), Limits(kinds=0),
+                      Limits(vertices=-1), Limits(batches=1 << 32)):
+            self.assertRaises(ValueError, wrong.checked)
+        for right in (Limits(), Limits(8_388_606, 1), Limits(131_071, 64), Limits(batches=1)):
+            self.assertEqual(right.checked(), right)
+
+    def test_what_is_over(self):
+        self.assertEqual(Limits().over(8_388_606, 1), [])
+        self.assertEqual(Limits().over(4_194_304, 2), ["4,194,304 vertices, where the store takes 4,194,303 beside 2 kinds"])
+        self.assertEqual(Limits().over(1, 65), ["65 kinds, where the store takes 64"])
+        self.assertEqual(Limits(10, 2).over(11, 3), ["11 vertices, where the store takes 10", "3 kinds, where the store takes 2"])
+        self.assertEqual(Limits(vertices=1_000_000).over(9, 9), ["9 kinds, where the store takes 8"])
+
+    def test_shapes(self):
+        """A desk's limits have room for what there is, and are within the walls."""
+        for said in (Limits(), Limits(vertices=1_000), Limits(kinds=3), Limits(500_000, 16)):
+            for vertices in (0, 1, 1_000, 131_071, 131_072, 1_048_575, 1_048_576, 8_388_606):
+                for kinds in (0, 1, 2, 3, 8, 9, 17, 33, 64):
+                    if not said.over(vertices, kinds):
+                        found = said.shape(vertices, kinds)
+                        self.assertTrue(found.vertices >= vertices and found.kinds >= kinds, (said, vertices, kinds, found))
+                        self.assertLessEqual(found.vertices * found.kinds, limits.MOST_PRODUCT)
+
+
+@unittest.skipUnless(ENGINE == "library", OF_LIBRARY)
+class Room(Case):
+    def path(self, count, begin=0):
+        return [(f"v{it}", f"v{it + 1}") for it in range(begin, begin + count)]
+
+    def told(self, store):
+        with store.open() as session:
+            return session.version, list(session.edges_columns().names), sorted(session.edges())
+
+    def test_limits_that_are_said(self):
+        store = self.store(limits=Limits(vertices=4, kinds=2))
+        store.load(self.path(3), by="set")
+        store.insert("link", "v0", "one-more")
+        with self.assertRaisesRegex(misteluk.NamesFull, r"There would be 5 vertices, where the store takes 4. Make the store with "
+                                                        r"more than Limits\(vertices=4, kinds=2\)"):
+            store.commit()
+        self.assertEqual((store.pending, store.discard()), (1, 1))
+        for kind in ("a", "b"):
+            store.insert(kind, "v0", "v1")
+        with self.assertRaisesRegex(misteluk.KindsFull, "There would be 3 kinds, where the store takes 2"):
+            store.commit()
+        store.discard()
+        with self.assertRaisesRegex(misteluk.OverLimit, "has 9 vertices, where the store takes 4. Make the store with more than"):
+            store.load(self.path(8), by="set")
+        self.assertEqual((store.stat().version, store.stat().edges), (1, 3))
+
+    def test_batches_that_are_said(self):
+        """The store begins anew by itself then, so that it takes as many as come."""
+        store = self.store(limits=Limits(batches=3))
+        with mock.patch.object(store.engine, "_begin_anew", wraps=store.engine._begin_anew) as anew:
+            for it in range(10):
+                store.insert("k", "a", f"b{it}")
+                self.assertEqual(store.commit().version, it + 1)
+        self.assertEqual((anew.call_count, store.stat().edges), (3, 10))
+
+    def test_more_blocks(self):
+        """Sessions hold what they held, numbers and versions stay, and a store that says its blocks has no more."""
+        with mock.patch.object(library, "FIRST_BLOCKS", 16):
+            store, fixed = self.store(), self.store(blocks=16)
+        store.load(self.path(9), by="set")
+        held, before = store.open(), self.told(store)
+        for it in range(200):
+            store.insert("link", f"w{it}", "v1", it, it)
+        self.assertEqual((store.commit().version, store.blocks), (2, 256))
+        version, names, edges = self.told(store)
+        self.assertEqual((version, names[:10], len(names), len(edges)), (2, before[1], 210, 209))
+        self.assertEqual((held.version, sorted(held.edges()), store.stat().used), (1, before[2], 209))
+        fixed.load(self.path(9), by="set")
+        for it in range(200):
+            fixed.insert("link", f"w{it}", "v1")
+        with self.assertRaisesRegex(misteluk.PoolEmpty, "needs 200 free blocks, and 7 are free"):
+            fixed.commit()
+        fixed.discard()
+
+    def test_more_blocks_with_all_seats_taken(self):
+        with mock.patch.object(library, "FIRST_BLOCKS", 16):
+            store = self.store(seats=16)
+        held = []
+        for it in range(16):
+            store.insert("k", f"s{it}", "t")
+            store.commit()
+            held.append(store.open())
+        for it in range(40):
+            store.insert("k", f"u{it}", "t")
+        self.assertEqual((store.commit().version, store.stat().edges, store.blocks), (17, 56, 64))
+        self.assertEqual([len(it) for it in held], list(range(1, 17)))
+
+    def test_a_load_has_room_before_it_begins(self):
+        """An empty store is opened with as many blocks as a feed wants, so that nothing is copied on the way."""
+        with mock.patch.object(library, "FIRST_BLOCKS", 16):
+            store = self.store()
+        with mock.patch.object(store.engine, "_copy", wraps=store.engine._copy) as copy:
+            store.load(self.path(3_000), by="set", batch=500)
+        self.assertEqual((copy.call_count, store.blocks, store.stat().edges, store.stat().version), (1, 4_096, 3_000, 6))
+
+    def test_more_vertices_and_kinds(self):
+        """The walls are for the product of both, here of 64: a desk has room for the one or for the other."""
+        with mock.patch.object(limits, "MOST_PRODUCT", 64):
+            store = self.store()
+            store.load(self.path(7), by="set")
+            self.assertEqual(store.engine._opening.shape[:2], (8, 8))
+            held, before = store.open(), self.told(store)
+            for it in range(20):
+                store.insert("link", f"w{it}", "v1")
+            self.assertEqual(store.commit().version, 2)
+            self.assertEqual(store.engine._opening.shape[:2], (64, 1))
+            self.assertEqual(self.told(store)[1][:8], before[1])
+            store.insert("road", "v1", "v2")
+            self.assertEqual((store.commit().version, store.engine._opening.shape[:2]), (3, (32, 2)))
+            store.insert("rail", "v1", "v2")
+            told = "There would be 28 vertices, where the store takes 21 beside 3 kinds. No store takes more"
+            with self.assertRaisesRegex(misteluk.KindsFull, told):
+                store.commit()
+            self.assertEqual((store.discard(), sorted(held.edges())), (1, before[2]))
+
+    def test_the_library_has_the_walls(self):
+        """What the limits say here the library says too."""
+        engine = self.store().engine
+        for wanted, blocks, code in (((131_071, 64, 1), 16, 0), ((131_072, 64, 1), 16, 19), ((8_388_606, 1, 1), 16, 0),
+                                     ((8_388_607, 1, 1), 16, 19), ((1, 65, 1), 16, 19), ((1, 1, 1), limits.MOST_BLOCKS + 1, 9)):
+            desk = interface.Desk()
+            self.assertEqual(engine.library.desk_new_within(interface.Limits(*wanted), blocks, desk), code, wanted)
+            engine.library.desk_free(desk)
+
+    def test_an_endless_store_lets_names_go_before(self):
+        with mock.patch.object(limits, "MOST_PRODUCT", 640):
+            store = self.store(endless=True)
+            for it in range(100):
+                store.insert("k", f"s{it}", "t")
+                if it:
+                    store.remove("k", f"s{it - 1}", "t")
+                store.commit()
+        self.assertEqual((store.engine._opening.shape[:2], store.stat().edges), ((10, 64), 1))
+        self.assertLess(store.stat().names, 11)
+
+    def test_an_interrupt_while_it_becomes_larger(self):
+        """At each few lines: the batch is in once, when the commit is made again."""
+        at, is_more = 1, True
+        with handler(interrupt_now), mock.patch.object(library, "FIRST_BLOCKS", 16):
+            while is_more:
+                store = self.store("insert k a b 1 1")
+                held = store.open()
+                for it in range(30):
+                    store.add("k", f"s{it}", "t", 1, 1)
+                is_more = at_line(at, store.commit)
+                if is_more:
+                    store.commit()
+                with self.subTest(at=at), store.open() as session:
+                    self.assertEqual((store.stat().version, store.pending, len(session), len(held)), (2, 0, 31, 1))
+                    self.assertEqual({it.weight for it in session.out_of("s3").values()}, {1})
+                store.close()
+                at += 3
+        self.assertGreater(at, 150)
+
+    def test_a_restored_store_grows_where_the_saved_one_did(self):
+        with mock.patch.object(library, "FIRST_BLOCKS", 16):
+            store, fixed = self.store("insert k a b 1 1"), self.store("insert k a b 1 1", blocks=32)
+        for it, grows in ((store, True), (fixed, False)):
+            it.open().save(self.room / "saved.csv")
+            with Store.restore(self.room / "saved.csv") as restored:
+                self.assertEqual((restored.engine.grows, restored.blocks), (grows, 16_384 if grows else 32))
+            with Store.restore(self.room / "saved.csv", blocks=64) as restored:
+                self.assertEqual((restored.engine.grows, restored.blocks), (False, 64))
+        with Store.restore(self.room / "saved.csv", engine="program") as restored:
+            self.assertEqual(restored.blocks, 32)
+
+    def test_more_than_a_program_takes_is_saved(self):
+        """The file says so, and a store in process takes it."""
+        store = self.store()
+        store.load(self.path(66_000), by="set")
+        with store.open() as session:
+            saved = session.save(self.room / "saved.csv")
+        self.assertTrue(str(saved).endswith("more than `stinger run` takes"), saved)
+        with Store.restore(self.room / "saved.csv") as restored:
+            self.assertEqual((self.told(restored)[1:], restored.blocks), (self.told(store)[1:], 262_144))
+        self.assertRaises(misteluk.StoreError, Store.restore, self.room / "saved.csv", engine="program")
+
+
+class OfCommands(Case):
+    @unittest.skipUnless(ENGINE == "library", OF_LIBRARY)
+    def test_more_than_a_program_takes(self):
+        """70,000 vertices, each with an edge, in a file."""
+        path = self.room / "many.csv"
+        path.write_text("".join(f"a{it},a{it + 1}\n" for it in range(70_000)))
+        words = ["--set", "--source", "1", "--target", "2"]
+        self.assertEqual(main(["load", str(path), *words]), 0)
+        self.assertEqual(main(["load", str(path), *words, "--engine", "program"]), 1)
+        with Store() as store:
+            store.load(path, by="set", columns=Columns(1, 2))
+            with store.open() as session:
+                self.assertEqual((session.names, len(session), session.levels("a0")["a70000"]), (70_001, 70_000, 70_000))
+
+    def test_a_program_has_its_own(self):
+        with self.assertRaisesRegex(ValueError, "a store with limits of its own is one in this process"):
+            Store(engine="program", limits=Limits(vertices=9))
+        with self.assertRaisesRegex(misteluk.OverLimit, "has 65 kinds, where the store takes 64"):
+            self.store().load(Feed("f", [(1, f"k{it}", "a", "b", "1", "0") for it in range(65)]), by="set")
+
+
+if __name__ == "__main__":
+    unittest.main()
