@@ -62,14 +62,24 @@ class Ledger:
         return (type(weight) is int is type(time) and -records.MOST_WEIGHT <= weight <= records.MOST_WEIGHT
                 and 0 <= time <= records.MOST_TIME and self.terms.units.are_plain)
 
+    def _numbers(self, weight: Any, time: Any) -> Tuple[Any, Any]:
+        """A weight and a time in the engine's terms; `None` for what is none."""
+        if self._are_numbers(weight, time):
+            return weight, time
+        units = self.terms.units
+        return units.weights_of([whole_text(weight)])[0], units.times_of([whole_text(time)])[0]
+
     def _keep(self, code: int, names: Tuple[Any, Any, Any], weight: Any, time: Any) -> None:
         """Keeps an operation, or raises where a rule is broken."""
         self._guard.check()
         if self.is_closed:
             raise StoreError("the store is closed")
         must_be_texts(names if code != EXPIRE else ())
-        if self.terms.are_as_they_are(names) and self._are_numbers(weight, time):
-            row: Row = (code, *names, weight, time)
+        both: Tuple[Any, Any] = (None, None)
+        if self.terms.are_as_they_are(names):
+            both = self._numbers(weight, time)
+        if None not in both:
+            row: Row = (code, *names, *both)
         else:
             fields = {EXPIRE: (time,), REMOVE: names}.get(code, (*names, weight, time))
             row = self.terms.row([COMMANDS[code], *map(whole_text, fields)])
@@ -102,7 +112,7 @@ class Ledger:
         said = Units(mine.weight_scale if weight_scale is None else weight_scale, times or mine.times, mine.decimals,
                      mine.rounding)
         self.must_agree(said)
-        return Terms(self.terms.names, said)
+        return Terms(self.terms.names, said, self.terms.right)
 
     def must_agree(self, units: Units) -> None:
         if self.units_are_set and not units.same_as(self.terms.units):

@@ -14,6 +14,7 @@ from .answers import Edge
 Amount = Union[int, float, Decimal, str]
 Moment = Union[int, str, date]
 EPOCH = datetime(1970, 1, 1, tzinfo=timezone.utc)
+_EPOCH_WITHOUT_ZONE = datetime(1970, 1, 1)
 MICROSECOND = timedelta(microseconds=1)
 NUMBER, ISO = "number", "iso"
 HALF_EVEN = "half-even"
@@ -145,7 +146,7 @@ class Units(NamedTuple):
 
     def times_of(self, texts: Sequence[str]) -> "Sequence[Optional[int]]":
         """The program's times for many texts; `None` for what is none."""
-        found = records.whole_numbers(texts, "Q", 18) if self.times == NUMBER else None
+        found = records.whole_numbers(texts, "Q", 18) if self.times == NUMBER else _plain_dates(texts)
         return found if found is not None else each_once(self._time_of, texts)
 
     def _time_of(self, text: str) -> Optional[int]:
@@ -208,6 +209,21 @@ def _with_places(texts: Sequence[str], places: int) -> "Optional[array[int]]":
     is_right = all(whole not in ("", "-") and len(rest) <= places for whole, _, rest in parted)
     most = records.MOST_WEIGHT
     return found if is_right and -most <= min(found) and max(found) <= most else None
+
+
+def _plain_dates(texts: Sequence[str]) -> "Optional[array[int]]":
+    """The microseconds since 1970 of dates, where it is seen at once that each is one, without a zone and a fraction of a second;
+    `None` for others, which may be some too."""
+    signs = "".join(texts)
+    if "." in signs or "," in signs:
+        return None
+    try:
+        found = list(map(datetime.fromisoformat, texts))
+    except ValueError:
+        return None
+    if not found or {it.tzinfo for it in found} != {None} or min(found) < _EPOCH_WITHOUT_ZONE:
+        return None
+    return array("Q", [(it - _EPOCH_WITHOUT_ZONE) // MICROSECOND for it in found])
 
 
 PLAIN = Units()
