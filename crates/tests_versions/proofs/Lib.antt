@@ -1,3 +1,4 @@
+pub mod Told
 mod TakenBack
 pub mod NoRows
 mod Numbers
