@@ -8,9 +8,9 @@ import os
 import random
 import subprocess
 import unittest
-from typing import Callable, Dict, List, Optional
+from typing import Callable, Dict, List, Optional, Tuple
 
-from calls import Batch, Code, Desk, Refused, Version, fields, interface, view
+from calls import Batch, Code, Desk, Operation, Refused, Version, fields, interface, view
 from places import library, program
 
 WORDS = {Code.BAD_NAME: "BadName", Code.BAD_WEIGHT: "BadWeight", Code.BAD_TIME: "BadTime", Code.BATCH_FULL: "BatchFull",
@@ -21,6 +21,8 @@ NAMES = [f"v{it}".encode() for it in range(12)] + [b"a,b", b'say"x"', b"z" * 64,
 # No names: too short, too long, a space, DEL, no UTF-8, no ASCII.
 NO_NAMES = [b"", b"z" * 65, b"two words", b"a\x7f", b"a\xff", "é".encode()]
 SEATS = 16
+# A record's word, kind, source, target, weight and time.
+Drawn = Tuple[str, bytes, bytes, bytes, int, int]
 
 
 def quoted(field: bytes) -> bytes:
@@ -38,7 +40,7 @@ class Play:
         self.slots: Dict[int, Version] = {}
         self.records: List[bytes] = []
         self.lines: List[Optional[str]] = []
-        self.time = 0
+        self.time = self.done = 0
 
     def record(self, *told: object) -> None:
         self.records.append(b",".join(quoted(it if isinstance(it, bytes) else str(it).encode()) for it in told))
@@ -72,19 +74,47 @@ class Play:
         far = [MOST_WEIGHT, -MOST_WEIGHT, MOST_WEIGHT + 1, -MOST_WEIGHT - 1, 0]
         return self.random.choice(far) if self.random.random() < 0.04 else self.random.randrange(-9, 100)
 
-    def operate(self) -> None:
+    def draw(self) -> Drawn:
+        """An operation, as a record's fields."""
         chance, ends = self.random.random(), (self.kind(), self.name(), self.name())
         if chance < 0.75:
-            told = (*ends, self.weight(), self.some_time())
-            self.record("i" if chance < 0.5 else "a", *told)
-            self.tell(lambda: (self.batch.insert if chance < 0.5 else self.batch.add)(*told))
-        elif chance < 0.96:
-            self.record("r", *ends)
-            self.tell(lambda: self.batch.remove(*ends))
-        else:
-            time = self.some_time()
-            self.record("x", time)
+            return ("i" if chance < 0.5 else "a", *ends, self.weight(), self.some_time())
+        return ("r", *ends, 0, 0) if chance < 0.96 else ("x", b"", b"", b"", 0, self.some_time())
+
+    def note(self, drawn: Drawn) -> None:
+        self.record(drawn[0], *{"r": drawn[1:4], "x": drawn[5:]}.get(drawn[0], drawn[1:]))
+
+    def operate(self) -> None:
+        drawn = self.draw()
+        self.note(drawn)
+        word, kind, source, target, weight, time = drawn
+        if word == "x":
             self.expires |= self.tell(lambda: self.batch.expire(time))
+        elif word == "r":
+            self.tell(lambda: self.batch.remove(kind, source, target))
+        else:
+            self.tell(lambda: (self.batch.insert if word == "i" else self.batch.add)(kind, source, target, weight, time))
+
+    def operate_in_columns(self, count: int) -> None:
+        """Operations in columns. One that is refused is told by its place, and the columns before it and behind it go in."""
+        drawn, first = [self.draw() for _ in range(count)], len(self.records)
+        for it in drawn:
+            self.note(it)
+        kinds = sorted({it[1] for it in drawn})
+        names = sorted({name for it in drawn for name in it[2:4]})
+        rows: List[Operation] = [("iarx".index(word), kinds.index(kind), names.index(source), names.index(target), weight, time)
+                                 for word, kind, source, target, weight, time in drawn]
+        code, place = self.batch.append(kinds, names, rows)
+        while code != Code.OK:
+            done, length = place + 1, len(self.batch)
+            assert self.batch.append(kinds, names, rows[:place], self.done) == (Code.OK, place)
+            assert len(self.batch) == length + place - self.done
+            self.lines.append(f"error {first + done} {WORDS[code]}")
+            drawn[place], self.done = ("r", b"", b"", b"", 0, 0), done
+            code, place = self.batch.append(kinds, names, rows, done)
+        assert place == count
+        self.done = 0
+        self.expires |= any(it[0] == "x" for it in drawn)
 
     def commit(self) -> None:
         self.record("commit")
@@ -225,8 +255,12 @@ class Play:
     def step(self) -> None:
         chance = self.random.random()
         if chance < 0.5:
-            for _ in range(self.random.choice([1, 3, 9, 40])):
-                self.operate()
+            for count in (self.random.choice([0, 1, 9]), self.random.choice([1, 3, 40])):
+                if self.random.random() < 0.5:
+                    self.operate_in_columns(count)
+                    continue
+                for _ in range(count):
+                    self.operate()
             self.commit()
         elif chance < 0.58 and not len(self.batch):
             self.load()

@@ -3,7 +3,7 @@ use Rattle.std.proofs.Common.{◌≡◌, ◌≤◌, ℕ, zero, suc, ◌+◌, ◌
 use Rattle.std.proofs.Common.{length-append, append_assoc}
 use Rattle.std.specs.Prelude.{Ok}
 use Rattle.graph_types.specs.declared.batches.NamedOp.{NamedOp}
-use Rattle.batch_columns.specs.{Dictionaries.{joined, IsInserted}, Operations.{OperationTable, operation_at, operations_from}}
+use Rattle.batch_columns.specs.{Dictionaries.{joined, in_order, IsInserted}, Operations.{OperationTable, operation_at, operations_from}}
 
 -- the parts of a list that is joined
 pub joined_parts : (op : Option NamedOp) (rest : Option (List NamedOp)) (all : List NamedOp) → joined op rest ≡ Some all
@@ -12,16 +12,16 @@ joined_parts (Some one) (Some others) all is = (one, others, refl, refl, cc)
 joined_parts (Some one) None all is = cc
 joined_parts None rest all is = cc
 
-pub operation_more : (t : OperationTable) (at n : ℕ) (ops : List NamedOp) (op : NamedOp) → operations_from t at n ≡ Some ops
-    → operation_at t (at + n) ≡ Some op → operations_from t at (suc n) ≡ Some (ops ++ op ∷ [])
-operation_more t at zero ops op are is =
+pub one_more : (op_at : ℕ → Option NamedOp) (at n : ℕ) (ops : List NamedOp) (op : NamedOp) → in_order op_at at n ≡ Some ops
+    → op_at (at + n) ≡ Some op → in_order op_at at (suc n) ≡ Some (ops ++ op ∷ [])
+one_more op_at at zero ops op are is =
     let none : ops ≡ [] = cc in
-    rw none (ap (λ o. joined o (Some [])) (ap (operation_at t) (omega arith) ∙ is))
-operation_more t at (suc n) ops op are is =
-    let parts = joined_parts (operation_at t at) (operations_from t (at + 1) n) ops are in
+    rw none (ap (λ o. joined o (Some [])) (ap op_at (omega arith) ∙ is))
+one_more op_at at (suc n) ops op are is =
+    let parts = joined_parts (op_at at) (in_order op_at (at + 1) n) ops are in
     let place : at + 1 + n ≡ at + suc n = omega arith in
-    let rest = operation_more t (at + 1) n parts.1 op parts.3 (ap (operation_at t) place ∙ is) in
-    rw parts.4 (ap (λ o. joined o (operations_from t (at + 1) (suc n))) parts.2 ∙ ap (joined (Some parts.0)) rest)
+    let rest = one_more op_at (at + 1) n parts.1 op parts.3 (ap op_at place ∙ is) in
+    rw parts.4 (ap (λ o. joined o (in_order op_at (at + 1) (suc n))) parts.2 ∙ ap (joined (Some parts.0)) rest)
 
 -- what an operation that is in was
 pub inserted_op : (o : Option NamedOp) (old new : List NamedOp) (done : Unit {0}) → IsInserted o old new (Ok done)
@@ -45,6 +45,6 @@ pub extended_more : (t : OperationTable) (from place : ℕ) (old longer new : Li
 extended_more t from place old longer new done order (ops, are, is) pushed =
     let (op, here, longer_is) = inserted_op (operation_at t place) longer new done pushed in
     let at : from + (place - from) ≡ place = omega arith in
-    let more = operation_more t from (place - from) ops op are (ap (operation_at t) at ∙ here) in
+    let more = one_more (operation_at t) from (place - from) ops op are (ap (operation_at t) at ∙ here) in
     let n : suc (place - from) ≡ place + 1 - from = omega arith in
     (ops ++ op ∷ [], ap (operations_from t from) (sym n) ∙ more, longer_is ∙ ap (λ l. l ++ op ∷ []) is ∙ append_assoc old ops (op ∷ []))

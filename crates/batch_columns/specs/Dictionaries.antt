@@ -46,6 +46,11 @@ abbrev pub joined : Option NamedOp → Option (List NamedOp) → Option (List Na
 joined (Some op) (Some ops) = Some (op ∷ ops)
 joined _ _ = None
 
+-- the operations at so many places from one on, in order; none where one of them is none
+abbrev pub in_order : (ℕ → Option NamedOp) → ℕ → ℕ → Option (List NamedOp)
+in_order op_at at zero = Some []
+in_order op_at at (suc n) = joined (op_at at) (in_order op_at (at + 1) n)
+
 -- insertions of a kind, as columns have them: numbers in a dictionary, weights and times
 pub record Insertions : Type 0 where
   pub kind : List ℕ
@@ -62,7 +67,6 @@ insertion_at c at =
     insertion c.kind (slice_index_or c.weights at (pos 0)) (slice_index_or c.times at 0)
     (name_in c.text c.ends (slice_index_or c.sources at 0)) (name_in c.text c.ends (slice_index_or c.targets at 0))
 
--- the insertions at so many places from one on, in order; none where one of them is none
+-- the insertions at so many places from one on
 abbrev pub insertions_from : Insertions → ℕ → ℕ → Option (List NamedOp)
-insertions_from c at zero = Some []
-insertions_from c at (suc n) = joined (insertion_at c at) (insertions_from c (at + 1) n)
+insertions_from c at n = in_order (insertion_at c) at n

@@ -6,7 +6,7 @@ use Rattle.graph_types.specs.declared.batches.NamedOp.TheVariants.{Insert, Incr,
 use Rattle.batch_columns.specs.declared.{columns.InsertError.InsertError, operations.Operations.Operations}
 use Rattle.batch_columns.specs.declared.operations.OperationsError.{OperationsError}
 use Rattle.batch_columns.specs.declared.operations.OperationsError.TheVariants.{BadLength, Refused, OutOfMemory}
-use Rattle.batch_columns.specs.Dictionaries.{joined, name_in, IsInserted}
+use Rattle.batch_columns.specs.Dictionaries.{in_order, name_in, IsInserted}
 
 -- operations as columns have them, and the two dictionaries
 pub record OperationTable : Type 0 where
@@ -66,10 +66,9 @@ abbrev pub operation_at : OperationTable → ℕ → Option NamedOp
 operation_at t place =
     if slice_index_or t.sorts place 0 == 3 then Some (Expire (slice_index_or t.times place 0)) else edge_operation_at t place
 
--- the operations at so many places from one on, in order; none where one of them is none
+-- the operations at so many places from one on
 abbrev pub operations_from : OperationTable → ℕ → ℕ → Option (List NamedOp)
-operations_from t at zero = Some []
-operations_from t at (suc n) = joined (operation_at t at) (operations_from t (at + 1) n)
+operations_from t at n = in_order (operation_at t) at n
 
 -- the first place that isn't in: there are no more operations, or a batch of so many has no room for more
 abbrev pub first_out : OperationTable → ℕ → ℕ → ℕ

@@ -1,8 +1,13 @@
-//! Insertions in columns, in batches. Its clauses say how far a call came; that the insertions that are in are the columns' own,
-//! tests show.
+//! Insertions in columns, in batches.
 
-ghost use Rattle.std.specs.Prelude.{◌≡◌, ◌≢◌, ◌≤◌, length, OnOk, Err};
-ghost use Rattle.desk_columns.specs.Lengths.{AreLong};
+ghost use Rattle.std.specs.Prelude.{◌≡◌, ◌⊎◌, ◌<◌, ◌≤◌, ◌+◌, length, true, List, IfOk, IfErr, OnErr, Some, MatchResult};
+ghost use Rattle.graph_types.specs.Limits.{operation_limit};
+ghost use Rattle.graph_types.specs.declared.batches.NamedOp.{NamedOp};
+ghost use Rattle.graph_version.specs.Batches.{batch_value};
+ghost use Rattle.batch_columns.specs.Dictionaries.{insertion_at, insertions_from, IsInserted};
+ghost use Rattle.desk_counts.specs.Counted.{none_counted};
+ghost use Rattle.desk_columns.specs.Feeding as specs;
+ghost use Rattle.desk_columns.specs.Feeding.{columns_of, batch_length, IsFirstRefused, IsTried, RefusesPart, Takes, Feeds};
 
 use batch_columns::{InsertError, insert_numbers};
 use desk::{Accepted, ApplyError, OwnedDesk};
@@ -41,74 +46,125 @@ pub struct Insertions<'a> {
     pub times: &'a [u64],
 }
 
-/// The insertions from one place to below another, as a batch.
+/// Appends the insertion at a place, or changes nothing.
+fn insert_at(
+    alloc: Global,
+    batch: &mut Batch,
+    insertions: &Insertions<'_>,
+    place: usize,
+) -> Result<(), InsertError>
+    requires within { place < length insertions.now.sources.now }
+    requires alike { specs.are_alike (columns_of insertions.now) ≡ true }
+    ensures { IsInserted (insertion_at (columns_of insertions.now) place) batch.old batch.new result }
+{
+    insert_numbers(
+        alloc,
+        batch,
+        insertions.kind,
+        insertions.text,
+        insertions.ends,
+        insertions.sources[place],
+        insertions.targets[place],
+        insertions.weights[place],
+        insertions.times[place],
+    )
+}
+
+/// So many insertions from a place on, as a batch.
 fn batch_of(
     alloc: Global,
     insertions: &Insertions<'_>,
     from: usize,
-    to: usize,
+    count: usize,
 ) -> Result<Batch, InsertError>
-    requires order { from ≤ to }
-    requires within { to ≤ length insertions.now.sources.now }
-    requires long { AreLong (length insertions.now.sources.now) insertions.now }
+    requires few { count ≤ operation_limit }
+    requires within { from + count ≤ length insertions.now.sources.now }
+    requires alike { specs.are_alike (columns_of insertions.now) ≡ true }
+    ensures batch { IfOk result (λ ops. insertions_from (columns_of insertions.now) from count ≡ Some ops) }
+    ensures refused { IfErr result (IsFirstRefused (columns_of insertions.now) from) }
 {
-    let mut batch = Batch::with_room(alloc, to - from);
-    for place in from..to {
-        insert_numbers(
-            alloc,
-            &mut batch,
-            insertions.kind,
-            insertions.text,
-            insertions.ends,
-            insertions.sources[place],
-            insertions.targets[place],
-            insertions.weights[place],
-            insertions.times[place],
-        )?;
+    let mut batch = Batch::with_room(alloc, count);
+    let mut place = from;
+    while batch.len() < count {
+        match insert_at(alloc, &mut batch, insertions, place) {
+            Ok(()) => place += 1,
+            Err(error) => return Err(error),
+        }
     }
     Ok(batch)
 }
 
-/// Applies a batch, and where too few blocks are free collects and tries once more.
-fn apply_collecting(desk: &mut OwnedDesk, batch: Arc<Batch>) -> Result<Accepted, ApplyError> {
-    let again = Arc::try_clone(&batch)?;
+/// Applies a batch; where too few blocks are free it collects, and tries once more with the same one.
+fn apply_collecting(
+    desk: &mut OwnedDesk,
+    batch: Arc<Batch>,
+    again: Arc<Batch>,
+) -> Result<Accepted, ApplyError>
+    requires { batch_value again ≡ batch_value batch }
+    ensures { IsTried desk.old (batch_value batch) result desk.new }
+{
     match desk.apply(batch) {
+        Ok(accepted) => Ok(accepted),
         Err(ApplyError::PoolEmpty { .. }) => {
             let _collected = desk.collect();
             desk.apply(again)
         }
-        answer => answer,
+        Err(error) => Err(error),
     }
 }
 
-/// Applies the insertions from one place to below another, and counts them.
+/// Applies the insertions of the batch from a place on, and counts them.
+#[tactic(auto, using(crate::proofs::Inserted::taken_of, crate::proofs::Inserted::refused_of))]
 fn insert_part(
     alloc: Global,
     desk: &mut OwnedDesk,
     insertions: &Insertions<'_>,
     from: usize,
-    to: usize,
+    count: usize,
     counts: &mut Counts,
 ) -> Result<(), InsertColumnsError>
-    requires order { from ≤ to }
-    requires within { to ≤ length insertions.now.sources.now }
-    requires long { AreLong (length insertions.now.sources.now) insertions.now }
-    ensures long { result ≢ Err InsertColumnsError.BadLength }
+    requires few { count ≡ batch_length (columns_of insertions.now) from }
+    requires within { from + count ≤ length insertions.now.sources.now }
+    requires alike { specs.are_alike (columns_of insertions.now) ≡ true }
+    ensures taken { IfOk result (λ _. (ops : List NamedOp) × (insertions_from (columns_of insertions.now) from count ≡ Some ops)
+        × Takes desk.old counts.old ops desk.new counts.new) }
+    ensures refused { IfErr result (λ e. RefusesPart (columns_of insertions.now) from desk.old e desk.new) }
+    ensures counts { OnErr result (counts.new ≡ counts.old) }
 {
-    let batch = match batch_of(alloc, insertions, from, to) {
+    let batch = match batch_of(alloc, insertions, from, count) {
         Ok(batch) => batch,
         Err(error) => return Err(InsertColumnsError::BadInsertion(error)),
     };
     let Ok(batch) = Arc::new(alloc, batch) else {
         return Err(InsertColumnsError::OutOfMemory);
     };
-    match apply_collecting(desk, batch) {
+    let Ok(again) = Arc::try_clone(&batch) else {
+        return Err(InsertColumnsError::OutOfMemory);
+    };
+    match apply_collecting(desk, batch, again) {
         Ok(accepted) => {
             *counts = counts.with_all(accepted.number, accepted.outcomes.as_slice());
             Ok(())
         }
         Err(error) => Err(InsertColumnsError::Refused(error)),
     }
+}
+
+/// Whether the columns have one length.
+fn are_alike(insertions: &Insertions<'_>) -> bool
+    ensures { result ≡ specs.are_alike (columns_of insertions.now) }
+{
+    let count = insertions.sources.len();
+    insertions.targets.len() == count
+        && insertions.weights.len() == count
+        && insertions.times.len() == count
+}
+
+/// Nothing is counted yet of a desk.
+fn none_of(desk: &OwnedDesk) -> Counts
+    ensures { result ≡ none_counted (length desk.now.desk.last.batches) }
+{
+    Counts::none(desk.desk().last().number())
 }
 
 /// Applies insertions in batches of 4,096, and collects where too few blocks are free. `done` tells how many were applied, also
@@ -120,23 +176,21 @@ pub fn insert_columns(
     counts: &mut Counts,
     done: &mut u64,
 ) -> Result<(), InsertColumnsError>
-    ensures all { OnOk result ((done.new ≡ length insertions.now.sources.now) × AreLong (length insertions.now.sources.now) insertions.now) }
-    ensures length { result ≡ Err InsertColumnsError.BadLength → AreLong (length insertions.now.sources.now) insertions.now → ⊥ }
+    ensures { Feeds desk.old (columns_of insertions.now) result desk.new counts.new done.new }
 {
-    *counts = Counts::none(desk.desk().last().number());
+    *counts = none_of(desk);
     *done = 0;
-    let count = insertions.sources.len();
-    if insertions.targets.len() != count
-        || insertions.weights.len() != count
-        || insertions.times.len() != count
-    {
+    if !are_alike(insertions) {
         return Err(InsertColumnsError::BadLength);
     }
+    let count = insertions.sources.len();
     let mut at = 0;
     while at < count {
-        let end = at + BATCH.min(count - at);
-        insert_part(alloc, desk, insertions, at, end, counts)?;
-        at = end;
+        let part = BATCH.min(count - at);
+        match insert_part(alloc, desk, insertions, at, part, counts) {
+            Ok(()) => at += part,
+            Err(error) => return Err(error),
+        }
         *done = at as u64;
     }
     Ok(())

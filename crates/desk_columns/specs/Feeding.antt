@@ -1,0 +1,116 @@
+-- Insertions that a desk takes batch after batch, with a collection where too few blocks are free.
+use Rattle.std.specs.Prelude.{◌≡◌, ◌⊎◌, ◌+◌, ◌-◌, ◌==◌, ◌&&◌, ℕ, List, length, count_by, min, Bool, true, false, Some, Result, Ok, Err, OnOk, OnErr, IfOk, IfErr}
+use Rattle.graph_types.specs.{Limits.operation_limit, Step.outcomes, Valid.IsBatch, declared.batches.NamedOp.NamedOp}
+use Rattle.graph_version.specs.Versions.{content}
+use Rattle.block_reclamation.specs.{Status.is_free, declared.copies.PinCopy.PinCopy}
+use Rattle.store_steps.specs.{Boards.raised_board, Desks.IsCollected, Steps.Accepts}
+use Rattle.desk.specs.{Owned.{OwnedView, copied}, Refusals.Refuses, declared.errors.ApplyError.ApplyError, declared.ready.Accepted.Accepted}
+use Rattle.desk.specs.declared.errors.ApplyError.TheVariants.{PoolEmpty}
+use Rattle.batch_columns.specs.Dictionaries.{Insertions, insertion_at, insertions_from, IsInserted}
+use Rattle.batch_columns.specs.declared.columns.InsertError.{InsertError}
+use Rattle.desk_columns.specs.declared.columns.Insertions.{Insertions as Lent}
+use Rattle.desk_columns.specs.declared.columns.InsertColumnsError.{InsertColumnsError}
+use Rattle.desk_columns.specs.declared.columns.InsertColumnsError.TheVariants.{BadLength, BadInsertion, Refused, OutOfMemory}
+use Rattle.desk_counts.specs.declared.counts.Counts.{Counts}
+use Rattle.desk_counts.specs.Counted.{with_outcomes, none_counted}
+
+-- what columns that are lent have
+abbrev pub columns_of : Lent → Insertions
+columns_of lent =
+    record {
+      kind = lent.kind.now;
+      text = lent.text.now;
+      ends = lent.ends.now;
+      sources = lent.sources.now;
+      targets = lent.targets.now;
+      weights = lent.weights.now;
+      times = lent.times.now;
+    }
+
+-- the columns have one length
+abbrev pub are_alike : Insertions → Bool
+are_alike c =
+    (length c.targets == length c.sources) && (length c.weights == length c.sources) && (length c.times == length c.sources)
+
+-- a collection
+pub record Collects (old new : OwnedView) : Type 0 where
+  pub desk : IsCollected old.desk (copied old.desk old.board) new.desk
+  pub board : new.board ≡ raised_board (length old.desk.last.batches) old.board
+  pub held : (new.counts ≡ old.counts) × (new.opening ≡ old.opening)
+
+-- as it was, or collected since fewer blocks were free than the batch asks for
+abbrev pub MayCollect : List NamedOp → OwnedView → OwnedView → Type 0
+MayCollect ops old new =
+    (new ≡ old) ⊎ ((needed left : ℕ) × Refuses old.desk.last (count_by is_free old.desk.pool) ops (PoolEmpty needed left) × Collects old new)
+
+-- a batch is applied to a desk as it is, or refused
+pub record IsApplied (old : OwnedView) (ops : List NamedOp) (answer : Result Accepted ApplyError) (new : OwnedView) : Type 0 where
+  pub held : new ≡ record old { desk = new.desk }
+  pub accepted : OnOk answer (Accepts old.desk ops new.desk)
+  pub number : IfOk answer (λ a. a.number ≡ length new.desk.last.batches)
+  pub outcomes_are : IfOk answer (λ a. a.outcomes ≡ outcomes ops (content old.desk.last))
+  pub refused : IfErr answer (Refuses old.desk.last (count_by is_free old.desk.pool) ops)
+  pub unchanged : OnErr answer (new ≡ old)
+
+-- the same, where the desk has collected before if too few blocks were free
+pub record IsTried (old : OwnedView) (ops : List NamedOp) (answer : Result Accepted ApplyError) (new : OwnedView) : Type 0 where
+  pub from : OwnedView
+  pub collected : MayCollect ops old from
+  pub applied : IsApplied from ops answer new
+
+-- a batch is taken, and counted
+pub record Takes (old : OwnedView) (counts : Counts) (ops : List NamedOp) (new : OwnedView) (counted : Counts) : Type 0 where
+  pub from : OwnedView
+  pub collected : MayCollect ops old from
+  pub accepts : Accepts from.desk ops new.desk
+  pub held : new ≡ record from { desk = new.desk }
+  pub counted_is : counted ≡ with_outcomes counts (length new.desk.last.batches) (outcomes ops (content from.desk.last))
+
+-- a batch is refused, and no more than a collection was done for it
+abbrev pub RefusesBatch : OwnedView → List NamedOp → ApplyError → OwnedView → Type 0
+RefusesBatch old ops error new =
+    MayCollect ops old new × Refuses new.desk.last (count_by is_free new.desk.pool) ops error
+
+-- of the insertions from a place on, the first that is refused
+pub record IsFirstRefused (c : Insertions) (at : ℕ) (error : InsertError) : Type 0 where
+  pub before : List NamedOp
+  pub fit : insertions_from c at (length before) ≡ Some before
+  pub valid : IsBatch before
+  pub refused : IsInserted (insertion_at c (at + length before)) before before (Err error)
+
+-- how many insertions from a place on are a batch
+abbrev pub batch_length : Insertions → ℕ → ℕ
+batch_length c at = min operation_limit (length c.sources - at)
+
+-- the insertions before a place are in, batch after batch from the first on, and counted
+pub data AreIn (first : OwnedView) (start : Counts) (c : Insertions) : ℕ → OwnedView → Counts → Type 0 where
+  Begin : AreIn first start c 0 first start
+  More : (at : ℕ) (old new : OwnedView) (counts counted : Counts) (ops : List NamedOp) → AreIn first start c at old counts
+      → insertions_from c at (batch_length c at) ≡ Some ops → Takes old counts ops new counted
+      → AreIn first start c (at + batch_length c at) new counted
+
+-- why the batch of insertions from a place on isn't in, and what it left
+abbrev pub RefusesPart : Insertions → ℕ → OwnedView → InsertColumnsError → OwnedView → Type 0
+RefusesPart c at old BadLength new = ⊥
+RefusesPart c at old (BadInsertion error) new = IsFirstRefused c at error × (new ≡ old)
+RefusesPart c at old (Refused error) new =
+    (ops : List NamedOp) × (insertions_from c at (batch_length c at) ≡ Some ops) × RefusesBatch old ops error new
+RefusesPart c at old OutOfMemory new = new ≡ old
+
+-- the same of the whole, of which the insertions before a place are in
+abbrev pub RefusesRest : Insertions → ℕ → OwnedView → InsertColumnsError → OwnedView → Type 0
+RefusesRest c done old BadLength new = (are_alike c ≡ false) × (done ≡ 0) × (new ≡ old)
+RefusesRest c done old (BadInsertion error) new = (are_alike c ≡ true) × RefusesPart c done old (BadInsertion error) new
+RefusesRest c done old (Refused error) new = (are_alike c ≡ true) × RefusesPart c done old (Refused error) new
+RefusesRest c done old OutOfMemory new = (are_alike c ≡ true) × RefusesPart c done old OutOfMemory new
+
+abbrev pub Ends : Insertions → ℕ → OwnedView → Result (Unit {0}) InsertColumnsError → OwnedView → Type 0
+Ends c done old (Ok _) new = (are_alike c ≡ true) × (done ≡ length c.sources) × (new ≡ old)
+Ends c done old (Err error) new = RefusesRest c done old error new
+
+-- what a call with columns comes to: those before a place are in and counted, and that is all of them, or the rest is refused
+pub record Feeds (old : OwnedView) (c : Insertions) (answer : Result (Unit {0}) InsertColumnsError) (new : OwnedView) (counts : Counts)
+    (done : ℕ) : Type 0 where
+  pub fed : OwnedView
+  pub are_in : AreIn old (none_counted (length old.desk.last.batches)) c done fed counts
+  pub ends : Ends c done fed answer new
