@@ -6,7 +6,7 @@ import warnings
 from datetime import datetime
 from decimal import Decimal
 from types import TracebackType
-from typing import TYPE_CHECKING, Any, Dict, Generic, List, Literal, Optional, Type, Union, overload
+from typing import TYPE_CHECKING, Any, Callable, Dict, Generic, List, Literal, Optional, Type, TypeVar, Union, overload
 
 from .engine.finding import Path
 from .engine.guard import put
@@ -27,6 +27,7 @@ if TYPE_CHECKING:
     from .feeds.loading import Loaded
 
 R = TypeVar("R")
+
 
 class Store(Generic[W, T]):
     """A graph that changes by batches; sessions hold versions of it.
