@@ -112,7 +112,7 @@ class Ledger:
         said = Units(mine.weight_scale if weight_scale is None else weight_scale, times or mine.times, mine.decimals,
                      mine.rounding)
         self.must_agree(said)
-        return Terms(self.terms.names, said)
+        return Terms(self.terms.names, said, self.terms.right)
 
     def must_agree(self, units: Units) -> None:
         if self.units_are_set and not units.same_as(self.terms.units):

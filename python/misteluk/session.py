@@ -73,8 +73,8 @@ class Session(Generic[W, T]):
     def _scope(self, call: str, kind: Optional[str], since: Moment, until: Moment, *names: str) -> "Tuple[Scope, str]":
         """Which edges count, and the call as it was made. Raises where a name is none, the kind none, or the window no window."""
         self.must_be_open()
-        if kind is None and since == 0 and until == records.MOST_TIME and self._terms.right.issuperset(names):
-            return Scope(), called(call, *names)
+        if since == 0 and until == records.MOST_TIME and self._terms.knows(names if kind is None else (*names, kind)):
+            return Scope(kind), called(call, *names) if kind is None else called(call, *names, kind=kind)
         must_be_texts((*names, kind or records.ANY))
         said = (("kind", kind, None), ("since", since, 0), ("until", until, records.MOST_TIME))
         told = called(call, *names, **{name: it for name, it, usual in said if str(it) != str(usual)})
@@ -159,8 +159,7 @@ class Session(Generic[W, T]):
     def _ends(self, ends: Ends) -> Ends:
         """An edge's ends in the engine's terms. Raises where one of them is no name."""
         kind, source, target = ends
-        right = self._terms.right
-        if kind not in right or source not in right or target not in right:
+        if not self._terms.knows(ends):
             must_be_texts(ends)
             asked = ("edge", "0", *ends)
             for fault in self._terms.faults_of(asked):

@@ -26,11 +26,11 @@ class Terms:
     """A table of names and units, and what records say in them. A record's fields are the user's texts on one side, and the
     program's on the other."""
 
-    def __init__(self, names: Optional[NameTable] = None, units: Units = PLAIN) -> None:
+    def __init__(self, names: Optional[NameTable] = None, units: Units = PLAIN, right: Optional[Set[str]] = None) -> None:
         self.names = NameTable() if names is None else names
         self.units = units.checked()
         # Names, and kinds, that are the engine's as they stand, as far as they were looked at.
-        self.right: Set[str] = set()
+        self.right: Set[str] = set() if right is None else right
 
     @staticmethod
     def has_no_id(text: str) -> bool:
@@ -115,6 +115,10 @@ class Terms:
             self.right.clear()
         self.right.update(new)
         return True
+
+    def knows(self, names: Collection[str]) -> bool:
+        """Whether names, or kinds, are the engine's as they stand, whoever asks first."""
+        return self.right.issuperset(names) or all(isinstance(it, str) for it in names) and self.are_as_they_are(names)
 
     def _name_of(self, text: str, is_kind: bool) -> str:
         if is_kind and text == records.ANY or text_reason(text):
