@@ -81,7 +81,7 @@ class Page(ServeCase):
         browser = self.open()
         browser.see("document.getElementById('vertex').value = 'nobody'; document.getElementById('look').requestSubmit()")
         told = browser.wait_for("!document.getElementById('fault').hidden && document.getElementById('fault').textContent")
-        self.assertIn("nobody", told)
+        self.assertIn("no vertex of this name", told)
 
     def test_a_token(self):
         self.serve(token="open-sesame")

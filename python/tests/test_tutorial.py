@@ -54,6 +54,8 @@ class Documents(Case):
                 before += f"{command}\n"
                 continue
             names = "|".join(["misteluk", "stinger drive", "head", *re.findall(r"(?m)^(\w+)\(\) \{", before)])
+            if command.endswith("&") or command.startswith("curl"):  # (test_serve_docs.py runs these)
+                continue
             if " picture " in command and not optional("matplotlib") or not re.search(rf"\b({names})\b", command):
                 continue
             run = subprocess.run(before + command, shell=True, executable="/bin/bash", cwd=self.room, env=self.env,

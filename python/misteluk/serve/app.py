@@ -26,6 +26,9 @@ from ..errors import Busy, NoKind, NoMemory, NoVertex, PoolEmpty, Refused, Sessi
 from ..values.units import whole_text
 
 QUICK_THREADS = 4
+# What is told of names that a version doesn't have.
+REASONS = {"NoVertex": "the version has no vertex of this name; a later one may",
+           "NoKind": "the version has no edge of this kind, and never had; a later one may"}
 # What batches are refused for that were right.
 NO_ROOM = ("PoolEmpty", "NamesFull", "KindsFull", "BatchLimit")
 
@@ -268,7 +271,8 @@ def told_fault(fault: Exception) -> Response:
     more: Dict[str, Any] = {"denied": True} if isinstance(fault, Denied) else {}
     if isinstance(fault, Denied) and fault.stat is not None:
         more["stat"] = fault.stat._asdict()
-    return _json(wire.fault(word, fault.told if isinstance(fault, Refused) else str(fault), **more), status)
+    told = REASONS.get(word) or (fault.told if isinstance(fault, Refused) else str(fault))
+    return _json(wire.fault(word, told, **more), status)
 
 
 def _status(fault: Exception) -> Tuple[int, str]:

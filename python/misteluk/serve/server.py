@@ -105,7 +105,7 @@ class Server:
                  limits: Limits = Limits()) -> None:
         address = Address.of(listen)
         if token is None and not address.is_of_here:
-            raise ValueError(f"{listen} can be reached from other machines: that wants a token (--token-file, or MISTELUK_TOKEN)")
+            raise ValueError(f"{listen} can be reached from other machines: that wants a token (--token-file)")
         if token is not None and (len(token) < 8 or not token.isascii() or not token.isprintable() or " " in token):
             raise ValueError("a token has at least 8 printable ASCII signs, and no space")
         if store.engine.name != "library":
@@ -128,7 +128,8 @@ class Server:
         from .gate import Gate
         api = Api(self.board, self.feeding, self.limits)
         gate = Gate(api.app(), token, bool(self.address.path))
-        config = uvicorn.Config(gate, log_level="critical", access_log=False, lifespan="off", server_header=False, proxy_headers=False,
+        config = uvicorn.Config(gate, log_level="critical", access_log=False, lifespan="off", server_header=False,
+                                proxy_headers=False,
                                 limit_concurrency=self.limits.clients + CONNECTIONS, timeout_keep_alive=int(self.limits.idle) + 5)
         return uvicorn.Server(config), api
 

@@ -1,0 +1,101 @@
+"""docs/SERVE.md: its commands and its conversation print what the page shows, each in its order, by a server of a free port."""
+import doctest
+import io
+import json
+import os
+import re
+import shutil
+import signal
+import socket
+import subprocess
+import sys
+import unittest
+import urllib.request
+from contextlib import redirect_stdout
+
+from serving import ServeCase
+from support import HERE, TOP, as_soon_as
+from test_tutorial import is_like
+
+PAGE = TOP / "docs/SERVE.md"
+
+
+def commands(text):
+    """Each command of an indented block, which a line may go on with `>`, and the lines that it is to print."""
+    for block in re.findall(r"(?m)(?:^    .*\n)+", text):
+        for it in re.split(r"(?m)^    \$ ", block)[1:]:
+            lines = [line[4:] for line in ("    " + it).splitlines()]
+            count = next((at for at, line in enumerate(lines[1:], 1) if not line.startswith("> ")), len(lines))
+            yield "\n".join(line.removeprefix("> ") for line in lines[:count]), "\n".join(lines[count:])
+
+
+@unittest.skipUnless(shutil.which("curl"), "curl is not there")
+class Page(ServeCase):
+    def setUp(self):
+        super().setUp()
+        with socket.socket() as free:
+            free.bind(("127.0.0.1", 0))
+            self.port = free.getsockname()[1]
+        self.text = PAGE.read_text(encoding="utf-8").replace("7700", str(self.port))
+        (self.room / "python3").symlink_to(sys.executable)
+        self.shell = subprocess.Popen(["/bin/bash"], stdin=subprocess.PIPE, stdout=subprocess.PIPE, stderr=subprocess.STDOUT,
+                                      text=True, cwd=self.room, start_new_session=True,
+                                      env={**os.environ, "PATH": f"{self.room}:{os.environ['PATH']}",
+                                           "PYTHONPATH": str(HERE.parent)})
+        self.addCleanup(self.end)
+
+    def end(self):
+        os.killpg(self.shell.pid, signal.SIGTERM)
+        self.shell.communicate(timeout=60)
+
+    def typed(self, command, count):
+        """What a command prints; one that goes on in the background has printed so many lines."""
+        if command.endswith("&"):
+            self.shell.stdin.write(f"{command[:-1]} --listen 127.0.0.1:{self.port} &\n")
+            self.shell.stdin.flush()
+            return "".join(self.shell.stdout.readline() for _ in range(count))
+        self.shell.stdin.write(f"{command}\necho; echo that was it\n")
+        self.shell.stdin.flush()
+        return "".join(iter(self.shell.stdout.readline, "that was it\n"))
+
+    def test_the_page(self):
+        found = list(commands(self.text))
+        for command, wanted in found:
+            told = self.typed(command, wanted.count("\n") + 1).strip("\n")
+            self.assertTrue(is_like(told, wanted), f"\n$ {command}\nprinted\n{told}\nand not\n{wanted}")
+        self.assertGreater(len(found), 6)
+        page = doctest.DocTestParser().get_doctest(self.text, {}, PAGE.name, str(PAGE), 0)
+        said = io.StringIO()
+        with redirect_stdout(said):
+            failed, tried = doctest.DocTestRunner(optionflags=doctest.ELLIPSIS).run(page)
+        self.assertEqual(failed, 0, said.getvalue())
+        self.assertGreater(tried, 5)
+
+    def test_the_tutorial_s_part(self):
+        """Its last version is asked for, which is there when all rows are in."""
+        (self.room / "examples").symlink_to(TOP / "examples")
+        text = (TOP / "docs/TUTORIAL.md").read_text(encoding="utf-8")
+        part = text.partition("### Several who look\n")[2].partition("\n## ")[0].replace("7700", str(self.port))
+        self.typed(re.findall(r"(?m)^    \$ (shipments\(\) .*)$", text)[0], 0)
+        (begin, wanted), *others = commands(part)
+        self.assertEqual(self.typed(begin, 1).strip("\n"), wanted)
+        url = f"http://127.0.0.1:{self.port}"
+        as_soon_as(lambda: json.load(urllib.request.urlopen(f"{url}/v1/stat"))["feed"]["state"] == "ended")
+        for command, wanted in others:
+            self.assertEqual(self.typed(command, 1).strip("\n"), wanted)
+        self.assertEqual(len(others), 2)
+
+    def test_what_it_tells_of(self):
+        """The questions and options of its tables are those that there are."""
+        from misteluk.command.options import make_parser
+        from misteluk.serve.questions import QUESTIONS
+        part = self.text.partition("## Questions")[2].partition("\n## ")[0]
+        told = {it for row in re.findall(r"(?m)^\| ((?:`\w+`(?:, )?)+) \|", part) for it in re.findall(r"\w+", row)}
+        self.assertEqual(told, {it.name for it in QUESTIONS} | {"stat"})
+        commands_of = next(it for it in make_parser()._actions if it.choices).choices
+        options = {name for it in commands_of["serve"]._actions for name in it.option_strings}
+        self.assertLessEqual(set(re.findall(r"`(--[\w-]+)", self.text)), options)
+
+
+if __name__ == "__main__":
+    unittest.main()
