@@ -98,7 +98,8 @@ class ServedFlight:
     """A batch on its way to a server, by its number: the server applies it once, however often it is sent."""
 
     def __init__(self, batch: Operations, collect: bool) -> None:
-        self.batch, self.collect, self.cut = batch, collect, []  # type: Operations, bool, List[None]
+        self.batch, self.collect = batch, collect
+        self.cut: List[None] = []
         self.feeder, self.number = "", 0
 
 
@@ -269,7 +270,6 @@ class Connected(Session[Any, Any]):
 
     def close(self) -> None:
         super().close()
-        self.store.discard()
         self.store.close()
 
 

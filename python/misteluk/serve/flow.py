@@ -58,6 +58,7 @@ class Pool:
             async with within(self._limits.time, f"the answer takes longer than {self._limits.time:g} s"):
                 return await asyncio.shield(asyncio.wrap_future(made))
         except (Full, asyncio.CancelledError):
+            made.cancel()  # (one that waits still isn't made)
             made.add_done_callback(lambda it: undo(it.result()) if undo and not it.cancelled() and not it.exception() else None)
             raise
         finally:

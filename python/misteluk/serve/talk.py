@@ -85,9 +85,9 @@ class Talk:
             connection.close()
             if not is_old:
                 raise NoServer(f"{self.url} doesn't answer: {fault or type(fault).__name__}") from fault
-            self._idle.clear()
+            self.close()
             return self.ask(method, path, body)
-        except TimeoutError as fault:
+        except socket.timeout as fault:
             connection.close()
             raise NoAnswer(f"{self.url} was silent for {self.timeout:g} s") from fault
         except OSError as fault:
