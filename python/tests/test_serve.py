@@ -4,6 +4,7 @@ import json
 import socket
 import threading
 import unittest
+from unittest import mock
 
 from serving import FEED, ServeCase
 from support import as_soon_as
@@ -160,6 +161,31 @@ class Feeds(ServeCase):
         self.assertEqual(self.post(f"/v1/feeder/{seat}/batches/2", {"operations": "a,k,x,y,5,1\n"}).status, 410)
         self.assertEqual(self.ask(f"/v1/feeder/{seat}/batches/2", "DELETE").json["receipt"], None)
         self.assertEqual(self.rows_of("/v1/edges")[0][3], 5)
+
+    def test_a_batch_whose_answer_is_lost_is_in(self):
+        """What goes wrong behind a batch doesn't make it go in twice."""
+        self.serve()
+        seat, real = self.post("/v1/feeder").json["feeder"], self.server.board.advance
+        with mock.patch.object(self.server.board, "advance", side_effect=misteluk.NoMemory("none")):
+            self.assertEqual(self.post(f"/v1/feeder/{seat}/batches/1", {"operations": "a,k,x,y,5,1\n"}).status, 503)
+        self.assertEqual(self.post(f"/v1/feeder/{seat}/batches/1", {"operations": "a,k,x,y,5,1\n"}).json["version"], 1)
+        real()
+        self.assertEqual(self.rows_of("/v1/edges")[0][3], 5)
+
+    def test_no_room(self):
+        """What is in of a long post is told, and the store goes on."""
+        self.serve(blocks=64)
+        rows = [["insert", "k", f"s{it}", "t", 1, 1] for it in range(60)]
+        self.assertEqual(self.post("/v1/rows", {"rows": rows}).status, 200)
+        found = self.post("/v1/rows", {"rows": [["insert", "k", f"new{it}", "t", 1, 1] for it in range(60)]})
+        self.assertEqual((found.status, found.json["error"]), (409, "PoolEmpty"))
+        with Served(self.server.url) as store:
+            store.insert("k", "s1", "u", 1, 1)
+            self.assertEqual(store.commit().version, 2)
+            for it in range(60):
+                store.insert("k", f"new{it}", "t", 1, 1)
+            self.assertRaisesRegex(misteluk.PoolEmpty, "the batch needs 60 free blocks", store.commit)
+            self.assertEqual(store.discard(), 60)
 
     def test_no_client_changes_what_a_name_is(self):
         """A text for an id that isn't its own is refused, and so is a record that is no operation."""

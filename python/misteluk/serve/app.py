@@ -63,7 +63,9 @@ class Api:
         told = [Route("/v1/stat", call(self.stat), methods=["GET"]),
                 Route("/openapi.json", call(self.description), methods=["GET"])]
         # (routes are looked through in order: those that are asked most come first)
-        return Starlette(routes=[*held, *asked, *told, *fed, *files], exception_handlers={HTTPException: _no_route})
+        app = Starlette(routes=[*held, *asked, *told, *fed, *files], exception_handlers={HTTPException: _no_route})
+        app.router.redirect_slashes = False
+        return app
 
     def close(self) -> None:
         for it in (self.quick, self.slow, self.feed):

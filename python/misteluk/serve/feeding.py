@@ -21,6 +21,8 @@ from ..values.names import is_plain
 
 # What a client calls an operation, and the command of its record.
 COMMANDS = {"insert": "i", "add": "a", "remove": "r", "expire": "x"}
+# Behind how many operations a store begins anew: it remembers each of them until then. Of many edges, so many times as they are.
+RENEWED, TIMES_EDGES = 1_000_000, 8
 # Over how many seconds the feed's rate is told.
 RATED = 10.0
 
@@ -60,6 +62,7 @@ class Feeding:
     def __init__(self, board: Board, limits: Limits, clock: Callable[[], float] = time.monotonic) -> None:
         self.board, self.store, self.limits, self._clock = board, board.store, limits, clock
         self.rate = Rate(clock)
+        self._remembered = 0
         self.state, self.fault = "open", ""
         self._lock = threading.RLock()
         self._feeder: Optional[Feeder] = None
@@ -78,7 +81,7 @@ class Feeding:
         before = 0
         try:
             for step in following:
-                self.rate.add(step.rows - before)
+                self._count(step.rows - before)
                 before = step.rows
                 self.board.advance()
             self.state = "ended"
@@ -124,9 +127,10 @@ class Feeding:
         with self._lock:
             feeder = self._known(name)
             if feeder.number != number:
-                self._take_texts(texts)
                 operations = checked_operations(text)
+                self._take_texts(texts)
                 feeder.receipt, feeder.number = self._apply(operations, collect), number
+                self.board.advance()
             if feeder.receipt is None:
                 raise SessionClosed(f"batch {number} was given up")
             return feeder.receipt
@@ -151,9 +155,16 @@ class Feeding:
     def _apply(self, operations: Operations, collect: bool) -> Commit:
         engine = self.store.engine
         receipt = engine.fly(engine.flight(operations, collect)).commit
-        self.rate.add(operations.size)
-        self.board.advance()
+        self._count(operations.size)
         return receipt
+
+    def _count(self, operations: int) -> None:
+        """Counts operations that went in, and has the store begin anew where it remembers many."""
+        self.rate.add(operations)
+        self._remembered += operations
+        if self._remembered > max(RENEWED, TIMES_EDGES * self.board.stat.edges):
+            self._remembered = 0
+            self.store.renew()
 
     # Rows in the user's terms.
 
@@ -167,14 +178,20 @@ class Feeding:
                 self._known(name)
             if not rows:
                 raise ValueError("there are no rows")
-            done: List[Commit] = []
-            for part in parts_of(self._records(rows), records.MOST_OPERATIONS):
-                try:
-                    done.append(self._apply(Operations("".join(part).encode("ascii"), len(part)), True))
-                except Denied as fault:
-                    first = len(done) * records.MOST_OPERATIONS + 1
-                    raise refusal(fault.word, f"the rows before row {first} are in, and none behind it") from None
-            return sum_of(done)
+            try:
+                return self._in_batches(self._records(rows))
+            finally:
+                self.board.advance()
+
+    def _in_batches(self, found: Sequence[str]) -> Commit:
+        done: List[Commit] = []
+        for part in parts_of(found, records.MOST_OPERATIONS):
+            try:
+                done.append(self._apply(Operations("".join(part).encode("ascii"), len(part)), True))
+            except Denied as fault:
+                first = len(done) * records.MOST_OPERATIONS + 1
+                raise refusal(fault.word, f"the rows before row {first} are in, and none behind it") from None
+        return sum_of(done)
 
     def _records(self, rows: Sequence[Sequence[str]]) -> List[str]:
         """The records of rows. Raises a `Refused` for the first row that is none; no name is kept then."""
