@@ -9,9 +9,10 @@ import sys
 import threading
 import unittest
 from contextlib import redirect_stderr
+from unittest import mock
 
-from serving import FEED, HAS_PACKAGES, ServeCase
-from support import HERE, Case, as_soon_as
+from serving import FEED, OF_LIBRARY, ServeCase
+from support import ENGINE, HERE, Case, as_soon_as
 
 import misteluk
 from misteluk import Edge, NoSeat, NoServer, NotAllowed, Served, SessionClosed, connect
@@ -238,11 +239,14 @@ class Commands(ServeCase):
 
 
 class Packages(Case):
-    @unittest.skipIf(HAS_PACKAGES, "starlette and uvicorn are there")
+    @unittest.skipUnless(ENGINE == "library", OF_LIBRARY)
     def test_without_them(self):
-        from misteluk.serve.server import Server as Bare
-        with misteluk.Store() as store:
-            self.assertRaisesRegex(misteluk.Missing, "a server needs (starlette|uvicorn)", Bare, store, "127.0.0.1:0")
+        """What is missing is asked for by its name, and a socket is left free."""
+        path = self.room / "socket"
+        with misteluk.Store() as store, mock.patch.dict(sys.modules, {"uvicorn": None}):
+            self.assertRaisesRegex(misteluk.Missing, "a server needs uvicorn: apt-get install python3-uvicorn", Server, store,
+                                   f"unix:{path}")
+        self.assertFalse(path.exists())
 
 
 if __name__ == "__main__":
