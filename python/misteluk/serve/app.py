@@ -26,6 +26,8 @@ from ..errors import Busy, NoKind, NoMemory, NoVertex, PoolEmpty, Refused, Sessi
 from ..values.units import whole_text
 
 QUICK_THREADS = 4
+# How many edges are a few that are asked for by their names.
+FEW = 64
 # What is told of names that a version doesn't have.
 REASONS = {"NoVertex": "the version has no vertex of this name; a later one may",
            "NoKind": "the version has no edge of this kind, and never had; a later one may"}
@@ -44,6 +46,8 @@ class Api:
         self.board, self.feeding, self.limits = board, feeding, limits
         self.store = board.store
         self.quick = Pool(QUICK_THREADS, limits, "quick")
+        # (to let a version go waits for a batch that is being applied)
+        self.held = Pool(QUICK_THREADS, limits, "held")
         self.slow = Pool(limits.questions, limits, "whole")
         self.feed = Pool(1, limits, "rows")
 
@@ -68,7 +72,7 @@ class Api:
         return app
 
     def close(self) -> None:
-        for it in (self.quick, self.slow, self.feed):
+        for it in (self.quick, self.held, self.slow, self.feed):
             it.close()
 
     def _call(self, handle: Callable[[Request], Any]) -> Callable[[Request], Any]:
@@ -134,15 +138,15 @@ class Api:
 
     async def hold(self, request: Request) -> Response:
         version = HELD[1].read(request.query_params["version"]) if "version" in request.query_params else None
-        lease = await self.quick.run(lambda: self.board.lease(version), lambda it: self.board.let_go(it.name))
+        lease = await self.held.run(lambda: self.board.lease(version), lambda it: self.board.let_go(it.name))
         return _json(_lease(lease, self.limits), 201)
 
     async def keep(self, request: Request) -> Response:
-        lease = await self.quick.run(lambda: self.board.keep(request.path_params["session"]))
+        lease = await self.held.run(lambda: self.board.keep(request.path_params["session"]))
         return _json(_lease(lease, self.limits))
 
     async def let_go(self, request: Request) -> Response:
-        await self.quick.run(lambda: self.board.let_go(request.path_params["session"]))
+        await self.held.run(lambda: self.board.let_go(request.path_params["session"]))
         return Response(status_code=204)
 
     async def ask(self, request: Request) -> Any:
@@ -153,7 +157,8 @@ class Api:
         def parts() -> Iterator[bytes]:
             with self.board.lent(name) as session:
                 yield from wire.asked(session.held, str(call), asked, self.store.ledger.terms.names)
-        return await self._answered(parts, wire.COLUMNS, call in ("found", "out_of"))
+        is_quick = call == "out_of" or call == "found" and len(asked.get("ends") or ()) <= FEW
+        return await self._answered(parts, wire.COLUMNS, is_quick)
 
     # The feed.
 

@@ -176,8 +176,9 @@ class Board:
 
     @contextmanager
     def lent(self, name: Optional[str] = None, version: Optional[int] = None) -> "Iterator[Session[Any, Any]]":
-        """The session of a client, or that of a version, or of the last one, for as long as a question takes."""
-        with self._locked():
+        """The session of a client, or that of a version, or of the last one, for as long as a question takes. What it lets go
+        others close: the next commit, or `sweep`."""
+        with self._lock:
             lease = None if name is None else self._known(name)
             shared = self._find(version) if lease is None else lease.shared
             shared.asked += 1
@@ -186,7 +187,7 @@ class Board:
         try:
             yield shared.session
         finally:
-            with self._locked():
+            with self._lock:
                 shared.asked -= 1
                 if lease is not None:
                     lease.asked, lease.heard = lease.asked - 1, self._clock()
