@@ -1,10 +1,9 @@
 """A store beside a model of it: random operations, loads, expiries, held sessions and rebases."""
 import random
 
-import support  # noqa: F401  (it finds the package)
+from support import ENGINE, SERVED
 
 from misteluk import Edge, Store
-
 from misteluk.values import records
 
 # Names that go as they are, that need quotes in a record, and that go as ids.
@@ -96,7 +95,7 @@ class Play:
             self.held.append((self.store.open(), self.now.copy()))
         elif chance < 0.7 and self.held:
             self.held.pop(self.random.randrange(len(self.held)))[0].close()
-        elif chance < 0.75 and self.held and not self.orderly:
+        elif chance < 0.75 and self.held and not self.orderly and ENGINE != SERVED:  # (a server alone does so)
             session, graph = self.random.choice(self.held)
             self.store.rebase(session)
             self.now, self.held = graph.copy(), []

@@ -19,7 +19,7 @@ from misteluk.serve.talk import Talk
 
 # Tests of what a server's clients can't do, as to begin a store anew, or do otherwise: its seats are the server's.
 NOT_SERVED = ("Stores.test_a_store_begins_anew", "Stores.test_arguments", "Stores.test_collect", "Stores.test_seats",
-              "Stores.test_operations", "Walks.test_answers_are_those_of_the_model")
+              "Stores.test_operations")
 
 
 class Own(ServedEngine):
