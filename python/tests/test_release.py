@@ -104,7 +104,7 @@ class Pages(Case):
 
     def test_completion_of_the_client_for_bash(self):
         """Files are offered by bash itself, where there is no word."""
-        self.complete("load fleet restore follow lint doctor picture -h --help -V --version", "", name="misteluk")
+        self.complete("load fleet restore follow serve lint doctor picture -h --help -V --version", "", name="misteluk")
         self.complete("--dry-run", "load", "file.csv", "--dr", name="misteluk")
         self.complete("degrees components cores edges levels into out_of neighbors within path edge", "load", "file.csv", "--ask",
                       "", name="misteluk")

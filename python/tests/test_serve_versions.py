@@ -44,15 +44,17 @@ class Versions(Case):
             leases.append(self.board.lease())
             self.clock.now += 1
             self.advance()
+        self.board.lease(0)  # (so that version 1 is the first one that all its clients may let go)
         with self.assertRaises(Full) as told:
             self.board.lease()
-        self.assertEqual((told.exception.word, told.exception.after, len(self.told())), ("NoSeat", 44, 16))
-        self.clock.now += 43.5
+        self.assertEqual((told.exception.word, told.exception.after, len(self.told())), ("NoSeat", 45, 16))
+        self.clock.now += 44.5
         self.assertRaises(Full, self.board.lease)
         self.clock.now += 0.5
         self.assertEqual(self.board.lease().shared.version, 16)
         self.assertRaisesRegex(SessionClosed, "silent for 60 s", self.board.keep, leases[0].name)
-        self.assertEqual(self.board.keep(leases[1].name).shared.version, 1)
+        self.assertEqual([it.version for it in self.board.held()], [0, *range(2, 17)])
+        self.assertEqual(self.board.keep(leases[2].name).shared.version, 2)
 
     def test_who_asks_isn_t_silent(self):
         lease = self.board.lease()

@@ -5,7 +5,7 @@ import asyncio
 import threading
 from concurrent.futures import Future, ThreadPoolExecutor
 from contextlib import asynccontextmanager
-from typing import Any, AsyncIterator, Awaitable, Callable, Dict, Iterator, List, MutableMapping, Optional, Tuple, TypeVar
+from typing import Any, AsyncIterator, Awaitable, Callable, Iterator, List, MutableMapping, Optional, Tuple, TypeVar
 
 from .board import Full
 from .limits import BYTES_AT_ONCE, Limits
@@ -56,9 +56,8 @@ class Pool:
         made: "Future[R]" = self._pool.submit(call)
         try:
             async with within(self._limits.time, f"the answer takes longer than {self._limits.time:g} s"):
-                return await asyncio.shield(asyncio.wrap_future(made))
-        except (Full, asyncio.CancelledError):
-            made.cancel()  # (one that waits still isn't made)
+                return await asyncio.wrap_future(made)
+        except (Full, asyncio.CancelledError):  # (one that waits still isn't made any more)
             made.add_done_callback(lambda it: undo(it.result()) if undo and not it.cancelled() and not it.exception() else None)
             raise
         finally:
@@ -133,9 +132,3 @@ def first_of(parts: Callable[[], Iterator[bytes]]) -> "Tuple[Flow, bytes, bool]"
         flow.close()
         raise
     return flow, first, is_more
-
-
-def header(scope: Any, name: bytes) -> str:
-    """A header's text, or none."""
-    found: Dict[bytes, bytes] = dict(scope["headers"])
-    return found.get(name, b"").decode("latin-1")

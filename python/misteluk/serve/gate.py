@@ -9,7 +9,7 @@ from typing import Any, Awaitable, Callable, Dict, Optional
 from urllib.parse import urlsplit
 
 from . import wire
-from .flow import Message, Receive, Send, header
+from .flow import Message, Receive, Send
 
 App = Callable[[Any, Receive, Send], Awaitable[None]]
 # What has no data, so that a browser can ask for the token by it.
@@ -56,8 +56,12 @@ class Gate:
 
     def _refused(self, scope: Any) -> "Optional[tuple[int, Dict[str, Any]]]":
         """The status and what is told where a request isn't let in."""
-        host, origin = header(scope, b"host"), header(scope, b"origin")
-        is_elsewhere = header(scope, b"sec-fetch-site") in ("cross-site", "same-site") and scope["path"] not in OPEN
+        headers: Dict[bytes, bytes] = dict(scope["headers"])
+
+        def told(name: bytes) -> str:
+            return headers.get(name, b"").decode("latin-1")
+        host, origin = told(b"host"), told(b"origin")
+        is_elsewhere = told(b"sec-fetch-site") in ("cross-site", "same-site") and scope["path"] not in OPEN
         if is_elsewhere or origin and urlsplit(origin).netloc != host:
             return 403, wire.fault("NotAllowed", "a page of another origin can't ask this server")
         if self._token is None:
@@ -66,7 +70,7 @@ class Gate:
             return None
         if scope["path"] in OPEN:
             return None
-        way, _, given = header(scope, b"authorization").partition(" ")
+        way, _, given = told(b"authorization").partition(" ")
         is_right = hmac.compare_digest(given.strip().encode("utf-8"), self._token.encode("utf-8"))
         if way.casefold() == "bearer" and is_right:
             return None
