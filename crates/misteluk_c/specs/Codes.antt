@@ -2,6 +2,10 @@
 use Rattle.std.specs.Prelude.{ℕ, Result, Ok, Err}
 use Rattle.graph_types.specs.declared.batches.PushError.{PushError}
 use Rattle.graph_types.specs.declared.batches.PushError.TheVariants as push
+use Rattle.batch_columns.specs.declared.columns.InsertError.{InsertError}
+use Rattle.batch_columns.specs.declared.columns.InsertError.TheVariants as insertion
+use Rattle.batch_columns.specs.declared.operations.OperationsError.{OperationsError}
+use Rattle.batch_columns.specs.declared.operations.OperationsError.TheVariants as operations
 use Rattle.version_columns.specs.declared.views.ColumnError.{ColumnError}
 use Rattle.version_columns.specs.declared.views.ColumnError.TheVariants as column
 use Rattle.version_columns.specs.declared.names.TextError.{TextError}
@@ -27,6 +31,17 @@ push_code (Err push.BadWeight) = 6
 push_code (Err push.BadTime) = 7
 push_code (Err push.BatchFull) = 10
 push_code (Err push.OutOfMemory) = 1
+
+-- what an operation of columns is told by
+abbrev pub insert_code : InsertError → ℕ
+insert_code insertion.BadNumber = 8
+insert_code (insertion.Refused error) = push_code (Err error)
+
+-- what operations in columns that aren't appended are told by
+abbrev pub operations_code : OperationsError → ℕ
+operations_code operations.BadLength = 4
+operations_code (operations.Refused error) = insert_code error
+operations_code operations.OutOfMemory = 1
 
 -- what names are told by, where there are too few of them
 abbrev pub names_code : ℕ → Result (Unit {0}) TextError → ℕ

@@ -2,3 +2,4 @@ pub mod Codes
 pub mod Held
 pub mod Desks
 pub mod Opening
+pub mod Columns

@@ -1,5 +1,10 @@
 //! Operations in columns.
 
+ghost use Rattle.std.specs.Prelude.{◌≡◌, Some, None};
+ghost use Rattle.batch_columns.specs.Operations.{table_of};
+ghost use Rattle.misteluk_c.specs.Held.{batch_in, Asks};
+ghost use Rattle.misteluk_c.specs.Columns.{TellsColumns};
+
 use crate::codes::{NO_HANDLE, OK, operations_code};
 use batch_columns::{Operations, with_operations};
 use std::alloc::Global;
@@ -21,7 +26,21 @@ pub extern "C" fn misteluk_batch_columns(
     weights: &[i64],
     times: &[u64],
     done: &mut u64,
-) -> u32 {
+) -> u32
+    ensures told { Asks (batch_in batch.old.held) result (λ ops. TellsColumns (record {
+      kind_text = kind_text.now;
+      kind_ends = kind_ends.now;
+      text = text.now;
+      ends = ends.now;
+      sorts = operations.now;
+      kinds = kinds.now;
+      sources = sources.now;
+      targets = targets.now;
+      weights = weights.now;
+      times = times.now;
+    }) done.old ops done.new batch.new.held result) }
+    ensures none { batch_in batch.old.held ≡ None → (batch.new.held ≡ batch.old.held) × (done.new ≡ done.old) }
+{
     let operations = Operations {
         kind_text,
         kind_ends,
@@ -43,7 +62,11 @@ pub extern "C" fn misteluk_batch_columns(
 }
 
 /// Puts a longer batch in the place of one that is held.
-fn append_in(alloc: Global, held: &mut Held, operations: &Operations<'_>, done: &mut u64) -> u32 {
+fn append_in(alloc: Global, held: &mut Held, operations: &Operations<'_>, done: &mut u64) -> u32
+    ensures told { Asks (batch_in (Some held.old)) result
+        (λ ops. TellsColumns (table_of operations.now) done.old ops done.new (Some held.new) result) }
+    ensures none { batch_in (Some held.old) ≡ None → (held.new ≡ held.old) × (done.new ≡ done.old) }
+{
     let answer = match &*held {
         Held::Batch(batch) => with_operations(alloc, batch, operations, done),
         Held::Shared(batch) => with_operations(alloc, batch, operations, done),

@@ -85,7 +85,9 @@ pub(crate) fn push_code(answer: Result<(), PushError>) -> u32
 }
 
 /// What an operation of columns is told by.
-pub(crate) fn insert_code(error: InsertError) -> u32 {
+pub(crate) fn insert_code(error: InsertError) -> u32
+    ensures { result ≡ codes.insert_code error }
+{
     match error {
         InsertError::BadNumber => BAD_NUMBER,
         InsertError::Refused(error) => push_code(Err(error)),
@@ -93,7 +95,9 @@ pub(crate) fn insert_code(error: InsertError) -> u32 {
 }
 
 /// What operations in columns that aren't appended are told by.
-pub(crate) fn operations_code(error: OperationsError) -> u32 {
+pub(crate) fn operations_code(error: OperationsError) -> u32
+    ensures { result ≡ codes.operations_code error }
+{
     match error {
         OperationsError::BadLength => BAD_LENGTH,
         OperationsError::Refused(error) => insert_code(error),
