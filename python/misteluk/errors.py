@@ -127,8 +127,8 @@ class BatchFull(Refused):
 
 class BatchLimit(Refused):
     word = "BatchLimit"
-    advice = ("A program takes at most 65,536 batches: make them larger, or begin it anew from a session (Store.rebase), or take a "
-              "store in this process (engine='library')")
+    advice = ("A program takes at most 65,536 batches: make them larger, or begin it anew from a session (Store.rebase), or take "
+              "a store in this process (engine='library')")
 
 
 class NamesFull(Refused):

@@ -55,8 +55,8 @@ class Room(Case):
         store = self.store(limits=Limits(vertices=4, kinds=2))
         store.load(self.path(3), by="set")
         store.insert("link", "v0", "one-more")
-        with self.assertRaisesRegex(misteluk.NamesFull, r"There would be 5 vertices, where the store takes 4. Make the store with "
-                                                        r"more than Limits\(vertices=4, kinds=2\)"):
+        with self.assertRaisesRegex(misteluk.NamesFull, r"There would be 5 vertices, where the store takes 4. Make the store "
+                                                        r"with more than Limits\(vertices=4, kinds=2\)"):
             store.commit()
         self.assertEqual((store.pending, store.discard()), (1, 1))
         for kind in ("a", "b"):

@@ -79,7 +79,8 @@ class Denied(Exception):
     """What was asked can't be: the word for that, the record's number where there is one, of a batch that needs more blocks than
     are free what the blocks were, and what helps, where that isn't the word's advice."""
 
-    def __init__(self, word: str, record: Optional[int] = None, stat: Optional[Stat] = None, advice: Optional[str] = None) -> None:
+    def __init__(self, word: str, record: Optional[int] = None, stat: Optional[Stat] = None,
+                 advice: Optional[str] = None) -> None:
         self.word, self.record, self.stat, self.advice = word, record, stat, advice
         super().__init__(word)
 
