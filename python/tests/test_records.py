@@ -90,7 +90,8 @@ class Records(Case):
                     self.assertEqual(list(units.times_of(column)), [units._time_of(it) for it in column])
         dates = ["2024-03-05", "2024-03-05T12:00:00", "2024-03-05 12:00", "2024-03-05T12:00:00.25", "2024-03-05T12:00:00,5", "0",
                  "2024-03-05T12:00:00Z", "2024-03-05T12:00:00+02:00", "1969-12-31", "1970-01-01", "9999-12-31T23:59:59",
-                 "20240305", "2024-02-30", "2024-W01-1", " 2024-03-05", "", "x", "2024-03-05T12:00:00.1234567", str(records.MOST_TIME)]
+                 "20240305", "2024-02-30", "2024-W01-1", " 2024-03-05", "", "x", "2024-03-05T12:00:00.1234567",
+                 str(records.MOST_TIME)]
         units = Units(times="iso")
         for column in [*([it] for it in dates), *([made.choice(dates) for _ in range(2)] for _ in range(300)), dates[:2]]:
             with self.subTest(column):
