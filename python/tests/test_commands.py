@@ -1,5 +1,6 @@
 """python -m misteluk: load, fleet, lint, picture. Values are worked out by hand."""
 import argparse
+import fcntl
 import gzip
 import io
 import os
@@ -18,6 +19,7 @@ from misteluk import pictures
 from misteluk.command.main import main
 from misteluk.values.answers import Degree
 from misteluk.command.options import make_parser
+from misteluk.engine.conversation import F_SETPIPE_SZ
 
 PAIRS = "from,to,n,t\na,b,1,10\na,c,2,11\nc,d,3,12\na,b,4,13\nx,y,5,14\n"
 OF_PAIRS = ("--source", "from", "--target", "to", "--weight", "n", "--time", "t")
@@ -236,9 +238,11 @@ class Commands(CommandCase):
         """It ends quietly, with the status that a shell tells of such an end."""
         path, saved = self.file("p.csv", PAIRS), str(self.room / "s.csv")
         self.run_it("load", path, *OF_PAIRS, "--add", "--save", saved)
-        for words in (("load", path, *OF_PAIRS, "--add", "--ask", "degrees"), ("restore", saved, "--ask", "cores"),
+        much = ["--ask", "degrees"] * 100  # (more than the pipe has room for, so that the reader goes before all is written)
+        for words in (("load", path, *OF_PAIRS, "--add", *much), ("restore", saved, "--ask", "cores"),
                       ("fleet", path, *OF_PAIRS, "--add", "--key", "from"), ("lint", saved)):
             reader, writer = os.pipe()
+            fcntl.fcntl(writer, F_SETPIPE_SZ, 4_096)
             process = subprocess.Popen([sys.executable, "-m", "misteluk", *words], stdout=writer, stderr=subprocess.PIPE,
                                        cwd=HERE.parent)
             os.close(writer)
