@@ -110,8 +110,7 @@ class ServedEngine:
 
     name = "served"
     records_sent, records_left = 0, None
-    # The server has room for what comes, or says that it hasn't.
-    limits, most_blocks, grows = Limits(), MOST_BLOCKS, True
+    limits, most_blocks, grows = Limits(), MOST_BLOCKS, False
 
     def __init__(self, talk: Talk) -> None:
         self.talk, self.is_closed = talk, False
@@ -146,10 +145,10 @@ class ServedEngine:
     def told(self) -> str:
         return f"the server {self.talk.url}"
 
-    # Batches.
-
     def fit(self, vertices: int, kinds: int, blocks: int) -> None:
-        """Nothing: the server makes room."""
+        """The server's store sees to its room."""
+
+    # Batches.
 
     def flight(self, batch: Operations, collect: bool) -> ServedFlight:
         return ServedFlight(batch, collect)
@@ -161,9 +160,10 @@ class ServedEngine:
         if flight.feeder != self._feeder:
             self._number += 1
             flight.feeder, flight.number = self._feeder, self._number
-        ids = {it.decode("ascii") for it in _AN_ID.findall(flight.batch.text)}
+        text = flight.batch.text
+        ids = {it.decode("ascii") for it in _AN_ID.findall(text)}
         texts = {it: self.names.to_user(it) for it in ids if self.names.to_user(it) != it}
-        body = {"operations": flight.batch.text.decode("ascii"), "texts": texts, "collect": flight.collect}
+        body = {"operations": text.decode("ascii"), "texts": texts, "collect": flight.collect}
         return Receipt(Commit(**self._of_batch("POST", flight, body)))
 
     def _of_batch(self, method: str, flight: ServedFlight, body: Optional[Mapping[str, Any]] = None) -> Dict[str, Any]:

@@ -10,7 +10,7 @@ from typing import Any, Callable, Deque, Dict, List, Mapping, Optional, Sequence
 
 from .board import Board
 from .limits import Limits
-from ..engine.operations import Operations, Row, row_of
+from ..engine.operations import COMMANDS as OF_RECORDS, Operations, Row, row_of
 from ..engine.protocol import Denied
 from ..errors import Busy, SessionClosed, StoreError, refusal
 from ..feeds.feed import parts_of
@@ -231,7 +231,9 @@ def checked_operations(text: str) -> Operations:
     *lines, rest = text.split("\n")
     if len(lines) > records.MOST_OPERATIONS:
         raise refusal("BatchFull")
-    found: List[Row] = []
+    found = None if rest else _plain_rows(lines)
+    if found is not None:
+        return Operations(found)
     for at, line in enumerate([*lines, *filter(None, [rest])], 1):
         fields = records.split_record(line)
         faults = records.faults_of(fields)
@@ -239,5 +241,17 @@ def checked_operations(text: str) -> Operations:
             raise refusal(faults[0].word, f"row {at}: {faults[0]}", advice="")
         if fields[0] not in records.OPERATIONS or records.record(fields) != f"{line}\n" or rest:
             raise refusal("BadCommand", f"row {at} is no operation", advice="")
-        found.append(row_of(fields))
-    return Operations(found)
+    return Operations([row_of(records.split_record(it)) for it in lines])
+
+
+def _plain_rows(lines: Sequence[str]) -> Optional[List[Row]]:
+    """The operations of records, where each is seen at once to be an insertion or addition that keeps every rule; else `None`."""
+    fields = [it.split(",") for it in lines]
+    if not fields or set(map(len, fields)) != {6} or '"' in "".join(lines):
+        return None
+    commands, kinds, sources, targets, weights, times = zip(*fields)
+    numbers: Any = records.whole_numbers(weights, "q", 12), records.whole_numbers(times, "Q", 18)
+    names = {*kinds, *sources, *targets}
+    if not set(commands) <= {"i", "a"} or None in numbers or records.ANY in kinds or not records.are_names(names):
+        return None
+    return list(zip(map(OF_RECORDS.index, commands), kinds, sources, targets, *numbers))
