@@ -48,7 +48,8 @@ HOUSE = """act birth board book desk drive floor gate grant journal label level 
 # The pages written in plain English; the words of the older ones that a reader had to decode, and what to write in their place;
 # and words that put a sentence's reason before its subject.
 PLAIN = """README.md CONTRIBUTING.md python/README.md docs/ARCHITECTURE.md docs/DESIGN.md docs/FLEET.md docs/INSIDE.md
-    docs/PERFORMANCE.md docs/PIPES.md docs/PROMISES.md docs/PROVED.md docs/REFINEMENT.md docs/TUTORIAL.md docs/USING.md
+    docs/PERFORMANCE.md docs/PIPES.md docs/PROMISES.md docs/PROVED.md docs/REFINEMENT.md docs/SERVE.md docs/TUTORIAL.md
+    docs/USING.md
     examples/README.md examples/stories/README.md""".split()
 COINED = {
     r"want(?:s|ed|ing)? (?:of )?memory|want of it": "out of memory",
