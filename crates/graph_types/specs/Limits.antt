@@ -36,9 +36,13 @@ pub record AreLimits (l : LimitsView) : Type 0 where
   pub places : l.names * l.kinds ≤ most_places
   pub batches : l.batches ≤ most_batches
 
--- how many operations a batch may have, and how many records a script
+-- how many operations a batch may have where no other limit is chosen, how many it has at the most, and how many records a
+-- script may have
 abbrev pub operation_limit : ℕ
 operation_limit = 4096
+
+abbrev pub most_operations : ℕ
+most_operations = 2 ^ 20
 
 abbrev pub record_limit : ℕ
 record_limit = 1000000

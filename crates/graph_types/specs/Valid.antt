@@ -1,7 +1,7 @@
 -- Which names, operations and batches are valid.
 use Rattle.std.specs.Prelude.{ℕ, ◌≤◌, nat_le, List, [], ◌∷◌, length, Bool, true, if◌then◌else◌, bytes_eq, not, ◌&&◌, IsTrue, All}
 use Rattle.std.specs.{List.list_all, declared.option.Option.{Option, TheVariants.{None, Some}}}
-use Rattle.graph_types.specs.{Limits.{operation_limit, is_weight, is_time}, declared.batches.NamedOp.NamedOp}
+use Rattle.graph_types.specs.{Limits.{most_operations, operation_limit, is_weight, is_time}, declared.batches.NamedOp.NamedOp}
 use Rattle.graph_types.specs.declared.batches.{NamedOp.TheVariants.{Insert, Incr, Remove, Expire}, PushError.PushError}
 use Rattle.graph_types.specs.declared.batches.PushError.TheVariants.{BadName, BadWeight, BadTime, BatchFull}
 
@@ -43,15 +43,18 @@ pub record IsValid (op : NamedOp) : Type 0 where
   pub weight : IsTrue (has_weight op)
   pub time : IsTrue (has_time op)
 
--- the first refusal that holds of an operation to be added to a batch of so many
-abbrev pub push_refusal : NamedOp → ℕ → Option PushError
-push_refusal op len =
+-- the first refusal that holds of an operation to be added to a batch of so many, which may have as many as the limit
+abbrev pub push_refusal_within : ℕ → NamedOp → ℕ → Option PushError
+push_refusal_within limit op len =
     if not (has_names op) then Some BadName
     else (if not (has_weight op) then Some BadWeight
     else (if not (has_time op) then Some BadTime
-    else (if nat_le operation_limit len then Some BatchFull else None)))
+    else (if nat_le limit len then Some BatchFull else None)))
 
--- valid operations, not more than the limit
+abbrev pub push_refusal : NamedOp → ℕ → Option PushError
+push_refusal op len = push_refusal_within operation_limit op len
+
+-- valid operations, not more than the most
 pub record IsBatch (ops : List NamedOp) : Type 0 where
-  pub few : length ops ≤ operation_limit
+  pub few : length ops ≤ most_operations
   pub valid : All IsValid ops

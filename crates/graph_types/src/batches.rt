@@ -2,8 +2,8 @@
 
 ghost use Rattle.std.specs.Prelude.{◌≡◌, ◌<◌, ◌≤◌, [], ◌∷◌, ◌++◌, length, IfOk, OnOk, OnErr, IfErr, ◌⊎◌, ◌↔◌, ◌&&◌, IsTrue};
 ghost use Rattle.graph_types.specs.declared.batches.PushError.TheVariants.{OutOfMemory};
-ghost use Rattle.graph_types.specs.Limits.{operation_limit};
-ghost use Rattle.graph_types.specs.Valid.{push_refusal, IsBatch, IsValid};
+ghost use Rattle.graph_types.specs.Limits.{most_operations, operation_limit};
+ghost use Rattle.graph_types.specs.Valid.{push_refusal, push_refusal_within, IsBatch, IsValid};
 ghost use Rattle.graph_types.specs.Valid as valid;
 ghost use Rattle.graph_types.specs.Limits as limits;
 ghost use Rattle.graph_types.specs.Step as step;
@@ -15,8 +15,11 @@ use std::alloc::{AllocError, Global};
 use std::marker::Model;
 use thiserror::Error;
 
-// A batch has no more operations than these.
-const OPERATION_LIMIT: usize = 4096;
+/// How many operations [`Batch::push`] lets a batch have.
+pub const OPERATION_LIMIT: usize = 4096;
+
+/// How many operations a batch has at the most, whoever fills it.
+pub const MOST_OPERATIONS: usize = 1 << 20;
 
 /// One operation on one edge, with names as texts (STINGER's insertion, increment and removal, HPEC 2012), or on all
 /// edges that were last touched before a time.
@@ -183,11 +186,13 @@ impl From<AllocError> for PushError {
     }
 }
 
-/// A list of at most 4,096 valid operations, which stand for themselves one after another in order.
+/// A list of valid operations, which stand for themselves one after another in order. `push` lets it have 4,096 of them, and
+/// `push_within` a limit of its caller's, at most 2^20.
 ///
 /// ```
 /// let mut batch = Batch::new(alloc);
 /// batch.push(NamedOp::insert(alloc, "knows", "ann", "bob", 1, 1)?)?;
+/// batch.push_within(NamedOp::expire(7), 65_536)?;
 /// ```
 #[derive(Debug)]
 pub struct Batch {
@@ -223,18 +228,18 @@ impl Batch {
         }
     }
 
-    /// An empty batch with room for so many operations, at most 4,096, where there is memory for it, and else without. One that
+    /// An empty batch with room for so many operations, at most 2^20, where there is memory for it, and else without. One that
     /// grows to that length without room asks for memory once for each doubling, and moves its operations as often.
     pub fn with_room(alloc: Global, count: usize) -> Batch
         ensures { result ≡ [] }
     {
-        match Vec::with_capacity(alloc, count.min(OPERATION_LIMIT)) {
+        match Vec::with_capacity(alloc, count.min(MOST_OPERATIONS)) {
             Ok(ops) => Batch { ops },
             Err(_) => Batch::new(alloc),
         }
     }
 
-    /// How many operations there are: at most 4,096. It takes no memory.
+    /// How many operations there are: at most 2^20. It takes no memory.
     pub fn len(&self) -> usize
         ensures count { result ≡ length self.now }
         ensures batch { IsBatch self.now }
@@ -249,7 +254,7 @@ impl Batch {
         self.ops.is_empty()
     }
 
-    /// The operations in order: at most 4,096, all valid. It takes no memory.
+    /// The operations in order: at most 2^20, all valid. It takes no memory.
     pub fn ops(&self) -> &[NamedOp]
         ensures ops { result.now ≡ self.now }
         ensures batch { IsBatch self.now }
@@ -273,6 +278,18 @@ impl Batch {
         ensures refused { IfErr result (λ e. (e ≡ PushError.OutOfMemory) ⊎ (push_refusal op (length self.old) ≡ Some e)) }
         ensures unchanged { OnErr result (self.new ≡ self.old) }
     {
+        self.push_within(op, OPERATION_LIMIT)
+    }
+
+    /// As `push`, of a batch that may have so many operations.
+    pub fn push_within(&mut self, op: NamedOp, limit: usize) -> Result<(), PushError>
+        requires { limit ≤ most_operations }
+        ensures valid { OnOk result (push_refusal_within limit op (length self.old) ≡ None) }
+        ensures added { OnOk result (self.new ≡ self.old ++ op ∷ []) }
+        ensures refused { IfErr result (λ e. (e ≡ PushError.OutOfMemory)
+            ⊎ (push_refusal_within limit op (length self.old) ≡ Some e)) }
+        ensures unchanged { OnErr result (self.new ≡ self.old) }
+    {
         if !has_names(&op) {
             return Err(PushError::BadName);
         }
@@ -282,7 +299,7 @@ impl Batch {
         if !has_time(&op) {
             return Err(PushError::BadTime);
         }
-        self.push_valid(op)
+        self.push_valid_within(op, limit)
     }
 
     /// Appends an operation that is known to be valid, and isn't judged again; or changes nothing and tells that the batch has
@@ -295,7 +312,20 @@ impl Batch {
             ⊎ ((e ≡ PushError.BatchFull) × (operation_limit ≤ length self.old))) }
         ensures unchanged { OnErr result (self.new ≡ self.old) }
     {
-        if self.ops.len() >= OPERATION_LIMIT {
+        self.push_valid_within(op, OPERATION_LIMIT)
+    }
+
+    /// As `push_valid`, of a batch that may have so many operations.
+    pub fn push_valid_within(&mut self, op: NamedOp, limit: usize) -> Result<(), PushError>
+        requires valid { IsValid op }
+        requires limit { limit ≤ most_operations }
+        ensures room { OnOk result (length self.old < limit) }
+        ensures added { OnOk result (self.new ≡ self.old ++ op ∷ []) }
+        ensures refused { IfErr result (λ e. (e ≡ PushError.OutOfMemory)
+            ⊎ ((e ≡ PushError.BatchFull) × (limit ≤ length self.old))) }
+        ensures unchanged { OnErr result (self.new ≡ self.old) }
+    {
+        if self.ops.len() >= limit {
             return Err(PushError::BatchFull);
         }
         match self.ops.push(op) {

@@ -18,7 +18,7 @@ mod requests;
 mod tables;
 mod texts;
 
-pub use batches::{Batch, NamedOp, Outcome, PushError};
+pub use batches::{Batch, MOST_OPERATIONS, NamedOp, OPERATION_LIMIT, Outcome, PushError};
 pub use changes::{EdgeChange, EdgeMarks, change_edge};
 pub use contents::Content;
 pub use ids::{Degree, Edge, Filter, KindId, VertexId};
