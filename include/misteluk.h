@@ -42,8 +42,8 @@ enum {
     MISTELUK_BAD_WEIGHT = 6,    /* a weight is at most 2^40 in size */
     MISTELUK_BAD_TIME = 7,      /* a time is below 2^63 */
     MISTELUK_BAD_NUMBER = 8,    /* an index past its dictionary, ends that fall or leave their text, or no sort of operation */
-    MISTELUK_BAD_BLOCKS = 9,    /* a desk has at least 16 blocks, and at most 65,536, or 4,294,963,199 under limits of its own */
-    MISTELUK_BATCH_FULL = 10,   /* a batch has at most 4,096 operations */
+    MISTELUK_BAD_BLOCKS = 9,    /* a desk has at least 16 blocks, and at most 65,536, or 4,293,918,719 under limits of its own */
+    MISTELUK_BATCH_FULL = 10,   /* the batch has 4,096 operations or more: only columns within a limit append to it */
     MISTELUK_BATCHES_FULL = 11, /* as many batches as the desk's limits allow were accepted since it opened or was rebased */
     MISTELUK_NAMES_FULL = 12,   /* the batch would leave more vertices than the desk's limits allow */
     MISTELUK_KINDS_FULL = 13,   /* the batch would leave more kinds than the desk's limits allow */
@@ -52,7 +52,7 @@ enum {
     MISTELUK_NO_VERTEX = 16,
     MISTELUK_NO_KIND = 17,
     MISTELUK_NO_EDGE = 18,
-    MISTELUK_BAD_LIMITS = 19    /* limits past their walls, which stand beside misteluk_limits */
+    MISTELUK_BAD_LIMITS = 19    /* limits past their walls, which stand beside misteluk_limits and MISTELUK_MOST_OPERATIONS */
 };
 
 /* What stands for "any kind" where a kind's number is asked for, and for "not reached" among levels. */
@@ -64,6 +64,9 @@ enum {
 #define MISTELUK_ADD 1
 #define MISTELUK_REMOVE 2
 #define MISTELUK_EXPIRE 3
+
+/* How many operations a batch has at the most. Where no limit is chosen it is 4,096. */
+#define MISTELUK_MOST_OPERATIONS 1048576
 
 typedef struct { void *at; } misteluk_desk;
 typedef struct { void *at; } misteluk_batch;
@@ -146,6 +149,13 @@ uint32_t misteluk_batch_columns(misteluk_batch *batch, const char *kind_text, si
     const uint8_t *operations, size_t operations_length, const uint32_t *kinds, size_t kinds_length, const uint32_t *sources,
     size_t sources_length, const uint32_t *targets, size_t targets_length, const int64_t *weights, size_t weights_length,
     const uint64_t *times, size_t times_length, uint64_t *done);
+/* The same of a batch that may have as many operations as `limit` says, 1 to MISTELUK_MOST_OPERATIONS. A large batch is applied in
+ * less time than the same operations in many, and is one version. BAD_LIMITS, or as above. */
+uint32_t misteluk_batch_columns_within(misteluk_batch *batch, uint32_t limit, const char *kind_text, size_t kind_text_length,
+    const uint64_t *kind_ends, size_t kind_ends_length, const char *text, size_t text_length, const uint64_t *ends,
+    size_t ends_length, const uint8_t *operations, size_t operations_length, const uint32_t *kinds, size_t kinds_length,
+    const uint32_t *sources, size_t sources_length, const uint32_t *targets, size_t targets_length, const int64_t *weights,
+    size_t weights_length, const uint64_t *times, size_t times_length, uint64_t *done);
 
 /* The desk */
 
@@ -161,10 +171,12 @@ void misteluk_desk_free(misteluk_desk desk);
 /* Applies a batch, operation after operation, and empties it. NO_HANDLE, BATCHES_FULL, NAMES_FULL, KINDS_FULL, BLOCKS_FULL in
  * this order, or MEMORY; the desk and the batch are as they were then. */
 uint32_t misteluk_desk_apply(misteluk_desk *desk, misteluk_batch *batch, misteluk_counts *counts);
-/* Applies insertions of one kind, in batches of 4,096, whose vertices are numbers in a dictionary of names: the name of number n
- * are the bytes of `text` from ends[n - 1], or from 0, to below ends[n]. Blocks that nobody needs are collected where too few
- * are free. `done` tells how many insertions were applied, also after a refusal, and `counts` what became of them; the first
- * that is refused, and those of its batch, are not in. The codes of an insertion and of `apply`, and BAD_LENGTH, BAD_NUMBER. */
+/* Applies insertions of one kind, whose vertices are numbers in a dictionary of names: the name of number n are the bytes of `text`
+ * from ends[n - 1], or from 0, to below ends[n]. A batch, and so a version, has as many times 4,096 of them as there are free
+ * blocks for, at most 65,536; where there are fewer free ones it has 4,096, and blocks that nobody needs are collected if it must
+ * be. If a larger batch is refused, that one and those behind it have 4,096. `done` tells how many insertions were applied, also
+ * after a refusal, and `counts` what became of them; the first that is refused, and those of its 4,096, are not in. The codes of
+ * an insertion and of `apply`, and BAD_LENGTH, BAD_NUMBER. */
 uint32_t misteluk_desk_insert_columns(misteluk_desk *desk, const char *kind, size_t kind_length, const char *text,
     size_t text_length, const uint64_t *ends, size_t ends_length, const uint32_t *sources, size_t sources_length,
     const uint32_t *targets, size_t targets_length, const int64_t *weights, size_t weights_length, const uint64_t *times,

@@ -78,14 +78,16 @@ class Batch(Owner):
     def expire(self, time: int) -> None:
         must(self.library.batch_expire(self.handle, time))
 
-    def append(self, kinds: Sequence[bytes], names: Sequence[bytes], operations: Sequence[Operation],
-               done: int = 0) -> Tuple[Code, int]:
-        """Appends operations in columns from a place on. Hands back the code, and the place that the call tells."""
+    def append(self, kinds: Sequence[bytes], names: Sequence[bytes], operations: Sequence[Operation], done: int = 0,
+               limit: Optional[int] = None) -> Tuple[Code, int]:
+        """Appends operations in columns from a place on, up to a limit of the batch's own where one is given. Hands back the code
+        and the place that the call tells."""
         told = c_uint64(done)
         # (a column is never empty here: none may be at NULL)
         columns = [array.array(it, [op[place] for op in operations] or [0]) for place, it in enumerate("BIIIqQ")]
         words = [it for each in columns for it in (at(each), len(operations))]
-        code = self.calls.batch_columns(self.handle, *dictionary(kinds), *dictionary(names), *words, told)
+        call, own = (self.calls.batch_columns, []) if limit is None else (self.calls.batch_columns_within, [limit])
+        code = call(self.handle, *own, *dictionary(kinds), *dictionary(names), *words, told)
         return Code(code), told.value
 
     def __len__(self) -> int:

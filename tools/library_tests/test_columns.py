@@ -1,8 +1,9 @@
 """Operations in columns: what they leave, where they stop, and which place they tell where one is refused."""
+import random
 import unittest
 from typing import List, Tuple
 
-from calls import Batch, Code, Desk, Operation, Version, fields, interface, view
+from calls import Batch, Code, Desk, Operation, Refused, Version, fields, interface, view, whole
 from places import library
 
 INSERT, ADD, REMOVE, EXPIRE = interface.INSERT, interface.ADD, interface.REMOVE, interface.EXPIRE
@@ -67,6 +68,74 @@ class Columns(unittest.TestCase):
                 self.assertEqual(self.batch.append(KINDS, NAMES + [b"a b"], [*fine, operation, *fine]), (code, 2))
                 self.assertEqual(len(self.batch), 1)
         self.assertEqual(fields(self.desk.apply(self.batch)), (1, 1, 0, 0, 0, 0, 0))
+
+    def test_a_limit_of_its_own(self) -> None:
+        rows: List[Operation] = [(INSERT, 0, it % 3, it % 2, it, it) for it in range(5000)]
+        for limit in (1, 3, 4095, 4097):
+            with self.subTest(limit=limit):
+                batch = Batch(library())
+                self.assertEqual(batch.append(KINDS, NAMES, rows, 0, limit), (Code.OK, limit))
+                self.assertEqual(batch.append(KINDS, NAMES, rows, limit, limit), (Code.OK, limit))
+                self.assertEqual(batch.append(KINDS, NAMES, rows, limit, 1), (Code.OK, limit))
+                self.assertEqual(batch.append(KINDS, NAMES, rows, limit, limit + 1), (Code.OK, limit + 1))
+                self.assertEqual(len(batch), limit + 1)
+                # (the calls that know no limit of its own stop at 4,096, and those of one operation refuse it)
+                self.assertEqual(batch.append(KINDS, NAMES, rows, 0), (Code.OK, max(4096 - limit - 1, 0)))
+                self.assertEqual(len(batch), max(4096, limit + 1))
+                with self.assertRaises(Refused) as caught:
+                    batch.insert(b"k", b"a", b"b", 1, 1)
+                self.assertEqual(caught.exception.code, Code.BATCH_FULL)
+                batch.free()
+
+    def test_limits_that_are_none(self) -> None:
+        rows: List[Operation] = [(INSERT, 0, 0, 1, 1, 1)]
+        self.batch.insert(b"k", b"a", b"b", 1, 1)
+        for limit in (0, (1 << 20) + 1, (1 << 32) - 1):
+            self.assertEqual(self.batch.append(KINDS, NAMES, rows, 0, limit), (Code.BAD_LIMITS, 0))
+            self.assertEqual(self.batch.append(KINDS, NAMES, [(4, 9, 9, 9, 1, 1)], 0, limit), (Code.BAD_LIMITS, 0))
+        self.assertEqual(len(self.batch), 1)
+
+    def test_the_largest_batch(self) -> None:
+        most = 1 << 20
+        self.assertEqual(most, interface.MOST_OPERATIONS)
+        rows: List[Operation] = [(ADD, 0, 0, 1, 1, 1)] * (most + 1)
+        self.assertEqual(self.batch.append(KINDS, NAMES, rows, 0, most), (Code.OK, most))
+        self.assertEqual(self.batch.append(KINDS, NAMES, rows, most, most), (Code.OK, most))
+        self.assertEqual(len(self.batch), most)
+        with self.assertRaises(Refused) as caught:
+            self.batch.remove(b"k", b"a", b"b")
+        self.assertEqual(caught.exception.code, Code.BATCH_FULL)
+        self.desk.free()
+        self.desk = Desk(library(), most, (2, 1, 1))
+        self.assertEqual(fields(self.desk.apply(self.batch)), (1, 1, most - 1, 0, 0, 0, 0))
+        self.assertEqual(self.hold().edges(view(), 4), [(0, 0, 1, most, 1, 1)])
+
+    def test_a_large_batch_leaves_what_small_ones_leave(self) -> None:
+        made, count = random.Random(7), 65_536
+        names = [b"n%d" % it for it in range(1_000)]
+        sorts = made.choices((INSERT, ADD, REMOVE, EXPIRE), (600, 250, 149, 1), k=count)
+        rows: List[Operation] = [
+            (sort, made.randrange(2), made.randrange(1_000), made.randrange(1_000), made.randrange(-9, 9), max(it - 9_000, 0))
+            if sort == EXPIRE else
+            (sort, made.randrange(2), made.randrange(1_000), made.randrange(1_000), made.randrange(-9, 9), it)
+            for it, sort in enumerate(sorts)]
+        found = []
+        for size in (65_536, 4_096):
+            desk, batch, sums = Desk(library(), 262_144, (1_000, 2, 100)), Batch(library()), [0] * 6
+            for start in range(0, count, size):
+                part = rows[start:start + size]
+                self.assertEqual(batch.append(KINDS, names, part, 0, size), (Code.OK, size))
+                sums = [one + other for one, other in zip(sums, fields(desk.apply(batch))[1:])]
+                desk.collect()
+            version = desk.hold()
+            _, names_of, kinds_of, _, *tables = whole(version)
+            # (which place of its row an edge has depends on what the row's blocks held at the end of each batch)
+            found.append((sums, names_of, kinds_of, sorted(version.edges(view(), 4096)), tables))
+            self.assertEqual(version.size.version, count // size)
+            for it in (version, batch, desk):
+                it.free()
+        self.assertEqual(*found)
+        self.assertTrue(all(found[0][0][:4]) and found[0][0][5])
 
     def test_a_batch_that_was_refused_grows(self) -> None:
         self.desk.free()

@@ -68,6 +68,7 @@ class Hostile(unittest.TestCase):
             it.batch_length(batch, number), it.batch_insert(batch, *edge, 1, 1), it.batch_add(batch, *edge, 1, 1),
             it.batch_remove(batch, *edge), it.batch_expire(batch, 1),
             it.batch_columns(batch, *name, where, 1, *name, where, 1, *[where, 1] * 6, number),
+            it.batch_columns_within(batch, 1, *name, where, 1, *name, where, 1, *[where, 1] * 6, number),
             it.desk_apply(desk, self.batch.handle, counts), it.desk_apply(self.desk.handle, batch, counts),
             it.desk_apply(desk, batch, counts), it.desk_collect(desk, number), it.desk_stat(desk, interface.Stat()),
             it.desk_limits(desk, interface.Limits()),
@@ -114,7 +115,7 @@ class Hostile(unittest.TestCase):
                        (1 << 25, 1 << 7, 1), (most, most, most)):
             for blocks in (0, 16):
                 self.refuses(Code.BAD_LIMITS, self.library.desk_new_within(interface.Limits(*limits), blocks, desk))
-        for blocks in (0, 15, 4_294_963_200, most):
+        for blocks in (0, 15, 4_293_918_720, most):
             self.refuses(Code.BAD_BLOCKS, self.library.desk_new_within(interface.Limits(1, 1, 1), blocks, desk))
         self.assertIsNone(desk.at)
         for limits in ((67_108_863, 0, most), (8_388_606, 1, 0), (131_071, 64, 0), (0, 0, 0)):

@@ -119,7 +119,7 @@ class Limits(unittest.TestCase):
         desk, names = self.open(110_000, (count, 2, 100)), [b"n%d" % it for it in range(count)]
         rows = [(it, it + 1, it, it) for it in range(count - 1)]
         code, done, counts = desk.insert_columns(b"k", names, rows)
-        self.assertEqual((code, done, counts.inserted, counts.version), (Code.OK, count - 1, count - 1, 25))
+        self.assertEqual((code, done, counts.inserted, counts.version), (Code.OK, count - 1, count - 1, 2))
         version = self.hold(desk)
         self.assertEqual((version.size.vertices, version.size.edges), (count, count - 1))
         self.assertEqual(version.vertex(b"n99999"), count - 1)
@@ -134,7 +134,7 @@ class Limits(unittest.TestCase):
         count = int(os.environ["NAMES"])
         desk, names = self.open(count + 65_536, (count, 4, 2_000)), [b"n%d" % it for it in range(count)]
         code, done, counts = desk.insert_columns(b"k", names, [(it, (it + 1) % count, 1, it) for it in range(count)])
-        self.assertEqual((code, done, counts.inserted, counts.version), (Code.OK, count, count, -(-count // 4096)))
+        self.assertEqual((code, done, counts.inserted, counts.version), (Code.OK, count, count, -(-count // 65_536)))
         version = self.hold(desk)
         self.assertEqual((version.size.vertices, version.size.edges), (count, count))
         self.assertEqual(version.vertex(names[-1]), count - 1)

@@ -77,6 +77,7 @@ CALLS: "dict[str, Callable[[State], object]]" = {
     "batch_expire": lambda it: it.batch.expire(3),
     "batch_columns": lambda it: append(it.batch),
     "batch_columns of an empty one": lambda it: append_alone(it),
+    "batch_columns within a limit": lambda it: append(it.batch, 65_536),
     "desk_new": lambda it: it.made.append(Desk(it.library, 16)),
     "desk_new_within": lambda it: it.made.append(Desk(it.library, 65_537, (3, 2, 2))),
     "desk_limits": lambda it: it.desk.limits(),
@@ -98,9 +99,9 @@ CALLS: "dict[str, Callable[[State], object]]" = {
 }
 
 
-def append(batch: Batch) -> object:
+def append(batch: Batch, limit: Optional[int] = None) -> object:
     rows: List[Operation] = [(INSERT, 0, 0, 1, 5, 5), (ADD, 1, 1, 2, 6, 6), (REMOVE, 0, 0, 1, 0, 0), (EXPIRE, 0, 0, 0, 0, 7)]
-    code, done = batch.append([b"q", b"k"], [b"a", b"new", b"names"], rows)
+    code, done = batch.append([b"q", b"k"], [b"a", b"new", b"names"], rows, limit=limit)
     assert done == 4 or code != Code.OK
     must(code)
     return len(batch)

@@ -189,6 +189,25 @@ class Rows(unittest.TestCase):
         code, done, _ = self.open(16).insert_columns(b"k", names, edges)
         self.assertEqual((code, done), (Code.BLOCKS_FULL, 0))
 
+    def test_a_load_makes_its_batches_by_the_free_blocks(self) -> None:
+        """Each edge has a source of its own, and so takes a block. Of 20,000 blocks 16,384 are asked for at once; then 3,616 are
+        left, too few for the next 4,096."""
+        names = [b"n%d" % it for it in range(70_001)]
+        edges = [(it, it + 1, it, it) for it in range(70_000)]
+        desk = Desk(library(), 200_000, (70_001, 1, 9))
+        self.addCleanup(desk.free)
+        code, done, counts = desk.insert_columns(b"k", names, edges)
+        self.assertEqual((code, done, fields(counts)), (Code.OK, 70_000, (2, 70_000, 0, 0, 0, 0, 0)))
+        for blocks, wanted in ((20_000, (Code.BLOCKS_FULL, 16_384, 1)), (8_192, (Code.BLOCKS_FULL, 8_192, 1)),
+                               (8_191, (Code.BLOCKS_FULL, 4_096, 1)), (4_095, (Code.BLOCKS_FULL, 0, 0))):
+            with self.subTest(blocks=blocks):
+                code, done, counts = self.open(blocks).insert_columns(b"k", names, edges)
+                self.assertEqual((code, done, counts.version), wanted)
+        # The same edge over and over takes one block in all, though each batch asks for one block an insertion.
+        desk = self.open(8_192)
+        self.assertEqual(desk.insert_columns(b"k", names[:2], [(0, 1, it, it) for it in range(12_288)])[:2], (Code.OK, 12_288))
+        self.assertEqual(self.stat(desk)[:3], (2, 2, 1))
+
     def test_an_expiry(self) -> None:
         """Edges whose recent time is before it go, one of that time stays; and it asks for as many blocks as are used."""
         desk = self.open()

@@ -3,7 +3,7 @@ use Rattle.std.proofs.Common.{◌≡◌, ◌≢◌, ℕ, ◌+◌, ◌<◌, ◌�
 use Rattle.std.proofs.Common.{map, flat_map, zip, count_by, replicate, refl, sym, ap, ◌∙◌, arith, subst, All, AllPairs}
 use Rattle.std.proofs.lemmas.{Bool.{ltb-true, ltb-false}, List.{length-map, FromFn.length-range_with_len, Concat.length-flat_map}}
 use Rattle.std.{proofs.lemmas.{Slice.Zip.AllZip-long, Grind.common_steps}, specs.{List.{range_with_len, AllZip}, FinMap.len}}
-use Rattle.graph_types.specs.{Graph.Graph, Limits.{AreLimits, operation_limit}, Step.after_all}
+use Rattle.graph_types.specs.{Graph.Graph, Limits.{AreLimits, most_operations}, Step.after_all}
 use Rattle.graph_types.specs.{Step.outcomes, declared.batches.{NamedOp.NamedOp, Outcome.TheVariants.Absent}}
 use Rattle.graph_types.proofs.More.{left_more}
 use Rattle.graph_types.proofs.LimitsKept.{limits_after_all}
@@ -109,7 +109,7 @@ module _ (v : VersionView) (ops : List NamedOp) (workers : ℕ) (positive : 0 < 
         → count_by q (fresh_all shards) + count_by q rest ≡ count_by q numbers)
         (distinct : AllPairs (λ a b. a ≢ b) numbers)
         (unlisted : All (λ n. is_in n (rows.numbers_of (rows.blocks_of v.rows)) ≡ false) numbers)
-        (limits : MeetsNeitherLimit ops g) (few : length v.batches < g.limits.batches) (short : length ops ≤ operation_limit) where
+        (limits : MeetsNeitherLimit ops g) (few : length v.batches < g.limits.batches) (short : length ops ≤ most_operations) where
       few_taken : (m : ℕ) → times m (taken_left dones) ≤ times m numbers
       few_taken m = omega (arith, handed (λ x. x == m), handed_left (row_of v.rows) shards dones done (λ x. x == m))
 
@@ -222,7 +222,7 @@ module _ (v : VersionView) (ops : List NamedOp) (workers : ℕ) (shards : List S
     ≡ count_by q numbers)
     (distinct : AllPairs (λ a b. a ≢ b) numbers)
     (unlisted : All (λ n. is_in n (rows.numbers_of (rows.blocks_of v.rows)) ≡ false) numbers)
-    (limits : MeetsNeitherLimit ops (content v)) (few : length v.batches < (content v).limits.batches) (short : length ops ≤ operation_limit)
+    (limits : MeetsNeitherLimit ops (content v)) (few : length v.batches < (content v).limits.batches) (short : length ops ≤ most_operations)
     (after : List (List BlockView)) (among : (s : ℕ) → row_of after s ≡ row_among (rows_left dones) s (row_of v.rows s)) where
   abbrev with_fresh : List Shard
   with_fresh = shards_in jobs

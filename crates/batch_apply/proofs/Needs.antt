@@ -6,7 +6,7 @@ use Rattle.std.proofs.lemmas.List.Sums.{sum_by-cons, sum_by-le, sum_by-le-sum_by
 use Rattle.std.proofs.lemmas.{List.Elements.{All-head, All-tail, All-map, All-weaker}, Map.Keys.IsDistinct-from_apart}
 use Rattle.std.{proofs.lemmas.Map.Steps.length-le_from_distinct_below, specs.{Prelude.not, List.{IsDistinct, sum_by, list_any}}}
 use Rattle.std.{specs.List.{range_with_len, AllZip}, proofs.lemmas.{List.FromFn.length-enumerate_from, Grind.common_steps}}
-use Rattle.graph_types.specs.Limits.{most_names}
+use Rattle.graph_types.specs.Limits.{most_names, most_operations}
 use Rattle.graph_types.{specs.declared.batches.NamedOp.NamedOp, proofs.Counts.apart_tail}
 use Rattle.edge_block.specs.{Slots.{BlockView, has_before}, Operations.{Parts, parts_of, names_after, kinds_after}}
 use Rattle.edge_block.specs.Batches.{Resolved, resolve_parts, resolved}
@@ -78,7 +78,7 @@ pub steps_few : (workers w : ℕ) (rs : List Resolved) (is_old : ℕ → Bool) (
 steps_few workers w rs is_old sources steps is =
     grind (arith, common_steps, length-map, length-filter, count_by-le-length, length-enumerate_from)
 
-few_needed : (v : VersionView) → IsVersion v → (workers w : ℕ) (rs : List Resolved) (shard : Shard) → length rs ≤ 4096
+few_needed : (v : VersionView) → IsVersion v → (workers w : ℕ) (rs : List Resolved) (shard : Shard) → length rs ≤ most_operations
     → IsShardOf workers rs (layout_by (row_of v.rows)) w shard
     → needed (row_of v.rows) (sources_in shard) shard.steps.items ≤ 2 ^ 64 - 1
 few_needed v is workers w rs shard few of =
@@ -100,7 +100,7 @@ exact f n R few first (suc count) (s ∷ shards) zip =
     ap₂ (λ (a : ℕ) as'. a ∷ as') here (exact f n R few (first + 1) count shards zip.1)
 
 -- what each shard may take, told to the last block
-pub exact_needs : (v : VersionView) → IsVersion v → (workers : ℕ) (rs : List Resolved) (shards : List Shard) → length rs ≤ 4096
+pub exact_needs : (v : VersionView) → IsVersion v → (workers : ℕ) (rs : List Resolved) (shards : List Shard) → length rs ≤ most_operations
     → AllZip (IsShardOf workers rs (layout_by (row_of v.rows))) (range_with_len 0 workers) shards
     → map (λ shard. min (needed (row_of v.rows) (sources_in shard) shard.steps.items) (2 ^ 64 - 1)) shards
     ≡ map (λ shard. needed (row_of v.rows) (sources_in shard) shard.steps.items) shards

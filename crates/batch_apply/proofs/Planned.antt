@@ -1,7 +1,7 @@
 -- A plan by its names and its shards.
 use Rattle.std.proofs.Common.{◌≡◌, ◌≤◌, ◌-◌, ◌^◌, ℕ, List, map, min, length, ap, sym, subst, ◌∙◌, arith}
 use Rattle.std.{proofs.lemmas.List.length-map, specs.List.{range_with_len, AllZip}}
-use Rattle.graph_types.specs.{Step.after_all, declared.batches.NamedOp.NamedOp}
+use Rattle.graph_types.specs.{Limits.most_operations, Step.after_all, declared.batches.NamedOp.NamedOp}
 use Rattle.edge_block.specs.{Slots.BlockView, Batches.{Resolved, resolved}}
 use Rattle.graph_version.specs.{Rows.row_of, Kept.{vertex_book, kind_book}, Versions.{VersionView, content, IsVersion}}
 use Rattle.batch_shards.specs.{Done.{layout_by, sources_in}, Spending.needed}
@@ -19,7 +19,7 @@ old_resolved ops names kinds found rows old is are =
 pub planned : (v : VersionView) → IsVersion v → (workers : ℕ) (ops : List NamedOp) (found : List ResolvedOp) (old : List OldRow)
     (plan : Plan) → plan.names ≡ vertex_book (after_all ops (content v))
     → plan.kinds ≡ kind_book (after_all ops (content v))
-    → map shown found ≡ resolved ops (content v).names (content v).kinds → length found ≤ 4096
+    → map shown found ≡ resolved ops (content v).names (content v).kinds → length found ≤ most_operations
     → AreOldRows (expiry_time ops) (row_of v.rows) old
     → ((rows : ℕ → List BlockView) → AreOldRows (latest (map shown found)) rows old
     → AllZip (IsShardOf workers (map shown found) (layout_by rows)) (range_with_len 0 workers) plan.shards.items)
@@ -30,7 +30,7 @@ planned v is workers ops found old plan names kinds ops_are few are shards needs
     let rs : List Resolved = map shown found in
     let old_are = old_resolved ops (content v).names (content v).kinds found (row_of v.rows) old ops_are are in
     let zip = shards (row_of v.rows) old_are in
-    let few_rs : length rs ≤ 4096 = omega (arith, few, length-map found shown) in
+    let few_rs : length rs ≤ most_operations = omega (arith, few, length-map found shown) in
     record {
       names = names;
       kinds = kinds;

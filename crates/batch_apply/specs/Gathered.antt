@@ -1,7 +1,7 @@
 -- What shards leave together.
 use Rattle.std.specs.Prelude.{◌≡◌, ℕ, ◌+◌, List, ◌++◌, flat_map, replicate, count_by, Bool, ◌≢◌, ◌≤◌, map, length, AllPairs}
 use Rattle.std.specs.{Prelude.{◌<◌, All, false, zip}, List.AllZip}
-use Rattle.graph_types.specs.{Limits.operation_limit, declared.batches.NamedOp.NamedOp}
+use Rattle.graph_types.specs.{Limits.most_operations, declared.batches.NamedOp.NamedOp}
 use Rattle.graph_version.specs.{Rows.{row_of, blocks_of, numbers_of}, Versions.{VersionView, content, is_in}}
 use Rattle.vertex_names.specs.Book.{Book}
 use Rattle.batch_apply.specs.{Planned.IsPlan, declared.plans.Plan.Plan}
@@ -55,7 +55,7 @@ pub record IsWorked (v : VersionView) (ops : List NamedOp) (names kinds : Book) 
   pub names_are : plan.names ≡ names
   pub kinds_are : plan.kinds ≡ kinds
   pub few : length v.batches < (content v).limits.batches
-  pub short : length ops ≤ operation_limit
+  pub short : length ops ≤ most_operations
   pub gathered : IsGathered (row_of v.rows) (zip plan.shards.items plan.needs.items) numbers (length ops) all
   pub distinct : AllPairs ◌≢◌ numbers
   pub unlisted : All (λ n. is_in n (numbers_of (blocks_of v.rows)) ≡ false) numbers

@@ -2,7 +2,7 @@
 
 ghost use Rattle.std.specs.Prelude.{◌≡◌, ◌∷◌, ◌++◌, [], ◌-◌, ◌≤◌, ◌<◌, ◌^◌, ℕ, List, length, map, min, IfOk, IfErr, OnOk, All};
 ghost use Rattle.std.specs.List.{range_with_len, AllZip};
-ghost use Rattle.graph_types.specs.Limits.{most_names};
+ghost use Rattle.graph_types.specs.Limits.{most_names, most_operations};
 ghost use Rattle.edge_block.specs.Slots.{BlockView};
 ghost use Rattle.edge_block.specs.Batches.{IsPlaced};
 ghost use Rattle.graph_types.specs.Step.{after_all};
@@ -52,7 +52,7 @@ pub fn name_batch(
     ensures names { IfOk result (λ n. n.names ≡ vertex_book (after_all batch.now (content version.now))) }
     ensures kinds { IfOk result (λ n. n.kinds ≡ kind_book (after_all batch.now (content version.now))) }
     ensures ops { let g = content version.now in IfOk result (λ n. map shown n.ops.items ≡ resolved batch.now g.names g.kinds) }
-    ensures few { IfOk result (λ n. length n.ops.items ≤ 4096) }
+    ensures few { IfOk result (λ n. length n.ops.items ≤ most_operations) }
     ensures placed { IfOk result (λ n. All IsPlaced (map shown n.ops.items)) }
     ensures changes { IfOk result (λ n. All IsInRange n.ops.items) }
     ensures version { IsVersion version.now }
@@ -104,7 +104,7 @@ pub fn shards_for(
     old: &[OldRow],
 ) -> Result<Shards, AllocError>
     requires workers { 0 < workers }
-    requires few { length ops.now ≤ 4096 }
+    requires few { length ops.now ≤ most_operations }
     requires placed { All IsPlaced (map shown ops.now) }
     requires valid { All IsInRange ops.now }
     requires few_old { length old.now ≤ most_names }
@@ -131,7 +131,7 @@ pub fn shards_at_once<R: Threads + Sync>(
     old: &[OldRow],
 ) -> Result<Shards, AllocError>
     requires workers { 0 < workers }
-    requires few { length ops.now ≤ 4096 }
+    requires few { length ops.now ≤ most_operations }
     requires placed { All IsPlaced (map shown ops.now) }
     requires valid { All IsInRange ops.now }
     requires few_old { length old.now ≤ most_names }
@@ -146,7 +146,7 @@ pub fn shards_at_once<R: Threads + Sync>(
     }
     let plan_one = |worker: usize| -> Result<Needing, AllocError>
         requires workers { 0 < workers }
-        requires few { length ops.now ≤ 4096 }
+        requires few { length ops.now ≤ most_operations }
         requires placed { All IsPlaced (map shown ops.now) }
         requires valid { All IsInRange ops.now }
         requires few_old { length old.now ≤ most_names }

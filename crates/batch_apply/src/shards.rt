@@ -3,7 +3,7 @@
 ghost use Rattle.std.specs.Prelude.{◌≡◌, ◌≢◌, ◌+◌, ◌-◌, ◌≤◌, ◌<◌, ◌^◌, ℕ, List, length, map, min, IfOk, OnOk, All, AllPairs};
 ghost use Rattle.std.specs.Prelude.{[], IfSome, Some, nat_eq, position, slice_get};
 ghost use Rattle.std.specs.Option.{option_map};
-ghost use Rattle.graph_types.specs.Limits.{most_names};
+ghost use Rattle.graph_types.specs.Limits.{most_names, most_operations};
 ghost use Rattle.indexmap.specs.IndexSet.{keys};
 ghost use Rattle.edge_block.specs.Slots.{BlockView};
 ghost use Rattle.edge_block.specs.Batches as layout;
@@ -208,7 +208,7 @@ pub fn shard_for(
     old: &[OldRow],
 ) -> Result<Needing, AllocError>
     requires workers { 0 < workers }
-    requires few { length ops.now ≤ 4096 }
+    requires few { length ops.now ≤ most_operations }
     requires placed { All IsPlaced (map shown ops.now) }
     requires valid { All IsInRange ops.now }
     requires few_old { length old.now ≤ most_names }

@@ -24,26 +24,26 @@ one_more op_at at (suc n) ops op are is =
     rw parts.4 (ap (λ o. joined o (in_order op_at (at + 1) (suc n))) parts.2 ∙ ap (joined (Some parts.0)) rest)
 
 -- what an operation that is in was
-pub inserted_op : (o : Option NamedOp) (old new : List NamedOp) (done : Unit {0}) → IsInserted o old new (Ok done)
+pub inserted_op : (limit : ℕ) (o : Option NamedOp) (old new : List NamedOp) (done : Unit {0}) → IsInserted limit o old new (Ok done)
     → (op : NamedOp) × (o ≡ Some op) × (new ≡ old ++ op ∷ [])
-inserted_op None old new done is = cc is.0
-inserted_op (Some op) old new done is = (op, refl, is.1)
+inserted_op limit None old new done is = cc is.0
+inserted_op limit (Some op) old new done is = (op, refl, is.1)
 
 -- a batch, and the operations of so many places behind it
 abbrev pub Extends : OperationTable → ℕ → ℕ → List NamedOp → List NamedOp → Type 0
 Extends t from n old new = (ops : List NamedOp) × (operations_from t from n ≡ Some ops) × (new ≡ old ++ ops)
 
 -- each place has one operation
-pub one_longer : (o : Option NamedOp) (old new : List NamedOp) (done : Unit {0}) → IsInserted o old new (Ok done)
+pub one_longer : (limit : ℕ) (o : Option NamedOp) (old new : List NamedOp) (done : Unit {0}) → IsInserted limit o old new (Ok done)
     → length new ≡ length old + 1
-one_longer o old new done pushed =
-    let (op, here, is) = inserted_op o old new done pushed in rw is (length-append old (op ∷ []))
+one_longer limit o old new done pushed =
+    let (op, here, is) = inserted_op limit o old new done pushed in rw is (length-append old (op ∷ []))
 
-pub extended_more : (t : OperationTable) (from place : ℕ) (old longer new : List NamedOp) (done : Unit {0}) → from ≤ place
-    → Extends t from (place - from) old longer → IsInserted (operation_at t place) longer new (Ok done)
+pub extended_more : (limit : ℕ) (t : OperationTable) (from place : ℕ) (old longer new : List NamedOp) (done : Unit {0}) → from ≤ place
+    → Extends t from (place - from) old longer → IsInserted limit (operation_at t place) longer new (Ok done)
     → Extends t from (place + 1 - from) old new
-extended_more t from place old longer new done order (ops, are, is) pushed =
-    let (op, here, longer_is) = inserted_op (operation_at t place) longer new done pushed in
+extended_more limit t from place old longer new done order (ops, are, is) pushed =
+    let (op, here, longer_is) = inserted_op limit (operation_at t place) longer new done pushed in
     let at : from + (place - from) ≡ place = omega arith in
     let more = one_more (operation_at t) from (place - from) ops op are (ap (operation_at t) at ∙ here) in
     let n : suc (place - from) ≡ place + 1 - from = omega arith in

@@ -3,7 +3,7 @@ use Rattle.std.specs.Prelude.{◌≡◌, ◌⊎◌, ◌&&◌, ◌+◌, ◌++◌,
 use Rattle.std.specs.Prelude.{slice_get, slice_index_or, slice_range, Option, Some, None, Result, Ok, Err}
 use Rattle.graph_types.specs.declared.batches.{NamedOp.NamedOp, NamedOp.TheVariants.Insert, PushError.PushError}
 use Rattle.graph_types.specs.declared.batches.PushError.TheVariants.{OutOfMemory}
-use Rattle.graph_types.specs.Valid.{push_refusal}
+use Rattle.graph_types.specs.Valid.{push_refusal_within}
 use Rattle.batch_columns.specs.declared.columns.InsertError.{InsertError}
 use Rattle.batch_columns.specs.declared.columns.InsertError.TheVariants.{BadNumber, Refused}
 
@@ -30,17 +30,19 @@ abbrev pub insertion : List ℕ → ℤ → ℕ → Option (List ℕ) → Option
 insertion kind weight time (Some source) (Some target) = Some (Insert kind source target weight time)
 insertion kind weight time _ _ = None
 
--- an operation is appended, or nothing is and the first refusal that holds is told: want of memory may be told in place of any
-abbrev pub IsPushed : NamedOp → List NamedOp → List NamedOp → Result (Unit {0}) PushError → Type 0
-IsPushed op old new (Ok _) = (push_refusal op (length old) ≡ None) × (new ≡ old ++ op ∷ [])
-IsPushed op old new (Err error) = (new ≡ old) × ((error ≡ OutOfMemory) ⊎ (push_refusal op (length old) ≡ Some error))
+-- an operation is appended to a batch that may have as many as the limit; or nothing is, and the first refusal that holds is told:
+-- want of memory may be told in place of any
+abbrev pub IsPushed : ℕ → NamedOp → List NamedOp → List NamedOp → Result (Unit {0}) PushError → Type 0
+IsPushed limit op old new (Ok _) = (push_refusal_within limit op (length old) ≡ None) × (new ≡ old ++ op ∷ [])
+IsPushed limit op old new (Err error) =
+    (new ≡ old) × ((error ≡ OutOfMemory) ⊎ (push_refusal_within limit op (length old) ≡ Some error))
 
 -- the same of an insertion that there is none of where a number is past the dictionary, or its ends fall or leave the text
-abbrev pub IsInserted : Option NamedOp → List NamedOp → List NamedOp → Result (Unit {0}) InsertError → Type 0
-IsInserted None old new result = (result ≡ Err BadNumber) × (new ≡ old)
-IsInserted (Some op) old new (Ok done) = IsPushed op old new (Ok done)
-IsInserted (Some op) old new (Err (Refused error)) = IsPushed op old new (Err error)
-IsInserted (Some op) old new (Err BadNumber) = ⊥
+abbrev pub IsInserted : ℕ → Option NamedOp → List NamedOp → List NamedOp → Result (Unit {0}) InsertError → Type 0
+IsInserted limit None old new result = (result ≡ Err BadNumber) × (new ≡ old)
+IsInserted limit (Some op) old new (Ok done) = IsPushed limit op old new (Ok done)
+IsInserted limit (Some op) old new (Err (Refused error)) = IsPushed limit op old new (Err error)
+IsInserted limit (Some op) old new (Err BadNumber) = ⊥
 
 abbrev pub joined : Option NamedOp → Option (List NamedOp) → Option (List NamedOp)
 joined (Some op) (Some ops) = Some (op ∷ ops)

@@ -1,7 +1,7 @@
 -- Operations of any sort, whose kinds and vertices are numbers in dictionaries of names.
-use Rattle.std.specs.Prelude.{◌≡◌, ◌≤◌, ◌<◌, ◌&&◌, ◌==◌, ◌+◌, ◌-◌, ◌++◌, [], ℕ, ℤ, pos, zero, suc, min, List, length, true, false}
+use Rattle.std.specs.Prelude.{◌≡◌, ◌≤◌, ◌<◌, ◌&&◌, ◌==◌, ◌+◌, ◌-◌, ◌++◌, ℕ, ℤ, pos, min, List, length, true, false}
 use Rattle.std.specs.Prelude.{Bool, if◌then◌else◌, slice_index_or, Option, Some, None, Err}
-use Rattle.graph_types.specs.{Limits.operation_limit, Valid.IsBatch, declared.batches.NamedOp.NamedOp}
+use Rattle.graph_types.specs.{Valid.IsBatch, declared.batches.NamedOp.NamedOp}
 use Rattle.graph_types.specs.declared.batches.NamedOp.TheVariants.{Insert, Incr, Remove, Expire}
 use Rattle.batch_columns.specs.declared.{columns.InsertError.InsertError, operations.Operations.Operations}
 use Rattle.batch_columns.specs.declared.operations.OperationsError.{OperationsError}
@@ -70,29 +70,31 @@ operation_at t place =
 abbrev pub operations_from : OperationTable → ℕ → ℕ → Option (List NamedOp)
 operations_from t at n = in_order (operation_at t) at n
 
--- the first place that isn't in: there are no more operations, or a batch of so many has no room for more
-abbrev pub first_out : OperationTable → ℕ → ℕ → ℕ
-first_out t count from = from + min (operation_limit - count) (length t.sorts - from)
+-- the first place that isn't in: there are no more operations, or a batch of so many, which may have as many as the limit, has no
+-- room for more
+abbrev pub first_out : ℕ → OperationTable → ℕ → ℕ → ℕ
+first_out limit t count from = from + min (limit - count) (length t.sorts - from)
 
 -- the operations from a place on are behind a batch's own, up to the first place that isn't in
-pub record IsExtended (t : OperationTable) (from : ℕ) (old : List NamedOp) (done : ℕ) (new : List NamedOp) : Type 0 where
+pub record IsExtended (limit : ℕ) (t : OperationTable) (from : ℕ) (old : List NamedOp) (done : ℕ) (new : List NamedOp) : Type 0 where
   pub alike : are_alike t ≡ true
   pub ops : List NamedOp
-  pub done_is : done ≡ first_out t (length old) from
+  pub done_is : done ≡ first_out limit t (length old) from
   pub are : operations_from t from (done - from) ≡ Some ops
   pub new_is : new ≡ old ++ ops
 
 -- of the operations that would be in, the one at this place is the first that is refused
-pub record IsFirstRefused (t : OperationTable) (from : ℕ) (old : List NamedOp) (place : ℕ) (error : InsertError) : Type 0 where
+pub record IsFirstRefused (limit : ℕ) (t : OperationTable) (from : ℕ) (old : List NamedOp) (place : ℕ) (error : InsertError)
+    : Type 0 where
   pub alike : are_alike t ≡ true
   pub ops : List NamedOp
   pub order : from ≤ place
-  pub within : place < first_out t (length old) from
+  pub within : place < first_out limit t (length old) from
   pub before : operations_from t from (place - from) ≡ Some ops
   pub fit : IsBatch (old ++ ops)
-  pub refused : IsInserted (operation_at t place) (old ++ ops) (old ++ ops) (Err error)
+  pub refused : IsInserted limit (operation_at t place) (old ++ ops) (old ++ ops) (Err error)
 
-abbrev pub RefusesOperations : OperationTable → ℕ → List NamedOp → ℕ → OperationsError → Type 0
-RefusesOperations t from old place BadLength = (are_alike t ≡ false) × (place ≡ from)
-RefusesOperations t from old place (Refused error) = IsFirstRefused t from old place error
-RefusesOperations t from old place OutOfMemory = place ≡ from
+abbrev pub RefusesOperations : ℕ → OperationTable → ℕ → List NamedOp → ℕ → OperationsError → Type 0
+RefusesOperations limit t from old place BadLength = (are_alike t ≡ false) × (place ≡ from)
+RefusesOperations limit t from old place (Refused error) = IsFirstRefused limit t from old place error
+RefusesOperations limit t from old place OutOfMemory = place ≡ from

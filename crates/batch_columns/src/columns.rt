@@ -1,6 +1,7 @@
 //! Insertions in columns.
 
 ghost use Rattle.std.specs.Prelude.{◌≡◌, ◌≤◌, ◌<◌, ◌-◌, ◌++◌, length, option_copied, OnOk, Some};
+ghost use Rattle.graph_types.specs.Limits.{most_operations};
 ghost use Rattle.batch_columns.specs.Dictionaries.{name_in, insertion, IsInserted};
 
 use crate::bytes::push_insert;
@@ -36,6 +37,7 @@ pub(crate) fn name_at<'a>(text: &'a [u8], ends: &[u64], number: u32) -> Option<&
 pub fn insert_numbers(
     alloc: Global,
     batch: &mut Batch,
+    limit: usize,
     kind: &[u8],
     text: &[u8],
     ends: &[u64],
@@ -44,7 +46,8 @@ pub fn insert_numbers(
     weight: i64,
     time: u64,
 ) -> Result<(), InsertError>
-    ensures { IsInserted (insertion kind.now weight time (name_in text.now ends.now source) (name_in text.now ends.now target))
+    requires { limit ≤ most_operations }
+    ensures { IsInserted limit (insertion kind.now weight time (name_in text.now ends.now source) (name_in text.now ends.now target))
         batch.old batch.new result }
 {
     let Some(source) = name_at(text, ends, source) else {
@@ -53,7 +56,7 @@ pub fn insert_numbers(
     let Some(target) = name_at(text, ends, target) else {
         return Err(InsertError::BadNumber);
     };
-    match push_insert(alloc, batch, kind, source, target, weight, time) {
+    match push_insert(alloc, batch, limit, kind, source, target, weight, time) {
         Ok(()) => Ok(()),
         Err(error) => Err(InsertError::Refused(error)),
     }

@@ -1,6 +1,7 @@
 //! Operations of any sort, in columns.
 
-ghost use Rattle.std.specs.Prelude.{◌≡◌, ◌<◌, ◌&&◌, length, true, IsTrue, IfOk, IfErr, MatchResult, Ok, Err};
+ghost use Rattle.std.specs.Prelude.{◌≡◌, ◌≤◌, ◌<◌, ◌&&◌, length, true, IsTrue, IfOk, IfErr, MatchResult, Ok, Err};
+ghost use Rattle.graph_types.specs.Limits.{most_operations};
 ghost use Rattle.batch_columns.specs.Dictionaries.{IsInserted};
 ghost use Rattle.batch_columns.specs.Operations.{table_of, edge_operation_at, operation_at, IsExtended, RefusesOperations};
 ghost use Rattle.batch_columns.specs.Operations as specs;
@@ -19,9 +20,6 @@ pub const ADD: u8 = 1;
 pub const REMOVE: u8 = 2;
 
 pub const EXPIRE: u8 = 3;
-
-/// How many operations a batch has at the most.
-const OPERATION_LIMIT: usize = 4096;
 
 /// Why operations in columns were not appended.
 #[derive(Clone, Copy, Debug, PartialEq, Eq, Error)]
@@ -65,12 +63,14 @@ fn told(answer: Result<(), PushError>) -> Result<(), InsertError>
 fn push_edge(
     alloc: Global,
     batch: &mut Batch,
+    limit: usize,
     operations: &Operations<'_>,
     place: usize,
 ) -> Result<(), InsertError>
+    requires limit { limit ≤ most_operations }
     requires within { place < length operations.now.sorts.now }
     requires alike { specs.are_alike (table_of operations.now) ≡ true }
-    ensures { IsInserted (edge_operation_at (table_of operations.now) place) batch.old batch.new result }
+    ensures { IsInserted limit (edge_operation_at (table_of operations.now) place) batch.old batch.new result }
 {
     let Some(kind) = name_at(
         operations.kind_text,
@@ -87,9 +87,9 @@ fn push_edge(
     };
     let (weight, time) = (operations.weights[place], operations.times[place]);
     match operations.sorts[place] {
-        INSERT => told(push_insert(alloc, batch, kind, source, target, weight, time)),
-        ADD => told(push_add(alloc, batch, kind, source, target, weight, time)),
-        REMOVE => told(push_remove(alloc, batch, kind, source, target)),
+        INSERT => told(push_insert(alloc, batch, limit, kind, source, target, weight, time)),
+        ADD => told(push_add(alloc, batch, limit, kind, source, target, weight, time)),
+        REMOVE => told(push_remove(alloc, batch, limit, kind, source, target)),
         _ => Err(InsertError::BadNumber),
     }
 }
@@ -98,17 +98,19 @@ fn push_edge(
 fn push_at(
     alloc: Global,
     batch: &mut Batch,
+    limit: usize,
     operations: &Operations<'_>,
     place: usize,
 ) -> Result<(), InsertError>
+    requires limit { limit ≤ most_operations }
     requires within { place < length operations.now.sorts.now }
     requires alike { specs.are_alike (table_of operations.now) ≡ true }
-    ensures { IsInserted (operation_at (table_of operations.now) place) batch.old batch.new result }
+    ensures { IsInserted limit (operation_at (table_of operations.now) place) batch.old batch.new result }
 {
     if operations.sorts[place] == EXPIRE {
-        return told(push_expire(batch, operations.times[place]));
+        return told(push_expire(batch, limit, operations.times[place]));
     }
-    push_edge(alloc, batch, operations, place)
+    push_edge(alloc, batch, limit, operations, place)
 }
 
 /// Whether the columns have one length.
@@ -134,32 +136,36 @@ fn copy_with_room(alloc: Global, batch: &Batch, count: usize) -> Result<Batch, A
     }
 }
 
-/// A batch with the operations from place `done` on behind its own, as many as there are and as it has room for. `done` becomes the
-/// first place that isn't in; or, where an operation is refused, the place of the first that is.
+/// A batch with the operations from place `done` on behind its own: as many as there are, and as it has room for if it may have as
+/// many as the limit. `done` becomes the first place that isn't in; or, where an operation is refused, the place of the first that
+/// is.
 ///
 /// ```
 /// let mut done = 0;
-/// let batch = with_operations(alloc, &Batch::new(alloc), &operations, &mut done)?;
+/// let batch = with_operations(alloc, &Batch::new(alloc), OPERATION_LIMIT, &operations, &mut done)?;
 /// ```
 pub fn with_operations(
     alloc: Global,
     batch: &Batch,
+    limit: usize,
     operations: &Operations<'_>,
     done: &mut u64,
 ) -> Result<Batch, OperationsError>
-    ensures extended { IfOk result (IsExtended (table_of operations.now) done.old batch.now done.new) }
-    ensures refused { IfErr result (RefusesOperations (table_of operations.now) done.old batch.now done.new) }
+    requires { limit ≤ most_operations }
+    ensures extended { IfOk result (IsExtended limit (table_of operations.now) done.old batch.now done.new) }
+    ensures refused { IfErr result (RefusesOperations limit (table_of operations.now) done.old batch.now done.new) }
 {
     if !are_alike(operations) {
         return Err(OperationsError::BadLength);
     }
     let count = operations.sorts.len();
     let mut place = *done as usize;
-    let Ok(mut longer) = copy_with_room(alloc, batch, count.saturating_sub(place)) else {
+    let more = count.saturating_sub(place).min(limit);
+    let Ok(mut longer) = copy_with_room(alloc, batch, more) else {
         return Err(OperationsError::OutOfMemory);
     };
-    while longer.len() < OPERATION_LIMIT && place < count {
-        match push_at(alloc, &mut longer, operations, place) {
+    while longer.len() < limit && place < count {
+        match push_at(alloc, &mut longer, limit, operations, place) {
             Ok(()) => place += 1,
             Err(error) => {
                 *done = place as u64;

@@ -79,7 +79,7 @@ impl From<AllocError> for GrantError {
 }
 
 impl Pool {
-    /// A pool of so many blocks, 16 to 4,294,963,199, all free. It takes all the memory that the other calls need, but for
+    /// A pool of so many blocks, 16 to 4,293,918,719, all free. It takes all the memory that the other calls need, but for
     /// the two lists of a grant and the bodies of blocks that it grants for the first time or that were given up. That
     /// is some 40 bytes a block, 4 of them the link of its stack while it is retired.
     pub fn new(alloc: Global, blocks: u32) -> Result<Pool, AllocError>

@@ -5,10 +5,10 @@ use Rattle.std.specs.declared.option.Option.{Option, TheVariants.{None, Some}}
 use Rattle.block_reclamation.specs.declared.status.BlockStatus.{BlockStatus, TheVariants.{Free, Granted, Used, Retired}}
 use Rattle.block_reclamation.specs.{declared.copies.PinCopy.PinCopy, Copies.needs}
 
--- a store has at most so many blocks, so that 4,096 more have 32 bits: a batch may ask for one for each of its operations, and
+-- a store has at most so many blocks, so that 2 ^ 20 more have 32 bits: a batch may ask for one for each of its operations, and
 -- for as many as are used
 abbrev pub most_blocks : ℕ
-most_blocks = 2 ^ 32 - 4097
+most_blocks = 2 ^ 32 - 1048577
 
 abbrev pub is_free : BlockStatus → Bool
 is_free Free = true

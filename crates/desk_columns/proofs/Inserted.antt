@@ -1,23 +1,23 @@
 -- A batch with one insertion more, and a refusal of a part as one of the whole.
-use Rattle.std.proofs.Common.{◌≡◌, ℕ, ◌+◌, suc, List, length, count_by, Option, Some, true, refl, sym, ap, subst, inr, ◌∙◌, add-one}
+use Rattle.std.proofs.Common.{◌≡◌, ℕ, ◌+◌, suc, List, length, count_by, Option, Some, true, refl, sym, ap, subst, inl, inr, ◌∙◌, add-one}
 use Rattle.std.specs.Prelude.{Result, Ok, Err}
-use Rattle.graph_types.specs.declared.batches.NamedOp.{NamedOp}
+use Rattle.graph_types.specs.{Limits.most_operations, declared.batches.NamedOp.NamedOp}
 use Rattle.block_reclamation.specs.Status.{is_free}
 use Rattle.desk.specs.{Owned.OwnedView, Refusals.Refuses}
 use Rattle.desk.specs.declared.{errors.ApplyError.ApplyError, ready.Accepted.Accepted, errors.ApplyError.TheVariants.PoolEmpty}
 use Rattle.batch_columns.specs.Dictionaries.{in_order, insertions_from, Insertions, IsInserted}
 use Rattle.batch_columns.proofs.OneMore.{one_more, inserted_op, one_longer}
 use Rattle.desk_counts.specs.{declared.counts.Counts.Counts, Counted.with_outcomes}
-use Rattle.desk_columns.specs.Feeding.{are_alike, batch_length, AreIn, AreIn.Begin, AreIn.More, Collects, IsApplied, IsTried, MayCollect, RefusesBatch, RefusesPart, RefusesRest, Takes}
+use Rattle.desk_columns.specs.Feeding.{are_alike, AreIn, AreIn.Begin, Collects, IsApplied, IsTried, MayCollect, RefusesBatch, RefusesPart, RefusesRest, Takes}
 use Rattle.desk_columns.specs.declared.columns.InsertColumnsError.{InsertColumnsError}
 use Rattle.desk_columns.specs.declared.columns.InsertColumnsError.TheVariants.{BadLength, BadInsertion, Refused, OutOfMemory}
 
 pub inserted_more : (op_at : ℕ → Option NamedOp) (from place : ℕ) (old new : List NamedOp) (done : Unit {0})
-    → place ≡ from + length old → in_order op_at from (length old) ≡ Some old → IsInserted (op_at place) old new (Ok done)
+    → place ≡ from + length old → in_order op_at from (length old) ≡ Some old → IsInserted most_operations (op_at place) old new (Ok done)
     → in_order op_at from (length new) ≡ Some new
 inserted_more op_at from place old new done at fit pushed =
-    let (op, here, is) = inserted_op (op_at place) old new done pushed in
-    let longer : length new ≡ suc (length old) = one_longer (op_at place) old new done pushed ∙ add-one (length old) in
+    let (op, here, is) = inserted_op most_operations (op_at place) old new done pushed in
+    let longer : length new ≡ suc (length old) = one_longer most_operations (op_at place) old new done pushed ∙ add-one (length old) in
     let there : op_at (from + length old) ≡ Some op = ap op_at (sym at) ∙ here in
     ap (in_order op_at from) longer ∙ (one_more op_at from (length old) old op fit there ∙ ap Some (sym is))
 
@@ -43,6 +43,11 @@ taken_of old new counts counted ops a tried counted_is = record {
       ∙ ap (with_outcomes counts (length new.desk.last.batches)) tried.applied.outcomes_are);
 }
 
+pub whole_of : (old new : OwnedView) (counts counted : Counts) (ops : List NamedOp) (a : Accepted) → IsApplied old ops (Ok a) new
+    → counted ≡ with_outcomes counts a.number a.outcomes → Takes old counts ops new counted
+whole_of old new counts counted ops a applied =
+    taken_of old new counts counted ops a (record { from = old; collected = inl refl; applied = applied })
+
 pub refused_of : (old new : OwnedView) (ops : List NamedOp) (error : ApplyError) → IsTried old ops (Err error) new
     → RefusesBatch old ops error new
 refused_of old new ops error tried =
@@ -63,16 +68,9 @@ pub refused_at : (c : Insertions) (at done : ℕ) (old new : OwnedView) (error :
 refused_at c at done old new error same alike refused =
     refused_rest c done old new error alike (subst (λ (n : ℕ). RefusesPart c n old error new) (sym same) refused)
 
--- the insertions that are in: none, those of a batch more, and the same ones
+-- the insertions that are in: none, and the same ones
 pub begun : (first : OwnedView) (start counts : Counts) (c : Insertions) → counts ≡ start → AreIn first start c 0 first counts
 begun first start counts c same = subst (λ (it : Counts). AreIn first start c 0 first it) (sym same) Begin
-
-pub one_batch_more : (first : OwnedView) (start : Counts) (c : Insertions) (at n : ℕ) (old new : OwnedView) (counts counted : Counts)
-    (ops : List NamedOp) → AreIn first start c at old counts → n ≡ batch_length c at → insertions_from c at n ≡ Some ops
-    → Takes old counts ops new counted → AreIn first start c (at + n) new counted
-one_batch_more first start c at n old new counts counted ops before is fit taken =
-    let fits : insertions_from c at (batch_length c at) ≡ Some ops = ap (insertions_from c at) (sym is) ∙ fit in
-    subst (λ (m : ℕ). AreIn first start c (at + m) new counted) (sym is) (More at old new counts counted ops before fits taken)
 
 pub still_in : (first : OwnedView) (start : Counts) (c : Insertions) (at done : ℕ) (fed : OwnedView) (counts told : Counts)
     → done ≡ at → told ≡ counts → AreIn first start c at fed counts → AreIn first start c done fed told

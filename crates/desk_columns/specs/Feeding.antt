@@ -1,6 +1,6 @@
 -- Insertions that a desk takes batch after batch, with a collection where too few blocks are free.
-use Rattle.std.specs.Prelude.{◌≡◌, ◌⊎◌, ◌+◌, ◌-◌, ◌==◌, ◌&&◌, ℕ, List, length, count_by, min, Bool, true, false, Some, Result, Ok, Err, OnOk, OnErr, IfOk, IfErr}
-use Rattle.graph_types.specs.{Limits.operation_limit, Step.outcomes, Valid.IsBatch, declared.batches.NamedOp.NamedOp}
+use Rattle.std.specs.Prelude.{◌≡◌, ◌⊎◌, ◌+◌, ◌-◌, ◌*◌, ◌<◌, ◌≤◌, ◌==◌, ◌&&◌, ℕ, List, length, count_by, min, Bool, true, false, Some, Result, Ok, Err, OnOk, OnErr, IfOk, IfErr}
+use Rattle.graph_types.specs.{Limits.{most_operations, operation_limit}, Step.outcomes, Valid.IsBatch, declared.batches.NamedOp.NamedOp}
 use Rattle.graph_version.specs.Versions.{content}
 use Rattle.block_reclamation.specs.{Status.is_free, declared.copies.PinCopy.PinCopy}
 use Rattle.store_steps.specs.{Boards.raised_board, Desks.IsCollected, Steps.Accepts}
@@ -71,30 +71,48 @@ abbrev pub RefusesBatch : OwnedView → List NamedOp → ApplyError → OwnedVie
 RefusesBatch old ops error new =
     MayCollect ops old new × Refuses new.desk.last (count_by is_free new.desk.pool) ops error
 
--- of the insertions from a place on, the first that is refused
-pub record IsFirstRefused (c : Insertions) (at : ℕ) (error : InsertError) : Type 0 where
+-- of so many insertions from a place on, the first that is refused
+pub record IsFirstRefused (c : Insertions) (at count : ℕ) (error : InsertError) : Type 0 where
   pub before : List NamedOp
+  pub within : length before < count
   pub fit : insertions_from c at (length before) ≡ Some before
   pub valid : IsBatch before
-  pub refused : IsInserted (insertion_at c (at + length before)) before before (Err error)
+  pub refused : IsInserted most_operations (insertion_at c (at + length before)) before before (Err error)
 
--- how many insertions from a place on are a batch
-abbrev pub batch_length : Insertions → ℕ → ℕ
-batch_length c at = min operation_limit (length c.sources - at)
+-- a batch has at most so many parts, of 4,096 insertions each
+abbrev pub most_parts : ℕ
+most_parts = 16
+
+-- how many insertions from a place on are a batch of so many parts: those that are left, where these are fewer
+abbrev pub batch_length : ℕ → Insertions → ℕ → ℕ
+batch_length parts c at = min (parts * operation_limit) (length c.sources - at)
+
+-- a desk takes a batch of so many parts: of one, or of more where a block is free for each of its insertions
+abbrev pub BearsParts : OwnedView → ℕ → Type 0
+BearsParts o parts = (parts ≡ 1) ⊎ ((parts ≤ most_parts) × (parts * operation_limit ≤ count_by is_free o.desk.pool))
+
+-- so many insertions from a place on are taken as a batch, and counted
+pub record TakesNext (c : Insertions) (at count : ℕ) (old : OwnedView) (counts : Counts) (new : OwnedView) (counted : Counts)
+    : Type 0 where
+  pub parts : ℕ
+  pub bears : BearsParts old parts
+  pub count_is : count ≡ batch_length parts c at
+  pub ops : List NamedOp
+  pub are : insertions_from c at count ≡ Some ops
+  pub takes : Takes old counts ops new counted
 
 -- the insertions before a place are in, batch after batch from the first on, and counted
 pub data AreIn (first : OwnedView) (start : Counts) (c : Insertions) : ℕ → OwnedView → Counts → Type 0 where
   Begin : AreIn first start c 0 first start
-  More : (at : ℕ) (old new : OwnedView) (counts counted : Counts) (ops : List NamedOp) → AreIn first start c at old counts
-      → insertions_from c at (batch_length c at) ≡ Some ops → Takes old counts ops new counted
-      → AreIn first start c (at + batch_length c at) new counted
+  More : (at count : ℕ) (old new : OwnedView) (counts counted : Counts) → AreIn first start c at old counts
+      → TakesNext c at count old counts new counted → AreIn first start c (at + count) new counted
 
--- why the batch of insertions from a place on isn't in, and what it left
+-- why the batch of one part from a place on isn't in, and what it left
 abbrev pub RefusesPart : Insertions → ℕ → OwnedView → InsertColumnsError → OwnedView → Type 0
 RefusesPart c at old BadLength new = ⊥
-RefusesPart c at old (BadInsertion error) new = IsFirstRefused c at error × (new ≡ old)
+RefusesPart c at old (BadInsertion error) new = IsFirstRefused c at (batch_length 1 c at) error × (new ≡ old)
 RefusesPart c at old (Refused error) new =
-    (ops : List NamedOp) × (insertions_from c at (batch_length c at) ≡ Some ops) × RefusesBatch old ops error new
+    (ops : List NamedOp) × (insertions_from c at (batch_length 1 c at) ≡ Some ops) × RefusesBatch old ops error new
 RefusesPart c at old OutOfMemory new = new ≡ old
 
 -- the same of the whole, of which the insertions before a place are in

@@ -1,24 +1,25 @@
 //! Insertions in columns, in batches.
 
-ghost use Rattle.std.specs.Prelude.{◌≡◌, ◌⊎◌, ◌<◌, ◌≤◌, ◌+◌, length, true, List, IfOk, IfErr, OnErr, Some, MatchResult};
-ghost use Rattle.graph_types.specs.Limits.{operation_limit};
+ghost use Rattle.std.specs.Prelude.{◌≡◌, ◌⊎◌, ◌<◌, ◌≤◌, ◌+◌, ◌*◌, length, count_by, true, List, IfOk, IfErr, OnErr, Some, MatchResult};
+ghost use Rattle.graph_types.specs.Limits.{most_operations, operation_limit};
 ghost use Rattle.graph_types.specs.declared.batches.NamedOp.{NamedOp};
 ghost use Rattle.graph_version.specs.Batches.{batch_value};
+ghost use Rattle.block_reclamation.specs.Status.{is_free};
 ghost use Rattle.batch_columns.specs.Dictionaries.{insertion_at, insertions_from, IsInserted};
-ghost use Rattle.desk_counts.specs.Counted.{none_counted};
+ghost use Rattle.desk_counts.specs.Counted.{none_counted, with_outcomes};
 ghost use Rattle.desk_columns.specs.Feeding as specs;
-ghost use Rattle.desk_columns.specs.Feeding.{columns_of, batch_length, IsFirstRefused, IsTried, RefusesPart, Takes, Feeds};
+ghost use Rattle.desk_columns.specs.Feeding.{columns_of, batch_length, most_parts, BearsParts, IsFirstRefused, IsTried, RefusesPart, Takes, TakesNext, Feeds};
 
 use batch_columns::{InsertError, insert_numbers};
 use desk::{Accepted, ApplyError, OwnedDesk};
 use desk_counts::Counts;
-use graph_types::Batch;
+use graph_types::{Batch, MOST_OPERATIONS, OPERATION_LIMIT};
 use std::alloc::{AllocError, Global};
 use std::sync::Arc;
 use thiserror::Error;
 
-/// How many insertions are applied at once.
-const BATCH: usize = 4096;
+/// How many times 4,096 insertions are applied at once, where as many blocks are free.
+const MOST_PARTS: usize = 16;
 
 /// Why insertions in columns were not all applied.
 #[derive(Clone, Copy, Debug, PartialEq, Eq, Error)]
@@ -55,11 +56,12 @@ fn insert_at(
 ) -> Result<(), InsertError>
     requires within { place < length insertions.now.sources.now }
     requires alike { specs.are_alike (columns_of insertions.now) ≡ true }
-    ensures { IsInserted (insertion_at (columns_of insertions.now) place) batch.old batch.new result }
+    ensures { IsInserted most_operations (insertion_at (columns_of insertions.now) place) batch.old batch.new result }
 {
     insert_numbers(
         alloc,
         batch,
+        MOST_OPERATIONS,
         insertions.kind,
         insertions.text,
         insertions.ends,
@@ -77,11 +79,11 @@ fn batch_of(
     from: usize,
     count: usize,
 ) -> Result<Batch, InsertError>
-    requires few { count ≤ operation_limit }
+    requires few { count ≤ most_operations }
     requires within { from + count ≤ length insertions.now.sources.now }
     requires alike { specs.are_alike (columns_of insertions.now) ≡ true }
     ensures batch { IfOk result (λ ops. insertions_from (columns_of insertions.now) from count ≡ Some ops) }
-    ensures refused { IfErr result (IsFirstRefused (columns_of insertions.now) from) }
+    ensures refused { IfErr result (IsFirstRefused (columns_of insertions.now) from count) }
 {
     let mut batch = Batch::with_room(alloc, count);
     let mut place = from;
@@ -113,7 +115,47 @@ fn apply_collecting(
     }
 }
 
-/// Applies the insertions of the batch from a place on, and counts them.
+/// Counts what became of a batch that was accepted.
+fn count_accepted(counts: &mut Counts, accepted: &Accepted)
+    ensures { counts.new ≡ with_outcomes counts.old accepted.now.number accepted.now.outcomes }
+{
+    *counts = counts.with_all(accepted.number, accepted.outcomes.as_slice());
+}
+
+/// Applies so many insertions from a place on as one batch, and counts them; or changes nothing.
+fn insert_whole(
+    alloc: Global,
+    desk: &mut OwnedDesk,
+    insertions: &Insertions<'_>,
+    from: usize,
+    count: usize,
+    counts: &mut Counts,
+) -> Result<(), InsertColumnsError>
+    requires few { count ≤ most_operations }
+    requires within { from + count ≤ length insertions.now.sources.now }
+    requires alike { specs.are_alike (columns_of insertions.now) ≡ true }
+    ensures taken { IfOk result (λ _. (ops : List NamedOp) × (insertions_from (columns_of insertions.now) from count ≡ Some ops)
+        × Takes desk.old counts.old ops desk.new counts.new) }
+    ensures unchanged { OnErr result (desk.new ≡ desk.old) }
+    ensures counts { OnErr result (counts.new ≡ counts.old) }
+{
+    let batch = match batch_of(alloc, insertions, from, count) {
+        Ok(batch) => batch,
+        Err(error) => return Err(InsertColumnsError::BadInsertion(error)),
+    };
+    let Ok(batch) = Arc::new(alloc, batch) else {
+        return Err(InsertColumnsError::OutOfMemory);
+    };
+    match desk.apply(batch) {
+        Ok(accepted) => {
+            count_accepted(counts, &accepted);
+            Ok(())
+        }
+        Err(error) => Err(InsertColumnsError::Refused(error)),
+    }
+}
+
+/// Applies the insertions of the batch of one part from a place on, and counts them.
 #[tactic(auto, using(crate::proofs::Inserted::taken_of, crate::proofs::Inserted::refused_of))]
 fn insert_part(
     alloc: Global,
@@ -123,7 +165,7 @@ fn insert_part(
     count: usize,
     counts: &mut Counts,
 ) -> Result<(), InsertColumnsError>
-    requires few { count ≡ batch_length (columns_of insertions.now) from }
+    requires few { count ≡ batch_length 1 (columns_of insertions.now) from }
     requires within { from + count ≤ length insertions.now.sources.now }
     requires alike { specs.are_alike (columns_of insertions.now) ≡ true }
     ensures taken { IfOk result (λ _. (ops : List NamedOp) × (insertions_from (columns_of insertions.now) from count ≡ Some ops)
@@ -143,11 +185,53 @@ fn insert_part(
     };
     match apply_collecting(desk, batch, again) {
         Ok(accepted) => {
-            *counts = counts.with_all(accepted.number, accepted.outcomes.as_slice());
+            count_accepted(counts, &accepted);
             Ok(())
         }
         Err(error) => Err(InsertColumnsError::Refused(error)),
     }
+}
+
+/// How many parts the desk takes at once by its free blocks.
+fn parts_for(desk: &OwnedDesk) -> usize
+    ensures least { 1 ≤ result }
+    ensures bears { BearsParts desk.now result }
+{
+    let free = desk.desk().stat().free as usize;
+    (free / OPERATION_LIMIT).min(MOST_PARTS).max(1)
+}
+
+/// Applies the next insertions, and tells how many: in a batch of several parts where the desk bears it, and else of one part. Once
+/// a batch of several parts was refused, `is_small` says that all others have one part, so that as many insertions as can be are
+/// in before one that is refused.
+fn insert_next(
+    alloc: Global,
+    desk: &mut OwnedDesk,
+    insertions: &Insertions<'_>,
+    from: usize,
+    is_small: &mut bool,
+    counts: &mut Counts,
+) -> Result<usize, InsertColumnsError>
+    requires within { from < length insertions.now.sources.now }
+    requires alike { specs.are_alike (columns_of insertions.now) ≡ true }
+    ensures taken { IfOk result (λ count. TakesNext (columns_of insertions.now) from count desk.old counts.old desk.new counts.new) }
+    ensures some { IfOk result (λ count. 0 < count) }
+    ensures refused { IfErr result (λ e. RefusesPart (columns_of insertions.now) from desk.old e desk.new) }
+    ensures counts { OnErr result (counts.new ≡ counts.old) }
+{
+    let rest = insertions.sources.len() - from;
+    let part = OPERATION_LIMIT.min(rest);
+    if !*is_small {
+        let whole = (parts_for(desk) * OPERATION_LIMIT).min(rest);
+        if whole > part {
+            match insert_whole(alloc, desk, insertions, from, whole, counts) {
+                Ok(()) => return Ok(whole),
+                Err(_) => *is_small = true,
+            }
+        }
+    }
+    insert_part(alloc, desk, insertions, from, part, counts)?;
+    Ok(part)
 }
 
 /// Whether the columns have one length.
@@ -167,8 +251,9 @@ fn none_of(desk: &OwnedDesk) -> Counts
     Counts::none(desk.desk().last().number())
 }
 
-/// Applies insertions in batches of 4,096, and collects where too few blocks are free. `done` tells how many were applied, also
-/// after a refusal, and `counts` what became of them; the first that is refused, and those of its batch, are not in.
+/// Applies insertions in batches of up to 65,536: as many times 4,096 as there are free blocks for, or 4,096 after a collection where
+/// there are fewer. A batch that is refused is tried again in parts of 4,096. `done` tells how many insertions were applied, also
+/// after a refusal, and `counts` what became of them; the first that is refused, and those of its part, are not in.
 pub fn insert_columns(
     alloc: Global,
     desk: &mut OwnedDesk,
@@ -185,10 +270,10 @@ pub fn insert_columns(
     }
     let count = insertions.sources.len();
     let mut at = 0;
+    let mut is_small = false;
     while at < count {
-        let part = BATCH.min(count - at);
-        match insert_part(alloc, desk, insertions, at, part, counts) {
-            Ok(()) => at += part,
+        match insert_next(alloc, desk, insertions, at, &mut is_small, counts) {
+            Ok(more) => at += more,
             Err(error) => return Err(error),
         }
         *done = at as u64;

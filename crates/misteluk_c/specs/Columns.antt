@@ -1,6 +1,6 @@
 -- What the calls that take columns tell.
-use Rattle.std.specs.Prelude.{◌≡◌, ◌⊎◌, ℕ, List, Option, Some, Result, Ok, Err, IsSomeAnd}
-use Rattle.graph_types.specs.declared.batches.NamedOp.{NamedOp}
+use Rattle.std.specs.Prelude.{◌≡◌, ◌⊎◌, ◌≤◌, ℕ, List, Option, Some, Result, Ok, Err, IsSomeAnd}
+use Rattle.graph_types.specs.{Limits.most_operations, declared.batches.NamedOp.NamedOp}
 use Rattle.batch_columns.specs.declared.operations.OperationsError.{OperationsError}
 use Rattle.batch_columns.specs.{Dictionaries.Insertions, Operations.{OperationTable, IsExtended, RefusesOperations}}
 use Rattle.desk.specs.Owned.{OwnedView}
@@ -9,13 +9,25 @@ use Rattle.desk_columns.specs.declared.columns.InsertColumnsError.{InsertColumns
 use Rattle.desk_columns.specs.declared.columns.InsertColumnsError.TheVariants as columns
 use Rattle.desk_counts.specs.declared.counts.Counts.{Counts}
 use Rattle.store_handles.specs.declared.held.Held.{Held}
-use Rattle.misteluk_c.specs.{Codes.{insert_code, operations_code}, Desks.{desk_in, apply_code}, Held.batch_in}
+use Rattle.misteluk_c.specs.{Codes.{insert_code, operations_code}, Desks.{desk_in, apply_code}, Held.{batch_in, Asks}}
 
--- operations of columns, from a place on, are behind a batch's own; or one is refused, and the batch is as it was
-abbrev pub TellsColumns : OperationTable → ℕ → List NamedOp → ℕ → Option Held → ℕ → Type 0
-TellsColumns t from old done new code =
-    ((code ≡ 0) × IsSomeAnd (batch_in new) (IsExtended t from old done))
-    ⊎ ((error : OperationsError) × (code ≡ operations_code error) × RefusesOperations t from old done error × (batch_in new ≡ Some old))
+-- operations of columns, from a place on, are behind the own ones of a batch that may have as many as the limit; or one is refused,
+-- and the batch is as it was
+abbrev pub TellsColumns : ℕ → OperationTable → ℕ → List NamedOp → ℕ → Option Held → ℕ → Type 0
+TellsColumns limit t from old done new code =
+    ((code ≡ 0) × IsSomeAnd (batch_in new) (IsExtended limit t from old done))
+    ⊎ ((error : OperationsError) × (code ≡ operations_code error) × RefusesOperations limit t from old done error
+    × (batch_in new ≡ Some old))
+
+-- how many operations a caller may let a batch have
+abbrev pub IsOperationLimit : ℕ → Type 0
+IsOperationLimit limit = (1 ≤ limit) × (limit ≤ most_operations)
+
+-- the same under a limit of the caller's, where it is one; else nothing is appended
+abbrev pub TellsColumnsWithin : ℕ → OperationTable → ℕ → Option Held → ℕ → Option Held → ℕ → Type 0
+TellsColumnsWithin limit t from old done new code =
+    (IsOperationLimit limit × Asks (batch_in old) code (λ ops. TellsColumns limit t from ops done new code))
+    ⊎ ((IsOperationLimit limit → ⊥) × (code ≡ 19) × (new ≡ old) × (done ≡ from))
 
 -- what insertions in columns are told by
 abbrev pub insert_columns_code : Result (Unit {0}) InsertColumnsError → ℕ

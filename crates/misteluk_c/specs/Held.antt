@@ -1,7 +1,7 @@
 -- What a handle holds, and what a call tells of it.
 use Rattle.std.specs.Prelude.{◌≡◌, ◌⊎◌, ℕ, List, Option, Some, None, Result, MatchBool, MatchResult}
 use Rattle.std.specs.Arc.{arc_value}
-use Rattle.graph_types.specs.{Answer.is_listed, Step.number_of, declared.batches.NamedOp.NamedOp, declared.batches.PushError.PushError}
+use Rattle.graph_types.specs.{Answer.is_listed, Limits.operation_limit, Step.number_of, declared.batches.NamedOp.NamedOp, declared.batches.PushError.PushError}
 use Rattle.graph_types.specs.declared.batches.Batch.{Batch}
 use Rattle.graph_version.specs.declared.versions.Version.{Version}
 use Rattle.graph_version.specs.Versions.{VersionView}
@@ -46,7 +46,8 @@ Tells code Answers = (answer : Result (Unit {0}) ColumnError) × (code ≡ colum
 -- the code tells whether an operation was appended
 abbrev pub TellsPush : NamedOp → List NamedOp → Option Held → ℕ → Type 0
 TellsPush op old new code =
-    (answer : Result (Unit {0}) PushError) × (ops : List NamedOp) × (batch_in new ≡ Some ops) × (code ≡ push_code answer) × IsPushed op old ops answer
+    (answer : Result (Unit {0}) PushError) × (ops : List NamedOp) × (batch_in new ≡ Some ops) × (code ≡ push_code answer)
+    × IsPushed operation_limit op old ops answer
 
 -- the number of a name that is listed, or the code that it is missing
 abbrev pub TellsNumber : ℕ → List (List ℕ) → List ℕ → ℕ → ℕ → Type 0

@@ -6,7 +6,7 @@ ghost use Rattle.misteluk_c.specs.Held.{batch_in, Asks, IsAlone, Makes, TellsPus
 
 use crate::codes::{HELD_ALREADY, MEMORY, NO_HANDLE, OK, push_code};
 use batch_columns::{push_add, push_expire, push_insert, push_remove};
-use graph_types::Batch;
+use graph_types::{Batch, OPERATION_LIMIT};
 use std::alloc::{AllocError, Global};
 use store_handles::{Handle, Held};
 
@@ -165,7 +165,16 @@ fn insert_in(
     let Held::Batch(batch) = held else {
         return NO_HANDLE;
     };
-    push_code(push_insert(alloc, batch, kind, source, target, weight, time))
+    push_code(push_insert(
+        alloc,
+        batch,
+        OPERATION_LIMIT,
+        kind,
+        source,
+        target,
+        weight,
+        time,
+    ))
 }
 
 #[tactic(auto, using(crate::proofs::Pushes::not_unshared))]
@@ -186,7 +195,16 @@ fn add_in(
     let Held::Batch(batch) = held else {
         return NO_HANDLE;
     };
-    push_code(push_add(alloc, batch, kind, source, target, amount, time))
+    push_code(push_add(
+        alloc,
+        batch,
+        OPERATION_LIMIT,
+        kind,
+        source,
+        target,
+        amount,
+        time,
+    ))
 }
 
 #[tactic(auto, using(crate::proofs::Pushes::not_unshared))]
@@ -199,7 +217,7 @@ fn remove_in(alloc: Global, held: &mut Held, kind: &[u8], source: &[u8], target:
     let Held::Batch(batch) = held else {
         return NO_HANDLE;
     };
-    push_code(push_remove(alloc, batch, kind, source, target))
+    push_code(push_remove(alloc, batch, OPERATION_LIMIT, kind, source, target))
 }
 
 #[tactic(auto, using(crate::proofs::Pushes::not_unshared))]
@@ -212,5 +230,5 @@ fn expire_in(held: &mut Held, time: u64) -> u32
     let Held::Batch(batch) = held else {
         return NO_HANDLE;
     };
-    push_code(push_expire(batch, time))
+    push_code(push_expire(batch, OPERATION_LIMIT, time))
 }

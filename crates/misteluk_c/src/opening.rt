@@ -18,7 +18,7 @@ use store_handles::{Handle, Held};
 /// How many blocks a desk has at the least, and at the most under limits of its own.
 const LEAST_BLOCKS: u32 = 16;
 
-const MOST_BLOCKS: u32 = 4_294_963_199;
+const MOST_BLOCKS: u32 = 4_293_918_719;
 
 /// How many vertices, kinds and batches a desk takes.
 #[derive(Clone, Copy)]

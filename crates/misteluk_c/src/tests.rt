@@ -1,6 +1,6 @@
 //! Each function is called once on its happy path. What the library is compiled from without a proof is what these reach.
 
-use crate::appending::misteluk_batch_columns;
+use crate::appending::{misteluk_batch_columns, misteluk_batch_columns_within};
 use crate::batches::{
     misteluk_batch_add, misteluk_batch_expire, misteluk_batch_free, misteluk_batch_insert,
     misteluk_batch_length, misteluk_batch_new, misteluk_batch_remove,
@@ -41,6 +41,7 @@ fn fill(alloc: Global, batch: &mut Handle) -> u32 {
         misteluk_batch_remove(alloc, batch, b"k", b"a", b"c"),
         misteluk_batch_expire(alloc, batch, 0),
         append(alloc, batch),
+        append_within(alloc, batch, 65_536),
         misteluk_batch_length(alloc, batch, &mut length),
     ];
     sum(&codes)
@@ -62,6 +63,27 @@ fn append(alloc: Global, batch: &mut Handle) -> u32 {
         &[1, 1, 0, 0],
         &[1, 2, 0, 0],
         &[2, 3, 0, 1],
+        &mut done,
+    )
+}
+
+/// The code of one insertion in columns, of a batch that may have so many operations.
+fn append_within(alloc: Global, batch: &mut Handle, limit: u32) -> u32 {
+    let mut done = 0_u64;
+    misteluk_batch_columns_within(
+        alloc,
+        batch,
+        limit,
+        b"k",
+        &[1],
+        b"ab",
+        &[1, 2],
+        &[0],
+        &[0],
+        &[0],
+        &[1],
+        &[1],
+        &[2],
         &mut done,
     )
 }

@@ -8,7 +8,7 @@ use std::marker::Model;
 use thiserror::Error;
 
 /// A store has at most so many blocks.
-const MOST_BLOCKS: u32 = 4_294_963_199;
+const MOST_BLOCKS: u32 = 4_293_918_719;
 
 /// How many workers apply a batch, how many blocks there are, and how many seats readers have: 1 to 8, 16 to 65,536 and
 /// 1 to 16; or as many blocks as a store can have, under limits of one's own.
@@ -58,7 +58,7 @@ impl Config {
         Config::within(Limits::standard(), workers, blocks, seats)
     }
 
-    /// A configuration of a store under these limits: 1 to 8 workers, 16 to 4,294,963,199 blocks, and 1 to 16 seats.
+    /// A configuration of a store under these limits: 1 to 8 workers, 16 to 4,293,918,719 blocks, and 1 to 16 seats.
     pub fn within(
         limits: Limits,
         workers: usize,

@@ -18,8 +18,8 @@ from ..errors import LibraryNotFound, NoMemory, StoreError
 # The words of codes that the client's users know.
 WORDS = {Code.BATCHES_FULL: "BatchLimit", Code.NAMES_FULL: "NamesFull", Code.KINDS_FULL: "KindsFull",
          Code.BLOCKS_FULL: "PoolEmpty", Code.NO_VERTEX: "NoVertex", Code.NO_KIND: "NoKind"}
-# Up to so many operations each have a call of their own.
-FEW = 6
+# Up to so many operations each have a call of their own, and so many go into one batch at the most.
+FEW, MOST_AT_ONCE = 6, 65_536
 _OPENED: "Dict[Tuple[str, int], Tuple[Library, Handles]]" = {}
 
 
@@ -125,5 +125,5 @@ def _fill_at_once(library: Library, raw: interface.Batch, columns: Numbered) -> 
     dictionaries = [(text, len(text), address(ends), len(ends)) for text, ends in (columns.of_kinds.encoded,
                                                                                     columns.of_names.encoded)]
     places: Any = chain.from_iterable([*dictionaries, *((address(it), len(it)) for it in columns[:6])])
-    append: Any = library.batch_columns
-    check(append(raw, *places, c_uint64()))
+    append: Any = library.batch_columns_within
+    check(append(raw, MOST_AT_ONCE, *places, c_uint64()))

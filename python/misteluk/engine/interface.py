@@ -14,6 +14,7 @@ INSERT = 0
 ADD = 1
 REMOVE = 2
 EXPIRE = 3
+MOST_OPERATIONS = 1048576
 
 
 class Code(enum.IntEnum):
@@ -130,6 +131,9 @@ FUNCTIONS: Dict[str, Tuple[Any, List[Any]]] = {
     "batch_columns": (c_uint32, [POINTER(Batch), c_void_p, c_size_t, c_void_p, c_size_t, c_void_p, c_size_t, c_void_p,
         c_size_t, c_void_p, c_size_t, c_void_p, c_size_t, c_void_p, c_size_t, c_void_p, c_size_t, c_void_p, c_size_t, c_void_p,
         c_size_t, POINTER(c_uint64)]),
+    "batch_columns_within": (c_uint32, [POINTER(Batch), c_uint32, c_void_p, c_size_t, c_void_p, c_size_t, c_void_p, c_size_t,
+        c_void_p, c_size_t, c_void_p, c_size_t, c_void_p, c_size_t, c_void_p, c_size_t, c_void_p, c_size_t, c_void_p, c_size_t,
+        c_void_p, c_size_t, POINTER(c_uint64)]),
     "desk_new": (c_uint32, [c_uint32, POINTER(Desk)]),
     "desk_new_within": (c_uint32, [POINTER(Limits), c_uint32, POINTER(Desk)]),
     "desk_limits": (c_uint32, [POINTER(Desk), POINTER(Limits)]),
@@ -175,6 +179,8 @@ class Library:
     batch_expire: Callable[[Batch, int], int]
     batch_columns: Callable[[Batch, Memory, int, Memory, int, Memory, int, Memory, int, Memory, int, Memory, int, Memory,
         int, Memory, int, Memory, int, Memory, int, c_uint64], int]
+    batch_columns_within: Callable[[Batch, int, Memory, int, Memory, int, Memory, int, Memory, int, Memory, int, Memory,
+        int, Memory, int, Memory, int, Memory, int, Memory, int, c_uint64], int]
     desk_new: Callable[[int, Desk], int]
     desk_new_within: Callable[[Limits, int, Desk], int]
     desk_limits: Callable[[Desk, Limits], int]

@@ -13,7 +13,7 @@ from ctypes import c_uint64
 from typing import Any, Callable, Dict, List, Optional, Sequence, Set, Tuple
 
 from . import interface
-from .calling import WORDS, Known, LibraryFlight, check, fill, opened, refusal_of
+from .calling import MOST_AT_ONCE, WORDS, Known, LibraryFlight, check, fill, opened, refusal_of
 from .copies import Content, content_of, operations_of
 from .finding import find_library
 from .guard import Guard, Notes, Owned, Step, alone
@@ -22,7 +22,6 @@ from .interface import Code
 from .operations import REMOVE, Operations
 from .protocol import Denied, Receipt
 from ..errors import NoSeat, StoreError
-from ..values import records
 from ..values.answers import Collected, Commit, Rebased, Renewed, Stat
 from ..values.limits import MOST_BLOCKS, MOST_KINDS, Limits
 
@@ -287,7 +286,7 @@ class LibraryEngine:
         operations = list(operations_of(content))
         at = 0
         while at < len(operations):
-            part = operations[at:at + min(records.MOST_OPERATIONS, max(self._stat(opening).free, 1))]
+            part = operations[at:at + min(MOST_AT_ONCE, max(self._stat(opening).free, 1))]
             flight = self.flight(Operations(part), True)
             check(self.library.desk_apply(opening.desk.raw, flight.owned.raw, flight.counts))
             self._collect(opening)

@@ -4,7 +4,7 @@ from __future__ import annotations
 from typing import List, NamedTuple, Optional
 
 # What no limits pass: kinds, vertices times kinds (so that a sum of weights has room in its type), batches, and blocks.
-MOST_KINDS, MOST_PRODUCT, MOST_BATCHES, MOST_BLOCKS = 64, 8_388_606, (1 << 32) - 1, 4_294_963_199
+MOST_KINDS, MOST_PRODUCT, MOST_BATCHES, MOST_BLOCKS = 64, 8_388_606, (1 << 32) - 1, 4_293_918_719
 USUAL_BATCHES = 65_536
 
 

@@ -1,8 +1,11 @@
 // Tests of batches: what they take and what they refuse.
 
+ghost use Rattle.std.specs.Prelude.{◌≤◌};
+ghost use Rattle.graph_types.specs.Limits.{most_operations};
+
 use super::checks::{same, tell_refused};
 use super::values::{LineError, OpRow, batch, op, push_record};
-use graph_types::{Batch, PushError};
+use graph_types::{Batch, MOST_OPERATIONS, NamedOp, OPERATION_LIMIT, PushError};
 use std::alloc::Global;
 use std::process::Abort;
 
@@ -124,6 +127,33 @@ fn a_batch_has_at_most_4096_operations(rt: HostRuntime) {
         .expect(&rt, "a text");
     let mut batch = batch(rt.alloc(), ops.as_str()).expect(&rt, "a full batch");
     check_full(&rt, rt.alloc(), &mut batch);
+}
+
+// A batch takes so many expiries within the limit, and no further one.
+fn check_within(rt: &impl Abort, batch: &mut Batch, limit: usize)
+    requires { limit ≤ most_operations }
+{
+    for _ in 0..limit {
+        same(rt, batch.push_within(NamedOp::expire(7), limit), Ok(()));
+    }
+    let full = batch.push_within(NamedOp::expire(7), limit);
+    same(rt, full, Err(PushError::BatchFull));
+    let bad = batch.push_within(NamedOp::expire(TIME), limit);
+    same(rt, bad, Err(PushError::BadTime));
+    same(rt, batch.len(), limit);
+}
+
+#[test]
+fn a_batch_has_at_most_as_many_operations_as_the_limit(rt: HostRuntime) {
+    for limit in [0, 1, 3, 4_097, MOST_OPERATIONS] {
+        let mut batch = Batch::new(rt.alloc());
+        check_within(&rt, &mut batch, limit);
+        same(
+            &rt,
+            batch.push(NamedOp::expire(7)).is_ok(),
+            limit < OPERATION_LIMIT,
+        );
+    }
 }
 
 // The greatest operation, of which the batch has one then, or none where a growth was refused.

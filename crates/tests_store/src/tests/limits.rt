@@ -6,7 +6,7 @@ use graph_types::Limits;
 use stream_store::{Config, law_equal_answers};
 
 /// A store has at most so many blocks.
-const MOST_BLOCKS: u32 = 4_294_963_199;
+const MOST_BLOCKS: u32 = 4_293_918_719;
 
 /// What is past the limits of workers, of blocks and of seats.
 const PAST: [(usize, u32, usize); 6] = [

@@ -8,20 +8,21 @@ pub loop-alloc-preserved : goal.loop-alloc-preserved
 loop-alloc-preserved c =
     let t = table_of c.args.operations.now in
     let pushed = rw c.in-Ok-push_at.is at c.push_at.ensures in
-    let longer = one_longer (operation_at t c.loop-alloc.place) c.loop-alloc.longer c.push_at.new.batch c.in-Ok-push_at.field-0 pushed in
+    let longer = one_longer c.args.limit (operation_at t c.loop-alloc.place) c.loop-alloc.longer c.push_at.new.batch c.in-Ok-push_at.field-0 pushed in
     record {
       order = omega arith;
       within = omega arith;
       few = omega (arith, c.loop-alloc.invariant.few, longer);
-      extended = extended_more t c.args.done.now c.loop-alloc.place c.args.batch.now c.loop-alloc.longer c.push_at.new.batch
+      room = omega arith;
+      extended = extended_more c.args.limit t c.args.done.now c.loop-alloc.place c.args.batch.now c.loop-alloc.longer c.push_at.new.batch
           c.in-Ok-push_at.field-0 c.loop-alloc.invariant.order c.loop-alloc.invariant.extended pushed;
     }
 
 pub returns-clause-extended : goal.returns-clause-extended
 returns-clause-extended c =
     let (ops, are, is) = c.loop-alloc.invariant.extended in
-    let few = c.len.ensures.batch.few in
-    let first : c.loop-alloc.place ≡ first_out (table_of c.args.operations.now) (length c.args.batch.now) c.args.done.now =
+    let few = c.loop-alloc.invariant.room in
+    let first : c.loop-alloc.place ≡ first_out c.args.limit (table_of c.args.operations.now) (length c.args.batch.now) c.args.done.now =
     elim c.loop-alloc-test.branch [
       | then-loop-alloc-test+else-place-count w ↦ omega (arith, few, w.if-place-count, w.loop-alloc-test)
       | else-loop-alloc-test w ↦ omega (arith, few, w.loop-alloc-test)

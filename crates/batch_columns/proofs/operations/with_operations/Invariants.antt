@@ -9,6 +9,7 @@ invariant-loop-alloc l = record {
   order : l.fn.done ≤ l.place;
   within : l.place - l.fn.done ≤ l.count - l.fn.done;
   few : length l.longer ≡ length l.batch + (l.place - l.fn.done);
+  room : l.place - l.fn.done ≤ l.limit - length l.batch;
   extended : (ops : List NamedOp) × (operations_from (table_of l.operations) l.fn.done (l.place - l.fn.done) ≡ Some ops)
       × (l.longer ≡ l.batch ++ ops);
 }

@@ -1,7 +1,7 @@
 use Rattle.std.proofs.Common.{rules, ◌≡◌, length, true, refl, arith}
 use Rattle.desk_counts.specs.Counted.{none_counted}
-use Rattle.desk_columns.specs.Feeding.{are_alike, columns_of}
-use Rattle.desk_columns.proofs.Inserted.{begun, one_batch_more, refused_at, still_in}
+use Rattle.desk_columns.specs.Feeding.{are_alike, columns_of, AreIn.More}
+use Rattle.desk_columns.proofs.Inserted.{begun, refused_at, still_in}
 use Rattle.desk_columns.proofs.columns.insert_columns.Goals as goal
 
 pub returns-then-not-are_alike : goal.returns-then-not-are_alike
@@ -22,13 +22,12 @@ loop-at-init c = record {
 
 pub loop-at-preserved : goal.loop-at-preserved
 loop-at-preserved c =
-    let (ops, fit, taken) = c.in-Ok.ensures.taken in
+    let next = c.in-Ok.ensures.taken in
     record {
-      within = omega (arith, c.min-part.ensures);
+      within = omega (arith, next.count_is);
       done_is = refl;
-      are_in = one_batch_more c.args.desk.now (none_counted (length c.args.desk.now.desk.last.batches))
-          (columns_of c.args.insertions.now) c.loop-at.at c.min-part.result c.loop-at.desk c.insert_part.new.desk c.loop-at.counts
-          c.insert_part.new.counts ops c.loop-at.invariant.are_in c.min-part.ensures fit taken;
+      are_in = More c.loop-at.at c.in-Ok.more c.loop-at.desk c.insert_next.new.desk c.loop-at.counts c.insert_next.new.counts
+          c.loop-at.invariant.are_in next;
     }
 
 pub returns-in-Err : goal.returns-in-Err
@@ -37,9 +36,9 @@ returns-in-Err c =
     record {
       fed = c.loop-at.desk;
       are_in = still_in c.args.desk.now (none_counted (length c.args.desk.now.desk.last.batches))
-          (columns_of c.args.insertions.now) c.loop-at.at c.loop-at.done c.loop-at.desk c.loop-at.counts c.insert_part.new.counts
+          (columns_of c.args.insertions.now) c.loop-at.at c.loop-at.done c.loop-at.desk c.loop-at.counts c.insert_next.new.counts
           c.loop-at.invariant.done_is c.in-Err.ensures.counts c.loop-at.invariant.are_in;
-      ends = refused_at (columns_of c.args.insertions.now) c.loop-at.at c.loop-at.done c.loop-at.desk c.insert_part.new.desk
+      ends = refused_at (columns_of c.args.insertions.now) c.loop-at.at c.loop-at.done c.loop-at.desk c.insert_next.new.desk
           c.in-Err.error c.loop-at.invariant.done_is alike c.in-Err.ensures.refused;
     }
 

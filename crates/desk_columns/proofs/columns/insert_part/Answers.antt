@@ -2,7 +2,6 @@ use Rattle.std.proofs.Common.{◌≡◌, Some, sym, ap, ◌∙◌}
 use Rattle.std.specs.Prelude.{Ok}
 use Rattle.graph_version.specs.Batches.{batch_value}
 use Rattle.batch_columns.specs.Dictionaries.{insertions_from}
-use Rattle.desk_counts.specs.Counted.{with_outcomes}
 use Rattle.desk_columns.specs.Feeding.{columns_of, IsTried}
 use Rattle.desk_columns.proofs.Inserted.{taken_of}
 use Rattle.desk_columns.proofs.columns.insert_part.Goals as goal
@@ -13,7 +12,9 @@ returns-in-Ok-apply_collecting-clause-taken c =
     let a = c.in-Ok-apply_collecting.accepted in
     let fit : insertions_from (columns_of c.args.insertions.now) c.args.from c.args.count ≡ Some ops =
     c.in-Ok.ensures.batch ∙ ap Some (sym c.in-Ok-new.ensures.ok) in
-    let tried : IsTried c.args.desk.now ops (Ok a) c.apply_collecting.new.desk = c.in-Ok-apply_collecting.ensures in
-    let counted : c.with_all.result ≡ with_outcomes c.args.counts.now a.number a.outcomes =
-    c.with_all.ensures ∙ ap (with_outcomes c.args.counts.now a.number) c.as_slice.ensures in
-    (ops, fit, taken_of c.args.desk.now c.apply_collecting.new.desk c.args.counts.now c.with_all.result ops a tried counted)
+    let tried : IsTried c.args.desk.now ops (Ok a) c.apply_collecting.new.desk = c.in-Ok-apply_collecting.ensures in (
+      ops,
+      fit,
+      taken_of c.args.desk.now c.apply_collecting.new.desk c.args.counts.now c.count_accepted.new.counts ops a tried
+          c.count_accepted.ensures,
+    )
