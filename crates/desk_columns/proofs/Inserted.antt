@@ -5,7 +5,7 @@ use Rattle.graph_types.specs.{Limits.most_operations, declared.batches.NamedOp.N
 use Rattle.block_reclamation.specs.Status.{is_free}
 use Rattle.desk.specs.{Owned.OwnedView, Refusals.Refuses}
 use Rattle.desk.specs.declared.{errors.ApplyError.ApplyError, ready.Accepted.Accepted, errors.ApplyError.TheVariants.PoolEmpty}
-use Rattle.batch_columns.specs.Dictionaries.{in_order, insertions_from, Insertions, IsInserted}
+use Rattle.batch_columns.specs.Dictionaries.{in_order, Insertions, IsInserted}
 use Rattle.batch_columns.proofs.OneMore.{one_more, inserted_op, one_longer}
 use Rattle.desk_counts.specs.{declared.counts.Counts.Counts, Counted.with_outcomes}
 use Rattle.desk_columns.specs.Feeding.{are_alike, AreIn, AreIn.Begin, Collects, IsApplied, IsTried, MayCollect, RefusesBatch, RefusesPart, RefusesRest, Takes}

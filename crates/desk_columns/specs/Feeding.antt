@@ -2,7 +2,7 @@
 use Rattle.std.specs.Prelude.{◌≡◌, ◌⊎◌, ◌+◌, ◌-◌, ◌*◌, ◌<◌, ◌≤◌, ◌==◌, ◌&&◌, ℕ, List, length, count_by, min, Bool, true, false, Some, Result, Ok, Err, OnOk, OnErr, IfOk, IfErr}
 use Rattle.graph_types.specs.{Limits.{most_operations, operation_limit}, Step.outcomes, Valid.IsBatch, declared.batches.NamedOp.NamedOp}
 use Rattle.graph_version.specs.Versions.{content}
-use Rattle.block_reclamation.specs.{Status.is_free, declared.copies.PinCopy.PinCopy}
+use Rattle.block_reclamation.specs.{Status.is_free}
 use Rattle.store_steps.specs.{Boards.raised_board, Desks.IsCollected, Steps.Accepts}
 use Rattle.desk.specs.{Owned.{OwnedView, copied}, Refusals.Refuses, declared.errors.ApplyError.ApplyError, declared.ready.Accepted.Accepted}
 use Rattle.desk.specs.declared.errors.ApplyError.TheVariants.{PoolEmpty}

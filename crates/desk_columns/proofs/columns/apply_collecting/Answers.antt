@@ -1,4 +1,4 @@
-use Rattle.std.proofs.Common.{rules, refl, inl}
+use Rattle.std.proofs.Common.{refl, inl}
 use Rattle.graph_version.specs.Batches.{batch_value}
 use Rattle.desk_columns.proofs.Inserted.{tried_again}
 use Rattle.desk_columns.proofs.columns.apply_collecting.Goals as goal
