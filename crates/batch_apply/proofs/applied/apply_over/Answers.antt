@@ -1,4 +1,4 @@
-use Rattle.std.proofs.Common.{ℕ, ◌≤◌, length, refl, ap, ◌∙◌, subst, zip, arith}
+use Rattle.std.proofs.Common.{ℕ, ◌≤◌, length, refl, ap, ◌∙◌, subst, zip}
 use Rattle.std.proofs.lemmas.{List.length-map, Result.IfOk-weaker}
 use Rattle.graph_types.specs.Limits.{operation_limit}
 use Rattle.edge_block.specs.Batches.{resolved}
@@ -6,28 +6,28 @@ use Rattle.graph_version.specs.{Rows.row_of, Batches.batch_value, Versions.{Vers
 use Rattle.batch_shards.specs.RowBlocks.{numbers_of}
 use Rattle.batch_apply.specs.Gathered.{IsGathered, IsWorked}
 use Rattle.batch_apply.proofs.Dealt.{needs_of, dealt_ready}
-use Rattle.batch_apply.proofs.applied.apply_alone.Goals.{In_ok-all}
-use Rattle.batch_apply.proofs.applied.apply_alone.Goals as goal
+use Rattle.batch_apply.proofs.applied.apply_over.{Given.Over, Goals.In_ok-all}
+use Rattle.batch_apply.proofs.applied.apply_over.Goals as goal
 
-pub work_alone-requires-clause-long : goal.work_alone-requires-clause-long
-work_alone-requires-clause-long c = ap length c.requires.plan.needs
+pub work-requires-clause-long : goal.work-requires-clause-long
+work-requires-clause-long g c κs within = ap length c.requires.plan.2.needs
     ∙ length-map c.args.plan.shards.items (needs_of (row_of c.args.version.now.rows))
 
-pub work_alone-requires-clause-ready : goal.work_alone-requires-clause-ready
-work_alone-requires-clause-ready c = λ jobs dealt.
+pub work-requires-clause-ready : goal.work-requires-clause-ready
+work-requires-clause-ready g c κs within = λ jobs dealt.
     let v : VersionView = c.args.version.now in
-    let n : ℕ = 1 in
+    let n : ℕ = c.requires.plan.0 in
     dealt_ready n (resolved (batch_value c.args.batch) (content v).names (content v).kinds) (layout_of v.rows) (row_of v.rows) 0 n
-    c.args.plan.shards.items c.args.plan.needs.items jobs c.requires.plan.needs c.requires.plan.shards
+    c.args.plan.shards.items c.args.plan.needs.items jobs c.requires.plan.2.needs c.requires.plan.2.shards
     dealt
 
-worked : (c : In_ok-all) → IsWorked c.args.version.now (batch_value c.args.batch) c.args.plan.names c.args.plan.kinds
+worked : (g : Over) (c : In_ok-all g) → IsWorked c.args.version.now (batch_value c.args.batch) c.args.plan.names c.args.plan.kinds
     (numbers_of c.args.blocks.items) c.in_ok-all.all
-worked c = record {
-  workers = 1;
-  some = omega arith;
+worked g c = record {
+  workers = c.requires.plan.0;
+  some = c.requires.plan.1;
   plan = c.args.plan;
-  planned = c.requires.plan;
+  planned = c.requires.plan.2;
   names_are = refl;
   kinds_are = refl;
   few = c.requires.few;
@@ -38,9 +38,9 @@ worked c = record {
   unlisted = c.requires.unlisted;
 }
 
-pub finish-requires : goal.finish-requires
-finish-requires c = (numbers_of c.args.blocks.items, worked (goal.at.finish-requires c).In_ok-all)
+pub finish-requires-clause-worked : goal.finish-requires-clause-worked
+finish-requires-clause-worked g c = (numbers_of c.args.blocks.items, worked g (goal.at.finish-requires-clause-worked g c).In_ok-all)
 
 pub returns : goal.returns
-returns c = IfOk-weaker c.finish.result _ _ (λ a made. made (numbers_of c.args.blocks.items)
-    (worked (goal.at.returns c).In_ok-all)) c.finish.ensures
+returns g c = IfOk-weaker c.finish.result _ _ (λ a made. made (numbers_of c.args.blocks.items)
+    (worked g (goal.at.returns g c).In_ok-all)) c.finish.ensures
