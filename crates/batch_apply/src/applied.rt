@@ -1,7 +1,7 @@
 //! A batch applied to a version.
 
 ghost use Rattle.std.specs.Prelude.{◌≡◌, ◌≢◌, ◌+◌, ◌++◌, ◌%◌, ◌^◌, ◌<◌, ◌≤◌, ℕ, [], false, Bool, List, length, map, flat_map};
-ghost use Rattle.std.specs.Prelude.{replicate, count_by, zip, IfOk, OnOk, All, AllPairs, if◌then◌else◌};
+ghost use Rattle.std.specs.Prelude.{replicate, count_by, zip, IfOk, IfSome, OnOk, All, AllPairs, if◌then◌else◌};
 ghost use Rattle.std.specs.List.{sum_by, AllZip};
 ghost use Rattle.graph_types.specs.declared.batches.Outcome.TheVariants.{Absent};
 ghost use Rattle.graph_version.specs.Batches.{batch_value};
@@ -15,6 +15,7 @@ ghost use Rattle.batch_shards.specs.Groups.{written};
 ghost use Rattle.batch_apply.specs.Gathered.{IsDealt, IsShard};
 ghost use Rattle.batch_apply.specs.Applied.{is_inserted, taken_away};
 ghost use Rattle.batch_apply.specs.Applied.{IsApplied, ReplacesRows, written_from};
+ghost use Rattle.batch_apply.specs.Rewritten.{IsRewritten};
 ghost use Rattle.batch_apply.specs.Gathered.{IsGathered, IsWorked};
 
 use crate::plans::Plan;
@@ -22,7 +23,7 @@ use crate::workers::{Gate, Job, PassAll, do_all, do_alone};
 use batch_shards::{Leavings, Shard, ShardDone, write_outcomes};
 use edge_block::Block;
 use graph_types::{Batch, Outcome, VertexId};
-use graph_version::{Version, VersionDraft};
+use graph_version::{RowTable, Version, VersionDraft};
 use std::alloc::{AllocError, Global};
 use std::sync::Arc;
 use std::thread::Threads;
@@ -41,6 +42,13 @@ pub struct Applied {
     pub dropped: Vec<Arc<Block>>,
     /// The fresh blocks that the next version doesn't have.
     pub unused: Vec<Arc<Block>>,
+}
+
+/// What a batch leaves of a version, and the sources whose rows were written: all other rows are the version's.
+#[derive(Drop)]
+pub struct Rewritten {
+    pub applied: Applied,
+    pub sources: Vec<VertexId>,
 }
 
 /// The next version of a version, after a batch of which this is the plan, with as many fresh blocks at hand as
@@ -64,6 +72,35 @@ pub fn apply<R: Threads + Sync, G: Gate + Sync>(
     requires unlisted { All (λ n. is_in n (rows.numbers_of (rows.blocks_of version.now.rows)) ≡ false) (numbers_of blocks.items) }
     ensures { IfOk result (IsApplied version.now (batch_value batch) (numbers_of blocks.items)) }
 {
+    let rewritten = apply_over(rt, alloc, gate, version, plan, batch, blocks, None)?;
+    Ok(rewritten.applied)
+}
+
+/// As [`apply`], where the next version's rows are made in a table that has the version's, if there is one.
+///
+/// ```
+/// let table = RowTable::caught_up(before, &version, sources.as_slice()).ok();
+/// let Rewritten { applied, sources } = apply_over(rt, alloc, &gate, &version, plan, batch, blocks, table)?;
+/// ```
+pub fn apply_over<R: Threads + Sync, G: Gate + Sync>(
+    rt: &R,
+    alloc: Global,
+    gate: &G,
+    version: &Version,
+    plan: Plan,
+    batch: Arc<Batch>,
+    blocks: Vec<Arc<Block>>,
+    table: Option<RowTable>,
+) -> Result<Rewritten, AllocError>
+    requires plan { (workers : ℕ) × (0 < workers) × IsPlan workers (batch_value batch) (content version.now)
+        (row_of version.now.rows) plan }
+    requires few { length version.now.batches < (content version.now).limits.batches }
+    requires blocks { sum_by (λ n. n) plan.needs.items ≤ length blocks.items }
+    requires distinct { AllPairs ◌≢◌ (numbers_of blocks.items) }
+    requires unlisted { All (λ n. is_in n (rows.numbers_of (rows.blocks_of version.now.rows)) ≡ false) (numbers_of blocks.items) }
+    requires table { IfSome table (λ t. t ≡ version.now.rows) }
+    ensures { IfOk result (IsRewritten version.now (batch_value batch) (numbers_of blocks.items)) }
+{
     let Plan {
         names,
         kinds,
@@ -77,7 +114,7 @@ pub fn apply<R: Threads + Sync, G: Gate + Sync>(
         operations: batch.len(),
     };
     let all = work(rt, alloc, gate, version, load)?;
-    finish(version, names, kinds, batch, all)
+    finish(alloc, version, names, kinds, batch, all, table)
 }
 
 /// As [`apply`], of a batch that was planned for one worker, who is the caller: it starts no thread, and tells no gate.
@@ -101,6 +138,27 @@ pub fn apply_alone(
     requires unlisted { All (λ n. is_in n (rows.numbers_of (rows.blocks_of version.now.rows)) ≡ false) (numbers_of blocks.items) }
     ensures { IfOk result (IsApplied version.now (batch_value batch) (numbers_of blocks.items)) }
 {
+    let rewritten = apply_alone_over(alloc, version, plan, batch, blocks, None)?;
+    Ok(rewritten.applied)
+}
+
+/// As [`apply_alone`], over a table, as [`apply_over`].
+pub fn apply_alone_over(
+    alloc: Global,
+    version: &Version,
+    plan: Plan,
+    batch: Arc<Batch>,
+    blocks: Vec<Arc<Block>>,
+    table: Option<RowTable>,
+) -> Result<Rewritten, AllocError>
+    requires plan { IsPlan 1 (batch_value batch) (content version.now) (row_of version.now.rows) plan }
+    requires few { length version.now.batches < (content version.now).limits.batches }
+    requires blocks { sum_by (λ n. n) plan.needs.items ≤ length blocks.items }
+    requires distinct { AllPairs ◌≢◌ (numbers_of blocks.items) }
+    requires unlisted { All (λ n. is_in n (rows.numbers_of (rows.blocks_of version.now.rows)) ≡ false) (numbers_of blocks.items) }
+    requires table { IfSome table (λ t. t ≡ version.now.rows) }
+    ensures { IfOk result (IsRewritten version.now (batch_value batch) (numbers_of blocks.items)) }
+{
     let Plan {
         names,
         kinds,
@@ -114,31 +172,50 @@ pub fn apply_alone(
         operations: batch.len(),
     };
     let all = work_alone(alloc, &PassAll, version, load)?;
-    finish(version, names, kinds, batch, all)
+    finish(alloc, version, names, kinds, batch, all, table)
 }
 
 /// The next version, with these names, from what all shards left of the version.
 fn finish(
+    alloc: Global,
     version: &Version,
     names: NameBook,
     kinds: NameBook,
     batch: Arc<Batch>,
     all: Gathered,
-) -> Result<Applied, AllocError>
-    requires { (numbers : List ℕ) × IsWorked version.now (batch_value batch) names kinds numbers all }
-    ensures { IfOk result (λ a. (numbers : List ℕ) → IsWorked version.now (batch_value batch) names kinds numbers all
-        → IsApplied version.now (batch_value batch) numbers a) }
+    table: Option<RowTable>,
+) -> Result<Rewritten, AllocError>
+    requires worked { (numbers : List ℕ) × IsWorked version.now (batch_value batch) names kinds numbers all }
+    requires table { IfSome table (λ t. t ≡ version.now.rows) }
+    ensures { IfOk result (λ r. (numbers : List ℕ) → IsWorked version.now (batch_value batch) names kinds numbers all
+        → IsRewritten version.now (batch_value batch) numbers r) }
 {
     let edges = edges_after(version.edge_count(), &all.outcomes);
-    let draft = VersionDraft::over_named(version, names, kinds)?;
+    let sources = sources_of(alloc, all.rows.as_slice())?;
+    let draft = VersionDraft::over_table(version, names, kinds, table)?;
     let draft = replace_rows(draft, all.rows)?.push_batch(batch)?;
-    Ok(Applied {
+    let applied = Applied {
         version: draft.finish_counted(edges),
         outcomes: all.outcomes,
         taken: all.left.taken,
         dropped: all.left.dropped,
         unused: all.left.unused,
-    })
+    };
+    Ok(Rewritten { applied, sources })
+}
+
+/// The sources of rows, in their order.
+fn sources_of(
+    alloc: Global,
+    rows: &[(VertexId, Vec<Arc<Block>>)],
+) -> Result<Vec<VertexId>, AllocError>
+    ensures { IfOk result (λ v. v.items ≡ map (λ r. r.0) rows.now) }
+{
+    let mut sources = Vec::with_capacity(alloc, rows.len())?;
+    for row in rows {
+        sources.push(row.0)?;
+    }
+    Ok(sources)
 }
 
 /// What the shards of a batch are given.

@@ -18,7 +18,7 @@ mod shards;
 mod source_laws;
 mod workers;
 
-pub use applied::{Applied, apply, apply_alone};
+pub use applied::{Applied, Rewritten, apply, apply_alone, apply_alone_over, apply_over};
 pub use laws::{
     law_all_written, law_batch_totals, law_needs, law_needs_example, law_shard_results,
     law_sum_all, law_worker_rows,

@@ -32,7 +32,7 @@ module _ (p q : Parts) (numbers : List ℕ) (opened : q.opened ≡ p.opened) (la
   pub same_old : old_of q numbers ≡ old_of p numbers
   same_old = λ i. record {
     opened = opened i;
-    last = arc_value {X = Version} (last i);
+    last = last i;
     journal = map entry_of (items i);
     pool = marked numbers Free (pool i);
   }
@@ -65,7 +65,7 @@ module _ (p q : Parts) (numbers : List ℕ) (free : AreFree p.pool numbers) (gra
   pub old_same : old_of q numbers ≡ desk_in p
   old_same = λ i. record {
     opened = opened i;
-    last = arc_value {X = Version} (last i);
+    last = last i;
     journal = map entry_of (journal i).items;
     pool = back i;
   }

@@ -7,6 +7,7 @@ use Rattle.graph_version.specs.{declared.versions.Version.Version, Versions.Vers
 use Rattle.store_steps.specs.Desks.{FollowsLayout}
 use Rattle.desk.specs.declared.applying.Prepared.{Prepared}
 use Rattle.graph_version.specs.Rows as rows
+use Rattle.graph_version.specs.Differences.{DifferAt}
 use Rattle.epoch_core.specs.Blocks.{all_differ}
 use Rattle.block_reclamation.specs.{declared.status.BlockStatus.BlockStatus, Status.is_in_use, Status.is_used, Status.is_at}
 
@@ -23,6 +24,7 @@ pub record IsPrepared (v : VersionView) (ops : List NamedOp) (numbers : List ℕ
   pub births : CarriesBirths v ops (arc_value {X = Version} p.version) p.taken (blocks_of p.dropped.items)
   pub batch_is : arc_value {X = Batch} p.batch ≡ ops
   pub dropped_are : p.dropped_numbers ≡ numbers_of p.dropped.items
+  pub rows_are : DifferAt p.sources.items v.rows (arc_value {X = Version} p.version).rows
 
 -- each of the numbers has a status that passes, and none stands twice
 pub record AreOnce (test : BlockStatus → Bool) (numbers : List ℕ) (pool : List BlockStatus) : Type 0 where

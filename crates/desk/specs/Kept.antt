@@ -1,7 +1,7 @@
 -- What a desk keeps.
 use Rattle.std.specs.{Prelude.{ℕ, ◌+◌, ◌≤◌, List, length, map, count_by}, Arc.arc_value}
 use Rattle.graph_types.specs.declared.batches.Batch.{Batch}
-use Rattle.graph_version.specs.{declared.versions.Version.Version, Versions.VersionView}
+use Rattle.graph_version.specs.Versions.{VersionView}
 use Rattle.block_reclamation.specs.{declared.status.BlockStatus.BlockStatus, Status.is_retired}
 use Rattle.store_steps.specs.{Journal.Entry, Journal.Applied, Journal.Collected, Desks.DeskView, Desks.IsDesk}
 use Rattle.desk.specs.declared.{desks.Parts.Parts, entries.JournalEntry.JournalEntry}
@@ -17,7 +17,7 @@ desk_of opened last entries pool = record { opened = opened; last = last; journa
 
 -- the desk of these parts, with this pool, and with theirs
 abbrev pub desk_with : Parts → List BlockStatus → DeskView
-desk_with p pool = desk_of p.opened (arc_value {X = Version} p.last) p.journal.items pool
+desk_with p pool = desk_of p.opened p.last p.journal.items pool
 
 abbrev pub desk_in : Parts → DeskView
 desk_in p = desk_with p p.pool

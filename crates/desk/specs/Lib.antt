@@ -1,6 +1,7 @@
 pub mod Applying
 pub mod Copies
 pub mod Kept
+pub mod Tables
 pub mod Openings
 pub mod Owned
 pub mod Ready

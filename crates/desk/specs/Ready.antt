@@ -8,7 +8,7 @@ use Rattle.batch_shards.specs.RowBlocks.{blocks_of, numbers_of}
 use Rattle.block_reclamation.specs.{Status.is_retired, declared.status.BlockStatus.TheVariants.{Free, Granted}}
 use Rattle.block_pool.specs.Pools.{marked, AreFree}
 use Rattle.store_steps.specs.Desks.{DeskView, desk_after}
-use Rattle.desk.specs.{Applying.IsPrepared, Kept.{IsKept, desk_with}, declared.{applying.Prepared.Prepared, desks.Parts.Parts, ready.Load.Load}}
+use Rattle.desk.specs.{Applying.IsPrepared, Tables.IsTableOf, Kept.{IsKept, desk_with}, declared.{applying.Prepared.Prepared, desks.Parts.Parts, ready.Load.Load}}
 use Rattle.graph_version.specs.Rows as rows
 
 -- Granted
@@ -29,14 +29,15 @@ pub record IsGranted (parts : Parts) (numbers : List ℕ) : Type 0 where
   pub free : AreFree (old_of parts numbers).pool numbers
   pub granted : parts.pool ≡ marked numbers Granted (old_of parts numbers).pool
 
--- what is needed to apply a batch to this version: the plan, the batch, and as many blocks as the plan's shards may take, each of
--- another number and none of the version's
+-- what is needed to apply a batch to this version: the plan, the batch, as many blocks as the plan's shards may take, each of
+-- another number and none of the version's, and the table, if there is one, with the version's rows
 pub record IsLoad (v : VersionView) (ops : List NamedOp) (plan : Plan) (load : Load) : Type 0 where
   pub plan_is : load.plan ≡ plan
   pub batch_is : batch_value load.batch ≡ ops
   pub enough : sum_by (λ n. n) plan.needs.items ≤ length load.blocks.items
   pub distinct : AllPairs ◌≢◌ (numbers_of load.blocks.items)
   pub unlisted : All (λ n. is_in n (rows.numbers_of (rows.blocks_of v.rows)) ≡ false) (numbers_of load.blocks.items)
+  pub table : IsTableOf v.rows load.table
 
 -- Ready
 

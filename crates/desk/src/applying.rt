@@ -4,25 +4,22 @@
 ghost use Rattle.std.specs.Prelude.{◌≡◌, ◌≢◌, ◌+◌, ◌<◌, ◌≤◌, ◌^◌, ◌++◌, ◌∷◌, [], ℕ, List, length, IfOk, IfErr, OnOk, OnErr};
 ghost use Rattle.std.specs.Prelude.{AllPairs, All, false, count_by, vec_capacity, vec_len};
 ghost use Rattle.std.specs.List.{sum_by};
-ghost use Rattle.std.specs.Arc.{arc_value};
 ghost use Rattle.graph_version.specs.Rows as rows;
 ghost use Rattle.graph_version.specs.Batches.{batch_value};
 ghost use Rattle.graph_version.specs.Versions.{VersionView, content};
-ghost use Rattle.batch_apply.specs.Applied.{IsApplied};
+ghost use Rattle.batch_apply.specs.Rewritten.{IsRewritten};
 ghost use Rattle.batch_shards.specs.RowBlocks.{numbers_of};
-ghost use Rattle.graph_version.specs.declared.versions.Version.{Version};
 ghost use Rattle.block_reclamation.specs.Status.{is_listed, is_free, is_in_use, most_blocks};
 ghost use Rattle.block_pool.specs.Pools.{AreFree, marked};
 ghost use Rattle.block_reclamation.specs.declared.status.BlockStatus.TheVariants.{Granted};
 ghost use Rattle.desk.specs.Applying.{IsPrepared};
 ghost use Rattle.desk.specs.Refusals.{Refuses, RefusesGrant, IsPlanned, asked};
 
-use crate::entries::{JournalEntry, enter};
 use crate::errors::ApplyError;
-use batch_apply::{Applied, Plan, PlanError, plan};
+use batch_apply::{Applied, Plan, PlanError, Rewritten, plan};
 use block_pool::{Grant, Pool};
 use edge_block::Block;
-use graph_types::{Batch, List, Outcome};
+use graph_types::{Batch, List, Outcome, VertexId};
 use graph_version::Version;
 use std::alloc::{AllocError, Global};
 use std::sync::Arc;
@@ -96,6 +93,8 @@ pub(crate) struct Prepared {
     pub(crate) dropped_numbers: List<u32>,
     pub(crate) dropped: Vec<Arc<Block>>,
     pub(crate) unused: Vec<Arc<Block>>,
+    /// The sources whose rows the version before has otherwise.
+    pub(crate) sources: Vec<VertexId>,
 }
 
 /// The numbers of blocks, in their order.
@@ -113,12 +112,13 @@ fn numbers_in(alloc: Global, blocks: &[Arc<Block>]) -> Result<Vec<u32>, AllocErr
 /// its proof.
 pub(crate) fn made_of(
     alloc: Global,
-    applied: Applied,
+    rewritten: Rewritten,
     batch: Arc<Batch>,
 ) -> Result<Prepared, AllocError>
-    ensures { IfOk result (λ p. (v : VersionView) (numbers : List ℕ) → IsApplied v (batch_value batch) numbers applied
+    ensures { IfOk result (λ p. (v : VersionView) (numbers : List ℕ) → IsRewritten v (batch_value batch) numbers rewritten
         → IsPrepared v (batch_value batch) numbers p) }
 {
+    let Rewritten { applied, sources } = rewritten;
     let Applied {
         version,
         outcomes,
@@ -136,22 +136,6 @@ pub(crate) fn made_of(
         dropped_numbers,
         dropped,
         unused,
+        sources,
     })
-}
-
-/// Takes the version as the last, and appends its entry, for which there is room. It takes no memory.
-pub(crate) fn accept(
-    last: &mut Arc<Version>,
-    journal: &mut Vec<JournalEntry>,
-    version: Arc<Version>,
-    entry: JournalEntry,
-)
-    requires { vec_len journal.old < vec_capacity journal.old }
-    ensures last { arc_value {X = Version} last.new ≡ arc_value {X = Version} version }
-    ensures entered { journal.new.items ≡ journal.old.items ++ entry ∷ [] }
-    ensures len { vec_len journal.new ≡ vec_len journal.old + 1 }
-    ensures capacity { vec_capacity journal.old ≤ vec_capacity journal.new }
-{
-    enter(journal, entry);
-    *last = version;
 }

@@ -27,9 +27,10 @@ use crate::applying::plan_next;
 use crate::copies::KeptCopy;
 use crate::entries::{JournalEntry, enter};
 use crate::errors::{ApplyError, OpenError};
+use crate::last::Last;
 use crate::ready::{Accepted, Granted, Load, Ready, grant_for};
 use crate::zero::Zero;
-use batch_apply::{Plan, apply_alone};
+use batch_apply::{Plan, apply_alone_over};
 use block_pool::Pool;
 use block_reclamation::PinCopy;
 use core::mem::replace_with;
@@ -45,7 +46,7 @@ pub(crate) struct Parts {
     pub(crate) alloc: Global,
     /// The numbers of version 0's blocks, from which the journal replays.
     pub(crate) opened: List<u32>,
-    pub(crate) last: Arc<Version>,
+    pub(crate) last: Last,
     pub(crate) pool: Pool,
     pub(crate) journal: Vec<JournalEntry>,
 }
@@ -164,7 +165,7 @@ impl Desk {
         let parts = Parts {
             alloc,
             opened: numbers,
-            last: version,
+            last: Last::of(version),
             pool,
             journal: Vec::new(alloc),
         };
@@ -180,9 +181,9 @@ impl Desk {
     /// `PoolEmpty` where fewer blocks are free than the batch asks for, and `OutOfMemory` where a growth was refused.
     ///
     /// ```
-    /// let (granted, Load { plan, batch, blocks }) = desk.grant(batch, plan)?;
-    /// let applied = apply(rt, alloc, &PassAll, granted.last(), plan, batch, blocks);
-    /// let ready = granted.ready(applied)?;
+    /// let (granted, Load { plan, batch, blocks, table }) = desk.grant(batch, plan)?;
+    /// let rewritten = apply_over(rt, alloc, &PassAll, granted.last(), plan, batch, blocks, table);
+    /// let ready = granted.ready(rewritten)?;
     /// ```
     pub fn grant(self, batch: Arc<Batch>, plan: Plan) -> Result<(Granted, Load), (Desk, ApplyError)>
         requires planned { (workers : ℕ) × IsPlanned self.last workers (batch_value batch) plan }
@@ -230,9 +231,10 @@ impl Desk {
             plan,
             batch,
             blocks,
+            table,
         } = load;
-        let applied = apply_alone(alloc, granted.last(), plan, batch, blocks);
-        match granted.ready(applied) {
+        let rewritten = apply_alone_over(alloc, granted.last(), plan, batch, blocks, table);
+        match granted.ready(rewritten) {
             Ok(ready) => Ok(ready),
             Err(desk) => Err((desk, ApplyError::OutOfMemory)),
         }
@@ -302,14 +304,14 @@ impl Desk {
             pool: _pool,
             journal: _journal,
         } = Box::into_inner(parts);
-        last
+        last.into_version()
     }
 
     /// The last version.
     pub fn last(&self) -> &Arc<Version>
         ensures { arc_value {X = Version} result.now ≡ self.now.last }
     {
-        &self.parts.last
+        self.parts.last.version()
     }
 
     /// Where the desk takes its memory.
@@ -335,6 +337,7 @@ impl Desk {
         ensures used { result.used ≡ count_by is_in_use self.now.pool }
     {
         let Parts { last, pool, .. } = &*self.parts;
+        let last = last.version();
         Stat {
             number: last.number(),
             names: last.names().len(),

@@ -15,6 +15,7 @@ mod copies;
 mod desks;
 mod entries;
 mod errors;
+mod last;
 mod moves;
 mod owned;
 mod ready;

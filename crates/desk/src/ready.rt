@@ -9,7 +9,7 @@ ghost use Rattle.graph_version.specs.Batches.{batch_value};
 ghost use Rattle.graph_version.specs.declared.versions.Version.{Version};
 ghost use Rattle.graph_version.specs.Versions.{VersionView, content};
 ghost use Rattle.batch_shards.specs.RowBlocks.{numbers_of};
-ghost use Rattle.batch_apply.specs.Applied.{IsApplied};
+ghost use Rattle.batch_apply.specs.Rewritten.{IsRewritten};
 ghost use Rattle.block_reclamation.specs.Status.{is_free, is_retired};
 ghost use Rattle.block_reclamation.specs.declared.status.BlockStatus.TheVariants as statuses;
 ghost use Rattle.block_pool.specs.Pools.{AreFree, marked};
@@ -20,16 +20,16 @@ ghost use Rattle.desk.specs.Kept.{desk_in};
 ghost use Rattle.desk.specs.Ready.{IsGranted, IsLoad, IsReady, old_of, ops_of};
 ghost use Rattle.desk.specs.Refusals.{Refuses, IsWithin, IsPlanned};
 
-use crate::applying::{Prepared, accept, grant_blocks, made_of, next_number};
+use crate::applying::{Prepared, grant_blocks, made_of, next_number};
 use crate::desks::{Desk, Parts};
-use crate::entries::JournalEntry;
+use crate::entries::{JournalEntry, enter};
 use crate::errors::ApplyError;
 use crate::moves::{born_blocks, give_back_numbers, move_blocks};
-use batch_apply::{Applied, Plan};
+use batch_apply::{Plan, Rewritten};
 use block_pool::Grant;
 use edge_block::Block;
 use graph_types::{Batch, List, Outcome};
-use graph_version::Version;
+use graph_version::{RowTable, Version};
 use std::alloc::AllocError;
 use std::marker::Model;
 use std::sync::Arc;
@@ -41,6 +41,8 @@ pub struct Load {
     pub batch: Arc<Batch>,
     /// As many fresh blocks as the plan's shards may take.
     pub blocks: Vec<Arc<Block>>,
+    /// A table with the last version's rows, if there is one: the next version is made in it.
+    pub table: Option<RowTable>,
 }
 
 /// A desk that has granted blocks for a batch. It ends in [`ready`](Granted::ready); where it is dropped, so is the desk.
@@ -147,13 +149,13 @@ impl Granted {
     pub fn last(&self) -> &Version
         ensures { result.now ≡ self.now.old.last }
     {
-        &self.parts.last
+        self.parts.last.version()
     }
 
     /// Takes what the batch left of the last version, and makes room for its acceptance. Where memory was wanting, for that or
     /// before, the desk comes back as it was.
-    pub fn ready(self, applied: Result<Applied, AllocError>) -> Result<Ready, Desk>
-        requires { IfOk applied (IsApplied self.old.last self.ops self.numbers) }
+    pub fn ready(self, rewritten: Result<Rewritten, AllocError>) -> Result<Ready, Desk>
+        requires { IfOk rewritten (IsRewritten self.old.last self.ops self.numbers) }
         ensures begun { IfOk result (λ r. (r.old ≡ self.old) × (r.ops ≡ self.ops)) }
         ensures accepts { IfOk result (λ r. Accepts self.old self.ops r.new) }
         ensures unchanged { IfErr result (λ d. d ≡ self.old) }
@@ -163,7 +165,7 @@ impl Granted {
             numbers,
             batch,
         } = self;
-        match made_with_room(&mut parts, applied, batch) {
+        match made_with_room(&mut parts, rewritten, batch) {
             Ok(prepared) => Ok(Ready::of(parts, numbers, prepared)),
             Err(_refused) => Err(cancelled(parts, numbers)),
         }
@@ -182,11 +184,11 @@ fn cancelled(mut parts: Box<Parts>, numbers: Vec<u32>) -> Desk
 /// What was made of a batch, with room for its entry, and then for as many as blocks are retired.
 fn made_with_room(
     parts: &mut Parts,
-    applied: Result<Applied, AllocError>,
+    rewritten: Result<Rewritten, AllocError>,
     batch: Arc<Batch>,
 ) -> Result<Prepared, AllocError>
     ensures prepared { IfOk result (λ p. (v : VersionView) (numbers : List ℕ)
-        → IfOk applied (IsApplied v (batch_value batch) numbers) → IsPrepared v (batch_value batch) numbers p) }
+        → IfOk rewritten (IsRewritten v (batch_value batch) numbers) → IsPrepared v (batch_value batch) numbers p) }
     ensures room { IfOk result (λ p. vec_len parts.new.journal + (count_by is_retired parts.new.pool + vec_len p.dropped + 1)
         ≤ vec_capacity parts.new.journal) }
     ensures same { (parts.new.opened ≡ parts.old.opened) × (parts.new.last ≡ parts.old.last) × (parts.new.pool ≡ parts.old.pool) }
@@ -194,8 +196,8 @@ fn made_with_room(
     ensures len { vec_len parts.new.journal ≡ vec_len parts.old.journal }
     ensures capacity { vec_capacity parts.old.journal ≤ vec_capacity parts.new.journal }
 {
-    let applied = applied?;
-    let prepared = made_of(parts.alloc, applied, batch)?;
+    let rewritten = rewritten?;
+    let prepared = made_of(parts.alloc, rewritten, batch)?;
     let room = parts.pool.retired() as usize + prepared.dropped.len() + 1;
     parts.journal.reserve(room)?;
     Ok(prepared)
@@ -225,6 +227,7 @@ pub(crate) fn grant_for(
         plan,
         batch: shared,
         blocks,
+        table: parts.last.take_table(),
     };
     Ok((numbers, load))
 }
@@ -249,16 +252,18 @@ impl Ready {
             dropped_numbers,
             dropped,
             unused,
+            sources,
         } = prepared;
         let kept = &mut *parts;
-        let number = next_number(&kept.last);
+        let number = next_number(kept.last.version());
         born_blocks(&mut kept.pool, taken.as_slice(), number);
         let entry = JournalEntry::Applied {
             batch,
             taken,
             dropped: dropped_numbers,
         };
-        accept(&mut kept.last, &mut kept.journal, version, entry);
+        enter(&mut kept.journal, entry);
+        kept.last.follow(version, sources.as_slice());
         move_blocks(&mut kept.pool, dropped, unused, number);
         (Desk { parts }, Accepted { number, outcomes })
     }

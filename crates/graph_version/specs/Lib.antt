@@ -11,4 +11,5 @@ pub use Rattle.version_pages.specs.BatchLending
 pub use Rattle.version_pages.specs.Batches
 pub use Rattle.version_pages.specs.Rows
 pub use Rattle.version_pages.specs.Ages
+pub use Rattle.version_pages.specs.Differences
 pub use Rattle.version_pages.specs.Sharing

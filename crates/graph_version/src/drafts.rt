@@ -1,6 +1,6 @@
 //! The draft of a version.
 
-ghost use Rattle.std.specs.Prelude.{◌≡◌, ◌%◌, ◌^◌, ◌<◌, length, IfOk};
+ghost use Rattle.std.specs.Prelude.{◌≡◌, ◌%◌, ◌^◌, ◌<◌, length, IfOk, IfSome};
 ghost use Rattle.version_pages.specs.Batches.{batch_value};
 ghost use Rattle.version_pages.specs.Rows.{blocks_of};
 ghost use Rattle.version_pages.specs.Sharing.{block_values};
@@ -9,6 +9,7 @@ ghost use Rattle.graph_version.specs.Kept.{edge_total};
 ghost use Rattle.graph_version.specs.Drafts.{drafted_over, with_batch, ReplacesRow, IsWhole};
 
 use crate::opening::Opening;
+use crate::tables::RowTable;
 use crate::versions::Version;
 use edge_block::Block;
 use graph_types::{Batch, VertexId};
@@ -69,6 +70,29 @@ impl VersionDraft {
             kinds,
             batches: version.batches.share()?,
             rows: version.rows.share()?,
+            opening: version.opening.share()?,
+        })
+    }
+
+    /// As `over_named`, made in a table of rows that are the version's, if there is one: no page of it that nobody else has is
+    /// copied. Without one the version's rows are shared.
+    pub fn over_table(
+        version: &Version,
+        names: NameBook,
+        kinds: NameBook,
+        table: Option<RowTable>,
+    ) -> Result<VersionDraft, AllocError>
+        requires { IfSome table (λ t. t ≡ version.now.rows) }
+        ensures { IfOk result (λ draft. draft ≡ record (drafted_over version.now) { names = names; kinds = kinds }) }
+    {
+        let Some(table) = table else {
+            return VersionDraft::over_named(version, names, kinds);
+        };
+        Ok(VersionDraft {
+            names,
+            kinds,
+            batches: version.batches.share()?,
+            rows: table.into_rows(),
             opening: version.opening.share()?,
         })
     }

@@ -16,6 +16,7 @@ mod listed_arcs;
 mod opening;
 mod rebase;
 mod source;
+mod tables;
 mod version_edges;
 mod versions;
 
@@ -24,5 +25,6 @@ pub use laws::{law_empty_version, law_rows_each_once};
 pub use lending::{BlockNumbers, RowIter};
 pub use listed_arcs::ListedArcs;
 pub use source::ViewEdges;
+pub use tables::RowTable;
 pub use version_edges::VersionEdges;
 pub use versions::Version;

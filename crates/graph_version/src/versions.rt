@@ -96,6 +96,21 @@ impl Version {
         }
     }
 
+    /// Its rows alone.
+    pub(crate) fn into_rows(self) -> Rows
+        ensures { result ≡ self.rows }
+    {
+        let Version {
+            opening: _opening,
+            names: _names,
+            kinds: _kinds,
+            batches: _batches,
+            rows,
+            edges: _edges,
+        } = self;
+        rows
+    }
+
     /// What it began with, before its first batch: a content within the limits, with each edge listed once. It takes no memory.
     pub fn opening(&self) -> &Content
         ensures graph { graph_in self.now.opening.limits result.now ≡ self.now.opening }

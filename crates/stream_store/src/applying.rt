@@ -13,7 +13,7 @@ ghost use Rattle.desk.specs.Refusals.{Refuses, IsWithin};
 ghost use Rattle.stream_store.specs.Applying.{IsAdmitted, workers_for};
 
 use crate::receipts::Receipt;
-use batch_apply::{Gate, Plan, PlanError, apply, old_rows, plan_with};
+use batch_apply::{Gate, Plan, PlanError, apply_over, old_rows, plan_with};
 use desk::{Accepted, ApplyError, Desk, Load, Ready};
 use graph_types::Batch;
 use graph_version::Version;
@@ -84,9 +84,10 @@ pub(crate) fn make_ready<R: Threads + Sync, G: Gate + Sync>(
         plan,
         batch,
         blocks,
+        table,
     } = load;
-    let applied = apply(rt, alloc, gate, granted.last(), plan, batch, blocks);
-    match granted.ready(applied) {
+    let rewritten = apply_over(rt, alloc, gate, granted.last(), plan, batch, blocks, table);
+    match granted.ready(rewritten) {
         Ok(ready) => Ok(ready),
         Err(desk) => Err((desk, ApplyError::OutOfMemory)),
     }

@@ -1,3 +1,4 @@
 pub mod Ages
 pub mod Copies
 pub mod Places
+mod Shown

@@ -1,4 +1,5 @@
 pub mod Rows
+pub mod Differences
 pub mod Sharing
 pub mod Ages
 pub mod Parts

@@ -1,13 +1,11 @@
 //! Groups of pages.
 
 ghost use Rattle.std.specs.Prelude.{◌≡◌, ◌<◌, ◌*◌, [], IfOk, OnOk, length, replicate, slice_index_or, slice_set};
-ghost use Rattle.version_pages.specs.Sharing.{block_values};
 ghost use Rattle.version_pages.specs.RowPages.{in_pages, ArePages};
 ghost use Rattle.version_pages.specs.Ages.{AreYoung};
 
 use crate::row::Row;
 use crate::row_page::Page;
-use edge_block::Block;
 use std::alloc::{AllocError, Global};
 use std::marker::Model;
 use std::sync::Arc;
@@ -60,10 +58,10 @@ impl Group {
         })
     }
 
-    /// The blocks of the row at a place.
-    pub(crate) fn row(&self, place: usize) -> &[Arc<Block>]
+    /// The row at a place.
+    pub(crate) fn row(&self, place: usize) -> &Row
         requires { place < 1024 }
-        ensures { block_values result.now ≡ slice_index_or self.now place [] }
+        ensures { result.now ≡ slice_index_or self.now place [] }
     {
         self.pages[place / PAGE].row(place % PAGE)
     }

@@ -1,13 +1,11 @@
 //! Halls of groups.
 
-ghost use Rattle.std.specs.Prelude.{◌≡◌, ◌<◌, ◌≤◌, ◌*◌, [], IfOk, OnOk, length, replicate, slice_index_or, slice_set};
-ghost use Rattle.version_pages.specs.Sharing.{block_values};
+ghost use Rattle.std.specs.Prelude.{◌≡◌, ◌<◌, ◌≤◌, ◌*◌, [], IfOk, OnOk, MatchOption, length, replicate, slice_index_or, slice_set};
 ghost use Rattle.version_pages.specs.RowGroups.{in_groups, AreGroups, filled};
 ghost use Rattle.version_pages.specs.Ages.{AreYoung};
 
 use crate::row::Row;
 use crate::row_group::Group;
-use edge_block::Block;
 use std::alloc::{AllocError, Global};
 use std::marker::Model;
 use std::sync::Arc;
@@ -63,14 +61,14 @@ impl Hall {
         }
     }
 
-    /// The blocks of the row at a place.
-    pub(crate) fn row(&self, place: usize) -> &[Arc<Block>]
+    /// The row at a place; behind the last group there is none, which is an empty one.
+    pub(crate) fn row(&self, place: usize) -> Option<&Row>
         requires { place < 65536 }
-        ensures { block_values result.now ≡ slice_index_or self.now place [] }
+        ensures { MatchOption result (slice_index_or self.now place [] ≡ []) (λ r. r.now ≡ slice_index_or self.now place []) }
     {
         match self.groups.get(place / GROUP) {
-            None => &[],
-            Some(group) => group.row(place % GROUP),
+            None => None,
+            Some(group) => Some(group.row(place % GROUP)),
         }
     }
 

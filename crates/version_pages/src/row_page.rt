@@ -2,12 +2,10 @@
 
 ghost use Rattle.std.specs.Prelude.{◌≡◌, ◌<◌, ◌*◌, ◌&&◌, [], IfOk, OnOk, length, min, nat_le, nat_lt, replicate};
 ghost use Rattle.std.specs.Prelude.{slice_index_or, slice_set};
-ghost use Rattle.version_pages.specs.Sharing.{block_values};
 ghost use Rattle.version_pages.specs.Parts.{in_parts, AreParts};
 ghost use Rattle.version_pages.specs.Ages.{AreSince, AreYoung};
 
 use crate::row::Row;
-use edge_block::Block;
 use std::alloc::{AllocError, Global};
 use std::marker::Model;
 use std::sync::Arc;
@@ -77,12 +75,12 @@ impl Part {
         }
     }
 
-    /// The blocks of the row at a place.
-    fn row(&self, place: usize) -> &[Arc<Block>]
+    /// The row at a place.
+    fn row(&self, place: usize) -> &Row
         requires { place < 8 }
-        ensures row { block_values result.now ≡ slice_index_or self.now place [] }
+        ensures row { result.now ≡ slice_index_or self.now place [] }
     {
-        self.rows[place].blocks()
+        &self.rows[place]
     }
 
     /// A time such that no edge was last touched before it.
@@ -200,10 +198,10 @@ impl Page {
         })
     }
 
-    /// The blocks of the row at a place.
-    pub(crate) fn row(&self, place: usize) -> &[Arc<Block>]
+    /// The row at a place.
+    pub(crate) fn row(&self, place: usize) -> &Row
         requires { place < 64 }
-        ensures { block_values result.now ≡ slice_index_or self.now place [] }
+        ensures { result.now ≡ slice_index_or self.now place [] }
     {
         self.parts[place / PART].row(place % PART)
     }

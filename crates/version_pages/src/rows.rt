@@ -1,7 +1,8 @@
 //! The rows of all sources.
 
-ghost use Rattle.std.specs.Prelude.{◌≡◌, ◌*◌, ◌^◌, ◌<◌, ◌≤◌, ℕ, [], IfOk, OnOk, length, slice_set};
+ghost use Rattle.std.specs.Prelude.{◌≡◌, ◌*◌, ◌^◌, ◌<◌, ◌≤◌, ℕ, [], IfOk, MatchOption, OnOk, length, slice_set};
 ghost use Rattle.version_pages.specs.Rows.{row_of, Replaces};
+ghost use Rattle.version_pages.specs.Differences.{DifferAt, SameRows};
 ghost use Rattle.version_pages.specs.Sharing.{block_values};
 ghost use Rattle.version_pages.specs.Ages.{IsNextOld};
 ghost use Rattle.version_pages.specs.RowHalls.{in_halls, AreHalls};
@@ -71,10 +72,30 @@ impl Rows {
     pub fn row_blocks(&self, source: VertexId) -> &[Arc<Block>]
         ensures { block_values result.now ≡ row_of self.now source.0 }
     {
+        match self.row(source) {
+            None => &[],
+            Some(row) => row.blocks(),
+        }
+    }
+
+    /// A source's row; behind the last group there is none, which is an empty one.
+    fn row(&self, source: VertexId) -> Option<&Row>
+        ensures { MatchOption result (row_of self.now source.0 ≡ []) (λ r. r.now ≡ row_of self.now source.0) }
+    {
         let source = source.0 as usize;
         match self.halls.get(source / HALL) {
-            None => &[],
+            None => None,
             Some(hall) => hall.row(source % HALL),
+        }
+    }
+
+    /// A copy of a source's row, which shares its blocks.
+    fn shared_row(&self, source: VertexId) -> Result<Row, AllocError>
+        ensures { IfOk result (λ row. row ≡ row_of self.now source.0) }
+    {
+        match self.row(source) {
+            None => Ok(Row::empty()),
+            Some(row) => row.clone(),
         }
     }
 
@@ -106,6 +127,27 @@ impl Rows {
         })
     }
 
+    /// These rows once those of some sources were taken over from other rows, from which no other one differs: the other rows.
+    /// What nobody else has is written in place.
+    ///
+    /// After a refused growth the rows are given up.
+    pub fn caught_up(self, from: &Rows, sources: &[VertexId]) -> Result<Rows, AllocError>
+        requires { DifferAt sources.now self from.now }
+        ensures { IfOk result (λ rows. rows ≡ from.now) }
+    {
+        let alloc = *self.halls.allocator();
+        let Rows {
+            len: _len,
+            mut halls,
+        } = self;
+        take_over(alloc, &mut halls, from, sources)?;
+        add_halls(alloc, &mut halls, from.halls.len())?;
+        Ok(Rows {
+            len: from.len,
+            halls,
+        })
+    }
+
     /// The rows with these blocks as the row of a source. Other rows that share its hall, group, page or part keep theirs.
     ///
     /// After a refused growth the rows are given up.
@@ -122,6 +164,29 @@ impl Rows {
             halls,
         })
     }
+}
+
+/// Writes the rows of these sources as other rows have them.
+fn take_over(
+    alloc: Global,
+    halls: &mut Vec<Arc<Hall>>,
+    from: &Rows,
+    sources: &[VertexId],
+) -> Result<(), AllocError>
+    requires halls { AreHalls halls.old.items }
+    requires few { length halls.old.items ≤ 2 ^ 16 }
+    requires differ { DifferAt sources.now (in_halls halls.old.items) from.now }
+    ensures same { OnOk result (SameRows (in_halls halls.new.items) from.now) }
+    ensures halls { AreHalls halls.new.items }
+    ensures few { length halls.new.items ≤ 2 ^ 16 }
+{
+    let mut rest = sources;
+    while let [source, others @ ..] = rest {
+        let row = from.shared_row(*source)?;
+        put_row(alloc, halls, source.0 as usize, row)?;
+        rest = others;
+    }
+    Ok(())
 }
 
 /// Adds halls of empty rows up to a count.

@@ -168,8 +168,19 @@ fn show<R: Wait>(rt: &R, place: &mut WriterPlace, told: Told)
     )
 }
 
+/// Shows readers what was told in both copies, one after the other: then neither has what was told before.
+fn show_twice<R: Wait>(rt: &R, place: &mut WriterPlace, told: Told, again: Told)
+    requires newer { Begins place.old.desk.shown.value told }
+    requires same { again ≡ told }
+    ensures shown { place.new.desk.shown.value ≡ told }
+    ensures view { view place.new.desk.place ≡ Some told }
+{
+    show(rt, place, told);
+    show(rt, place, again);
+}
+
 impl ShelfWriter {
-    /// Posts the next version and shows it: one publication. What is refused is posted nowhere and never shown.
+    /// Posts the next version and shows it: one publication. The shelf then has no older one. What is refused is posted nowhere and never shown.
     pub fn post<R: Wait>(&mut self, rt: &R, version: Arc<Version>) -> Result<Told, AllocError>
         requires next { IsNext self.old (arc_value {X = Version} version) }
         ensures posted { MatchResult result
@@ -180,6 +191,7 @@ impl ShelfWriter {
         ensures same { (self.new.book ≡ self.old.book) × (self.new.opening ≡ self.old.opening) }
     {
         let copy = Arc::try_clone(&version)?;
+        let other = Arc::try_clone(&version)?;
         let Some(batch) = version.last_batch() else {
             unreachable!()
         };
@@ -190,7 +202,11 @@ impl ShelfWriter {
             version: copy,
             history: self.history.again(),
         };
-        show(rt, &mut self.place, shown);
+        let again = Told {
+            version: other,
+            history: self.history.again(),
+        };
+        show_twice(rt, &mut self.place, shown, again);
         Ok(Told {
             version,
             history: self.history.again(),

@@ -1,9 +1,15 @@
-use Rattle.std.proofs.Common.{◌≡◌, ℕ, ◌+◌, ◌%◌, ◌^◌, List, refl, sym, ap, ◌∙◌, subst, rules}
-use Rattle.std.{specs.Prelude.count_by, specs.List.sum_by, specs.FinMap.len}
+use Rattle.std.proofs.Common.{◌≡◌, ℕ, ◌+◌, ◌%◌, ◌^◌, ◌==◌, List, map, refl, sym, ap, ◌∙◌, subst, rules}
+use Rattle.std.specs.declared.{sync.Arc.Arc, alloc.Global.Global, vec.Vec.Vec}
+use Rattle.edge_block.specs.declared.blocks.Block.{Block}
+use Rattle.std.{specs.Prelude.count_by, specs.List.{list_any, sum_by}, specs.FinMap.len}
 use Rattle.graph_types.specs.{Graph.Graph, Step.after_all, Step.outcomes}
 use Rattle.graph_types.specs.declared.batches.{NamedOp.NamedOp}
 use Rattle.graph_version.specs.{Batches.batch_value, Versions.{VersionView, content}, Kept.edge_total}
-use Rattle.graph_version.specs.Drafts.{DraftView, IsWhole}
+use Rattle.graph_version.specs.{Drafts.{DraftView, IsWhole}, Differences.DifferAt, Rows.row_of}
+use Rattle.graph_types.specs.declared.ids.VertexId.{VertexId}
+use Rattle.edge_block.specs.Slots.{BlockView}
+use Rattle.batch_shards.specs.Closing.{row_values}
+use Rattle.batch_apply.proofs.Others.{among_others}
 use Rattle.batch_shards.specs.RowBlocks.{blocks_of, numbers_of}
 use Rattle.batch_apply.specs.Applied.{is_inserted, taken_away, IsApplied, ReplacesRows}
 use Rattle.batch_apply.{specs.{declared.applied.Applied.Applied, Gathered.IsWorked, Planned.MeetsNeitherLimit}, proofs.EdgeCounts.len_after_all}
@@ -55,18 +61,37 @@ made c numbers w =
 
 pub finish_counted-requires-clause-whole : goal.finish_counted-requires-clause-whole
 finish_counted-requires-clause-whole c =
-    (made (goal.at.finish_counted-requires-clause-whole c).In_ok-draft-2 c.requires.0 c.requires.1).0
+    (made (goal.at.finish_counted-requires-clause-whole c).In_ok-draft-2 c.requires.worked.0 c.requires.worked.1).0
 
 pub finish_counted-requires-clause-edges : goal.finish_counted-requires-clause-edges
 finish_counted-requires-clause-edges c =
     let ops : List NamedOp = batch_value c.args.batch in
     let next : Graph = after_all ops (content c.args.version.now) in
-    let is = made (goal.at.finish_counted-requires-clause-edges c).In_ok-draft-2 c.requires.0 c.requires.1 in
+    let is = made (goal.at.finish_counted-requires-clause-edges c).In_ok-draft-2 c.requires.worked.0 c.requires.worked.1 in
     let as_many : len next.edges + sum_by taken_away c.deref.result.now
     ≡ c.edge_count.result + count_by is_inserted c.deref.result.now
     = rw (c.deref.ensures.value, is.1, c.edge_count.ensures.edges) (len_after_all ops (content c.args.version.now)) in
     c.edges_after-edges.ensures (len next.edges) as_many ∙ ap (λ (n : ℕ). n % 2 ^ 64) (sym is.2)
 
+-- the draft has other rows than the version at the sources of the rows that took their places alone
+differ : (c : In_ok-draft-2) → DifferAt c.in_ok-sources.sources.items c.args.version.now.rows c.in_ok-draft-2.draft.version.rows
+differ c s none =
+    let v : VersionView = c.args.version.now in
+    let ops : List NamedOp = batch_value c.args.batch in
+    let values : List (ℕ × List BlockView) = row_values c.args.all.rows.items in
+    let d1 : DraftView = c.in_ok-draft.draft in
+    let d2 : DraftView = c.in_ok-replace_rows.field-0 in
+    let d3 : DraftView = c.in_ok-draft-2.draft in
+    let among = draft_among v ops c.args.names c.args.kinds values d1 d2 d3 c.in_ok-draft.ensures
+    c.in_ok-replace_rows.ensures c.in_ok-draft-2.ensures s in
+    let listed = ap (list_any (λ (w : VertexId). s == w.0))
+    (sym (c.in_ok-sources.ensures ∙ ap (map (λ (r : VertexId × Vec (Arc Block Global) Global). r.0)) c.as_slice.ensures.value)) ∙ none in
+    sym (ap (λ (d : DraftView). row_of d.version.rows s) c.in_ok-draft-2.ensures ∙ among
+    ∙ among_others c.args.all.rows.items s (row_of v.rows s) listed)
+
 pub returns : goal.returns
-returns c = λ numbers worked.
-    (made (goal.at.returns c).In_ok-draft-2 numbers worked).3 _ c.finish_counted.ensures refl refl refl refl
+returns c = λ numbers worked. record {
+  applied = (made (goal.at.returns c).In_ok-draft-2 numbers worked).3 _ c.finish_counted.ensures refl refl refl refl;
+  rows = λ s none. differ (goal.at.returns c).In_ok-draft-2 s none
+      ∙ ap (λ (w : VersionView). row_of w.rows s) (sym c.finish_counted.ensures);
+}

@@ -20,7 +20,7 @@ invariant_of-result c =
     kept_same (old_of p c.args.numbers.items) _ _ _ _ _ is.before
     (λ i. record {
       opened = p.opened;
-      last = arc_value {X = Version} p.last;
+      last = p.last;
       journal = map entry_of p.journal.items;
       pool = c.give_back_numbers.ensures i;
     }) refl (omega arith)

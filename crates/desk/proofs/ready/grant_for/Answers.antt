@@ -12,13 +12,13 @@ pub grant_blocks-requires : goal.grant_blocks-requires
 grant_blocks-requires c =
     let p = c.args.parts.now in
     subst (λ ops. sum_by (λ n. n) c.args.plan.needs.items ≤ asked ops (count_by is_in_use p.pool)) (sym c.deref.ensures)
-    (grant_within (desk_in p) (arc_value {X = Version} p.last) c.requires.planned.0 (batch_value c.args.batch.now) c.args.plan
+    (grant_within (desk_in p) p.last c.requires.planned.0 (batch_value c.args.batch.now) c.args.plan
     c.requires.desk refl c.requires.planned.1)
 
 pub returns-in_err-numbers-clause-refused : goal.returns-in_err-numbers-clause-refused
 returns-in_err-numbers-clause-refused c =
     let p = c.args.parts.now in
-    let last = arc_value {X = Version} p.last in
+    let last = p.last in
     err_then c.from_residual-in_err-numbers.result (Refuses last (count_by is_free p.pool) (batch_value c.args.batch.now))
     c.in_err-numbers.field-0.0 c.from_residual-in_err-numbers.ensures.1
     (desk_refuses (desk_in p) last c.requires.planned.0 (batch_value c.args.batch.now) c.args.plan c.requires.desk refl
@@ -29,7 +29,7 @@ returns-in_err-numbers-clause-refused c =
 pub returns-clause-within : goal.returns-clause-within
 returns-clause-within c =
     let p = c.args.parts.now in
-    desk_admits (desk_in p) (arc_value {X = Version} p.last) c.requires.planned.0 (batch_value c.args.batch.now) c.args.plan
+    desk_admits (desk_in p) p.last c.requires.planned.0 (batch_value c.args.batch.now) c.args.plan
     c.requires.desk refl c.requires.planned.1
     (subst (λ (ops : List NamedOp). asked ops (count_by is_in_use p.pool) ≤ count_by is_free p.pool) c.deref.ensures
     c.in_ok-numbers.ensures.enough)

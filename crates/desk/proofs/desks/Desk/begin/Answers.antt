@@ -23,10 +23,10 @@ planned c =
 pub grant-requires : goal.grant-requires
 grant-requires c = record { planned = (1, planned (goal.at.grant-requires c).In-Ok) }
 
-pub apply_alone-applied-requires-clause-plan : goal.apply_alone-applied-requires-clause-plan
-apply_alone-applied-requires-clause-plan c =
+pub apply_alone_over-rewritten-requires-clause-plan : goal.apply_alone_over-rewritten-requires-clause-plan
+apply_alone_over-rewritten-requires-clause-plan c =
     let load = c.in_ok-granted.ensures.load in
     plan_same 1 c.args.self.last c.last-2.result.now (batch_value c.args.batch) (batch_value c.in_ok-granted.load.batch) c.in-Ok.plan
     c.in_ok-granted.load.plan
     (sym (c.last-2.ensures ∙ ap (λ (g : GrantedView). g.old.last) c.in_ok-granted.ensures.granted)) (sym load.batch_is)
-    (sym load.plan_is) (planned (goal.at.apply_alone-applied-requires-clause-plan c).In-Ok).planned
+    (sym load.plan_is) (planned (goal.at.apply_alone_over-rewritten-requires-clause-plan c).In-Ok).planned

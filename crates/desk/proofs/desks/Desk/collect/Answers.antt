@@ -31,7 +31,7 @@ old c = desk_in c.deref_mut-parts.result.now
 abbrev new : After-enter_collection → DeskView
 new c =
     let p = c.deref_mut-parts.result.now in
-    desk_of p.opened (arc_value {X = Version} p.last) c.enter_collection.new.journal.items c.recycle-recycled.new.self
+    desk_of p.opened p.last c.enter_collection.new.journal.items c.recycle-recycled.new.self
 
 is_new : (c : After-enter_collection) → new c ≡ desk_collected (old c) c.args.copy.now
 is_new c = grind (arith, common_steps)
@@ -43,7 +43,7 @@ pub invariant_of-self : goal.invariant_of-self
 invariant_of-self c =
     let a = (goal.at.invariant_of-self c).After-enter_collection in
     let b = (goal.at.invariant_of-self c).After-recycle-recycled in
-    let low : c.args.copy.now.last ≤ length (arc_value {X = Version} c.deref_mut-parts.result.now.last).batches =
+    let low : c.args.copy.now.last ≤ length c.deref_mut-parts.result.now.last.batches =
     subst (λ (d : DeskView). c.args.copy.now.last ≤ length d.last.batches) (sym (shown b)) c.requires in
     let past = past_and_left c.args.copy.now c.deref_mut-parts.result.now.pool in
     let left = ap (count_by is_retired) c.recycle-recycled.ensures.pool in

@@ -12,5 +12,5 @@ invariant_of-result c =
     let zero = c.requires.zero in
     subst (λ (q : Parts). IsKept (desk_in q) (vec_len q.journal) (vec_capacity q.journal)) (sym c.in_ok-new.ensures.ok)
     (kept_same (opened_desk c.args.blocks v) _ 0 0 _ _ (opened_kept c.args.blocks v zero.version c.requires.least)
-    (λ i. record { opened = zero.numbers i; last = v; journal = map entry_of (items i); pool = zero.pool i }) len
+    (λ i. record { opened = zero.numbers i; last = c.of.ensures i; journal = map entry_of (items i); pool = zero.pool i }) len
     (omega arith))

@@ -18,8 +18,9 @@ abbrev handed : After-as_slice → Handing
 handed c =
     let p = c.self.inside in handing_of c.deref_mut-kept.result.now p.numbers.items p.prepared (ready c)
 
-number_is : (c : After-as_slice) → c.next_number-number.result ≡ length (arc_value {X = Version} c.deref_mut-kept.result.now.last).batches + 1
-number_is c = c.next_number-number.ensures ∙ ap (λ (v : VersionView). length v.batches + 1) c.deref.ensures
+number_is : (c : After-as_slice) → c.next_number-number.result ≡ length c.deref_mut-kept.result.now.last.batches + 1
+number_is c =
+    c.next_number-number.ensures ∙ ap (λ (v : VersionView). length v.batches + 1) (c.deref.ensures ∙ c.version.ensures)
 
 born_is : (c : After-born_blocks) → c.born_blocks.new.pool
     ≡ marked c.self.inside.prepared.taken (Used c.next_number-number.result) c.deref_mut-kept.result.now.pool
@@ -51,12 +52,12 @@ invariant_of-result c =
     let h = handed a in
     let pool = end_pool h c.next_number-number.result c.born_blocks.new.pool c.move_blocks.new.pool (number_is a) (born_is b)
     c.move_blocks.ensures in
-    let end = end_desk h p.opened (arc_value {X = Version} c.accept.new.last) c.accept.new.journal.items p.journal.items
-    c.move_blocks.new.pool refl refl c.accept.ensures.last c.accept.ensures.entered pool in
+    let end = end_desk h p.opened c.follow.new.self c.enter.new.journal.items p.journal.items
+    c.move_blocks.new.pool refl refl c.follow.ensures c.enter.ensures.entered pool in
     let room = (ready a).room in
     end_kept h _ _ _ end (ready a).granted.before.blocks_some
     (end_fits h c.move_blocks.new.pool _ _ (count_by is_retired p.pool) (vec_len c.self.inside.prepared.dropped) pool refl refl
-    (omega (arith, room, c.accept.ensures.len, c.accept.ensures.capacity)))
+    (omega (arith, room, c.enter.ensures.len, c.enter.ensures.capacity)))
 
 pub returns-clause-desk : goal.returns-clause-desk
 returns-clause-desk c =
@@ -66,7 +67,7 @@ returns-clause-desk c =
     let h = handed a in
     let pool = end_pool h c.next_number-number.result c.born_blocks.new.pool c.move_blocks.new.pool (number_is a) (born_is b)
     c.move_blocks.ensures in
-    end_desk h p.opened (arc_value {X = Version} c.accept.new.last) c.accept.new.journal.items p.journal.items
-    c.move_blocks.new.pool refl refl c.accept.ensures.last c.accept.ensures.entered pool
+    end_desk h p.opened c.follow.new.self c.enter.new.journal.items p.journal.items
+    c.move_blocks.new.pool refl refl c.follow.ensures c.enter.ensures.entered pool
     ∙ ap (λ (r : ReadyView). r.new)
     (ap (λ (q : Parts). ready_of q c.self.inside.numbers.items c.self.inside.prepared) c.deref_mut-kept.ensures.value ∙ c.self.view_is)

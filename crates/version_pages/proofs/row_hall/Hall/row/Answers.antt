@@ -12,8 +12,8 @@ returns-in-None c =
     subst (λ (l : List (Arc Group Global)). length l ≤ c.args.place / 1024) c.deref.ensures.value
     (ltb-false (c.args.place / 1024) (length c.deref.result.now) (sym c.in-None.ensures.lookup.0)) in
     rw (← c.self.view_is)
-    (sym (padded_at 65536 [] (in_groups groups) c.args.place
-    ∙ past_pieces 1024 in_group groups c.args.place [] c.self.invariant.0 (omega arith)))
+    (padded_at 65536 [] (in_groups groups) c.args.place
+    ∙ past_pieces 1024 in_group groups c.args.place [] c.self.invariant.0 (omega arith))
 
 pub returns-in-Some : goal.returns-in-Some
 returns-in-Some c =

@@ -1,9 +1,10 @@
 use Rattle.std.proofs.Common.{◌≡◌, ◌∙◌, ◌≤◌, ◌<◌, ◌/◌, ◌%◌, ◌*◌, ℕ, [], List, length, get_or, take, ap, sym, subst, arith}
-use Rattle.std.{proofs.lemmas.List.length-take-le, specs.declared.{sync.Arc.Arc, alloc.Global.Global}}
+use Rattle.std.{specs.declared.{sync.Arc.Arc, alloc.Global.Global}}
 use Rattle.edge_block.specs.Slots.{BlockView}
 use Rattle.version_pages.specs.{Ages.{AreYoung, is_old_row}, Rows.{row_of, IsBlankFrom}, RowHalls.{AreHalls, in_hall, in_halls}}
 use Rattle.version_pages.{specs.declared.row_hall.Hall.Hall, proofs.Ages.{none_past, young_in_pieces, young_on}}
-use Rattle.list_pieces.proofs.{Full.long, Padded.cut_at}
+use Rattle.list_pieces.proofs.Padded.{cut_at}
+use Rattle.version_pages.proofs.Shown.{same_len}
 use Rattle.version_pages.proofs.rows.Rows.next_old.Goals as goal
 
 -- young rows of a hall are so among all
@@ -18,12 +19,6 @@ young_at time halls page source many hall are within here shown young =
 same_row : (len : ℕ) (halls : List (Arc Hall Global)) (rows : List (List BlockView)) → take len (in_halls halls) ≡ rows
     → IsBlankFrom len (in_halls halls) → (s : ℕ) → row_of rows s ≡ row_of (in_halls halls) s
 same_row len halls rows is blank s = ap (λ l. row_of l s) (sym is) ∙ cut_at len (in_halls halls) [] blank s
-
-same_len : (len : ℕ) (halls : List (Arc Hall Global)) (rows : List (List BlockView)) → take len (in_halls halls) ≡ rows
-    → AreHalls halls → len ≤ length halls * 65536 → length rows ≡ len
-same_len len halls rows is are le =
-    let whole = long 65536 in_hall halls are in
-    ap length (sym is) ∙ length-take-le len (in_halls halls) (omega (arith, whole, le))
 
 pub returns-then-young-eq0 : goal.returns-then-young-eq0
 returns-then-young-eq0 c =

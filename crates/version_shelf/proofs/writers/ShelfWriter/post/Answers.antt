@@ -22,9 +22,9 @@ unreachable-requires g c =
     let empty : length (c.args.self.now.posted ++ c.requires.next.1.0 ∷ []) ≡ 0 = ap length none in
     let long = length-append c.args.self.now.posted (c.requires.next.1.0 ∷ []) in omega arith
 
-pub show-requires : goal.show-requires
-show-requires g c =
-    let before = (goal.at.show-requires g c).After-again in
+pub show_twice-requires : goal.show_twice-requires
+show_twice-requires g c =
+    let before = (goal.at.show_twice-requires g c).After-again in
     let shown : ToldView = c.self.inside.place.desk.shown.value in
     let same : c.in_ok-copy.copy.value ≡ c.args.version.value = c.in_ok-copy.ensures in
     record {
@@ -37,6 +37,10 @@ show-requires g c =
               c.self.invariant.1.1,
         ),
       );
+      same = λ i. record {
+        book = (ap (λ (h : HistoryView). h.book) (c.again-2.ensures ∙ sym c.again.ensures)) i;
+        version = (c.in_ok-other.ensures ∙ sym same) i;
+      };
     }
 
 pub invariant_of-shown : goal.invariant_of-shown
@@ -46,7 +50,7 @@ invariant_of-shown g c =
 
 pub invariant_of-result : goal.invariant_of-result
 invariant_of-result g c =
-    sym (entered g (goal.at.invariant_of-result g c).After-again) ∙ ap (λ (h : HistoryView). h.batches) (sym c.again-2.ensures)
+    sym (entered g (goal.at.invariant_of-result g c).After-again) ∙ ap (λ (h : HistoryView). h.batches) (sym c.again-3.ensures)
 
 pub invariant_of-self : goal.invariant_of-self
 invariant_of-self g c =
@@ -54,19 +58,19 @@ invariant_of-self g c =
     let shown : ToldView = c.self.inside.place.desk.shown.value in
     let told : ToldView = record { book = c.again.result.book; version = c.in_ok-copy.copy.value } in (
       c.self.invariant.0,
-      still_showing shown c.show.new.place.desk.shown.value told history c.self.invariant.1
+      still_showing shown c.show_twice.new.place.desk.shown.value told history c.self.invariant.1
           (ap (λ (h : HistoryView). h.book) c.again.ensures)
           (ap (λ (v : VersionView). v.batches) c.in_ok-copy.ensures
-          ∙ sym (entered g (goal.at.invariant_of-self g c).After-again)) (inr c.show.ensures.shown),
-      c.show.ensures.view ∙ ap (λ (t : ToldView). Some t) (sym c.show.ensures.shown),
+          ∙ sym (entered g (goal.at.invariant_of-self g c).After-again)) (inr c.show_twice.ensures.shown),
+      c.show_twice.ensures.view ∙ ap (λ (t : ToldView). Some t) (sym c.show_twice.ensures.shown),
     )
 
 pub returns-clause-posted : goal.returns-clause-posted
 returns-clause-posted g c = (
   entered g (goal.at.returns-clause-posted g c).After-again,
-  ap (λ (t : ToldView). t.version.batches) c.show.ensures.shown ∙ ap (λ (v : VersionView). v.batches) c.in_ok-copy.ensures,
+  ap (λ (t : ToldView). t.version.batches) c.show_twice.ensures.shown ∙ ap (λ (v : VersionView). v.batches) c.in_ok-copy.ensures,
   λ i. record {
-    book = (ap (λ (h : HistoryView). h.book) c.again-2.ensures
+    book = (ap (λ (h : HistoryView). h.book) c.again-3.ensures
         ∙ ap (λ (s : ShelfView). s.book) (c.self.view_is ∙ c.enter_batch.ensures.same)) i;
     version = c.args.version.value;
   },
@@ -75,6 +79,6 @@ returns-clause-posted g c = (
 pub returns-clause-same : goal.returns-clause-same
 returns-clause-same g c = (
   ap (λ (s : ShelfView). s.book) (c.self.view_is ∙ c.enter_batch.ensures.same),
-  ap (λ (t : ToldView). t.version.opening) c.show.ensures.shown
+  ap (λ (t : ToldView). t.version.opening) c.show_twice.ensures.shown
       ∙ (ap (λ (v : VersionView). v.opening) c.in_ok-copy.ensures ∙ c.requires.next.0),
 )

@@ -6,8 +6,8 @@ use Rattle.graph_version.specs.{Rows.row_of, Batches.batch_value, Versions.{Vers
 use Rattle.batch_shards.specs.RowBlocks.{numbers_of}
 use Rattle.batch_apply.specs.Gathered.{IsGathered, IsWorked}
 use Rattle.batch_apply.proofs.Dealt.{needs_of, dealt_ready}
-use Rattle.batch_apply.proofs.applied.apply.{Given.Over, Goals.In_ok-all}
-use Rattle.batch_apply.proofs.applied.apply.Goals as goal
+use Rattle.batch_apply.proofs.applied.apply_over.{Given.Over, Goals.In_ok-all}
+use Rattle.batch_apply.proofs.applied.apply_over.Goals as goal
 
 pub work-requires-clause-long : goal.work-requires-clause-long
 work-requires-clause-long g c κs within = ap length c.requires.plan.2.needs
@@ -38,8 +38,8 @@ worked g c = record {
   unlisted = c.requires.unlisted;
 }
 
-pub finish-requires : goal.finish-requires
-finish-requires g c = (numbers_of c.args.blocks.items, worked g (goal.at.finish-requires g c).In_ok-all)
+pub finish-requires-clause-worked : goal.finish-requires-clause-worked
+finish-requires-clause-worked g c = (numbers_of c.args.blocks.items, worked g (goal.at.finish-requires-clause-worked g c).In_ok-all)
 
 pub returns : goal.returns
 returns g c = IfOk-weaker c.finish.result _ _ (λ a made. made (numbers_of c.args.blocks.items)

@@ -6,8 +6,8 @@ use Rattle.graph_version.specs.{Rows.row_of, Batches.batch_value, Versions.{Vers
 use Rattle.batch_shards.specs.RowBlocks.{numbers_of}
 use Rattle.batch_apply.specs.Gathered.{IsGathered, IsWorked}
 use Rattle.batch_apply.proofs.Dealt.{needs_of, dealt_ready}
-use Rattle.batch_apply.proofs.applied.apply_alone.Goals.{In_ok-all}
-use Rattle.batch_apply.proofs.applied.apply_alone.Goals as goal
+use Rattle.batch_apply.proofs.applied.apply_alone_over.Goals.{In_ok-all}
+use Rattle.batch_apply.proofs.applied.apply_alone_over.Goals as goal
 
 pub work_alone-requires-clause-long : goal.work_alone-requires-clause-long
 work_alone-requires-clause-long c = ap length c.requires.plan.needs
@@ -38,8 +38,8 @@ worked c = record {
   unlisted = c.requires.unlisted;
 }
 
-pub finish-requires : goal.finish-requires
-finish-requires c = (numbers_of c.args.blocks.items, worked (goal.at.finish-requires c).In_ok-all)
+pub finish-requires-clause-worked : goal.finish-requires-clause-worked
+finish-requires-clause-worked c = (numbers_of c.args.blocks.items, worked (goal.at.finish-requires-clause-worked c).In_ok-all)
 
 pub returns : goal.returns
 returns c = IfOk-weaker c.finish.result _ _ (λ a made. made (numbers_of c.args.blocks.items)
