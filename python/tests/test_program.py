@@ -53,6 +53,14 @@ class Programs(Case):
                 self.fault(misteluk.ProgramEnded, "it said: not proved here\nat all", f"{SAID}\n{in_parts}")
         self.assertEqual(told.getvalue(), "not proved here\nat all\n")
 
+    def test_malloc_is_asked_for_huge_pages_unless_the_environment_says_otherwise(self):
+        says = SAID + "sys.exit(os.environ['GLIBC_TUNABLES'])"
+        with mock.patch.dict(os.environ):
+            os.environ.pop("GLIBC_TUNABLES", None)
+            self.fault(misteluk.ProgramEnded, "it said: glibc.malloc.hugetlb=1$", says)
+            os.environ["GLIBC_TUNABLES"] = "glibc.malloc.tcache_count=3"
+            self.fault(misteluk.ProgramEnded, "it said: glibc.malloc.tcache_count=3$", says)
+
     def test_an_end_by_a_signal(self):
         self.fault(misteluk.ProgramEnded, "ended by signal 9 before record 2", SAID + "os.kill(os.getpid(), 9)")
 

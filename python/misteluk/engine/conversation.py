@@ -18,6 +18,8 @@ _HEARD: Set[str] = set()
 MOST_WRITTEN, MOST_READ = 1 << 20, 1 << 16
 # What Linux calls the size of a pipe; Python 3.9 has no name for it.
 F_SETPIPE_SZ = 1031
+# The program's malloc asks Linux for pages of 2 MiB, unless the environment says what it shall do.
+HUGE_PAGES = {"GLIBC_TUNABLES": "glibc.malloc.hugetlb=1"}
 
 
 class Awaited:
@@ -72,7 +74,8 @@ class Conversation:
     def __init__(self, command: Sequence[str], timeout: float) -> None:
         pipe = subprocess.PIPE
         try:
-            self.process = subprocess.Popen(command, stdin=pipe, stdout=pipe, stderr=pipe, bufsize=0, start_new_session=True)
+            self.process = subprocess.Popen(command, stdin=pipe, stdout=pipe, stderr=pipe, bufsize=0, start_new_session=True,
+                                            env={**HUGE_PAGES, **os.environ})
         except OSError as fault:
             raise ProgramNotFound(f"{command[0]} can't be run: {fault}") from fault
         assert self.process.stdin and self.process.stdout and self.process.stderr
