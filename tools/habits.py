@@ -15,7 +15,9 @@
 - A page of PLAIN, or a crate's README, has no word of COINED, and none of its sentences begins with one of OPENERS, unless it
   is a question.
 - Each crate has a README of fewer than 60 lines, whose list of calls is the one that `tools/docs --readmes` writes.
-- docs/LIBRARY.md shows each program that stands on `misteluk`: its row of crates.txt, and each of its files as it is.
+- docs/LIBRARY.md shows each program that stands on `misteluk`: its row of crates.txt, and each of its files as it is. It
+  also names each name that `misteluk` hands on.
+- The rows of crates.txt below the line OWN are somebody's own programs: no page has to name them or show them.
 - No definition, and no lemma with its name and type, stands twice in `specs/` and `proofs/`.
 - A wrong body names files of its crate, and has pairs of an old line, which stands in its file once, and a new one.
 - A commit's subject has at most 72 characters.
@@ -42,6 +44,8 @@ DEFINED = re.compile(r"\[`([^`]+)`\]\(([^)\s]+\.antt)\)")
 FENCED = re.compile(r"(?ms)^```.*?^```$")
 LINK = re.compile(r"(?<!!)\[[^\]]*\]\(([^)\s]+)\)")
 WORDS = TOP / "docs/ARCHITECTURE.md"
+# The line of crates.txt above programs of one's own, of which this repository has none.
+OWN = "# Programs of your own."
 # What a newcomer can't know: words that are this repository's, or mean something of its own in it.
 HOUSE = """act birth board book desk drive floor gate grant journal label level opening pin receipt retirement seat shard shelf
     slot stamp told""".split()
@@ -145,20 +149,29 @@ def undefined_names(page):
             yield f"{page.relative_to(TOP)}: {target} doesn't define {name}"
 
 
+def rows_in(text):
+    return [row for line in text.splitlines() if (row := line.partition("#")[0]).strip()]
+
+
 def rows():
-    lines = (line.partition("#")[0] for line in (TOP / "crates.txt").read_text(encoding="utf-8").splitlines())
-    return [line for line in lines if line.strip()]
+    return rows_in((TOP / "crates.txt").read_text(encoding="utf-8"))
 
 
 def crates():
     return [row.partition(":")[0].split()[0] for row in rows()]
 
 
+def own_crates():
+    """Returns the crates below the line OWN of crates.txt."""
+    below = (TOP / "crates.txt").read_text(encoding="utf-8").partition(f"\n{OWN}\n")[2]
+    return {row.partition(":")[0].split()[0] for row in rows_in(below)}
+
+
 def unnamed_crates():
     page = (TOP / "docs/ARCHITECTURE.md").read_text(encoding="utf-8")
-    listed = crates()
+    listed, own = crates(), own_crates()
     for name in listed:
-        if f"`{name}`" not in page:
+        if name not in own and f"`{name}`" not in page:
             yield f"docs/ARCHITECTURE.md doesn't name {name}"
     for folder in sorted((TOP / "crates").iterdir()):
         if folder.name not in listed and any(folder.glob("src/*.rt")):
@@ -254,7 +267,8 @@ def long_rooms():
 
 def programs():
     """Returns each program over the library that others learn from: its row of crates.txt, and its files."""
-    found = [row for row in rows() if "misteluk" in row.partition(":")[2].split()]
+    own = own_crates()
+    found = [row for row in rows() if "misteluk" in row.partition(":")[2].split() and row.split()[0].rstrip(":") not in own]
     paths = {row: git("ls-files", f"crates/{row.partition(':')[0].split()[0]}") for row in found}
     return {row: [TOP / it for it in them if not it.endswith("README.md")] for row, them in paths.items()}
 
@@ -269,6 +283,15 @@ def unshown_programs():
         for path in paths:
             if f"\n{path.read_text(encoding='utf-8')}```\n" not in page:
                 yield f"docs/LIBRARY.md doesn't show {path.relative_to(TOP)} as it is"
+
+
+def unnamed_exports():
+    page = (TOP / "docs/LIBRARY.md").read_text(encoding="utf-8")
+    facade = (TOP / "crates/misteluk/src/lib.rt").read_text(encoding="utf-8")
+    for names in re.findall(r"(?s)^pub use \w+::\{?([^;}]+)", facade, re.M):
+        for name in re.findall(r"\w+", names):
+            if not re.search(rf"`[^`]*\b{name}\b[^`]*`", page):
+                yield f"docs/LIBRARY.md doesn't name {name}, which misteluk hands on"
 
 
 def lost_edits(path):
@@ -320,7 +343,7 @@ def main():
         "words": list(words_astray([*told, *rooms()])),
         "plain English": [it for page in plain for it in coined_words(page)],
         "READMEs of crates": [*long_rooms(), *readmes.stale(TOP)],
-        "programs over the library": list(unshown_programs()),
+        "programs over the library": [*unshown_programs(), *unnamed_exports()],
         "statements": list(statements.told_twice(TOP)),
         "wrong bodies": [it for path in edits for it in lost_edits(path)],
         "subjects": list(long_subjects()),

@@ -1,72 +1,47 @@
 //! A store in one thread: a batch, a session on the version that it made, and a question.
 #![tactic(auto)]
 
+use anyhow::{Context, Result};
 use misteluk::{
-    ApplyError, AskError, BadConfig, Batch, Board, Config, Desk, NamedFilter, NamedOp, OpenError,
-    PassAll, PushError, Reply, Request, Seat, open_parts,
+    Batch, Board, Config, Desk, NamedFilter, NamedOp, PassAll, Reply, Request, Seat, open_parts,
 };
-use std::alloc::{AllocError, Global};
-use std::io;
+use std::alloc::Global;
 use std::sync::Wait;
 use std::thread::Threads;
 
-/// What a call refused.
-#[derive(Debug, Drop)]
-enum Refusal {
-    Config(BadConfig),
-    Open(OpenError),
-    Push(PushError),
-    Apply(ApplyError),
-    Ask(AskError),
-    Print(io::Error),
-    NoSeat,
-    Memory,
-}
-
-impl From<AllocError> for Refusal {
-    fn from(_error: AllocError) -> Refusal {
-        Refusal::Memory
-    }
-}
-
 /// Two roads of 12 miles, built on day 1.
-fn roads(alloc: Global) -> Result<Batch, Refusal> {
+fn roads(alloc: Global) -> Result<Batch> {
     let mut batch = Batch::new(alloc);
     for [from, to] in [["ulm", "kiel"], ["kiel", "jena"]] {
-        let road = NamedOp::insert(alloc, "road", from, to, 12, 1)?;
-        batch.push(road).map_err(Refusal::Push)?;
+        batch.push(NamedOp::insert(alloc, "road", from, to, 12, 1)?)?;
     }
     Ok(batch)
 }
 
 /// How many roads each town is away from the first one.
-fn ask(alloc: Global, desk: &Desk, board: &mut Board, seat: Seat) -> Result<Reply, Refusal> {
+fn ask(alloc: Global, desk: &Desk, board: &mut Board, seat: Seat) -> Result<Reply> {
     let question = Request::levels(alloc, "ulm", NamedFilter::all())?;
-    let Ok(session) = seat.acquire_lent(desk, board) else {
-        return Err(Refusal::Memory);
-    };
+    let session = seat.acquire_lent(desk, board).ok().context("out of memory")?;
     let answer = session.ask(&question);
     let _seat = session.release_lent(board);
-    answer.map_err(Refusal::Ask)
+    Ok(answer?)
 }
 
 /// Builds the roads, and asks.
-fn reply<R: Threads + Wait + Sync + AllocGlobal>(rt: &R) -> Result<Reply, Refusal> {
+fn reply<R: Threads + Wait + Sync + AllocGlobal>(rt: &R) -> Result<Reply> {
     let alloc = rt.alloc();
-    let config = Config::new(1, 16, 1).map_err(Refusal::Config)?;
-    let roads = roads(alloc)?;
-    let (mut desk, mut board, mut seats) = open_parts(rt, alloc, config).map_err(Refusal::Open)?;
-    let _receipt = desk.apply(rt, &PassAll, roads).map_err(Refusal::Apply)?;
-    let seat = seats.pop().ok_or(Refusal::NoSeat)?;
+    let (mut desk, mut board, mut seats) = open_parts(rt, alloc, Config::new(1, 16, 1)?)?;
+    let _receipt = desk.apply(rt, &PassAll, roads(alloc)?)?;
+    let seat = seats.pop().context("the store has a seat")?;
     let answer = ask(alloc, &desk, &mut board, seat);
     let _last = desk.close(rt);
     answer
 }
 
-fn main(rt: HostRuntime) -> Result<(), Refusal> {
+fn main(rt: HostRuntime) -> Result<()> {
     if let Reply::Levels(levels) = reply(&rt)? {
         for (town, level) in levels.iter() {
-            println!(&rt; "{town} {level}").map_err(Refusal::Print)?;
+            println!(&rt; "{town} {level}")?;
         }
     }
     Ok(())

@@ -56,6 +56,24 @@ impl NamedOp {
         })
     }
 
+    /// Another name for [`NamedOp::incr`], as scripts and other languages call this operation.
+    ///
+    /// ```
+    /// batch.push(NamedOp::add(alloc, "transfer", "ana", "ben", 980, 5)?)?;
+    /// ```
+    pub fn add(
+        alloc: Global,
+        kind: &str,
+        source: &str,
+        target: &str,
+        amount: i64,
+        time: u64,
+    ) -> Result<NamedOp, AllocError>
+        ensures { IfOk result (λ op. op ≡ NamedOp.Incr kind.now source.now target.now amount time) }
+    {
+        NamedOp::incr(alloc, kind, source, target, amount, time)
+    }
+
     /// Takes the edge away. Any texts are taken; a batch refuses those that are no names when the operation is pushed: `BadName`.
     ///
     /// ```

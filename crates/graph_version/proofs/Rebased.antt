@@ -14,6 +14,7 @@ use Rattle.vertex_names.specs.Book.{Book}
 use Rattle.version_pages.specs.{Rows.{row_of, blocks_of, numbers_of, Replaces}, Sharing.{block_value, block_values}}
 use Rattle.graph_version.specs.{Versions.{VersionView, IsBlockOf, AreRowsOf, IsVersion, content, layout_of}, Edges.edge_from}
 use Rattle.graph_version.specs.{Edges.{edges_in_block, edges_in_blocks}, Kept.{vertex_book, kind_book, version_of, IsSummary}}
+use Rattle.graph_version.specs.LentEdges.{edge_of}
 use Rattle.graph_version.specs.Rebased.{AreCopies, IsRebased, rows_like, unnumbered}
 use Rattle.graph_version.proofs.{Shown.rows_each_once, Totals.same_blocks, Totals.at_source, Totals.elsewhere}
 
@@ -299,25 +300,14 @@ listed_content names kinds edges v c l is apart kinds_apart stamps e same =
 
 -- Edges as they are lent
 
--- a lent edge of a source
-abbrev pub edge_lent : ℕ → LentEdge → Edge
-edge_lent source e = record {
-  kind = record { 0 = e.kind };
-  source = record { 0 = source };
-  target = record { 0 = e.target };
-  weight = e.stamp.weight;
-  first = e.stamp.first;
-  recent = e.stamp.recent;
-}
-
 -- a weight is a number of 64 bits
 pub weight_fits : (z : ℤ) → IsWeight z → FitsSigned w64 z
 weight_fits z h = search rules
 
 lent_slots : (b : BlockView) (es : List Slot)
-    → map (edge_lent b.source) (map lent_of (map (entry_in b) es)) ≡ map edge_from (map (entry_in b) es)
+    → map (edge_of b.source) (map lent_of (map (entry_in b) es)) ≡ map edge_from (map (entry_in b) es)
 lent_slots b [] = refl
 lent_slots b (e ∷ es) = ap (λ l. edge_from (entry_in b e) ∷ l) (lent_slots b es)
 
-pub lent_edges : (b : BlockView) → map (edge_lent b.source) (map lent_of (entries_of b)) ≡ edges_in_block b
+pub lent_edges : (b : BlockView) → map (edge_of b.source) (map lent_of (entries_of b)) ≡ edges_in_block b
 lent_edges b = lent_slots b (edges_in b.slots)

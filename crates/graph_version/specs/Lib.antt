@@ -3,6 +3,7 @@ pub mod Edges
 pub mod Kept
 pub mod Drafts
 pub mod Lending
+pub mod LentEdges
 pub mod Rebased
 pub use Rattle.version_pages.specs.Rows
 pub mod Listed

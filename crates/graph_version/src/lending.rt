@@ -74,7 +74,7 @@ pub(crate) fn all_edges(block: &Block) -> BlockIter<'_>
 }
 
 /// The next edge of a block, if there is a block and it has one left.
-fn next_in<'a>(edges: &mut Option<BlockIter<'a>>) -> Option<EdgeRef<'a>>
+pub(crate) fn next_in<'a>(edges: &mut Option<BlockIter<'a>>) -> Option<EdgeRef<'a>>
     ensures { YieldsFirstBy lent_edge left_in edges.old result edges.new }
 {
     match edges {

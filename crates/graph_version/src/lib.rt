@@ -9,6 +9,7 @@
 #![tactic(auto)]
 
 mod drafts;
+mod edges;
 mod laws;
 mod lending;
 mod listed;
@@ -21,6 +22,7 @@ mod version_edges;
 mod versions;
 
 pub use drafts::VersionDraft;
+pub use edges::EdgeIter;
 pub use laws::{law_empty_version, law_rows_each_once};
 pub use lending::{BlockNumbers, RowIter};
 pub use listed_arcs::ListedArcs;

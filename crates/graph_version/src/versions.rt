@@ -11,9 +11,11 @@ ghost use Rattle.version_pages.specs.Sharing.{block_values};
 ghost use Rattle.version_pages.specs.Ages.{IsNextOld};
 ghost use Rattle.graph_version.specs.Versions.{IsVersion, empty_version, empty_version_in, content};
 ghost use Rattle.edge_block.specs.Rows.{shape_of, block_at};
-ghost use Rattle.graph_version.specs.Edges.{lent_to};
+ghost use Rattle.graph_version.specs.Edges.{lent_to, edges_in_blocks, AreEachOnce};
+ghost use Rattle.graph_version.specs.LentEdges.{edges_left};
 ghost use Rattle.graph_version.specs.Kept.{vertex_book, kind_book, edge_total};
 
+use crate::edges::EdgeIter;
 use crate::lending::{BlockNumbers, RowIter};
 use crate::opening::Opening;
 use edge_block::{Block, EdgeRef};
@@ -193,6 +195,21 @@ impl Version {
             }
         }
         None
+    }
+
+    /// Lends all edges, each with its source: sources rising, and those of one source as [`Version::row`] lends them. It
+    /// takes no memory, and time by the vertices and edges.
+    ///
+    /// ```
+    /// for (source, edge) in version.edges() {
+    ///     println!(&rt; "{} {} {}", source.0, edge.target, edge.weight)?;
+    /// }
+    /// ```
+    pub fn edges(&self) -> EdgeIter<'_>
+        ensures edges { edges_left result ≡ edges_in_blocks (blocks_of self.now.rows) }
+        ensures each_once { AreEachOnce (edges_left result) (content self.now) }
+    {
+        EdgeIter::over(&self.rows)
     }
 
     /// Lends the edges that leave a vertex: blocks in row order, slots rising.

@@ -1,20 +1,6 @@
--- What stands at a place of a list, and what is left of the list from there on.
+-- What stands at the last place of a list.
 use Rattle.std.proofs.Common.{◌≡◌, ℕ, zero, suc, ◌+◌, List, [], ◌∷◌, ◌++◌, length, refl, ap, ◌∙◌, arith, None, Some, Option}
 use Rattle.std.{proofs.Common.{MatchOption, option_copied, Bor, drop}, specs.List.slice_get}
-
--- what is left of a list from a place on, where the place has no element and where it has one
-pub drop_past : {X : Type 0} (xs : List X) (i : ℕ) → slice_get xs i ≡ None → drop i xs ≡ []
-drop_past [] zero none = refl
-drop_past [] (suc i) none = refl
-drop_past (x ∷ xs) zero none = cc
-drop_past (x ∷ xs) (suc i) none = drop_past xs i none
-
-pub drop_next : {X : Type 0} (xs : List X) (i : ℕ) (x : X) → slice_get xs i ≡ Some x → drop i xs ≡ x ∷ drop (i + 1) xs
-drop_next (y ∷ xs) zero x at = let same : y ≡ x = cc in ap (λ z. z ∷ xs) same
-drop_next (y ∷ xs) (suc i) x at =
-    let further : suc (i + 1) ≡ suc i + 1 = omega arith in
-    drop_next xs i x at ∙ ap (λ n. x ∷ drop n (y ∷ xs)) further
-drop_next _ _ x at = cc
 
 last_some : {X : Type 0} (xs : List X) (i : ℕ) → suc i ≡ length xs → (x : X)
     × ((slice_get xs i ≡ Some x) × ((others : List X) × (xs ≡ others ++ x ∷ [])))

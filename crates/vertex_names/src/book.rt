@@ -1,4 +1,4 @@
-ghost use Rattle.std.specs.Prelude.{◌≡◌, ◌≤◌, ◌↔◌, ℕ, Some, length, slice_get, option_copied, IsTrue, IsOk, IfOk, IfErr, OnOk};
+ghost use Rattle.std.specs.Prelude.{◌≡◌, ◌≤◌, ◌<◌, ◌^◌, ◌↔◌, ℕ, Some, length, slice_get, option_copied, IsTrue, IsOk, IfOk, IfErr, OnOk};
 ghost use Rattle.std.specs.Prelude.{OnErr, IfSome};
 ghost use Rattle.std.specs.Option.{SomeIff};
 ghost use Rattle.graph_types.specs.Step.{with_name, number_of};
@@ -6,9 +6,11 @@ ghost use Rattle.graph_types.specs.Answer.{is_listed};
 ghost use Rattle.graph_types.specs.Valid.{is_name};
 ghost use Rattle.vertex_names.specs.Book.{empty_book, with_entry, IsBook, Refuses};
 ghost use Rattle.vertex_names.specs.Index.{text_hash};
+ghost use Rattle.vertex_names.specs.Lending.{names_left};
 
 use crate::cache::{Cache, keep, make_room, short_hash};
 use crate::index::hash_of;
+use crate::lending::NameIter;
 use crate::tables::{Tables, is_at, push_name, shared};
 use std::alloc::{AllocError, AllocFailed, Global};
 use std::marker::Model;
@@ -162,12 +164,26 @@ impl NameBook {
 
     /// The name of that number, if there are more names than that.
     pub fn name(&self, number: u32) -> Option<&str>
-        ensures { option_copied result ≡ slice_get self.now.names number }
+        ensures name { option_copied result ≡ slice_get self.now.names number }
+        ensures few { length self.now.names < 2 ^ 32 }
     {
         match &self.tables {
             None => None,
             Some(tables) => tables.name(number),
         }
+    }
+
+    /// Lends the names in the order of their numbers.
+    ///
+    /// ```
+    /// for name in version.names().iter() {
+    ///     println!(&rt; "{name}")?;
+    /// }
+    /// ```
+    pub fn iter(&self) -> NameIter<'_>
+        ensures { names_left result ≡ self.now.names }
+    {
+        NameIter::over(self)
     }
 
     /// The number of a name, which becomes the last one where it has not appeared before.

@@ -12,6 +12,7 @@ mod book;
 mod cache;
 mod chunk;
 mod index;
+mod lending;
 mod part;
 mod piece;
 mod same;
@@ -21,4 +22,5 @@ mod text_group;
 mod texts;
 
 pub use book::{AddError, NameBook};
+pub use lending::NameIter;
 pub use same::is_same_name;

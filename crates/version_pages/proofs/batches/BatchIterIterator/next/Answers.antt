@@ -1,5 +1,5 @@
 use Rattle.std.proofs.{Common.length, Common.sym, Common.ap, Common.arith, lemmas.Option.slice_get_within}
-use Rattle.version_pages.proofs.Places.{drop_past, drop_next}
+use Rattle.list_pieces.proofs.Left.{drop_past, drop_next}
 use Rattle.version_pages.proofs.batches.BatchIterIterator.next.Goals as goal
 
 pub returns-in_err-batch-clause-steps : goal.returns-in_err-batch-clause-steps
