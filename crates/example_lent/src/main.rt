@@ -21,7 +21,10 @@ fn roads(alloc: Global) -> Result<Batch> {
 /// How many roads each town is away from the first one.
 fn ask(alloc: Global, desk: &Desk, board: &mut Board, seat: Seat) -> Result<Reply> {
     let question = Request::levels(alloc, "ulm", NamedFilter::all())?;
-    let session = seat.acquire_lent(desk, board).ok().context("out of memory")?;
+    let session = seat
+        .acquire_lent(desk, board)
+        .ok()
+        .context("out of memory")?;
     let answer = session.ask(&question);
     let _seat = session.release_lent(board);
     Ok(answer?)
