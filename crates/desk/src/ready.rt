@@ -233,7 +233,8 @@ pub(crate) fn grant_for(
 }
 
 impl Ready {
-    /// The batch is accepted: its version is the last, and the journal has its entry. It takes no memory.
+    /// The batch is accepted: its version is the last, and the journal has its entry. Nothing is refused: if there is no memory
+    /// to bring the table of rows up to date, the desk goes on without one.
     pub fn finish(self) -> (Desk, Accepted)
         ensures desk { result.0 ≡ self.new }
         ensures number { result.1.number ≡ length self.new.last.batches }

@@ -172,7 +172,7 @@ pub enum PushError {
     BadWeight,
     #[error("a time is below 2^63")]
     BadTime,
-    #[error("a batch has at most 4,096 operations")]
+    #[error("the batch has as many operations as it may have")]
     BatchFull,
     #[error("out of memory")]
     OutOfMemory,

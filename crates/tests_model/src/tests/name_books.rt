@@ -45,8 +45,17 @@ fn add_new(rt: &(impl Abort + Print), book: &mut NameBook, name: &str, number: u
     assert_numbered(rt, book, name, number);
 }
 
+// It lends `a` and `b`.
+fn check_lent(rt: &impl Abort, book: &NameBook) {
+    let mut names = book.iter();
+    same(rt, names.next(), Some("a"));
+    same(rt, names.next(), Some("b"));
+    same(rt, names.next(), None);
+}
+
 // It has two names, of which `b` came second, and `c` isn't one.
 fn check_two(rt: &impl Abort, book: &NameBook) {
+    check_lent(rt, book);
     assert_absent(rt, book, "c", 2);
     assert_numbered(rt, book, "b", 1);
 }

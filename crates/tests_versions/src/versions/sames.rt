@@ -1,7 +1,7 @@
 // A version against the content that the plain application leaves.
 
 use crate::texts::write_blocks;
-use edge_block::Block;
+use edge_block::{Block, EdgeRef};
 use graph_types::{Content, Edge, Name, VertexId};
 use graph_version::Version;
 use std::alloc::{AllocError, Global};
@@ -113,9 +113,28 @@ fn check_blocks(rt: &impl Abort, version: &Version) -> usize {
     blocks
 }
 
+// Whether an edge that is lent with its source is one of these.
+fn is_one_of(edges: &[Edge], source: VertexId, lent: EdgeRef<'_>) -> bool {
+    edges.iter().any(|edge| {
+        (edge.kind, edge.source, edge.target.0, edge.weight)
+            == (lent.kind, source, *lent.target, *lent.weight)
+    })
+}
+
+// How many edges the version lends with their sources, each of which is one of these.
+fn check_lent(rt: &impl Abort, version: &Version, edges: &[Edge]) -> usize {
+    let mut lent = 0_usize;
+    for (source, edge) in version.edges() {
+        assert!(rt; is_one_of(edges, source, edge));
+        lent = lent.saturating_add(1);
+    }
+    lent
+}
+
 // The version has these edges.
 fn check_edges(rt: &impl Abort, version: &Version, edges: &[Edge]) {
     assert!(rt; version.edge_count() == edges.len() as u64);
+    assert!(rt; check_lent(rt, version, edges) == edges.len());
     for edge in edges {
         assert!(rt; has_edge(version, edge));
     }

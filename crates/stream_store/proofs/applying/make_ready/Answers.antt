@@ -14,8 +14,8 @@ grant-requires g c =
       );
     }
 
-pub apply-applied-requires-clause-plan : goal.apply-applied-requires-clause-plan
-apply-applied-requires-clause-plan g c κs within =
+pub apply_over-rewritten-requires-clause-plan : goal.apply_over-rewritten-requires-clause-plan
+apply_over-rewritten-requires-clause-plan g c κs within =
     let a = c.requires.admitted in
     let workers = workers_for a.0 (length (batch_value c.args.batch) + length a.1.old) in
     let load = c.in_ok-granted.ensures.load in (
