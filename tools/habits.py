@@ -12,12 +12,10 @@
 - ARCHITECTURE's table of words has each word once, and each is used on another page or in a docstring of something public. A
   word of this house (HOUSE) that a page uses stands in that table, or that page or the README explains it, where it shows
   it *so*.
-- A page of PLAIN, or a crate's README, has no word of COINED, and none of its sentences begins with one of OPENERS, unless it
-  is a question.
+- No page has a word of COINED, and none of its sentences begins with one of OPENERS, unless it is a question.
 - Each crate has a README of fewer than 60 lines, whose list of calls is the one that `tools/docs --readmes` writes.
-- docs/LIBRARY.md shows each program that stands on `misteluk`: its row of crates.txt, and each of its files as it is. It
-  also names each name that `misteluk` hands on.
-- The rows of crates.txt below the line OWN are somebody's own programs: no page has to name them or show them.
+- docs/LIBRARY.md shows each program that stands on `misteluk`: its row of crates.txt, and each of its files as it is, or a link
+  to it.
 - No definition, and no lemma with its name and type, stands twice in `specs/` and `proofs/`.
 - A wrong body names files of its crate, and has pairs of an old line, which stands in its file once, and a new one.
 - A commit's subject has at most 72 characters.
@@ -49,12 +47,7 @@ OWN = "# Programs of your own."
 # What a newcomer can't know: words that are this repository's, or mean something of its own in it.
 HOUSE = """act birth board book desk drive floor gate grant journal label level opening pin receipt retirement seat shard shelf
     slot stamp told""".split()
-# The pages written in plain English; the words of the older ones that a reader had to decode, and what to write in their place;
-# and words that put a sentence's reason before its subject.
-PLAIN = """README.md CONTRIBUTING.md python/README.md docs/ARCHITECTURE.md docs/DESIGN.md docs/FLEET.md docs/INSIDE.md
-    docs/PERFORMANCE.md docs/PIPES.md docs/PROMISES.md docs/PROVED.md docs/REFINEMENT.md docs/SERVE.md docs/TUTORIAL.md
-    docs/USING.md
-    examples/README.md examples/stories/README.md""".split()
+# Words that a reader had to decode, and what to write in their place; and words that put a sentence's reason before its subject.
 COINED = {
     r"want(?:s|ed|ing)? (?:of )?memory|want of it": "out of memory",
     r"for want of": "for lack of",
@@ -69,6 +62,11 @@ COINED = {
     r"(?:is|are|be) parted|parted by": "is separated",
     r"turned? round": "swapped",
     r"is had|be had": "available",
+    r"handed on|hands? (?:it|them|this|a \w+) on": "re-exported, passed on",
+    r"handed in": "given",
+    r"begins? anew|begun anew": "start over",
+    r"judges?|judged": "check",
+    r"walls?": "limit",
 }
 OPENERS = ("Behind", "Beside", "Of", "That", "Where")
 
@@ -281,8 +279,9 @@ def unshown_programs():
         if f"\n    {row}\n" not in page:
             yield f"docs/LIBRARY.md doesn't show the row {row}"
         for path in paths:
-            if f"\n{path.read_text(encoding='utf-8')}```\n" not in page:
-                yield f"docs/LIBRARY.md doesn't show {path.relative_to(TOP)} as it is"
+            is_shown = f"\n{path.read_text(encoding='utf-8')}```\n" in page
+            if not is_shown and f"](../{path.relative_to(TOP)})" not in page:
+                yield f"docs/LIBRARY.md neither shows {path.relative_to(TOP)} as it is nor leads to it"
 
 
 def unnamed_exports():
@@ -332,7 +331,6 @@ def main():
     known = files()
     pages = [it for it in known if it.suffix == ".md"]
     told = [it for it in pages if it.parent == TOP / "docs" or it.name in ("README.md", "CONTRIBUTING.md") and it.parent == TOP]
-    plain = [*(TOP / it for it in PLAIN if (TOP / it).exists()), *rooms()]
     edits = [it for it in known if it.suffix == ".edit"]
     habits = {
         "width of lines": [it for path in known if path.suffix in PAGES for it in wide_lines(path)],
@@ -341,7 +339,7 @@ def main():
         "names of definitions": [it for page in pages for it in undefined_names(page)],
         "crates": [*unnamed_crates(), *misnamed_crates()],
         "words": list(words_astray([*told, *rooms()])),
-        "plain English": [it for page in plain for it in coined_words(page)],
+        "plain English": [it for page in pages for it in coined_words(page)],
         "READMEs of crates": [*long_rooms(), *readmes.stale(TOP)],
         "programs over the library": [*unshown_programs(), *unnamed_exports()],
         "statements": list(statements.told_twice(TOP)),

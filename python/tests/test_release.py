@@ -163,12 +163,13 @@ class Releases(Case):
     def test_an_archive_for_trying_it_out(self):
         done = self.release(*self.unproved)
         self.assertEqual(done.returncode, 0, done.stdout)
-        archive, wheel = map(pathlib.Path, done.stdout.splitlines())
+        archive, wheel, notes = map(pathlib.Path, done.stdout.splitlines())
         self.assertIn("-UNPROVED-linux-x86_64.tar.gz", archive.name)
         self.assertEqual(self.git("tag", "-l", "v*"), "")
         first = {it: hashlib.sha256(it.read_bytes()).hexdigest() for it in (archive, wheel)}
         for it in first:
             self.assertEqual(run("sha256sum", "-c", f"{it.name}.sha256", cwd=it.parent).returncode, 0)
+        self.notes_say_what_was_made(notes.read_text(), first)
         self.release(*self.unproved)
         self.assertEqual({it: hashlib.sha256(it.read_bytes()).hexdigest() for it in first}, first)
         with tarfile.open(archive) as tar:
@@ -190,6 +191,16 @@ class Releases(Case):
                    "share/man/man1/stinger.1", "share/man/man1/misteluk.1", "docs/TUTORIAL.md", "python/pyproject.toml"):
             self.assertTrue((there / it).is_file(), it)
         self.assertFalse((there / "crates").exists())
+
+    def notes_say_what_was_made(self, notes, sums):
+        for it, total in sums.items():
+            self.assertIn(f"| `{it.name}` | {total} |", notes)
+        for name, it in (("bin/stinger", find_program()), ("lib/libmisteluk.so", find_library())):
+            self.assertIn(f"| `{name}` | {hashlib.sha256(pathlib.Path(it).read_bytes()).hexdigest()} |", notes)
+        self.assertIn("**UNPROVED.**", notes)
+        self.assertIn("toolchain none: not proved", notes)
+        changes = (TOP / "CHANGELOG.md").read_text().split(f"\n## {misteluk.__version__}\n")[1].split("\n## ")[0].strip()
+        self.assertIn(changes, notes)
 
     def from_the_archive(self, there):
         """The client of the archive finds its program by itself."""
@@ -217,7 +228,7 @@ class Releases(Case):
     @unittest.skipUnless(optional("pip"), "pip is not there")
     def test_the_wheel(self):
         """Installed where nothing else is, it has its own program: no path leads to one, nor does a variable."""
-        _, wheel = self.release(*self.unproved).stdout.splitlines()
+        _, wheel, _ = self.release(*self.unproved).stdout.splitlines()
         self.assertEqual(pathlib.Path(wheel).name, f"misteluk-{misteluk.__version__}+unproved-py3-none-linux_x86_64.whl")
         home = self.room / "a home"
         venv.create(home, symlinks=True)
@@ -288,8 +299,9 @@ class Releases(Case):
     def test_the_proved_program(self):
         self.addCleanup(self.git, "tag", "-d", TAG)
         self.pass_gate()
-        archive, wheel = self.release().stdout.splitlines()
-        self.assertNotIn("UNPROVED", archive)
+        archive, wheel, notes = self.release().stdout.splitlines()
+        self.assertNotIn("UNPROVED", archive + pathlib.Path(notes).read_text())
+        self.assertIn("toolchain `kit-1 logic 2`.", pathlib.Path(notes).read_text())
         self.assertEqual(pathlib.Path(wheel).name, f"misteluk-{misteluk.__version__}-py3-none-linux_x86_64.whl")
         with tarfile.open(archive) as tar:
             (page,) = (tar.extractfile(it).read().decode() for it in tar if it.name.endswith("x86_64/PROVED.md"))

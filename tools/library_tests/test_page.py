@@ -1,4 +1,4 @@
-"""docs/C.md: what it shows to be typed prints what stands there, its program runs, and its tables are those of the header."""
+"""docs/C.md: what it shows to be typed prints what stands there, its program runs, and its table is the header's."""
 import os
 import pathlib
 import re
@@ -30,9 +30,6 @@ class Page(unittest.TestCase):
             takes_a_handle = interface.FUNCTIONS[name][0] is not None and name not in MAKERS
             says_it = "NO_HANDLE" in told[2] or told[2].startswith(("the same", "those of `batch_insert`"))
             self.assertEqual(says_it, takes_a_handle, name)
-
-    def test_each_code_has_its_number(self) -> None:
-        self.assertEqual([it[:2] for it in rows("Codes")], [[f"`{it.name}`", str(it.value)] for it in Code])
 
     @unittest.skipUnless(shutil.which("cc"), "there is no cc: what the page shows was passed over")
     def test_what_is_typed_prints_what_stands_there(self) -> None:
