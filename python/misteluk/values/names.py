@@ -88,11 +88,6 @@ class NameTable:
         known = self._texts
         return [known.get(it, it) for it in names] if known else names
 
-    def all_to_program(self, texts: Sequence[str]) -> List[str]:
-        """What stands for each of many texts; nothing, "", for one that is no name."""
-        told = {it: "" if text_reason(it) else self.to_program(it) for it in set(texts)}
-        return list(map(told.__getitem__, texts))
-
     def put(self, texts: Mapping[str, str]) -> None:
         """Takes texts by their ids, as a saved file has them, into a table that is empty yet."""
         with self._lock:
