@@ -47,9 +47,11 @@ class Fields(Sequence[str]):
     def __getitem__(self, at: int) -> str: ...
 
     @overload
-    def __getitem__(self, at: slice) -> List[str]: ...
+    def __getitem__(self, at: slice) -> "Fields": ...
 
     def __getitem__(self, at: Any) -> Any:
+        if isinstance(at, slice):
+            return Fields(self._text, self._data, self._begins[at], self._ends[at])
         return self.texts[at]
 
     def numbered(self, numbers_of: "Callable[[Sequence[str]], array[int]]") -> "array[int]":
