@@ -2,9 +2,9 @@
 beside the package, so that a clone stays clean.
 
 A wheel that pip asks for has the library and the program of where it stands: the archive's, or the clone's proved ones, and else
-its compiled library. Where
-nothing is proved yet, it has a script that runs the clone's `./stinger`: such a wheel is of use on this machine alone, as long as
-the clone stands there, so its tags say the machine, and its version the clone.
+its compiled library. Beside what is proved it has a note that says so. Where nothing is proved yet, it has a script that runs
+the clone's `./stinger`: such a wheel is of use on this machine alone, as long as the clone stands there, so its tags say the
+machine, and its version the clone.
 """
 from __future__ import annotations
 
@@ -146,7 +146,23 @@ def library_here() -> Files:
         where = subprocess.run([top / "stinger", "library", "--where"], stdout=subprocess.PIPE, stderr=subprocess.DEVNULL,
                                text=True)
         path = pathlib.Path(where.stdout.strip() or path)
-    return {LIBRARY: (path.read_bytes(), False)} if path.is_file() else {}
+    return with_note(LIBRARY, path, proved_by(path)) if path.is_file() else {}
+
+
+def proved_by(path: pathlib.Path) -> str:
+    """By what the library or program here was proved: the archive's page says whether it was, and the clone's proved ones stand
+    in their crates' `out`."""
+    page = HERE.parent / "PROVED.md"
+    if page.is_file():
+        return "" if "**UNPROVED.**" in page.read_text(encoding="utf-8") else "its archive's PROVED.md says by what"
+    return "by ./prove in the clone that it was installed from" if path.parent.name == "out" else ""
+
+
+def with_note(name: str, path: pathlib.Path, proved: str) -> Files:
+    """The library or program of this path under a wheel's name, and a note beside it where it was proved, which `misteluk doctor`
+    tells."""
+    note = {f"{os.path.dirname(name)}/PROVED": (f"{proved}\n".encode(), False)} if proved else {}
+    return {name: (path.read_bytes(), name == PROGRAM), **note}
 
 
 def program_here() -> Files:
@@ -155,9 +171,10 @@ def program_here() -> Files:
     if (top / "prove").is_file():
         where = subprocess.run([top / "prove", "--where"], stdout=subprocess.PIPE, stderr=subprocess.DEVNULL, text=True)
         if where.returncode == 0:
-            return {PROGRAM: (pathlib.Path(where.stdout.strip()).read_bytes(), True)}
+            path = pathlib.Path(where.stdout.strip())
+            return with_note(PROGRAM, path, proved_by(path))
     if (top / "bin/stinger").is_file():
-        return {PROGRAM: ((top / "bin/stinger").read_bytes(), True)}
+        return with_note(PROGRAM, top / "bin/stinger", proved_by(top / "bin/stinger"))
     if (top / "stinger").is_file():
         print(f"misteluk: this wheel has no program, but runs {top / 'stinger'}: it is for this machine, as long as that stands "
               "there. ./prove makes the program that a wheel for others has", file=sys.stderr)

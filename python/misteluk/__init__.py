@@ -8,7 +8,7 @@
         session = store.open()
         print(session.levels("hamburg"))
 
-Python's standard library is enough; pandas, networkx, matplotlib and tqdm are used where they are there.
+Python's standard library is enough; numpy, pandas, networkx, matplotlib and tqdm are used where they are there.
 """
 from .engine.finding import find_library, find_program
 from .errors import (AlreadyOpen, BadCommand, BadFields, BadName, BadRows, BadSlot, BadTime, BadWeight, BadWindow, BatchFull,

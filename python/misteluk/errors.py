@@ -1,6 +1,7 @@
 """What can go wrong, each with a name: which record, line and field, why, and what to do."""
 from __future__ import annotations
 
+import importlib
 from typing import TYPE_CHECKING, Any, Dict, List, Mapping, NamedTuple, Optional, Sequence, Tuple, Type
 
 from .values.records import Fault
@@ -330,3 +331,11 @@ class Missing(StoreError, ImportError):
 
     def __init__(self, package: str, what: str) -> None:
         super().__init__(f"{what} needs {package}: apt-get install python3-{package}, or pip install {package}")
+
+
+def needed(package: str, what: str) -> Any:
+    """An optional package, or a module of it, by its name. Raises `Missing` where it isn't there, which says what needs it."""
+    try:
+        return importlib.import_module(package)
+    except ImportError:
+        raise Missing(package.partition(".")[0], what) from None

@@ -4,14 +4,13 @@ from __future__ import annotations
 import contextlib
 import errno
 import gzip
-import importlib
 import io
 import os
 import secrets
 import zlib
 from typing import IO, Any, BinaryIO, Iterator, NoReturn, TextIO, Tuple, Type, cast
 
-from .errors import Missing, SaveFault
+from .errors import SaveFault, needed
 from .engine.finding import Path
 
 # How packed files begin, by the end of their names.
@@ -23,10 +22,7 @@ _MODULES = {".xz": "lzma", ".bz2": "bz2", ".zst": "zstandard"}
 
 def _module(ending: str) -> Any:
     """What packs files with this ending. (Python may have been built without some of it.)"""
-    try:
-        return importlib.import_module(_MODULES[ending])
-    except ImportError:
-        raise Missing(_MODULES[ending], f"a file that ends in {ending}") from None
+    return needed(_MODULES[ending], f"a file that ends in {ending}")
 
 
 def ending_of(path: Path) -> str:

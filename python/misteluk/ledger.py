@@ -158,8 +158,11 @@ class Ledger:
         count = len(self.taken)
         if not count:
             return
-        told = {id(it) for receipts in self.taken[:count] for it in receipts}
-        self._books = Books(tuple([it for it in self._books.untold if id(it) not in told]), *self._books[1:])
+        untold: Tuple[Commit, ...] = ()
+        if self.taken[count - 1] is not self._books.untold:
+            told = {id(it) for receipts in self.taken[:count] for it in receipts}
+            untold = tuple([it for it in self._books.untold if id(it) not in told])
+        self._books = Books(untold, *self._books[1:])
         del self.taken[:count]
 
     @alone

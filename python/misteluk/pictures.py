@@ -9,7 +9,7 @@ from collections import Counter
 from typing import Any, Iterable, Mapping, Sequence, Tuple, Union
 
 from .values.answers import Degree
-from .errors import Missing
+from .errors import needed
 from .values.names import shown
 
 FIRST, SECOND, GRAY = "#1f5fa8", "#d9822b", "#777777"
@@ -19,13 +19,8 @@ STYLE = {"svg.fonttype": "none", "svg.hashsalt": "misteluk", "font.size": 9.0, "
 
 
 def _figure(title: str, across: str, up: str) -> Tuple[Any, Any]:
-    try:
-        import matplotlib
-        from matplotlib.figure import Figure
-    except ImportError:
-        raise Missing("matplotlib", "a picture") from None
-    with matplotlib.rc_context(STYLE):
-        figure = Figure(figsize=(5.6, 3.4))
+    with needed("matplotlib", "a picture").rc_context(STYLE):
+        figure = needed("matplotlib.figure", "a picture").Figure(figsize=(5.6, 3.4))
         axes = figure.subplots()
     axes.set(title=title, xlabel=across, ylabel=up)
     return figure, axes

@@ -7,12 +7,12 @@ from typing import (TYPE_CHECKING, Any, Callable, Dict, Generic, Iterable, Itera
 
 from . import walks
 from .engine.finding import Path
-from .engine.protocol import Arrays, Denied, Scope, Held
+from .engine.protocol import WHOLE, Arrays, Denied, Held, Scope
 from .errors import BadName, NoKind, NoVertex, SessionClosed, refusal
 from .values import records
 from .values.answers import Answer, Components, Degree, Edge, Neighbor, T, Values, W, degrees, shown_as_html
 from .values.edges import Diff, Edges
-from .values.names import called, must_be_texts
+from .values.names import Called, must_be_texts
 from .values.terms import Terms
 from .values.units import Moment
 
@@ -48,6 +48,7 @@ class Session(Generic[W, T]):
         self.store, self.held = store, held
         self.slot, self.version, self.names = held.slot, held.number, held.count
         self._names: Optional[List[str]] = None
+        self._kinds: Optional[List[str]] = None
 
     @property
     def is_open(self) -> bool:
@@ -63,21 +64,21 @@ class Session(Generic[W, T]):
 
     # How the version is asked.
 
-    def _asked(self, call: Callable[..., R], told: str, *given: Any) -> R:
+    def _asked(self, call: Callable[..., R], told: Called, *given: Any) -> R:
         """What a call gives. What it denies is told as of this call."""
         try:
             return call(*given)
         except Denied as fault:
-            raise self._terms.denied(fault, told) from None
+            raise self._terms.denied(fault, str(told)) from None
 
-    def _scope(self, call: str, kind: Optional[str], since: Moment, until: Moment, *names: str) -> "Tuple[Scope, str]":
+    def _scope(self, call: str, kind: Optional[str], since: Moment, until: Moment, *names: str) -> "Tuple[Scope, Called]":
         """Which edges count, and the call as it was made. Raises where a name is none, the kind none, or the window no window."""
         self.must_be_open()
         if since == 0 and until == records.MOST_TIME and self._terms.knows(names if kind is None else (*names, kind)):
-            return Scope(kind), called(call, *names) if kind is None else called(call, *names, kind=kind)
+            return (WHOLE, Called(call, names)) if kind is None else (Scope(kind), Called(call, names, {"kind": kind}))
         must_be_texts((*names, kind or records.ANY))
         said = (("kind", kind, None), ("since", since, 0), ("until", until, records.MOST_TIME))
-        told = called(call, *names, **{name: it for name, it, usual in said if str(it) != str(usual)})
+        told = Called(call, names, {name: it for name, it, usual in said if str(it) != str(usual)})
         terms = self._terms
         fields = ["bfs" if names else "deg", str(self.slot), *names[:1], kind or records.ANY, str(since), str(until)]
         for fault in terms.faults_of(fields, records.MOST_SEATS):
@@ -95,15 +96,16 @@ class Session(Generic[W, T]):
             self._names = list(self._terms.names.all_to_user(self.held.names()))
         return self._names
 
-    def _answer(self, value: str, asked: str, columns: Dict[str, Values],
+    def _answer(self, value: str, asked: Called, columns: Dict[str, Values],
                 names: Optional[Sequence[str]] = None) -> "Answer[Any]":
         names = self._all_names() if names is None else names
-        found: Answer[Any] = Answer.of(names, columns, self.version, asked, value)
+        found: Answer[Any] = Answer.of(names, columns, self.version, str(asked), value)
         return found
 
     def _edges(self, found: Arrays) -> Edges:
-        kinds = list(self._terms.names.all_to_user(self.held.kinds()))
-        return Edges(kinds, self._all_names(), self._terms.units, found)
+        if self._kinds is None:
+            self._kinds = list(self._terms.names.all_to_user(self.held.kinds()))
+        return Edges(self._kinds, self._all_names(), self._terms.units, found)
 
     # Tables.
 
@@ -122,7 +124,7 @@ class Session(Generic[W, T]):
         scope, asked = self._scope("components", kind, since, until)
         labels, names = self._asked(self.held.labels, asked, scope), self._all_names()
         columns = {"label": Values(labels, lambda it: list(map(names.__getitem__, it)))}
-        found: Components = Components.of(names, columns, self.version, asked, "label")
+        found: Components = Components.of(names, columns, self.version, str(asked), "label")
         return found
 
     def cores(self, kind: Optional[str] = None, since: Moment = 0, until: Moment = records.MOST_TIME) -> Answer[int]:
@@ -140,20 +142,15 @@ class Session(Generic[W, T]):
         """For each vertex the weight that comes in."""
         scope, asked = self._scope("weights_in", kind, since, until)
         found = self._asked(self.held.edges, asked, scope)
-        weights = array("q", bytes(8 * self.names))
-        for target, weight in zip(found.targets, found.weights):
-            weights[target] += weight
-        return self._answer("weight_in", asked, {"weight_in": Values(weights, self._terms.units.weights_told)})
+        weights = Values(found.weights_in(self.names), self._terms.units.weights_told)
+        return self._answer("weight_in", asked, {"weight_in": weights})
 
     # One edge, and all.
 
     def edge(self, kind: str, source: str, target: str) -> Optional[Edge[W, T]]:
         """One edge, or `None`. Raises `NoKind` or `NoVertex` for names that the version doesn't have."""
         ends = kind, source, target
-        try:
-            marks = self.held.edge(self._ends(ends))
-        except Denied as fault:
-            raise self._terms.denied(fault, called("edge", *ends)) from None
+        marks = self._asked(self.held.edge, Called("edge", ends), self._ends(ends))
         return None if marks is None else self._terms.units.edge_to_user(*marks)
 
     def _ends(self, ends: Ends) -> Ends:
@@ -201,9 +198,9 @@ class Session(Generic[W, T]):
     def _some_edges(self, asked: "List[Ends]", missing: Any) -> "List[Any]":
         self.must_be_open()
         found: List[Any] = []
-        for ends, it in zip(asked, self._asked(self.held.found, "edges", list(map(self._ends, asked)))):
+        for ends, it in zip(asked, self._asked(self.held.found, Called("edges"), list(map(self._ends, asked)))):
             if isinstance(it, Denied) and missing is RAISE:
-                raise self._terms.denied(it, called("edge", *ends))
+                raise self._terms.denied(it, str(Called("edge", ends)))
             told = it is None or isinstance(it, Denied)
             found.append((missing if it else None) if told else self._terms.units.edge_to_user(*it))  # type: ignore[misc]
         return found

@@ -10,8 +10,8 @@ from support import Case, optional
 
 import misteluk
 from misteluk import Changed, Degree, Edge
-from misteluk.engine import held
 from misteluk.engine.protocol import Arrays
+from misteluk.values import fields
 
 numpy, pandas, igraph, scipy = map(optional, ("numpy", "pandas", "igraph", "scipy"))
 ROADS = ("insert road ulm kiel 5 1", "insert road kiel bonn 7 2", "insert rail ulm bonn 3 3")
@@ -70,9 +70,21 @@ class ByTarget(unittest.TestCase):
                 wanted = [at for _, at in sorted((it, at) for at, it in enumerate(edges.targets))]
                 begins = [sum(it < target for it in edges.targets) for target in range(count + 1)]
                 for many in (0, 1_000):
-                    with self.subTest(many=many), mock.patch.object(held, "MANY", many):
-                        order, ends = held.by_target(edges, count)
+                    with self.subTest(many=many), mock.patch.object(fields, "MANY", many):
+                        order, ends = edges.by_target(count)
                         self.assertEqual((list(order), list(ends)), (wanted, begins))
+
+    def test_weights_that_come_in(self):
+        """By numpy, where it is there, and in a loop: sums of weights up to the greatest, which no float has."""
+        made = random.Random(6)
+        for count in (1, 3, 40):
+            edges = Arrays.of(300)
+            edges.targets[:] = array("I", (made.randrange(count) for _ in range(300)))
+            edges.weights[:] = array("q", (made.choice((1 << 40, -(1 << 40), made.randrange(-9, 1 << 40))) for _ in range(300)))
+            wanted = [sum(weight for it, weight in zip(edges.targets, edges.weights) if it == target) for target in range(count)]
+            for many in (0, 1_000):
+                with self.subTest(many=many), mock.patch.object(fields, "MANY", many):
+                    self.assertEqual(list(edges.weights_in(count)), wanted)
 
 
 class EdgesOfAVersion(Case):

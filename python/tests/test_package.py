@@ -19,6 +19,7 @@ from support import HERE, TOP, Case, find_program, optional
 
 import misteluk
 from misteluk import errors
+from misteluk.command.doctor import made
 
 sys.path.insert(0, str(HERE.parent))
 sys.dont_write_bytecode = True
@@ -164,6 +165,25 @@ class Installs(Case):
         self.install(self.top / "python")
         self.assertEqual((self.there / "misteluk/bin/stinger").read_bytes(), program.read_bytes())
         self.assertTrue(os.access(self.there / "misteluk/bin/stinger", os.X_OK))
+
+    def doctor(self) -> str:
+        """What is told of the program that was installed."""
+        found = run(sys.executable, "-B", "-m", "misteluk", "doctor", "--engine", "program", cwd="/",
+                    env={"PATH": "", "HOME": str(self.room), "PYTHONPATH": str(self.there)}).stdout
+        return next(it for it in found.splitlines() if it.startswith("program: "))
+
+    def test_the_doctor_tells_what_was_proved(self):
+        """By the archive's page, which an install writes a note by; and nothing where there is none."""
+        for page, wanted in ((None, "not known to be proved"), ("# **UNPROVED.**", "not known to be proved"),
+                             ("# Proved", "proved (its archive's PROVED.md says by what)")):
+            with self.subTest(page):
+                program = self.program("bin/stinger")
+                if page is not None:
+                    (self.top / "PROVED.md").write_text(page)
+                    wanted_here = "not proved (" if "UN" in page else "proved ("
+                    self.assertTrue(made(str(program)).startswith(wanted_here))
+                self.install("--upgrade", self.top / "python")
+                self.assertTrue(self.doctor().endswith(wanted), self.doctor())
 
     def test_without_a_program(self):
         self.install(self.top / "python")

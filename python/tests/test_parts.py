@@ -20,6 +20,7 @@ from misteluk import (BadRows, BadWeight, Columns, FeedFault, Fleet, NoAnswer, N
                       PartsFailed, Place, PoolEmpty, ProgramEnded, StoreError)
 from misteluk.fleet import parted as parting
 from misteluk.values import records
+from misteluk.feeds import delimited
 from misteluk.errors import Missing, refusal
 from misteluk.fleet.parts import CALLS
 
@@ -294,12 +295,13 @@ class Parting(Case):
             self.assertEqual(parted.counts, {it: len(rows) for it, rows in wanted.items()})
 
     def test_memory_is_what_is_held(self):
-        """Eight times as many rows take no more, of as many keys: their file's blocks are what grows."""
+        """Eight times as many rows take no more, of as many keys: their file's blocks are what grows. (Both files have more than
+        what is read at once.)"""
         peaks = []
         for count in (8_000, 64_000):
             path = self.file(f"{count}.csv", "".join(",".join(map(str, it)) + "\n" for it in self.rows(count, 500)))
             feed = misteluk.open_feed(path, columns=Columns(2, 3, weight=4, key=1))
-            with mock.patch.object(parting, "MOST_HELD", 1 << 20):
+            with mock.patch.object(parting, "MOST_HELD", 1 << 20), mock.patch.object(delimited, "AT_ONCE", 1 << 16):
                 tracemalloc.start()
                 parted = parting.Parted(feed)
                 parted.read(feed, False)

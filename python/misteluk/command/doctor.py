@@ -18,12 +18,14 @@ from ..version import VERSION
 
 
 def made(path: str) -> str:
-    """Whether the library or program at this path was proved: the repository's proved crates have it in their `out`, and a wheel
-    or an archive has a note beside it."""
+    """Whether the library or program at this path was proved: the repository's proved crates have it in their `out`, a wheel has
+    a note beside it, and an archive a page above it."""
     place = pathlib.Path(path).resolve()
-    note = place.parent / "PROVED"
+    note, page = place.parent / "PROVED", place.parents[1] / "PROVED.md"
     if note.is_file():
         return f"proved ({note.read_text(encoding='utf-8').strip()})"
+    if page.is_file():
+        return f"{'not proved' if '**UNPROVED.**' in page.read_text(encoding='utf-8') else 'proved'} ({page})"
     if place.parent.name == "out" and place.parents[2].name == "crates":
         return "proved here"
     return "compiled, or of elsewhere: not known to be proved"

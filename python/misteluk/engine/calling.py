@@ -11,7 +11,7 @@ from typing import Any, Dict, List, NamedTuple, Optional, Tuple
 from . import interface
 from .guard import Notes, Owned, Step
 from .interface import Code, Library
-from .operations import EXPIRE, INSERT, REMOVE, Numbered, Operations
+from .operations import ADD, INSERT, REMOVE, Numbered, Operations
 from .protocol import Denied
 from ..errors import LibraryNotFound, NoMemory, StoreError
 
@@ -109,15 +109,19 @@ def fill(library: Library, raw: interface.Batch, batch: Operations) -> None:
     if batch.size > FEW:
         _fill_at_once(library, raw, batch.columns)
         return
+    calls: Any = library
     for code, kind, source, target, weight, time in batch.rows:
-        names: Any = kind.encode("ascii"), len(kind), source.encode("ascii"), len(source), target.encode("ascii"), len(target)
-        if code == EXPIRE:
-            check(library.batch_expire(raw, time))
+        names = kind.encode("ascii"), len(kind), source.encode("ascii"), len(source), target.encode("ascii"), len(target)
+        if code == INSERT:
+            done = calls.batch_insert(raw, *names, weight, time)
+        elif code == ADD:
+            done = calls.batch_add(raw, *names, weight, time)
         elif code == REMOVE:
-            check(library.batch_remove(raw, *names))
+            done = calls.batch_remove(raw, *names)
         else:
-            call: Any = library.batch_insert if code == INSERT else library.batch_add
-            check(call(raw, *names, weight, time))
+            done = calls.batch_expire(raw, time)
+        if done:
+            raise refusal_of(done)
 
 
 def _fill_at_once(library: Library, raw: interface.Batch, columns: Numbered) -> None:

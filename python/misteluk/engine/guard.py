@@ -117,7 +117,7 @@ class Guard:
         return os.getpid() != self._process
 
     def check(self) -> None:
-        if self.is_elsewhere:
+        if os.getpid() != self._process:
             raise StoreError("the store is another process's, of which this one is a fork: make a store here")
 
     def is_below(self, frame: Optional[FrameType]) -> bool:

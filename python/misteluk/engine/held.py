@@ -2,23 +2,21 @@
 from __future__ import annotations
 
 from array import array
-from collections import Counter
 from ctypes import c_uint32, c_uint64
-from itertools import accumulate, chain
+from itertools import chain
 from typing import Any, List, NamedTuple, Optional, Protocol, Sequence, Tuple, Union
 
 from . import interface
-from .calling import Handles, Known, address, check, room, texts_of
+from .calling import Handles, Known, address, check, refusal_of, room, texts_of
 from .guard import Guard, Notes, Owned, Step
 from .interface import Code, Library
 from .protocol import WHOLE, Arrays, Denied, Ends, Marks, Scope
 from ..errors import SessionClosed
 from ..values.limits import Limits
 
-# What no hold has.
-NO_HOLD = (1 << 64) - 1
-# How many edges of a vertex are asked for at first; and from how many on numpy is worth to be loaded.
-A_ROW, MANY = 32, 50_000
+# What no hold has; and how many edges of a vertex are asked for at first.
+NO_HOLD, A_ROW = (1 << 64) - 1, 32
+ALL_EDGES = interface.View(WHOLE.since, WHOLE.until, interface.ANY_KIND)
 
 
 class Opening(NamedTuple):
@@ -116,18 +114,21 @@ class LibraryVersion:
         return handle
 
     def _view(self, scope: Scope) -> interface.View:
-        kind = interface.ANY_KIND if scope.kind is None else self._kind(scope.kind)
+        if scope == WHOLE:
+            return ALL_EDGES
+        kind = interface.ANY_KIND if scope.kind is None else self._number(self._library.version_kind, scope.kind)
         return interface.View(scope.since, scope.until, kind)
 
-    def _kind(self, name: str) -> int:
+    def _number(self, call: Any, name: str) -> int:
+        """The number of a kind or vertex."""
         found = c_uint32()
-        check(self._ask(self._library.version_kind, name.encode("ascii"), len(name), found))
+        code = self._ask(call, name.encode("ascii"), len(name), found)
+        if code:
+            raise refusal_of(code)
         return found.value
 
     def _vertex(self, name: str) -> int:
-        found = c_uint32()
-        check(self._ask(self._library.version_vertex, name.encode("ascii"), len(name), found))
-        return found.value
+        return self._number(self._library.version_vertex, name)
 
     def names(self) -> List[str]:
         if self._names is None:
@@ -173,7 +174,7 @@ class LibraryVersion:
     def edge(self, ends: Ends) -> Optional[Marks]:
         kind, source, target = ends
         marks = interface.Edge()
-        numbers = self._kind(kind), self._vertex(source), self._vertex(target)
+        numbers = self._number(self._library.version_kind, kind), self._vertex(source), self._vertex(target)
         code = self._ask(self._library.version_edge, *numbers, marks)
         if code == Code.NO_EDGE:
             return None
@@ -212,43 +213,21 @@ class LibraryVersion:
 
     def out_of(self, scope: Scope, name: str) -> Arrays:
         view, source, size, count = self._view(scope), self._vertex(name), A_ROW, c_uint64()
-        while True:
-            found = Arrays.of(size)
-            columns = (found.kinds, found.targets, found.weights, found.firsts, found.recents)
-            places = chain.from_iterable((address(it), size) for it in columns)
+        code: int = Code.BAD_LENGTH
+        while code == Code.BAD_LENGTH:
+            size = max(size, count.value)
+            kinds, _, targets, *marks = found = Arrays.of(size)
+            places = [it for column in (kinds, targets, *marks) for it in (column.buffer_info()[0], size)]
             code = self._ask(self._library.version_row, view, source, *places, count)
-            if code != Code.BAD_LENGTH:
-                break
-            size = count.value
-        check(code)
-        found.sources[:] = array("I", [source]) * size
-        order = sorted(range(count.value), key=lambda at: (found.kinds[at], found.targets[at]))
-        return found.at(order)
+        if code:
+            raise refusal_of(code)
+        found.sources[:] = array("I", (source,)) * size
+        return found.at(sorted(range(count.value), key=list(zip(kinds, targets)).__getitem__))
 
     def into(self, scope: Scope, name: str) -> Arrays:
-        view, target = self._view(scope), self._vertex(name)
+        view, target, all_ = self._view(scope), self._vertex(name), self.edges(WHOLE)
         if self._by_target is None:
-            self._by_target = by_target(self.edges(WHOLE), self.count)
+            self._by_target = all_.by_target(self.count)
         order, ends = self._by_target
-        all_ = self.edges(WHOLE)
-        found = all_.at(order[ends[target]:ends[target + 1]])
-        places = found.places(None if scope.kind is None else view.kind, scope)
-        return found.at(sorted(places, key=lambda at: (found.kinds[at], found.sources[at])))
-
-
-def by_target(edges: Arrays, count: int) -> "Tuple[Sequence[int], array[int]]":
-    """The places of edges in order of their targets, and where those of each target begin; by numpy where they are many and it is
-    there. (Else in a loop, which lets other threads have their turn: a sort of all of them would keep these waiting.)"""
-    counts = Counter(edges.targets)
-    ends = array("I", accumulate(map(counts.__getitem__, range(count)), initial=0))
-    if edges.size >= MANY:
-        try:
-            import numpy
-            return array("I", numpy.argsort(numpy.asarray(edges.targets), kind="stable").astype("uint32").tobytes()), ends
-        except ImportError:
-            pass
-    order, free = array("I", bytes(4 * edges.size)), list(ends)
-    for at, it in enumerate(edges.targets):
-        order[free[it]] = at
-        free[it] += 1
-    return order, ends
+        found = all_.places(None if scope.kind is None else view.kind, scope, order[ends[target]:ends[target + 1]])
+        return all_.at(sorted(found, key=lambda at: (all_.kinds[at], all_.sources[at])))

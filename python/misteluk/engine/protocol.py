@@ -7,11 +7,14 @@ to version within an opening.
 from __future__ import annotations
 
 from array import array
+from collections import Counter
+from itertools import accumulate
 from typing import Any, List, NamedTuple, Optional, Protocol, Sequence, Tuple
 
 from .operations import Operations
 from ..values import records
 from ..values.answers import Collected, Commit, Rebased, Renewed, Stat
+from ..values.fields import numpy_for
 from ..values.limits import Limits
 
 # An edge by its kind, source and target.
@@ -29,6 +32,8 @@ class Scope(NamedTuple):
 
 
 WHOLE = Scope()
+# How many bits the lower half of a weight has.
+HALF = 20
 
 
 class Arrays(NamedTuple):
@@ -48,7 +53,9 @@ class Arrays(NamedTuple):
     @staticmethod
     def of(size: int) -> "Arrays":
         """Room for so many edges."""
-        return Arrays(*(array(code, bytes(4 * size)) for code in "III"), *(array(code, bytes(8 * size)) for code in "qQQ"))
+        small, large = bytes(4 * size), bytes(8 * size)
+        return Arrays(array("I", small), array("I", small), array("I", small), array("q", large), array("Q", large),
+                      array("Q", large))
 
     @property
     def size(self) -> int:
@@ -56,16 +63,47 @@ class Arrays(NamedTuple):
 
     def at(self, places: Sequence[int]) -> "Arrays":
         """The edges in these places."""
-        return Arrays(*(array(it.typecode, map(it.__getitem__, places)) for it in self))
+        return Arrays(*[array(it.typecode, [it[at] for at in places]) for it in self])
 
-    def places(self, kind: Optional[int], scope: Scope) -> Sequence[int]:
-        """Where the edges are that count, of the kind of this number or of any."""
-        found: Sequence[int] = range(self.size)
+    def places(self, kind: Optional[int], scope: Scope, among: Optional[Sequence[int]] = None) -> Sequence[int]:
+        """Where the edges are that count, of the kind of this number or of any; of those in some places, where these are said."""
+        found: Sequence[int] = range(self.size) if among is None else among
         if kind is not None:
             found = [at for at in found if self.kinds[at] == kind]
         if scope.since > 0 or scope.until < records.MOST_TIME:
             found = [at for at in found if scope.since <= self.recents[at] <= scope.until]
         return found
+
+    def weights_in(self, count: int) -> "array[int]":
+        """For each of so many vertices the weight that comes in."""
+        numpy = numpy_for(self.size)
+        if numpy is not None:
+            # (A sum of floats is exact where it stays below 2^53, as those of halves of weights do.)
+            targets, weights = numpy.asarray(self.targets), numpy.asarray(self.weights)
+            halves = weights >> HALF, weights & (1 << HALF) - 1
+            high, low = (numpy.bincount(targets, it, count).astype("int64") for it in halves)
+            return array("q", ((high << HALF) + low).tobytes())
+        found = array("q", bytes(8 * count))
+        for target, weight in zip(self.targets, self.weights):
+            found[target] += weight
+        return found
+
+    def by_target(self, count: int) -> "Tuple[Sequence[int], array[int]]":
+        """The places of edges in order of their targets, of which there are so many, and where those of each begin. (Without
+        numpy in a loop, which lets other threads have their turn: a sort of all of them would keep these waiting.)"""
+        numpy = numpy_for(self.size)
+        if numpy is not None:
+            targets = numpy.asarray(self.targets)
+            order = numpy.argsort(targets, kind="stable").astype("uint32")
+            ends = numpy.concatenate([[0], numpy.cumsum(numpy.bincount(targets, minlength=count))]).astype("uint32")
+            return array("I", order.tobytes()), array("I", ends.tobytes())
+        counts = Counter(self.targets)
+        ends = array("I", accumulate(map(counts.__getitem__, range(count)), initial=0))
+        order, free = array("I", bytes(4 * self.size)), list(ends)
+        for at, it in enumerate(self.targets):
+            order[free[it]] = at
+            free[it] += 1
+        return order, ends
 
 
 class Receipt(NamedTuple):

@@ -2,13 +2,17 @@
 from __future__ import annotations
 
 import csv
+import io
 from itertools import chain
-from typing import Iterable, Iterator, List, Mapping, Optional, Sequence, Tuple, Union
+from typing import Generator, Iterable, Iterator, List, Mapping, Optional, Sequence, Tuple, Union
 
 from . import feed as feeds
 from ..errors import FeedFault
 from .feed import Block, Column, Columns, Feed, Path, Table, feed_name, open_text, parts_of
+from ..values.fields import fields_of
 
+# How many characters of a file are read at once.
+AT_ONCE = 1 << 22
 NO_ROW: Tuple[Sequence[str], int] = ((), 0)
 
 
@@ -31,37 +35,55 @@ def _delimited_blocks(path: Path, columns: Columns, delimiter: Optional[str], he
     feed = feed_name(path)
     with open_text(path, encoding) as opened:
         first = opened.readline()
-        file = chain([first] if first else [], opened)
         sign = delimiter or max(",\t;|", key=first.count)
         named = any(isinstance(it, str) for it in columns.wanted)
-        names, line = next(_csv_rows(feed, file, sign, 0), NO_ROW) if header or header is None and named else NO_ROW
+        names, line = NO_ROW
+        if header or header is None and named:
+            names, line = next(_csv_rows(feed, chain([first] if first else [], opened), sign, 0), NO_ROW)
         if named and not names:
             how = "name them by number (from 1)" if first else "the file is empty"
             raise FeedFault(f"{feed}: columns are named, and there is no header: {how}")
         picked = Picked(feed, columns, names)
-        for lines in parts_of(file, feeds.ROWS_AT_ONCE):
-            even = even_columns(lines, sign)
-            if len(even) >= picked.least:
-                yield picked.of_columns(range(line + 1, line + 1 + len(lines)), even)
-                line += len(lines)
-                continue
-            rows = _rows_begun(feed, lines, file, sign, line)
-            line = rows[-1][1]
-            yield from picked.of_rows([it for it in rows if it[0]])  # (a blank line is no row)
+        text = ("" if line else first) + opened.read(AT_ONCE) + opened.readline()
+        while text:
+            line = yield from _blocks_of(picked, text, opened, sign, line)
+            text = opened.read(AT_ONCE) + opened.readline()
 
 
-def even_columns(lines: Sequence[str], sign: str) -> List[List[str]]:
-    """The columns of lines that have no quotes and as many fields each: nearly all files are such, and are split at once. Of
-    other lines none."""
-    text = "".join(lines)
+def _blocks_of(picked: "Picked", text: str, file: Iterable[str], sign: str, line: int) -> Generator[Block, None, int]:
+    """The rows that begin in a text of whole lines, behind so many lines, and the line of the last one, which may end behind them
+    in the file."""
+    even = even_columns(text, sign)
+    if len(even) >= picked.least:
+        yield picked.of_columns(range(line + 1, line + 1 + len(even[0])), even)
+        return line + len(even[0])
+    lines = io.StringIO(text, newline="")
+    for part in parts_of(lines, feeds.ROWS_AT_ONCE):
+        even = even_columns("".join(part), sign)
+        if len(even) >= picked.least:
+            yield picked.of_columns(range(line + 1, line + 1 + len(part)), even)
+            line += len(part)
+            continue
+        rows = _rows_begun(picked.feed, part, chain(lines, file), sign, line)
+        line = rows[-1][1]
+        yield from picked.of_rows([it for it in rows if it[0]])  # (a blank line is no row)
+    return line
+
+
+def even_columns(text: str, sign: str) -> Sequence[Sequence[str]]:
+    """The columns of whole lines that have no quotes and as many fields each: nearly all files are such, and are split at once.
+    Of other lines none."""
     text = text.replace("\r\n", "\n") if "\r" in text else text
     text = text if text.endswith("\n") else f"{text}\n"
     width = text[:text.index("\n")].count(sign) + 1
     if width == 1 or not sign.isascii() or '"' in text or "\r" in text:
         return []
+    found = fields_of(text, sign, width)
+    if found is not None:
+        return found
     others = bytes(set(range(256)) - {ord(sign), ord("\n")})
     ends = text.encode("utf-8", "surrogateescape").translate(None, others)
-    if ends != (sign * (width - 1) + "\n").encode("ascii") * len(lines):
+    if ends != (sign * (width - 1) + "\n").encode("ascii") * text.count("\n"):
         return []
     fields = text.replace("\n", sign).split(sign)
     return [fields[at:-1:width] for at in range(width)]

@@ -167,7 +167,7 @@ class DelimitedRows(Rows):
             lines = self._begin(lines, is_end)
         if self.picked is None or not lines:
             return []
-        even = even_columns(lines, self.sign or "")
+        even = even_columns("".join(lines), self.sign or "")
         if len(even) >= self.picked.least:
             self.line += len(lines)
             return [self.picked.of_columns(range(self.line - len(lines) + 1, self.line + 1), even)]

@@ -2,7 +2,7 @@
 from __future__ import annotations
 
 import warnings
-from itertools import chain, count
+from itertools import chain
 from typing import Any, Callable, Dict, Iterable, Iterator, List, Mapping, Sequence, Tuple
 
 from . import feed as feeds
@@ -105,12 +105,15 @@ def from_rows(rows: Iterable[Any], columns: Columns = Columns()) -> Feed:
         if first is None:
             return
         names, picked = _form_of_rows(first, columns)
-        for part in parts_of(zip(_even(chain([first], given), names, len(first)), count(1)), feeds.ROWS_AT_ONCE):
-            values, lines = zip(*part)
-            if set(map(len, values)) == {len(values[0])} and len(values[0]) >= picked.least:
-                yield picked.of_columns(lines, list(map(texts_of, zip(*values))))
+        end, width = 0, len(first)
+        for part in parts_of(chain([first], given), feeds.ROWS_AT_ONCE):
+            begin, end = end + 1, end + len(part)
+            if names or not set(map(type, part)) <= {tuple, list} or set(map(len, part)) != {width}:
+                part = list(_even(part, begin, names, width))
+            if set(map(len, part)) == {len(part[0])} and len(part[0]) >= picked.least:
+                yield picked.of_columns(range(begin, end + 1), list(map(texts_of, zip(*part))))
             else:
-                yield from picked.of_rows([(list(map(text_of, row)), line) for row, line in part])
+                yield from picked.of_rows([(list(map(text_of, row)), at) for at, row in enumerate(part, begin)])
     return Feed("rows", Table(blocks))
 
 
@@ -132,9 +135,10 @@ def _form_of_rows(first: Any, columns: Columns) -> Tuple[List[str], Picked]:
     return [], Picked("rows", columns, [])
 
 
-def _even(rows: Iterable[Any], names: List[str], width: int) -> Iterator[Sequence[Any]]:
-    """Each row's fields, of a dict those of the names. A row that is longer than the first tells what can't be known."""
-    for at, row in enumerate(rows, 1):
+def _even(rows: Iterable[Any], begin: int, names: List[str], width: int) -> Iterator[Sequence[Any]]:
+    """Each row's fields, of a dict those of the names. A row that is longer than the first tells what can't be known. The first
+    of these has the number `begin`."""
+    for at, row in enumerate(rows, begin):
         if isinstance(row, Mapping) != bool(names) or isinstance(row, (str, bytes)):
             raise FeedFault(f"rows:{at}: {type(row).__name__}, where the first row is {'a dict' if names else 'a tuple'}")
         if not names and len(row) > width:

@@ -5,12 +5,10 @@ import gc
 import sys
 import time
 from contextlib import contextmanager
-from typing import Any, Iterable, Iterator, Optional, TypeVar
+from typing import Any, Iterator, Optional
 
-
-T = TypeVar("T")
-# From how many on it is told of edges, and after how many each time.
-MANY, A_STEP = 20_000, 1_024
+# From how many on it is told of edges.
+MANY = 20_000
 
 
 class Progress:
@@ -51,19 +49,6 @@ class Progress:
         elif self.shown:
             print("\r\033[K", end="", file=sys.stderr, flush=True)
         self.bar, self.shown = None, False
-
-
-def told_of(items: Iterable[T], what: str, total: int, shown: Optional[bool], of: str = "edges") -> Iterator[T]:
-    """The items, while it is told how many were taken: at a terminal, where they are many, or where that is said."""
-    told = Progress(what, total, False if shown is None and total < MANY else shown, of)
-    try:
-        for count, it in enumerate(items, 1):
-            yield it
-            if count % A_STEP == 0:
-                told.step(A_STEP)
-        told.step(total % A_STEP)
-    finally:
-        told.end()
 
 
 @contextmanager

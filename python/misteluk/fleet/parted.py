@@ -16,7 +16,8 @@ from typing import DefaultDict, Dict, Iterable, Iterator, List, Optional
 
 from ..errors import BadName, BadRows, FeedFault, Place, Refused
 from ..feeds.advice import Reading, advise
-from ..feeds.feed import Block, Feed, Path, Row, rows_of
+from ..feeds import feed as feeds
+from ..feeds.feed import Block, Feed, Path, Row, part_of, rows_of
 from ..feeds.loading import MOST_FAULTS
 from ..values.names import text_reason
 from ..feeds.progress import Progress, no_collection
@@ -50,7 +51,8 @@ class Parted:
         try:
             with no_collection():
                 for block in feed.blocks():
-                    self._take(block)
+                    for at in range(0, len(block.lines), feeds.ROWS_AT_ONCE):
+                        self._take(part_of(block, slice(at, at + feeds.ROWS_AT_ONCE)))
                     told.step(len(block.lines))
                 self._write()
         finally:

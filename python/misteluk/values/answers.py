@@ -9,7 +9,7 @@ from itertools import islice
 from typing import (TYPE_CHECKING, Any, Callable, Dict, Generic, ItemsView, Iterator, KeysView, List, Mapping, NamedTuple,
                     Optional, Sequence, Tuple, TypeVar, ValuesView)
 
-from ..errors import Missing
+from ..errors import needed
 
 if TYPE_CHECKING:
     import numpy
@@ -208,20 +208,14 @@ class Answer(Mapping[str, V], Generic[V]):
     def numpy(self) -> "Dict[str, numpy.ndarray[Any, Any]]":
         """The columns as numpy arrays, each value in the place of its name in `names`: whole numbers, weights in the parts that
         the store counts; labels are names."""
-        try:
-            import numpy
-        except ImportError:
-            raise Missing("numpy", "an array") from None
+        numpy = needed("numpy", "an array")
         if not self.columns:
             return {self.value: numpy.array(list(self.values()))}
         return {name: numpy.array(it.all_told() if self.value == "label" else it.values) for name, it in self.columns.items()}
 
     def frame(self) -> "pandas.DataFrame":
         """The table as a pandas frame, by name."""
-        try:
-            import pandas
-        except ImportError:
-            raise Missing("pandas", "a frame") from None
+        pandas = needed("pandas", "a frame")
         index = pandas.Index(list(self.names), name="name", dtype=object)
         if not self.columns:
             rows: Any = list(self.values())

@@ -10,7 +10,7 @@ from typing import TYPE_CHECKING, Any, Dict, Iterator, List, NamedTuple, Sequenc
 from .answers import Edge
 from .units import Units
 from ..engine.finding import Path
-from ..errors import Missing
+from ..errors import needed
 from ..files import whole_text
 
 if TYPE_CHECKING:
@@ -67,20 +67,13 @@ class Edges(Sequence[Told]):
 
     def numpy(self) -> "Dict[str, numpy.ndarray[Any, Any]]":
         """The columns as numpy arrays, which share their memory with these."""
-        try:
-            import numpy
-        except ImportError:
-            raise Missing("numpy", "an array") from None
+        numpy = needed("numpy", "an array")
         return {name: numpy.asarray(it) for name, it in self.columns.items()}
 
     def frame(self) -> "pandas.DataFrame":
         """The edges as a pandas frame: kind, source, target, weight, first, recent. Decimal weights are objects, which pandas
         can't sum as numbers, unless the store has `decimals="float"`."""
-        try:
-            import numpy
-            import pandas
-        except ImportError:
-            raise Missing("pandas", "a frame") from None
+        numpy, pandas = needed("numpy", "a frame"), needed("pandas", "a frame")
         found: Dict[str, Any] = {}
         for name, numbers, texts in (("kind", self.kind, self.kinds), ("source", self.source, self.names),
                                      ("target", self.target, self.names)):
@@ -92,10 +85,7 @@ class Edges(Sequence[Told]):
     def to_networkx(self, **about: Any) -> "networkx.MultiDiGraph":
         """The edges as a networkx graph, with every name as a node, in order. An edge's key is its kind; it has the attributes
         `kind`, `weight`, `first` and `recent`. The graph has what is said about it."""
-        try:
-            import networkx
-        except ImportError:
-            raise Missing("networkx", "a graph") from None
+        networkx = needed("networkx", "a graph")
         graph = networkx.MultiDiGraph(**about)
         graph.add_nodes_from(self.names)
         graph.add_edges_from((source, target, it, {"kind": it, "weight": edge[0], "first": edge[1], "recent": edge[2]})
@@ -105,10 +95,7 @@ class Edges(Sequence[Told]):
     def to_igraph(self, **about: Any) -> "igraph.Graph":
         """The edges as a directed igraph graph, whose vertices have the numbers here, and the names as `name`. Edges have `kind`,
         `weight`, `first` and `recent`. The graph has what is said about it."""
-        try:
-            import igraph
-        except ImportError:
-            raise Missing("igraph", "a graph") from None
+        igraph = needed("igraph", "a graph")
         graph = igraph.Graph(len(self.names), list(zip(self.source, self.target)), directed=True)
         for name, value in about.items():
             graph[name] = value
@@ -121,14 +108,10 @@ class Edges(Sequence[Told]):
     def to_scipy(self) -> "scipy.sparse.csr_matrix":
         """The weights, in parts, as a sparse matrix: row and column are the numbers of source and target. Of several kinds the
         weights are summed."""
-        try:
-            import numpy
-            import scipy.sparse
-        except ImportError:
-            raise Missing("scipy", "a sparse matrix") from None
+        numpy, sparse = needed("numpy", "a sparse matrix"), needed("scipy.sparse", "a sparse matrix")
         ends = numpy.asarray(self.source).astype("int64"), numpy.asarray(self.target).astype("int64")
         size = len(self.names)
-        return scipy.sparse.csr_matrix((numpy.asarray(self.weight).astype("int64"), ends), shape=(size, size))
+        return sparse.csr_matrix((numpy.asarray(self.weight).astype("int64"), ends), shape=(size, size))
 
     def to_csv(self, path: Path) -> int:
         """Writes the edges as CSV in UTF-8 with a header, and gives how many they are. See `Session.to_csv`."""
@@ -193,10 +176,7 @@ class Diff:
     def frame(self) -> "pandas.DataFrame":
         """All of them as a pandas frame: what became of an edge (gone, new or changed), its kind, source and target, and its
         weight and times before and after, empty where it wasn't there."""
-        try:
-            import pandas
-        except ImportError:
-            raise Missing("pandas", "a frame") from None
+        pandas = needed("pandas", "a frame")
         nothing = (None,) * 3
         rows: List[Any] = [("gone", *ends, *edge, *nothing) for *ends, edge in self.gone]
         rows += [("new", *ends, *nothing, *edge) for *ends, edge in self.new]

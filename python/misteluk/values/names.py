@@ -10,7 +10,7 @@ import base64
 import hashlib
 import re
 import threading
-from typing import Dict, Iterable, List, Mapping, Optional, Sequence, Union
+from typing import Dict, Iterable, List, Mapping, NamedTuple, Optional, Sequence, Tuple, Union
 
 from . import records
 
@@ -88,11 +88,6 @@ class NameTable:
         known = self._texts
         return [known.get(it, it) for it in names] if known else names
 
-    def all_to_program(self, texts: Sequence[str]) -> List[str]:
-        """What stands for each of many texts; nothing, "", for one that is no name."""
-        told = {it: "" if text_reason(it) else self.to_program(it) for it in set(texts)}
-        return list(map(told.__getitem__, texts))
-
     def put(self, texts: Mapping[str, str]) -> None:
         """Takes texts by their ids, as a saved file has them, into a table that is empty yet."""
         with self._lock:
@@ -115,6 +110,12 @@ def shown(text: Union[str, object]) -> str:
     return told if told.isprintable() else repr(told)
 
 
-def called(call: str, *given: object, **named: object) -> str:
-    """A call as it is made, for what is told of it."""
-    return f"{call}({', '.join([*map(repr, given), *(f'{name}={it!r}' for name, it in named.items())])})"
+class Called(NamedTuple):
+    """A call as it is made; its text is for what is told of it."""
+
+    call: str
+    given: Tuple[object, ...] = ()
+    named: Mapping[str, object] = {}
+
+    def __str__(self) -> str:
+        return f"{self.call}({', '.join([*map(repr, self.given), *(f'{name}={it!r}' for name, it in self.named.items())])})"

@@ -9,6 +9,8 @@ import re
 from array import array
 from typing import Dict, Iterable, List, NamedTuple, Optional, Sequence, Tuple
 
+from .fields import Fields
+
 ANY = "*"
 MOST_NAME = 64
 MOST_WEIGHT = 1 << 40
@@ -169,6 +171,8 @@ def are_names(texts: Iterable[str]) -> bool:
 def whole_numbers(texts: Sequence[str], code: str, digits: int) -> "Optional[array[int]]":
     """The numbers that texts are, where it is seen at once that each is a whole one of at most so many signs, a minus sign where
     the array's code has one; `None` for others, which may be some too."""
+    if isinstance(texts, Fields):
+        return texts.whole_numbers(code, digits)
     signs = "".join(texts)
     plain = signs if code.isupper() else signs.replace("-", "")
     if not (plain.isdigit() and signs.isascii() and len(max(texts, key=len)) <= digits):
