@@ -50,7 +50,7 @@ HOUSE = """act birth board book desk drive floor gate grant journal label level 
 PLAIN = """README.md CONTRIBUTING.md python/README.md docs/ARCHITECTURE.md docs/DESIGN.md docs/FLEET.md docs/INSIDE.md
     docs/PERFORMANCE.md docs/PIPES.md docs/PROMISES.md docs/PROVED.md docs/REFINEMENT.md docs/SERVE.md docs/TUTORIAL.md
     docs/USING.md
-    examples/README.md examples/stories/README.md""".split()
+    bench/README.md bench/TRIED.md examples/README.md examples/stories/README.md""".split()
 COINED = {
     r"want(?:s|ed|ing)? (?:of )?memory|want of it": "out of memory",
     r"for want of": "for lack of",
