@@ -9,16 +9,19 @@ from __future__ import annotations
 
 import argparse
 import importlib
+import math
 import os
 import pathlib
 import sys
 import tempfile
+import time
 
 sys.dont_write_bytecode = True
 TOP = pathlib.Path(__file__).resolve().parent.parent
 sys.path.insert(0, str(TOP / "python"))
 from bench import needs, readme  # noqa: E402
 from bench.catalog import CATALOG  # noqa: E402
+from bench.measuring import Limit  # noqa: E402
 
 
 def run(name: str, *options: str) -> int:
@@ -34,9 +37,12 @@ def run(name: str, *options: str) -> int:
     module = importlib.import_module(f"bench.measurements.{name}")
     parser = argparse.ArgumentParser(prog=f"python3 -m bench run {name}", description=module.__doc__,
                                      formatter_class=argparse.RawDescriptionHelpFormatter)
+    parser.add_argument("--within", type=float, default=math.inf, metavar="SECONDS",
+                        help="begin no further turn after so many seconds")
     module.options(parser)
     words = parser.parse_args(options)
     os.chdir(TOP)
+    Limit.end = time.monotonic() + words.within
     with tempfile.TemporaryDirectory(prefix=f"bench-{name}-") as room:
         return int(module.measure(words, pathlib.Path(room)) or 0)
 

@@ -5,6 +5,7 @@ from __future__ import annotations
 
 import concurrent.futures
 import gc
+import math
 import os
 import pathlib
 import re
@@ -60,10 +61,20 @@ def medians(runs: Sequence[Spent]) -> Spent:
     return Spent(statistics.median(it.elapsed for it in runs), statistics.median(it.processor for it in runs))
 
 
+class Limit:
+    """When no further turn is to begin: never, unless `--within` says so."""
+
+    end = math.inf
+
+
 def in_turns(works: Mapping[Key, Callable[[], Answer]], turns: int) -> Dict[Key, List[Answer]]:
-    """What each work gives in each turn: in a turn, each is done once, so that a slow minute of the machine meets all of them."""
+    """What each work gives in each turn: in a turn, each is done once, so that a slow minute of the machine meets all of them.
+    The first turn is always done."""
     found: Dict[Key, List[Answer]] = {name: [] for name in works}
-    for _ in range(turns):
+    for turn in range(turns):
+        if turn and time.monotonic() >= Limit.end:
+            print(f"bench: {turn} of {turns} turns were done in the time", file=sys.stderr, flush=True)
+            break
         for name, work in works.items():
             found[name].append(work())
     return found

@@ -18,7 +18,8 @@ Each measurement answers one question. Run it at the top of the repository:
     python3 -m bench run costs
     python3 -m bench run compare --help
 
-The minutes are those of a quiet machine with four processors. Each measurement has options for a shorter run.
+How long each takes is estimated from short runs, for a quiet machine with four processors. With `--within SECONDS` a measurement
+begins no further turn after so many seconds. `--help` shows other ways to a short run.
 
 """
 AFTER = """
@@ -39,8 +40,8 @@ AFTER = """
 ## In twelve quiet minutes
 
 `python3 -m bench run quiet` runs short forms of `workers`, `compare`, `library`, `client`, `serve` and `scale`, one after
-another. It writes each table to `out/bench/NAME.txt`. Each has a limit of time. What is missing or fails is reported, and the
-next one runs.
+another. It writes each table to `out/bench/NAME.txt`. Each has a limit of time: it begins no further turn after two thirds of
+that, and is stopped at its end. What is missing or fails is reported, and the next one runs.
 
 ## How figures are made
 

@@ -15,8 +15,9 @@ import subprocess
 import sys
 import tempfile
 import unittest
-from contextlib import redirect_stdout
+from contextlib import redirect_stderr, redirect_stdout
 from typing import Dict, List, Optional
+from unittest import mock
 
 sys.dont_write_bytecode = True
 TOP = pathlib.Path(__file__).resolve().parent.parent
@@ -125,6 +126,12 @@ class Measuring(unittest.TestCase):
         works = {name: (lambda name=name: order.append(name) or len(order)) for name in ("one", "other")}
         self.assertEqual(measuring.in_turns(works, 2), {"one": [1, 3], "other": [2, 4]})
         self.assertEqual(order, ["one", "other", "one", "other"])
+
+    def test_time_is_over(self) -> None:
+        """The first turn is done, and no further one."""
+        with mock.patch.object(measuring.Limit, "end", 0.0), redirect_stderr(io.StringIO()) as said:
+            self.assertEqual(measuring.in_turns({"one": lambda: 1, "other": lambda: 2}, 5), {"one": [1], "other": [2]})
+        self.assertEqual(said.getvalue(), "bench: 1 of 5 turns were done in the time\n")
 
     def test_medians(self) -> None:
         runs = [measuring.Spent(*it) for it in ((3.0, 10.0), (1.0, 30.0), (9.0, 20.0))]

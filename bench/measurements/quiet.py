@@ -17,7 +17,7 @@ from bench.places import OUT, TOP, takes_program
 
 
 class Part(NamedTuple):
-    """A measurement with its options, and how many seconds it may take."""
+    """A measurement with its options, and how many seconds it may take. After two thirds of these it begins no further turn."""
 
     name: str
     options: Tuple[str, ...]
@@ -69,8 +69,9 @@ def measure(words: argparse.Namespace, _: pathlib.Path) -> int:
         to = words.out / f"{part.name}.txt"
         how = "no time was left"
         if left > 5:
-            command = [sys.executable, "-m", "bench", "run", part.name, *part.options]
-            how = run_within(command, to, min(part.limit, left), words.program or "")
+            limit = min(part.limit, left)
+            command = [sys.executable, "-m", "bench", "run", part.name, *part.options, "--within", f"{limit * 2 / 3:.0f}"]
+            how = run_within(command, to, limit, words.program or "")
         rows.append((part.name, how, time.monotonic() - begun, to))
         print(f"{part.name}: {how}", file=sys.stderr, flush=True)
     tables.show(["measurement", "how it ended", "elapsed", "table"],

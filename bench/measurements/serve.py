@@ -22,7 +22,7 @@ from bench.serving import QUESTIONS, Times, measured
 def options(parser: argparse.ArgumentParser) -> None:
     parser.add_argument("--clients", type=int, nargs="*", default=[0, 1, 8, 64])
     parser.add_argument("--rates", type=int, nargs="*", default=[10_000, 0], help="rows a second; 0 is as many as are taken")
-    parser.add_argument("--seconds", type=float, default=20.0)
+    parser.add_argument("--seconds", type=float, default=20.0, help="of each row (20)")
     parser.add_argument("--pause", type=float, default=0.02, help="seconds between a client's questions")
 
 
