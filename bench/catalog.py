@@ -73,6 +73,7 @@ def every() -> Iterator[Measurement]:
     yield Measurement("endless", "Is a feed without end right at ten points, and how long is its longest commit?", 3)
     yield Measurement("fleet", "What do fleets of parts take, in memory and in time?", 5)
     yield Measurement("serve", "How long do a server's clients wait, and what does the feed lose?", 3, ("starlette", "uvicorn"))
+    yield Measurement("soak", "Does a server stay as it is while clients come, go and are killed?", 31, ("starlette", "uvicorn"))
     yield Measurement("quiet", "What can be measured in twelve minutes on a quiet machine?", 12, (),
                       ("rustc", "/usr/bin/time", "igraph", "networkx", "numpy", "starlette", "uvicorn"))
 
