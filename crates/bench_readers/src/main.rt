@@ -1,5 +1,5 @@
 //! What a feed costs a reader: requests over a version that a session holds, alone and while another thread feeds batches to the
-//! same store. `bench_readers ROUNDS` measures that, and the measurement `beside` runs it. Without a number it only makes a small graph.
+//! same store. `bench_readers ROUNDS` measures that, and bench/beside runs it. Without a number it only makes a small graph.
 #![tactic(auto)]
 
 mod edges;
