@@ -2,6 +2,7 @@
 from __future__ import annotations
 
 import argparse
+import functools
 import os
 import pathlib
 import shlex
@@ -15,6 +16,7 @@ OUT = TOP / "out/bench"
 BLOCKS = 65_536
 
 
+@functools.lru_cache(maxsize=None)
 def proved(*words: str) -> str:
     """The proved program, or with the word `library` the proved library."""
     found = subprocess.run([str(TOP / "prove"), "--where", *words], stdout=subprocess.PIPE, stderr=subprocess.PIPE, text=True)

@@ -39,9 +39,10 @@ AFTER = """
 
 ## In twelve quiet minutes
 
-`python3 -m bench run quiet` runs short forms of `workers`, `compare`, `library`, `client`, `serve` and `scale`, one after
-another. It writes each table to `out/bench/NAME.txt`. Each has a limit of time: it begins no further turn after two thirds of
-that, and is stopped at its end. What is missing or fails is reported, and the next one runs.
+After `./prove`, which makes program and library, `python3 -m bench run quiet` runs short forms of other measurements, one after
+another: `workers`, `library`, `client`, `serve`, `scale` and `compare`. It writes each table to `out/bench/NAME.txt`. Each has a
+limit of time: it begins no further turn after two thirds of that, and is stopped at its end. What is missing or fails is
+reported, and the next one runs.
 
 ## How figures are made
 

@@ -20,7 +20,7 @@ import threading
 import time
 from typing import Any, Counter, Iterator, List, Tuple
 
-from bench import soaking, tables
+from bench import measuring, soaking, tables
 from bench.soaking import Clients, Watched, stat_of
 
 KILLED_EVERY = 5.0
@@ -64,7 +64,7 @@ class Soak:
 
     def faults(self) -> Iterator[str]:
         """What isn't as it should be."""
-        count = len(self.samples)
+        count = len(self.samples) if len(self.samples) > 3 else measuring.stop("the time was too short for four samples")
         quarters = [max(it[1] for it in self.samples[at * count // 4:(at + 1) * count // 4]) for at in range(4)]
         print(f"memory by quarters: {', '.join(f'{it:.0f}' for it in quarters)} MiB; {self.clients.killed} clients killed; met: "
               f"{dict(self.clients.met)}; posts: {dict(self.statuses)}")
@@ -116,4 +116,4 @@ def measure(words: argparse.Namespace, room: pathlib.Path) -> int:
         store.kill()
     found += [f"the server ended in status {status}"] if status else []
     print(f"soak: {'; '.join(found) or 'as it should be'}")
-    return 1 if found else 0
+    return int(bool(found))
