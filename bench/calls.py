@@ -1,0 +1,32 @@
+"""Calls of the C library by ctypes: what `library` and `scale` share."""
+from __future__ import annotations
+
+import array
+from typing import Any, List
+
+from bench.measuring import stop
+from bench.places import library
+from misteluk.engine import interface
+from misteluk.engine.interface import ANY_KIND, Code, Library
+
+# All times and all kinds.
+VIEW = interface.View(0, (1 << 64) - 1, ANY_KIND)
+
+
+def loaded() -> Any:
+    """The library, with the types of its calls."""
+    return Library(library())
+
+
+def must(code: int) -> None:
+    if code != Code.OK:
+        stop(f"a call was refused: {Code(code).name}")
+
+
+def at(values: "array.array[int]") -> int:
+    """Where an array begins."""
+    return values.buffer_info()[0]
+
+
+def columns(kinds: str, count: int) -> List[Any]:
+    return [array.array(it, bytes(array.array(it).itemsize * count)) for it in kinds]

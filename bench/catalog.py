@@ -1,0 +1,81 @@
+"""Which measurements there are: the one list that `python3 -m bench list`, README.md and the tests go by."""
+from __future__ import annotations
+
+import importlib.util
+import shutil
+from dataclasses import dataclass
+from typing import Dict, Iterator, List, Tuple
+
+# How each thing that a measurement needs is found here, and how it is installed on Debian.
+PYTHON_PACKAGES = {it: f"python3-{it}" for it in ("igraph", "networkx", "numpy", "pandas", "scipy", "starlette", "uvicorn")}
+COMMANDS = {"valgrind": "valgrind", "rustc": "rustc", "/usr/bin/time": "time", "taskset": "util-linux"}
+
+
+@dataclass(frozen=True)
+class Measurement:
+    """One measurement. `minutes` is what it takes with its default options on a quiet machine with four processors. It can't run
+    without what it `needs`; of what it `takes`, it leaves out what isn't there."""
+
+    name: str
+    question: str
+    minutes: float
+    needs: Tuple[str, ...] = ()
+    takes: Tuple[str, ...] = ()
+
+    @property
+    def duration(self) -> str:
+        return f"{self.minutes:g} min" if self.minutes >= 1 else f"{60 * self.minutes:.0f} s"
+
+    def missing(self) -> List[str]:
+        """What it needs and isn't here."""
+        return [it for it in self.needs if not is_here(it)]
+
+
+def is_here(what: str) -> bool:
+    """Whether this Python has a package, or this machine a command."""
+    return (importlib.util.find_spec(what) if what in PYTHON_PACKAGES else shutil.which(what)) is not None
+
+
+def debian_packages(needs: List[str]) -> str:
+    return " ".join(PYTHON_PACKAGES.get(it) or COMMANDS[it] for it in needs)
+
+
+def every() -> Iterator[Measurement]:
+    rust, count = ("rustc",), ("valgrind",)
+    plain = (*rust, *count)
+    yield Measurement("costs", "Has a script become more expensive than its kept figures? (`./check` asks this.)", 2, (), count)
+    yield Measurement("compare", "How long do a load and each request take, compared with a plain store of maps?", 6,
+                      (*rust, "/usr/bin/time"))
+    yield Measurement("picture", "What do the figures of `compare` look like, drawn on a logarithmic scale?", 0.02)
+    yield Measurement("instructions", "How many instructions do loads, requests and single records take?", 12, plain)
+    yield Measurement("misses", "How many cache lines and pages does a record of a load miss?", 6, plain)
+    yield Measurement("records", "How many records does `stinger run` read in a second, compared with a plain reader?", 0.5, rust)
+    yield Measurement("threads", "What do all processors gain for a load? With `--count`: what does each thread do?", 1,
+                      (*rust, "taskset"), count)
+    yield Measurement("workers", "How long does the R-MAT load take by 1, 2, 4 and the default workers, and by maps?", 1, rust)
+    yield Measurement("beside", "How much slower is a request while another thread feeds the store?", 3)
+    yield Measurement("hubs", "What does a batch of one, or one edge asked, cost on a row of many blocks?", 6, (), count)
+    yield Measurement("reached", "What does a `bfs` cost that reaches few of many vertices?", 2, count)
+    yield Measurement("expiries", "What does an expiry cost that finds nothing, half of the edges, or all?", 1)
+    yield Measurement("windows", "Is a sliding window cheaper by expiries or by removals?", 0.5)
+    yield Measurement("rebases", "How long does a `rebase` of a small graph take?", 0.2, (), count)
+    yield Measurement("memory", "How much memory do unused blocks take, and how does a long run grow?", 1, ("/usr/bin/time",))
+    yield Measurement("drives", "Does each of many `stinger drive` find no difference?", 5)
+    yield Measurement("library", "How fast is the C library, compared with igraph and networkx in the same process?", 3, (),
+                      ("igraph", "networkx"))
+    yield Measurement("scale", "How do time and memory of the C library grow, up to a million names?", 8, ("numpy",))
+    yield Measurement("client", "How fast is the client in Python, compared with other packages over one file?", 5, (),
+                      ("igraph", "scipy", "networkx", "pandas"))
+    yield Measurement("analyst", "Do three whole tasks of an analyst give what pandas and networkx give, and in what time?", 2,
+                      ("pandas", "networkx"))
+    yield Measurement("neighbors", "How long do a session's walks take, compared with networkx and SQLite?", 3, ("networkx",))
+    yield Measurement("edges", "How many single edges does a session answer in a second?", 1)
+    yield Measurement("endless", "Is a feed without end right at ten points, and how long is its longest commit?", 3)
+    yield Measurement("fleet", "What do fleets of parts take, in memory and in time?", 5)
+    yield Measurement("serve", "How long do a server's clients wait, and what does the feed lose?", 3, ("starlette", "uvicorn"))
+    yield Measurement("soak", "Does a server stay as it is while clients come, go and are killed?", 31, ("starlette", "uvicorn"))
+    yield Measurement("quiet", "What can be measured in twelve minutes on a quiet machine?", 12, (),
+                      ("rustc", "/usr/bin/time", "igraph", "networkx", "numpy", "starlette", "uvicorn"))
+
+
+CATALOG: Dict[str, Measurement] = {it.name: it for it in every()}

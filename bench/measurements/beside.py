@@ -1,0 +1,63 @@
+"""Processor time of a request over a version that a session holds, in numbers and without lines: alone, and while another thread
+feeds batches of 4,096 changes to the same store. The version has 65,536 insertions of an R-MAT graph. Nine runs of five rounds
+each, in which the two take turns: medians of all, and the median, least and greatest of the runs' ratios. It runs the proved
+program of crates/bench_readers, which `rt run` builds.
+"""
+from __future__ import annotations
+
+import argparse
+import collections
+import pathlib
+import statistics
+import subprocess
+from typing import Dict, List, Tuple
+
+from bench import tables
+from bench.measuring import spread, stop
+from bench.places import TOP
+
+CRATE = TOP / "crates/bench_readers"
+# Nanoseconds by request and by when it was asked.
+Times = Dict[Tuple[str, str], List[int]]
+
+
+def options(parser: argparse.ArgumentParser) -> None:
+    parser.add_argument("--program", metavar="FILE", help="another program than the one that `rt run` builds of bench_readers")
+    parser.add_argument("--runs", type=int, default=9, help="runs of five rounds (9)")
+
+
+def built() -> str:
+    ran = subprocess.run(["rt", "run"], cwd=CRATE, stdin=subprocess.DEVNULL, stdout=subprocess.PIPE, stderr=subprocess.STDOUT,
+                         text=True)
+    if ran.returncode:
+        stop("\n".join(ran.stdout.splitlines()[-20:]))
+    return str(CRATE / "out/bench_readers")
+
+
+def one_run(program: str) -> Tuple[Times, List[int]]:
+    """The times of one run, and how many batches were fed in each round."""
+    times: Times = collections.defaultdict(list)
+    fed = []
+    for line in subprocess.run([program, "5"], stdout=subprocess.PIPE, text=True, check=True).stdout.splitlines():
+        when, *rest = line.split()
+        if when == "fed":
+            fed.append(int(rest[0]))
+        elif when != "graph":
+            times[rest[0], when].append(int(rest[1]))
+    return times, fed
+
+
+def measure(words: argparse.Namespace, _: pathlib.Path) -> None:
+    program = words.program or built()
+    runs = [one_run(program) for _ in range(words.runs)]
+    rows = []
+    for request in dict.fromkeys(name for name, _ in runs[0][0]):
+        ratios = spread([statistics.median(times[request, "beside"]) / statistics.median(times[request, "alone"])
+                         for times, _ in runs])
+        alone, beside = (statistics.median(it for times, _ in runs for it in times[request, when]) / 1e9
+                         for when in ("alone", "beside"))
+        rows.append([request, tables.seconds(alone), tables.seconds(beside), f"{ratios.median:.2f}",
+                     f"{ratios.least:.2f} to {ratios.most:.2f}"])
+    tables.show(["request", "alone", "while another thread feeds", "ratio", "of single runs"], rows)
+    fed = [it for _, some in runs for it in some]
+    print(f"\nbatches fed in a round: {min(fed)} to {max(fed)}")

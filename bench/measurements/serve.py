@@ -1,0 +1,43 @@
+"""How long a server's clients wait for an answer while a feed comes in, and what the feed loses by them.
+
+    python3 -m bench run serve           a feed of 10,000 rows a second, and one at full speed, with 1, 8 and 64 clients
+    python3 -m bench run serve --clients 8 --seconds 5 --pause 0.005
+
+`misteluk serve -` runs as a process, and its standard input is the feed. Clients are processes of their own; each asks, by a
+session of the last version that it opens again each second, an edge, the edges out of a vertex, and a table of degrees in turn,
+with a pause between them. A row shows the median and the 99th percentile of each, in milliseconds, and the rows a second that
+came in; the first row of a feed is that without clients. It wants a machine that does nothing else.
+"""
+from __future__ import annotations
+
+import argparse
+import pathlib
+import statistics
+from typing import List
+
+from bench import tables
+from bench.serving import QUESTIONS, Times, measured
+
+
+def options(parser: argparse.ArgumentParser) -> None:
+    parser.add_argument("--clients", type=int, nargs="*", default=[0, 1, 8, 64])
+    parser.add_argument("--rates", type=int, nargs="*", default=[10_000, 0], help="rows a second; 0 is as many as are taken")
+    parser.add_argument("--seconds", type=float, default=20.0, help="of each row (20)")
+    parser.add_argument("--pause", type=float, default=0.02, help="seconds between a client's questions")
+
+
+def row(rate: int, count: int, times: Times, taken: float) -> List[str]:
+    cells = []
+    for name in QUESTIONS:
+        ordered = sorted(times[name])
+        if ordered:
+            cells += [f"{1000 * statistics.median(ordered):.2f}", f"{1000 * ordered[int(0.99 * len(ordered))]:.1f}"]
+        else:
+            cells += [tables.ABSENT, tables.ABSENT]
+    return [f"{rate:,} a second" if rate else "full speed", str(count), *cells, tables.count(taken)]
+
+
+def measure(words: argparse.Namespace, room: pathlib.Path) -> None:
+    head = ["feed", "clients", "edge, ms", "p99", "out of a vertex, ms", "p99", "degrees, ms", "p99", "rows a second"]
+    tables.show(head, (row(rate, count, *measured(room, rate, count, words.pause, words.seconds))
+                       for rate in words.rates for count in words.clients))

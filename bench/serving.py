@@ -1,0 +1,130 @@
+"""A server with a feed and clients, each a process of its own: what `serve` measures."""
+from __future__ import annotations
+
+import contextlib
+import os
+import pathlib
+import queue
+import random
+import subprocess
+import sys
+import threading
+import time
+from multiprocessing import get_context
+from typing import IO, Any, Callable, Dict, Iterator, List, Tuple, cast
+
+from bench.places import TOP
+
+NAMES, THREADS = 20_000, 8
+QUESTIONS = ("edge", "out_of", "degrees")
+Times = Dict[str, List[float]]
+
+
+def rows(seed: int) -> Iterator[str]:
+    """Rows of a feed without end, a hundred at a time: a few vertices have most edges."""
+    chance, time_now = random.Random(seed), 0
+    while True:
+        yield "".join(f"v{int(NAMES * chance.random() ** 3)},v{chance.randrange(NAMES)},{chance.randrange(100)},{time_now + it}\n"
+                      for it in range(100))
+        time_now += 100
+
+
+def feed(pipe: IO[str], rate: int, is_over: threading.Event) -> None:
+    """Writes rows at a rate, or as fast as they are taken."""
+    begun = time.monotonic()
+    for count, part in enumerate(rows(1)):
+        if is_over.is_set():
+            return
+        if rate:
+            is_over.wait(max(0.0, begun + count * 100 / rate - time.monotonic()))
+        try:
+            pipe.write(part)
+            pipe.flush()
+        except OSError:
+            return
+
+
+def ask(url: str, seed: int, pause: float, until: float, times: Times) -> None:
+    """A client: notes the seconds that each question took."""
+    import misteluk
+    chance, store = random.Random(seed), misteluk.Served(url)
+    while time.time() < until:
+        with store.open() as session:
+            end = time.time() + 1
+            session.degrees()
+            while time.time() < min(end, until):
+                source, target = f"v{int(NAMES * chance.random() ** 3)}", f"v{chance.randrange(NAMES)}"
+                calls: Tuple[Callable[[], object], ...] = (
+                    lambda: session.edges([("link", source, target)], missing=None), lambda: source in session,
+                    lambda: session.degrees())
+                for name, call in zip(QUESTIONS, calls):
+                    begun = time.perf_counter()
+                    call()
+                    times[name].append(time.perf_counter() - begun)
+                    time.sleep(pause)
+    store.close()
+
+
+def clients(url: str, count: int, seed: int, pause: float, until: float, found: "queue.Queue[Times]") -> None:
+    """A process of some clients, each a thread."""
+    times: Times = {it: [] for it in QUESTIONS}
+    threads = [threading.Thread(target=ask, args=(url, seed + it, pause, until, times)) for it in range(count)]
+    for it in threads:
+        it.start()
+    for it in threads:
+        it.join()
+    found.put(times)
+
+
+@contextlib.contextmanager
+def server(url: str) -> Iterator["subprocess.Popen[str]"]:
+    """A server whose standard input is the feed; it ends with the block."""
+    words = [sys.executable, "-m", "misteluk", "serve", "-", "--add", "--source", "1", "--target", "2", "--weight", "3", "--time",
+             "4", "--every", "200ms", "--keep", "500000", "--listen", url]
+    process = subprocess.Popen(words, stdin=subprocess.PIPE, stdout=subprocess.PIPE, text=True,
+                               env={**os.environ, "PYTHONPATH": str(TOP / "python")})
+    try:
+        cast("IO[str]", process.stdout).readline()
+        yield process
+    finally:
+        process.terminate()
+        process.wait()
+
+
+def fed_rows(store: Any) -> int:
+    """How many rows of the feed came in so far."""
+    return int(store.engine.talk.call("GET", "/v1/stat").json()["feed"]["rows"])
+
+
+def asked(url: str, count: int, pause: float, until: float) -> Times:
+    """The times of so many clients, who ask until then."""
+    spawn = get_context("spawn")
+    found: "queue.Queue[Times]" = spawn.Queue()
+    shares = [len(range(it, count, THREADS)) for it in range(min(THREADS, count))]
+    running = [spawn.Process(target=clients, args=(url, it, 100 * at, pause, until, found)) for at, it in enumerate(shares)]
+    for it in running:
+        it.start()
+    times = [found.get(timeout=max(0.0, until - time.time()) + 60) for _ in running]
+    time.sleep(max(0.0, until - time.time()))
+    return {name: [it for some in times for it in some[name]] for name in QUESTIONS}
+
+
+def measured(room: pathlib.Path, rate: int, count: int, pause: float, seconds: float) -> Tuple[Times, float]:
+    """The times of so many clients while a feed of this rate comes in, and its rows a second."""
+    import misteluk
+    url, is_over = f"unix:{room}/socket", threading.Event()
+    with server(url) as process:
+        feeder = threading.Thread(target=feed, args=(process.stdin, rate, is_over))
+        feeder.start()
+        try:
+            store = misteluk.Served(url)
+            time.sleep(2)
+            before, begun = fed_rows(store), time.time()
+            times = asked(url, count, pause, begun + seconds)
+            taken = (fed_rows(store) - before) / (time.time() - begun)
+            store.kill()
+        finally:
+            is_over.set()
+            process.terminate()
+            feeder.join()
+    return times, taken

@@ -1,0 +1,205 @@
+#!/usr/bin/env python3
+"""Tests of the measurements in bench/: that each of the catalog is there and typed, and README says the same; the module for
+measuring with a stand-in for the program; and that a cost which has grown fails."""
+from __future__ import annotations
+
+import argparse
+import importlib
+import importlib.util
+import io
+import os
+import pathlib
+import re
+import shutil
+import subprocess
+import sys
+import tempfile
+import unittest
+from contextlib import redirect_stderr, redirect_stdout
+from typing import Dict, List, Optional
+from unittest import mock
+
+sys.dont_write_bytecode = True
+TOP = pathlib.Path(__file__).resolve().parent.parent
+sys.path[:0] = [str(TOP), str(TOP / "python")]
+from bench import measuring, needs, readme, scripts, tables  # noqa: E402
+from bench.catalog import CATALOG, Measurement  # noqa: E402
+from bench.measurements import costs, quiet  # noqa: E402
+
+# A measurement is a module of fewer lines than these.
+LINES = 120
+# Stands in for `stinger run`: a line for each `commit` and `stat`.
+STAND_IN = """#!/bin/sh
+while read -r line; do
+    case "$line" in commit|stat) echo "$line 1";; stop) exit 7;; esac
+done
+"""
+
+
+def bench(*words: str, **more: str) -> "subprocess.CompletedProcess[str]":
+    environment = {**os.environ, "PYTHONDONTWRITEBYTECODE": "1", **more}
+    return subprocess.run([sys.executable, "-m", "bench", *words], cwd=TOP, env=environment, stdout=subprocess.PIPE,
+                          stderr=subprocess.PIPE, text=True)
+
+
+def mypy() -> Optional[List[str]]:
+    if importlib.util.find_spec("mypy"):
+        return [sys.executable, "-m", "mypy"]
+    found = shutil.which("mypy") or shutil.which("mypy", path="/usr/bin")
+    return [found] if found else None
+
+
+class Catalog(unittest.TestCase):
+    def test_each_has_a_module(self) -> None:
+        modules = {it.stem: it for it in (TOP / "bench/measurements").glob("*.py") if it.stem != "__init__"}
+        self.assertEqual(set(modules), set(CATALOG))
+        for name, path in modules.items():
+            text = path.read_text()
+            self.assertLess(len(text.splitlines()), LINES, name)
+            for part in ("def options(parser: argparse.ArgumentParser) -> None:", "def measure(words: argparse.Namespace, "):
+                self.assertEqual(text.count(f"\n{part}"), 1, name)
+
+    def test_readme(self) -> None:
+        self.assertEqual(readme.PAGE.read_text(), readme.page(), "python3 -m bench readme writes it again")
+        self.assertEqual(re.findall(r"(?m)^\| `(\w+)` \|", readme.page()), list(CATALOG))
+
+    def test_list(self) -> None:
+        done = bench("list")
+        self.assertEqual((done.returncode, done.stderr), (0, ""))
+        self.assertEqual([line.split()[0] for line in done.stdout.splitlines()], list(CATALOG))
+
+    def test_help_of_each(self) -> None:
+        """Each that has here what it needs is imported, and says what it takes. One is asked as a user asks."""
+        for name in (it.name for it in CATALOG.values() if not it.missing()):
+            module, parser = importlib.import_module(f"bench.measurements.{name}"), argparse.ArgumentParser()
+            module.options(parser)
+            self.assertIn("--help", parser.format_help())
+            self.assertTrue(module.__doc__, name)
+        done = bench("run", "costs", "--help")
+        self.assertTrue(done.stdout.startswith("usage: python3 -m bench run costs"), done.stdout + done.stderr)
+
+    def test_no_other_name(self) -> None:
+        done = bench("run", "compair")
+        self.assertEqual(done.returncode, 2)
+        self.assertIn("no measurement compair; there are costs, compare", done.stderr)
+
+    def test_what_is_missing(self) -> None:
+        done = bench("run", "records", PATH="/nowhere", PYTHONHOME="")
+        self.assertEqual(done.returncode, needs.PASSED_OVER, done.stderr)
+        self.assertIn("records is passed over, since rustc isn't here: apt-get install rustc", done.stderr)
+        self.assertEqual(Measurement("some", "?", 1, ("sh", "no-such-command")).missing(), ["no-such-command"])
+
+    @unittest.skipUnless(mypy(), "mypy is not there")
+    def test_types(self) -> None:
+        with tempfile.TemporaryDirectory() as cache:
+            words = [*(mypy() or []), "--config-file", "bench/mypy.ini", "--cache-dir", cache]
+            done = subprocess.run([*words, "-p", "bench"], cwd=TOP, env={**os.environ, "MYPYPATH": "python"},
+                                  stdout=subprocess.PIPE, stderr=subprocess.STDOUT, text=True)
+            self.assertEqual(done.returncode, 0, done.stdout)
+            count = re.fullmatch(r"Success: no issues found in (\d+) source files\n", done.stdout)
+            self.assertGreaterEqual(int(count[1]) if count else 0, len(list((TOP / "bench").rglob("*.py"))))
+
+
+class Measuring(unittest.TestCase):
+    def setUp(self) -> None:
+        room = tempfile.TemporaryDirectory()
+        self.addCleanup(room.cleanup)
+        self.room = pathlib.Path(room.name)
+        self.program = self.room / "program"
+        self.program.write_text(STAND_IN)
+        self.program.chmod(0o755)
+
+    def script(self, *lines: str) -> pathlib.Path:
+        return scripts.kept(self.room / "script", lines)
+
+    def test_a_run(self) -> None:
+        """Its lines are kept, its time is more than none, and another status than 0 stops."""
+        spent = measuring.run([str(self.program)], self.script(*["i,a,b,c,1,1"] * 2_000, "commit"), self.room / "lines")
+        self.assertEqual((self.room / "lines").read_text(), "commit 1\n")
+        self.assertGreater(spent.elapsed, 0.0)
+        self.assertGreater(spent.processor, 0.0)
+        with self.assertRaisesRegex(SystemExit, "ended in status 7"):
+            measuring.run([str(self.program)], self.script("stop"))
+
+    def test_turns(self) -> None:
+        order: List[str] = []
+        works = {name: (lambda name=name: order.append(name) or len(order)) for name in ("one", "other")}
+        self.assertEqual(measuring.in_turns(works, 2), {"one": [1, 3], "other": [2, 4]})
+        self.assertEqual(order, ["one", "other", "one", "other"])
+
+    def test_time_is_over(self) -> None:
+        """The first turn is done, and no further one."""
+        with mock.patch.object(measuring.Limit, "end", 0.0), redirect_stderr(io.StringIO()) as said:
+            self.assertEqual(measuring.in_turns({"one": lambda: 1, "other": lambda: 2}, 5), {"one": [1], "other": [2]})
+        self.assertEqual(said.getvalue(), "bench: 1 of 5 turns were done in the time\n")
+
+    def test_medians(self) -> None:
+        runs = [measuring.Spent(*it) for it in ((3.0, 10.0), (1.0, 30.0), (9.0, 20.0))]
+        self.assertEqual(measuring.medians(runs), measuring.Spent(3.0, 20.0))
+        self.assertEqual((runs[2] - runs[0]) / 2, measuring.Spent(3.0, 5.0))
+        self.assertEqual(measuring.spread([4.0, 1.0, 9.0]), measuring.Spread(4.0, 1.0, 9.0))
+
+    def test_numbers(self) -> None:
+        times = [tables.seconds(it) for it in (12.345, 0.012345, 0.0000012345, None)]
+        self.assertEqual(times, ["12.3 s", "12.3 ms", "1.23 µs", "-"])
+        self.assertEqual((tables.ratio(3, 2), tables.ratio(-1, 2), tables.count(1234.5)), ("1.50", "lost", "1,234"))
+        with redirect_stdout(io.StringIO()) as out:
+            tables.show(["what", "time"], [["load", "1 s"]])
+        self.assertEqual(out.getvalue(), "| what | time |\n|---|---|\n| load | 1 s |\n")
+
+    @unittest.skipUnless(shutil.which("valgrind"), "valgrind is not there")
+    def test_counts(self) -> None:
+        """More lines take more instructions, and a page has more than one line."""
+        few, many = self.script("commit"), scripts.kept(self.room / "many", ["commit"] * 200)
+        counts = [measuring.instructions([str(self.program)], it) for it in (few, few, many)]
+        self.assertEqual(counts[0], counts[1])
+        self.assertGreater(counts[2], counts[0] + 200 * 100)
+        lines, pages = (measuring.misses([str(self.program)], many, it) for it in (measuring.LINES, measuring.PAGES))
+        self.assertGreater(lines, pages)
+        self.assertGreater(pages, 0)
+
+    @unittest.skipUnless(shutil.which("/usr/bin/time"), "GNU time is not there")
+    def test_peak(self) -> None:
+        """The memory of a program, and not that of this process, which is larger."""
+        held = bytearray(1 << 26)
+        self.assertLess(measuring.peak([str(self.program)], self.script("commit")), len(held))
+        taking = [sys.executable, "-c", "it = bytearray(1 << 26); it[::4096] = b'x' * len(it[::4096])"]
+        self.assertGreater(measuring.peak(taking, self.script()), 1 << 26)
+
+    @unittest.skipUnless(shutil.which("valgrind"), "valgrind is not there")
+    def test_a_cost_that_grew(self) -> None:
+        """Kept figures pass; planted ones, of which the program takes more than a tenth more, don't."""
+        kept = self.room / "kept.txt"
+        words = ["run", "costs", "rebases", "--program", str(self.program), "--kept", str(kept)]
+        self.assertEqual(bench(*words, "--keep").returncode, 0)
+        done = bench(*words)
+        self.assertEqual((done.returncode, done.stdout.splitlines()[-1]), (0, "1 passed, 0 failed"), done.stdout)
+        count = costs.kept(kept)["rebases"]["instructions"]
+        kept.write_text(kept.read_text().replace(str(count), str(count * 8 // 10)))
+        done = bench(*words)
+        self.assertEqual((done.returncode, done.stdout.splitlines()[-1]), (1, "0 passed, 1 failed"), done.stdout)
+        self.assertIn("DEARER  rebases: ", done.stdout)
+
+    def test_each_figure_counts(self) -> None:
+        before = {"instructions": 10_000_000, "kilobytes": 9_000, "writes": 100}
+        for what, count in before.items():
+            for more, is_kept in ((1.09, True), (1.11, False)):
+                with redirect_stdout(io.StringIO()):
+                    found: Dict[str, int] = {**before, what: int(count * more)}
+                    self.assertEqual(costs.compared("a script", found, before), is_kept, (what, more))
+
+    def test_kept_scripts(self) -> None:
+        self.assertEqual(list(costs.kept(costs.KEPT)), list(costs.SCRIPTS))
+
+    def test_what_ends_badly(self) -> None:
+        """Of the measurements that run one after another, one that fails, waits, or has not what it needs is reported."""
+        to = self.room / "table.txt"
+        ends = {"echo fine": "measured", "echo bad; exit 4": "failed in status 4: bad", "sleep 60": "stopped after 1 s",
+                f"echo not here; exit {needs.PASSED_OVER}": "not here"}
+        for command, told in ends.items():
+            self.assertEqual(quiet.run_within(["sh", "-c", command], to, 1, ""), told)
+        self.assertIn("not here\n", to.read_text())
+
+
+if __name__ == "__main__":
+    unittest.main()
