@@ -29,6 +29,7 @@ import sys
 
 import statements
 from crate_docs import readmes
+from crate_docs.sources import OWN
 
 TOP = pathlib.Path(__file__).resolve().parent.parent
 WIDTH = 130
@@ -42,8 +43,6 @@ DEFINED = re.compile(r"\[`([^`]+)`\]\(([^)\s]+\.antt)\)")
 FENCED = re.compile(r"(?ms)^```.*?^```$")
 LINK = re.compile(r"(?<!!)\[[^\]]*\]\(([^)\s]+)\)")
 WORDS = TOP / "docs/ARCHITECTURE.md"
-# The line of crates.txt above programs of one's own, of which this repository has none.
-OWN = "# Programs of your own."
 # What a newcomer can't know: words that are this repository's, or mean something of its own in it.
 HOUSE = """act birth board book desk drive floor gate grant journal label level opening pin receipt retirement seat shard shelf
     slot stamp told""".split()

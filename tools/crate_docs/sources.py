@@ -242,7 +242,11 @@ def read_crate(folder: pathlib.Path) -> Crate:
     return crate
 
 
+# The line of crates.txt above programs of one's own, which no page shows.
+OWN = "# Programs of your own."
+
+
 def crates_below(text: str) -> Dict[str, List[str]]:
-    """Returns the crates that each line of crates.txt names, in its order."""
-    parts = [row.partition("#")[0].partition(":") for row in text.splitlines()]
+    """Returns the crates that each line of crates.txt names, in its order, down to the line OWN."""
+    parts = [row.partition("#")[0].partition(":") for row in text.partition(f"\n{OWN}\n")[0].splitlines()]
     return {head.split()[0]: below.split() for head, _, below in parts if head.strip()}
