@@ -170,12 +170,7 @@ class Commands(ServeCase):
     """`misteluk serve` as a process, and what each side sees when another one is killed."""
 
     def begin(self, *words, **how):
-        env = {**os.environ, "PYTHONPATH": str(HERE.parent)}
-        env.pop("MISTELUK_ENGINE", None)
-        done = subprocess.Popen([sys.executable, "-m", "misteluk", "serve", *words], stdout=subprocess.PIPE,
-                                stderr=subprocess.PIPE, text=True, env=env, **how)
-        self.addCleanup(done.communicate)
-        self.addCleanup(done.kill)
+        done = self.command(*words, **how)
         return done, done.stdout.readline()
 
     def test_a_signal_ends_it(self):
@@ -207,6 +202,7 @@ class Commands(ServeCase):
             self.assertRaisesRegex(NoServer, "doesn't answer", call)
         self.assertEqual(store.pending, 1)
         self.begin("--listen", f"unix:{path}")
+        self.assertRaisesRegex(SessionClosed, "this server began anew, without an edge.*What is pending stays so", store.commit)
         self.assertEqual(store.commit().inserted, 1)
         self.assertRaisesRegex(SessionClosed, "let version 0 go", session.cores)
         session.close()
