@@ -189,6 +189,14 @@ class Commands(ServeCase):
         self.assertEqual((done.returncode, said.splitlines()[-1]), (0, "misteluk: ended at version 1, of 2 edges"))
         self.assertFalse(os.path.exists(path))
 
+    def test_it_grows(self):
+        """It has more blocks, vertices and kinds than it began with, once they are needed."""
+        path = str(self.room / "socket")
+        self.begin("--listen", f"unix:{path}")
+        with Served(f"unix:{path}") as store:
+            store.load([(f"s{it}", "t", 1, 1) for it in range(70_000)], by="set", progress=False)
+            self.assertEqual(store.stat().edges, 70_000)
+
     def test_a_server_that_is_killed(self):
         """Its clients are told so; the next one takes its socket, and they connect anew."""
         path = str(self.room / "socket")

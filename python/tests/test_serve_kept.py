@@ -60,7 +60,7 @@ class Kept(ServeCase):
 
     def test_an_analyst_is_told(self):
         """Also one that opens a session anew, whose versions count anew by then; and a browser by what `stat` says."""
-        done, analyst = self.begin(), self.client()
+        done, analyst = self.begin("1000"), self.client()
         name = told(analyst)["server"]
         done.kill()
         done.wait()
@@ -83,7 +83,8 @@ class Kept(ServeCase):
 
     def test_a_pipe_goes_on(self):
         """What a pipe brings goes into what was saved."""
-        words = ["-", "--add", "--source", "1", "--target", "2", "--every", "10ms", "--listen", f"unix:{self.path}", "--save", self.saved]
+        words = ["-", "--add", "--source", "1", "--target", "2", "--every", "10ms", "--listen", f"unix:{self.path}", "--save",
+                 self.saved]
         for rows in ("ana,bob\n", "bob,cat\n"):
             done = self.command(*words, stdin=subprocess.PIPE)
             done.stdout.readline()
@@ -192,7 +193,8 @@ class Lost(ServeCase):
     def test_a_reader_that_takes_nothing_is_left(self):
         """Its connection ends when it was silent for long enough, its version goes, and that is no fault of the server's."""
         self.serve(limits=Limits(idle=0.3))
-        self.server.store.load([(f"s{it % 300}", f"target-{it // 300}", it, it) for it in range(200_000)], by="set", progress=False)
+        rows = [(f"s{it % 300}", f"target-{it // 300}", it, it) for it in range(200_000)]
+        self.server.store.load(rows, by="set", progress=False)
         self.server.board.advance()
         with mock.patch("traceback.print_exc") as told_of, socket.create_connection(
                 ("127.0.0.1", self.server.address.port)) as reader:

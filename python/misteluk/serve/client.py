@@ -109,7 +109,7 @@ class ServedEngine:
 
     name = "served"
     records_sent, records_left = 0, None
-    limits, most_blocks, grows = Limits(), MOST_BLOCKS, False
+    limits, most_blocks = Limits(), MOST_BLOCKS
 
     def __init__(self, talk: Talk) -> None:
         self.talk, self.is_closed = talk, False
@@ -120,7 +120,9 @@ class ServedEngine:
             talk.close()
             raise
         try:
-            self.blocks, self.seats = int(told["blocks"]["all"]), int(told["seats"])
+            self.grows, self.seats = bool(told["blocks"]["grow"]), int(told["seats"])
+            # (a store that grows has as many as it needs: the server says where that is too many)
+            self.blocks = MOST_BLOCKS if self.grows else int(told["blocks"]["all"])
             self.units, self.idle = Units(**told["units"]).checked(), float(told["limits"]["idle"])
         except (KeyError, TypeError):
             raise StoreError(f"{talk.url} is no server of a store") from None
