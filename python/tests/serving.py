@@ -3,11 +3,14 @@ from __future__ import annotations
 
 import http.client
 import json
+import os
 import pathlib
+import subprocess
+import sys
 import unittest
 from typing import Any, Dict, NamedTuple, Optional
 
-from support import ENGINE, Case, optional
+from support import ENGINE, HERE, Case, optional
 
 import misteluk
 from misteluk.serve.limits import Limits
@@ -55,6 +58,16 @@ class ServeCase(Case):
         self.addCleanup(server.stop)
         self.server = server
         return server
+
+    def command(self, *words: str, **how: Any) -> "subprocess.Popen[str]":
+        """`misteluk serve` as a process, which is killed at the end."""
+        env = {**os.environ, "PYTHONPATH": str(HERE.parent)}
+        env.pop("MISTELUK_ENGINE", None)
+        done = subprocess.Popen([sys.executable, "-m", "misteluk", "serve", *words], stdout=subprocess.PIPE,
+                                stderr=subprocess.PIPE, text=True, env=env, **how)
+        self.addCleanup(done.communicate)
+        self.addCleanup(done.kill)
+        return done
 
     def fed(self, *rows: Any, **options: Any) -> Server:
         """A server whose store has these rows, or those of the example."""

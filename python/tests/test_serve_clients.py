@@ -170,12 +170,7 @@ class Commands(ServeCase):
     """`misteluk serve` as a process, and what each side sees when another one is killed."""
 
     def begin(self, *words, **how):
-        env = {**os.environ, "PYTHONPATH": str(HERE.parent)}
-        env.pop("MISTELUK_ENGINE", None)
-        done = subprocess.Popen([sys.executable, "-m", "misteluk", "serve", *words], stdout=subprocess.PIPE,
-                                stderr=subprocess.PIPE, text=True, env=env, **how)
-        self.addCleanup(done.communicate)
-        self.addCleanup(done.kill)
+        done = self.command(*words, **how)
         return done, done.stdout.readline()
 
     def test_a_signal_ends_it(self):
@@ -194,6 +189,14 @@ class Commands(ServeCase):
         self.assertEqual((done.returncode, said.splitlines()[-1]), (0, "misteluk: ended at version 1, of 2 edges"))
         self.assertFalse(os.path.exists(path))
 
+    def test_it_grows(self):
+        """It has more blocks, vertices and kinds than it began with, once they are needed."""
+        path = str(self.room / "socket")
+        self.begin("--listen", f"unix:{path}")
+        with Served(f"unix:{path}") as store:
+            store.load([(f"s{it}", "t", 1, 1) for it in range(70_000)], by="set", progress=False)
+            self.assertEqual(store.stat().edges, 70_000)
+
     def test_a_server_that_is_killed(self):
         """Its clients are told so; the next one takes its socket, and they connect anew."""
         path = str(self.room / "socket")
@@ -207,6 +210,7 @@ class Commands(ServeCase):
             self.assertRaisesRegex(NoServer, "doesn't answer", call)
         self.assertEqual(store.pending, 1)
         self.begin("--listen", f"unix:{path}")
+        self.assertRaisesRegex(SessionClosed, "this server began anew, without an edge.*What is pending stays so", store.commit)
         self.assertEqual(store.commit().inserted, 1)
         self.assertRaisesRegex(SessionClosed, "let version 0 go", session.cores)
         session.close()

@@ -76,6 +76,16 @@ class Page(ServeCase):
         self.assertEqual((browser.see("document.title"), browser.see("document.querySelectorAll('img').length")), ("Misteluk", 0))
         self.assertEqual(browser.logged, [])
 
+    def test_another_server(self):
+        """A page that knew the server before says that this one began anew; and where none answers, it says that."""
+        self.fed()
+        browser = self.open()
+        browser.wait_for("document.getElementById('edges').textContent === '4'")
+        self.server._api._run = self.server._api._run._replace(name="another", began="without an edge")
+        browser.wait_for("document.getElementById('feed').textContent.includes('The server began anew, without an edge.')")
+        self.server.stop()
+        browser.wait_for("document.getElementById('fault').textContent === \"The server doesn't answer.\"")
+
     def test_a_name_that_isn_t_there(self):
         self.fed()
         browser = self.open()

@@ -2,12 +2,14 @@
 from __future__ import annotations
 
 import argparse
+import contextlib
 import signal
 import sys
-from typing import Any, Dict, Optional
+from typing import Any, Dict, Optional, Tuple
 
 from ..engine.making import LIBRARY
 from ..feeds.feed import STANDARD_INPUT
+from ..serve.keeping import USUAL_EVERY, Keeper
 from ..serve.limits import Limits
 from ..serve.server import USUAL, Server, token_of
 from ..store import Store
@@ -24,6 +26,10 @@ def add_options(parser: argparse.ArgumentParser) -> None:
                         f"alone may use ({USUAL})")
     listen.add_argument("--token-file", metavar="PATH", help="a file that has the token which each request must bear; else "
                         "MISTELUK_TOKEN. An address that other machines reach wants one")
+    listen.add_argument("--save", metavar="FILE", help="begin with the version that this file has, if it is there, and save the "
+                        "last one in it at intervals and at the end. (A file that is followed is read again, and needs none.)")
+    listen.add_argument("--save-every", type=float, default=USUAL_EVERY, metavar="SECONDS", help="how often it is saved, where "
+                        f"there is another version ({USUAL_EVERY:g})")
     listen.add_argument("--idle", type=float, default=usual.idle, metavar="SECONDS", help="let a client's version go when it was "
                         f"silent for so long ({usual.idle:g})")
     listen.add_argument("--clients", type=int, default=usual.clients, metavar="N", help=f"how many sessions there may be "
@@ -43,11 +49,14 @@ def serve(words: argparse.Namespace, how: Dict[str, Any]) -> int:
         raise ValueError("a feed wants --set or --add")
     if words.program is not None or words.engine not in (None, LIBRARY):
         raise ValueError("a server has its store in its own process, by the library, and runs no program")
+    if words.save is not None and words.file not in (None, STANDARD_INPUT):
+        raise ValueError("a file that is followed is read again at the start: --save is for rows that a pipe or clients bring")
     token = token_of(words.token_file)
-    with Store(blocks=words.blocks or records.MOST_BLOCKS, seats=records.MOST_SEATS, endless=True, engine=LIBRARY,
-               weight_scale=words.weight_scale, times="iso" if words.dates else words.times,
-               rounding=words.rounding) as store:
-        server = Server(store, words.listen, token=token, limits=limits)
+    with contextlib.ExitStack() as ends:
+        keeper = None if words.save is None else ends.enter_context(contextlib.closing(Keeper(words.save, words.save_every)))
+        store, began = store_of(words, keeper)
+        ends.enter_context(store)
+        server = Server(store, words.listen, token=token, limits=limits, keeper=keeper, began=began)
         before, sys_turn = signal.getsignal(signal.SIGINT), sys.getswitchinterval()
         sys.setswitchinterval(TURN)
         try:
@@ -59,8 +68,19 @@ def serve(words: argparse.Namespace, how: Dict[str, Any]) -> int:
         finally:
             sys.setswitchinterval(sys_turn)
             signal.signal(signal.SIGINT, before)
-        print(f"misteluk: ended at version {server.board.stat.version}, of {server.board.stat.edges} edges", file=sys.stderr)
-    return 0
+    print(f"misteluk: ended at version {server.board.stat.version}, of {server.board.stat.edges} edges", file=sys.stderr)
+    return int(keeper is not None and bool(keeper.fault))
+
+
+def store_of(words: argparse.Namespace, keeper: Optional[Keeper]) -> Tuple[Store[Any, Any], str]:
+    """The store that is served, and what it begins with."""
+    options = {"blocks": words.blocks, "seats": records.MOST_SEATS, "endless": True, "engine": LIBRARY,
+               "weight_scale": words.weight_scale, "times": "iso" if words.dates else words.times, "rounding": words.rounding}
+    store = None if keeper is None else keeper.restored(**options)
+    if store is None or keeper is None:
+        return Store(**options), "without an edge" if words.file is None else "with its feed"
+    print(f"misteluk: {keeper.path} has {store.stat().edges} edges", file=sys.stderr)
+    return store, keeper.told_of_file()
 
 
 def follow(server: Server, words: argparse.Namespace, how: Dict[str, Any]) -> None:

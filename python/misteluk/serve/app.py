@@ -16,6 +16,8 @@ from starlette.routing import Route
 from . import wire
 from .board import Board, Full, Lease
 from .feeding import Feeding
+from .gate import Run
+from .keeping import Keeper
 from .flow import Pool, Streamed, first_of, within
 from .limits import Limits
 from .openapi import described
@@ -42,8 +44,8 @@ class TooLarge(ValueError):
 class Api:
     """The calls of a server over a board and a feed."""
 
-    def __init__(self, board: Board, feeding: Feeding, limits: Limits) -> None:
-        self.board, self.feeding, self.limits = board, feeding, limits
+    def __init__(self, board: Board, feeding: Feeding, limits: Limits, run: Run, keeper: Optional[Keeper]) -> None:
+        self.board, self.feeding, self.limits, self._run, self._keeper = board, feeding, limits, run, keeper
         self.store = board.store
         self.quick = Pool(QUICK_THREADS, limits, "quick")
         # (to let a version go waits for a batch that is being applied)
@@ -123,8 +125,10 @@ class Api:
     async def stat(self, request: Request) -> Response:
         """What the store holds; no question waits for the feed by it."""
         stat, units = self.board.stat, self.store.ledger.terms.units
-        told = {"version": stat.version, "vertices": stat.names, "edges": stat.edges,
-                "blocks": {"all": self.store.blocks, "free": stat.free, "retired": stat.retired, "used": stat.used},
+        told = {"server": self._run.name, "began": self._run.began, "saved": self._keeper and self._keeper.told(),
+                "version": stat.version, "vertices": stat.names, "edges": stat.edges,
+                "blocks": {"all": self.store.blocks, "grow": self.store.engine.grows, "free": stat.free, "retired": stat.retired,
+                           "used": stat.used},
                 "held": [it._asdict() for it in await self.quick.run(self.board.held)], "seats": self.store.seats,
                 "feed": self.feeding.told(), "limits": self.limits._asdict(),
                 "units": {"weight_scale": units.weight_scale, "times": units.times, "decimals": units.decimals,

@@ -149,8 +149,8 @@ class Board:
     def _known(self, name: str) -> Lease:
         lease = self._leases.get(name)
         if lease is None:
-            raise SessionClosed(f"this server holds no version for this session: a client lets it go, or is silent for "
-                                f"{self.limits.idle:g} s")
+            raise SessionClosed(f"this server holds no version for this session: its client let it go, was silent for "
+                                f"{self.limits.idle:g} s, or had it of a server before this one")
         lease.heard = self._clock()
         return lease
 

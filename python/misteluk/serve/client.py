@@ -43,10 +43,9 @@ class ServedVersion:
             raise SessionClosed(f"the session of version {self.number} is closed")
         try:
             return self._engine.talk.call("POST", f"/v1/sessions/{part(self.name)}/ask", {"call": call, **given}).body
-        except SessionClosed:
+        except SessionClosed as fault:
             self.is_held = False
-            raise SessionClosed(f"the server let version {self.number} go: this session was silent for {self._engine.idle:g} s, "
-                                "or the server is another one by now. Open another session") from None
+            raise SessionClosed(f"the server let version {self.number} go: {fault}. Open another session") from None
 
     def _columns(self, call: str, scope: Scope, **given: Any) -> "List[array[int]]":
         return wire.unpacked(self._ask(call, kind=scope.kind, since=scope.since, until=scope.until, **given))
@@ -110,7 +109,7 @@ class ServedEngine:
 
     name = "served"
     records_sent, records_left = 0, None
-    limits, most_blocks, grows = Limits(), MOST_BLOCKS, False
+    limits, most_blocks = Limits(), MOST_BLOCKS
 
     def __init__(self, talk: Talk) -> None:
         self.talk, self.is_closed = talk, False
@@ -121,7 +120,9 @@ class ServedEngine:
             talk.close()
             raise
         try:
-            self.blocks, self.seats = int(told["blocks"]["all"]), int(told["seats"])
+            self.grows, self.seats = bool(told["blocks"]["grow"]), int(told["seats"])
+            # (a store that grows has as many as it needs: the server says where that is too many)
+            self.blocks = MOST_BLOCKS if self.grows else int(told["blocks"]["all"])
             self.units, self.idle = Units(**told["units"]).checked(), float(told["limits"]["idle"])
         except (KeyError, TypeError):
             raise StoreError(f"{talk.url} is no server of a store") from None
@@ -156,7 +157,7 @@ class ServedEngine:
     @alone
     def fly(self, flight: ServedFlight) -> Receipt:
         if not self._feeder:
-            self._feeder = str(self.talk.call("POST", "/v1/feeder").json()["feeder"])
+            self._feeder = str(self._as_feeder("POST", "/v1/feeder")["feeder"])
         if flight.feeder != self._feeder:
             self._number += 1
             flight.feeder, flight.number = self._feeder, self._number
@@ -167,7 +168,9 @@ class ServedEngine:
         return Receipt(Commit(**self._of_batch("POST", flight, body)))
 
     def _of_batch(self, method: str, flight: ServedFlight, body: Optional[Mapping[str, Any]] = None) -> Dict[str, Any]:
-        path = f"/v1/feeder/{part(flight.feeder)}/batches/{flight.number}"
+        return self._as_feeder(method, f"/v1/feeder/{part(flight.feeder)}/batches/{flight.number}", body)
+
+    def _as_feeder(self, method: str, path: str, body: Optional[Mapping[str, Any]] = None) -> Dict[str, Any]:
         try:
             return self.talk.call(method, path, body).json()
         except SessionClosed as fault:
@@ -178,7 +181,12 @@ class ServedEngine:
     def landed(self, flight: ServedFlight) -> Optional[Receipt]:
         if not flight.feeder or flight.feeder != self._feeder:
             return None
-        found = self._of_batch("DELETE", flight)["receipt"]
+        try:
+            found = self._of_batch("DELETE", flight)["receipt"]
+        except SessionClosed as fault:
+            flight.feeder = ""
+            raise SessionClosed(f"{fault} and applies the batch whose answer was lost. Whether that is in isn't known: look "
+                                "before") from None
         flight.feeder = ""
         return None if found is None else Receipt(Commit(**found))
 

@@ -24,6 +24,8 @@ from ..values.names import is_plain
 COMMANDS = {"insert": "i", "add": "a", "remove": "r", "expire": "x"}
 # Behind how many operations a store begins anew: it remembers each of them until then. Of many edges, so many times as they are.
 RENEWED, TIMES_EDGES = 1_000_000, 8
+# Of how many clients that fed before it is remembered what their last batch did.
+FEEDERS = 100
 # Over how many seconds the feed's rate is told.
 RATED = 10.0
 
@@ -67,6 +69,7 @@ class Feeding:
         self.state, self.fault = "open", ""
         self._lock = threading.RLock()
         self._feeder: Optional[Feeder] = None
+        self._before: Deque[Feeder] = deque(maxlen=FEEDERS)
         self._following: Optional[Following] = None
         self._thread: Optional[threading.Thread] = None
 
@@ -108,6 +111,7 @@ class Feeding:
                 raise Busy("this server follows a feed of its own")
             if self._feeder is not None and self._feeder.heard > self._clock() - self.limits.idle:
                 raise Busy("another client feeds this store")
+            self._leave()
             self._feeder = Feeder(self._clock())
             return self._feeder
 
@@ -121,7 +125,12 @@ class Feeding:
     def let_go(self, name: str) -> None:
         with self._lock:
             self._known(name)
-            self._feeder = None
+            self._leave()
+
+    def _leave(self) -> None:
+        if self._feeder is not None and self._feeder.number:
+            self._before.append(self._feeder)
+        self._feeder = None
 
     def batch(self, name: str, number: int, text: str, texts: Mapping[str, str], collect: bool) -> Commit:
         """Applies a batch of records in the engine's terms, once for each number. `texts` has those of ids."""
@@ -137,8 +146,12 @@ class Feeding:
             return feeder.receipt
 
     def landed(self, name: str, number: int) -> Optional[Commit]:
-        """What the batch of this number did; `None` where it didn't come, and then it can't any more."""
+        """What the batch of this number did, also where the client has lost its seat by now; `None` where it didn't come, and
+        then it can't any more."""
         with self._lock:
+            before = next((it for it in self._before if it.name == name), None)
+            if before is not None:
+                return before.receipt if before.number == number else None
             feeder = self._known(name)
             if feeder.number != number:
                 feeder.receipt, feeder.number = None, number

@@ -5,10 +5,12 @@ import hmac
 import json
 import sys
 import traceback
-from typing import Any, Awaitable, Callable, Dict, Optional
+from typing import Any, Awaitable, Callable, Dict, NamedTuple, Optional
 from urllib.parse import urlsplit
 
 from . import wire
+from .board import Full
+from .limits import RUN
 from .flow import Message, Receive, Send
 
 App = Callable[[Any, Receive, Send], Awaitable[None]]
@@ -19,13 +21,24 @@ HEADERS = [(b"x-content-type-options", b"nosniff"), (b"cache-control", b"no-stor
            (b"cross-origin-resource-policy", b"same-origin")]
 
 
+class Run(NamedTuple):
+    """One run of a server: its name, which no other one has, and what it began with."""
+
+    name: str
+    began: str = "without an edge"
+
+
 class Gate:
     """Lets requests in to the app that may ask. Without a token a request must be for this machine by its `Host`, so that no
     name of another one leads here, unless it comes by a Unix socket (`is_local`). None is let in from a page of another
-    origin."""
+    origin.
 
-    def __init__(self, app: App, token: Optional[str], is_local: bool) -> None:
-        self._app, self._token, self._is_local = app, token, is_local
+    Each response has the name of the server's run. A client that says another one knew the server before this one: it is told
+    so, and nothing is done for it."""
+
+    def __init__(self, app: App, token: Optional[str], is_local: bool, run: Run) -> None:
+        self._app, self._token, self._is_local, self._run = app, token, is_local, run
+        self._headers = [*HEADERS, (RUN.encode("ascii"), run.name.encode("ascii"))]
 
     async def __call__(self, scope: Any, receive: Receive, send: Send) -> None:
         if scope["type"] == "websocket":
@@ -40,7 +53,7 @@ class Gate:
             nonlocal has_begun
             if message["type"] == "http.response.start":
                 has_begun = True
-                message = {**message, "headers": [*message.get("headers", []), *HEADERS]}
+                message = {**message, "headers": [*message.get("headers", []), *self._headers]}
             await send(message)
         refused = self._refused(scope)
         if refused is not None:
@@ -48,7 +61,10 @@ class Gate:
             return
         try:
             await self._app(scope, receive, told)
-        except Exception:  # (a client is told nothing of it)
+        except Exception as fault:  # (a client is told nothing of it)
+            if has_begun and isinstance(fault, Full):  # (one that doesn't take its answer is no fault of the server's)
+                _cut(send)
+                return
             traceback.print_exc(file=sys.stderr)
             if has_begun:
                 raise
@@ -60,6 +76,14 @@ class Gate:
 
         def told(name: bytes) -> str:
             return headers.get(name, b"").decode("latin-1")
+        refused = self._stranger(scope, told)
+        known = told(RUN.encode("ascii"))
+        if refused is None and known and known != self._run.name:
+            return 410, wire.fault("SessionClosed", f"this server began anew, {self._run.began}")
+        return refused
+
+    def _stranger(self, scope: Any, told: Callable[[bytes], str]) -> "Optional[tuple[int, Dict[str, Any]]]":
+        """The same where the client isn't one that may ask."""
         host, origin = told(b"host"), told(b"origin")
         is_elsewhere = told(b"sec-fetch-site") in ("cross-site", "same-site") and scope["path"] not in OPEN
         if is_elsewhere or origin and urlsplit(origin).netloc != host:
@@ -83,6 +107,14 @@ def _name_of(host: str) -> str:
         return urlsplit(f"//{host}").hostname or ""
     except ValueError:
         return ""
+
+
+def _cut(send: Send) -> None:
+    """Ends the connection at once. (A `close` of it waits until its reader has taken what is written, which may be never; and
+    ASGI has no call for this, so it is asked of what uvicorn sends by.)"""
+    transport = getattr(getattr(send, "__self__", None), "transport", None)
+    if transport is not None:
+        transport.abort()
 
 
 async def _tell(send: Send, status: int, told: Dict[str, Any]) -> None:

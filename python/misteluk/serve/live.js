@@ -8,7 +8,9 @@
     const token = () => sessionStorage.getItem("token");
     const ask = async (path, method = "GET") => {
         const headers = token() ? { Authorization: `Bearer ${token()}` } : {};
-        const answer = await fetch(path, { method, headers, cache: "no-store" });
+        const answer = await fetch(path, { method, headers, cache: "no-store" }).catch(() => {
+            throw new Error("The server doesn't answer.");
+        });
         if (answer.status === 401) the("entry").hidden = false;
         if (!answer.ok) {
             const told = await answer.json().catch(() => ({ reason: `status ${answer.status}` }));
@@ -63,6 +65,12 @@
         select.replaceChildren(none, ...options);
         select.value = options.some((it) => it.value === chosen) ? chosen : "";
     };
+    // Which run of the server this page knows, and what it was told where another one took its place.
+    let server = null, anew = "";
+    const know = (told) => {
+        if (server !== null && server !== told.server) anew = ` The server began anew, ${told.began}.`;
+        server = told.server;
+    };
     const states = {
         open: "No one feeds it.", followed: "Its feed is followed.", ended: "Its feed came to its end.",
         failed: "Its feed was ended by a fault", "a client feeds": "A client feeds it.",
@@ -70,12 +78,13 @@
     const look = trying(async () => {
         const told = await (await ask("v1/stat")).json();
         the("entry").hidden = true;
+        know(told);
         the("edges").textContent = number(told.edges);
         the("vertices").textContent = number(told.vertices);
         the("version").textContent = number(told.version);
         the("rate").textContent = number(Math.round(told.feed.rows_a_second));
         const fault = told.feed.error ? `: ${told.feed.error}.` : "";
-        the("feed").textContent = `${states[told.feed.state] ?? ""}${fault} ${number(told.feed.rows)} rows came in.`;
+        the("feed").textContent = `${states[told.feed.state] ?? ""}${fault} ${number(told.feed.rows)} rows came in.${anew}`;
         [limit, last] = [told.limits.idle, told.version];
         if (held !== null && !told.held.some((it) => it.version === held.version)) held = null;
         the("held").tBodies[0].replaceChildren(...told.held.map(row));

@@ -2,6 +2,7 @@
 from __future__ import annotations
 
 import os
+import secrets
 import socket
 import stat
 import threading
@@ -9,6 +10,7 @@ from typing import Any, List, NamedTuple, Optional
 
 from .board import Board
 from .feeding import Feeding
+from .keeping import Keeper
 from .limits import Limits
 from ..errors import Missing, StoreError
 from ..store import Store
@@ -102,7 +104,7 @@ class Server:
     """A store that is served. `start` begins to answer, in a thread of its own; `run` does so in this one, until it is ended."""
 
     def __init__(self, store: "Store[Any, Any]", listen: str = USUAL, *, token: Optional[str] = None,
-                 limits: Limits = Limits()) -> None:
+                 limits: Limits = Limits(), keeper: Optional[Keeper] = None, began: str = "without an edge") -> None:
         address = Address.of(listen)
         if token is None and not address.is_of_here:
             raise ValueError(f"{listen} can be reached from other machines: that wants a token (--token-file)")
@@ -110,24 +112,25 @@ class Server:
             raise ValueError("a token has at least 8 printable ASCII signs, and no space")
         if store.engine.name != "library":
             raise ValueError("a server has its store in its own process: it takes engine='library'")
-        self.limits, self.store = limits.checked(), store
+        self.limits, self.store, self._keeper = limits.checked(), store, keeper
         self._socket, self.address = address.bound()
         self.board = Board(store, self.limits)
         self.feeding = Feeding(self.board, self.limits)
-        self._runner, self._api = self._made(token)
+        self._runner, self._api = self._made(token, began)
         self._thread: Optional[threading.Thread] = None
 
-    def _made(self, token: Optional[str]) -> Any:
-        """What runs the app."""
+    def _made(self, token: Optional[str], began: str) -> Any:
+        """What runs the app, and the app."""
         try:
             import uvicorn
             from .app import Api
         except ImportError as fault:
             self._leave()
             raise Missing(f"{str(fault.name).partition('.')[0]}", "a server") from None
-        from .gate import Gate
-        api = Api(self.board, self.feeding, self.limits)
-        gate = Gate(api.app(), token, bool(self.address.path))
+        from .gate import Gate, Run
+        run = Run(secrets.token_urlsafe(9), began)
+        api = Api(self.board, self.feeding, self.limits, run, self._keeper)
+        gate = Gate(api.app(), token, bool(self.address.path), run)
         config = uvicorn.Config(gate, log_level="critical", access_log=False, lifespan="off", server_header=False,
                                 proxy_headers=False,
                                 limit_concurrency=self.limits.clients + CONNECTIONS, timeout_keep_alive=int(self.limits.idle) + 5)
@@ -139,15 +142,23 @@ class Server:
 
     def run(self) -> None:
         """Answers until a signal comes, or `stop` is called; then the feed ends, and all is let go."""
-        sweeping = threading.Event()
-        sweeper = threading.Thread(target=self._sweep, args=(sweeping,), name="sweeper", daemon=True)
-        sweeper.start()
+        sweeping, keeper = threading.Event(), self._keeper
+        beside = [threading.Thread(target=self._sweep, args=(sweeping,), name="sweeper", daemon=True)]
+        if keeper is not None:
+            beside.append(threading.Thread(target=keeper.run, args=(self.board,), name="keeper"))
+        for it in beside:
+            it.start()
         try:
             self._runner.run(sockets=[self._socket])
         finally:
             sweeping.set()
-            sweeper.join()
+            if keeper is not None:
+                keeper.stop()
+            for it in beside:
+                it.join()
             self.feeding.close()
+            if keeper is not None:
+                keeper.save(self.board)
             self._api.close()
             self.board.close()
             self._leave()

@@ -9,6 +9,7 @@ from http.client import HTTPConnection, HTTPException, HTTPResponse, HTTPSConnec
 from typing import Any, Deque, Dict, Mapping, NamedTuple, Optional, Tuple
 from urllib.parse import quote, urlsplit
 
+from .limits import RUN
 from .server import UNIX
 from ..engine.protocol import Denied
 from ..errors import Busy, Misread, NoAnswer, NoMemory, NoSeat, NoServer, NotAllowed, SessionClosed, StoreError, refusal
@@ -59,6 +60,8 @@ class Talk:
         self._parts = parts
         token = token or os.environ.get("MISTELUK_TOKEN")
         self._headers = {"Authorization": f"Bearer {token}"} if token else {}
+        # Which run of the server this client knows.
+        self._run = ""
         self._idle: Deque[HTTPConnection] = deque()
         self._process = os.getpid()
 
@@ -99,8 +102,10 @@ class Talk:
 
     def _on(self, connection: HTTPConnection, method: str, path: str, body: Optional[Mapping[str, Any]]) -> Told:
         given = None if body is None else json.dumps(body).encode("ascii")
-        connection.request(method, path, given, {**self._headers, **({} if given is None else {"Content-Type": JSON})})
+        known = {RUN: self._run} if self._run else {}
+        connection.request(method, path, given, {**self._headers, **known, **({} if given is None else {"Content-Type": JSON})})
         response: HTTPResponse = connection.getresponse()
+        self._run = response.headers.get(RUN, "")
         media = response.headers.get_content_type()
         told = Told(response.status, media, response.read(), response.headers.get("Retry-After", ""))
         self._idle.append(connection)

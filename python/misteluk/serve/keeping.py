@@ -1,0 +1,88 @@
+"""A server's store in a file: what a server that is killed begins with again."""
+from __future__ import annotations
+
+import fcntl
+import os
+import sys
+import threading
+import time
+from datetime import datetime, timezone
+from typing import IO, Any, Dict, Optional
+
+from .board import Board
+from ..errors import StoreError
+from ..files import place_of
+from ..store import Store
+
+# Every how many seconds a version is saved, if nothing else is said.
+USUAL_EVERY = 60.0
+
+
+class Keeper:
+    """Saves the last version of a store into a file: at intervals where there is another one, and at the end. A file takes the
+    place of the one before when it is whole and on the disk."""
+
+    def __init__(self, path: str, every: float = USUAL_EVERY) -> None:
+        if not 0 < every <= 1e6:
+            raise ValueError(f"a version is saved every so many seconds, a number above 0, and not {every}")
+        self.path, self.every, self.fault = path, every, ""
+        self._saved: Optional[int] = None
+        self._when, self._over = time.monotonic(), threading.Event()
+        self._lock = _locked(place_of(path))
+
+    def restored(self, **options: Any) -> "Optional[Store[Any, Any]]":
+        """The store that the file has, and `None` where there is no file. Raises `SaveFault` for one that is damaged, or is
+        another one: it stays as it is."""
+        if not os.path.exists(self.path):
+            return None
+        units = {it: options.pop(it) for it in ("weight_scale", "times") if options.get(it) is not None}
+        store = Store.restore(self.path, progress=False, **{it: value for it, value in options.items() if value is not None})
+        told = {it: getattr(store.units, it) for it in units}
+        if told != units:
+            store.close()
+            raise ValueError(f"{self.path} has {told}, and not {units}")
+        return store
+
+    def told_of_file(self) -> str:
+        """What the file is of, for those who knew a server before this one."""
+        when = datetime.fromtimestamp(os.stat(self.path).st_mtime, timezone.utc).isoformat(timespec="seconds")
+        return f"with what was saved at {when}: what came in later isn't there"
+
+    def run(self, board: Board) -> None:
+        """Saves until `close` is called."""
+        while not self._over.wait(self.every):
+            self.save(board)
+
+    def save(self, board: Board) -> None:
+        """Saves the last version, if it isn't in the file. A fault is noted and told: the next time it is tried again."""
+        try:
+            with board.lent() as session:
+                if session.version != self._saved:
+                    session.save(self.path, progress=False)
+                self._saved, self._when, self.fault = session.version, time.monotonic(), ""
+        except (StoreError, OSError) as fault:
+            self.fault = getattr(fault, "word", "") or type(fault).__name__
+            print(f"misteluk: the version isn't saved: {fault}", file=sys.stderr)
+
+    def told(self) -> Dict[str, Any]:
+        """The version that the file has, and how many seconds ago it was the last one."""
+        return {"version": self._saved, "seconds": round(time.monotonic() - self._when, 1),
+                **({"error": self.fault} if self.fault else {})}
+
+    def stop(self) -> None:
+        self._over.set()
+
+    def close(self) -> None:
+        self.stop()
+        self._lock.close()
+
+
+def _locked(place: str) -> "IO[str]":
+    """A file beside that says that this process saves there. Raises `ValueError` where another one does."""
+    file = open(f"{place}.lock", "a", encoding="ascii")
+    try:
+        fcntl.flock(file, fcntl.LOCK_EX | fcntl.LOCK_NB)
+    except BlockingIOError:
+        file.close()
+        raise ValueError(f"another server saves in {place}") from None
+    return file
