@@ -20,6 +20,7 @@ use crate::resolve::{EdgeKey, ResolvedOp};
 use batch_shards::{Act, Place, Shard, Step};
 use graph_types::VertexId;
 use indexmap::IndexSet;
+use number_ranks::rank;
 use std::alloc::{AllocError, Global};
 
 /// The worker of an operation on an edge: its source's number by the number of workers. One on an unknown source is worker
@@ -218,18 +219,51 @@ pub fn shard_for(
     ensures blocks { IfOk result (λ n. (rows : ℕ → List BlockView) → AreOldRows (latest (map shown ops.now)) rows old.now
         → n.blocks ≡ min (needed rows (sources_in n.shard) n.shard.steps.items) (2 ^ 64 - 1)) }
 {
-    let mut sources = Vec::new(alloc);
-    let mut places = table_for(alloc, old.len().saturating_add(ops.len()));
-    let mut blocks = list_old(workers, worker, old, &mut sources, &mut places)?;
+    let mut blocks = 0_usize;
+    let mut listed = Vec::with_capacity(alloc, old.len().saturating_add(ops.len()) / workers)?;
+    for row in old {
+        if row.source.0 as usize % workers == worker {
+            listed.push(row.source.0)?;
+            blocks = blocks.saturating_add(row.blocks);
+        }
+    }
+    let mut next = listed.len();
+    for op in ops {
+        if let ResolvedOp::Edge(_, Some(key), _) = *op {
+            if key.source as usize % workers == worker {
+                listed.push(key.source)?;
+            }
+        }
+    }
+    let ranks = rank(alloc, listed.as_slice())?;
     let mut steps = Vec::with_capacity(alloc, ops.len() / workers)?;
     for k in 0..ops.len() {
         let op = ops[k];
         if is_in_shard(workers, worker, op) {
-            let act = act_in(&mut sources, &mut places, op)?;
+            let act = match op {
+                ResolvedOp::Edge(_, Some(key), change) => {
+                    let row = ranks.places[next];
+                    next += 1;
+                    Act::Edge(
+                        Some(Place {
+                            row,
+                            kind: key.kind,
+                            target: key.target,
+                        }),
+                        change,
+                    )
+                }
+                ResolvedOp::Edge(_, None, change) => Act::Edge(None, change),
+                ResolvedOp::Expire(time) => Act::Expire(time),
+            };
             let step = Step { op: k as u32, act };
             blocks = blocks.saturating_add(usize::from(!step.is_expiry()));
             steps.push(step)?;
         }
+    }
+    let mut sources = Vec::with_capacity(alloc, ranks.numbers.len())?;
+    for number in &ranks.numbers {
+        sources.push(VertexId(*number))?;
     }
     Ok(Needing {
         shard: Shard {
