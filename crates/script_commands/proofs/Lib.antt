@@ -9,3 +9,5 @@ pub mod Asking
 pub mod HeldBlocks
 pub mod Rebasing
 pub mod ContentsKept
+pub mod Moving
+pub mod MachineMoves
