@@ -11,3 +11,4 @@ pub mod Rebasing
 pub mod ContentsKept
 pub mod Moving
 pub mod MachineMoves
+pub mod MachineStarts

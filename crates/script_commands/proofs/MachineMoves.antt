@@ -1,25 +1,24 @@
 -- Each command of a server is a list of the machine's events.
-use Rattle.std.proofs.Common.{◌≡◌, ℕ, zero, suc, ◌+◌, ◌-◌, ◌≤◌, List, [], ◌∷◌, ◌++◌, length, map, take, get_or, set, replicate, refl, sym, ap}
-use Rattle.std.proofs.{Common.{subst, ◌∙◌, arith}, lemmas.{Option.{get_or_from_slice_get, slice_get-map}, List.{length-map, length-replicate, map-set, take-map}}}
+use Rattle.std.proofs.Common.{◌≡◌, ℕ, zero, suc, ◌-◌, List, [], ◌∷◌, ◌++◌, length, map, take, get_or, set, replicate, refl, sym, ap}
+use Rattle.std.proofs.{Common.{subst, ◌∙◌}, lemmas.{Option.{get_or_from_slice_get, slice_get-map}, List.{length-map, map-set, take-map}}}
 use Rattle.std.specs.{Option.option_map, Prelude.{true, Option, None, Some, Result, Ok, Err, slice_get}}
-use Rattle.block_pool.specs.Pools.{marked}
-use Rattle.block_reclamation.specs.{Board.{BoardState, no_pins}, declared.copies.{Pin.Pin as SeatPin, PinCopy.PinCopy, TheConstants.SEATS}}
+use Rattle.block_reclamation.specs.{declared.copies.{PinCopy.PinCopy, TheConstants.SEATS}}
 use Rattle.block_reclamation.specs.Copies.{copy_of, floor_of, pin_at}
 use Rattle.epoch_core.specs.declared.events.Event.{Event, TheVariants.{Floor, Recycle, Pin, Enter, Settle, Release}}
-use Rattle.epoch_core.specs.declared.session_states.{Hold.Hold, SessionState.{SessionState, TheVariants.{Idle, Holding}}}
-use Rattle.epoch_core.specs.{Machine.with_sessions, Runs.{AllReplies, Runs, run}, Sound.{IsHeld, IsNamed, IsSessionSound, IsSound}}
-use Rattle.epoch_core.specs.Worlds.{Answer, IsStart, MachineState, World, last_number, present_copy, seat_pin, seat_pins, session_of}
-use Rattle.epoch_core.specs.Versions.{graph_at, opening_graph}
+use Rattle.epoch_core.specs.declared.session_states.{Hold.Hold, SessionState.{TheVariants.{Idle, Holding}}}
+use Rattle.epoch_core.specs.{Machine.with_sessions, Runs.{Runs}, Sound.{IsHeld, IsNamed, IsSessionSound, IsSound}}
+use Rattle.epoch_core.specs.Worlds.{Answer, IsStart, MachineState, World, last_number, present_copy, seat_pin}
+use Rattle.epoch_core.specs.Versions.{graph_at}
 use Rattle.epoch_core.proofs.{Moves.floored, Steps.always_sound}
 use Rattle.feed_csv.specs.declared.command.Command.{Command, TheVariants.{Commit, OpenSlot, CloseSlot, Query, Collect}}
 use Rattle.graph_types.specs.{Graph.Graph, Step.left_by, declared.{batches.NamedOp.NamedOp, requests.Request.Request}}
 use Rattle.graph_types.specs.Answer.{IsAnswer}
 use Rattle.script_lines.specs.declared.words.Word.{Word}
 use Rattle.store_steps.specs.{Boards.ShowsBoard, Desks.DeskView, Shown.ShowsWorld}
-use Rattle.store_steps.specs.Steps.{Accepts, IsTaken, TakesAt, all_done, past_numbers, posting, recycling}
+use Rattle.store_steps.specs.Steps.{Accepts, IsTaken, TakesAt, past_numbers, posting, recycling}
 use Rattle.store_steps.proofs.{BoardSteps.shows_floored, BoardSteps.shows_sessions, Reached.same_count}
 use Rattle.stream_store.specs.{Kept.DeskState, Seats.{SessionView, held_graph, held_version}}
-use Rattle.script_commands.specs.Machine.{AddsReplies, AreEventsOf, Continues, IsReplyTo, ShowsMachine, asking, collecting, held_at, session_for}
+use Rattle.script_commands.specs.Machine.{AddsReplies, AreEventsOf, Continues, IsReplyTo, ShowsMachine, asking, held_at, session_for}
 use Rattle.script_commands.specs.{Servers.{IsServer, pending_of}, Slots.{IsPinned, held_by, held_in, held_of}}
 use Rattle.script_commands.specs.States.{Held, IsReplied, RecordResult, ServerState, answer_result, holding, pins_of, version, version_in}
 use Rattle.script_commands.specs.declared.{server.Server.Server, slots.Slots.Slots}
@@ -45,7 +44,7 @@ pin_of_slot [] slot = refl
 pin_of_slot (s ∷ sessions) zero = pin_for (held_by s)
 pin_of_slot (s ∷ sessions) (suc slot) = pin_of_slot sessions slot
 
-board_shown : (last : ℕ) (slots : Slots) (w : World) → IsPinned last slots.board slots.sessions.items → w.floor ≡ slots.board.floor
+pub board_shown : (last : ℕ) (slots : Slots) (w : World) → IsPinned last slots.board slots.sessions.items → w.floor ≡ slots.board.floor
     → w.sessions ≡ map session_for (held_in slots) → ShowsBoard slots.board w
 board_shown last slots w pinned floor sessions = record {
   floor = floor;
@@ -233,7 +232,7 @@ graph_held server slot s is there =
     λ i. left_by (earlier.batches i) (earlier.opening i)
 
 -- the graph of the machine's version is what the first batches leave
-graph_shown : (server : Server) (w : World) (n : ℕ) → ShowsWorld server.desk.desk w
+pub graph_shown : (server : Server) (w : World) (n : ℕ) → ShowsWorld server.desk.desk w
     → graph_at w.opening w.versions n ≡ version n (versions_of server)
 graph_shown server w n shows =
     λ i. left_by ((sym (take-map (λ v. v.batch) n w.versions) ∙ ap (take n) shows.batches) i) (shows.opening i)

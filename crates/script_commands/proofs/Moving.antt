@@ -1,19 +1,19 @@
 -- What a session of the machine does in one command of its slot: it opens on the last version, lets go, or is asked.
-use Rattle.std.proofs.Common.{◌≡◌, ℕ, zero, suc, ◌+◌, ◌<◌, ◌≤◌, Bool, true, false, List, [], ◌∷◌, ◌++◌, length, map, take, set, replicate}
+use Rattle.std.proofs.Common.{◌≡◌, ℕ, zero, suc, ◌+◌, ◌<◌, Bool, true, false, List, [], ◌∷◌, ◌++◌, length, map, take, set, replicate}
 use Rattle.std.proofs.{Common.{get_or, refl, sym, ap, subst, ◌∙◌, arith}, lemmas.Bool.{le-leb}}
 use Rattle.std.proofs.lemmas.{List.set-set, List.take_all, Option.slice_get-get_or}
-use Rattle.std.specs.{List.{flat_map, list_any}, Option.{option_and_then, option_map, unwrap_or}, Prelude.{if◌then◌else◌, nat_le, slice_get, ◌||◌, MatchOption}}
+use Rattle.std.specs.{List.{flat_map, list_any}, Option.{option_and_then, option_map}, Prelude.{if◌then◌else◌, slice_get, ◌||◌, MatchOption}}
 use Rattle.std.specs.declared.option.Option.{Option, TheVariants.{None, Some}}
 use Rattle.graph_types.specs.{Answer.IsAnswer, Graph.{Graph, unlimited}, Limits.standard_limits, declared.requests.Request.Request}
 use Rattle.graph_types.proofs.LimitsKept.{same_answer}
 use Rattle.edge_block.specs.Slots.{BlockView}
-use Rattle.graph_types.specs.declared.{ids.Edge.Edge, batches.NamedOp.NamedOp}
+use Rattle.graph_types.specs.declared.{batches.NamedOp.NamedOp}
 use Rattle.epoch_core.specs.declared.events.Event.{Event, TheVariants.{Take, Fill, Post, Floor, Recycle, Pin, Enter, Settle, Ask, Read, Reply, Release}}
 use Rattle.epoch_core.specs.declared.session_states.{Hold.Hold, Inquiry.Inquiry, SessionState.{SessionState, TheVariants.{Idle, Pinned, Holding, Asking}}}
-use Rattle.epoch_core.specs.{Blocks.put, Worlds.{Answer, MachineState, World, graph_with, last_number}, Versions.{blocks_at, edges_at, edges_of, graph_at, version_at}}
-use Rattle.epoch_core.specs.Machine.{Answers, Question, Replies, is_all_read, move, new_inquiry, question_in, question_of, read_on, step}
+use Rattle.epoch_core.specs.{Blocks.put, Worlds.{Answer, World, graph_with, last_number}, Versions.{blocks_at, edges_at, edges_of, graph_at, version_at}}
+use Rattle.epoch_core.specs.Machine.{Answers, Question, Replies, is_all_read, move, question_in, question_of, read_on, step}
 use Rattle.epoch_core.specs.Machine.{to_ask, to_enter, to_pin, to_read, to_release, to_reply, to_settle, with_sessions}
-use Rattle.epoch_core.specs.{Runs.{AllReplies, Runs, next_world, run}, Sound.{IsHeld, IsNamed}}
+use Rattle.epoch_core.specs.{Runs.{AllReplies, next_world, run}, Sound.{IsHeld, IsNamed}}
 use Rattle.epoch_core.proofs.Lists.{set_same, one_piece_more}
 use Rattle.graph_version.specs.Versions.{VersionView}
 use Rattle.store_steps.specs.Steps.{all_done, filling, fresh_in, posting}
@@ -25,7 +25,7 @@ pub done_cons : (e : Event) (es : List Event) (w mid after : World) → step w e
     → all_done (e ∷ es) w ≡ Some after
 done_cons e es w mid after one rest = ap (option_and_then (all_done es)) one ∙ rest
 
-pub done_append : (es fs : List Event) (w mid after : World) → all_done es w ≡ Some mid → all_done fs mid ≡ Some after
+done_append : (es fs : List Event) (w mid after : World) → all_done es w ≡ Some mid → all_done fs mid ≡ Some after
     → all_done (es ++ fs) w ≡ Some after
 done_append [] fs w mid after front rest = ap (λ o. option_and_then (all_done fs) o) front ∙ rest
 done_append (e ∷ es) fs w mid after front rest =
@@ -34,22 +34,11 @@ done_append (e ∷ es) fs w mid after front rest =
       | Some next ↦ λ is. done_append es fs next mid after is rest
     ] front
 
-pub run_append : (es fs : List Event) (w : World) → run (es ++ fs) w ≡ run fs (run es w)
-run_append [] fs w = refl
-run_append (e ∷ es) fs w = run_append es fs (next_world w e)
-
-pub replies_append : (es fs : List Event) (w : World) (old mid new : List (List Answer)) → AllReplies w es old mid
+replies_append : (es fs : List Event) (w : World) (old mid new : List (List Answer)) → AllReplies w es old mid
     → AllReplies (run es w) fs mid new → AllReplies w (es ++ fs) old new
 replies_append [] fs w old mid new all more = subst (λ rs. AllReplies w fs rs new) all more
 replies_append (e ∷ es) fs w old mid new all more =
     (all.0, all.1, replies_append es fs (next_world w e) all.0 mid new all.2 more)
-
-pub runs_append : (old mid new : MachineState) (es fs : List Event) → Runs old es mid → Runs mid fs new → Runs old (es ++ fs) new
-runs_append old mid new es fs front rest = record {
-  world = rest.world ∙ (ap (run fs) front.world ∙ sym (run_append es fs old.world));
-  replies = replies_append es fs old.world old.replies mid.replies new.replies front.replies
-      (subst (λ w. AllReplies w fs mid.replies new.replies) front.world rest.replies);
-}
 
 -- whether an event may add a reply
 abbrev pub is_reply : Event → Bool
