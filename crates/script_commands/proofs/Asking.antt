@@ -24,7 +24,7 @@ earlier_in last slot None (Some session) s is same =
 earlier_in last slot (Some seat) (Some session) s is same = absurd is
 earlier_in last slot seat None s is same = cc
 
-held_earlier : (server : Server) (slot : ℕ) (s : SessionView) → IsServer server
+pub held_earlier : (server : Server) (slot : ℕ) (s : SessionView) → IsServer server
     → slice_get server.slots.sessions.items slot ≡ Some (Some s) → IsEarlier server.desk.desk.last (held_version s)
 held_earlier server slot s is there =
     let within = slice_get_within server.slots.sessions.items slot (Some s) there in

@@ -9,3 +9,6 @@ pub mod Asking
 pub mod HeldBlocks
 pub mod Rebasing
 pub mod ContentsKept
+pub mod Moving
+pub mod MachineMoves
+pub mod MachineStarts

@@ -1,3 +1,4 @@
 pub mod States
 pub mod Slots
 pub mod Servers
+pub mod Machine

@@ -6,13 +6,14 @@ ghost use Rattle.std.specs.List.{range_with_len};
 ghost use Rattle.block_reclamation.specs.Board.{no_pins};
 ghost use Rattle.graph_version.specs.Versions.{empty_version_in};
 ghost use Rattle.graph_version.specs.Rebased.{IsRebased};
-ghost use Rattle.store_steps.specs.Opening.{opened_desk};
+ghost use Rattle.store_steps.specs.Opening.{IsVersionZero, opened_desk};
 ghost use Rattle.graph_types.specs.Valid.{IsValid};
 ghost use Rattle.feed_csv.specs.Commands.{HasValidOp};
 ghost use Rattle.stream_store.specs.Refusals.{block_count};
 ghost use Rattle.stream_store.specs.Seats.{SeatView, held_version};
 ghost use Rattle.script_commands.specs.Servers.{EndsAt, IsServer, LacksReader, Obeys, ShowsServer, pending_of};
 ghost use Rattle.script_commands.specs.Servers as servers;
+ghost use Rattle.script_commands.specs.Machine.{MovesMachine, StartsMachine};
 ghost use Rattle.script_commands.specs.declared.server.Stop.TheVariants.{Memory};
 ghost use Rattle.script_commands.specs.States as states;
 
@@ -84,6 +85,7 @@ impl Server {
     pub fn begin<A: AllocGlobal + Wait>(rt: &A, config: Config) -> Result<Server, Stop>
         ensures server { IfOk result IsServer }
         ensures beginning { IfOk result (λ server. ShowsServer server (states.beginning (states.set_up config)).state) }
+        ensures machine { IfOk result (StartsMachine config) }
     {
         let (desk, board, seats) = match open_parts(rt, rt.alloc(), config) {
             Ok(parts) => parts,
@@ -108,6 +110,7 @@ impl Server {
         requires numbers { map (λ (s : SeatView). s.number) seats.items ≡ range_with_len 0 (length seats.items) }
         ensures server { IfOk result IsServer }
         ensures beginning { IfOk result (λ server. ShowsServer server (states.beginning (states.set_up config)).state) }
+        ensures machine { IfOk result (StartsMachine config) }
     {
         let slots = Slots::new(alloc, board, seats)?;
         Ok(Server {
@@ -138,6 +141,7 @@ impl Server {
         requires valid { HasValidOp command }
         ensures kept { IsServer self.new }
         ensures obeys { IfOk result (λ response. Obeys command self.old response (string_bytes lines.new) self.new) }
+        ensures machine { IfOk result (λ response. MovesMachine command self.old response (string_bytes lines.new) self.new) }
         ensures stops { IfErr result (EndsAt command self.old) }
     {
         lines.clear();
@@ -159,6 +163,7 @@ impl Server {
         requires valid { IsValid op }
         ensures kept { IsServer self.new }
         ensures obeys { IfOk result (λ response. Obeys (Command.Op op) self.old response [] self.new) }
+        ensures machine { IfOk result (λ response. MovesMachine (Command.Op op) self.old response [] self.new) }
     {
         match self.pending.push_valid(op) {
             Ok(()) => Ok(Response::Lines),
@@ -177,6 +182,8 @@ impl Server {
         requires empty { string_bytes lines.old ≡ [] }
         ensures kept { IsServer self.new }
         ensures obeys { IfOk result (λ response. Obeys Command.Commit self.old response (string_bytes lines.new) self.new) }
+        ensures machine { IfOk result (λ response. MovesMachine Command.Commit self.old response
+            (string_bytes lines.new) self.new) }
     {
         self.desk.facts();
         // A feed's batches are mostly of one length, so that the next one need not grow to it.
@@ -201,6 +208,8 @@ impl Server {
         ensures kept { IsServer self.new }
         ensures obeys { IfOk result (λ response. Obeys (Command.OpenSlot slot) self.old response
             (string_bytes lines.new) self.new) }
+        ensures machine { IfOk result (λ response. MovesMachine (Command.OpenSlot slot) self.old response
+            (string_bytes lines.new) self.new) }
     {
         self.desk.facts();
         match self.slots.session(slot) {
@@ -221,6 +230,8 @@ impl Server {
         ensures kept { IsServer self.new }
         ensures obeys { IfOk result (λ response. Obeys (Command.CloseSlot slot) self.old response
             (string_bytes lines.new) self.new) }
+        ensures machine { IfOk result (λ response. MovesMachine (Command.CloseSlot slot) self.old response
+            (string_bytes lines.new) self.new) }
     {
         match self.slots.session(slot) {
             Ok(_) => {
@@ -237,6 +248,8 @@ impl Server {
         requires server { IsServer self.now }
         requires empty { string_bytes lines.old ≡ [] }
         ensures obeys { IfOk result (λ response. Obeys (Command.Query slot request.now) self.now response
+            (string_bytes lines.new) self.now) }
+        ensures machine { IfOk result (λ response. MovesMachine (Command.Query slot request.now) self.now response
             (string_bytes lines.new) self.now) }
     {
         let session = match self.slots.session(slot) {
@@ -261,6 +274,8 @@ impl Server {
         requires empty { string_bytes lines.old ≡ [] }
         ensures kept { IsServer self.new }
         ensures obeys { IfOk result (λ response. Obeys Command.Collect self.old response (string_bytes lines.new) self.new) }
+        ensures machine { IfOk result (λ response. MovesMachine Command.Collect self.old response
+            (string_bytes lines.new) self.new) }
     {
         let copy = self.slots.copy(&self.desk);
         let collected = self.desk.collect(&copy);
@@ -275,6 +290,8 @@ impl Server {
         requires empty { string_bytes lines.old ≡ [] }
         ensures kept { IsServer self.new }
         ensures obeys { IfOk result (λ response. Obeys (Command.Rebase slot) self.old response
+            (string_bytes lines.new) self.new) }
+        ensures machine { IfOk result (λ response. MovesMachine (Command.Rebase slot) self.old response
             (string_bytes lines.new) self.new) }
         ensures unchanged { OnErr result (self.new ≡ self.old) }
         ensures stops { IfErr result (EndsAt (Command.Rebase slot) self.old) }
@@ -298,6 +315,8 @@ impl Server {
         requires server { IsServer self.now }
         requires empty { string_bytes lines.old ≡ [] }
         ensures obeys { IfOk result (λ response. Obeys Command.Stat self.now response (string_bytes lines.new) self.now) }
+        ensures machine { IfOk result (λ response. MovesMachine Command.Stat self.now response
+            (string_bytes lines.new) self.now) }
     {
         stat_line(lines, self.desk.stat())?;
         Ok(Response::Lines)
@@ -312,6 +331,7 @@ fn parts_from<R: Wait>(
     session: &Session,
 ) -> Result<(Desk, Board, Vec<Seat>), Stop>
     requires few { block_count (held_version session.now) ≤ config.blocks }
+    ensures zero { IfOk result (λ r. IsVersionZero config.blocks r.0.desk.last) }
     ensures rebased { IfOk result (λ r. IsRebased (held_version session.now) r.0.desk.last) }
     ensures desk { IfOk result (λ r. r.0.desk ≡ opened_desk config.blocks r.0.desk.last) }
     ensures board { IfOk result (λ r. r.1 ≡ no_pins) }

@@ -5,7 +5,7 @@ ghost use Rattle.std.specs.Prelude.{slice_get, slice_set};
 ghost use Rattle.std.specs.List.{range_with_len};
 ghost use Rattle.graph_version.specs.Versions.{IsVersion, VersionView};
 ghost use Rattle.block_reclamation.specs.Board.{no_pins};
-ghost use Rattle.block_reclamation.specs.Copies.{copy_of};
+ghost use Rattle.block_reclamation.specs.Copies.{copy_of, floor_of};
 ghost use Rattle.stream_store.specs.Refusals.{block_count};
 ghost use Rattle.stream_store.specs.Seats.{SeatView, SessionView};
 ghost use Rattle.script_commands.specs.Slots.{AreFew, AreSlotsOf, held_in, held_of};
@@ -35,6 +35,7 @@ impl Slots {
         ensures slots { IfOk result (λ slots. (last : VersionView) → AreSlotsOf last slots) }
         ensures few { IfOk result (λ slots. (blocks : ℕ) → AreFew blocks slots) }
         ensures none { IfOk result (λ slots. held_in slots ≡ replicate (length seats.items) None) }
+        ensures floor { IfOk result (λ slots. slots.board.floor ≡ 0) }
     {
         let mut free = Vec::new(alloc);
         let mut sessions = Vec::new(alloc);
@@ -70,6 +71,7 @@ impl Slots {
         ensures held { OnOk result (held_in self.new
             ≡ slice_set (held_in self.old) slot (Some (held_of desk.now.desk.last))) }
         ensures few { (blocks : ℕ) → block_count desk.now.desk.last ≤ blocks → AreFew blocks self.old → AreFew blocks self.new }
+        ensures floor { OnOk result (self.new.board.floor ≡ self.old.board.floor) }
         ensures unchanged { OnErr result (held_in self.new ≡ held_in self.old) }
     {
         let slot = usize::from(slot);
@@ -96,6 +98,7 @@ impl Slots {
         ensures few { (blocks : ℕ) → AreFew blocks self.old → AreFew blocks self.new }
         ensures released { (last : VersionView) → AreSlotsOf last self.old
             → held_in self.new ≡ slice_set (held_in self.old) slot None }
+        ensures floor { self.new.board.floor ≡ self.old.board.floor }
     {
         let slot = usize::from(slot);
         let Some(session) = self.sessions[slot].take() else {
@@ -111,6 +114,7 @@ impl Slots {
         ensures few { (blocks : ℕ) → AreFew blocks self.old → AreFew blocks self.new }
         ensures held { held_in self.new ≡ held_in self.old }
         ensures copy { result ≡ copy_of (length desk.now.desk.last.batches) (states.pins_of (held_in self.old)) }
+        ensures floor { self.new.board.floor ≡ floor_of result }
     {
         let last = desk.last().number();
         self.board.raise(last)

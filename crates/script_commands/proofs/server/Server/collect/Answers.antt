@@ -2,6 +2,7 @@ use Rattle.std.proofs.Common.{◌≡◌, ◌∙◌, ap, arith, length}
 use Rattle.block_reclamation.specs.declared.copies.PinCopy.{PinCopy}
 use Rattle.block_reclamation.specs.Copies as copies
 use Rattle.script_commands.{specs.States.{copy_of, pins_of}, proofs.DeskLaws.{collect_done, shows_collected}}
+use Rattle.script_commands.proofs.MachineMoves.{collect_moves}
 use Rattle.script_commands.proofs.server.Server.collect.Goals as goal
 
 -- the copy's last number is the desk's
@@ -27,3 +28,9 @@ returns-clause-obeys c = λ s shows.
         held = c.copy-copy.ensures.held ∙ shows.held;
       },
     )
+
+pub returns-clause-machine : goal.returns-clause-machine
+returns-clause-machine c = λ start here events is runs shows.
+    collect_moves c.args.self.now _ c.copy-copy.result (length c.args.self.now.desk.desk.last.batches) _ here
+    c.copy-copy.ensures.slots.pinned c.copy-copy.ensures.floor c.copy-copy.ensures.held c.copy-copy.ensures.copy
+    c.collect-collected.ensures.steps shows

@@ -1,10 +1,11 @@
-use Rattle.std.proofs.Common.{rules, ◌≡◌, ◌∙◌, List, [], ap, sym, subst}
+use Rattle.std.proofs.Common.{rules, refl, ◌≡◌, ◌∙◌, List, [], ap, sym, subst}
 use Rattle.store_steps.specs.{Desks.DeskView, Steps.Accepts}
 use Rattle.stream_store.specs.Kept.{DeskState}
 use Rattle.script_commands.specs.{Servers.ShowsDesk, Servers.IsServer, declared.server.Server.Server}
 use Rattle.graph_types.specs.{Graph.Graph, declared.batches.NamedOp.NamedOp}
 use Rattle.script_commands.proofs.DeskLaws.{batches_after, blocks_after, commit_done, commit_refused, opening_after}
 use Rattle.script_commands.proofs.{DeskLaws.shows_committed, DeskLaws.shows_given_up, NamesApart.AreApart, SlotLaws.slots_more}
+use Rattle.script_commands.proofs.MachineMoves.{commit_moves, nothing_moves}
 use Rattle.script_commands.proofs.server.Server.commit.Goals as goal
 
 -- a server whose desk accepted a batch
@@ -62,3 +63,11 @@ returns-in_ok-word-in-Err-clause-obeys g c = λ s shows.
         held = shows.held;
       },
     )
+
+pub returns-in_ok-commit_line-in-Ok-clause-machine : goal.returns-in_ok-commit_line-in-Ok-clause-machine
+returns-in_ok-commit_line-in-Ok-clause-machine g c = λ start here events is runs shows.
+    commit_moves c.args.self.now _ c.replace-batch.result _ here refl (search rules) c.in-Ok.ensures.accepted shows
+
+pub returns-in_ok-word-in-Err-clause-machine : goal.returns-in_ok-word-in-Err-clause-machine
+returns-in_ok-word-in-Err-clause-machine g c = λ start here events is runs shows.
+    nothing_moves _ c.args.self.now _ _ here refl refl c.in-Err.ensures.unchanged refl shows

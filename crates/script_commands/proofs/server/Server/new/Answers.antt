@@ -1,5 +1,5 @@
 use Rattle.std.{proofs.{Common.{◌∙◌, ap, length, replicate}, lemmas.List.length-replicate}, specs.Prelude.None}
-use Rattle.script_commands.proofs.{DeskLaws.shows_opened, NamesApart.none_apart}
+use Rattle.script_commands.proofs.{DeskLaws.shows_opened, MachineStarts.starts, NamesApart.none_apart}
 use Rattle.script_commands.specs.{Servers.ShowsDesk, States.beginning, States.set_up}
 use Rattle.script_commands.proofs.server.Server.new.Goals as goal
 
@@ -21,3 +21,9 @@ returns-clause-beginning c = record {
   desk = shows_opened c.args.desk.desk c.args.config c.requires.desk;
   held = c.in_ok-slots.ensures.none ∙ ap (λ n. replicate n None) c.requires.seats;
 }
+
+pub returns-clause-machine : goal.returns-clause-machine
+returns-clause-machine c =
+    starts c.args.config _ (length c.args.desk.desk.last.batches) c.requires.desk
+    (c.in_ok-slots.ensures.slots c.args.desk.desk.last).pinned c.in_ok-slots.ensures.floor
+    (c.in_ok-slots.ensures.none ∙ ap (λ n. replicate n None) c.requires.seats)

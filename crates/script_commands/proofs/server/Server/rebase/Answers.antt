@@ -3,6 +3,7 @@ use Rattle.std.specs.Prelude.{IfErr, None, Ok, slice_get}
 use Rattle.graph_types.specs.Graph.{Graph}
 use Rattle.stream_store.specs.Seats.{held_graph, held_version}
 use Rattle.script_commands.proofs.{Asking.{asked_there, graph_there, stops_reopening, version_there}, NamesApart.AreApart}
+use Rattle.script_commands.proofs.MachineStarts.{restarts}
 use Rattle.script_commands.proofs.Rebasing.{length_opened, rebase_done, shows_rebased}
 use Rattle.script_commands.specs.{Servers.LacksReader, Slots.held_of, States.version, States.version_in}
 use Rattle.script_commands.proofs.server.Server.rebase.Goals as goal
@@ -39,6 +40,13 @@ returns-clause-obeys g c = λ s shows.
         held = c.in_ok-slots.ensures.none ∙ ap (λ n. replicate n None) seats;
       }),
     )
+
+pub returns-clause-machine : goal.returns-clause-machine
+returns-clause-machine g c = λ start here events is runs shows.
+    rw c.replace-old.ensures.after
+    (restarts c.args.self.now _ c.args.slot c.args.self.now.config.blocks (length c.in_ok-desk.seats.items) c.in-Ok.session.now here
+    c.requires.server c.in-Ok.ensures.session c.in_ok-desk.ensures.rebased c.in_ok-desk.ensures.zero c.in_ok-desk.ensures.desk
+    (c.in_ok-slots.ensures.slots c.in_ok-desk.desk.desk.last).pinned c.in_ok-slots.ensures.floor c.in_ok-slots.ensures.none shows)
 
 pub returns-in_err-desk-clause-stops : goal.returns-in_err-desk-clause-stops
 returns-in_err-desk-clause-stops g c =

@@ -1,4 +1,5 @@
-use Rattle.script_commands.proofs.DeskLaws.{stat_done}
+use Rattle.std.proofs.Common.{refl}
+use Rattle.script_commands.proofs.{DeskLaws.stat_done, MachineMoves.nothing_moves}
 use Rattle.script_commands.proofs.server.Server.stat.Goals as goal
 
 pub returns : goal.returns
@@ -9,4 +10,5 @@ returns c = record {
         c.stat.ensures.free c.stat.ensures.retired c.stat.ensures.used (rw c.requires.empty at c.in_ok-stat_line.ensures),
     shows,
   );
+  machine = λ start here events is runs shows. nothing_moves _ c.args.self.now c.args.self.now _ here refl refl refl refl shows;
 }

@@ -1,5 +1,6 @@
 use Rattle.std.{proofs.Common.{arith, ◌≡◌, ◌∙◌, ap, map, length, replicate}, specs.{Prelude.{None, Some}, Vec.Iter.into_iter_len}}
 use Rattle.std.proofs.lemmas.Grind.{common_steps}
+use Rattle.block_reclamation.specs.Board.{BoardState}
 use Rattle.script_commands.proofs.SlotLaws.{all_given, none_held, slots_first}
 use Rattle.script_commands.proofs.slots.Slots.new.Goals as goal
 
@@ -18,4 +19,5 @@ returns c =
           c.requires.board c.requires.few c.requires.numbers (c.loop-seat.invariant.0 ∙ ap (map (λ s. Some s)) all) none;
       few = grind (arith, common_steps);
       none = none_held c.loop-seat.sessions.items (length c.args.seats.items) none;
+      floor = ap (λ (b : BoardState). b.floor) c.requires.board;
     }
