@@ -180,7 +180,8 @@ class Lost(ServeCase):
             second.add("k", "a", "c", 1, 1)
             as_soon_as(taken)
             self.assertEqual((first.commit().version, first.pending), (1, 0))
-            self.assertEqual(second.open().edge("k", "a", "b"), Edge(5, 1, 1))
+        with self.server.store.open() as session:
+            self.assertEqual(session.edge("k", "a", "b"), Edge(5, 1, 1))
 
     def test_few_of_those_are_remembered(self):
         self.serve()

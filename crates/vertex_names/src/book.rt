@@ -164,6 +164,13 @@ impl NameBook {
 
     /// The name of that number, if there are more names than that.
     pub fn name(&self, number: u32) -> Option<&str>
+        ensures { option_copied result ≡ slice_get self.now.names number }
+    {
+        self.name_of(number)
+    }
+
+    /// The name of that number, of which there are fewer than 2^32.
+    pub(crate) fn name_of(&self, number: u32) -> Option<&str>
         ensures name { option_copied result ≡ slice_get self.now.names number }
         ensures few { length self.now.names < 2 ^ 32 }
     {

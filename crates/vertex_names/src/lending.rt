@@ -34,7 +34,7 @@ impl<'a> Iterator for NameIter<'a> {
     ghost remaining = { item_count names_left };
 
     fn next(&mut self) -> Option<&'a str> {
-        let name = self.book.name(self.number)?;
+        let name = self.book.name_of(self.number)?;
         self.number += 1;
         Some(name)
     }
