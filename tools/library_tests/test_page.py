@@ -1,4 +1,5 @@
-"""docs/C.md: what it shows to be typed prints what stands there, its program runs, and its table is the header's."""
+"""docs/C.md: what it shows to be typed prints what stands there, its program runs, and its table has the header's calls. And the
+header says of each call that takes a handle that it refuses one which holds nothing."""
 import os
 import pathlib
 import re
@@ -11,6 +12,7 @@ from calls import TOP, Code, interface
 
 MAKERS = ("interface", "batch_new", "desk_new", "desk_new_within")
 PAGE = (TOP / "docs/C.md").read_text(encoding="utf-8")
+HEADER = (TOP / "include/misteluk.h").read_text(encoding="utf-8")
 
 
 def rows(heading: str) -> "list[list[str]]":
@@ -20,16 +22,21 @@ def rows(heading: str) -> "list[list[str]]":
 
 
 class Page(unittest.TestCase):
-    def test_each_function_stands_there_once_with_codes_of_the_header(self) -> None:
-        found = rows("What each call takes and refuses")
-        names = [re.findall(r"`(\w+)`", it[0])[0] for it in found]
+    def test_each_function_stands_there_once(self) -> None:
+        names = [name for it in rows("What each call does") for name in re.findall(r"`(\w+)`", it[0])]
         self.assertEqual(names, list(interface.FUNCTIONS))
-        codes = {code for it in found for code in re.findall(r"`([A-Z_]+)`", it[2])}
-        self.assertEqual(codes, set(Code.__members__) - {"OK"})
-        for name, told in zip(names, found):
-            takes_a_handle = interface.FUNCTIONS[name][0] is not None and name not in MAKERS
-            says_it = "NO_HANDLE" in told[2] or told[2].startswith(("the same", "those of `batch_insert`"))
-            self.assertEqual(says_it, takes_a_handle, name)
+
+    def test_its_codes_are_the_headers(self) -> None:
+        codes = set(re.findall(r"`([A-Z]+(?:_[A-Z]+)*)`", PAGE.split("\n## What each call does\n")[1].split("\n## ")[0]))
+        self.assertEqual(codes - set(Code.__members__), {"NOT_REACHED"})
+        self.assertIn("BLOCKS_FULL", codes)
+
+    def test_the_header_says_which_calls_refuse_a_handle_that_holds_nothing(self) -> None:
+        for name, (first, *_) in interface.FUNCTIONS.items():
+            comment = re.findall(rf"/\*((?:(?!\*/).)*)\*/\n(?:uint32_t|void) misteluk_{name}\(", HEADER, re.S)[0]
+            says_it = re.search("NO_HANDLE|[Aa]s above|The codes of", comment) is not None
+            returns_a_code = name not in MAKERS and not name.endswith("_free")
+            self.assertEqual(says_it, first is not None and returns_a_code, name)
 
     @unittest.skipUnless(shutil.which("cc"), "there is no cc: what the page shows was passed over")
     def test_what_is_typed_prints_what_stands_there(self) -> None:
