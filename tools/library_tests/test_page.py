@@ -1,5 +1,5 @@
-"""docs/C.md: what it shows to be typed prints what stands there, its program runs, and its table has the header's calls. And the
-header says of each call that takes a handle that it refuses one which holds nothing."""
+"""docs/C.md: what it shows to be typed prints what stands there, its program runs, and its table has the header's calls with their
+codes. And the header says of each call that takes a handle that it refuses one which holds nothing."""
 import os
 import pathlib
 import re
@@ -21,20 +21,28 @@ def rows(heading: str) -> "list[list[str]]":
     return [[cell.strip() for cell in line.strip("|").split("|")] for line in re.findall(r"(?m)^\|.*$", part)[2:]]
 
 
-class Page(unittest.TestCase):
-    def test_each_function_stands_there_once(self) -> None:
-        names = [name for it in rows("What each call does") for name in re.findall(r"`(\w+)`", it[0])]
-        self.assertEqual(names, list(interface.FUNCTIONS))
+def comment_of(name: str) -> str:
+    """What the header says of a function."""
+    found: "list[str]" = re.findall(rf"/\*((?:(?!\*/).)*)\*/\n(?:uint32_t|void) misteluk_{name}\(", HEADER, re.S)
+    return found[0]
 
-    def test_its_codes_are_the_headers(self) -> None:
-        codes = set(re.findall(r"`([A-Z]+(?:_[A-Z]+)*)`", PAGE.split("\n## What each call does\n")[1].split("\n## ")[0]))
-        self.assertEqual(codes - set(Code.__members__), {"NOT_REACHED"})
-        self.assertIn("BLOCKS_FULL", codes)
+
+class Page(unittest.TestCase):
+    def test_each_function_stands_there_once_with_the_codes_of_the_header(self) -> None:
+        names = []
+        for called, _, told in rows("What each call does, and refuses"):
+            names += (mine := re.findall(r"`(\w+)`", called))
+            comments = [comment_of(it) for it in mine]
+            if any(re.search("[Aa]s above|The codes of", it) for it in comments[:1]):
+                self.assertRegex(told, "^(the same|those of)", called)
+                continue
+            wanted = {code for it in comments for code in re.findall(r"\b[A-Z]+(?:_[A-Z]+)*\b", it) if code in Code.__members__}
+            self.assertEqual(set(re.findall(r"`(\w+)`", told)), wanted - {"NO_HANDLE", "OK"}, called)
+        self.assertEqual(names, list(interface.FUNCTIONS))
 
     def test_the_header_says_which_calls_refuse_a_handle_that_holds_nothing(self) -> None:
         for name, (first, *_) in interface.FUNCTIONS.items():
-            comment = re.findall(rf"/\*((?:(?!\*/).)*)\*/\n(?:uint32_t|void) misteluk_{name}\(", HEADER, re.S)[0]
-            says_it = re.search("NO_HANDLE|[Aa]s above|The codes of", comment) is not None
+            says_it = re.search("NO_HANDLE|[Aa]s above|The codes of", comment_of(name)) is not None
             returns_a_code = name not in MAKERS and not name.endswith("_free")
             self.assertEqual(says_it, first is not None and returns_a_code, name)
 
