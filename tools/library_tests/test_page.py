@@ -1,5 +1,5 @@
-"""docs/C.md: what it shows to be typed prints what stands there, its program runs, and its table has the header's calls with their
-codes. And the header says of each call that takes a handle that it refuses one which holds nothing."""
+"""docs/C.md: what it shows to be typed prints what stands there, its program runs, and its table has the header's calls with
+their codes. And the header says of each call that takes a handle that it refuses one which holds nothing."""
 import os
 import pathlib
 import re
