@@ -117,7 +117,7 @@ impl Numbers {
 
     /// Takes the memory that is needed to grant the number before so many others, and tells which it is. Where memory is
     /// refused, each number is as it was.
-    pub fn make_ready(&mut self, alloc: Global, before: usize) -> Result<u32, AllocError>
+    pub fn make_ready(&mut self, before: usize) -> Result<u32, AllocError>
         requires kept { IsNumbers self.old }
         requires some { before < self.old.free_len }
         ensures kept { IsNumbers self.new }
@@ -127,11 +127,11 @@ impl Numbers {
     {
         let place = self.free_len - 1 - before;
         let number = self.free.get(place);
-        self.statuses.make(alloc, number as usize)?;
-        self.retired.make(alloc, number)?;
-        self.free.make(alloc, place)?;
+        self.statuses.make(number as usize)?;
+        self.retired.make(number)?;
+        self.free.make(place)?;
         self.free
-            .make(alloc, self.statuses.len() - self.free_len + before)?;
+            .make(self.statuses.len() - self.free_len + before)?;
         Ok(number)
     }
 

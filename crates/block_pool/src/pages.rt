@@ -67,17 +67,30 @@ impl<T: Blank> Pages<T> {
         self.len
     }
 
-    /// Makes the page of a place where it isn't there. It takes memory for its elements.
-    pub fn make(&mut self, alloc: Global, place: usize) -> Result<(), AllocError>
+    /// Makes the page of a place where it isn't there. It takes memory for the page's elements.
+    #[inline]
+    pub fn make(&mut self, place: usize) -> Result<(), AllocError>
+        requires { place < length self.old.items }
+        ensures items { self.new.items ≡ self.old.items }
+        ensures room { OnOk result (HasRoom self.new.rooms place) }
+        ensures kept { (other : ℕ) → HasRoom self.old.rooms other → HasRoom self.new.rooms other }
+    {
+        if place % PAGE < self.pages[place / PAGE].len() {
+            return Ok(());
+        }
+        self.make_page(place)
+    }
+
+    // Apart, so that the test above is inlined: most pages are there.
+    #[cold]
+    #[inline(never)]
+    fn make_page(&mut self, place: usize) -> Result<(), AllocError>
         requires { place < length self.old.items }
         ensures items { self.new.items ≡ self.old.items }
         ensures room { OnOk result (HasRoom self.new.rooms place) }
         ensures kept { (other : ℕ) → HasRoom self.old.rooms other → HasRoom self.new.rooms other }
     {
         let page = place / PAGE;
-        if place % PAGE < self.pages[page].len() {
-            return Ok(());
-        }
         let first = page * PAGE;
         fill(&mut self.pages[page], first, PAGE.min(self.len - first))
     }

@@ -230,8 +230,8 @@ fn gather(
     let mut granted = Vec::with_capacity(alloc, count)?;
     let mut blocks = Vec::with_capacity(alloc, count)?;
     for i in 0..count {
-        let number = numbers.make_ready(alloc, i)?;
-        bodies.make(alloc, number as usize)?;
+        let number = numbers.make_ready(i)?;
+        bodies.make(number as usize)?;
         let body = body_of(alloc, bodies, number)?;
         blocks.push(body)?;
         granted.push(number)?;

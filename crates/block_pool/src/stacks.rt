@@ -61,13 +61,13 @@ impl LinkedStacks {
     }
 
     /// Takes the memory for a number's link, with those of its page, where it has none.
-    pub fn make(&mut self, alloc: Global, number: u32) -> Result<(), AllocError>
+    pub fn make(&mut self, number: u32) -> Result<(), AllocError>
         requires { number < self.old.bound }
         ensures same { (self.new.bound ≡ self.old.bound) × (self.new.lists ≡ self.old.lists) }
         ensures room { OnOk result (HasRoom self.new.rooms number) }
         ensures kept { (other : ℕ) → HasRoom self.old.rooms other → HasRoom self.new.rooms other }
     {
-        self.below.make(alloc, number as usize)
+        self.below.make(number as usize)
     }
 
     /// How many numbers a stack has.
