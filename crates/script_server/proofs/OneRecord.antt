@@ -1,5 +1,5 @@
 -- A turn, from what the calls below it say.
-use Rattle.std.proofs.Common.{◌≡◌, ℕ, ◌+◌, ◌≤◌, List, string_bytes, arith, refl, sym, subst, ◌∙◌, ap, inl, inr}
+use Rattle.std.proofs.Common.{◌≡◌, ℕ, ◌+◌, List, string_bytes, arith, refl, subst, ◌∙◌, ap, inl, inr}
 use Rattle.std.specs.{Prelude.{Option, Result, Ok, Err, IfOk}, Io.KnownBytes.Appends}
 use Rattle.epoch_core.specs.Worlds.{start_in}
 use Rattle.stream_store.specs.Configs.{ConfigView}
@@ -7,10 +7,9 @@ use Rattle.feed_csv.specs.{Script.FaultStep, Script.RefusesRow, Script.Script, d
 use Rattle.feed_csv.specs.declared.command.FeedWord.{FeedWord, TheVariants.Read, TheVariants.Memory}
 use Rattle.script_server.specs.declared.script.{Run.Run, ServeFault.ServeFault}
 use Rattle.script_commands.specs.declared.server.{Server.Server, Stop.Stop}
-use Rattle.script_commands.specs.declared.server.Response.{Response, TheVariants.{Lines, Refused}}
-use Rattle.script_commands.specs.{Machine.{MovesMachine, StartsMachine}, Servers.{IsServer, Obeys, ReopensIn, ShowsServer, result_of}}
-use Rattle.script_server.specs.Runs.{FailsToWrite, CountsRecord, CompletesRecord, ShowsStart, refusals}
-use Rattle.script_commands.specs.States.{after_command, error_count, printed}
+use Rattle.script_commands.specs.declared.server.Response.TheVariants.{Refused}
+use Rattle.script_commands.specs.{Machine.StartsMachine, Servers.{IsServer, ReopensIn, result_of}, States.printed}
+use Rattle.script_server.specs.Runs.{FailsToWrite, CountsRecord, CompletesRecord, ShowsStart}
 use Rattle.script_server.specs.Writes.{AppendsPart}
 use Rattle.script_lines.specs.{Lines.error_line, declared.words.Word.TheVariants.Feed}
 use Rattle.script_lines.specs.declared.words.Word.TheVariants as told
@@ -21,16 +20,6 @@ pub fault_row : (word : FeedWord) (old new : Script) → (word ≡ Read → ⊥)
 fault_row Read old new read memory step = absurd (read refl)
 fault_row Memory old new read memory step = absurd (memory refl)
 fault_row _ old new read memory step = step
-
--- one error line where a command was refused
-refusals_are : (response : Response) (lines : List ℕ) → refusals response ≡ error_count (result_of response lines)
-refusals_are Lines lines = refl
-refusals_are (Refused word) lines = refl
-
-few_errors : (response : Response) (lines : List ℕ) (old done new : ℕ) → new ≡ done + refusals response → done ≡ old
-    → new ≤ old + 1
-few_errors Lines lines old done new counted same = omega (arith, counted, same)
-few_errors (Refused word) lines old done new counted same = omega (arith, counted, same)
 
 -- a record that is no command was refused
 pub refused : (row_item : Result Command FeedWord) (word : FeedWord) (old new : Run) (before after : Option (List ℕ))
@@ -57,38 +46,6 @@ refused row_item word old new before after is server written counted =
             },
           );
       machine = rw is same;
-    }
-
--- a command was done
-pub obeyed : (command : Command) (old done new : Run) (response : Response) (before after : Option (List ℕ))
-    → IsServer done.server → done.records ≡ old.records → done.errors ≡ old.errors
-    → Obeys command old.server response (string_bytes done.lines) done.server
-    → MovesMachine command old.server response (string_bytes done.lines) done.server
-    → Appends before after (printed (done.records + 1) (result_of response (string_bytes done.lines)))
-    → CountsRecord done response new → CompletesRecord (Ok command) old before new after
-obeyed command old done new response before after server records errors obeys moves written counted =
-    let same : new.server ≡ done.server = counted.server in
-    record {
-      server = subst IsServer (sym same) server;
-      records = counted.records ∙ ap (λ n. n + 1) records;
-      errors = few_errors response (string_bytes done.lines) old.errors done.errors new.errors counted.errors errors;
-      response = response;
-      lines = string_bytes done.lines;
-      step = λ here shows.
-          let told = obeys here.state shows.server in (
-            told.0,
-            subst (λ n. Appends before after (printed (n + 1) (result_of response (string_bytes done.lines)))) (records ∙ shows.records)
-                written,
-            record {
-              server = subst (λ server. ShowsServer server (after_command command (result_of response (string_bytes done.lines)) here.state))
-                  (sym same) told.1;
-              records = counted.records ∙ ap (λ n. n + 1) (records ∙ shows.records);
-              errors = counted.errors
-                  ∙ (ap (λ n. n + refusals response) (errors ∙ shows.errors)
-                  ∙ ap (λ n. here.errors + n) (refusals_are response (string_bytes done.lines)));
-            },
-          );
-      machine = subst (λ server. MovesMachine command old.server response (string_bytes done.lines) server) (sym same) moves;
     }
 
 pub breaks_refused : (row_item : Result Command FeedWord) (word : FeedWord) (old : Run) (before after : Option (List ℕ))

@@ -1,23 +1,27 @@
 -- How far script and machine have come together, and what a run has written when it ends.
-use Rattle.std.proofs.Common.{◌≡◌, ℕ, ◌+◌, List, [], ◌∷◌, ◌++◌, length, append_assoc, append-nil, refl, sym, ◌∙◌, ap, subst, inl, inr}
-use Rattle.std.{proofs.lemmas.Bool.true≢false, specs.{Prelude.{false, true, Bool, Option, None, Some, Result, Ok, Err, IfErr, IfOk, IfSome}}}
-use Rattle.std.specs.{Prelude.{OnErr, OnOk, option_map}, Io.KnownBytes.Appends}
-use Rattle.feed_csv.specs.{Commands.item_of, Records.{IsOver, Row, records_of}, Script.{MeetsEnd, Script}}
+use Rattle.std.proofs.Common.{◌≡◌, ℕ, ◌+◌, List, [], ◌∷◌, ◌++◌, length, append_assoc, append-nil, refl, sym, ◌∙◌, ap, subst}
+use Rattle.std.proofs.{Common.{inl, inr}, lemmas.Bool.true≢false}
+use Rattle.std.specs.{Prelude.{false, Option, None, Some, Result, Ok, Err, IfSome, OnOk}, Io.KnownBytes.Appends}
+use Rattle.feed_csv.specs.{Commands.item_of, Records.{IsOver, Row}, Script.Script}
 use Rattle.feed_csv.specs.declared.command.{Command.Command, FeedWord.FeedWord}
+use Rattle.feed_csv.specs.declared.command.FeedWord.TheVariants as feed_word
 use Rattle.epoch_core.specs.{Runs.{AllReplies, Runs}, Worlds.{IsStart, MachineState, replies_of}, declared.events.Event.Event}
 use Rattle.store_steps.specs.Steps.{all_done}
 use Rattle.script_commands.specs.{Machine.{Continues, ShowsMachine}, Servers.{IsServer, ShowsServer, pending_of, result_of}}
 use Rattle.script_commands.specs.declared.server.{Response.Response, Server.Server}
-use Rattle.script_commands.specs.States.{IsRecordResult, Progress, RecordResult, Reopens, ServerState, Setup, after_item, after_record, beginning, printed}
-use Rattle.feed_csv.specs.declared.command.FeedWord.TheVariants as feed_word
+use Rattle.script_commands.specs.States.{IsRecordResult, Progress, RecordResult, Reopens, Setup, after_item, after_record}
+use Rattle.script_commands.specs.States.{beginning, printed}
 use Rattle.script_lines.specs.{Lines.{end_line, error_line}, declared.words.Word.TheVariants.Feed}
 use Rattle.script_lines.specs.declared.words.Word.TheVariants as line_word
-use Rattle.script_server.specs.declared.script.{Run.Run, ServeFault.{ServeFault, TheVariants.{Read, Memory, Start, Write}}, Summary.Summary}
-use Rattle.script_server.specs.{Runs.{FailsToWrite, IsFresh, IsReady, IsStartup, IsTurn, MovesRecord, ShowsRun, ShowsStart, is_write}}
-use Rattle.script_server.specs.{Runs.records_done, Segments.{AreEventsOfRecord, AreSegments, Does, IsMachineText, IsSegment, IsShown, Segment, question_to, stand}, Writes.{AppendsPart, AppendsSome}}
+use Rattle.script_server.specs.declared.script.{Run.Run, ServeFault.{ServeFault, TheVariants.{Read, Memory, Start, Write}}}
+use Rattle.script_server.specs.{declared.script.Summary.Summary, Writes.AppendsSome}
+use Rattle.script_server.specs.Runs.{IsFresh, IsReady, IsStartup, IsTurn, MovesRecord, ShowsRun, ShowsStart, is_write, records_done}
+use Rattle.script_server.specs.Segments.{AreEventsOfRecord, AreSegments, Does, IsMachineText, IsSegment, IsShown, Segment}
+use Rattle.script_server.specs.Segments.{question_to, stand}
 use Rattle.script_server.proofs.{RunSoFar.{Reaches, reaches_more, reaches_nothing}, RunTexts.{Finishes, done_ended, done_none}}
-use Rattle.script_server.proofs.{SegmentRuns.{gone_on, opened, runs_append, segment_more, segment_opened, segments_more}}
-use Rattle.script_server.proofs.SegmentSteps.{Answered, GoesOn, OpensAnew, answers_of, moved, never_reopens, replies_many, slots_many, start_many, unanswered, versions_shown}
+use Rattle.script_server.proofs.SegmentRuns.{gone_on, opened, runs_append, segment_more, segment_opened, segments_more}
+use Rattle.script_server.proofs.SegmentSteps.{Answered, GoesOn, OpensAnew, answers_of, moved, never_reopens, replies_many}
+use Rattle.script_server.proofs.SegmentSteps.{slots_many, start_many, unanswered, versions_shown}
 use Rattle.script_server.proofs.Writing.{appends_nothing, appends_then}
 
 -- How far they have come

@@ -6,12 +6,12 @@ use Rattle.script_server.proofs.script.serve.Goals as goal
 
 pub returns-clause-text : goal.returns-clause-text
 returns-clause-text g c =
-    let told = from_bytes (λ rows count text. IsText (set_up c.args.config) rows count c.run_script.result text) _ _ _ _ _ _
-    (ap (λ feed. feed.left) c.over-feed.ensures) (ap g.W.Write.contents c.over-sink.ensures.held) c.run_script.ensures.text in
+    let told = from_bytes (IsText (set_up c.args.config)) _ _ _ _ _ _ _ (ap (λ feed. feed.left) c.over-feed.ensures)
+    (ap g.W.Write.contents c.over-sink.ensures.held) c.run_script.ensures.text in
     first_of (search (rules, told), grind (arith, common_steps, told))
 
 pub returns-clause-machine : goal.returns-clause-machine
 returns-clause-machine g c =
-    let told = from_bytes (λ rows count text. IsMachineText (set_up c.args.config) rows count c.run_script.result text) _ _ _ _ _ _
-    (ap (λ feed. feed.left) c.over-feed.ensures) (ap g.W.Write.contents c.over-sink.ensures.held) c.run_script.ensures.machine in
+    let told = from_bytes (IsMachineText (set_up c.args.config)) _ _ _ _ _ _ _ (ap (λ feed. feed.left) c.over-feed.ensures)
+    (ap g.W.Write.contents c.over-sink.ensures.held) c.run_script.ensures.machine in
     first_of (search (rules, told), grind (arith, common_steps, told))
