@@ -13,23 +13,24 @@ use Rattle.script_server.proofs.SegmentSteps.{Answered}
 
 -- Runs of the machine, one after another
 
-run_append : (es fs : List Event) (w : World) → run (es ++ fs) w ≡ run fs (run es w)
-run_append [] fs w = refl
-run_append (e ∷ es) fs w = run_append es fs (next_world w e)
-
-replies_append : (es fs : List Event) (w : World) (old mid new : List (List Answer)) → AllReplies w es old mid
-    → AllReplies (run es w) fs mid new → AllReplies w (es ++ fs) old new
-replies_append [] fs w old mid new all more = subst (λ replies. AllReplies w fs replies new) all more
-replies_append (e ∷ es) fs w old mid new all more =
-    (all.0, all.1, replies_append es fs (next_world w e) all.0 mid new all.2 more)
+-- events, and then others
+runs_on : (es fs : List Event) (w : World) (old mid new : List (List Answer)) → AllReplies w es old mid
+    → AllReplies (run es w) fs mid new
+    → Runs (record { world = w; replies = old }) (es ++ fs) (record { world = run fs (run es w); replies = new })
+runs_on [] fs w old mid new all more = record { world = refl; replies = subst (λ replies. AllReplies w fs replies new) all more }
+runs_on (e ∷ es) fs w old mid new all more =
+    let rest = runs_on es fs (next_world w e) all.0 mid new all.2 more in
+    record { world = rest.world; replies = (all.0, all.1, rest.replies) }
 
 pub runs_append : (start here there : MachineState) (es fs : List Event) → Runs start es here
     → all_done fs here.world ≡ Some there.world → AllReplies here.world fs here.replies there.replies → Runs start (es ++ fs) there
-runs_append start here there es fs runs done replies = record {
-  world = sym (done_is_run fs here.world there.world done) ∙ (ap (run fs) runs.world ∙ sym (run_append es fs start.world));
-  replies = replies_append es fs start.world start.replies here.replies there.replies runs.replies
-      (subst (λ w. AllReplies w fs here.replies there.replies) runs.world replies);
-}
+runs_append start here there es fs runs done replies =
+    let all = runs_on es fs start.world start.replies here.replies there.replies runs.replies
+    (subst (λ w. AllReplies w fs here.replies there.replies) runs.world replies) in
+    record {
+      world = sym (done_is_run fs here.world there.world done) ∙ (ap (run fs) runs.world ∙ all.world);
+      replies = all.replies;
+    }
 
 -- The answers that are printed
 
