@@ -1,11 +1,16 @@
 -- Small stores, computed.
-use Rattle.std.proofs.{Common.{◌≡◌, ℕ, Bool, false, [], ◌∷◌, refl, sym, ap, arith}, lemmas.{Grind.common_steps, Bool.true≢false}}
+use Rattle.std.proofs.{Common.{◌≡◌, ℕ, Bool, true, false, List, [], ◌∷◌, refl, sym, ap, arith}, lemmas.{Grind.common_steps, Bool.true≢false}}
 use Rattle.std.specs.Prelude.{All, slice_get, Option, Some, None}
 use Rattle.graph_version.specs.Edges.{edges_in_block}
 use Rattle.epoch_core.specs.{Worlds.{seat_pin, start_world, session_of}, declared.events.Event.TheVariants.Pin, Versions.edges_at}
 use Rattle.block_reclamation.specs.{Copies.pin_at, Copies.unsettled, declared.copies.Pin.Pin as SeatPin}
 use Rattle.block_reclamation.specs.{Board.no_pins, Board.with_pin, Status.is_at, Status.is_granted}
-use Rattle.store_steps.specs.{Reached.world_by, Desks.birth_at}
+use Rattle.store_steps.specs.{Reached.world_by, Desks.birth_at, Steps.all_done}
+use Rattle.graph_types.{specs.declared.batches.NamedOp.NamedOp, proofs.Keys.once_none}
+use Rattle.epoch_core.specs.declared.events.Event.{Event, TheVariants.{Post, Enter, Settle, Floor}}
+use Rattle.epoch_core.specs.declared.session_states.SessionState.TheVariants.{Pinned, Holding}
+use Rattle.epoch_core.specs.{Worlds.{World, empty_opening}, Versions.left, Posting.{can_post, are_edges_of}, Posts.posted}
+use Rattle.epoch_core.proofs.Edges.{Decides-edges}
 use Rattle.store_steps.specs.Examples.{AreExamples, block_one, world_of_edge, board_of_two, world_of_two}
 
 edges_shown : All (λ b. edges_at world_of_edge.heap b.number ≡ edges_in_block b) (block_one ∷ [])
@@ -21,6 +26,22 @@ pin_shown s = grind (arith, common_steps)
 abbrev is_settled_in : Option SeatPin → Bool
 is_settled_in None = false
 is_settled_in (Some p) = p.is_settled
+
+-- a Post that is done, and those after it
+posts : (w : World) (batch : List NamedOp) (blocks : List ℕ) (rest : List Event)
+    → can_post w.opening w.heap w.status w.versions batch blocks ≡ true
+    → all_done (Post batch blocks ∷ rest) w ≡ all_done rest (posted w batch blocks)
+posts w batch blocks rest can = grind (arith, common_steps)
+
+-- the opening has no edges
+no_edges_shown : are_edges_of (left empty_opening []) [] ≡ true
+no_edges_shown = (Decides-edges (left empty_opening []) []).1 (record { once = once_none; same = refl })
+
+-- seat 1 has entered, and seat 0 is pinned
+abbrev before_post : World
+before_post = record (start_world 2 3) {
+  sessions = Pinned 0 ∷ Holding (record { pin = 0; settled = true; version = 0 }) ∷ [];
+}
 
 pub are_examples : AreExamples
 are_examples = record {
@@ -70,4 +91,13 @@ are_examples = record {
   entered = refl;
   board = record { floor = refl; pins = pins_shown };
   settled = λ w shows. true≢false (sym (ap is_settled_in (shows.pins 1)));
+  crossed_calls = ((omega arith, refl), ((0, refl), ((omega arith, refl), ((0, refl), (refl, tt)))));
+  crossed_first = (omega arith, omega arith, tt);
+  crossed_second = (omega arith, omega arith, tt);
+  crossed_desks = refl;
+  crossed_seats = (refl, refl);
+  crossed_done = posts before_post [] [] (Enter 0 ∷ Settle 0 ∷ Floor ∷ []) no_edges_shown;
+  entered_below = λ are. absurd (omega (arith, are.0));
+  entered_back = λ are. absurd (omega (arith, are.2.0));
+  entered_early = λ are. absurd (omega (arith, are.1));
 }

@@ -23,3 +23,8 @@ pub mod Examples
 pub mod Held
 pub mod ExactCollection
 pub mod Dated
+pub mod SeatCalls
+pub mod Stages
+pub mod Laps
+pub mod Waits
+pub mod Merges
