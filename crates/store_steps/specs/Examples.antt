@@ -19,7 +19,7 @@ use Rattle.store_steps.specs.{Desks.DeskView, Desks.desk_after, Desks.collection
 use Rattle.store_steps.specs.{Shown.ShowsWorld, Boards.ShowsBoard, Opening.opened_desk, Opening.opened_start, Reached.world_by}
 use Rattle.store_steps.specs.Reached.{Store, opened_store}
 use Rattle.store_steps.specs.Merges.{Call, Applies, Raises, Pins, Settles, Unpins, Enters, is_desks, is_of, next_store, events_of}
-use Rattle.store_steps.specs.Merges.{AreBoardCalls, EntersInOrder}
+use Rattle.store_steps.specs.Merges.{AreLocked, EntersInOrder}
 
 -- a copy without pins
 abbrev pub unpinned : ℕ → PinCopy
@@ -211,10 +211,8 @@ pub record AreExamples : Type 0 where
   -- the board shows the sessions' pins, settled and unsettled
   pub board : ShowsBoard board_of_two world_of_two
   pub settled : (w : World) → ShowsBoard board_of_two (record w { sessions = Pinned 1 ∷ Pinned 2 ∷ [] }) → ⊥
-  -- what two locks saw: the board's calls are legal, though seat 1 is pinned after seat 0 and enters an older version
-  pub crossed_calls : AreBoardCalls 2 no_pins crossed_board
-  pub crossed_first : EntersInOrder 1 0 0 (filter (is_of 0) crossed_board)
-  pub crossed_second : EntersInOrder 1 0 0 (filter (is_of 1) crossed_board)
+  -- what two locks saw: each call meets its contract, though seat 1 is pinned after seat 0 and enters an older version
+  pub crossed : AreLocked 2 (opened_desk 3 empty_version) crossed_desk crossed_board
   -- the order keeps the desk's calls and each seat's
   pub crossed_desks : filter is_desks crossed_order ≡ crossed_desk
   pub crossed_seats : (filter (is_of 0) crossed_order ≡ filter (is_of 0) crossed_board)
