@@ -1,23 +1,24 @@
 -- Small stores, computed.
-use Rattle.std.proofs.{Common.{◌≡◌, ℕ, zero, suc, Bool, true, false, List, [], ◌∷◌, refl, sym, ap, subst, arith}, lemmas.{Grind.common_steps, Bool.{true≢false, ne_eqb}}}
+use Rattle.std.proofs.Common.{◌≡◌, ℕ, zero, suc, Bool, true, false, List, [], ◌∷◌, refl, sym, ap, subst, arith}
+use Rattle.std.proofs.{lemmas.Grind.common_steps, lemmas.Bool.{true≢false, ne_eqb}}
 use Rattle.std.specs.Prelude.{filter, ◌==◌, All, slice_get, Option, Some, None}
-use Rattle.graph_version.specs.Edges.{edges_in_block}
-use Rattle.epoch_core.specs.{Worlds.{seat_pin, start_world, session_of}, declared.events.Event.TheVariants.Pin, Versions.edges_at}
-use Rattle.block_reclamation.specs.{Copies.pin_at, Copies.unsettled, declared.copies.Pin.Pin as SeatPin}
-use Rattle.block_reclamation.specs.{Board.no_pins, Board.with_pin, Status.is_at, Status.is_granted}
-use Rattle.store_steps.specs.{Reached.world_by, Desks.birth_at, Steps.all_done}
-use Rattle.graph_types.{specs.declared.batches.NamedOp.NamedOp, proofs.Keys.once_none}
-use Rattle.epoch_core.specs.declared.events.Event.{Event, TheVariants.{Post, Enter, Settle, Floor}}
-use Rattle.epoch_core.specs.declared.session_states.SessionState.TheVariants.{Pinned, Holding}
-use Rattle.epoch_core.specs.{Worlds.{World, empty_opening}, Versions.left, Posting.{can_post, are_edges_of}, Posts.posted}
-use Rattle.epoch_core.proofs.Edges.{Decides-edges}
-use Rattle.graph_types.specs.Limits.{standard_limits}
-use Rattle.graph_version.specs.Versions.{VersionView, IsVersion, empty_version}
+use Rattle.graph_types.specs.{declared.batches.NamedOp.NamedOp, Limits.standard_limits}
+use Rattle.graph_types.proofs.Keys.{once_none}
+use Rattle.graph_version.specs.{Edges.edges_in_block, Versions.{VersionView, IsVersion, empty_version}}
 use Rattle.graph_version.proofs.Empty.{is_empty_version, standard_are_limits}
-use Rattle.store_steps.specs.{Desks.{IsDesk, IsAccepted}, Opening.opened_desk, Steps.Accepts, Examples.{blank_desk, crossed_copy, crossed_desk, crossed_board}}
+use Rattle.block_reclamation.specs.{Copies.{pin_at, unsettled}, declared.copies.Pin.Pin as SeatPin, Board.{no_pins, with_pin}}
+use Rattle.block_reclamation.specs.Status.{is_at, is_granted}
+use Rattle.epoch_core.specs.Worlds.{seat_pin, start_world, session_of, World, empty_opening}
+use Rattle.epoch_core.specs.{declared.events.Event.TheVariants.{Pin, Post, Enter, Settle, Floor}, Versions.{edges_at, left}}
+use Rattle.epoch_core.specs.{declared.events.Event.Event, declared.session_states.SessionState.TheVariants.{Pinned, Holding}}
+use Rattle.epoch_core.specs.{Posting.{can_post, are_edges_of}, Posts.posted}
+use Rattle.epoch_core.proofs.Edges.{Decides-edges}
+use Rattle.store_steps.specs.{Reached.world_by, Desks.{birth_at, IsDesk, IsAccepted}, Steps.{all_done, Accepts}}
+use Rattle.store_steps.specs.Opening.{opened_desk}
+use Rattle.store_steps.specs.Examples.{blank_desk, crossed_copy, crossed_desk, crossed_board, AreExamples, block_one}
+use Rattle.store_steps.specs.Examples.{world_of_edge, board_of_two, world_of_two}
 use Rattle.store_steps.specs.Merges.{AreLocked, EntersInOrder, Raises, is_of}
 use Rattle.store_steps.proofs.{BatchLaws.accepted_steps, OpeningShown.opens_blank}
-use Rattle.store_steps.specs.Examples.{AreExamples, block_one, world_of_edge, board_of_two, world_of_two}
 
 edges_shown : All (λ b. edges_at world_of_edge.heap b.number ≡ edges_in_block b) (block_one ∷ [])
 edges_shown = grind (arith, common_steps)
@@ -103,7 +104,7 @@ crossed_locks : AreLocked 2 (opened_desk 3 empty_version) crossed_desk crossed_b
 unfolding blank_accepts
 crossed_locks = record {
   desk_calls = ((blank_accepts, refl), (refl, tt));
-  board_calls = ((omega arith, refl), ((0, refl), ((omega arith, refl), ((0, refl), (refl, tt)))));
+  board_calls = ((omega arith, refl), ((0, refl), ((omega arith, refl), ((0, refl), ((refl, refl), (refl, tt))))));
   raises = refl;
   entries = crossed_entries;
 }

@@ -24,7 +24,11 @@ pub mod Held
 pub mod ExactCollection
 pub mod Dated
 pub mod SeatCalls
+pub mod Questions
 pub mod Stages
+pub mod Entering
+pub mod Seating
+pub mod Questioning
 pub mod Laps
 pub mod Waits
 pub mod Merges

@@ -1,29 +1,31 @@
 -- The desk's calls with the seats' calls between them: one order of both, and a run of the machine.
-use Rattle.std.proofs.Common.{◌≡◌, ℕ, zero, suc, ◌+◌, ◌<◌, ◌≤◌, true, false, inl, inr, List, [], ◌∷◌, ◌++◌, length, map, get_or, refl}
-use Rattle.std.proofs.Common.{Option, Some, None, IfSome, sym, ap, subst, ◌∙◌, arith}
-use Rattle.std.proofs.lemmas.{Bool.{cases_lt, cases_eq, cond-true, cond-false}, List.{length-map, length-append, length-replicate, get_or_default, same_lists}}
-use Rattle.std.specs.Prelude.{filter, count_by}
-use Rattle.block_reclamation.specs.{declared.copies.{PinCopy.PinCopy, Pin.Pin as SeatPin, TheConstants.SEATS}, Board.{IsBoard, no_pins}}
+use Rattle.std.proofs.Common.{◌≡◌, ℕ, zero, suc, ◌+◌, ◌<◌, ◌≤◌, true, false, inl, inr, List, [], ◌∷◌, ◌++◌, length, map, get_or}
+use Rattle.std.proofs.Common.{refl, Option, Some, None, IfSome, sym, ap, subst, ◌∙◌, arith}
+use Rattle.std.proofs.lemmas.Bool.{cases_lt, cases_eq, cond-true, cond-false}
+use Rattle.std.proofs.lemmas.List.{length-map, length-append, length-replicate, get_or_default, same_lists}
+use Rattle.std.proofs.Math.ListN.{get_or-map}
+use Rattle.std.specs.Prelude.{filter}
+use Rattle.graph_types.specs.declared.batches.NamedOp.{NamedOp}
+use Rattle.graph_version.specs.Versions.{VersionView}
+use Rattle.block_reclamation.specs.{declared.copies.PinCopy.PinCopy, declared.copies.Pin.Pin as SeatPin}
+use Rattle.block_reclamation.specs.{declared.copies.TheConstants.SEATS, Board.{IsBoard, no_pins}}
 use Rattle.block_reclamation.specs.Copies.{pin_at, copy_of, floor_of, settled_number, unsettled_number}
 use Rattle.block_reclamation.proofs.Copied.{floor_is_least}
-use Rattle.epoch_core.specs.declared.events.Event.{Event, TheVariants.Floor}
-use Rattle.epoch_core.specs.declared.session_states.SessionState.{TheVariants.{Idle}}
-use Rattle.epoch_core.specs.{Worlds.{World, MachineState, IsStart, session_of}}
-use Rattle.epoch_core.{proofs.Steps.idle_at, proofs.Moves.floored}
-use Rattle.graph_types.specs.declared.batches.NamedOp.{NamedOp}
-use Rattle.store_steps.specs.{Desks.DeskView, Boards.raised_board, Steps.{IsTaken, posting, recycling, Accepts}}
+use Rattle.epoch_core.specs.{declared.events.Event.Event, declared.events.Event.TheVariants.Floor}
+use Rattle.epoch_core.specs.declared.session_states.SessionState.TheVariants.{Idle}
+use Rattle.epoch_core.specs.{Worlds.{World, MachineState, IsStart, session_of, Answer}, Runs.AllReplies}
+use Rattle.epoch_core.proofs.{Steps.idle_at, Moves.floored}
+use Rattle.store_steps.specs.{Desks.{DeskView, IsCollected}, Boards.raised_board}
+use Rattle.store_steps.specs.Steps.{IsTaken, posting, recycling, Accepts, past_numbers}
 use Rattle.store_steps.specs.Reached.{Store, IsReached, opened_store, world_by}
-use Rattle.store_steps.specs.Merges.{Call, Applies, Collects, Raises, Pins, Enters, Settles, Unpins, is_desks, is_of, is_raise, is_batch}
-use Rattle.store_steps.specs.Merges.{next_store, AreDeskCalls, events_of, AreDone, AreRun}
-use Rattle.store_steps.specs.Merges.{LocksAreOneRun}
-use Rattle.store_steps.proofs.SeatCalls.{CopiesPin, ready_next, seat_calls, raises_of}
-use Rattle.store_steps.proofs.SeatCalls.{pin_beyond}
+use Rattle.store_steps.specs.Merges.{Asks, desk_by, next_replies, Call, Applies, Collects, Raises, Pins, Enters, Settles}
+use Rattle.store_steps.specs.Merges.{Unpins, is_desks, is_of, is_raise, next_store, AreDeskCalls, events_of, AreDone, AreRun}
+use Rattle.store_steps.specs.Merges.{LocksAreOneRun, Holds}
+use Rattle.store_steps.proofs.Questions.{AreSilent, silent_posting, silent_recycling}
+use Rattle.store_steps.proofs.SeatCalls.{CopiesPin, ready_next, seat_calls, raises_of, pin_beyond}
 use Rattle.store_steps.proofs.Stages.{Stage, Stands, IsSeat, IsStage, IsOrdered, last_of, session_at}
-use Rattle.store_steps.proofs.Laps.{IsStuck, Lapped, lap}
-use Rattle.store_steps.proofs.{Reached.stays_reached, Reached.run_more, Histories.done_is_run}
-use Rattle.store_steps.proofs.{OpeningShown.no_pin, Collecting.collected_takes, Reached.taken_reached, Reached.run_next}
-use Rattle.std.proofs.{Math.ListN.get_or-map, lemmas.List.Sums.length-filter}
-use Rattle.store_steps.specs.{Merges.Holds, Desks.IsCollected}
+use Rattle.store_steps.proofs.{Laps.{IsStuck, Lapped, lap}, Reached.{stays_reached, run_more, taken_reached, run_next}}
+use Rattle.store_steps.proofs.{Histories.done_is_run, OpeningShown.no_pin, Collecting.collected_takes}
 use Rattle.store_steps.proofs.Waits.{seat_later, raise_next, none_left, stands_behind, seat_beyond}
 
 -- All seats
@@ -32,20 +34,20 @@ abbrev AreStuck : World → Stage → Type 0
 AreStuck start st = (seat : ℕ) → IsStuck (last_of st) (st.calls seat) (session_at start st seat)
 
 -- the seats below this number wait
-record LappedBelow (start : World) (final seen : ℕ) (desk : List Call) (k : ℕ) (st : Stage) : Type 0 where
+record LappedBelow (start : World) (end : VersionView) (seen : ℕ) (desk : List Call) (k : ℕ) (st : Stage) : Type 0 where
   there : Stage
-  stage : IsStage start final seen desk there
+  stage : IsStage start end seen desk there
   stuck : (seat : ℕ) → seat < k → IsStuck (last_of there) (there.calls seat) (session_at start there seat)
   back : IsOrdered start desk there → IsOrdered start desk st
 
-laps : (start : MachineState) (final seen : ℕ) (desk : List Call) (k : ℕ) (st : Stage) → IsStart start
-    → length start.world.sessions ≤ SEATS → IsStage start.world final seen desk st → LappedBelow start.world final seen desk k st
-laps start final seen desk zero st is_start few stage =
+laps : (start : MachineState) (end : VersionView) (seen : ℕ) (desk : List Call) (k : ℕ) (st : Stage) → IsStart start
+    → length start.world.sessions ≤ SEATS → IsStage start.world end seen desk st → LappedBelow start.world end seen desk k st
+laps start end seen desk zero st is_start few stage =
     record { there = st; stage = stage; stuck = λ seat low. absurd (omega arith); back = λ o. o }
-laps start final seen desk (suc k) st is_start few stage =
-    let before : LappedBelow start.world final seen desk k st = laps start final seen desk k st is_start few stage in
-    let one : Lapped start.world final seen desk k before.there =
-    lap start final seen desk k (before.there.calls k) before.there is_start few before.stage refl in
+laps start end seen desk (suc k) st is_start few stage =
+    let before : LappedBelow start.world end seen desk k st = laps start end seen desk k st is_start few stage in
+    let one : Lapped start.world end seen desk k before.there =
+    lap start end seen desk k (before.there.calls k) before.there is_start few before.stage refl in
     record {
       there = one.there;
       stage = one.onward.stage;
@@ -62,16 +64,16 @@ laps start final seen desk (suc k) st is_start few stage =
     }
 
 -- all seats wait
-record AllLapped (start : World) (final seen : ℕ) (desk : List Call) (st : Stage) : Type 0 where
+record AllLapped (start : World) (end : VersionView) (seen : ℕ) (desk : List Call) (st : Stage) : Type 0 where
   there : Stage
-  stage : IsStage start final seen desk there
+  stage : IsStage start end seen desk there
   stuck : AreStuck start there
   back : IsOrdered start desk there → IsOrdered start desk st
 
-all_laps : (start : MachineState) (final seen : ℕ) (desk : List Call) (st : Stage) → IsStart start
-    → length start.world.sessions ≤ SEATS → IsStage start.world final seen desk st → AllLapped start.world final seen desk st
-all_laps start final seen desk st is_start few stage =
-    let l : LappedBelow start.world final seen desk SEATS st = laps start final seen desk SEATS st is_start few stage in
+all_laps : (start : MachineState) (end : VersionView) (seen : ℕ) (desk : List Call) (st : Stage) → IsStart start
+    → length start.world.sessions ≤ SEATS → IsStage start.world end seen desk st → AllLapped start.world end seen desk st
+all_laps start end seen desk st is_start few stage =
+    let l : LappedBelow start.world end seen desk SEATS st = laps start end seen desk SEATS st is_start few stage in
     let none : (seat : ℕ) → SEATS ≤ seat → pin_at l.there.store.board.pins seat ≡ None =
     λ seat high. pin_beyond l.there.store.board.pins seat (omega (arith, high, l.stage.board.seats)) in
     record {
@@ -80,10 +82,10 @@ all_laps start final seen desk st is_start few stage =
       stuck = λ seat. elim (cases_lt seat SEATS) [
         | inl low ↦ l.stuck seat low
         | inr high ↦
-            seat_beyond (length start.world.sessions) final seen (last_of l.there) l.there.store.board.floor seat
+            seat_beyond (length start.world.sessions) end seen (last_of l.there) l.there.store.board.floor seat
             (session_at start.world l.there seat) (l.there.calls seat) (omega (arith, high, few))
             (l.stage.reached.board.pins seat ∙ none seat high)
-            (subst (λ p. IsSeat (length start.world.sessions) final seen (last_of l.there) l.there.store.board.floor seat p
+            (subst (λ p. IsSeat (length start.world.sessions) end seen (last_of l.there) l.there.store.board.floor seat p
             (session_at start.world l.there seat) (l.there.calls seat)) (none seat high) (l.stage.seats seat))
       ];
       back = l.back;
@@ -97,7 +99,9 @@ record IsDesks (s : Store) (c : Call) (events : List Event) (next : DeskView) : 
   no_seats : (t : ℕ) → is_of t c ≡ false
   no_raise : is_raise c ≡ false
   leaves : next_store s c ≡ record s { desk = next }
-  events_are : events_of s c ≡ events
+  events_are : (w : World) → events_of w s c ≡ events
+  silent : (replies : List (List Answer)) → next_replies replies c ≡ replies
+  quiet : AreSilent events
   holds : (w : World) → Holds w c
 
 abbrev desk_after : Stage → List Event → DeskView → Stage
@@ -109,20 +113,20 @@ session_taken start st more next seat taken =
     ap (λ v. session_of v seat) (run_more st.events more start ∙ done_is_run more (world_by start st.events) taken.after taken.done)
     ∙ ap (λ ss. get_or ss seat Idle) taken.sessions
 
-desk_taken : (start : World) (final seen : ℕ) (desk : List Call) (st : Stage) (c : Call) (more : List Event) (next : DeskView)
-    → IsStage start final seen (c ∷ desk) st → IsDesks st.store c more next → IsTaken (world_by start st.events) more next
-    → AreDeskCalls next st.store.copy desk → length next.last.batches + count_by is_batch desk ≡ final
-    → ((seat : ℕ) → IsSeat (length start.sessions) final seen (length next.last.batches) st.store.board.floor seat
+desk_taken : (start : World) (end : VersionView) (seen : ℕ) (desk : List Call) (st : Stage) (c : Call) (more : List Event) (next : DeskView)
+    → IsStage start end seen (c ∷ desk) st → IsDesks st.store c more next → IsTaken (world_by start st.events) more next
+    → AreDeskCalls next st.store.copy desk → (desk_by next desk).last ≡ end
+    → ((seat : ℕ) → IsSeat (length start.sessions) end seen (length next.last.batches) st.store.board.floor seat
     (pin_at st.store.board.pins seat) (session_at start st seat) (st.calls seat))
-    → IsStage start final seen desk (desk_after st more next)
-desk_taken start final seen desk st c more next k own taken calls posts seats = record {
+    → IsStage start end seen desk (desk_after st more next)
+desk_taken start end seen desk st c more next k own taken calls ends seats = record {
   reached = taken_reached start st.store next st.events more taken k.reached;
   board = k.board;
   desk_calls = calls;
   raises = λ t. k.raises t ∙ cond-false (is_raise c) (c ∷ filter is_raise desk) (filter is_raise desk) own.no_raise;
-  posts = posts;
+  ends = ends;
   seats = λ t.
-      subst (λ s. IsSeat (length start.sessions) final seen (length next.last.batches) st.store.board.floor t
+      subst (λ s. IsSeat (length start.sessions) end seen (length next.last.batches) st.store.board.floor t
       (pin_at st.store.board.pins t) s (st.calls t)) (sym (session_taken start st more next t taken)) (seats t);
 }
 
@@ -134,13 +138,20 @@ desk_back start desk st c more next reached own taken o = record {
   desk_order = cond-true (is_desks c) (c ∷ filter is_desks o.order) (filter is_desks o.order) own.desks
       ∙ ap (λ cs. c ∷ cs) o.desk_order;
   seat_order = λ t. cond-false (is_of t c) (c ∷ filter (is_of t) o.order) (filter (is_of t) o.order) (own.no_seats t) ∙ o.seat_order t;
-  runs = (
-    reached,
-    own.holds (world_by start st.events),
-    subst (λ es. AreDone start st.events es) (sym own.events_are) done,
-    subst (λ es. AreRun start (st.events ++ es) (next_store st.store c) o.order) (sym own.events_are)
-        (subst (λ n. AreRun start (st.events ++ more) n o.order) (sym own.leaves) o.runs),
-  );
+  runs = λ replies.
+      subst (λ es. IsReached start st.events st.store × Holds (world_by start st.events) c × AreDone start st.events es
+      × AllReplies (world_by start st.events) es replies (next_replies replies c)
+      × AreRun start (st.events ++ es) (next_replies replies c) (next_store st.store c) o.order)
+      (sym (own.events_are (world_by start st.events)))
+      (subst (λ rs. IsReached start st.events st.store × Holds (world_by start st.events) c × AreDone start st.events more
+      × AllReplies (world_by start st.events) more replies rs × AreRun start (st.events ++ more) rs (next_store st.store c) o.order)
+      (sym (own.silent replies)) (
+        reached,
+        own.holds (world_by start st.events),
+        done,
+        own.quiet (world_by start st.events) replies,
+        subst (λ n. AreRun start (st.events ++ more) replies n o.order) (sym own.leaves) (o.runs replies),
+      ));
 }
   where
     done : AreDone start st.events more
@@ -151,12 +162,6 @@ batch_more : (old new : DeskView) (batch : List NamedOp) → Accepts old batch n
     → length new.last.batches ≡ length old.last.batches + 1
 batch_more old new batch accepts =
     ap (λ l. length l.batches) accepts.accepted.ledger ∙ length-append old.last.batches (batch ∷ [])
-
-batches_more : (batch : List NamedOp) (taken : List ℕ) (next : DeskView) (desk : List Call)
-    → count_by is_batch (Applies batch taken next ∷ desk) ≡ count_by is_batch desk + 1
-batches_more batch taken next desk =
-    let all = length-filter is_batch (Applies batch taken next ∷ desk) in
-    let rest = length-filter is_batch desk in omega (arith, all, rest)
 
 -- A raise
 
@@ -191,23 +196,23 @@ raised_stage st copy = record {
   calls = λ t. rest_of (st.calls t);
 }
 
-record Raised (start : World) (final : ℕ) (desk : List Call) (copy : PinCopy) (st : Stage) : Type 0 where
-  stage : IsStage start final copy.last desk (raised_stage st copy)
+record Raised (start : World) (end : VersionView) (desk : List Call) (copy : PinCopy) (st : Stage) : Type 0 where
+  stage : IsStage start end copy.last desk (raised_stage st copy)
   back : IsOrdered start desk (raised_stage st copy) → IsOrdered start (Raises copy ∷ desk) st
 
-raising : (start : MachineState) (final seen : ℕ) (desk : List Call) (copy : PinCopy) (st : Stage) → IsStart start
-    → length start.world.sessions ≤ SEATS → IsStage start.world final seen (Raises copy ∷ desk) st → AreStuck start.world st
-    → Raised start.world final desk copy st
-raising start final seen desk copy st is_start few k stuck =
+raising : (start : MachineState) (end : VersionView) (seen : ℕ) (desk : List Call) (copy : PinCopy) (st : Stage) → IsStart start
+    → length start.world.sessions ≤ SEATS → IsStage start.world end seen (Raises copy ∷ desk) st → AreStuck start.world st
+    → Raised start.world end desk copy st
+raising start end seen desk copy st is_start few k stuck =
     let w : World = world_by start.world st.events in
     let pins : List (Option SeatPin) = st.store.board.pins in
     let last_is : copy.last ≡ last_of st = k.desk_calls.0 in
     let heads : (t : ℕ) → st.calls t ≡ Raises copy ∷ rest_of (st.calls t) =
-    λ t. let r = raise_next (st.calls t) (filter is_raise desk) final seen (k.seats t).least (last_of st) copy (k.raises t)
+    λ t. let r = raise_next (st.calls t) (filter is_raise desk) (length end.batches) seen (k.seats t).least (last_of st) copy (k.raises t)
     ((stuck t).0) ((k.seats t).entries) last_is in r.1 ∙ ap (λ cs. Raises copy ∷ rest_of cs) (sym r.1) in
-    let mine : (t : ℕ) → IsSeat (length start.world.sessions) final seen (last_of st) st.store.board.floor t (pin_at pins t)
+    let mine : (t : ℕ) → IsSeat (length start.world.sessions) end seen (last_of st) st.store.board.floor t (pin_at pins t)
     (session_at start.world st t) (Raises copy ∷ rest_of (st.calls t)) =
-    λ t. subst (IsSeat (length start.world.sessions) final seen (last_of st) st.store.board.floor t (pin_at pins t)
+    λ t. subst (IsSeat (length start.world.sessions) end seen (last_of st) st.store.board.floor t (pin_at pins t)
     (session_at start.world st t)) (heads t) (k.seats t) in
     let same : copy ≡ copy_of copy.last pins = copies_pins copy pins k.board.seats (λ t. (mine t).are.0) in
     let there : floored w ≡ world_by start.world (st.events ++ Floor ∷ []) = run_next st.events Floor start.world (floored w) refl in
@@ -223,17 +228,17 @@ raising start final seen desk copy st is_start few k stuck =
         desk_calls = k.desk_calls.1;
         raises = λ t. tail_same (Raises copy) (filter is_raise (rest_of (st.calls t))) (filter is_raise desk)
             (ap (filter is_raise) (sym (heads t)) ∙ k.raises t);
-        posts = k.posts;
+        ends = k.ends;
         seats = λ t.
-            subst (λ s. IsSeat (length start.world.sessions) final copy.last (last_of st) (floor_of (copy_of copy.last pins)) t
+            subst (λ s. IsSeat (length start.world.sessions) end copy.last (last_of st) (floor_of (copy_of copy.last pins)) t
             (pin_at pins t) s (rest_of (st.calls t))) (ap (λ v. session_of v t) there)
-            (subst (λ c. IsSeat (length start.world.sessions) final copy.last (last_of st) (floor_of c) t (pin_at pins t)
+            (subst (λ c. IsSeat (length start.world.sessions) end copy.last (last_of st) (floor_of c) t (pin_at pins t)
             (session_at start.world st t) (rest_of (st.calls t))) same
             (record {
               least = (mine t).least;
               are = (mine t).are.1;
               entries = (mine t).entries;
-              ready = ready_next (rest_of (st.calls t)) final (last_of st) copy.last (mine t).least (mine t).entries
+              ready = ready_next (rest_of (st.calls t)) (length end.batches) (last_of st) copy.last (mine t).least (mine t).entries
                   (omega (arith, last_is));
               stands = stands_behind (last_of st) copy (rest_of (st.calls t)) (session_at start.world st t) (mine t).stands;
             }));
@@ -242,7 +247,7 @@ raising start final seen desk copy st is_start few k stuck =
         order = Raises copy ∷ o.order;
         desk_order = ap (λ cs. Raises copy ∷ cs) o.desk_order;
         seat_order = λ t. ap (λ cs. Raises copy ∷ cs) (o.seat_order t) ∙ sym (heads t);
-        runs = (k.reached, tt, ap Some there, o.runs);
+        runs = λ replies. (k.reached, tt, ap Some there, (replies, refl, refl), o.runs replies);
       };
     }
   where
@@ -251,62 +256,59 @@ raising start final seen desk copy st is_start few k stuck =
 
 -- The whole
 
-ordered : (start : MachineState) (final seen : ℕ) (desk : List Call) (st : Stage) → IsStart start
-    → length start.world.sessions ≤ SEATS → IsStage start.world final seen desk st → AreStuck start.world st
+ordered : (start : MachineState) (end : VersionView) (seen : ℕ) (desk : List Call) (st : Stage) → IsStart start
+    → length start.world.sessions ≤ SEATS → IsStage start.world end seen desk st → AreStuck start.world st
     → IsOrdered start.world desk st
-ordered start final seen [] st is_start few k stuck = record {
+ordered start end seen [] st is_start few k stuck = record {
   order = [];
   desk_order = refl;
-  seat_order = λ t. sym (none_left (st.calls t) final seen (k.seats t).least (last_of st) (k.raises t) ((stuck t).0)
-      ((k.seats t).entries) (omega (arith, k.posts)));
-  runs = k.reached;
+  seat_order = λ t. sym (none_left (st.calls t) (length end.batches) seen (k.seats t).least (last_of st) (k.raises t) ((stuck t).0)
+      ((k.seats t).entries) (ap (λ v. length v.batches) k.ends));
+  runs = λ replies. k.reached;
 }
-ordered start final seen (Applies batch taken next ∷ desk) st is_start few k stuck =
+ordered start end seen (Applies batch taken next ∷ desk) st is_start few k stuck =
     let accepts : Accepts st.store.desk batch next = k.desk_calls.0.0 in
     let events : List Event = posting next.last batch taken in
     let done : IsTaken (world_by start.world st.events) events next =
     subst (λ ns. IsTaken (world_by start.world st.events) (posting next.last batch ns) next) k.desk_calls.0.1
     (accepts.steps (world_by start.world st.events) k.reached.desk) in
     let more : length next.last.batches ≡ last_of st + 1 = batch_more st.store.desk next batch accepts in
-    let counted : count_by is_batch (Applies batch taken next ∷ desk) ≡ count_by is_batch desk + 1 =
-    batches_more batch taken next desk in
     let own : IsDesks st.store (Applies batch taken next) events next =
-    record { desks = refl; no_seats = λ t. refl; no_raise = refl; leaves = refl; events_are = refl; holds = λ w. tt } in
-    let stage : IsStage start.world final seen desk (desk_after st events next) =
-    desk_taken start.world final seen desk st (Applies batch taken next) events next k own done k.desk_calls.1
-    (omega (arith, more, k.posts))
-    (λ t. seat_later (length start.world.sessions) final seen (last_of st) (length next.last.batches) st.store.board.floor t
+    record { desks = refl; no_seats = λ t. refl; no_raise = refl; leaves = refl; events_are = λ w. refl; silent = λ rs. refl; quiet = silent_posting next.last batch taken; holds = λ w. tt } in
+    let stage : IsStage start.world end seen desk (desk_after st events next) =
+    desk_taken start.world end seen desk st (Applies batch taken next) events next k own done k.desk_calls.1 k.ends
+    (λ t. seat_later (length start.world.sessions) end seen (last_of st) (length next.last.batches) st.store.board.floor t
     (pin_at st.store.board.pins t) (session_at start.world st t) (st.calls t) (k.seats t) (stuck t) more) in
-    let all : AllLapped start.world final seen desk (desk_after st events next) =
-    all_laps start final seen desk (desk_after st events next) is_start few stage in
+    let all : AllLapped start.world end seen desk (desk_after st events next) =
+    all_laps start end seen desk (desk_after st events next) is_start few stage in
     desk_back start.world desk st (Applies batch taken next) events next k.reached own done
-    (all.back (ordered start final seen desk all.there is_start few all.stage all.stuck))
-ordered start final seen (Collects next ∷ desk) st is_start few k stuck =
+    (all.back (ordered start end seen desk all.there is_start few all.stage all.stuck))
+ordered start end seen (Collects next ∷ desk) st is_start few k stuck =
     let collected : IsCollected st.store.desk st.store.copy next = k.desk_calls.0 in
     let events : List Event = recycling st.store.copy st.store.desk.pool in
     let done : IsTaken (world_by start.world st.events) events next =
     (collected_takes st.store.desk next st.store.copy collected (world_by start.world st.events) k.reached.desk k.reached.copied_is).0 in
     let same : length next.last.batches ≡ last_of st = ap (λ v. length v.batches) collected.last in
     let own : IsDesks st.store (Collects next) events next =
-    record { desks = refl; no_seats = λ t. refl; no_raise = refl; leaves = refl; events_are = refl; holds = λ w. tt } in
-    let stage : IsStage start.world final seen desk (desk_after st events next) =
-    desk_taken start.world final seen desk st (Collects next) events next k own done k.desk_calls.1
-    (omega (arith, same, k.posts))
-    (λ t. subst (λ n. IsSeat (length start.world.sessions) final seen n st.store.board.floor t
+    record { desks = refl; no_seats = λ t. refl; no_raise = refl; leaves = refl; events_are = λ w. refl; silent = λ rs. refl; quiet = silent_recycling (past_numbers st.store.copy st.store.desk.pool); holds = λ w. tt } in
+    let stage : IsStage start.world end seen desk (desk_after st events next) =
+    desk_taken start.world end seen desk st (Collects next) events next k own done k.desk_calls.1 k.ends
+    (λ t. subst (λ n. IsSeat (length start.world.sessions) end seen n st.store.board.floor t
     (pin_at st.store.board.pins t) (session_at start.world st t) (st.calls t)) (sym same) (k.seats t)) in
-    let all : AllLapped start.world final seen desk (desk_after st events next) =
-    all_laps start final seen desk (desk_after st events next) is_start few stage in
+    let all : AllLapped start.world end seen desk (desk_after st events next) =
+    all_laps start end seen desk (desk_after st events next) is_start few stage in
     desk_back start.world desk st (Collects next) events next k.reached own done
-    (all.back (ordered start final seen desk all.there is_start few all.stage all.stuck))
-ordered start final seen (Raises copy ∷ desk) st is_start few k stuck =
-    let r : Raised start.world final desk copy st = raising start final seen desk copy st is_start few k stuck in
-    let all : AllLapped start.world final copy.last desk (raised_stage st copy) =
-    all_laps start final copy.last desk (raised_stage st copy) is_start few r.stage in
-    r.back (all.back (ordered start final copy.last desk all.there is_start few all.stage all.stuck))
-ordered start final seen (Pins seat ∷ desk) st is_start few k stuck = absurd k.desk_calls.0
-ordered start final seen (Enters seat ∷ desk) st is_start few k stuck = absurd k.desk_calls.0
-ordered start final seen (Settles seat n ∷ desk) st is_start few k stuck = absurd k.desk_calls.0
-ordered start final seen (Unpins seat ∷ desk) st is_start few k stuck = absurd k.desk_calls.0
+    (all.back (ordered start end seen desk all.there is_start few all.stage all.stuck))
+ordered start end seen (Raises copy ∷ desk) st is_start few k stuck =
+    let r : Raised start.world end desk copy st = raising start end seen desk copy st is_start few k stuck in
+    let all : AllLapped start.world end copy.last desk (raised_stage st copy) =
+    all_laps start end copy.last desk (raised_stage st copy) is_start few r.stage in
+    r.back (all.back (ordered start end copy.last desk all.there is_start few all.stage all.stuck))
+ordered start end seen (Pins seat ∷ desk) st is_start few k stuck = absurd k.desk_calls.0
+ordered start end seen (Enters seat ∷ desk) st is_start few k stuck = absurd k.desk_calls.0
+ordered start end seen (Settles seat n ∷ desk) st is_start few k stuck = absurd k.desk_calls.0
+ordered start end seen (Asks seat n request answer ∷ desk) st is_start few k stuck = absurd k.desk_calls.0
+ordered start end seen (Unpins seat ∷ desk) st is_start few k stuck = absurd k.desk_calls.0
 
 no_pins_board : IsBoard no_pins
 no_pins_board = record { seats = length-replicate {A = Option SeatPin} 16 None; below_pins = λ seat. subst (λ o. IfSome o (λ p. 0 ≤ p.number)) (sym (no_pin 16 seat)) tt }
@@ -316,22 +318,22 @@ merge start d desk board is_start few shows locked =
     let st : Stage = record { events = []; store = opened_store d; calls = λ seat. filter (is_of seat) board } in
     let none : length d.last.batches ≡ 0 =
     ap length (sym shows.batches) ∙ ap (λ vs. length (map (λ v. v.batch) vs)) is_start.alone in
-    let final : ℕ = length d.last.batches + count_by is_batch desk in
-    let stage : IsStage start.world final 0 desk st = record {
+    let end : VersionView = (desk_by d desk).last in
+    let stage : IsStage start.world end 0 desk st = record {
       reached = (stays_reached start is_start).opening d shows;
       board = no_pins_board;
       desk_calls = locked.desk_calls;
       raises = λ seat. raises_of seat board ∙ sym locked.raises;
-      posts = refl;
+      ends = refl;
       seats = λ seat. record {
         least = 0;
-        are = seat_calls board (length start.world.sessions) seat no_pins few (length-replicate {A = Option SeatPin} 16 None) locked.board_calls;
+        are = seat_calls board (length start.world.sessions) end seat no_pins few (length-replicate {A = Option SeatPin} 16 None) locked.board_calls;
         entries = locked.entries seat;
-        ready = ready_next (filter (is_of seat) board) final (length d.last.batches) 0 0 (locked.entries seat) (omega (arith, none));
+        ready = ready_next (filter (is_of seat) board) (length end.batches) (length d.last.batches) 0 0 (locked.entries seat) (omega (arith, none));
         stands = subst (Stands (length d.last.batches) (filter (is_of seat) board)) (sym (idle_at start seat is_start)) tt;
       };
     } in
-    let all : AllLapped start.world final 0 desk st = all_laps start final 0 desk st is_start few stage in
+    let all : AllLapped start.world end 0 desk st = all_laps start end 0 desk st is_start few stage in
     let o : IsOrdered start.world desk st =
-    all.back (ordered start final 0 desk all.there is_start few all.stage all.stuck) in
-    record { order = o.order; desk_order = o.desk_order; seat_order = o.seat_order; runs = o.runs }
+    all.back (ordered start end 0 desk all.there is_start few all.stage all.stuck) in
+    record { order = o.order; desk_order = o.desk_order; seat_order = o.seat_order; runs = o.runs start.replies }

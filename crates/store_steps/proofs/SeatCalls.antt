@@ -1,14 +1,17 @@
 -- The calls of one seat among those of the board.
-use Rattle.std.proofs.Common.{◌≡◌, ℕ, ◌<◌, ◌≤◌, Bool, true, false, inl, inr, List, [], ◌∷◌, length, get_or, set, refl, sym, ap, subst, ◌∙◌}
-use Rattle.std.proofs.{Common.{Option, Some, None, arith, get_or-set_same, get_or-set_other}, Math.ListN.get_or-map}
-use Rattle.std.proofs.lemmas.Grind.{common_steps}
+use Rattle.std.proofs.Common.{◌≡◌, ℕ, ◌<◌, ◌≤◌, Bool, true, false, inl, inr, List, [], ◌∷◌, length, get_or, set, refl, sym, ap}
+use Rattle.std.proofs.Common.{subst, ◌∙◌, Option, Some, None, arith, get_or-set_same, get_or-set_other}
+use Rattle.std.proofs.{Math.ListN.get_or-map, lemmas.Grind.common_steps}
 use Rattle.std.proofs.lemmas.Bool.{cases_Bool, cond-true, cond-false, eqb-true, eqb-false, cases_lt}
 use Rattle.std.proofs.lemmas.List.{length-set, length-map}
 use Rattle.std.specs.Prelude.{max, cond, filter, option_map}
-use Rattle.block_reclamation.specs.{declared.copies.{PinCopy.PinCopy, Pin.Pin as SeatPin, TheConstants.SEATS}, Board.BoardState}
+use Rattle.graph_types.specs.Answer.{IsAnswer}
+use Rattle.graph_version.specs.Versions.{VersionView}
+use Rattle.block_reclamation.specs.{declared.copies.PinCopy.PinCopy, declared.copies.Pin.Pin as SeatPin}
+use Rattle.block_reclamation.specs.{declared.copies.TheConstants.SEATS, Board.BoardState}
 use Rattle.block_reclamation.specs.Copies.{pin_at, unsettled, settled, copy_of, floor_of, settled_number, unsettled_number}
-use Rattle.store_steps.specs.Merges.{Call, Applies, Collects, Raises, Pins, Enters, Settles, Unpins, is_of, is_raise, next_board}
-use Rattle.store_steps.specs.Merges.{IsBoardCall, AreBoardCalls, EntersInOrder, posted_by}
+use Rattle.store_steps.specs.Merges.{Call, Asks, graph_of_version, Applies, Collects, Raises, Pins, Enters, Settles, Unpins}
+use Rattle.store_steps.specs.Merges.{is_of, is_raise, next_board, IsBoardCall, AreBoardCalls, EntersInOrder, posted_by}
 
 -- the copy has this pin at the seat
 pub record CopiesPin (copy : PinCopy) (seat : ℕ) (pin : Option SeatPin) : Type 0 where
@@ -18,12 +21,15 @@ pub record CopiesPin (copy : PinCopy) (seat : ℕ) (pin : Option SeatPin) : Type
   pub unsettled_seats : length copy.unsettled ≡ SEATS
 
 -- a call at a seat with this pin
-abbrev pub IsSeatCall : ℕ → ℕ → Option SeatPin → Call → Type 0
-IsSeatCall sessions seat pin (Raises copy) = CopiesPin copy seat pin
-IsSeatCall sessions seat pin (Pins other) = (other ≡ seat) × (seat < sessions) × (pin ≡ None)
-IsSeatCall sessions seat pin (Settles other number) = (other ≡ seat) × (floor : ℕ) × (pin ≡ Some (unsettled floor))
-IsSeatCall sessions seat pin (Unpins other) = (other ≡ seat) × (old : SeatPin) × (pin ≡ Some old)
-IsSeatCall sessions seat pin _ = ⊥
+abbrev pub IsSeatCall : ℕ → VersionView → ℕ → Option SeatPin → Call → Type 0
+IsSeatCall sessions end seat pin (Raises copy) = CopiesPin copy seat pin
+IsSeatCall sessions end seat pin (Pins other) = (other ≡ seat) × (seat < sessions) × (pin ≡ None)
+IsSeatCall sessions end seat pin (Settles other number) = (other ≡ seat) × (floor : ℕ) × (pin ≡ Some (unsettled floor))
+IsSeatCall sessions end seat pin (Unpins other) = (other ≡ seat) × (old : SeatPin) × (pin ≡ Some old)
+IsSeatCall sessions end seat pin (Asks other number request answer) =
+    (other ≡ seat) × (pin ≡ Some (record { number = number; is_settled = true }))
+    × IsAnswer request (graph_of_version end number) answer
+IsSeatCall sessions end seat pin _ = ⊥
 
 abbrev pub next_pin : ℕ → Option SeatPin → Call → Option SeatPin
 next_pin floor pin (Pins other) = Some (unsettled floor)
@@ -35,15 +41,15 @@ abbrev pub next_floor : ℕ → Call → ℕ
 next_floor floor (Raises copy) = floor_of copy
 next_floor floor _ = floor
 
-abbrev pub AreSeatCalls : ℕ → ℕ → ℕ → Option SeatPin → List Call → Type 0
-AreSeatCalls sessions seat floor pin [] = Unit {0}
-AreSeatCalls sessions seat floor pin (c ∷ cs) =
-    IsSeatCall sessions seat pin c × AreSeatCalls sessions seat (next_floor floor c) (next_pin floor pin c) cs
+abbrev pub AreSeatCalls : ℕ → VersionView → ℕ → ℕ → Option SeatPin → List Call → Type 0
+AreSeatCalls sessions end seat floor pin [] = Unit {0}
+AreSeatCalls sessions end seat floor pin (c ∷ cs) =
+    IsSeatCall sessions end seat pin c × AreSeatCalls sessions end seat (next_floor floor c) (next_pin floor pin c) cs
 
 -- what a call of the board's is to a seat: one of the seat's, or one that leaves the seat as it was
-record AtSeat (sessions seat : ℕ) (b : BoardState) (c : Call) : Type 0 where
+record AtSeat (sessions : ℕ) (end : VersionView) (seat : ℕ) (b : BoardState) (c : Call) : Type 0 where
   seats : length (next_board b c).pins ≡ length b.pins
-  own : is_of seat c ≡ true → IsSeatCall sessions seat (pin_at b.pins seat) c
+  own : is_of seat c ≡ true → IsSeatCall sessions end seat (pin_at b.pins seat) c
       × (pin_at (next_board b c).pins seat ≡ next_pin b.floor (pin_at b.pins seat) c)
       × ((next_board b c).floor ≡ next_floor b.floor c)
   others : is_of seat c ≡ false → (pin_at (next_board b c).pins seat ≡ pin_at b.pins seat) × ((next_board b c).floor ≡ b.floor)
@@ -79,14 +85,14 @@ set_else : (pins : List (Option SeatPin)) (seat other : ℕ) (pin : Option SeatP
     → pin_at (set pins other pin) seat ≡ pin_at pins seat
 set_else pins seat other pin differ = get_or-set_other pins other seat pin None (λ e. differ (sym e))
 
-at_seat : (sessions seat : ℕ) (b : BoardState) (c : Call) → sessions ≤ SEATS → length b.pins ≡ SEATS → IsBoardCall sessions b c
-    → AtSeat sessions seat b c
-at_seat sessions seat b (Raises copy) few long is = record {
+at_seat : (sessions : ℕ) (end : VersionView) (seat : ℕ) (b : BoardState) (c : Call) → sessions ≤ SEATS → length b.pins ≡ SEATS → IsBoardCall sessions end b c
+    → AtSeat sessions end seat b c
+at_seat sessions end seat b (Raises copy) few long is = record {
   seats = refl;
   own = λ _. (copied_pin copy b.pins seat long is, refl, ap floor_of (sym is));
   others = λ is_else. cc;
 }
-at_seat sessions seat b (Pins other) few long is = record {
+at_seat sessions end seat b (Pins other) few long is = record {
   seats = length-set b.pins other (Some (unsettled b.floor));
   own = λ is_own.
       let same : other ≡ seat = eqb-true other seat is_own in (
@@ -96,7 +102,7 @@ at_seat sessions seat b (Pins other) few long is = record {
       );
   others = λ is_else. (set_else b.pins seat other (Some (unsettled b.floor)) (eqb-false other seat is_else), refl);
 }
-at_seat sessions seat b (Settles other number) few long is =
+at_seat sessions end seat b (Settles other number) few long is =
     let pin : Option SeatPin = option_map (settled number) (pin_at b.pins other) in
     record {
       seats = length-set b.pins other pin;
@@ -109,7 +115,7 @@ at_seat sessions seat b (Settles other number) few long is =
           );
       others = λ is_else. (set_else b.pins seat other pin (eqb-false other seat is_else), refl);
     }
-at_seat sessions seat b (Unpins other) few long is = record {
+at_seat sessions end seat b (Unpins other) few long is = record {
   seats = length-set b.pins other None;
   own = λ is_own.
       let same : other ≡ seat = eqb-true other seat is_own in (
@@ -119,33 +125,39 @@ at_seat sessions seat b (Unpins other) few long is = record {
       );
   others = λ is_else. (set_else b.pins seat other None (eqb-false other seat is_else), refl);
 }
-at_seat sessions seat b (Applies batch taken next) few long is = absurd is
-at_seat sessions seat b (Collects next) few long is = absurd is
-at_seat sessions seat b (Enters other) few long is = absurd is
+at_seat sessions end seat b (Asks other number request answer) few long is = record {
+  seats = refl;
+  own = λ is_own.
+      let same : other ≡ seat = eqb-true other seat is_own in ((same, ap (pin_at b.pins) (sym same) ∙ is.0, is.1), refl, refl);
+  others = λ is_else. (refl, refl);
+}
+at_seat sessions end seat b (Applies batch taken next) few long is = absurd is
+at_seat sessions end seat b (Collects next) few long is = absurd is
+at_seat sessions end seat b (Enters other) few long is = absurd is
 
 -- what the board's calls are to a seat
-pub seat_calls : (board : List Call) (sessions seat : ℕ) (b : BoardState) → sessions ≤ SEATS → length b.pins ≡ SEATS
-    → AreBoardCalls sessions b board → AreSeatCalls sessions seat b.floor (pin_at b.pins seat) (filter (is_of seat) board)
-seat_calls [] sessions seat b few long are = tt
-seat_calls (c ∷ cs) sessions seat b few long are =
-    let here : AtSeat sessions seat b c = at_seat sessions seat b c few long are.0 in
+pub seat_calls : (board : List Call) (sessions : ℕ) (end : VersionView) (seat : ℕ) (b : BoardState) → sessions ≤ SEATS → length b.pins ≡ SEATS
+    → AreBoardCalls sessions end b board → AreSeatCalls sessions end seat b.floor (pin_at b.pins seat) (filter (is_of seat) board)
+seat_calls [] sessions end seat b few long are = tt
+seat_calls (c ∷ cs) sessions end seat b few long are =
+    let here : AtSeat sessions end seat b c = at_seat sessions end seat b c few long are.0 in
     let mine : List Call = filter (is_of seat) cs in
-    let rest : AreSeatCalls sessions seat (next_board b c).floor (pin_at (next_board b c).pins seat) mine =
-    seat_calls cs sessions seat (next_board b c) few (here.seats ∙ long) are.1
+    let rest : AreSeatCalls sessions end seat (next_board b c).floor (pin_at (next_board b c).pins seat) mine =
+    seat_calls cs sessions end seat (next_board b c) few (here.seats ∙ long) are.1
     in
     elim (cases_Bool (is_of seat c)) [
       | inl is_own ↦
           (let o = here.own is_own in
-          subst (AreSeatCalls sessions seat b.floor (pin_at b.pins seat)) (sym (cond-true (is_of seat c) (c ∷ mine) mine is_own)) (
+          subst (AreSeatCalls sessions end seat b.floor (pin_at b.pins seat)) (sym (cond-true (is_of seat c) (c ∷ mine) mine is_own)) (
             o.0,
-            subst (λ f. AreSeatCalls sessions seat f (next_pin b.floor (pin_at b.pins seat) c) mine) o.2
-                (subst (λ p. AreSeatCalls sessions seat (next_board b c).floor p mine) o.1 rest),
+            subst (λ f. AreSeatCalls sessions end seat f (next_pin b.floor (pin_at b.pins seat) c) mine) o.2
+                (subst (λ p. AreSeatCalls sessions end seat (next_board b c).floor p mine) o.1 rest),
           ))
       | inr is_else ↦
           (let o = here.others is_else in
-          subst (AreSeatCalls sessions seat b.floor (pin_at b.pins seat)) (sym (cond-false (is_of seat c) (c ∷ mine) mine is_else))
-          (subst (λ f. AreSeatCalls sessions seat f (pin_at b.pins seat) mine) o.1
-          (subst (λ p. AreSeatCalls sessions seat (next_board b c).floor p mine) o.0 rest)))
+          subst (AreSeatCalls sessions end seat b.floor (pin_at b.pins seat)) (sym (cond-false (is_of seat c) (c ∷ mine) mine is_else))
+          (subst (λ f. AreSeatCalls sessions end seat f (pin_at b.pins seat) mine) o.1
+          (subst (λ p. AreSeatCalls sessions end seat (next_board b c).floor p mine) o.0 rest)))
     ]
 
 -- Raises
@@ -166,6 +178,9 @@ raises_of seat (Pins other ∷ cs) =
     drop_raise (is_of seat (Pins other)) (Pins other) (filter (is_of seat) cs) refl ∙ raises_of seat cs
 raises_of seat (Settles other number ∷ cs) =
     drop_raise (is_of seat (Settles other number)) (Settles other number) (filter (is_of seat) cs) refl ∙ raises_of seat cs
+raises_of seat (Asks other number request answer ∷ cs) =
+    drop_raise (is_of seat (Asks other number request answer)) (Asks other number request answer) (filter (is_of seat) cs) refl
+    ∙ raises_of seat cs
 raises_of seat (Unpins other ∷ cs) =
     drop_raise (is_of seat (Unpins other)) (Unpins other) (filter (is_of seat) cs) refl ∙ raises_of seat cs
 
@@ -182,6 +197,7 @@ entry_after [] final seen least n are is = cc
 entry_after (Raises copy ∷ cs) final seen least n are is = entry_after cs final copy.last least n are is
 entry_after (Settles seat number ∷ cs) final seen least n are is = let same : number ≡ n = cc in omega (arith, same, are.0)
 entry_after (Pins seat ∷ cs) final seen least n are is = cc
+entry_after (Asks seat number request answer ∷ cs) final seen least n are is = cc
 entry_after (Unpins seat ∷ cs) final seen least n are is = cc
 entry_after (Enters seat ∷ cs) final seen least n are is = cc
 entry_after (Applies batch taken next ∷ cs) final seen least n are is = cc
@@ -200,6 +216,7 @@ ready_next [] final last seen least are low = tt
 ready_next (Raises copy ∷ cs) final last seen least are low = tt
 ready_next (Settles seat number ∷ cs) final last seen least are low = omega (arith, are.0)
 ready_next (Pins seat ∷ cs) final last seen least are low = low
+ready_next (Asks seat number request answer ∷ cs) final last seen least are low = low
 ready_next (Unpins seat ∷ cs) final last seen least are low = low
 ready_next (Enters seat ∷ cs) final last seen least are low = low
 ready_next (Applies batch taken next ∷ cs) final last seen least are low = low
@@ -217,6 +234,7 @@ posted_finally [] final none = refl
 posted_finally (Raises copy ∷ cs) final none = cc
 posted_finally (Settles seat number ∷ cs) final none = posted_finally cs final none
 posted_finally (Pins seat ∷ cs) final none = posted_finally cs final none
+posted_finally (Asks seat number request answer ∷ cs) final none = posted_finally cs final none
 posted_finally (Unpins seat ∷ cs) final none = posted_finally cs final none
 posted_finally (Enters seat ∷ cs) final none = posted_finally cs final none
 posted_finally (Applies batch taken next ∷ cs) final none = posted_finally cs final none
@@ -228,6 +246,7 @@ posted_first [] more final copy first = cc
 posted_first (Raises other ∷ cs) more final copy first = let same : other ≡ copy = cc in ap (λ c. c.last) same
 posted_first (Settles seat number ∷ cs) more final copy first = posted_first cs more final copy first
 posted_first (Pins seat ∷ cs) more final copy first = posted_first cs more final copy first
+posted_first (Asks seat number request answer ∷ cs) more final copy first = posted_first cs more final copy first
 posted_first (Unpins seat ∷ cs) more final copy first = posted_first cs more final copy first
 posted_first (Enters seat ∷ cs) more final copy first = posted_first cs more final copy first
 posted_first (Applies batch taken next ∷ cs) more final copy first = posted_first cs more final copy first

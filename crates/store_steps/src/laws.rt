@@ -142,15 +142,15 @@ pub fn law_dated()
     ensures { (d : DeskView) → IsDesk d → AreDated d.opened (length d.last.batches) d.pool }
 {}
 
-/// Two locks, one run: a list of the desk's calls and a list of the board's, each known under its own lock, have one order
-/// that is a run of the machine, if both lists have the same raises with the same copies of the pins.
+/// Two locks, one run: a list of the desk's calls, and a list of the board's with the questions of sessions, each known alone,
+/// have one order that is a run of the machine, if both lists have the same raises with the same copies of the pins.
 ///
-/// - The order keeps that of the desk's calls and, for each seat, that of its calls and the raises. Between two raises calls of
-///   different seats may change places. A session enters where the version that it settles at is the last one.
+/// - The order keeps that of the desk's calls and, for each seat, that of its calls, its questions and the raises. Between two
+///   raises calls of different seats may change places. A session enters where the version that it settles at is the last one.
 /// - The events of each call are all done, and reach what the call leaves of the store. A seat that settles holds the version
-///   of that number.
+///   of that number, and the machine replies to each question with the answer that the session got.
 /// - It assumes that each entry gives at least the version that the raise before its pin saw, at least what the seat entered
-///   before, and a version that is posted by the next raise.
+///   before, and a version that is posted by the next raise; and that the answer to a question is one over its version.
 pub fn law_merges()
     ensures { LocksAreOneRun }
 {}
