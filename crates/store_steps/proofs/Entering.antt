@@ -132,6 +132,7 @@ entering start end seen desk seat st pin is_start k is next =
           order = Enters seat ∷ o.order;
           desk_order = o.desk_order;
           seat_order = o.seat_order;
+          copies = o.copies;
           runs = λ replies. (k.reached, tt, done.done, (replies, refl, refl), o.runs replies);
         };
       };

@@ -24,6 +24,7 @@ pub mod Held
 pub mod ExactCollection
 pub mod Dated
 pub mod SeatCalls
+pub mod SameBoards
 pub mod Questions
 pub mod Stages
 pub mod Entering

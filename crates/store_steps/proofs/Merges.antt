@@ -2,8 +2,7 @@
 use Rattle.std.proofs.Common.{◌≡◌, ℕ, zero, suc, ◌+◌, ◌<◌, ◌≤◌, true, false, inl, inr, List, [], ◌∷◌, ◌++◌, length, map, get_or}
 use Rattle.std.proofs.Common.{refl, Option, Some, None, IfSome, sym, ap, subst, ◌∙◌, arith}
 use Rattle.std.proofs.lemmas.Bool.{cases_lt, cases_eq, cond-true, cond-false}
-use Rattle.std.proofs.lemmas.List.{length-map, length-append, length-replicate, get_or_default, same_lists}
-use Rattle.std.proofs.Math.ListN.{get_or-map}
+use Rattle.std.proofs.{lemmas.List.{length-map, length-append, length-replicate}, Math.ListN.get_or-map}
 use Rattle.std.specs.Prelude.{filter}
 use Rattle.graph_types.specs.declared.batches.NamedOp.{NamedOp}
 use Rattle.graph_version.specs.Versions.{VersionView}
@@ -20,12 +19,13 @@ use Rattle.store_steps.specs.Steps.{IsTaken, posting, recycling, Accepts, past_n
 use Rattle.store_steps.specs.Reached.{Store, IsReached, opened_store, world_by}
 use Rattle.store_steps.specs.Merges.{Asks, desk_by, next_replies, Call, Applies, Collects, Raises, Pins, Enters, Settles}
 use Rattle.store_steps.specs.Merges.{Unpins, is_desks, is_of, is_raise, next_store, AreDeskCalls, events_of, AreDone, AreRun}
-use Rattle.store_steps.specs.Merges.{LocksAreOneRun, Holds}
+use Rattle.store_steps.specs.Merges.{LocksAreOneRun, Holds, AreBoardCalls, IsOneRun, board_by}
 use Rattle.store_steps.proofs.Questions.{AreSilent, silent_posting, silent_recycling}
 use Rattle.store_steps.proofs.SeatCalls.{CopiesPin, ready_next, seat_calls, raises_of, pin_beyond}
 use Rattle.store_steps.proofs.Stages.{Stage, Stands, IsSeat, IsStage, IsOrdered, last_of, session_at}
 use Rattle.store_steps.proofs.{Laps.{IsStuck, Lapped, lap}, Reached.{stays_reached, run_more, taken_reached, run_next}}
-use Rattle.store_steps.proofs.{Histories.done_is_run, OpeningShown.no_pin, Collecting.collected_takes}
+use Rattle.store_steps.proofs.{Histories.done_is_run, OpeningShown.no_pin, Collecting.collected_takes, BoardSteps.same_elements}
+use Rattle.store_steps.proofs.SameBoards.{MakesCopies, makes_copies, boards_same, desk_left, board_left}
 use Rattle.store_steps.proofs.Waits.{seat_later, raise_next, none_left, stands_behind, seat_beyond}
 
 -- All seats
@@ -102,6 +102,7 @@ record IsDesks (s : Store) (c : Call) (events : List Event) (next : DeskView) : 
   events_are : (w : World) → events_of w s c ≡ events
   silent : (replies : List (List Answer)) → next_replies replies c ≡ replies
   quiet : AreSilent events
+  makes : (cs : List Call) → MakesCopies (next_store s c).board cs → MakesCopies s.board (c ∷ cs)
   holds : (w : World) → Holds w c
 
 abbrev desk_after : Stage → List Event → DeskView → Stage
@@ -138,6 +139,7 @@ desk_back start desk st c more next reached own taken o = record {
   desk_order = cond-true (is_desks c) (c ∷ filter is_desks o.order) (filter is_desks o.order) own.desks
       ∙ ap (λ cs. c ∷ cs) o.desk_order;
   seat_order = λ t. cond-false (is_of t c) (c ∷ filter (is_of t) o.order) (filter (is_of t) o.order) (own.no_seats t) ∙ o.seat_order t;
+  copies = own.makes o.order (subst (λ n. MakesCopies n.board o.order) (sym own.leaves) o.copies);
   runs = λ replies.
       subst (λ es. IsReached start st.events st.store × Holds (world_by start st.events) c × AreDone start st.events es
       × AllReplies (world_by start st.events) es replies (next_replies replies c)
@@ -164,11 +166,6 @@ batch_more old new batch accepts =
     ap (λ l. length l.batches) accepts.accepted.ledger ∙ length-append old.last.batches (batch ∷ [])
 
 -- A raise
-
--- lists of one length with the same at each seat are the same
-same_elements : (xs ys : List (Option ℕ)) → length xs ≡ length ys → ((s : ℕ) → get_or xs s None ≡ get_or ys s None) → xs ≡ ys
-same_elements xs ys long same = same_lists xs ys long
-    (λ k d h. get_or_default xs k d None h ∙ same k ∙ get_or_default ys k None d (omega (arith, h, long)))
 
 -- a copy that has each seat's pin is the copy of the pins
 copies_pins : (copy : PinCopy) (pins : List (Option SeatPin)) → length pins ≡ SEATS
@@ -247,6 +244,7 @@ raising start end seen desk copy st is_start few k stuck =
         order = Raises copy ∷ o.order;
         desk_order = ap (λ cs. Raises copy ∷ cs) o.desk_order;
         seat_order = λ t. ap (λ cs. Raises copy ∷ cs) (o.seat_order t) ∙ sym (heads t);
+        copies = (same, o.copies);
         runs = λ replies. (k.reached, tt, ap Some there, (replies, refl, refl), o.runs replies);
       };
     }
@@ -264,6 +262,7 @@ ordered start end seen [] st is_start few k stuck = record {
   desk_order = refl;
   seat_order = λ t. sym (none_left (st.calls t) (length end.batches) seen (k.seats t).least (last_of st) (k.raises t) ((stuck t).0)
       ((k.seats t).entries) (ap (λ v. length v.batches) k.ends));
+  copies = tt;
   runs = λ replies. k.reached;
 }
 ordered start end seen (Applies batch taken next ∷ desk) st is_start few k stuck =
@@ -274,7 +273,7 @@ ordered start end seen (Applies batch taken next ∷ desk) st is_start few k stu
     (accepts.steps (world_by start.world st.events) k.reached.desk) in
     let more : length next.last.batches ≡ last_of st + 1 = batch_more st.store.desk next batch accepts in
     let own : IsDesks st.store (Applies batch taken next) events next =
-    record { desks = refl; no_seats = λ t. refl; no_raise = refl; leaves = refl; events_are = λ w. refl; silent = λ rs. refl; quiet = silent_posting next.last batch taken; holds = λ w. tt } in
+    record { desks = refl; no_seats = λ t. refl; no_raise = refl; leaves = refl; events_are = λ w. refl; silent = λ rs. refl; quiet = silent_posting next.last batch taken; makes = λ cs m. m; holds = λ w. tt } in
     let stage : IsStage start.world end seen desk (desk_after st events next) =
     desk_taken start.world end seen desk st (Applies batch taken next) events next k own done k.desk_calls.1 k.ends
     (λ t. seat_later (length start.world.sessions) end seen (last_of st) (length next.last.batches) st.store.board.floor t
@@ -290,7 +289,7 @@ ordered start end seen (Collects next ∷ desk) st is_start few k stuck =
     (collected_takes st.store.desk next st.store.copy collected (world_by start.world st.events) k.reached.desk k.reached.copied_is).0 in
     let same : length next.last.batches ≡ last_of st = ap (λ v. length v.batches) collected.last in
     let own : IsDesks st.store (Collects next) events next =
-    record { desks = refl; no_seats = λ t. refl; no_raise = refl; leaves = refl; events_are = λ w. refl; silent = λ rs. refl; quiet = silent_recycling (past_numbers st.store.copy st.store.desk.pool); holds = λ w. tt } in
+    record { desks = refl; no_seats = λ t. refl; no_raise = refl; leaves = refl; events_are = λ w. refl; silent = λ rs. refl; quiet = silent_recycling (past_numbers st.store.copy st.store.desk.pool); makes = λ cs m. m; holds = λ w. tt } in
     let stage : IsStage start.world end seen desk (desk_after st events next) =
     desk_taken start.world end seen desk st (Collects next) events next k own done k.desk_calls.1 k.ends
     (λ t. subst (λ n. IsSeat (length start.world.sessions) end seen n st.store.board.floor t
@@ -313,9 +312,28 @@ ordered start end seen (Unpins seat ∷ desk) st is_start few k stuck = absurd k
 no_pins_board : IsBoard no_pins
 no_pins_board = record { seats = length-replicate {A = Option SeatPin} 16 None; below_pins = λ seat. subst (λ o. IfSome o (λ p. 0 ≤ p.number)) (sym (no_pin 16 seat)) tt }
 
+abbrev opened_stage : DeskView → List Call → Stage
+opened_stage d board = record { events = []; store = opened_store d; calls = λ seat. filter (is_of seat) board }
+
+-- an order of all calls, from the opening on
+one_run : (start : MachineState) (d : DeskView) (desk board : List Call) (sessions : ℕ) (end : VersionView)
+    → AreBoardCalls sessions end no_pins board → IsOrdered start.world desk (opened_stage d board) → IsOneRun start d desk board
+one_run start d desk board sessions end legal o =
+    let same : board_by no_pins o.order ≡ board_by no_pins board =
+    boards_same o.order board no_pins (length-replicate {A = Option SeatPin} 16 None) o.copies
+    (makes_copies board sessions end no_pins legal) o.seat_order in
+    record {
+      order = o.order;
+      desk_order = o.desk_order;
+      seat_order = o.seat_order;
+      runs = o.runs start.replies;
+      desk_left = desk_left o.order (opened_store d) ∙ ap (desk_by d) o.desk_order;
+      board_left = board_left o.order (opened_store d) ∙ same;
+    }
+
 pub merge : LocksAreOneRun
 merge start d desk board is_start few shows locked =
-    let st : Stage = record { events = []; store = opened_store d; calls = λ seat. filter (is_of seat) board } in
+    let st : Stage = opened_stage d board in
     let none : length d.last.batches ≡ 0 =
     ap length (sym shows.batches) ∙ ap (λ vs. length (map (λ v. v.batch) vs)) is_start.alone in
     let end : VersionView = (desk_by d desk).last in
@@ -334,6 +352,5 @@ merge start d desk board is_start few shows locked =
       };
     } in
     let all : AllLapped start.world end 0 desk st = all_laps start end 0 desk st is_start few stage in
-    let o : IsOrdered start.world desk st =
-    all.back (ordered start end 0 desk all.there is_start few all.stage all.stuck) in
-    record { order = o.order; desk_order = o.desk_order; seat_order = o.seat_order; runs = o.runs start.replies }
+    one_run start d desk board (length start.world.sessions) end locked.board_calls
+    (all.back (ordered start end 0 desk all.there is_start few all.stage all.stuck))

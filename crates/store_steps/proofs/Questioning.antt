@@ -159,6 +159,7 @@ questioning start end seen desk seat other n request answer st cs is_start k is 
                 (ne_eqb seat t (λ e. differ (sym e)))
                 ∙ o.seat_order t ∙ calls_else st.calls seat t cs differ
           ];
+          copies = o.copies;
           runs = λ replies. (
             k.reached,
             ap held_in h.1 ∙ ap Some version,

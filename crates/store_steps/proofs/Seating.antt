@@ -58,7 +58,7 @@ pinning start end seen desk seat other st cs is_start few k is =
       after_call st seat (Pin seat) (Some (unsettled floor)) cs,
       seat_call start.world end seen desk st seat (Pins seat) cs (Pin seat) (Some (unsettled floor)) (Pinned w.floor) k
           (is ∙ ap (λ s. Pins s ∷ cs) mine.are.0.0) low
-          (record { no_desks = refl; own = λ t. refl; no_raise = refl; leaves = refl; event = λ v. refl; silent = λ rs. refl; quiet = λ v rs. (rs, refl, refl) }) tt done reached (omega arith)
+          (record { no_desks = refl; own = λ t. refl; no_raise = refl; leaves = refl; event = λ v. refl; silent = λ rs. refl; makes = λ cs m. m; quiet = λ v rs. (rs, refl, refl) }) tt done reached (omega arith)
           (record {
             least = max mine.least seen;
             are = mine.are.1;
@@ -95,7 +95,7 @@ settling start end seen desk seat other n st cs hold is_start k is holds =
       after_call st seat (Settle seat) pin cs,
       seat_call start.world end seen desk st seat (Settles seat n) cs (Settle seat) pin (Holding (settled_at hold)) k
           (is ∙ ap (λ s. Settles s n ∷ cs) mine.are.0.0) low
-          (record { no_desks = refl; own = λ t. refl; no_raise = refl; leaves = refl; event = λ v. refl; silent = λ rs. refl; quiet = λ v rs. (rs, refl, refl) }) held done reached
+          (record { no_desks = refl; own = λ t. refl; no_raise = refl; leaves = refl; event = λ v. refl; silent = λ rs. refl; makes = λ cs m. m; quiet = λ v rs. (rs, refl, refl) }) held done reached
           (settled_above n st.store.board.floor (pin_at pins seat) (k.board.below_pins seat))
           (record {
             least = n;
@@ -124,7 +124,7 @@ unpinning start end seen desk seat other st cs is_start k is =
       after_call st seat (Release seat) None cs,
       seat_call start.world end seen desk st seat (Unpins seat) cs (Release seat) None Idle k
           (is ∙ ap (λ s. Unpins s ∷ cs) mine.are.0.0) low
-          (record { no_desks = refl; own = λ t. refl; no_raise = refl; leaves = refl; event = λ v. refl; silent = λ rs. refl; quiet = λ v rs. (rs, refl, refl) }) tt done reached tt
+          (record { no_desks = refl; own = λ t. refl; no_raise = refl; leaves = refl; event = λ v. refl; silent = λ rs. refl; makes = λ cs m. m; quiet = λ v rs. (rs, refl, refl) }) tt done reached tt
           (record {
             least = mine.least;
             are = mine.are.1;

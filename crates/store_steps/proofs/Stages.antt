@@ -15,7 +15,7 @@ use Rattle.epoch_core.proofs.Moves.{session_after, session_else}
 use Rattle.store_steps.specs.{Steps.all_done, Reached.{Store, IsReached, with_seat, world_by}}
 use Rattle.store_steps.specs.Merges.{desk_by, next_replies, Call, is_desks, is_of, is_raise, next_store, AreDeskCalls}
 use Rattle.store_steps.specs.Merges.{EntersInOrder, events_of, Holds, AreDone, AreRun}
-use Rattle.store_steps.proofs.{SeatCalls.{AreSeatCalls, IsReady, entry_of}, Reached.run_next}
+use Rattle.store_steps.proofs.{SeatCalls.{AreSeatCalls, IsReady, entry_of}, Reached.run_next, SameBoards.MakesCopies}
 
 -- One event of a session's that is done
 
@@ -101,6 +101,7 @@ pub record IsOrdered (start : World) (desk : List Call) (st : Stage) : Type 0 wh
   pub order : List Call
   pub desk_order : filter is_desks order ≡ desk
   pub seat_order : (seat : ℕ) → filter (is_of seat) order ≡ st.calls seat
+  pub copies : MakesCopies st.store.board order
   pub runs : (replies : List (List Answer)) → AreRun start st.events replies st.store order
 
 -- from one stage to another by calls of one seat
@@ -149,6 +150,7 @@ pub record IsOwn (s : Store) (seat : ℕ) (c : Call) (e : Event) (pin : Option S
   pub leaves : next_store s c ≡ with_seat s seat pin
   pub event : (w : World) → events_of w s c ≡ e ∷ []
   pub silent : (replies : List (List Answer)) → next_replies replies c ≡ replies
+  pub makes : (cs : List Call) → MakesCopies (next_store s c).board cs → MakesCopies s.board (c ∷ cs)
   pub quiet : (w : World) (replies : List (List Answer)) → AllReplies w (e ∷ []) replies replies
 
 board_with : (b : BoardState) (seat : ℕ) (pin : Option SeatPin) → IsBoard b → seat < SEATS
@@ -192,6 +194,7 @@ call_back start desk st seat c cs e pin reached next own holds done o =
             (own.own t ∙ ne_eqb seat t (λ same. differ (sym same)))
             ∙ o.seat_order t ∙ calls_else st.calls seat t cs differ
       ];
+      copies = own.makes o.order (subst (λ n. MakesCopies n.board o.order) (sym own.leaves) o.copies);
       runs = λ replies.
           subst (λ es. IsReached start st.events st.store × Holds w c × AreDone start st.events es
           × AllReplies w es replies (next_replies replies c)

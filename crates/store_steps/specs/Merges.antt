@@ -71,8 +71,17 @@ next_board b (Settles seat number) = with_pin b seat (option_map (settled number
 next_board b (Unpins seat) = with_pin b seat None
 next_board b _ = b
 
+abbrev pub board_by : BoardState → List Call → BoardState
+board_by b [] = b
+board_by b (c ∷ cs) = board_by (next_board b c) cs
+
 abbrev pub next_store : Store → Call → Store
 next_store s c = record { desk = next_desk s.desk c; board = next_board s.board c; copy = next_copy s.copy c }
+
+-- what calls leave, one after another
+abbrev pub store_by : Store → List Call → Store
+store_by s [] = s
+store_by s (c ∷ cs) = store_by (next_store s c) cs
 
 -- a question adds its answer to the replies to its session
 abbrev pub next_replies : List (List Answer) → Call → List (List Answer)
@@ -172,12 +181,14 @@ AreRun start events replies s (c ∷ cs) =
     × AreRun start (events ++ more) (next_replies replies c) (next_store s c) cs
 
 -- all calls of both lists, each raise once, and entries: the desk's calls stand in their order, and for each seat its calls and the
--- raises do; and this order is a run of the machine
+-- raises do; this order is a run of the machine, and leaves the desk and the board that the lists leave
 pub record IsOneRun (start : MachineState) (d : DeskView) (desk board : List Call) : Type 0 where
   pub order : List Call
   pub desk_order : filter is_desks order ≡ desk
   pub seat_order : (seat : ℕ) → filter (is_of seat) order ≡ filter (is_of seat) board
   pub runs : AreRun start.world [] start.replies (opened_store d) order
+  pub desk_left : (store_by (opened_store d) order).desk ≡ desk_by d desk
+  pub board_left : (store_by (opened_store d) order).board ≡ board_by no_pins board
 
 -- whatever the start: what each lock saw is one run
 abbrev pub LocksAreOneRun : Type 0

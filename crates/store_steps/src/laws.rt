@@ -149,6 +149,7 @@ pub fn law_dated()
 ///   raises calls of different seats may change places. A session enters where the version that it settles at is the last one.
 /// - The events of each call are all done, and reach what the call leaves of the store. A seat that settles holds the version
 ///   of that number, and the machine replies to each question with the answer that the session got.
+/// - In the end desk and board are those that the two lists leave.
 /// - It assumes that each entry gives at least the version that the raise before its pin saw, at least what the seat entered
 ///   before, and a version that is posted by the next raise; and that the answer to a question is one over its version.
 pub fn law_merges()
