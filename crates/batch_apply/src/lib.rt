@@ -9,6 +9,7 @@ mod applied;
 mod dividing;
 mod finding;
 mod laws;
+mod listing;
 mod naming;
 mod old;
 mod planning;
