@@ -1,21 +1,21 @@
 //! A batch's operations by worker.
 
-ghost use Rattle.std.specs.Prelude.{◌≡◌, ◌≢◌, ◌+◌, ◌-◌, ◌≤◌, ◌<◌, ◌^◌, ℕ, List, length, map, min, IfOk, OnOk, All, AllPairs};
-ghost use Rattle.std.specs.Prelude.{[], IfSome, Some, nat_eq, position, slice_get};
+ghost use Rattle.std.specs.Prelude.{◌≡◌, ◌+◌, ◌-◌, ◌≤◌, ◌<◌, ◌^◌, ◌∷◌, ◌++◌, ℕ, List, length, map, min, IfOk, OnOk, All};
+ghost use Rattle.std.specs.Prelude.{IfSome, Some, nat_eq, position, slice_get};
 ghost use Rattle.std.specs.Option.{option_map};
 ghost use Rattle.graph_types.specs.Limits.{most_names, most_operations};
 ghost use Rattle.edge_block.specs.Slots.{BlockView};
-ghost use Rattle.edge_block.specs.Batches as layout;
 ghost use Rattle.edge_block.specs.Batches.{IsPlaced};
 ghost use Rattle.batch_shards.specs.Shards.{IsPlace, IsAct, key_at, resolved_at};
 ghost use Rattle.batch_shards.specs.Done.{layout_by, sources_in};
 ghost use Rattle.batch_shards.specs.Spending.{needed};
 ghost use Rattle.batch_apply.specs.Plan.{key_of, shown, IsInRange};
-ghost use Rattle.batch_apply.specs.OldRows.{AreOldRows, old_sources, own_rows, blocks_in};
+ghost use Rattle.batch_apply.specs.OldRows.{AreOldRows};
+ghost use Rattle.batch_apply.specs.FirstSources.{AreNext, asked_by, source_in};
 ghost use Rattle.batch_apply.specs.Shards.{IsShardOf, latest, source_numbers, unsourced, with_number, with_source, with_op};
 
-use crate::listing::{Listed, Places, is_in_shard, list_sources};
 use crate::old::OldRow;
+use crate::own_sources::{Listed, Places, first_sources, is_in_shard, take_next};
 use crate::resolve::{EdgeKey, ResolvedOp};
 use batch_shards::{Act, Place, Shard, Step};
 use graph_types::VertexId;
@@ -41,19 +41,22 @@ fn place_among_few(sources: &mut Vec<VertexId>, source: u32) -> Result<usize, Al
     Ok(place)
 }
 
-/// The place of a source among the sources, to which a new one is added where its place isn't known.
+/// The place of a source among the sources: the next of the places, where there are any, and else a new source is added.
 fn place_of(
     sources: &mut Vec<VertexId>,
     places: &mut Option<Places>,
     source: u32,
-) -> Result<usize, AllocError> {
+) -> Result<usize, AllocError>
+    requires next { (rest : List ℕ) × IfSome places.old (AreNext (source_numbers sources.old.items) (source ∷ rest)) }
+    ensures next { OnOk result ((rest : List ℕ)
+        → IfSome places.old (AreNext (source_numbers sources.old.items) (source ∷ rest))
+        → IfSome places.new (AreNext (source_numbers sources.new.items) rest)) }
+    ensures sources { OnOk result (source_numbers sources.new.items ≡ with_number source (source_numbers sources.old.items)) }
+    ensures place { IfOk result (λ p. slice_get (source_numbers sources.new.items) p ≡ Some source) }
+{
     match places {
         None => place_among_few(sources, source),
-        Some(places) => {
-            let place = places.places[places.next];
-            places.next += 1;
-            Ok(place as usize)
-        }
+        Some(places) => Ok(take_next(places)),
     }
 }
 
@@ -64,6 +67,11 @@ fn place_in(
     key: Option<EdgeKey>,
 ) -> Result<Option<Place>, AllocError>
     requires few { length sources.old.items < 2 ^ 32 }
+    requires next { (rest : List ℕ) × IfSome places.old (AreNext (source_numbers sources.old.items)
+        (source_in (option_map key_of key) ++ rest)) }
+    ensures next { OnOk result ((rest : List ℕ)
+        → IfSome places.old (AreNext (source_numbers sources.old.items) (source_in (option_map key_of key) ++ rest))
+        → IfSome places.new (AreNext (source_numbers sources.new.items) rest)) }
     ensures sources { OnOk result (source_numbers sources.new.items ≡ with_source (option_map key_of key)
         (source_numbers sources.old.items)) }
     ensures key { IfOk result (λ p. key_at (source_numbers sources.new.items) p ≡ option_map key_of key) }
@@ -89,6 +97,10 @@ fn act_in(
 ) -> Result<Act, AllocError>
     requires few { length sources.old.items < 2 ^ 32 }
     requires valid { IsInRange op }
+    requires next { (rest : List ℕ) × IfSome places.old (AreNext (source_numbers sources.old.items) (asked_by (shown op) ++ rest)) }
+    ensures next { OnOk result ((rest : List ℕ)
+        → IfSome places.old (AreNext (source_numbers sources.old.items) (asked_by (shown op) ++ rest))
+        → IfSome places.new (AreNext (source_numbers sources.new.items) rest)) }
     ensures sources { OnOk result (source_numbers sources.new.items ≡ with_op (shown op) (source_numbers sources.old.items)) }
     ensures act { IfOk result (λ act. unsourced (resolved_at (source_numbers sources.new.items) act) ≡ unsourced (shown op)) }
     ensures in_rows { IfOk result (IsAct (length (source_numbers sources.new.items))) }
@@ -134,7 +146,7 @@ pub fn shard_for(
         mut sources,
         mut places,
         mut blocks,
-    } = list_sources(alloc, workers, worker, ops, old)?;
+    } = first_sources(alloc, workers, worker, ops, old)?;
     let mut steps = Vec::with_capacity(alloc, ops.len() / workers)?;
     for k in 0..ops.len() {
         let op = ops[k];

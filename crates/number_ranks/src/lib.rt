@@ -1,4 +1,4 @@
-//! Distinct numbers in order, and the place of each element of a list among them: a list's dense ranks.
+//! Distinct vertices in order, and the place of each element of a list among them: a list's dense ranks.
 #![tactic(auto)]
 
 mod counting;

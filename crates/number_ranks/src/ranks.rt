@@ -9,17 +9,17 @@ use crate::counting::sorted_entries;
 use graph_types::VertexId;
 use std::alloc::{AllocError, Global};
 
-/// Distinct numbers, rising, and for each element of a list the place of its number among them.
+/// Distinct vertices by rising number, and for each element of a list the place of its vertex among them.
 #[derive(Drop)]
 pub struct Ranks {
     pub numbers: Vec<VertexId>,
     pub places: Vec<u32>,
 }
 
-/// The dense ranks of a list of at most 2^32 - 1 numbers. It takes time by the list's length.
+/// The dense ranks of a list of at most 2^32 - 1 vertices. It takes time by the list's length.
 ///
 /// ```
-/// let ranks = rank(alloc, &[7, 3, 7])?; // numbers 3, 7 and places 1, 0, 1
+/// let ranks = rank(alloc, &[VertexId(7), VertexId(3), VertexId(7)])?; // vertices 3, 7 and places 1, 0, 1
 /// ```
 pub fn rank(alloc: Global, list: &[VertexId]) -> Result<Ranks, AllocError>
     requires few { length list.now < 2 ^ 32 }
