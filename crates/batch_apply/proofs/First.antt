@@ -137,7 +137,7 @@ ranked_first workers w rs old xs placed rising same =
           ∙ ap (λ b. b || list_any (nat_eq s) more) (own_listed workers w old s mine listed);
     }
 
--- where the asked ones are, behind the old rows' in one list
+-- where the sources asked for are, in one list after those of the old rows
 pub ranked_next : (own more xs places : List ℕ) → length places ≡ length (own ++ more)
     → ((k : ℕ) → k < length (own ++ more) → slice_get xs (get_or places k 0) ≡ Some (get_or (own ++ more) k 0))
     → (length places ≡ length own + length more)
@@ -155,13 +155,13 @@ module _ (workers w : ℕ) (rs : List Resolved) (old : List OldRow) where
   quiet : (xs : List ℕ) → AreFirst workers w rs old xs → (m : ℕ) → times m xs ≡ 0 → own_blocks_at m ≡ 0
   quiet xs are m none = elim (m % workers == w) as (λ b. m % workers == w ≡ b → cond b (listed_blocks old m) 0 ≡ 0) [
     | true ↦ λ mine. elim (is_listed old m) as (λ b. is_listed old m ≡ b → listed_blocks old m ≡ 0) [
-        | true ↦ λ listed. absurd (omega (
-          arith,
-          listed_times m xs (are.old_rows m (eqb-true (m % workers) w mine) listed),
-          none,
-        ))
-        | false ↦ λ other. not_listed old m other
-      ] refl
+      | true ↦ λ listed. absurd (omega (
+        arith,
+        listed_times m xs (are.old_rows m (eqb-true (m % workers) w mine) listed),
+        none,
+      ))
+      | false ↦ λ other. not_listed old m other
+    ] refl
     | false ↦ λ _. refl
   ] refl
 
@@ -185,7 +185,7 @@ module _ (workers w : ℕ) (rs : List Resolved) (old : List OldRow) where
 
   pub unknown : (first : List ℕ) (s : ℕ) → is_known first s ≡ false → listed_blocks old s ≡ 0
   unknown first s other = elim (is_listed old s) as (λ b. is_listed old s ≡ b → (b || list_any (nat_eq s) first) ≡ false
-      → listed_blocks old s ≡ 0) [ | true ↦ λ _ e. absurd (true≢false e) | false ↦ λ none _. not_listed old s none ] refl other
+      → listed_blocks old s ≡ 0) [ true ↦ λ _ e. absurd (true≢false e) | false ↦ λ none _. not_listed old s none ] refl other
 
   known_is : (first : List ℕ) → AreFirst workers w rs old first → (s : ℕ) → s % workers ≡ w → is_known first s ≡ true
       → list_any (nat_eq s) first ≡ true
@@ -211,7 +211,7 @@ module _ (workers w : ℕ) (rs : List Resolved) (old : List OldRow) where
     old_rows = λ s mine known. known_is first are s mine known;
   }
 
-  -- and behind its last
+  -- and after its last
   pub finished : (first sources : List ℕ) (steps : List Step) → AreFirst workers w rs old first
       → AreShardSteps workers rs w (is_known first) sources steps → AreShardSteps workers rs w (is_listed old) sources steps
   finished first sources steps are is = record {

@@ -2,13 +2,13 @@
 use Rattle.graph_types.proofs.Counts.{apart_tail}
 use Rattle.std.proofs.Common.{◌≡◌, ◌≢◌, ℕ, suc, ◌+◌, ◌<◌, ◌≤◌, ◌%◌, ◌==◌, ◌||◌, Bool, true, false, cond, List, [], ◌∷◌, ◌++◌}
 use Rattle.std.proofs.Common.{length, map, take, get_or, refl, sym, ap, ◌∙◌, arith, All, AllPairs, nat_eq, max}
-use Rattle.std.proofs.lemmas.{Bool.{true≢false, eq-eqb, eqb-true, ne_eqb}, List.{append-nil, map-append, length-map}}
-use Rattle.std.proofs.lemmas.List.{length-take-le, get_or-take, get_or-map, Folds.{list_any_none, list_any_at}, Sums.sum_by-cons}
-use Rattle.std.proofs.lemmas.List.{Sums.{sum_by_push, length-filter, count_by-le-length}, Elements.{All-nil, All-head, All-tail}}
+use Rattle.std.proofs.lemmas.{Bool.{true≢false, eq-eqb, eqb-true}, List.{append-nil, map-append, length-map}}
+use Rattle.std.proofs.lemmas.List.{get_or-map, Sums.sum_by-cons}
+use Rattle.std.proofs.lemmas.List.{Sums.{sum_by_push, length-filter, count_by-le-length}, Elements.{All-head, All-tail}}
 use Rattle.std.{proofs.lemmas.List.Elements.{All-map, All-filter, All-weaker, filter_more, filter_passes}, specs.List.list_any}
 use Rattle.std.{specs.List.sum_by, proofs.lemmas.Grind.common_steps}
 use Rattle.edge_block.specs.{Slots.{BlockView, has_before}, Rows.shape_of, Batches.{Resolved, AtKey, InAll, shard_ops}}
-use Rattle.batch_shards.specs.{Shards.{IsAct, resolved_at, resolved_in}, Spending.{time_of, old_blocks, latest as latest_step}}
+use Rattle.batch_shards.specs.{Shards.{resolved_at, resolved_in}, Spending.{time_of, old_blocks, latest as latest_step}}
 use Rattle.batch_shards.specs.declared.shard.{Act.Act, Step.Step}
 use Rattle.batch_apply.specs.{Shards.acts, Shards.has_old_shape, Shards.latest, Shards.AreShardSteps, declared.old.OldRow.OldRow}
 use Rattle.batch_apply.specs.OldRows.{AreOldRows, old_sources, own_rows, blocks_in}
@@ -82,11 +82,11 @@ own_among workers w (r ∷ old) s listed =
     elim (r.source.0 % workers == w) as (λ b. list_any (nat_eq s) (old_sources (cond b (r ∷ own) own)) ≡ true
     → (s == r.source.0 || is_listed old s) ≡ true) [
       | true ↦ λ here. elim (s == r.source.0) as (λ b. (b || list_any (nat_eq s) (old_sources own)) ≡ true
-          → (b || is_listed old s) ≡ true) [ | true ↦ λ _. refl | false ↦ λ rest. own_among workers w old s rest ] here
+          → (b || is_listed old s) ≡ true) [ true ↦ λ _. refl | false ↦ λ rest. own_among workers w old s rest ] here
       | false ↦ λ rest. elim (s == r.source.0) as (λ b. (b || is_listed old s) ≡ true) [
-          | true ↦ refl
-          | false ↦ own_among workers w old s rest
-        ]
+        | true ↦ refl
+        | false ↦ own_among workers w old s rest
+      ]
     ] listed
 
 pub own_few : (workers w : ℕ) (old : List OldRow) → length (old_sources (own_rows workers w old)) ≤ length old

@@ -37,7 +37,7 @@ pub added_at : (source : ℕ) (xs : List VertexId)
 added_at source [] = refl
 added_at source (x ∷ xs) = added_at source xs
 
--- the next of the places, and those behind it
+-- the next of the places, and those after it
 pub next_at : (sources : List ℕ) (source : ℕ) (rest : List ℕ) (p : Places) → AreNext sources (source ∷ rest) p
     → slice_get sources (get_or p.all.items p.next 0) ≡ Some source
 next_at sources source rest p are =

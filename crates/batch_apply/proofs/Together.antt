@@ -1,10 +1,10 @@
 -- The blocks that all workers take and drop are those of the batch.
 use Rattle.std.proofs.Common.{◌≡◌, ◌≢◌, ℕ, zero, suc, ◌+◌, ◌%◌, ◌<◌, ◌≤◌, ◌==◌, List, [], ◌∷◌, ◌++◌, length, map, flat_map}
 use Rattle.std.proofs.Common.{get_or, true, false, cond, refl, sym, ap, ap₂, ◌∙◌, arith, subst, Option, Some, None, All, AllPairs}
-use Rattle.std.proofs.{Common.{mod-lt, zip, ◌||◌}, lemmas.Bool.{eq-eqb, eqb-true, eqb-false, false_from_ne_true, true≢false}}
+use Rattle.std.proofs.{Common.{mod-lt, zip}, lemmas.Bool.{eq-eqb, eqb-true, eqb-false, false_from_ne_true}}
 use Rattle.std.proofs.lemmas.List.{length-map, get_or-map, Sums.{sum_by-cons, sum_by-append}, Elements.{All-head, All-tail}}
 use Rattle.std.{proofs.lemmas.List.Elements.{All-cons, All-nil, All-append, All-map}, specs.List.{sum_by, range_with_len, AllZip}}
-use Rattle.std.{specs.{List.list_any, Prelude.nat_eq}, proofs.lemmas.Grind.common_steps}
+use Rattle.std.proofs.lemmas.Grind.{common_steps}
 use Rattle.graph_types.specs.{Graph.Graph, Step.after_all, declared.batches.NamedOp.NamedOp, declared.batches.Outcome.Outcome}
 use Rattle.edge_block.specs.{Rows.{Shape, OpenBlock, untouched, taken_in, dropped_in, shape_of, row_end}, Batches.Resolved}
 use Rattle.edge_block.specs.Batches.{AtKey, InAll, resolved, is_in_shard, shard_ops, rows_all, opened, key_is_of, taken_by}

@@ -1,5 +1,5 @@
 -- The sources that a worker's shard begins with, and where they are among these.
-use Rattle.std.specs.Prelude.{◌≡◌, ◌≢◌, ℕ, ◌+◌, ◌<◌, ◌%◌, ◌∷◌, [], List, length, get_or, Bool, true, ◌||◌, nat_eq, All, AllPairs}
+use Rattle.std.specs.Prelude.{◌≡◌, ◌≢◌, ℕ, ◌+◌, ◌<◌, ◌%◌, ◌∷◌, [], List, length, get_or, true, ◌||◌, nat_eq, All, AllPairs}
 use Rattle.std.specs.{Prelude.slice_get, List.{list_any, flat_map}}
 use Rattle.std.specs.declared.option.Option.{Option, TheVariants.{None, Some}}
 use Rattle.graph_types.specs.Graph.{Key}

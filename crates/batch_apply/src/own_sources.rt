@@ -39,7 +39,7 @@ pub fn is_in_shard(workers: usize, worker: usize, op: ResolvedOp) -> bool
     }
 }
 
-/// Places of sources among a shard's: from the next on, those that the operations still to come ask for, one after another.
+/// Where sources are among a shard's: from the next place on, those that the operations still to come ask for, in order.
 #[derive(Drop)]
 pub struct Places {
     pub all: Vec<u32>,

@@ -1,4 +1,4 @@
-use Rattle.std.proofs.Common.{◌≡◌, ◌≤◌, ◌<◌, ◌+◌, ◌++◌, ◌^◌, ℕ, List, length, length-append, map, get_or, ap, sym, subst, ◌∙◌, arith}
+use Rattle.std.proofs.Common.{◌≡◌, ◌≤◌, ◌<◌, ◌+◌, ◌++◌, ℕ, List, length, length-append, map, get_or, ap, sym, subst, ◌∙◌, arith}
 use Rattle.std.proofs.Common.{nat_eq}
 use Rattle.std.{proofs.lemmas.List.length-map, specs.{List.list_any, Prelude.slice_get}}
 use Rattle.std.specs.declared.option.Option.TheVariants.{Some}

@@ -1,5 +1,5 @@
-use Rattle.std.proofs.Common.{◌≡◌, ◌<◌, ◌+◌, ◌++◌, true, false, ℕ, List, [], ◌∷◌, length, get_or, take, map, pos}
-use Rattle.std.proofs.{Common.{ap, refl, sym, ◌∙◌, arith}, lemmas.List.{take_all, append-nil}}
+use Rattle.std.proofs.Common.{◌≡◌, ◌<◌, ◌++◌, true, false, ℕ, List, length, get_or, map, pos}
+use Rattle.std.proofs.{Common.{ap, sym, ◌∙◌, arith}, lemmas.List.{take_all, append-nil}}
 use Rattle.std.specs.declared.option.Option.TheVariants.{None}
 use Rattle.graph_types.specs.declared.changes.EdgeChange.TheVariants.{Insert}
 use Rattle.edge_block.specs.Batches.{Resolved, is_in_shard, shard_ops}

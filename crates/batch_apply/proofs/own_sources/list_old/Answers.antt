@@ -1,4 +1,4 @@
-use Rattle.std.proofs.Common.{◌≡◌, ◌+◌, ◌-◌, ◌^◌, ◌<◌, ◌%◌, ◌==◌, ◌++◌, true, ℕ, List, [], ◌∷◌, length, get_or, take, map}
+use Rattle.std.proofs.Common.{◌≡◌, ◌+◌, ◌-◌, ◌^◌, ◌<◌, ◌%◌, ◌==◌, ◌++◌, true, ℕ, List, [], ◌∷◌, length, get_or, take}
 use Rattle.std.proofs.{Common.{min, ap, refl, sym, ◌∙◌, arith}, lemmas.{Bool.{eq-eqb, ne_eqb}, List.{take_all, map-append}}}
 use Rattle.graph_types.specs.declared.ids.VertexId.{VertexId}
 use Rattle.batch_apply.specs.{OldRows.{old_sources, own_rows, blocks_in}, declared.old.OldRow.OldRow, Shards.source_numbers}
