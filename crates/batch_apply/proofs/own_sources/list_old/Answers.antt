@@ -1,10 +1,10 @@
-use Rattle.std.proofs.Common.{◌≡◌, ◌+◌, ◌-◌, ◌^◌, ◌<◌, ◌%◌, ◌==◌, ◌++◌, true, false, cond, ℕ, List, [], ◌∷◌, length, get_or, take}
-use Rattle.std.proofs.{Common.{min, ap, refl, sym, ◌∙◌, arith, nat_eq}, lemmas.{Bool.{eq-eqb, ne_eqb}, List.take_all}}
-use Rattle.std.specs.List.{list_any}
+use Rattle.std.proofs.Common.{◌≡◌, ◌+◌, ◌-◌, ◌^◌, ◌<◌, ◌%◌, ◌==◌, ◌++◌, true, ℕ, List, [], ◌∷◌, length, get_or, take}
+use Rattle.std.proofs.{Common.{min, ap, refl, sym, ◌∙◌, arith}, lemmas.{Bool.{eq-eqb, ne_eqb}, List.{take_all, map-append}}}
+use Rattle.graph_types.specs.declared.ids.VertexId.{VertexId}
 use Rattle.batch_apply.specs.{OldRows.{old_sources, own_rows, blocks_in}, declared.old.OldRow.OldRow, Shards.source_numbers}
-use Rattle.batch_apply.proofs.Listing.{not_before, one_other, one_source, one_row}
-use Rattle.batch_apply.proofs.shards.list_old.Goals.{then-row-workers+in_ok-place_of, else-row-workers}
-use Rattle.batch_apply.proofs.shards.list_old.Goals as goal
+use Rattle.batch_apply.proofs.Listing.{one_other, one_source, one_row}
+use Rattle.batch_apply.proofs.own_sources.list_old.Goals.{then-row-workers+in_ok-push, else-row-workers}
+use Rattle.batch_apply.proofs.own_sources.list_old.Goals as goal
 
 -- one more summand of a sum that stops at a bound
 capped : (so_far sum more next all most : ℕ) → so_far ≡ min sum most → next ≡ min (so_far + more) most → all ≡ sum + more
@@ -21,43 +21,33 @@ loop-row-preserved c =
     let row : OldRow = get_or old i d in
     let s : ℕ = row.source.0 in
     let lt : i < length old = omega arith in
-    let keys : List ℕ = source_numbers c.loop-row.sources.items in
+    let items : List VertexId = c.loop-row.sources.items in
     elim c.if-row-workers.branch [
-      | then-row-workers+in_ok-place_of w ↦
+      | then-row-workers+in_ok-push w ↦
           let mine : s % workers == worker ≡ true = ap (λ q. q == worker) w.if-row-workers.true ∙ eq-eqb worker worker refl in
-          let new : list_any (nat_eq s) keys ≡ false = ap (list_any (nat_eq s)) c.loop-row.invariant.own
-          ∙ not_before workers worker old i d c.requires.distinct lt in
-          let added : source_numbers w.place_of.new.sources.items ≡ keys ++ s ∷ [] = w.in_ok-place_of.ensures.sources
-          ∙ ap (λ b. cond b keys (keys ++ s ∷ [])) new in
           record {
-            same = rw (w.sources-is, w.places-is) w.in_ok-place_of.ensures.same;
-            own = rw w.sources-is (added ∙ ap (λ l. l ++ s ∷ []) c.loop-row.invariant.own
-                ∙ sym (one_source workers worker old i d lt mine));
+            own = rw (w.sources-is, w.in_ok-push.ensures.items) (map-append (λ (v : VertexId). v.0) items (row.source ∷ [])
+                ∙ ap (λ (l : List ℕ). l ++ s ∷ []) c.loop-row.invariant.own ∙ sym (one_source workers worker old i d lt mine));
             blocks = rw w.blocks-is (capped _ _ _ _ _ _ c.loop-row.invariant.blocks w.saturating_add-blocks.ensures
                 (one_row workers worker old i d lt mine));
           }
       | else-row-workers w ↦
           let same_own = one_other workers worker old i d lt (ne_eqb (s % workers) worker w.if-row-workers.false) in
           record {
-            same = rw (w.sources-is, w.places-is) c.loop-row.invariant.same;
             own = rw w.sources-is (c.loop-row.invariant.own ∙ ap old_sources (sym same_own));
             blocks = rw w.blocks-is (c.loop-row.invariant.blocks
                 ∙ ap (λ (l : List OldRow). min (blocks_in l) (2 ^ 64 - 1)) (sym same_own));
           }
     ]
 
-pub place_of-requires : goal.place_of-requires
-place_of-requires c = record { same = c.loop-row.invariant.same }
-
 pub loop-row-init : goal.loop-row-init
-loop-row-init c = record { same = c.requires.same; own = c.requires.none; blocks = refl }
+loop-row-init c = record { own = ap source_numbers c.requires.none; blocks = refl }
 
 pub returns : goal.returns
 returns c =
     let old : List OldRow = c.args.old.now in
     let whole : take c.loop-row.row-index old ≡ old = take_all c.loop-row.row-index old (omega arith) in
     record {
-      same = c.loop-row.invariant.same;
       own = c.loop-row.invariant.own
           ∙ ap (λ (rows : List OldRow). old_sources (own_rows c.args.workers c.args.worker rows)) whole;
       blocks = c.loop-row.invariant.blocks
