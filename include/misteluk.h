@@ -161,8 +161,8 @@ uint32_t misteluk_batch_columns_within(misteluk_batch *batch, uint32_t limit, co
 
 /* Opens a desk without edges, with so many blocks, each for 32 edges of one source and kind. BAD_BLOCKS, HELD_ALREADY, MEMORY. */
 uint32_t misteluk_desk_new(uint32_t blocks, misteluk_desk *out);
-/* The same under limits of one's own, which the desk keeps, also behind a rebase. Each block takes some 40 bytes from the
- * opening on. BAD_LIMITS, BAD_BLOCKS, HELD_ALREADY, MEMORY. */
+/* The same under limits of one's own, which the desk keeps, also behind a rebase. A block takes memory when it is first used.
+ * BAD_LIMITS, BAD_BLOCKS, HELD_ALREADY, MEMORY. */
 uint32_t misteluk_desk_new_within(const misteluk_limits *limits, uint32_t blocks, misteluk_desk *out);
 /* Tells the limits of a desk. NO_HANDLE. */
 uint32_t misteluk_desk_limits(misteluk_desk *desk, misteluk_limits *out);

@@ -119,7 +119,7 @@ sum_zero : (f : ℕ → ℕ) → ((s : ℕ) → f s ≡ 0) → (xs : List ℕ) �
 sum_zero f zeros [] = refl
 sum_zero f zeros (x ∷ xs) = omega (arith, sum_by-cons f x xs, zeros x, sum_zero f zeros xs)
 
-below_sum : (n : ℕ) (xs : List ℕ) → sum_by (λ x. x) xs < n → All (λ x. x < n) xs
+pub below_sum : (n : ℕ) (xs : List ℕ) → sum_by (λ x. x) xs < n → All (λ x. x < n) xs
 below_sum n [] lt = All-nil (λ x. x < n)
 below_sum n (x ∷ xs) lt = grind (arith, common_steps, sum_by-cons, All-cons)
 

@@ -107,14 +107,14 @@ passed workers w rs r is_old sources steps is out = record {
 }
 
 -- the key of an operation on an edge
-abbrev key_in : Resolved → Option Key
+abbrev pub key_in : Resolved → Option Key
 key_in (AtKey source key change) = key
 key_in (InAll time) = None
 
 with_key : (r : Resolved) (sources : List ℕ) → with_op r sources ≡ with_source (key_in r) sources
 with_key r sources = grind (arith, common_steps)
 
-own_key : (workers w : ℕ) (r : Resolved) → IsPlaced r → is_in_shard workers w r ≡ true → (k : Key) → key_in r ≡ Some k
+pub own_key : (workers w : ℕ) (r : Resolved) → IsPlaced r → is_in_shard workers w r ≡ true → (k : Key) → key_in r ≡ Some k
     → k.source % workers ≡ w
 own_key workers w r placed mine k e = grind (arith, common_steps, eqb-true)
 

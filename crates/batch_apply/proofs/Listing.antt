@@ -2,13 +2,13 @@
 use Rattle.graph_types.proofs.Counts.{apart_tail}
 use Rattle.std.proofs.Common.{◌≡◌, ◌≢◌, ℕ, suc, ◌+◌, ◌<◌, ◌≤◌, ◌%◌, ◌==◌, ◌||◌, Bool, true, false, cond, List, [], ◌∷◌, ◌++◌}
 use Rattle.std.proofs.Common.{length, map, take, get_or, refl, sym, ap, ◌∙◌, arith, All, AllPairs, nat_eq, max}
-use Rattle.std.proofs.lemmas.{Bool.{true≢false, eq-eqb, eqb-true, ne_eqb}, List.{append-nil, map-append, length-map}}
-use Rattle.std.proofs.lemmas.List.{length-take-le, get_or-take, get_or-map, Folds.{list_any_none, list_any_at}, Sums.sum_by-cons}
-use Rattle.std.proofs.lemmas.List.{Sums.{sum_by_push, length-filter, count_by-le-length}, Elements.{All-nil, All-head, All-tail}}
+use Rattle.std.proofs.lemmas.{Bool.{true≢false, eq-eqb, eqb-true}, List.{append-nil, map-append, length-map}}
+use Rattle.std.proofs.lemmas.List.{get_or-map, Sums.sum_by-cons}
+use Rattle.std.proofs.lemmas.List.{Sums.{sum_by_push, length-filter, count_by-le-length}, Elements.{All-head, All-tail}}
 use Rattle.std.{proofs.lemmas.List.Elements.{All-map, All-filter, All-weaker, filter_more, filter_passes}, specs.List.list_any}
 use Rattle.std.{specs.List.sum_by, proofs.lemmas.Grind.common_steps}
 use Rattle.edge_block.specs.{Slots.{BlockView, has_before}, Rows.shape_of, Batches.{Resolved, AtKey, InAll, shard_ops}}
-use Rattle.batch_shards.specs.{Shards.{IsAct, resolved_at, resolved_in}, Spending.{time_of, old_blocks, latest as latest_step}}
+use Rattle.batch_shards.specs.{Shards.{resolved_at, resolved_in}, Spending.{time_of, old_blocks, latest as latest_step}}
 use Rattle.batch_shards.specs.declared.shard.{Act.Act, Step.Step}
 use Rattle.batch_apply.specs.{Shards.acts, Shards.has_old_shape, Shards.latest, Shards.AreShardSteps, declared.old.OldRow.OldRow}
 use Rattle.batch_apply.specs.OldRows.{AreOldRows, old_sources, own_rows, blocks_in}
@@ -27,7 +27,7 @@ pairs_cons x xs first rest is holds d lt within = grind (arith, common_steps)
 pub pairs_head : (x : ℕ) (xs : List ℕ) → AllPairs (λ a b. a ≢ b) (x ∷ xs) → All (λ y. x ≢ y) xs
 pairs_head x xs pairs j d lt = pairs 0 (suc j) d (omega arith) (omega arith)
 
-own_distinct : (workers w : ℕ) (old : List OldRow) → AllPairs (λ a b. a ≢ b) (old_sources old)
+pub own_distinct : (workers w : ℕ) (old : List OldRow) → AllPairs (λ a b. a ≢ b) (old_sources old)
     → AllPairs (λ a b. a ≢ b) (old_sources (own_rows workers w old))
 own_distinct workers w [] pairs = pairs
 own_distinct workers w (r ∷ old) pairs =
@@ -45,7 +45,7 @@ own_distinct workers w (r ∷ old) pairs =
       | false ↦ rest
     ]
 
-own_listed : (workers w : ℕ) (old : List OldRow) (s : ℕ) → s % workers ≡ w → is_listed old s ≡ true
+pub own_listed : (workers w : ℕ) (old : List OldRow) (s : ℕ) → s % workers ≡ w → is_listed old s ≡ true
     → list_any (nat_eq s) (old_sources (own_rows workers w old)) ≡ true
 own_listed workers w [] s mine listed = absurd (true≢false (sym listed))
 own_listed workers w (r ∷ old) s mine listed =
@@ -65,51 +65,32 @@ own_listed workers w (r ∷ old) s mine listed =
           ]
     ] refl listed
 
--- a worker's rows before its first operation
-pub start : (workers w : ℕ) (old : List OldRow) → AllPairs (λ a b. a ≢ b) (old_sources old)
-    → AreShardSteps workers [] w (is_listed old) (old_sources (own_rows workers w old)) []
-start workers w old pairs =
-    let own : List OldRow = own_rows workers w old in
+-- a worker's rows are the worker's, and among the old ones
+pub own_sources : (workers w : ℕ) (old : List OldRow) → All (λ s. s % workers ≡ w) (old_sources (own_rows workers w old))
+own_sources workers w old =
     let mine : OldRow → Bool = λ (r : OldRow). r.source.0 % workers == w in
     let source : OldRow → ℕ = λ (r : OldRow). r.source.0 in
-    let listed : (k : ℕ) (d : OldRow) → k < length old → is_listed old (source (get_or old k d)) ≡ true = λ k d lt.
-    list_any_at (nat_eq (source (get_or old k d))) (old_sources old) k 0 (omega (arith, length-map old source))
-    (ap (nat_eq (source (get_or old k d))) (get_or-map source old k d 0 lt) ∙ eq-eqb (source (get_or old k d)) (source (get_or old k d)) refl) in
-    record {
-      places = refl;
-      acts_are = refl;
-      in_range = All-nil (λ (s : Step). IsAct (length (old_sources own)) s.act);
-      distinct = own_distinct workers w old pairs;
-      own = All-map (λ s. s % workers ≡ w) source own
-          (All-weaker (λ (r : OldRow). mine r ≡ true) (λ (r : OldRow). source r % workers ≡ w)
-          (λ r passes. eqb-true (source r % workers) w passes) own (filter_passes mine old));
-      within = λ n all below. All-map (λ s. s < n) source own
-          (All-filter mine (λ (r : OldRow). source r < n) old (λ k d lt. below (source (get_or old k d)) (listed k d lt)));
-      old_rows = λ s own old_is. own_listed workers w old s own old_is;
-    }
+    All-map (λ s. s % workers ≡ w) source (own_rows workers w old)
+    (All-weaker (λ (r : OldRow). mine r ≡ true) (λ (r : OldRow). source r % workers ≡ w)
+    (λ r passes. eqb-true (source r % workers) w passes) (own_rows workers w old) (filter_passes mine old))
+
+pub own_among : (workers w : ℕ) (old : List OldRow) (s : ℕ)
+    → list_any (nat_eq s) (old_sources (own_rows workers w old)) ≡ true → is_listed old s ≡ true
+own_among workers w [] s listed = listed
+own_among workers w (r ∷ old) s listed =
+    let own : List OldRow = own_rows workers w old in
+    elim (r.source.0 % workers == w) as (λ b. list_any (nat_eq s) (old_sources (cond b (r ∷ own) own)) ≡ true
+    → (s == r.source.0 || is_listed old s) ≡ true) [
+      | true ↦ λ here. elim (s == r.source.0) as (λ b. (b || list_any (nat_eq s) (old_sources own)) ≡ true
+          → (b || is_listed old s) ≡ true) [ true ↦ λ _. refl | false ↦ λ rest. own_among workers w old s rest ] here
+      | false ↦ λ rest. elim (s == r.source.0) as (λ b. (b || is_listed old s) ≡ true) [
+        | true ↦ refl
+        | false ↦ own_among workers w old s rest
+      ]
+    ] listed
 
 pub own_few : (workers w : ℕ) (old : List OldRow) → length (old_sources (own_rows workers w old)) ≤ length old
 own_few workers w old = grind (arith, common_steps, length-map, length-filter, count_by-le-length)
-
--- an old row's source isn't that of one before it
-pub not_before : (workers w : ℕ) (old : List OldRow) (i : ℕ) (d : OldRow) → AllPairs (λ a b. a ≢ b) (old_sources old)
-    → i < length old
-    → list_any (nat_eq (get_or old i d).source.0) (old_sources (own_rows workers w (take i old))) ≡ false
-not_before workers w old i d pairs lt =
-    let source : OldRow → ℕ = λ (r : OldRow). r.source.0 in
-    let s : ℕ = source (get_or old i d) in
-    let front : All (λ (r : OldRow). nat_eq s (source r) ≡ false) (take i old) = λ k e within.
-    let short = length-take-le i old (omega arith) in
-    let before : k < i = omega arith in
-    let long = length-map old source in
-    let there : source (get_or (take i old) k e) ≡ get_or (old_sources old) k 0 =
-    ap source (get_or-take i old k e before) ∙ sym (get_or-map source old k e 0 (omega arith)) in
-    let here : get_or (old_sources old) i 0 ≡ s = get_or-map source old i d 0 lt in
-    ne_eqb s (source (get_or (take i old) k e))
-    (λ same. pairs k i 0 before (omega arith) (sym there ∙ sym same ∙ sym here)) in
-    list_any_none (nat_eq s) (old_sources (own_rows workers w (take i old)))
-    (All-map (λ x. nat_eq s x ≡ false) source (own_rows workers w (take i old))
-    (All-filter (λ (r : OldRow). source r % workers == w) (λ (r : OldRow). nat_eq s (source r) ≡ false) (take i old) front))
 
 -- one row more of a worker's own, or of another's
 own_more : (workers w : ℕ) (old : List OldRow) (i : ℕ) (d : OldRow) (b : Bool) → i < length old

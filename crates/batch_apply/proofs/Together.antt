@@ -1,10 +1,10 @@
 -- The blocks that all workers take and drop are those of the batch.
 use Rattle.std.proofs.Common.{◌≡◌, ◌≢◌, ℕ, zero, suc, ◌+◌, ◌%◌, ◌<◌, ◌≤◌, ◌==◌, List, [], ◌∷◌, ◌++◌, length, map, flat_map}
 use Rattle.std.proofs.Common.{get_or, true, false, cond, refl, sym, ap, ap₂, ◌∙◌, arith, subst, Option, Some, None, All, AllPairs}
-use Rattle.std.proofs.{Common.{mod-lt, zip, ◌||◌}, lemmas.Bool.{eq-eqb, eqb-true, eqb-false, false_from_ne_true, true≢false}}
+use Rattle.std.proofs.{Common.{mod-lt, zip}, lemmas.Bool.{eq-eqb, eqb-true, eqb-false, false_from_ne_true}}
 use Rattle.std.proofs.lemmas.List.{length-map, get_or-map, Sums.{sum_by-cons, sum_by-append}, Elements.{All-head, All-tail}}
 use Rattle.std.{proofs.lemmas.List.Elements.{All-cons, All-nil, All-append, All-map}, specs.List.{sum_by, range_with_len, AllZip}}
-use Rattle.std.{specs.{List.list_any, Prelude.nat_eq}, proofs.lemmas.Grind.common_steps}
+use Rattle.std.proofs.lemmas.Grind.{common_steps}
 use Rattle.graph_types.specs.{Graph.Graph, Step.after_all, declared.batches.NamedOp.NamedOp, declared.batches.Outcome.Outcome}
 use Rattle.edge_block.specs.{Rows.{Shape, OpenBlock, untouched, taken_in, dropped_in, shape_of, row_end}, Batches.Resolved}
 use Rattle.edge_block.specs.Batches.{AtKey, InAll, resolved, is_in_shard, shard_ops, rows_all, opened, key_is_of, taken_by}
@@ -17,7 +17,7 @@ use Rattle.graph_version.specs.Versions.{is_in}
 use Rattle.batch_apply.specs.{Shards.{acts, unsourced, latest, has_old_shape, IsShardOf, ArePlanned}, Plans.{results, told}}
 use Rattle.batch_apply.proofs.{Spared.{Spares, KeepsOff, rows_spared, over_all, all_spare, off_all}, Totals.sum_all}
 use Rattle.batch_apply.proofs.{Totals.{worker_rows, none_taken, none_dropped, same_outcomes}, Kept.{some_times, sum_same}}
-use Rattle.batch_apply.proofs.{Placed.times, Merge.{same_ops, shard_places, kept_all}, Resolving.placed_in}
+use Rattle.batch_apply.proofs.{Placed.{times, listed_times}, Merge.{same_ops, shard_places, kept_all}, Resolving.placed_in}
 use Rattle.batch_apply.proofs.Sources.{sources_within}
 use Rattle.edge_block.proofs.Counts.{count_more}
 
@@ -152,17 +152,6 @@ module _ (workers : ℕ) (ops : List NamedOp) (g : Graph) (layout : ℕ → List
       from_acts (r ∷ rs) all = All-cons (KeepsOff m) r rs
           (back r (All-head (KeepsOff m) (unsourced r) (acts rs) all))
           (from_acts rs (All-tail (KeepsOff m) (unsourced r) (acts rs) all))
-
-  listed_times : (m : ℕ) (xs : List ℕ) → list_any (nat_eq m) xs ≡ true → 1 ≤ times m xs
-  listed_times m [] e = absurd (true≢false (sym e))
-  listed_times m (x ∷ xs) e =
-      let c = count_more (λ y. y == m) x xs in
-      elim (m == x) as (λ b. m == x ≡ b → (b || list_any (nat_eq m) xs) ≡ true → 1 ≤ times m (x ∷ xs)) [
-        | true ↦ λ t f.
-            let yes : (let k : ℕ = cond (x == m) 1 0 in k) ≡ 1 = ap (λ y. cond (y == m) 1 0) (sym (eqb-true m x t))
-            ∙ ap (λ b. cond b 1 0) (eq-eqb m m refl) in omega (arith, c, yes)
-        | false ↦ λ t f. let rest = listed_times m xs f in omega (arith, c, rest)
-      ] refl e
 
   -- nor has its row an edge that one of the expiries takes
   no_old : (w m : ℕ) (shard : Shard) → IsShardOf workers (resolved ops g.names g.kinds) layout w shard → m % workers ≡ w

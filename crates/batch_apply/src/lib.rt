@@ -11,6 +11,7 @@ mod finding;
 mod laws;
 mod naming;
 mod old;
+mod own_sources;
 mod planning;
 mod plans;
 mod resolve;

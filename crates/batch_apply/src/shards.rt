@@ -1,63 +1,25 @@
 //! A batch's operations by worker.
 
-ghost use Rattle.std.specs.Prelude.{◌≡◌, ◌≢◌, ◌+◌, ◌-◌, ◌≤◌, ◌<◌, ◌^◌, ℕ, List, length, map, min, IfOk, OnOk, All, AllPairs};
-ghost use Rattle.std.specs.Prelude.{[], IfSome, Some, nat_eq, position, slice_get};
+ghost use Rattle.std.specs.Prelude.{◌≡◌, ◌+◌, ◌-◌, ◌≤◌, ◌<◌, ◌^◌, ◌∷◌, ◌++◌, ℕ, List, length, map, min, IfOk, OnOk, All};
+ghost use Rattle.std.specs.Prelude.{IfSome, Some, nat_eq, position, slice_get};
 ghost use Rattle.std.specs.Option.{option_map};
 ghost use Rattle.graph_types.specs.Limits.{most_names, most_operations};
-ghost use Rattle.indexmap.specs.IndexSet.{keys};
 ghost use Rattle.edge_block.specs.Slots.{BlockView};
-ghost use Rattle.edge_block.specs.Batches as layout;
 ghost use Rattle.edge_block.specs.Batches.{IsPlaced};
 ghost use Rattle.batch_shards.specs.Shards.{IsPlace, IsAct, key_at, resolved_at};
 ghost use Rattle.batch_shards.specs.Done.{layout_by, sources_in};
 ghost use Rattle.batch_shards.specs.Spending.{needed};
 ghost use Rattle.batch_apply.specs.Plan.{key_of, shown, IsInRange};
-ghost use Rattle.batch_apply.specs.OldRows.{AreOldRows, old_sources, own_rows, blocks_in};
+ghost use Rattle.batch_apply.specs.OldRows.{AreOldRows};
+ghost use Rattle.batch_apply.specs.FirstSources.{AreNext, asked_by, source_in};
 ghost use Rattle.batch_apply.specs.Shards.{IsShardOf, latest, source_numbers, unsourced, with_number, with_source, with_op};
 
 use crate::old::OldRow;
+use crate::own_sources::{Listed, Places, first_sources, is_in_shard, take_next};
 use crate::resolve::{EdgeKey, ResolvedOp};
 use batch_shards::{Act, Place, Shard, Step};
 use graph_types::VertexId;
-use indexmap::IndexSet;
 use std::alloc::{AllocError, Global};
-
-/// The worker of an operation on an edge: its source's number by the number of workers. One on an unknown source is worker
-/// 0's.
-fn worker_of(workers: usize, source: Option<u32>) -> usize
-    requires { 0 < workers }
-    ensures { result ≡ layout.shard_of workers source }
-{
-    match source {
-        None => 0,
-        Some(source) => source as usize % workers,
-    }
-}
-
-/// Whether an operation is one of a worker's: an expiry is every one's.
-fn is_in_shard(workers: usize, worker: usize, op: ResolvedOp) -> bool
-    requires { 0 < workers }
-    ensures { result ≡ layout.is_in_shard workers worker (shown op) }
-{
-    match op {
-        ResolvedOp::Edge(source, _, _) => worker_of(workers, source) == worker,
-        ResolvedOp::Expire(_) => true,
-    }
-}
-
-/// So many operations and old rows ask for few sources: these are looked through, and need no table.
-const FEW: usize = 16;
-
-/// A table for the sources of so many operations and old rows, none where these are few.
-fn table_for(alloc: Global, count: usize) -> Option<IndexSet<u32>>
-    ensures { IfSome result (λ p. p.keys ≡ []) }
-{
-    if count <= FEW {
-        None
-    } else {
-        Some(IndexSet::new(alloc))
-    }
-}
 
 /// The place of a source among the sources.
 fn find_source(sources: &[VertexId], source: u32) -> Option<usize>
@@ -79,50 +41,37 @@ fn place_among_few(sources: &mut Vec<VertexId>, source: u32) -> Result<usize, Al
     Ok(place)
 }
 
-/// The place of a source among sources with a table, to which a new one is added.
-fn place_in_table(
-    sources: &mut Vec<VertexId>,
-    places: &mut IndexSet<u32>,
-    source: u32,
-) -> Result<usize, AllocError>
-    requires same { source_numbers sources.old.items ≡ places.old.keys }
-    ensures same { OnOk result (source_numbers sources.new.items ≡ places.new.keys) }
-    ensures sources { OnOk result (source_numbers sources.new.items ≡ with_number source (source_numbers sources.old.items)) }
-    ensures place { IfOk result (λ p. slice_get (source_numbers sources.new.items) p ≡ Some source) }
-{
-    let (place, is_new) = places.insert_full(source)?;
-    if is_new {
-        sources.push(VertexId(source))?;
-    }
-    Ok(place)
-}
-
-/// The place of a source among the sources, to which a new one is added.
+/// The place of a source among the sources: the next of the places, where there are any, and else a new source is added.
 fn place_of(
     sources: &mut Vec<VertexId>,
-    places: &mut Option<IndexSet<u32>>,
+    places: &mut Option<Places>,
     source: u32,
 ) -> Result<usize, AllocError>
-    requires same { IfSome places.old (λ p. source_numbers sources.old.items ≡ p.keys) }
-    ensures same { OnOk result (IfSome places.new (λ p. source_numbers sources.new.items ≡ p.keys)) }
+    requires next { (rest : List ℕ) × IfSome places.old (AreNext (source_numbers sources.old.items) (source ∷ rest)) }
+    ensures next { OnOk result ((rest : List ℕ)
+        → IfSome places.old (AreNext (source_numbers sources.old.items) (source ∷ rest))
+        → IfSome places.new (AreNext (source_numbers sources.new.items) rest)) }
     ensures sources { OnOk result (source_numbers sources.new.items ≡ with_number source (source_numbers sources.old.items)) }
     ensures place { IfOk result (λ p. slice_get (source_numbers sources.new.items) p ≡ Some source) }
 {
     match places {
         None => place_among_few(sources, source),
-        Some(places) => place_in_table(sources, places, source),
+        Some(places) => Ok(take_next(places)),
     }
 }
 
 /// Where a key's edge is: the place of its source among the sources, to which a new one is added.
 fn place_in(
     sources: &mut Vec<VertexId>,
-    places: &mut Option<IndexSet<u32>>,
+    places: &mut Option<Places>,
     key: Option<EdgeKey>,
 ) -> Result<Option<Place>, AllocError>
     requires few { length sources.old.items < 2 ^ 32 }
-    requires same { IfSome places.old (λ p. source_numbers sources.old.items ≡ p.keys) }
-    ensures same { OnOk result (IfSome places.new (λ p. source_numbers sources.new.items ≡ p.keys)) }
+    requires next { (rest : List ℕ) × IfSome places.old (AreNext (source_numbers sources.old.items)
+        (source_in (option_map key_of key) ++ rest)) }
+    ensures next { OnOk result ((rest : List ℕ)
+        → IfSome places.old (AreNext (source_numbers sources.old.items) (source_in (option_map key_of key) ++ rest))
+        → IfSome places.new (AreNext (source_numbers sources.new.items) rest)) }
     ensures sources { OnOk result (source_numbers sources.new.items ≡ with_source (option_map key_of key)
         (source_numbers sources.old.items)) }
     ensures key { IfOk result (λ p. key_at (source_numbers sources.new.items) p ≡ option_map key_of key) }
@@ -143,13 +92,15 @@ fn place_in(
 /// What an operation of a shard does, where the place of its edge is by the sources, to which a new one is added.
 fn act_in(
     sources: &mut Vec<VertexId>,
-    places: &mut Option<IndexSet<u32>>,
+    places: &mut Option<Places>,
     op: ResolvedOp,
 ) -> Result<Act, AllocError>
     requires few { length sources.old.items < 2 ^ 32 }
-    requires same { IfSome places.old (λ p. source_numbers sources.old.items ≡ p.keys) }
     requires valid { IsInRange op }
-    ensures same { OnOk result (IfSome places.new (λ p. source_numbers sources.new.items ≡ p.keys)) }
+    requires next { (rest : List ℕ) × IfSome places.old (AreNext (source_numbers sources.old.items) (asked_by (shown op) ++ rest)) }
+    ensures next { OnOk result ((rest : List ℕ)
+        → IfSome places.old (AreNext (source_numbers sources.old.items) (asked_by (shown op) ++ rest))
+        → IfSome places.new (AreNext (source_numbers sources.new.items) rest)) }
     ensures sources { OnOk result (source_numbers sources.new.items ≡ with_op (shown op) (source_numbers sources.old.items)) }
     ensures act { IfOk result (λ act. unsourced (resolved_at (source_numbers sources.new.items) act) ≡ unsourced (shown op)) }
     ensures in_rows { IfOk result (IsAct (length (source_numbers sources.new.items))) }
@@ -162,33 +113,6 @@ fn act_in(
         }
         ResolvedOp::Expire(time) => Ok(Act::Expire(time)),
     }
-}
-
-/// Lists the sources of a worker's old rows, before its first operation, and returns how many old blocks they have. The
-/// greatest number stands for as many blocks, or more.
-fn list_old(
-    workers: usize,
-    worker: usize,
-    old: &[OldRow],
-    sources: &mut Vec<VertexId>,
-    places: &mut Option<IndexSet<u32>>,
-) -> Result<usize, AllocError>
-    requires workers { 0 < workers }
-    requires distinct { AllPairs (λ a b. a ≢ b) (old_sources old.now) }
-    requires none { source_numbers sources.old.items ≡ [] }
-    requires same { IfSome places.old (λ p. source_numbers sources.old.items ≡ p.keys) }
-    ensures same { OnOk result (IfSome places.new (λ p. source_numbers sources.new.items ≡ p.keys)) }
-    ensures own { OnOk result (source_numbers sources.new.items ≡ old_sources (own_rows workers worker old.now)) }
-    ensures blocks { IfOk result (λ b. b ≡ min (blocks_in (own_rows workers worker old.now)) (2 ^ 64 - 1)) }
-{
-    let mut blocks = 0_usize;
-    for row in old {
-        if row.source.0 as usize % workers == worker {
-            place_of(sources, places, row.source.0)?;
-            blocks = blocks.saturating_add(row.blocks);
-        }
-    }
-    Ok(blocks)
 }
 
 /// A shard without fresh blocks, and how many of them it may take.
@@ -218,9 +142,11 @@ pub fn shard_for(
     ensures blocks { IfOk result (λ n. (rows : ℕ → List BlockView) → AreOldRows (latest (map shown ops.now)) rows old.now
         → n.blocks ≡ min (needed rows (sources_in n.shard) n.shard.steps.items) (2 ^ 64 - 1)) }
 {
-    let mut sources = Vec::new(alloc);
-    let mut places = table_for(alloc, old.len().saturating_add(ops.len()));
-    let mut blocks = list_old(workers, worker, old, &mut sources, &mut places)?;
+    let Listed {
+        mut sources,
+        mut places,
+        mut blocks,
+    } = first_sources(alloc, workers, worker, ops, old)?;
     let mut steps = Vec::with_capacity(alloc, ops.len() / workers)?;
     for k in 0..ops.len() {
         let op = ops[k];

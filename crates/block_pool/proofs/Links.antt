@@ -56,25 +56,25 @@ pub chain_more : (below : List ℕ) (top height n : ℕ) → n < length below �
 chain_more below top height n lt none = grind (arith, common_steps, get_or-set_same, chain_else)
 
 -- what callers see
-abbrev pub view_of : List ℕ → List Stack → Stacks
-view_of below stacks = record { bound = length below; lists = map (chain_of below) stacks }
+abbrev pub view_of : List ℕ → List ℕ → List Stack → Stacks
+view_of rooms below stacks = record { bound = length below; lists = map (chain_of below) stacks; rooms = rooms }
 
-module _ (below : List ℕ) (stacks : List Stack) where
-  pub shown : (view : Stacks) → view_of below stacks ≡ view → (k : ℕ) (d : Stack) → k < length view.lists
+module _ (rooms below : List ℕ) (stacks : List Stack) where
+  pub shown : (view : Stacks) → view_of rooms below stacks ≡ view → (k : ℕ) (d : Stack) → k < length view.lists
       → (k < length stacks) × (stack_of view.lists k ≡ chain_of below (get_or stacks k d))
   shown view e k d lt = grind (arith, common_steps)
 
-  pub pushed : (view : Stacks) → view_of below stacks ≡ view → (k n : ℕ) (s : Stack) → s ≡ get_or stacks k s
+  pub pushed : (view : Stacks) → view_of rooms below stacks ≡ view → (k n : ℕ) (s : Stack) → s ≡ get_or stacks k s
       → k < length view.lists → n < view.bound → AreAbsent n view.lists
-      → view_of (set below n s.top) (set stacks k (record { top = n; height = s.height + 1 }))
-      ≡ record { bound = view.bound; lists = set view.lists k (n ∷ stack_of view.lists k) }
+      → view_of rooms (set below n s.top) (set stacks k (record { top = n; height = s.height + 1 }))
+      ≡ record { bound = view.bound; lists = set view.lists k (n ∷ stack_of view.lists k); rooms = view.rooms }
   pushed view e k n s here low lt absent =
       subst (λ (v : Stacks). k < length v.lists → n < v.bound → AreAbsent n v.lists
-      → view_of (set below n s.top) (set stacks k (record { top = n; height = s.height + 1 }))
-      ≡ record { bound = v.bound; lists = set v.lists k (n ∷ stack_of v.lists k) }) e
+      → view_of rooms (set below n s.top) (set stacks k (record { top = n; height = s.height + 1 }))
+      ≡ record { bound = v.bound; lists = set v.lists k (n ∷ stack_of v.lists k); rooms = v.rooms }) e
       (λ low lt absent.
       let after : Stack = record { top = n; height = s.height + 1 } in
-      let is = shown (view_of below stacks) refl k s low in
+      let is = shown (view_of rooms below stacks) refl k s low in
       let this : stack_of (map (chain_of below) stacks) k ≡ chain below s.top s.height =
       is.1 ∙ ap (chain_of below) (sym here) in
       let more = chain_more below s.top s.height n lt (ap (is_listed n) (sym this) ∙ absent k) in
@@ -85,12 +85,12 @@ module _ (below : List ℕ) (stacks : List Stack) where
       ap₂ (λ (b : ℕ) (ls : List (List ℕ)). the_stacks b ls) (length-set below n s.top) lists) low lt absent
     where
       the_stacks : ℕ → List (List ℕ) → Stacks
-      the_stacks b ls = record { bound = b; lists = ls }
+      the_stacks b ls = record { bound = b; lists = ls; rooms = rooms }
 
-  pub popped : (view : Stacks) → view_of below stacks ≡ view → (k : ℕ) (s : Stack) (t : ℕ) → s ≡ get_or stacks k s
+  pub popped : (view : Stacks) → view_of rooms below stacks ≡ view → (k : ℕ) (s : Stack) (t : ℕ) → s ≡ get_or stacks k s
       → k < length view.lists → 0 < s.height → t ≡ get_or below s.top 0
-      → view_of below (set stacks k (record { top = t; height = s.height - 1 }))
-      ≡ record { bound = view.bound; lists = set view.lists k (below_top (stack_of view.lists k)) }
+      → view_of rooms below (set stacks k (record { top = t; height = s.height - 1 }))
+      ≡ record { bound = view.bound; lists = set view.lists k (below_top (stack_of view.lists k)); rooms = view.rooms }
   popped view e k s t here low some link = grind (arith, common_steps, shown, chain_rest, map-set)
 
   -- the links stay within the room

@@ -10,7 +10,7 @@ use Rattle.block_reclamation.specs.declared.{copies.{PinCopy.PinCopy, TheConstan
 use Rattle.block_reclamation.specs.{declared.status.BlockStatus.TheVariants.{Free, Granted}, Status.{is_listed, is_retired}}
 use Rattle.block_reclamation.specs.Status.{is_reclaimable}
 use Rattle.block_pool.specs.{Chains.{Stacks, stack_of, below_top, AreAbsent}, declared.numbers.{Numbers.Numbers, TheConstants.{LOOSE, LATE}}}
-use Rattle.block_pool.specs.Kept.{IsNumbers, statuses, status_of, tally, AreNeeded, HasPins, IsSorted, Fits, top_of, put_on, taken_off, moved}
+use Rattle.block_pool.specs.Kept.{IsNumbers, AreRoomy, statuses, status_of, tally, AreNeeded, HasPins, IsSorted, Fits, top_of, put_on, taken_off, moved}
 use Rattle.block_pool.proofs.Tallies.{count_true, count_lt, same_number, tally_at, tally_has_one, tally_true}
 use Rattle.block_pool.proofs.{Tallies.tally_here, Tallies.past_retired, Tallies.none_retired, Grants.tally_once}
 use Rattle.edge_block.proofs.Counts.{count_more}
@@ -284,9 +284,19 @@ shorter_moved lists from to lt ne some = grind (arith, common_steps)
 
 -- other stacks of the same numbers, or other pins
 pub restacked : (n : Numbers) → IsNumbers n → (retired : Stacks) (pins : List (Option ℕ)) (least : ℕ)
-    → retired.bound ≡ n.retired.bound → length pins ≡ SEATS → IsSorted (statuses n) pins least retired.lists
-    → IsNumbers (record n { retired = retired; pins = pins; least = least })
-restacked n k retired pins least bound seats sorted = grind (arith, common_steps)
+    → retired.bound ≡ n.retired.bound → retired.rooms ≡ n.retired.rooms → length pins ≡ SEATS
+    → IsSorted (statuses n) pins least retired.lists → IsNumbers (record n { retired = retired; pins = pins; least = least })
+restacked n k retired pins least bound rooms seats sorted = record {
+  few = k.few;
+  free_room = k.free_room;
+  bound = bound ∙ k.bound;
+  seats = seats;
+  free_in = k.free_in;
+  free_are = k.free_are;
+  retired_in = k.retired_in;
+  sorted = sorted;
+  roomy = subst (λ r. AreRoomy (statuses n) n.free_len n.statuses.rooms r n.free.rooms) (sym rooms) k.roomy;
+}
 
 pub no_number : (ns : List ℕ) → length ns ≤ 0 → ns ≡ []
 no_number h0 le = grind (arith, common_steps)

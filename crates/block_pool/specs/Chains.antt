@@ -3,10 +3,11 @@ use Rattle.std.specs.Prelude.{◌<◌, ℕ, zero, suc, List, [], ◌∷◌, leng
 use Rattle.block_pool.specs.declared.stacks.Stack.{Stack}
 use Rattle.block_reclamation.specs.Status.{is_listed}
 
--- each list is a stack, its top first
+-- each list is a stack, its top first; the rooms say which numbers have memory for a link
 pub record Stacks : Type 0 where
   pub bound : ℕ
   pub lists : List (List ℕ)
+  pub rooms : List ℕ
 
 abbrev pub stack_of : List (List ℕ) → ℕ → List ℕ
 stack_of lists stack = slice_index_or lists stack []

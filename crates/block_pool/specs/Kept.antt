@@ -1,8 +1,8 @@
 -- What a pool keeps of its numbers: the free ones as a list in the first places of a room of fixed size, and the retired
--- ones in stacks.
+-- ones in stacks. Room that may be written has its memory.
 use Rattle.std.specs.Prelude.{◌≡◌, ◌<◌, ◌≤◌, ℕ, zero, suc, ◌+◌, ◌-◌, ◌&&◌, Bool, if◌then◌else◌, List, [], ◌∷◌, length, take}
 use Rattle.std.specs.Prelude.{count_by, sum_by, slice_index, slice_index_or, slice_set, true, false, Option, None}
-use Rattle.block_pool.specs.{declared.numbers.{Numbers.Numbers, TheConstants.LATE}, Chains.{stack_of, below_top}}
+use Rattle.block_pool.specs.{declared.numbers.{Numbers.Numbers, TheConstants.LATE}, Chains.{stack_of, below_top}, Paging.HasRoom}
 use Rattle.block_reclamation.specs.declared.{copies.{PinCopy.PinCopy, TheConstants.SEATS}, status.BlockStatus.BlockStatus}
 use Rattle.block_reclamation.specs.{declared.status.BlockStatus.TheVariants.Granted, Copies.reach_of, Status.{is_listed, is_free, most_blocks}}
 use Rattle.block_reclamation.specs.Status.{is_retired, is_reclaimable}
@@ -65,6 +65,25 @@ taken_off stack lists = slice_set lists stack (below_top (stack_of lists stack))
 abbrev pub moved : ℕ → ℕ → List (List ℕ) → List (List ℕ)
 moved from to lists = put_on to (top_of (stack_of lists from)) (taken_off from lists)
 
+-- each number that isn't free has memory
+abbrev pub HasRoomFor : List BlockStatus → List ℕ → Type 0
+HasRoomFor pool rooms = (k : ℕ) → k < length pool → is_free (status_of pool k) ≡ false → HasRoom rooms k
+
+-- There is memory for what may be written before the next grant: what is kept of each number that isn't free, the places of the list
+-- past its first len, and as many of its first ones as numbers may be freed at once.
+pub record AreRoomy (pool : List BlockStatus) (len : ℕ) (statuses links places : List ℕ) : Type 0 where
+  pub status : HasRoomFor pool statuses
+  pub link : HasRoomFor pool links
+  pub last : (place : ℕ) → len ≤ place → place < length pool → HasRoom places place
+  pub first : (place : ℕ) → place + len < length pool → HasRoom places place
+
+-- there is memory to grant the number that so many others are granted before
+pub record IsReady (n : Numbers) (before : ℕ) : Type 0 where
+  pub status : HasRoom n.statuses.rooms (slice_index n.free.items (n.free_len - 1 - before))
+  pub link : HasRoom n.retired.rooms (slice_index n.free.items (n.free_len - 1 - before))
+  pub last : HasRoom n.free.rooms (n.free_len - 1 - before)
+  pub first : HasRoom n.free.rooms (length n.statuses.items - n.free_len + before)
+
 -- the list has the free numbers, and the stacks the retired ones
 pub record IsNumbers (n : Numbers) : Type 0 where
   pub few : length n.statuses.items ≤ most_blocks
@@ -75,8 +94,22 @@ pub record IsNumbers (n : Numbers) : Type 0 where
   pub free_are : Lists is_free (statuses n) (take n.free_len n.free.items)
   pub retired_in : n.retired_len ≡ count_by is_retired (statuses n)
   pub sorted : IsSorted (statuses n) n.pins n.least n.retired.lists
+  pub roomy : AreRoomy (statuses n) n.free_len n.statuses.rooms n.retired.rooms n.free.rooms
 
 -- each number is what it was, and each seat's stack stands under the pin that it stood under
 pub record IsSame (old new : Numbers) : Type 0 where
   pub same : statuses new ≡ statuses old
   pub pins : new.pins ≡ old.pins
+
+-- there is memory for the same
+pub record HasRooms (old new : Numbers) : Type 0 where
+  pub status : new.statuses.rooms ≡ old.statuses.rooms
+  pub link : new.retired.rooms ≡ old.retired.rooms
+  pub free : new.free.rooms ≡ old.free.rooms
+
+-- each number is what it was, and there may be memory for more
+pub record IsRoomier (old new : Numbers) : Type 0 where
+  pub same : statuses new ≡ statuses old
+  pub free : new.free.items ≡ old.free.items
+  pub free_len : new.free_len ≡ old.free_len
+  pub ready : (before : ℕ) → IsReady old before → IsReady new before

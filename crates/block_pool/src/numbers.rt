@@ -1,14 +1,16 @@
 //! Which numbers are free, in use or retired.
 
 ghost use Rattle.std.specs.Prelude.{◌≡◌, ◌≢◌, ◌<◌, ◌≤◌, ℕ, length, map, replicate, count_by, slice_index, slice_set, ◌+◌, ◌-◌, IfOk};
-ghost use Rattle.std.specs.Prelude.{true, IfSome, slice_index_or, None, []};
+ghost use Rattle.std.specs.Prelude.{true, IfSome, OnOk, slice_index_or, None, []};
 ghost use Rattle.block_reclamation.specs.Copies as copies;
 ghost use Rattle.block_pool.specs.Chains.{stack_of};
 ghost use Rattle.block_reclamation.specs.declared.status.BlockStatus.TheVariants.{Free, Granted, Used, Retired};
 ghost use Rattle.block_reclamation.specs.Status.{is_free, is_in_use, is_retired, is_reclaimable, most_blocks, recycled};
 ghost use Rattle.block_pool.specs.Pools.{marked, retired, is_in_use_at, is_used_at};
-ghost use Rattle.block_pool.specs.Kept.{status_of, popped, Lists, AreNeeded, HasPins, top_of, moved, taken_off};
+ghost use Rattle.block_pool.specs.Kept.{status_of, popped, AreNeeded, HasPins, top_of, moved, taken_off};
+ghost use Rattle.block_pool.specs.Paging.{HasRoom};
 
+use crate::pages::{Blank, Pages};
 use crate::stacks::LinkedStacks;
 use block_reclamation::{BlockStatus, PinCopy, SEATS};
 use std::alloc::{AllocError, Global};
@@ -40,12 +42,24 @@ pub(crate) const LOOSE: usize = 16;
 /// The stack of the numbers that were retired after what the last collection reached.
 pub(crate) const LATE: usize = 17;
 
-/// What each number is, a list of the free ones, and stacks of the retired ones. All have their room from the start.
+impl Blank for BlockStatus {
+    ghost use Rattle.block_reclamation.specs.declared.status.BlockStatus.TheVariants.{Free};
+
+    ghost blank = { λ _. Free };
+
+    fn blank(_place: usize) -> BlockStatus {
+        BlockStatus::Free
+    }
+}
+
+/// What each number is, a list of the free ones, and stacks of the retired ones. A page of them takes memory at the first
+/// grant of one of its numbers, or of so many numbers that its places may be needed.
 #[derive(Debug, Drop)]
 pub(crate) struct Numbers {
-    pub statuses: Vec<BlockStatus>,
-    /// The first `free_len` are the free numbers, the next one to be granted last; the rest is room.
-    pub free: Vec<u32>,
+    pub statuses: Pages<BlockStatus>,
+    /// The first `free_len` are the free numbers, the next one to be granted last; the rest is room. A place that was never
+    /// written has its own number.
+    pub free: Pages<u32>,
     pub free_len: usize,
     /// The retired numbers: one stack for each seat, of those that its settled pin needs, and then `LOOSE` and `LATE`.
     pub retired: LinkedStacks,
@@ -57,7 +71,7 @@ pub(crate) struct Numbers {
 }
 
 impl Numbers {
-    ghost use Rattle.block_pool.specs.Kept.{statuses, IsNumbers, IsSame, Fits};
+    ghost use Rattle.block_pool.specs.Kept.{statuses, IsNumbers, IsSame, IsRoomier, IsReady, HasRooms, Fits};
 
     /// The numbers 0 to `count` - 1, all free.
     pub fn all_free(alloc: Global, count: u32) -> Result<Numbers, AllocError>
@@ -67,8 +81,8 @@ impl Numbers {
     {
         let len = count as usize;
         Ok(Numbers {
-            statuses: vec![in alloc; BlockStatus::Free; len]?,
-            free: numbers_up_to(alloc, count)?,
+            statuses: Pages::new(alloc, len)?,
+            free: Pages::new(alloc, len)?,
             free_len: len,
             retired: LinkedStacks::new(alloc, count, 18)?,
             retired_len: 0,
@@ -101,10 +115,31 @@ impl Numbers {
         self.statuses.len() - self.free_len - self.retired_len
     }
 
-    /// Grants the last `count` of the free numbers.
+    /// Takes the memory that is needed to grant the number before so many others, and tells which it is. Where memory is
+    /// refused, each number is as it was.
+    pub fn make_ready(&mut self, before: usize) -> Result<u32, AllocError>
+        requires kept { IsNumbers self.old }
+        requires some { before < self.old.free_len }
+        ensures kept { IsNumbers self.new }
+        ensures same { IsRoomier self.old self.new }
+        ensures number { IfOk result (λ n. n ≡ slice_index self.old.free.items (self.old.free_len - 1 - before)) }
+        ensures ready { OnOk result (IsReady self.new before) }
+    {
+        let place = self.free_len - 1 - before;
+        let number = self.free.get(place);
+        self.statuses.make(number as usize)?;
+        self.retired.make(number)?;
+        self.free.make(place)?;
+        self.free
+            .make(self.statuses.len() - self.free_len + before)?;
+        Ok(number)
+    }
+
+    /// Grants the last `count` of the free numbers, which have their memory.
     pub fn use_last(&mut self, count: usize)
         requires kept { IsNumbers self.old }
         requires enough { count ≤ self.old.free_len }
+        requires ready { (before : ℕ) → before < count → IsReady self.old before }
         ensures kept { IsNumbers self.new }
         ensures statuses { statuses self.new ≡ marked (popped self.old.free.items self.old.free_len count) Granted
             (statuses self.old) }
@@ -116,19 +151,21 @@ impl Numbers {
         }
     }
 
-    /// Grants the last of the free numbers.
+    /// Grants the last of the free numbers, which has its memory.
     fn use_one(&mut self)
         requires kept { IsNumbers self.old }
         requires some { 0 < self.old.free_len }
+        requires ready { IsReady self.old 0 }
         ensures kept { IsNumbers self.new }
         ensures statuses { statuses self.new ≡ slice_set (statuses self.old)
             (slice_index self.old.free.items (self.old.free_len - 1)) Granted }
         ensures shorter { self.new.free_len ≡ self.old.free_len - 1 }
         ensures room { self.new.free.items ≡ self.old.free.items }
+        ensures rooms { HasRooms self.old self.new }
     {
         self.free_len -= 1;
-        let number = self.free[self.free_len];
-        self.statuses[number as usize] = BlockStatus::Granted;
+        let number = self.free.get(self.free_len);
+        self.statuses.set(number as usize, BlockStatus::Granted);
     }
 
     /// Makes a used number free.
@@ -138,8 +175,8 @@ impl Numbers {
         ensures kept { IsNumbers self.new }
         ensures statuses { statuses self.new ≡ slice_set (statuses self.old) number Free }
     {
-        self.statuses[number as usize] = BlockStatus::Free;
-        self.free[self.free_len] = number;
+        self.statuses.set(number as usize, BlockStatus::Free);
+        self.free.set(self.free_len, number);
         self.free_len += 1;
     }
 
@@ -150,7 +187,8 @@ impl Numbers {
         ensures kept { IsNumbers self.new }
         ensures statuses { statuses self.new ≡ slice_set (statuses self.old) number (Used version) }
     {
-        self.statuses[number as usize] = BlockStatus::Used { birth: version };
+        self.statuses
+            .set(number as usize, BlockStatus::Used { birth: version });
     }
 
     /// Retires a born number with the number of a version.
@@ -161,8 +199,9 @@ impl Numbers {
         ensures statuses { statuses self.new ≡ slice_set (statuses self.old) number
             (retired version (status_of (statuses self.old) number)) }
     {
-        let status = self.statuses[number as usize];
-        self.statuses[number as usize] = after_retiring(status, version);
+        let status = self.statuses.get(number as usize);
+        self.statuses
+            .set(number as usize, after_retiring(status, version));
         self.retired.push(LOOSE, number);
         self.retired_len += 1;
     }
@@ -250,6 +289,7 @@ impl Numbers {
         ensures least { self.new.least ≡ self.old.least }
         ensures lists { self.new.retired.lists ≡ moved from to self.old.retired.lists }
         ensures free { self.new.free_len ≡ self.old.free_len }
+        ensures places { self.new.free.rooms ≡ self.old.free.rooms }
     {
         let number = self.retired.top(from);
         self.retired.pop(from);
@@ -281,6 +321,7 @@ impl Numbers {
         requires pins { HasPins copy.now self.old.pins }
         requires late { AreNeeded copy.now (statuses self.old) (stack_of self.old.retired.lists LATE) }
         requires some { 0 < length (stack_of self.old.retired.lists LOOSE) }
+        requires room { HasRoom self.old.free.rooms place }
         ensures kept { IsNumbers self.new }
         ensures pins { self.new.pins ≡ self.old.pins }
         ensures late { AreNeeded copy.now (statuses self.new) (stack_of self.new.retired.lists LATE) }
@@ -289,6 +330,7 @@ impl Numbers {
         ensures count { result + count_by (is_reclaimable copy.now) (statuses self.new)
             ≡ count_by (is_reclaimable copy.now) (statuses self.old) }
         ensures free { self.new.free_len ≡ self.old.free_len + result }
+        ensures places { self.new.free.rooms ≡ self.old.free.rooms }
     {
         let number = self.retired.top(LOOSE);
         let dates = self.dates_of(number);
@@ -311,7 +353,7 @@ impl Numbers {
         requires retired { is_retired (status_of (statuses self.now) number) ≡ true }
         ensures { status_of (statuses self.now) number ≡ Retired result.birth result.retirement }
     {
-        match self.statuses[number as usize] {
+        match self.statuses.get(number as usize) {
             BlockStatus::Retired { birth, retirement } => Dates { birth, retirement },
             BlockStatus::Free => unreachable!(),
             BlockStatus::Granted => unreachable!(),
@@ -326,19 +368,21 @@ impl Numbers {
         requires kept { IsNumbers self.old }
         requires place { place ≤ self.old.free_len }
         requires some { 0 < length (stack_of self.old.retired.lists LOOSE) }
+        requires room { HasRoom self.old.free.rooms place }
         ensures kept { IsNumbers self.new }
         ensures pins { self.new.pins ≡ self.old.pins }
         ensures lists { self.new.retired.lists ≡ taken_off LOOSE self.old.retired.lists }
         ensures statuses { statuses self.new ≡ slice_set (statuses self.old) (top_of (stack_of self.old.retired.lists LOOSE)) Free }
         ensures free { self.new.free_len ≡ self.old.free_len + 1 }
+        ensures places { self.new.free.rooms ≡ self.old.free.rooms }
     {
         let number = self.retired.top(LOOSE);
         self.retired.pop(LOOSE);
         self.retired_len -= 1;
-        self.statuses[number as usize] = BlockStatus::Free;
-        let next = self.free[place];
-        self.free[self.free_len] = next;
-        self.free[place] = number;
+        self.statuses.set(number as usize, BlockStatus::Free);
+        let next = self.free.get(place);
+        self.free.set(self.free_len, next);
+        self.free.set(place, number);
         self.free_len += 1;
     }
 }
@@ -364,16 +408,4 @@ fn is_between(pin: Option<u64>, dates: Dates) -> bool
         Some(pin) => dates.birth <= pin && pin < dates.retirement,
         None => false,
     }
-}
-
-/// The numbers from 0 to `count` - 1, in order.
-fn numbers_up_to(alloc: Global, count: u32) -> Result<Vec<u32>, AllocError>
-    ensures listed { IfOk result (λ ns. Lists is_free (replicate count Free) ns.items) }
-    ensures length { IfOk result (λ ns. length ns.items ≡ count) }
-{
-    let mut numbers = Vec::with_capacity(alloc, count as usize)?;
-    for number in 0..count {
-        numbers.push(number)?;
-    }
-    Ok(numbers)
 }

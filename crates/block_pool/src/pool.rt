@@ -1,16 +1,18 @@
 //! A pool: blocks that are free, in use or retired.
 
 ghost use Rattle.std.specs.Prelude.{◌≡◌, ◌⊎◌, ◌<◌, ◌≤◌, ◌+◌, [], ◌∷◌, length, map, replicate, count_by, IfOk, OnOk, OnErr, IfErr};
-ghost use Rattle.std.specs.Prelude.{IfSome, None, true, vec_len, slice_index_or, slice_set};
+ghost use Rattle.std.specs.Prelude.{IfSome, None, true, ℕ, ◌-◌, slice_index, slice_index_or, slice_set};
 ghost use Rattle.std.specs.Arc.{arc_value};
 ghost use Rattle.edge_block.specs.declared.blocks.Block.{Block};
 ghost use Rattle.block_pool.specs.Pools.{retired, is_in_use_at, marked, changed, AreFree, is_used_at};
 ghost use Rattle.block_reclamation.specs.declared.status.BlockStatus.TheVariants.{Free, Granted, Used};
 ghost use Rattle.block_reclamation.specs.Status.{is_free, is_in_use, is_retired, is_reclaimable, most_blocks, recycled};
-ghost use Rattle.block_pool.specs.Kept.{statuses, popped, IsNumbers};
+ghost use Rattle.block_pool.specs.Kept.{statuses, popped, IsNumbers, IsRoomier, IsReady, HasRoomFor};
+ghost use Rattle.block_pool.specs.Paging.{HasRoom};
 ghost use Rattle.block_pool.specs.Pools.{AreBodies};
 
 use crate::numbers::Numbers;
+use crate::pages::{Blank, Pages};
 use block_reclamation::PinCopy;
 use edge_block::Block;
 use std::alloc::{AllocError, Global};
@@ -18,13 +20,23 @@ use std::marker::Model;
 use std::sync::Arc;
 use thiserror::Error;
 
+impl Blank for Option<Arc<Block>> {
+    ghost use Rattle.std.specs.Prelude.{None};
+
+    ghost blank = { λ _. None };
+
+    fn blank(_place: usize) -> Option<Arc<Block>> {
+        None
+    }
+}
+
 /// A pool of blocks, seen as one status for each number: free, granted, used (in a version since its birth), or retired.
 #[derive(Debug)]
 pub struct Pool {
     alloc: Global,
     numbers: Numbers,
     /// The blocks that stand in the pool; `None` where one was granted, or was given up and is made anew at a grant.
-    bodies: Vec<Option<Arc<Block>>>,
+    bodies: Pages<Option<Arc<Block>>>,
 }
 
 // Written by hand: who lets one go rests on this function, and not on how each part is let go.
@@ -41,14 +53,15 @@ impl Drop for Pool {
 impl Model for Pool {
     ghost use Rattle.std.specs.Prelude.{List, length};
     ghost use Rattle.block_reclamation.specs.declared.status.BlockStatus.{BlockStatus};
-    ghost use Rattle.block_pool.specs.Kept.{statuses, IsNumbers};
+    ghost use Rattle.block_pool.specs.Kept.{statuses, IsNumbers, HasRoomFor};
     ghost use Rattle.block_pool.specs.Pools.{AreBodies};
 
     ghost Value = { List BlockStatus };
 
     ghost view = { λ p. statuses p.numbers };
 
-    ghost invariant = { λ p. IsNumbers p.numbers × AreBodies (length p.numbers.statuses.items) p.bodies.items };
+    ghost invariant = { λ p. IsNumbers p.numbers × AreBodies (length p.numbers.statuses.items) p.bodies.items
+        × HasRoomFor (statuses p.numbers) p.bodies.rooms };
 }
 
 /// Blocks that were granted, and their numbers in the same order.
@@ -79,9 +92,8 @@ impl From<AllocError> for GrantError {
 }
 
 impl Pool {
-    /// A pool of so many blocks, 16 to 4,293,918,719, all free. It takes all the memory that the other calls need, but for
-    /// the two lists of a grant and the bodies of blocks that it grants for the first time or that were given up. That
-    /// is some 40 bytes a block, 4 of them the link of its stack while it is retired.
+    /// A pool of so many blocks, 16 to 4,293,918,719, all free. It takes some 100 bytes for each 4,096 of them. What is kept of a
+    /// number takes memory at a grant, and no other call takes any.
     pub fn new(alloc: Global, blocks: u32) -> Result<Pool, AllocError>
         requires least { 16 ≤ blocks }
         requires most { blocks ≤ most_blocks }
@@ -90,7 +102,7 @@ impl Pool {
         Ok(Pool {
             alloc,
             numbers: Numbers::all_free(alloc, blocks)?,
-            bodies: no_bodies(alloc, blocks)?,
+            bodies: Pages::new(alloc, blocks as usize)?,
         })
     }
 
@@ -120,7 +132,8 @@ impl Pool {
     }
 
     /// Grants so many blocks, the one that was last given back first. It takes time by their count, and reads none of
-    /// them.
+    /// them. It takes memory for the grant's two lists, for the bodies of blocks that are granted for the first time or were
+    /// given up, and for what is kept of the numbers: some 44 bytes a block, for 4,096 at a time.
     ///
     /// `PoolEmpty` exactly where fewer are free; `OutOfMemory` where a growth was refused. Either leaves each number
     /// as it was.
@@ -142,7 +155,12 @@ impl Pool {
                 free,
             });
         }
-        let grant = gather(self.alloc, &self.numbers, &mut self.bodies, count as usize)?;
+        let grant = gather(
+            self.alloc,
+            &mut self.numbers,
+            &mut self.bodies,
+            count as usize,
+        )?;
         self.numbers.use_last(count as usize);
         Ok(grant)
     }
@@ -155,7 +173,7 @@ impl Pool {
         ensures { self.new ≡ marked (number ∷ []) Free self.old }
     {
         self.numbers.give_back(number);
-        self.bodies[number as usize] = block;
+        self.bodies.set(number as usize, block);
     }
 
     /// Notes the number of the version that first lists a block since its grant. It takes no memory.
@@ -173,7 +191,7 @@ impl Pool {
     {
         let number = block.number();
         self.numbers.retire(number, version);
-        self.bodies[number as usize] = Some(block);
+        self.bodies.set(number as usize, Some(block));
     }
 
     /// Frees each retired block that the copy doesn't need, and tells how many. It takes no memory, and time by how many
@@ -187,37 +205,33 @@ impl Pool {
     }
 }
 
-/// No body for any number: each is made at its first grant, so that an opening costs little where few blocks are used, and
-/// a block is written while it is still in the cache.
-fn no_bodies(alloc: Global, count: u32) -> Result<Vec<Option<Arc<Block>>>, AllocError>
-    ensures { IfOk result (λ bodies. AreBodies count bodies.items) }
-{
-    let mut bodies = Vec::with_capacity(alloc, count as usize)?;
-    for _ in 0..count {
-        bodies.push(None)?;
-    }
-    Ok(bodies)
-}
-
-/// The last `count` of the free numbers, and a block of each in that order. Where memory is refused, only bodies are
-/// given up.
+/// The last `count` of the free numbers with their memory, and a block of each in that order. Where memory is refused, only
+/// bodies are given up.
 fn gather(
     alloc: Global,
-    numbers: &Numbers,
-    bodies: &mut Vec<Option<Arc<Block>>>,
+    numbers: &mut Numbers,
+    bodies: &mut Pages<Option<Arc<Block>>>,
     count: usize,
 ) -> Result<Grant, AllocError>
-    requires kept { IsNumbers numbers.now }
-    requires bodies { AreBodies (length numbers.now.statuses.items) bodies.old.items }
-    requires enough { count ≤ numbers.now.free_len }
-    ensures bodies { AreBodies (length numbers.now.statuses.items) bodies.new.items }
-    ensures numbers { IfOk result (λ g. g.numbers.items ≡ popped numbers.now.free.items numbers.now.free_len count) }
+    requires kept { IsNumbers numbers.old }
+    requires bodies { AreBodies (length numbers.old.statuses.items) bodies.old.items }
+    requires rooms { HasRoomFor (statuses numbers.old) bodies.old.rooms }
+    requires enough { count ≤ numbers.old.free_len }
+    ensures kept { IsNumbers numbers.new }
+    ensures same { IsRoomier numbers.old numbers.new }
+    ensures bodies { AreBodies (length numbers.old.statuses.items) bodies.new.items }
+    ensures rooms { HasRoomFor (statuses numbers.old) bodies.new.rooms }
+    ensures numbers { IfOk result (λ g. g.numbers.items ≡ popped numbers.old.free.items numbers.old.free_len count) }
     ensures blocks { IfOk result (λ g. map (λ b. (arc_value {X = Block} b).number) g.blocks.items ≡ g.numbers.items) }
+    ensures ready { OnOk result ((before : ℕ) → before < count → IsReady numbers.new before) }
+    ensures taken { OnOk result ((before : ℕ) → before < count
+        → HasRoom bodies.new.rooms (slice_index numbers.old.free.items (numbers.old.free_len - 1 - before))) }
 {
     let mut granted = Vec::with_capacity(alloc, count)?;
     let mut blocks = Vec::with_capacity(alloc, count)?;
     for i in 0..count {
-        let number = numbers.free[numbers.free_len - 1 - i];
+        let number = numbers.make_ready(i)?;
+        bodies.make(number as usize)?;
         let body = body_of(alloc, bodies, number)?;
         blocks.push(body)?;
         granted.push(number)?;
@@ -231,15 +245,17 @@ fn gather(
 /// The block of a number: its body where it was kept, else a new one.
 fn body_of(
     alloc: Global,
-    bodies: &mut Vec<Option<Arc<Block>>>,
+    bodies: &mut Pages<Option<Arc<Block>>>,
     number: u32,
 ) -> Result<Arc<Block>, AllocError>
-    requires within { number < vec_len bodies.old }
+    requires within { number < length bodies.old.items }
+    requires room { HasRoom bodies.old.rooms number }
     requires own { IfSome (slice_index_or bodies.old.items number None) (λ b. (arc_value {X = Block} b).number ≡ number) }
     ensures number { IfOk result (λ b. (arc_value {X = Block} b).number ≡ number) }
     ensures bodies { bodies.new.items ≡ slice_set bodies.old.items number None }
+    ensures rooms { bodies.new.rooms ≡ bodies.old.rooms }
 {
-    match bodies[number as usize].take() {
+    match bodies.take(number as usize) {
         Some(body) => Ok(body),
         None => Ok(Arc::new(alloc, Block::blank(number))?),
     }

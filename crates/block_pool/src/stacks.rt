@@ -1,8 +1,10 @@
 //! Stacks of numbers, linked through one array.
 
-ghost use Rattle.std.specs.Prelude.{◌≡◌, ◌<◌, ◌∷◌, [], length, replicate, slice_set, IfOk};
+ghost use Rattle.std.specs.Prelude.{◌≡◌, ◌<◌, ◌∷◌, ℕ, [], length, replicate, slice_set, IfOk, OnOk};
 ghost use Rattle.block_pool.specs.Chains.{stack_of, below_top, AreAbsent};
+ghost use Rattle.block_pool.specs.Paging.{HasRoom};
 
+use crate::pages::Pages;
 use std::alloc::{AllocError, Global};
 use std::marker::Model;
 
@@ -13,11 +15,11 @@ struct Stack {
     height: u32,
 }
 
-/// So many stacks of numbers below a bound. All their room is taken when they are made.
+/// So many stacks of numbers below a bound. A number's link takes memory before the number first stands in a stack.
 #[derive(Debug)]
-pub struct LinkedStacks {
+pub(crate) struct LinkedStacks {
     /// For each number that stands in a stack the one below it, and anything for a stack's last.
-    below: Vec<u32>,
+    below: Pages<u32>,
     stacks: Vec<Stack>,
 }
 
@@ -41,20 +43,31 @@ impl Model for LinkedStacks {
     ghost view = { λ s. record {
       bound = length s.below.items;
       lists = map (chain_of s.below.items) s.stacks.items;
+      rooms = s.below.rooms;
     } };
 
     ghost invariant = { λ s. AreWithin s.below.items s.stacks.items };
 }
 
 impl LinkedStacks {
-    /// So many empty stacks of numbers below `bound`. It takes 4 bytes for each number and 8 for each stack.
+    /// So many empty stacks of numbers below `bound`. It takes 8 bytes for each stack, and a little for each page of links.
     pub fn new(alloc: Global, bound: u32, stacks: u32) -> Result<LinkedStacks, AllocError>
-        ensures { IfOk result (λ made. made ≡ record { bound = bound; lists = replicate stacks [] }) }
+        ensures { IfOk result (λ made. (made.bound ≡ bound) × (made.lists ≡ replicate stacks [])) }
     {
         Ok(LinkedStacks {
-            below: vec![in alloc; 0; bound as usize]?,
+            below: Pages::new(alloc, bound as usize)?,
             stacks: vec![in alloc; Stack { top: 0, height: 0 }; stacks as usize]?,
         })
+    }
+
+    /// Takes the memory for a number's link, with those of its page, where it has none.
+    pub fn make(&mut self, number: u32) -> Result<(), AllocError>
+        requires { number < self.old.bound }
+        ensures same { (self.new.bound ≡ self.old.bound) × (self.new.lists ≡ self.old.lists) }
+        ensures room { OnOk result (HasRoom self.new.rooms number) }
+        ensures kept { (other : ℕ) → HasRoom self.old.rooms other → HasRoom self.new.rooms other }
+    {
+        self.below.make(number as usize)
     }
 
     /// How many numbers a stack has.
@@ -65,19 +78,21 @@ impl LinkedStacks {
         self.stacks[stack].height as usize
     }
 
-    /// Puts a number that stands in no stack on top of one.
+    /// Puts a number that stands in no stack, and has memory for a link, on top of one.
     pub fn push(&mut self, stack: usize, number: u32)
         requires stack { stack < length self.old.lists }
         requires number { number < self.old.bound }
         requires absent { AreAbsent number self.old.lists }
         requires room { length (stack_of self.old.lists stack) < self.old.bound }
+        requires link { HasRoom self.old.rooms number }
         ensures { self.new ≡ record {
           bound = self.old.bound;
           lists = slice_set self.old.lists stack (number ∷ stack_of self.old.lists stack);
+          rooms = self.old.rooms;
         } }
     {
         let old = self.stacks[stack];
-        self.below[number as usize] = old.top;
+        self.below.set(number as usize, old.top);
         self.stacks[stack] = Stack {
             top: number,
             height: old.height + 1,
@@ -100,10 +115,11 @@ impl LinkedStacks {
         ensures { self.new ≡ record {
           bound = self.old.bound;
           lists = slice_set self.old.lists stack (below_top (stack_of self.old.lists stack));
+          rooms = self.old.rooms;
         } }
     {
         let old = self.stacks[stack];
-        let top = self.below[old.top as usize];
+        let top = self.below.get(old.top as usize);
         self.stacks[stack] = Stack {
             top,
             height: old.height - 1,

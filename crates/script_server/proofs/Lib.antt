@@ -8,3 +8,6 @@ pub mod OneText
 pub mod SomeText
 pub mod SessionLines
 pub mod OpenSlots
+pub mod SegmentSteps
+pub mod SegmentRuns
+pub mod SegmentTexts

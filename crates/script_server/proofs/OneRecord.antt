@@ -1,14 +1,15 @@
 -- A turn, from what the calls below it say.
-use Rattle.std.proofs.Common.{◌≡◌, ℕ, ◌+◌, List, string_bytes, arith, refl, ◌∙◌, ap, inl, inr}
-use Rattle.std.specs.{Prelude.Option, Prelude.Result, Prelude.Ok, Prelude.Err, Io.KnownBytes.Appends}
+use Rattle.std.proofs.Common.{◌≡◌, ℕ, ◌+◌, List, string_bytes, arith, refl, subst, ◌∙◌, ap, inl, inr}
+use Rattle.std.specs.{Prelude.{Option, Result, Ok, Err, IfOk}, Io.KnownBytes.Appends}
+use Rattle.epoch_core.specs.Worlds.{start_in}
+use Rattle.stream_store.specs.Configs.{ConfigView}
 use Rattle.feed_csv.specs.{Script.FaultStep, Script.RefusesRow, Script.Script, declared.command.Command.Command}
 use Rattle.feed_csv.specs.declared.command.FeedWord.{FeedWord, TheVariants.Read, TheVariants.Memory}
-use Rattle.script_server.specs.declared.script.Run.{Run}
+use Rattle.script_server.specs.declared.script.{Run.Run, ServeFault.ServeFault}
+use Rattle.script_commands.specs.declared.server.{Server.Server, Stop.Stop}
 use Rattle.script_commands.specs.declared.server.Response.TheVariants.{Refused}
-use Rattle.script_commands.specs.Servers.{IsServer, ReopensIn}
-use Rattle.script_server.specs.Runs.{FailsToWrite, CountsRecord, CompletesRecord}
-use Rattle.script_commands.specs.Servers.{result_of}
-use Rattle.script_commands.specs.States.{printed}
+use Rattle.script_commands.specs.{Machine.StartsMachine, Servers.{IsServer, ReopensIn, result_of}, States.printed}
+use Rattle.script_server.specs.Runs.{FailsToWrite, CountsRecord, CompletesRecord, ShowsStart}
 use Rattle.script_server.specs.Writes.{AppendsPart}
 use Rattle.script_lines.specs.{Lines.error_line, declared.words.Word.TheVariants.Feed}
 use Rattle.script_lines.specs.declared.words.Word.TheVariants as told
@@ -32,9 +33,10 @@ refused row_item word old new before after is server written counted =
       server = rw same server;
       records = counted.records;
       errors = omega (arith, counted.errors);
+      response = Refused (Feed word);
+      lines = string_bytes old.lines;
       step = λ here shows.
           let number : old.records ≡ here.records = shows.records in (
-            Err (Feed word),
             rw is refl,
             rw (← number) written,
             record {
@@ -43,6 +45,7 @@ refused row_item word old new before after is server written counted =
               errors = counted.errors ∙ ap (λ n. n + 1) shows.errors;
             },
           );
+      machine = rw is same;
     }
 
 pub breaks_refused : (row_item : Result Command FeedWord) (word : FeedWord) (old : Run) (before after : Option (List ℕ))
@@ -58,3 +61,12 @@ pub breaks_reopening : (command : Command) (old : Run) (before after : Option (L
     → FailsToWrite (Ok command) old before after
 breaks_reopening command old before after reopens part = λ here shows.
     inr (inr (reopens here.state shows.server, rw (← shows.records) part))
+
+-- a run over a server that has begun shows the start
+pub starts_there : (config : ConfigView) (server : Result Server Stop) (result : Result Run ServeFault)
+    → IfOk server (StartsMachine config) → IfOk result (λ run. server ≡ Ok run.server)
+    → IfOk result (λ run. ShowsStart run.server)
+starts_there config server (Err fault) starts over = tt
+starts_there config server (Ok run) starts over =
+    let begun : StartsMachine config run.server = subst (λ s. IfOk s (StartsMachine config)) over starts in
+    (start_in config.limits config.seats config.blocks, begun.0, begun.1)

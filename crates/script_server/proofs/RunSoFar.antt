@@ -4,6 +4,7 @@ use Rattle.std.specs.{Prelude.true, Prelude.Option, Prelude.None, Prelude.Some, 
 use Rattle.feed_csv.specs.{Commands.item_of, Records.Row, Records.Takes, Records.record_limit, Script.IsOpen, Script.Script}
 use Rattle.script_server.specs.{declared.script.Run.Run, Runs.{IsReady, ShowsRun, IsTurn}, Executions.Executes}
 use Rattle.script_commands.specs.States.{IsRecordResult, Progress, RecordResult, Setup, after_record, beginning, printed}
+use Rattle.script_commands.specs.Servers.{result_of}
 use Rattle.script_server.proofs.Writing.{appends_nothing, appends_then}
 
 -- of the records there were at first, where they are known, these were given, and the others are left
@@ -12,7 +13,7 @@ Leaves None given left = Unit {0}
 Leaves (Some rows) given None = ⊥
 Leaves (Some rows) given (Some rest) = rows ≡ given ++ rest
 
-leaves-none : (first : Option (List Row)) → Leaves first [] first
+pub leaves-none : (first : Option (List Row)) → Leaves first [] first
 leaves-none None = tt
 leaves-none (Some rows) = refl
 
@@ -49,7 +50,7 @@ pub record Reaches (setup : Setup) (first left : Option (List Row)) (run : Run) 
   pub written : Appends before now lines
   pub shows : ShowsRun run here
 
-pub reaches_nothing : (setup : Setup) (first : Option (List Row)) (run : Run) (before : Option (List ℕ))
+abbrev pub reaches_nothing : (setup : Setup) (first : Option (List Row)) (run : Run) (before : Option (List ℕ))
     → ShowsRun run (beginning setup)
     → Reaches setup first first run before before
 reaches_nothing setup first run before shows = record {
@@ -62,20 +63,21 @@ reaches_nothing setup first run before shows = record {
   shows = shows;
 }
 
-pub reaches_more : (setup : Setup) (first : Option (List Row)) (feed feed' : Script) (run run' : Run)
+abbrev pub reaches_more : (setup : Setup) (first : Option (List Row)) (feed feed' : Script) (run run' : Run)
     (before now after : Option (List ℕ))
     → Reaches setup first feed.left run before now → IsTurn feed run now (Ok true) feed' run' after
     → Reaches setup first feed'.left run' before after
 reaches_more setup first feed feed' run run' before now after reached turned =
+    let outcome = result_of turned.2.response turned.2.lines in
     let step = turned.2.step reached.here reached.shows in
     record {
       given = reached.given ++ turned.0 ∷ [];
-      lines = reached.lines ++ printed (reached.here.records + 1) step.0;
-      here = after_record (item_of turned.0) step.0 reached.here;
-      is_run = run-append reached.given turned.0 (beginning setup) reached.here reached.lines step.0 reached.is_run step.1;
+      lines = reached.lines ++ printed (reached.here.records + 1) outcome;
+      here = after_record (item_of turned.0) outcome reached.here;
+      is_run = run-append reached.given turned.0 (beginning setup) reached.here reached.lines outcome reached.is_run step.0;
       leaves = leaves-append first reached.given turned.0 feed.left feed'.left reached.leaves turned.1.left;
-      written = appends_then before now after reached.lines (printed (reached.here.records + 1) step.0) reached.written step.2;
-      shows = step.3;
+      written = appends_then before now after reached.lines (printed (reached.here.records + 1) outcome) reached.written step.1;
+      shows = step.2;
     }
 
 -- a run is ready for the next record again

@@ -4,4 +4,5 @@ pub mod Runs
 pub mod Executions
 pub mod Laws
 pub mod Sessions
+pub mod Segments
 pub mod Examples

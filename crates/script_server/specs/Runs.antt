@@ -10,7 +10,10 @@ use Rattle.script_server.specs.declared.script.{Run.Run, ServeFault.{ServeFault,
 use Rattle.script_server.specs.declared.script.Summary.{Summary}
 use Rattle.script_commands.specs.declared.server.Response.{Response}
 use Rattle.script_commands.specs.declared.server.Response.TheVariants.{Lines, Refused}
-use Rattle.script_commands.specs.{declared.server.Stop.Stop, Servers.{IsServer, ShowsServer}, States.{IsRecordResult, Progress}}
+use Rattle.script_commands.specs.{declared.server.Stop.Stop, States.{IsRecordResult, Progress}}
+use Rattle.script_commands.specs.{Machine.{MovesMachine, ShowsMachine}, Servers.{IsServer, ShowsServer, result_of}}
+use Rattle.script_commands.specs.declared.server.Server.{Server}
+use Rattle.epoch_core.specs.Worlds.{IsStart, MachineState}
 use Rattle.script_server.specs.Writes.{AppendsPart}
 use Rattle.script_commands.specs.States.{RecordResult, Reopens, Setup, after_record, beginning, printed}
 use Rattle.script_commands.specs.declared.server.Stop.TheVariants as stopped
@@ -47,6 +50,10 @@ IsStartup setup before (Err Memory) after = Appends before after (error_line 1 (
 IsStartup setup before (Err Start) after = after ≡ before
 IsStartup setup before (Err Write) after = AppendsPart before after (error_line 1 (Feed word.Memory))
 
+-- the server shows a start of the machine
+abbrev pub ShowsStart : Server → Type 0
+ShowsStart server = (start : MachineState) × IsStart start × ShowsMachine server start.world
+
 -- what is told of a server that did not begin: that no store was opened; or that memory was wanting behind the opening, or that
 -- a write failed where this is told
 abbrev pub TellsStop : {T : Type 0} → Stop → Result T ServeFault → Type 0
@@ -63,14 +70,23 @@ pub record CountsRecord (old : Run) (response : Response) (new : Run) : Type 0 w
   pub records : new.records ≡ old.records + 1
   pub errors : new.errors ≡ old.errors + refusals response
 
--- the record was executed to its end: what it came to was written and counted
+-- the machine does what the server did for the command; where the record is none, the server did nothing
+abbrev pub MovesRecord : Result Command FeedWord → Server → Response → List ℕ → Server → Type 0
+MovesRecord (Ok command) old response lines new = MovesMachine command old response lines new
+MovesRecord (Err word) old response lines new = new ≡ old
+
+-- the record was executed to its end: what it came to was written and counted, and the machine does it too
 pub record CompletesRecord (item : Result Command FeedWord) (old : Run) (before : Option (List ℕ)) (new : Run)
     (after : Option (List ℕ)) : Type 0 where
   pub server : IsServer new.server
   pub records : new.records ≡ old.records + 1
   pub errors : new.errors ≤ old.errors + 1
-  pub step : (here : Progress) → ShowsRun old here → (outcome : RecordResult) × IsRecordResult item here.state outcome
-      × Appends before after (printed (here.records + 1) outcome) × ShowsRun new (after_record item outcome here)
+  pub response : Response
+  pub lines : List ℕ
+  pub step : (here : Progress) → ShowsRun old here → IsRecordResult item here.state (result_of response lines)
+      × Appends before after (printed (here.records + 1) (result_of response lines))
+      × ShowsRun new (after_record item (result_of response lines) here)
+  pub machine : MovesRecord item old.server response lines new.server
 
 -- a write failed: a first part was written of what the record came to, or of the error line of another end
 abbrev pub FailsToWrite : Result Command FeedWord → Run → Option (List ℕ) → Option (List ℕ) → Type 0

@@ -10,7 +10,8 @@ ghost use Rattle.script_commands.specs.States.{Setup, beginning, printed, set_up
 ghost use Rattle.script_commands.specs.Servers.{IsServer, ShowsServer, pending_of, result_of};
 ghost use Rattle.script_server.specs.Texts.{IsText};
 ghost use Rattle.script_server.specs.Runs.{CountsRecord, ExecutesRecord, HasCause, IsFresh, IsReady, IsStartup, IsTurn};
-ghost use Rattle.script_server.specs.Runs.{ShowsRun, TellsStop, is_start, is_write, records_done};
+ghost use Rattle.script_server.specs.Runs.{ShowsRun, ShowsStart, TellsStop, is_start, is_write, records_done};
+ghost use Rattle.script_server.specs.Segments.{IsMachineText};
 ghost use Rattle.script_server.specs.Writes.{AppendsPart, AppendsSome, held};
 ghost use Rattle.script_server.specs.declared.script.ServeFault.TheVariants.{Memory, Write};
 
@@ -80,6 +81,9 @@ pub fn serve<A: AllocGlobal + Threads + Wait + Sync, R: Read + Drop, W: Write>(
     ensures text { IfSome (R.remaining reader) (λ bytes.
         (done : ℕ) × AppendsSome (W.contents writer.old) (W.contents writer.new)
         (IsText (set_up config) (records_of bytes) done result)) }
+    ensures machine { IfSome (R.remaining reader) (λ bytes.
+        (done : ℕ) × AppendsSome (W.contents writer.old) (W.contents writer.new)
+        (IsMachineText (set_up config) (records_of bytes) done result)) }
 {
     let mut feed = Feed::over(rt.alloc(), reader);
     let mut sink = Sink::over(writer);
@@ -113,6 +117,8 @@ pub fn run_script<A: AllocGlobal + Threads + Wait + Sync, R: Read, W: Write>(
     ensures unread { is_start result ≡ true → sink.new.flushed ≡ false → feed.new ≡ feed.old }
     ensures text { IfSome feed.old.left (λ rows. AppendsSome (held W.contents sink.old) (held W.contents sink.new)
         (IsText (set_up config) rows (records_done feed.new) result)) }
+    ensures machine { IfSome feed.old.left (λ rows. AppendsSome (held W.contents sink.old) (held W.contents sink.new)
+        (IsMachineText (set_up config) rows (records_done feed.new) result)) }
 {
     match start(rt, config, sink) {
         Ok(mut run) => turn_all(rt, feed, &mut run, sink),
@@ -132,6 +138,7 @@ fn start<A: AllocGlobal + Wait, W: Write>(
     ensures flushed { OnErr result (is_start result ≡ false → sink.new.failed ≡ false → sink.new.flushed ≡ true) }
     ensures unflushed { is_start result ≡ true → sink.new.flushed ≡ sink.old.flushed }
     ensures starts { IsStartup (set_up config) (held W.contents sink.old) result (held W.contents sink.new) }
+    ensures machine { IfOk result (λ run. ShowsStart run.server) }
 {
     begun(rt.alloc(), Server::begin(rt, config), sink)
 }
@@ -151,6 +158,7 @@ fn begun<W: Write>(
     ensures unflushed { is_start result ≡ true → sink.new.flushed ≡ sink.old.flushed }
     ensures starts { (setup : Setup) → IfOk server (λ server. ShowsServer server (beginning setup).state)
         → IsStartup setup (held W.contents sink.old) result (held W.contents sink.new) }
+    ensures over { IfOk result (λ run. server ≡ Ok run.server) }
     ensures told { IfErr server (λ stop. TellsStop stop result) }
 {
     match server {
@@ -168,6 +176,7 @@ impl Run {
     fn over(alloc: Global, server: Server) -> Run
         requires { IsServer server }
         ensures server { IsServer result.server }
+        ensures over { result.server ≡ server }
         ensures counts { (result.records ≡ 0) × (result.errors ≡ 0) }
         ensures beginning { (setup : Setup) → ShowsServer server (beginning setup).state → ShowsRun result (beginning setup) }
     {
@@ -297,6 +306,10 @@ fn turn_all<P: Threads + Wait + Sync, R: Read, W: Write>(
     ensures flushed { sink.new.failed ≡ false → sink.new.flushed ≡ true }
     ensures text { IfSome feed.old.left (λ rows. (setup : Setup) → ShowsRun run.old (beginning setup)
         → AppendsSome (held W.contents sink.old) (held W.contents sink.new) (IsText setup rows (records_done feed.new) result)) }
+    ensures machine { IfSome feed.old.left (λ rows. (setup : Setup) → ShowsRun run.old (beginning setup)
+        → ShowsStart run.old.server
+        → AppendsSome (held W.contents sink.old) (held W.contents sink.new)
+        (IsMachineText setup rows (records_done feed.new) result)) }
 {
     'records: loop {
         match turn(rt, feed, run, sink) {

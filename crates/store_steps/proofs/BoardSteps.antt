@@ -1,5 +1,5 @@
 -- The board's calls are the machine's steps.
-use Rattle.std.proofs.Common.{◌≡◌, ℕ, ◌<◌, ◌≤◌, List, length, true, sym, ap, ◌∙◌, arith}
+use Rattle.std.proofs.Common.{◌≡◌, ℕ, ◌<◌, ◌≤◌, List, length, get_or, true, sym, ap, ◌∙◌, arith}
 use Rattle.std.proofs.lemmas.Bool.{cases_eq}
 use Rattle.std.proofs.lemmas.List.{get_or_default, get_or-set_same, get_or-set_other, length-map, length-replicate, same_lists}
 use Rattle.std.{proofs.lemmas.Grind.common_steps, specs.Prelude.{None, Option, Some, option_map}}
@@ -63,7 +63,8 @@ settles_as_machine b w s n board low shows held below after is =
 -- The copy of the pins: the board's is the machine's
 
 -- lists of one length with the same at each place are the same
-same_elements : (xs ys : List (Option Pin)) → length xs ≡ length ys → ((s : ℕ) → pin_at xs s ≡ pin_at ys s) → xs ≡ ys
+pub same_elements : {A : Type 0} (xs ys : List (Option A)) → length xs ≡ length ys
+    → ((s : ℕ) → get_or xs s None ≡ get_or ys s None) → xs ≡ ys
 same_elements xs ys long same = same_lists xs ys long
     (λ k d h. get_or_default xs k d None h ∙ same k ∙ get_or_default ys k None d (omega (arith, h, long)))
 

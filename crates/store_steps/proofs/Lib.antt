@@ -23,3 +23,13 @@ pub mod Examples
 pub mod Held
 pub mod ExactCollection
 pub mod Dated
+pub mod SeatCalls
+pub mod SameBoards
+pub mod Questions
+pub mod Stages
+pub mod Entering
+pub mod Seating
+pub mod Questioning
+pub mod Laps
+pub mod Waits
+pub mod Merges

@@ -19,16 +19,16 @@ use Rattle.store_steps.specs.Reached.{Store, opened_store, world_by, IsReached, 
 use Rattle.store_steps.proofs.BoardSteps.{pins_as_machine, settles_as_machine, unpins_as_machine, raises_as_machine}
 use Rattle.store_steps.proofs.{Histories.done_is_run, Histories.readers_are_unseen, OpeningShown.no_pin, OpeningShown.opens_blank}
 
-run_more : (es fs : List Event) (w : World) → run (es ++ fs) w ≡ run fs (run es w)
+pub run_more : (es fs : List Event) (w : World) → run (es ++ fs) w ≡ run fs (run es w)
 run_more [] fs w = refl
 run_more (e ∷ es) fs w = run_more es fs (next_world w e)
 
 -- one event more
-run_next : (es : List Event) (e : Event) (w after : World) → step (run es w) e ≡ Some after → after ≡ run (es ++ e ∷ []) w
+pub run_next : (es : List Event) (e : Event) (w after : World) → step (run es w) e ≡ Some after → after ≡ run (es ++ e ∷ []) w
 run_next es e w after is = sym (run_more es (e ∷ []) w ∙ ap (λ o. unwrap_or o (run es w)) is)
 
 -- what the desk's steps leave is reached, and the board shows it as before
-taken_reached : (start : World) (s : Store) (new : DeskView) (events more : List Event)
+pub taken_reached : (start : World) (s : Store) (new : DeskView) (events more : List Event)
     → IsTaken (world_by start events) more new → Leads start events s more (record s { desk = new })
 taken_reached start s new events more t r =
     let there : t.after ≡ world_by start (events ++ more) =
@@ -103,7 +103,7 @@ move_done w s change session next found is = (
 some_step : (o : Option World) → is_some o ≡ true → (after : World) × (o ≡ Some after)
 some_step o is = grind (arith, common_steps)
 
-idle_if : (session : SessionState) → seat_pin session ≡ None → session ≡ Idle
+pub idle_if : (session : SessionState) → seat_pin session ≡ None → session ≡ Idle
 idle_if session is = grind (arith, common_steps)
 
 pin_done : (start : World) (s : Store) (seat : ℕ) (events : List Event) → IsReached start events s

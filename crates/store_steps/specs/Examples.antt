@@ -1,7 +1,9 @@
 -- Small stores worked out by hand: journals that replay and journals that don't, a desk and a world that it shows, the
--- events of a batch and of a collection, and a board beside sessions.
-use Rattle.std.specs.{Prelude.{◌≡◌, pos, ℕ, List, [], ◌∷◌, ◌++◌, map, replicate, true, false, Some, None}, List.range_with_len}
+-- events of a batch and of a collection, a board beside sessions, and the calls of a store that threads share.
+use Rattle.std.specs.{Prelude.{◌≡◌, pos, ℕ, List, [], ◌∷◌, ◌++◌, map, filter, replicate, true, false}, List.range_with_len}
+use Rattle.std.specs.Prelude.{Some, None, Err}
 use Rattle.graph_types.specs.{Graph.graph_of, Graph.content_of, Step.empty_graph, declared.contents.Content.Content}
+use Rattle.graph_types.specs.declared.requests.AskError.TheVariants.{NoKind}
 use Rattle.edge_block.specs.{Slots.BlockView, Slots.edge_slot, Rows.OpenBlock, Rows.Shape, Rows.row_end}
 use Rattle.edge_block.specs.Examples.{insert_at, remove_at, row_by, many}
 use Rattle.graph_version.specs.Versions.{VersionView, empty_version}
@@ -10,12 +12,15 @@ use Rattle.block_reclamation.specs.{declared.status.BlockStatus.BlockStatus, Boa
 use Rattle.block_reclamation.specs.declared.status.BlockStatus.TheVariants.{Free, Used, Retired, Granted}
 use Rattle.block_reclamation.specs.{declared.copies.PinCopy.PinCopy, Copies.no_copy, Copies.unsettled}
 use Rattle.epoch_core.specs.declared.session_states.SessionState.TheVariants.{Idle, Pinned, Holding}
-use Rattle.epoch_core.specs.declared.events.Event.TheVariants.{Take, Fill, Post, Recycle, Pin, Enter}
-use Rattle.epoch_core.specs.Examples.{name_a, name_b, kind_k, put_edge, edge_of}
-use Rattle.epoch_core.specs.Worlds.{World, empty_opening, start_world, session_of, held_in}
+use Rattle.epoch_core.specs.declared.events.Event.{Event, TheVariants.{Take, Fill, Post, Recycle, Pin, Enter}}
+use Rattle.epoch_core.specs.Examples.{name_a, name_b, kind_k, put_edge, edge_of, ask_edge}
+use Rattle.epoch_core.specs.{Runs.run, Worlds.{World, empty_opening, start_world, session_of, held_in}}
 use Rattle.store_steps.specs.Journal.{Entry, Applied, Collected, Ledger, opened_ledger, replay}
 use Rattle.store_steps.specs.{Desks.DeskView, Desks.desk_after, Desks.collections, Steps.all_done, Steps.posting, Steps.recycling}
-use Rattle.store_steps.specs.{Shown.ShowsWorld, Boards.ShowsBoard, Opening.opened_desk, Opening.opened_start, Reached.world_by}
+use Rattle.store_steps.specs.{Shown.ShowsWorld, Boards.ShowsBoard, Opening.opened_desk, Opening.opened_start}
+use Rattle.store_steps.specs.Reached.{Store, opened_store, world_by}
+use Rattle.store_steps.specs.Merges.{Call, Asks, Applies, Raises, Pins, Settles, Unpins, Enters, is_desks, is_of, next_store, events_of}
+use Rattle.store_steps.specs.Merges.{AreLocked, EntersInOrder}
 
 -- a copy without pins
 abbrev pub unpinned : ℕ → PinCopy
@@ -111,6 +116,34 @@ world_of_two = record (start_world 0 0) {
   sessions = Pinned 1 ∷ Holding (record { pin = 2; settled = true; version = 2 }) ∷ Idle ∷ [];
 }
 
+-- Two locks
+
+-- what the board's lock saw, and a question: seat 0 enters version 1, and then seat 1, which is pinned later, enters version 0 and
+-- is told that there is no such kind
+abbrev pub crossed_copy : PinCopy
+crossed_copy = record no_copy { last = 1; settled = Some 1 ∷ Some 0 ∷ replicate 14 None }
+
+abbrev pub crossed_board : List Call
+crossed_board = Pins 0 ∷ Settles 0 1 ∷ Pins 1 ∷ Settles 1 0 ∷ Asks 1 0 ask_edge (Err NoKind) ∷ Raises crossed_copy ∷ []
+
+-- what the desk's lock saw: a batch without operations, which is version 1
+abbrev pub blank_desk : DeskView
+blank_desk = desk_after (opened_desk 3 empty_version) [] (record empty_version { batches = [] ∷ [] }) [] []
+
+abbrev pub crossed_desk : List Call
+crossed_desk = Applies [] [] blank_desk ∷ Raises crossed_copy ∷ []
+
+-- one order of both: seat 1 comes first
+abbrev pub crossed_order : List Call
+crossed_order =
+    Pins 1 ∷ Enters 1 ∷ Settles 1 0 ∷ Asks 1 0 ask_edge (Err NoKind) ∷ Pins 0 ∷ Applies [] [] blank_desk ∷ Enters 0 ∷ Settles 0 1
+    ∷ Raises crossed_copy ∷ []
+
+-- the events of calls from a world and a store on
+abbrev pub events_by : World → Store → List Call → List Event
+events_by w s [] = []
+events_by w s (c ∷ cs) = events_of w s c ++ events_by (run (events_of w s c) w) (next_store s c) cs
+
 pub record AreExamples : Type 0 where
   -- two batches leave block 0 retired with number 2; a collection without pins frees it
   pub batches : replay two_batches four_free
@@ -180,3 +213,21 @@ pub record AreExamples : Type 0 where
   -- the board shows the sessions' pins, settled and unsettled
   pub board : ShowsBoard board_of_two world_of_two
   pub settled : (w : World) → ShowsBoard board_of_two (record w { sessions = Pinned 1 ∷ Pinned 2 ∷ [] }) → ⊥
+  -- what two locks saw: each call meets its contract, though seat 1 is pinned after seat 0 and enters an older version
+  pub crossed : AreLocked 2 (opened_desk 3 empty_version) crossed_desk crossed_board
+  -- the order keeps the desk's calls and each seat's
+  pub crossed_desks : filter is_desks crossed_order ≡ crossed_desk
+  pub crossed_seats : (filter (is_of 0) crossed_order ≡ filter (is_of 0) crossed_board)
+      × (filter (is_of 1) crossed_order ≡ filter (is_of 1) crossed_board)
+  -- its events are all done, and leave each seat with its version, and this copy
+  pub crossed_done : all_done (events_by (start_world 2 3) (opened_store (opened_desk 3 empty_version)) crossed_order) (start_world 2 3)
+      ≡ Some (record (start_world 2 3) {
+        versions = record { batch = []; blocks = []; names = []; kinds = [] } ∷ [];
+        copy = crossed_copy;
+        sessions = Holding (record { pin = 1; settled = true; version = 1 })
+            ∷ Holding (record { pin = 0; settled = true; version = 0 }) ∷ [];
+      })
+  -- not in order: an entry below what the raise before its pin saw, one below what the seat entered before, one that isn't posted
+  pub entered_below : EntersInOrder 1 0 0 (Raises (unpinned 1) ∷ Pins 0 ∷ Settles 0 0 ∷ []) → ⊥
+  pub entered_back : EntersInOrder 1 0 0 (Pins 0 ∷ Settles 0 1 ∷ Unpins 0 ∷ Pins 0 ∷ Settles 0 0 ∷ []) → ⊥
+  pub entered_early : EntersInOrder 1 0 0 (Pins 0 ∷ Settles 0 1 ∷ Raises (unpinned 0) ∷ []) → ⊥

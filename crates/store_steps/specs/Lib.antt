@@ -6,6 +6,7 @@ pub mod Steps
 pub mod Histories
 pub mod Opening
 pub mod Reached
+pub mod Merges
 pub mod Examples
 pub mod Held
 pub mod Dates

@@ -24,6 +24,7 @@ ghost use Rattle.store_steps.specs.Opening.{IsVersionZero, OpensAsMachine, Opens
 ghost use Rattle.store_steps.specs.Reached.{IsReached, StaysReached, opened_store};
 ghost use Rattle.store_steps.specs.Held.{CollectionIsExact, HeldIsSnapshot};
 ghost use Rattle.store_steps.specs.Dates.{AreDated};
+ghost use Rattle.store_steps.specs.Merges.{LocksAreOneRun};
 ghost use Rattle.store_steps.specs.Examples.{AreExamples};
 
 /// Replay of a journal.
@@ -139,6 +140,20 @@ pub fn law_held_versions()
 /// So a copy of the pins whose last number is the desk's needs a retired block for its pins alone.
 pub fn law_dated()
     ensures { (d : DeskView) → IsDesk d → AreDated d.opened (length d.last.batches) d.pool }
+{}
+
+/// Two locks, one run: a list of the desk's calls, and a list of the board's with the questions of sessions, each known alone,
+/// have one order that is a run of the machine, if both lists have the same raises with the same copies of the pins.
+///
+/// - The order keeps that of the desk's calls and, for each seat, that of its calls, its questions and the raises. Between two
+///   raises calls of different seats may change places. A session enters where the version that it settles at is the last one.
+/// - The events of each call are all done, and reach what the call leaves of the store. A seat that settles holds the version
+///   of that number, and the machine replies to each question with the answer that the session got.
+/// - In the end desk and board are those that the two lists leave.
+/// - It assumes that each entry gives at least the version that the raise before its pin saw, at least what the seat entered
+///   before, and a version that is posted by the next raise; and that the answer to a question is one over its version.
+pub fn law_merges()
+    ensures { LocksAreOneRun }
 {}
 
 /// Small stores worked out by hand: journals that replay and journals that don't, a desk and a world that it shows, the

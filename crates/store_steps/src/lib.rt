@@ -16,5 +16,5 @@ mod laws;
 
 pub use laws::{
     law_accepted, law_board_steps, law_collected, law_dated, law_examples, law_held_versions,
-    law_histories, law_journal, law_opening_shown, law_stays_reached,
+    law_histories, law_journal, law_merges, law_opening_shown, law_stays_reached,
 };

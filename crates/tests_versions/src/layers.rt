@@ -3,6 +3,7 @@
 mod blanks;
 mod drafts;
 mod journals;
+mod ranks;
 mod shards;
 mod shelves;
 mod tables;

@@ -92,6 +92,12 @@ const OF_EIGHT: &str =
 /// An expiry beside an insertion and a removal.
 const EXPIRING: &str = "i,k,a,b,1,1 x,5 r,k,z,a";
 
+/// 17 operations: the third vertex is the source of the second one, and the second vertex that of the third.
+const SHUFFLED: &str = "i,k,a,b,1,1 i,k,c,b,1,1 i,k,b,a,1,1 14*i,k,c,a,1,1";
+
+/// Sources rise from 17 operations on.
+const OF_SHUFFLED: &str = "3 1 17; 0: 0@0 1@2 2@1 3@2 ..16@2 of 0 1 2";
+
 /// As many kinds as a graph may have: one more is refused, as a test of limits says.
 const KINDS: &str = "64*i,k#,a,b,1,1";
 
@@ -117,16 +123,22 @@ fn plans_by_source(rt: HostRuntime) {
         2,
         "2 1 2; 0: 0@0 1@* 2@- of 0; 0: 1@* of",
     );
+    check_plan(&rt, rt.alloc(), SHUFFLED, 1, OF_SHUFFLED);
     check_plan(&rt, rt.alloc(), KINDS, 2, "2 64 64; 0: 0@0 1@0 ..");
     law_sources_within();
 }
 
 /// The plan has its text, or memory was refused.
-fn check_refused(rt: &(impl Abort + Print), told: Result<String, PlanError>) {
+fn check_refused(
+    rt: &(impl Abort + Print),
+    told: Result<String, PlanError>,
+    wanted: &str,
+    ops: &str,
+) {
     match told {
-        Ok(text) => check_text(rt, text.as_str(), OF_TWO, BATCH),
+        Ok(text) => check_text(rt, text.as_str(), wanted, ops),
         Err(error) => {
-            check_so(rt, matches!(error, PlanError::OutOfMemory), BATCH);
+            check_so(rt, matches!(error, PlanError::OutOfMemory), ops);
             tell_refused(rt);
         }
     }
@@ -136,7 +148,13 @@ fn check_refused(rt: &(impl Abort + Print), told: Result<String, PlanError>) {
 #[test]
 fn refused_plan_leaves_the_version(rt: HostRuntime) {
     let version = Version::empty(rt.alloc());
-    check_refused(&rt, told(rt.alloc(), &version, BATCH, 2));
+    check_refused(&rt, told(rt.alloc(), &version, BATCH, 2), OF_TWO, BATCH);
+    check_refused(
+        &rt,
+        told(rt.alloc(), &version, SHUFFLED, 1),
+        OF_SHUFFLED,
+        SHUFFLED,
+    );
     assert_eq!(rt; version.names().len(), 0);
     assert_eq!(rt; version.kinds().len(), 0);
 }

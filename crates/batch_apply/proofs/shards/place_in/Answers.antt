@@ -1,12 +1,24 @@
-use Rattle.std.proofs.Common.{◌≤◌, ◌+◌, ◌++◌, ◌∷◌, [], ℕ, List, true, false, cond, length, length-append, nat_eq, ap, sym, ◌∙◌}
+use Rattle.std.proofs.Common.{◌≡◌, ◌≤◌, ◌+◌, ◌++◌, ◌∷◌, [], ℕ, List, true, false, cond, length, length-append, nat_eq, ap, sym, subst, ◌∙◌}
 use Rattle.std.proofs.{Common.arith, lemmas.{List.length-map, Option.{get_or_from_slice_get, slice_get_within}}}
 use Rattle.std.specs.{List.list_any, Option.option_map, declared.option.Option.{Option, TheVariants.Some}}
 use Rattle.graph_types.specs.{Graph.Key, declared.ids.VertexId.VertexId}
+use Rattle.std.specs.Prelude.{IfSome}
+use Rattle.batch_apply.specs.{FirstSources.{AreNext, source_in}, declared.own_sources.Places.Places}
 use Rattle.batch_apply.specs.{Plan.key_of, Shards.{source_numbers, with_number, with_source}, declared.resolve.EdgeKey.EdgeKey}
 use Rattle.batch_apply.proofs.shards.place_in.Goals as goal
 
+-- the next place is for the key
+given : (key : Option EdgeKey) (k : EdgeKey) (places : Option Places) (sources rest : List ℕ) → key ≡ Some k
+    → IfSome places (AreNext sources (source_in (option_map key_of key) ++ rest))
+    → IfSome places (AreNext sources (k.source ∷ rest))
+given key k places sources rest is are =
+    subst (λ (o : Option EdgeKey). IfSome places (AreNext sources (source_in (option_map key_of o) ++ rest))) is are
+
 pub place_of-requires : goal.place_of-requires
-place_of-requires c = record { same = c.requires.same }
+place_of-requires c = record {
+  next = let (rest, are) = c.requires.next in
+      (rest, given c.args.key c.in-Some.key c.args.places.now (source_numbers c.args.sources.now.items) rest c.in-Some.is are);
+}
 
 -- the key from another source
 abbrev key_from : EdgeKey → ℕ → Option Key
@@ -26,7 +38,8 @@ returns c =
     let number : VertexId → ℕ = λ (s : VertexId). s.0 in
     let found = c.in_ok-row.ensures in
     record {
-      same = found.same;
+      next = λ rest are. found.next rest
+          (given c.args.key c.in-Some.key c.args.places.now (source_numbers c.args.sources.now.items) rest c.in-Some.is are);
       sources = found.sources
           ∙ ap (λ (k : Option EdgeKey). with_source (option_map key_of k) (source_numbers old)) (sym c.in-Some.is);
       key = ap (key_from c.in-Some.key)

@@ -1,6 +1,7 @@
 use Rattle.std.proofs.Common.{refl, ◌∙◌}
 use Rattle.script_server.proofs.{RunEnd.cause_ended, RunEnd.cause_stopped, RunTexts.all_ended, RunTexts.all_stopped}
 use Rattle.script_server.proofs.RunSoFar.{reaches_more, reaches_nothing, ready_more}
+use Rattle.script_server.proofs.SegmentTexts.{joined_ended, joined_stopped, together_more, together_nothing}
 use Rattle.script_server.proofs.script.turn_all.Goals as goal
 
 pub records-init : goal.records-init
@@ -9,6 +10,7 @@ records-init g c = record {
   working = c.requires.working;
   same = refl;
   reaches = λ setup shows. reaches_nothing setup _ _ _ shows;
+  machine = λ setup shows starts. together_nothing setup _ _ _ c.requires.ready.server shows starts;
 }
 
 pub records-preserved : goal.records-preserved
@@ -19,6 +21,8 @@ records-preserved g c =
       working = c.in-Ok-true.ensures.failed;
       same = c.in-Ok-true.ensures.same_writer ∙ c.records.invariant.same;
       reaches = λ setup shows. reaches_more setup _ _ _ _ _ _ _ _ (c.records.invariant.reaches setup shows) turned;
+      machine = λ setup shows starts.
+          together_more setup _ _ _ _ _ _ _ _ (c.records.invariant.machine setup shows starts) turned;
     }
 
 pub returns-in-Err-clause-cause : goal.returns-in-Err-clause-cause
@@ -26,6 +30,9 @@ returns-in-Err-clause-cause g c = cause_stopped _ _ _ _ _ _ _ _ c.in-Err.ensures
 
 pub returns-in-Err-clause-text : goal.returns-in-Err-clause-text
 returns-in-Err-clause-text g c = all_stopped _ _ _ _ _ _ _ _ _ _ c.records.invariant.reaches c.in-Err.ensures.turns
+
+pub returns-in-Err-clause-machine : goal.returns-in-Err-clause-machine
+returns-in-Err-clause-machine g c = joined_stopped _ _ _ _ _ _ _ _ _ _ c.records.invariant.machine c.in-Err.ensures.turns
 
 pub returns-in-Ok-false-clause-cause : goal.returns-in-Ok-false-clause-cause
 returns-in-Ok-false-clause-cause g c =
@@ -36,6 +43,17 @@ returns-in-Ok-false-clause-cause g c =
 pub returns-in-Ok-false-clause-text : goal.returns-in-Ok-false-clause-text
 returns-in-Ok-false-clause-text g c =
     all_ended _ _ _ _ _ _ _ _ _ _ c.finish.result c.records.invariant.ready c.records.invariant.reaches
+    (rw c.in-Ok-false.field-0-test at c.in-Ok-false.ensures.turns)
+    (record {
+      whole = c.finish.ensures.whole;
+      summary = c.finish.ensures.summary;
+      part = c.finish.ensures.part;
+      fault = c.finish.ensures.fault;
+    })
+
+pub returns-in-Ok-false-clause-machine : goal.returns-in-Ok-false-clause-machine
+returns-in-Ok-false-clause-machine g c =
+    joined_ended _ _ _ _ _ _ _ _ _ _ c.finish.result c.records.invariant.ready c.records.invariant.machine
     (rw c.in-Ok-false.field-0-test at c.in-Ok-false.ensures.turns)
     (record {
       whole = c.finish.ensures.whole;

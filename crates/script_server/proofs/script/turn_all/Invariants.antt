@@ -1,8 +1,8 @@
 use Rattle.std.proofs.Common.{◌≡◌, ◌-◌, false}
 use Rattle.feed_csv.specs.Records.{record_limit}
-use Rattle.script_server.specs.Runs.{IsReady, ShowsRun}
+use Rattle.script_server.specs.Runs.{IsReady, ShowsRun, ShowsStart}
 use Rattle.script_server.specs.Writes.{held}
-use Rattle.script_server.proofs.RunSoFar.{Reaches}
+use Rattle.script_server.proofs.{RunSoFar.Reaches, SegmentTexts.Together}
 use Rattle.script_commands.specs.States.{Setup, beginning}
 use Rattle.script_server.proofs.script.turn_all.Given as goal
 
@@ -13,6 +13,9 @@ invariant-records g l = record {
   same : l.sink.writer.ghost_name ≡ l.initial.sink.writer.ghost_name;
   reaches : (setup : Setup) → ShowsRun l.initial.run (beginning setup)
       → Reaches setup l.initial.feed.left l.feed.left l.run (held g.W.Write.contents l.initial.sink)
+      (held g.W.Write.contents l.sink);
+  machine : (setup : Setup) → ShowsRun l.initial.run (beginning setup) → ShowsStart l.initial.run.server
+      → Together setup l.initial.feed.left l.feed.left l.run (held g.W.Write.contents l.initial.sink)
       (held g.W.Write.contents l.sink);
 }
 

@@ -1,7 +1,13 @@
-use Rattle.std.proofs.{Common.{◌∙◌, sym, refl, take, arith}, Math.ListN.length-set}
+use Rattle.std.proofs.{Common.{◌∙◌, ap, sym, refl, take, arith}, Math.ListN.length-set}
 use Rattle.block_reclamation.specs.{declared.status.BlockStatus.TheVariants.Used, Status.{is_free, is_retired}}
-use Rattle.block_pool.{specs.Kept.statuses, proofs.{Tallies.{lists_same, used_at, count_kept}, Stacking.sorted_set}}
+use Rattle.block_pool.specs.{Kept.statuses, Paging.Paged}
+use Rattle.block_pool.proofs.{Tallies.{lists_same, used_at, count_kept}, Stacking.sorted_set, Rooms.roomy_set}
 use Rattle.block_pool.proofs.numbers.Numbers.born.Goals as goal
+
+pub set-requires : goal.set-requires
+set-requires c =
+    let at = used_at (statuses c.args.self.now) c.args.number c.requires.used in
+    record { within = at.within; room = c.requires.kept.roomy.status c.args.number at.within at.not_free }
 
 pub returns-clause-kept : goal.returns-clause-kept
 returns-clause-kept c =
@@ -9,7 +15,7 @@ returns-clause-kept c =
     let k = c.requires.kept in
     let at = used_at (statuses n) c.args.number c.requires.used in
     let long_after = length-set n.statuses.items c.args.number (Used c.args.version) in
-    record {
+    rw c.set.ensures (record {
       few = omega (arith, k.few);
       free_room = omega (arith, k.free_room);
       bound = omega (arith, k.bound);
@@ -21,7 +27,8 @@ returns-clause-kept c =
           ∙ sym (count_kept is_retired (statuses n) c.args.number (Used c.args.version) at.within at.not_retired);
       sorted = sorted_set k.sorted c.args.number (Used c.args.version) at.within
           at.not_retired refl (λ _. refl);
-    }
+      roomy = roomy_set k.roomy c.args.number (Used c.args.version) _ at.within (omega arith) (λ _. at.not_free);
+    })
 
 pub returns-clause-statuses : goal.returns-clause-statuses
-returns-clause-statuses c = refl
+returns-clause-statuses c = ap (λ (st : Paged _). st.items) c.set.ensures

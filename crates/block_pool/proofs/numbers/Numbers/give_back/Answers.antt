@@ -1,15 +1,22 @@
-use Rattle.std.proofs.Common.{◌∙◌, set, sym, subst, refl, take, arith}
-use Rattle.std.proofs.{Math.ListN.length-set, lemmas.List.take_more_set}
+use Rattle.std.proofs.Common.{◌∙◌, ap, set, sym, subst, refl, take, arith}
+use Rattle.std.proofs.{Math.ListN.length-set, lemmas.{List.take_more_set, Bool.true≢false}}
 use Rattle.block_reclamation.specs.{declared.status.BlockStatus.TheVariants.Free, Status.{is_free, is_retired}}
-use Rattle.block_pool.specs.Kept.{statuses, Lists}
-use Rattle.block_pool.proofs.{Tallies.lists_more, Tallies.used_at, Tallies.count_kept, Grants.free_places, Stacking.sorted_set}
+use Rattle.block_pool.specs.{Kept.{statuses, Lists}, Paging.Paged}
+use Rattle.block_pool.proofs.{Tallies.lists_more, Tallies.used_at, Tallies.count_kept, Grants.free_places, Stacking.sorted_set, Rooms.roomy_set}
 use Rattle.block_pool.proofs.numbers.Numbers.give_back.Goals as goal
 
-pub index_mut-requires-2 : goal.index_mut-requires-2
-index_mut-requires-2 c =
+pub set-requires : goal.set-requires
+set-requires c =
     let n = c.args.self.now in
     let at = used_at (statuses n) c.args.number c.requires.used in
-    omega (arith, free_places n c.requires.kept c.args.number at.within at.not_free)
+    record { within = at.within; room = c.requires.kept.roomy.status c.args.number at.within at.not_free }
+
+pub set-requires-2 : goal.set-requires-2
+set-requires-2 c =
+    let n = c.args.self.now in
+    let at = used_at (statuses n) c.args.number c.requires.used in
+    let lt = free_places n c.requires.kept c.args.number at.within at.not_free in
+    record { within = lt; room = c.requires.kept.roomy.last n.free_len (omega arith) (omega (arith, lt, c.requires.kept.free_room)) }
 
 pub returns-clause-kept : goal.returns-clause-kept
 returns-clause-kept c =
@@ -19,7 +26,7 @@ returns-clause-kept c =
     let lt = free_places n k c.args.number at.within at.not_free in
     let long_after = length-set n.statuses.items c.args.number Free in
     let free = length-set n.free.items n.free_len c.args.number in
-    record {
+    rw (c.set.ensures, c.set-2.ensures) (record {
       few = omega (arith, k.few);
       free_room = omega (arith, k.free_room);
       bound = omega (arith, k.bound);
@@ -33,7 +40,8 @@ returns-clause-kept c =
           ∙ sym (count_kept is_retired (statuses n) c.args.number Free at.within at.not_retired);
       sorted = sorted_set k.sorted c.args.number Free at.within at.not_retired refl
           (λ _. refl);
-    }
+      roomy = roomy_set k.roomy c.args.number Free _ at.within (omega arith) (λ e. absurd (true≢false e));
+    })
 
 pub returns-clause-statuses : goal.returns-clause-statuses
-returns-clause-statuses c = refl
+returns-clause-statuses c = ap (λ (st : Paged _). st.items) c.set.ensures

@@ -1,5 +1,6 @@
-use Rattle.std.proofs.{Common.{length, ◌≡◌, ◌∙◌, ℕ, List, sym, ap, ap₂, arith}, Math.ListN.length-set}
-use Rattle.block_pool.specs.{Chains.{Stacks, stack_of, below_top}, Kept.{top_of, put_on, taken_off}}
+use Rattle.std.proofs.{Common.{length, ◌≡◌, ◌∙◌, ℕ, List, sym, ap, ap₂, subst, arith}, Math.ListN.length-set}
+use Rattle.block_pool.specs.{Chains.{Stacks, stack_of, below_top}, Kept.{top_of, put_on, taken_off}, Paging.HasRoom}
+use Rattle.block_pool.proofs.Tallies.{retired_not_free}
 use Rattle.block_pool.proofs.Stacking.{restacked, top_listed, top_absent, top_room, sorted_moved}
 use Rattle.block_pool.proofs.numbers.Numbers.move_top.Goals as goal
 
@@ -28,6 +29,8 @@ push-requires c =
       number = omega (arith, k.bound);
       absent = rw (off, num) (top_absent k.sorted c.args.from c.requires.from c.requires.some);
       room = omega (arith, k.bound);
+      link = subst (λ (s : Stacks). HasRoom s.rooms c.top-number.result) (sym c.pop.ensures)
+          (subst (HasRoom n.retired.rooms) (sym num) (k.roomy.link _ low (retired_not_free _ is.1)));
     }
 
 pub returns-clause-lists : goal.returns-clause-lists
@@ -39,6 +42,7 @@ pub returns-clause-kept : goal.returns-clause-kept
 returns-clause-kept c =
     let k = c.requires.kept in
     restacked c.args.self.now k c.push.new.self _ _
-    (ap (λ (s : Stacks). s.bound) c.push.ensures ∙ ap (λ (s : Stacks). s.bound) c.pop.ensures) k.seats
+    (ap (λ (s : Stacks). s.bound) c.push.ensures ∙ ap (λ (s : Stacks). s.bound) c.pop.ensures)
+    (ap (λ (s : Stacks). s.rooms) c.push.ensures ∙ ap (λ (s : Stacks). s.rooms) c.pop.ensures) k.seats
     (rw (returns-clause-lists c)
     (sorted_moved k.sorted c.args.from c.requires.from c.requires.some c.args.to c.requires.to c.requires.fits))

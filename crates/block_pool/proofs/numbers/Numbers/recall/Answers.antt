@@ -10,7 +10,7 @@ pub returns-clause-kept : goal.returns-clause-kept
 returns-clause-kept c =
     let n = c.loosen.new.self in
     let k = c.loosen.ensures.kept in
-    restacked n k n.retired n.pins _ refl k.seats (sorted_least k.sorted _ c.loosen.ensures.empty)
+    restacked n k n.retired n.pins _ refl refl k.seats (sorted_least k.sorted _ c.loosen.ensures.empty)
 
 pub returns-clause-late : goal.returns-clause-late
 returns-clause-late c = rw c.loosen.ensures.empty (needed_none c.args.copy.now (statuses c.loosen.new.self))

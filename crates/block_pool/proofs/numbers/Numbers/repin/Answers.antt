@@ -6,7 +6,7 @@ pub returns-clause-kept : goal.returns-clause-kept
 returns-clause-kept c =
     let n = c.loosen.new.self in
     let k = c.loosen.ensures.kept in
-    restacked n k n.retired _ n.least refl (length-set n.pins c.args.seat c.args.pin ∙ k.seats)
+    restacked n k n.retired _ n.least refl refl (length-set n.pins c.args.seat c.args.pin ∙ k.seats)
     (sorted_pin k.sorted c.args.seat c.args.pin c.loosen.ensures.empty)
 
 pub returns-clause-statuses : goal.returns-clause-statuses

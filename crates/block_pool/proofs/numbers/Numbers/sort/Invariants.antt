@@ -1,4 +1,4 @@
-use Rattle.std.proofs.Common.{◌≡◌, ◌≤◌, ◌+◌, map, count_by, length}
+use Rattle.std.proofs.Common.{◌≡◌, ◌+◌, map, count_by, length}
 use Rattle.block_pool.specs.{Chains.stack_of, declared.numbers.TheConstants.{LOOSE, LATE}, Kept.{statuses, AreNeeded, HasPins}}
 use Rattle.block_pool.specs.Kept.{IsNumbers}
 use Rattle.block_reclamation.specs.Status.{recycled, is_reclaimable}
@@ -11,7 +11,8 @@ invariant-sort l = record {
   late : AreNeeded l.copy (statuses l.self) (stack_of l.self.retired.lists LATE);
   after : map (recycled l.copy) (statuses l.self) ≡ map (recycled l.copy) (statuses l.initial.self);
   counted : l.count + count_by (is_reclaimable l.copy) (statuses l.self) ≡ count_by (is_reclaimable l.copy) (statuses l.initial.self);
-  free : l.count ≤ l.self.free_len;
+  free : l.self.free_len ≡ l.initial.self.free_len + l.count;
+  places : l.self.free.rooms ≡ l.initial.self.free.rooms;
 }
 
 abbrev pub decreases-sort : goal.decreases-sort

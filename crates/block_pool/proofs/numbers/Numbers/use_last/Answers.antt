@@ -1,10 +1,14 @@
-use Rattle.std.proofs.Common.{◌∙◌, ◌-◌, ℕ, List, sym, ap, arith}
+use Rattle.std.proofs.{Common.{◌∙◌, ◌-◌, ◌+◌, ℕ, List, length, sym, ap, arith}, Math.ListN.length-set}
 use Rattle.block_pool.{specs.{Pools.marked, Kept.{statuses, popped}}, proofs.Grants.{popped_more, popped_none}}
 use Rattle.block_reclamation.specs.declared.status.BlockStatus.TheVariants.{Granted}
+use Rattle.block_pool.proofs.Rooms.{ready_next}
 use Rattle.block_pool.proofs.numbers.Numbers.use_last.Goals as goal
 
 pub use_one-requires-clause-kept : goal.use_one-requires-clause-kept
 use_one-requires-clause-kept c = c.grant.invariant.kept
+
+pub use_one-requires-clause-ready : goal.use_one-requires-clause-ready
+use_one-requires-clause-ready c = c.grant.invariant.ready 0 (omega (arith, c.grant-test.true))
 
 pub grant-preserved : goal.grant-preserved
 grant-preserved c =
@@ -12,6 +16,11 @@ grant-preserved c =
     record {
       kept = c.use_one.ensures.kept;
       enough = omega (arith, c.grant.invariant.enough, c.use_one.ensures.shorter, c.grant-test.true);
+      ready = λ before lt.
+          ready_next n c.use_one.new.self c.use_one.ensures.room c.use_one.ensures.shorter
+          (omega (arith, c.grant.invariant.enough, c.grant-test.true)) c.grant.invariant.kept.free_in
+          (ap length c.use_one.ensures.statuses ∙ length-set (statuses n) _ Granted) c.use_one.ensures.rooms before
+          (c.grant.invariant.ready (before + 1) (omega (arith, lt, c.grant-test.true)));
       after =
           ap (λ (room : List ℕ). marked (popped room c.use_one.new.self.free_len (c.grant.left - 1)) Granted
           (statuses c.use_one.new.self)) c.use_one.ensures.room

@@ -9,21 +9,21 @@ top : (c : After-index-old) → (c.args.stack < length c.self.inside.stacks.item
     × (c.index-old.result.now.top < length c.self.inside.below.items)
 top c = grind (arith, common_steps, shown, length-chain, top_within)
 
-pub index-top-requires : goal.index-top-requires
-index-top-requires c = let is = top (goal.at.index-top-requires c).After-index-old in omega (arith, is.2)
+pub get-top-requires : goal.get-top-requires
+get-top-requires c = let is = top (goal.at.get-top-requires c).After-index-old in omega (arith, is.2)
 
 pub invariant_of-self : goal.invariant_of-self
 invariant_of-self c =
     let s = c.index-old.result.now in
     let below = c.self.inside.below.items in
     let is = top (goal.at.invariant_of-self c).After-index-old in
-    popped_within below c.self.inside.stacks.items c.self.invariant c.args.stack s c.index-top.result.now c.index-old.ensures is.0
-    is.1 (get_or_read below s.top c.index-top.result.now is.2 c.index-top.ensures 0)
+    popped_within c.self.inside.below.rooms below c.self.inside.stacks.items c.self.invariant c.args.stack s c.get-top.result c.index-old.ensures is.0
+    is.1 (get_or_read below s.top c.get-top.result is.2 c.get-top.ensures 0)
 
 pub returns : goal.returns
 returns c =
     let s = c.index-old.result.now in
     let below = c.self.inside.below.items in
     let is = top (goal.at.returns c).After-index-old in
-    popped below c.self.inside.stacks.items c.args.self.now c.self.view_is c.args.stack s c.index-top.result.now c.index-old.ensures
-    c.requires.stack is.1 (get_or_read below s.top c.index-top.result.now is.2 c.index-top.ensures 0)
+    popped c.self.inside.below.rooms below c.self.inside.stacks.items c.args.self.now c.self.view_is c.args.stack s c.get-top.result c.index-old.ensures
+    c.requires.stack is.1 (get_or_read below s.top c.get-top.result is.2 c.get-top.ensures 0)

@@ -6,7 +6,7 @@ pub overflow_add-old : goal.overflow_add-old
 overflow_add-old c =
     let s = c.index-old.result.now in
     let below = c.self.inside.below.items in
-    let is = shown below c.self.inside.stacks.items c.args.self.now c.self.view_is c.args.stack s c.requires.stack in
+    let is = shown c.self.inside.below.rooms below c.self.inside.stacks.items c.args.self.now c.self.view_is c.args.stack s c.requires.stack in
     let high = ap length (is.1 ∙ ap (chain_of below) (sym c.index-old.ensures)) in
     let long = length-chain below s.top s.height in
     let bound = ap (λ (v : Stacks). v.bound) c.self.view_is in
@@ -17,12 +17,14 @@ invariant_of-self c =
     let s = c.index-old.result.now in
     let below = c.self.inside.below.items in
     let stacks = c.self.inside.stacks.items in
-    let is = shown below stacks c.args.self.now c.self.view_is c.args.stack s c.requires.stack in
+    let is = shown c.self.inside.below.rooms below stacks c.args.self.now c.self.view_is c.args.stack s c.requires.stack in
     let bound = ap (λ (v : Stacks). v.bound) c.self.view_is in
-    pushed_within below stacks c.self.invariant c.args.stack c.args.number s c.index-old.ensures is.0
-    (omega (arith, bound, c.requires.number)) (subst (λ (v : Stacks). AreAbsent c.args.number v.lists) (sym c.self.view_is) c.requires.absent)
+    rw c.set.ensures
+    (pushed_within c.self.inside.below.rooms below stacks c.self.invariant c.args.stack c.args.number s c.index-old.ensures is.0
+    (omega (arith, bound, c.requires.number)) (subst (λ (v : Stacks). AreAbsent c.args.number v.lists) (sym c.self.view_is) c.requires.absent))
 
 pub returns : goal.returns
 returns c =
-    pushed c.self.inside.below.items c.self.inside.stacks.items c.args.self.now c.self.view_is c.args.stack c.args.number
-    c.index-old.result.now c.index-old.ensures c.requires.stack c.requires.number c.requires.absent
+    rw c.set.ensures
+    (pushed c.self.inside.below.rooms c.self.inside.below.items c.self.inside.stacks.items c.args.self.now c.self.view_is c.args.stack c.args.number
+    c.index-old.result.now c.index-old.ensures c.requires.stack c.requires.number c.requires.absent)

@@ -6,7 +6,7 @@ pub returns : goal.returns
 returns c =
     let s = c.index.result.now in
     let below = c.self.inside.below.items in
-    let is = shown below c.self.inside.stacks.items c.args.self.now c.self.view_is c.args.stack s c.requires.stack in
+    let is = shown c.self.inside.below.rooms below c.self.inside.stacks.items c.args.self.now c.self.view_is c.args.stack s c.requires.stack in
     let this = is.1 ∙ ap (chain_of below) (sym c.index.ensures) in
     let some = ap length this in
     let long = length-chain below s.top s.height in
