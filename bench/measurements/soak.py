@@ -1,6 +1,7 @@
 """Whether a server stays as it is while clients come, go and are killed: half an hour of it, on this machine alone.
 
     python3 -m bench run soak --minutes 2     or 30 without a number
+    python3 -m bench run soak --rate 3000 --renew-after 250000     where other work goes on
 
 `misteluk serve -` runs as a process. Its standard input is a feed of 10,000 rows a second, whose window holds 100,000 of them
 and whose names come and go. Eight clients, processes, each connect, hold a version, ask, and go, again and again; one of them is
@@ -30,6 +31,8 @@ FORESEEN = ("NoSeat", "Full", "SessionClosed")
 
 def options(parser: argparse.ArgumentParser) -> None:
     parser.add_argument("--minutes", type=float, default=30.0)
+    parser.add_argument("--rate", type=int, default=10_000, help="rows a second")
+    parser.add_argument("--renew-after", default="1000000", metavar="OPERATIONS", help="as the server takes it")
     parser.add_argument("--client", nargs=2, metavar=("URL", "SEED"), help=argparse.SUPPRESS)
 
 
@@ -58,8 +61,8 @@ class Soak:
             if now >= next_row:
                 stat, recent = stat_of(self.store), [it for it in self.samples if it[0] > since]
                 rate = (stat["feed"]["rows"] - rows_before) / (now - since)
-                yield [f"{now / 60:.1f}", f"{max(it[1] for it in recent):.0f}", str(max(it[2] for it in recent)),
-                       tables.count(rate), str(len(stat["held"])), tables.count(stat["edges"])]
+                counts = map(tables.count, (rate, len(stat["held"]), stat["edges"], stat["operations_kept"]))
+                yield [f"{now / 60:.1f}", f"{max(it[1] for it in recent):.0f}", str(max(it[2] for it in recent)), *counts]
                 rows_before, since, next_row = stat["feed"]["rows"], now, next_row + seconds / 12
 
     def faults(self) -> Iterator[str]:
@@ -88,7 +91,7 @@ def watched(server: Watched, seconds: float, is_over: threading.Event, store: An
     soak = Soak(server, store)
     for pace in (16_000, 0):
         threading.Thread(target=soaking.read_slowly, args=(server.path, pace, is_over)).start()
-    head = ["minute", "MiB at most", "descriptors at most", "rows a second", "versions held", "edges"]
+    head = ["minute", "MiB at most", "descriptors at most", "rows a second", "versions held", "edges", "operations kept"]
     try:
         tables.show(head, soak.rows(seconds))
     finally:
@@ -102,8 +105,8 @@ def measure(words: argparse.Namespace, room: pathlib.Path) -> int:
     import misteluk
     if words.client:
         soaking.client(words.client[0], int(words.client[1]))
-    server, is_over, no_feed = Watched(room), threading.Event(), threading.Event()
-    feeder = threading.Thread(target=soaking.feed, args=(server.process.stdin, no_feed))
+    server, is_over, no_feed = Watched(room, words.renew_after), threading.Event(), threading.Event()
+    feeder = threading.Thread(target=soaking.feed, args=(server.process.stdin, words.rate, no_feed))
     feeder.start()
     store = misteluk.Served(server.url)
     try:

@@ -1,6 +1,5 @@
 """Versions that clients share, and the seat of the one that feeds, by a clock of the tests' own."""
 import unittest
-from unittest import mock
 
 from serving import OF_LIBRARY, Clock
 from support import ENGINE, Case
@@ -108,17 +107,19 @@ class Versions(Case):
         feeding.claim()
         self.assertRaises(SessionClosed, feeding.batch, first.name, 2, "a,k,x,y,1,1\n", {}, True)
 
-    def test_it_begins_anew(self):
-        """Behind many operations, of which a store remembers each; versions count on, and those that are held stay."""
-        feeding, lease = Feeding(self.board, Limits(), self.clock), self.board.lease()
-        with mock.patch("misteluk.serve.feeding.RENEWED", 20):
-            for it in range(9):
-                feeding.rows([["add", "k", "a", "b", "1", str(at)] for at in range(10)])
-        self.assertEqual((len(self.at.renewals), self.told()), (3, [(0, 1), (9, 0)]))
-        with self.board.lent() as session:
-            self.assertEqual(session.edge("k", "a", "b").weight, 90)
-        with self.board.lent(lease.name) as session:
-            self.assertEqual(len(session), 0)
+    def test_sixteen_versions_over_renewals(self):
+        """Those that were held before a store began anew count too."""
+        leases = []
+        for _ in range(20):
+            try:
+                leases.append(self.board.lease())
+            except Full as fault:
+                self.assertEqual(fault.word, "NoSeat")
+            self.advance()
+            self.at.renew()
+        self.assertEqual((len(leases), [it for it, _ in self.told()]), (16, list(range(16))))
+        self.board.let_go(leases.pop().name)
+        self.assertEqual([it for it, _ in self.told()], [*range(15), 20])
 
     def test_the_rate(self):
         feeding = Feeding(self.board, Limits(), self.clock)

@@ -127,6 +127,7 @@ class Api:
         stat, units = self.board.stat, self.store.ledger.terms.units
         told = {"server": self._run.name, "began": self._run.began, "saved": self._keeper and self._keeper.told(),
                 "version": stat.version, "vertices": stat.names, "edges": stat.edges,
+                "operations_kept": self.store.operations_kept,
                 "blocks": {"all": self.store.blocks, "grow": self.store.engine.grows, "free": stat.free, "retired": stat.retired,
                            "used": stat.used},
                 "held": [it._asdict() for it in await self.quick.run(self.board.held)], "seats": self.store.seats,

@@ -108,7 +108,7 @@ class ServedEngine:
     """The store of a server. The first batch takes the seat of the one that feeds it; it is given back at the end."""
 
     name = "served"
-    records_sent, records_left = 0, None
+    records_sent, records_left, operations_kept = 0, None, None
     limits, most_blocks = Limits(), MOST_BLOCKS
 
     def __init__(self, talk: Talk) -> None:

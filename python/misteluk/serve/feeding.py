@@ -22,8 +22,6 @@ from ..values.names import is_plain
 
 # What a client calls an operation, and the command of its record.
 COMMANDS = {"insert": "i", "add": "a", "remove": "r", "expire": "x"}
-# Behind how many operations a store begins anew: it remembers each of them until then. Of many edges, so many times as they are.
-RENEWED, TIMES_EDGES = 1_000_000, 8
 # Of how many clients that fed before it is remembered what their last batch did.
 FEEDERS = 100
 # Over how many seconds the feed's rate is told.
@@ -65,7 +63,6 @@ class Feeding:
     def __init__(self, board: Board, limits: Limits, clock: Callable[[], float] = time.monotonic) -> None:
         self.board, self.store, self.limits, self._clock = board, board.store, limits, clock
         self.rate = Rate(clock)
-        self._remembered = 0
         self.state, self.fault = "open", ""
         self._lock = threading.RLock()
         self._feeder: Optional[Feeder] = None
@@ -85,7 +82,7 @@ class Feeding:
         before = 0
         try:
             for step in following:
-                self._count(step.rows - before)
+                self.rate.add(step.rows - before)
                 before = step.rows
                 self.board.advance()
             self.state = "ended"
@@ -169,16 +166,8 @@ class Feeding:
     def _apply(self, operations: Operations, collect: bool) -> Commit:
         engine = self.store.engine
         receipt = engine.fly(engine.flight(operations, collect)).commit
-        self._count(operations.size)
+        self.rate.add(operations.size)
         return receipt
-
-    def _count(self, operations: int) -> None:
-        """Counts operations that went in, and has the store begin anew where it remembers many."""
-        self.rate.add(operations)
-        self._remembered += operations
-        if self._remembered > max(RENEWED, TIMES_EDGES * self.board.stat.edges):
-            self._remembered = 0
-            self.store.renew()
 
     # Rows in the user's terms.
 
