@@ -1,5 +1,6 @@
 """Versions that clients share, and the seat of the one that feeds, by a clock of the tests' own."""
 import unittest
+from unittest import mock
 
 from serving import OF_LIBRARY, Clock
 from support import ENGINE, Case
@@ -54,6 +55,24 @@ class Versions(Case):
         self.assertRaisesRegex(SessionClosed, "silent for 60 s", self.board.keep, leases[0].name)
         self.assertEqual([it.version for it in self.board.held()], [0, *range(2, 17)])
         self.assertEqual(self.board.keep(leases[2].name).shared.version, 2)
+
+    def test_some_rows_of_a_post_are_no_version(self):
+        """Also where a seat becomes free while the others go in."""
+        leases = []
+        for _ in range(16):
+            leases.append(self.board.lease())
+            self.advance()
+        real, told = self.at.engine.fly, []
+
+        def fly(flight):
+            found = real(flight)
+            if leases:
+                self.board.let_go(leases.pop().name)
+            told.append([it for it, _ in self.told()])
+            return found
+        with mock.patch.object(self.at.engine, "fly", fly):
+            Feeding(self.board, Limits()).rows([["add", "k", f"s{it}", "t", "1", "1"] for it in range(5_000)])
+        self.assertEqual((told, [it for it, _ in self.told()]), ([[*range(15)], [*range(14)]], [*range(14), 18]))
 
     def test_who_asks_isn_t_silent(self):
         lease = self.board.lease()

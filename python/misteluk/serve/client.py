@@ -10,7 +10,7 @@ from .talk import Talk, part
 from ..engine.guard import Guard, alone
 from ..engine.operations import Operations
 from ..engine.protocol import Arrays, Denied, Ends, Marks, Receipt, Scope
-from ..errors import SessionClosed, StoreError
+from ..errors import NoAnswer, NoServer, SessionClosed, StoreError
 from ..session import Session
 from ..store import Store
 from ..values.answers import Collected, Commit, Rebased, Renewed, Stat
@@ -165,7 +165,10 @@ class ServedEngine:
         ids = {it.decode("ascii") for it in _AN_ID.findall(text)}
         texts = {it: self.names.to_user(it) for it in ids if self.names.to_user(it) != it}
         body = {"operations": text.decode("ascii"), "texts": texts, "collect": flight.collect}
-        return Receipt(Commit(**self._of_batch("POST", flight, body)))
+        try:
+            return Receipt(Commit(**self._of_batch("POST", flight, body)))
+        except (NoServer, NoAnswer) as fault:
+            raise type(fault)(f"{fault}. Whether the batch that was sent is in isn't known: the next commit asks") from fault
 
     def _of_batch(self, method: str, flight: ServedFlight, body: Optional[Mapping[str, Any]] = None) -> Dict[str, Any]:
         return self._as_feeder(method, f"/v1/feeder/{part(flight.feeder)}/batches/{flight.number}", body)

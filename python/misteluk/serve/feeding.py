@@ -181,8 +181,10 @@ class Feeding:
                 self._known(name)
             if not rows:
                 raise ValueError("there are no rows")
+            found = self._records(rows)
+            self.board.begin()
             try:
-                return self._in_batches(self._records(rows))
+                return self._in_batches(found)
             finally:
                 self.board.advance()
 
@@ -218,8 +220,9 @@ class Feeding:
         state = self.state
         if self._feeder is not None and self._feeder.heard > self._clock() - self.limits.idle and not self._is_followed:
             state = "a client feeds"
+        is_half = self._following is not None and self._following.ended_half
         return {"state": state, "rows": self.rate.total, "rows_a_second": round(self.rate.a_second(), 1),
-                **({"error": self.fault} if self.fault else {})}
+                **({"half_line": True} if is_half else {}), **({"error": self.fault} if self.fault else {})}
 
     def close(self) -> None:
         """Ends the feed that is followed: what was read goes in."""

@@ -83,7 +83,8 @@
         the("vertices").textContent = number(told.vertices);
         the("version").textContent = number(told.version);
         the("rate").textContent = number(Math.round(told.feed.rows_a_second));
-        const fault = told.feed.error ? `: ${told.feed.error}.` : "";
+        const half = told.feed.half_line ? " Its last line had no end, and may be cut." : "";
+        const fault = (told.feed.error ? `: ${told.feed.error}.` : "") + half;
         the("feed").textContent = `${states[told.feed.state] ?? ""}${fault} ${number(told.feed.rows)} rows came in.${anew}`;
         [limit, last] = [told.limits.idle, told.version];
         if (held !== null && !told.held.some((it) => it.version === held.version)) held = null;

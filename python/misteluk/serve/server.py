@@ -157,6 +157,7 @@ class Server:
             for it in beside:
                 it.join()
             self.feeding.close()
+            self.board.let_all_go()
             if keeper is not None:
                 keeper.save(self.board)
             self._api.close()
