@@ -40,7 +40,8 @@
     };
     const row = (it) => {
         const made = document.createElement("tr"), mine = held !== null && held.version === it.version;
-        const by = `${it.clients} ${it.clients === 1 ? "client" : "clients"}${mine ? ", this page one" : ""}`;
+        const others = it.clients - (mine ? 1 : 0), clients = `${others} ${mine ? "other " : ""}${others === 1 ? "client" : "clients"}`;
+        const by = [...mine ? ["this page"] : [], ...others ? [clients] : []].join(" and ") || "nobody";
         made.append(element("td", it.is_last ? `${number(it.version)}, the last` : number(it.version)));
         made.append(element("td", number(it.vertices)), element("td", by));
         const act = element("td", "");
