@@ -157,6 +157,10 @@ class Feeds(ServeCase):
         with Served(self.server.url) as first, Served(self.server.url) as second:
             first.add("k", "a", "b", 5, 1)
             first.commit()
+            self.assertEqual(repr(second), f"<Served by the server {self.server.url}: 0 sessions open, 0 pending>")
+            second.add("k", "a", "c", 5, 1)
+            self.assertRaisesRegex(Busy, "another client feeds", second.commit)
+            self.assertEqual((second.discard(), second.pending), (1, 0))
             second.add("k", "a", "b", 5, 1)
             self.assertRaisesRegex(Busy, "another client feeds", second.commit)
             self.assertEqual(self.post("/v1/rows", {"rows": FEED}).json["error"], "Busy")

@@ -282,6 +282,10 @@ class Served(Store[Any, Any]):
               rounding=engine.units.rounding)
         self.ledger.terms.names = engine.names
 
+    def __repr__(self) -> str:
+        state = f"{self.engine.open_count} sessions open, {self.pending} pending"
+        return f"<Served by {self.engine.told()}: {'closed' if self._is_closed else state}>"
+
 
 class Connected(Session[Any, Any]):
     """A session whose connection ends with it."""
