@@ -18,16 +18,16 @@ from typing import IO, Any, Counter, Dict, List, Tuple, cast
 from bench.measuring import of_process
 from bench.places import TOP
 
-NAMES, NEW_NAMES, WINDOW, CLIENTS, IDLE = 20_000, 200, 100_000, 8, 10.0
+NAMES, WINDOW, CLIENTS, IDLE = 20_000, 100_000, 8, 10.0
 
 
-def feed(pipe: IO[str], rate: int, is_over: threading.Event) -> None:
-    """Writes so many rows a second: a few vertices have most edges, and 200 names a second are new."""
+def feed(pipe: IO[str], rate: int, new_names: int, is_over: threading.Event) -> None:
+    """Writes so many rows a second: a few vertices have most edges, and so many names a second are new."""
     chance, begun = random.Random(1), time.monotonic()
     for count in range(0, 1 << 40, 100):
         if is_over.wait(max(0.0, begun + count / rate - time.monotonic())):
             return
-        base = count * NEW_NAMES // rate
+        base = count * new_names // rate
         try:
             pipe.write("".join(f"v{base + int(NAMES * chance.random() ** 3)},v{base + chance.randrange(NAMES)},"
                                f"{chance.randrange(100)},{count + it}\n" for it in range(100)))

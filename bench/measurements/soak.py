@@ -1,7 +1,8 @@
 """Whether a server stays as it is while clients come, go and are killed: half an hour of it, on this machine alone.
 
     python3 -m bench run soak --minutes 2     or 30 without a number
-    python3 -m bench run soak --rate 3000 --renew-after 250000     where other work goes on
+    python3 -m bench run soak --minutes 9 --new-names 1000         in ten minutes: names come and go five times as fast
+    python3 -m bench run soak --rate 1000 --renew-after 250000     where other work goes on
 
 `misteluk serve -` runs as a process. Its standard input is a feed of 10,000 rows a second, whose window holds 100,000 of them
 and whose names come and go. Eight clients, processes, each connect, hold a version, ask, and go, again and again; one of them is
@@ -32,6 +33,8 @@ FORESEEN = ("NoSeat", "Full", "SessionClosed")
 def options(parser: argparse.ArgumentParser) -> None:
     parser.add_argument("--minutes", type=float, default=30.0)
     parser.add_argument("--rate", type=int, default=10_000, help="rows a second")
+    parser.add_argument("--new-names", type=int, default=200, help="how many names a second are new; the server lets go those "
+                        "without an edge when there are 131,071, and has as much memory as it will have from then on")
     parser.add_argument("--renew-after", default="1000000", metavar="OPERATIONS", help="as the server takes it")
     parser.add_argument("--client", nargs=2, metavar=("URL", "SEED"), help=argparse.SUPPRESS)
 
@@ -106,7 +109,7 @@ def measure(words: argparse.Namespace, room: pathlib.Path) -> int:
     if words.client:
         soaking.client(words.client[0], int(words.client[1]))
     server, is_over, no_feed = Watched(room, words.renew_after), threading.Event(), threading.Event()
-    feeder = threading.Thread(target=soaking.feed, args=(server.process.stdin, words.rate, no_feed))
+    feeder = threading.Thread(target=soaking.feed, args=(server.process.stdin, words.rate, words.new_names, no_feed))
     feeder.start()
     store = misteluk.Served(server.url)
     try:

@@ -103,7 +103,7 @@ class Killed(ServeCase):
                 store.commit()
             fault = self.unanswered(word, commit)
             self.assertIsInstance(fault, NoServer)
-            self.assertRegex(str(fault), "doesn't answer.*Whether the batch that was sent is in isn't known: the next commit asks")
+            self.assertRegex(str(fault), "doesn't answer.*Whether the batch that was sent is in isn't known: the next commit")
             server = self.begin("--save", self.saved)
             self.assertRaisesRegex(SessionClosed, "began anew, with.*Whether that is in isn't known: look before", store.commit)
             with store.open() as session:
@@ -213,7 +213,8 @@ class Killed(ServeCase):
         self.assertEqual(analyst.stdout.readline(), "reads\n")
         store.add("k", "x", "y")
         store.commit()
-        self.assertEqual([(it["version"], it["clients"]) for it in self.stat(store)["held"]], [(version, 1), (version + 1, 0)])
+        held = [(it["version"], it["clients"]) for it in self.stat(store)["held"]]
+        self.assertEqual(held, [(version, 1), (version + 1, 0)])
         self.kill(analyst)
         as_soon_as(lambda: [it["version"] for it in self.stat(store)["held"]] == [version + 1])
         as_soon_as(lambda: len(os.listdir(f"/proc/{server.pid}/fd")) <= before)
