@@ -80,7 +80,11 @@ class Answers(ServeCase):
             async with await connect_async(self.server.url) as session:
                 levels, edge, walk = await asyncio.gather(session.levels("ana"), session.edge("transfer", "ben", "funnel"),
                                                           session.path("boss", "offshore"))
-                graph = await session.ask(session.session.edges_columns, kind="owes")
+                graph, into = await session.ask(session.session.edges_columns, kind="owes"), await session.edges_into("funnel")
+                self.assertEqual((session.version, session.is_open, len(into), "neighbors" in dir(session)), (1, True, 2, True))
+                with self.assertRaises(misteluk.NoVertex):
+                    await session.out_of("zed")
+                self.assertRaises(AttributeError, lambda: session.nothing)
                 async with await connect_async(self.server.url) as other:
                     return levels, edge, walk, len(graph), bool(await session.diff(other))
         found = asyncio.run(both())

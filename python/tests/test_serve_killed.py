@@ -1,4 +1,4 @@
-"""kill -9 of an analyst, of those who feed a server, and of the server, amid what they do: what the others see, and what is in."""
+"""kill -9 of an analyst, of those who feed a server, and of the server, amid what they do: what others see, and what is in."""
 import http.client
 import os
 import re
@@ -184,7 +184,8 @@ class Killed(ServeCase):
             writer = self.python(code, stdin=subprocess.PIPE, pass_fds=(theirs,))
             os.close(theirs)
             with os.fdopen(ours) as pipe:
-                server = self.begin("-", "--add", "--source", "1", "--target", "2", "--weight", "3", "--every", "10ms", stdin=pipe)
+                server = self.begin("-", "--add", "--source", "1", "--target", "2", "--weight", "3", "--every", "10ms",
+                                    stdin=pipe)
             store = self.client()
             self.assertEqual(writer.stdout.readline(), "wrote\n")
             as_soon_as(lambda: self.stat(store)["edges"] == 1)

@@ -13,7 +13,7 @@ from ..engine.protocol import Arrays, Denied, Ends, Marks, Receipt, Scope
 from ..errors import NoAnswer, NoServer, SessionClosed, StoreError
 from ..session import Session
 from ..store import Store
-from ..values.answers import Collected, Commit, Rebased, Renewed, Stat
+from ..values.answers import Collected, Commit, Stat
 from ..values.limits import MOST_BLOCKS, Limits
 from ..values.names import NameTable
 from ..values.units import Units
@@ -239,11 +239,10 @@ class ServedEngine:
         except StoreError:
             pass
 
-    def rebase(self, version: Any) -> Rebased:
+    def rebase(self, version: Any = None) -> Any:
         raise StoreError("a server's store is begun anew by the server alone")
 
-    def renew(self) -> Renewed:
-        raise StoreError("a server's store is begun anew by the server alone")
+    renew = rebase
 
     @alone
     def close(self) -> None:
