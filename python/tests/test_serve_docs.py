@@ -94,8 +94,8 @@ class Page(ServeCase):
                 self.assertEqual(failed, 0, said.getvalue())
                 known, count = page.globs, count + tried
             if "hers" in block and "close" not in block:  # (what the page says that a browser shows)
-                view = urllib.request.urlopen(f"http://127.0.0.1:{self.port}/v1/view?vertex=kassel&hops=1&beside=1").read().decode()
-                self.assertRegex(view, "<b>6</b>\\s*gone")
+                url = f"http://127.0.0.1:{self.port}/v1/view?vertex=kassel&hops=1&beside=1"
+                self.assertRegex(urllib.request.urlopen(url).read().decode(), "<b>6</b>\\s*gone")
         self.assertEqual(([(it["version"], it["clients"]) for it in self.stat()["held"]], count), ([(2, 0)], 13))
 
     def test_what_it_tells_of(self):
