@@ -18,7 +18,9 @@ from typing import IO, Any, Counter, Dict, List, Tuple, cast
 from bench.measuring import of_process
 from bench.places import TOP
 
-NAMES, WINDOW, CLIENTS, IDLE = 20_000, 100_000, 8, 10.0
+NAMES, WINDOW, CLIENTS, IDLE, KILLED_EVERY = 20_000, 100_000, 8, 10.0, 5.0
+# What a client may meet: all seats are taken by versions of those that were killed, or its own was let go.
+FORESEEN = ("NoSeat", "Full", "SessionClosed")
 
 
 def feed(pipe: IO[str], rate: int, new_names: int, is_over: threading.Event) -> None:

@@ -2,7 +2,6 @@
 
     python3 -m bench run soak --minutes 2     or 30 without a number
     python3 -m bench run soak --minutes 9 --new-names 1000         in ten minutes: names come and go five times as fast
-    python3 -m bench run soak --rate 1000 --renew-after 250000     where other work goes on
 
 `misteluk serve -` runs as a process. Its standard input is a feed of 10,000 rows a second, whose window holds 100,000 of them
 and whose names come and go. Eight clients, processes, each connect, hold a version, ask, and go, again and again; one of them is
@@ -25,16 +24,11 @@ from typing import Any, Counter, Iterator, List, Tuple
 from bench import measuring, soaking, tables
 from bench.soaking import Clients, Watched, stat_of
 
-KILLED_EVERY = 5.0
-# What a client may meet: all seats are taken by versions of those that were killed, or its own was let go.
-FORESEEN = ("NoSeat", "Full", "SessionClosed")
-
 
 def options(parser: argparse.ArgumentParser) -> None:
     parser.add_argument("--minutes", type=float, default=30.0)
     parser.add_argument("--rate", type=int, default=10_000, help="rows a second")
-    parser.add_argument("--new-names", type=int, default=200, help="how many names a second are new; the server lets go those "
-                        "without an edge when there are 131,071, and has as much memory as it will have from then on")
+    parser.add_argument("--new-names", type=int, default=200, help="a second; idle ones are let go when there are 131,071")
     parser.add_argument("--renew-after", default="1000000", metavar="OPERATIONS", help="as the server takes it")
     parser.add_argument("--client", nargs=2, metavar=("URL", "SEED"), help=argparse.SUPPRESS)
 
@@ -51,14 +45,14 @@ class Soak:
 
     def rows(self, seconds: float) -> Iterator[List[str]]:
         """A row each twelfth of the time."""
-        begun, next_kill, since = time.monotonic(), KILLED_EVERY, 0.0
+        begun, next_kill, since = time.monotonic(), soaking.KILLED_EVERY, 0.0
         rows_before, next_row = stat_of(self.store)["feed"]["rows"], seconds / 12
         while time.monotonic() - begun < seconds:
             time.sleep(1)
             now = time.monotonic() - begun
             self.samples.append((now, *self.server.taken()))
             if now >= next_kill:
-                next_kill += KILLED_EVERY
+                next_kill += soaking.KILLED_EVERY
                 self.clients.kill_one()
                 self.statuses[soaking.status_of_post(self.server.path)] += 1
             if now >= next_row:
@@ -83,7 +77,7 @@ class Soak:
         if len(held) != 1 or held[0]["clients"]:
             yield f"versions are left: {held}"
         yield from (f"a fault in the server's log:{it}" for it in self.server.faults()[:1])
-        strange = {it: count for it, count in self.clients.met.items() if it not in (*FORESEEN, "answers")}
+        strange = {it: count for it, count in self.clients.met.items() if it not in (*soaking.FORESEEN, "answers")}
         if strange or set(self.statuses) != {409}:
             yield f"clients met {strange}, posts {dict(self.statuses)}"
 

@@ -2,6 +2,7 @@
 import os
 import subprocess
 import sys
+import threading
 import unittest
 from unittest import mock
 
@@ -218,6 +219,28 @@ class Level(Case):
             self.assertEqual(told, [100, 200])
         self.assertGreater(grown[0], 50)
         self.assertLess(grown[20_000], 5)
+
+    def test_questions_go_on_meanwhile(self):
+        """A session answers while the store begins anew, which here waits for that."""
+        store = self.store("add k s0 t 1 1", renew_after=1)
+        session, real, found = store.open(), store.engine.library.desk_rebase, []
+        begun, answered = threading.Event(), threading.Event()
+
+        def ask():
+            begun.wait(60)
+            found.append((session.edge("k", "s0", "t"), session.levels("s0")))
+            answered.set()
+
+        def slow(desk):
+            begun.set()
+            found.append(answered.wait(60))
+            return real(desk)
+        thread = threading.Thread(target=ask)
+        thread.start()
+        with mock.patch.object(store.engine.library, "desk_rebase", slow):
+            self.assertEqual(self.fill(store, 1), ([2], [10]))
+        thread.join()
+        self.assertEqual(found, [(Edge(1, 1, 1), {"s0": 0, "t": 1}), True])
 
     def test_seats_are_as_many(self):
         """Also where the sessions were opened before it began anew."""
