@@ -239,6 +239,7 @@ def checked_operations(text: str) -> Operations:
     found = None if rest else _plain_rows(lines)
     if found is not None:
         return Operations(found)
+    rows: List[Row] = []
     for at, line in enumerate([*lines, *filter(None, [rest])], 1):
         fields = records.split_record(line)
         faults = records.faults_of(fields)
@@ -246,7 +247,8 @@ def checked_operations(text: str) -> Operations:
             raise refusal(faults[0].word, f"row {at}: {faults[0]}", advice="")
         if fields[0] not in records.OPERATIONS or records.record(fields) != f"{line}\n" or rest:
             raise refusal("BadCommand", f"row {at} is no operation", advice="")
-    return Operations([row_of(records.split_record(it)) for it in lines])
+        rows.append(row_of(fields))
+    return Operations(rows)
 
 
 def _plain_rows(lines: Sequence[str]) -> Optional[List[Row]]:
