@@ -7,6 +7,7 @@ import subprocess
 import sys
 import threading
 import unittest
+from unittest import mock
 
 from serving import ServeCase
 from support import HERE, as_soon_as
@@ -71,7 +72,7 @@ class Killed(ServeCase):
 
     # The server, while it has a batch or a post.
 
-    def unanswered(self, word, call):
+    def unanswered(self, word, call, then=lambda: None):
         """What a call raises whose server is killed before it answers, but after it wrote this word."""
         server = self.python(UNANSWERED, "--listen", f"unix:{self.path}", "--save", self.saved, "--save-every",
                              "0.02" if word == "saved" else "1000")
@@ -88,6 +89,7 @@ class Killed(ServeCase):
         while server.stdout.readline() != f"{word}\n":
             pass
         self.kill(server)
+        then()
         thread.join()
         return met[0] if met else None
 
@@ -106,15 +108,37 @@ class Killed(ServeCase):
             self.assertRegex(str(fault), "doesn't answer.*Whether the batch that was sent is in isn't known: the next commit")
             server = self.begin("--save", self.saved)
             self.assertRaisesRegex(SessionClosed, "began anew, with.*Whether that is in isn't known: look before", store.commit)
+            self.assertEqual(store.discard() if edges else store.pending, 1)
             with store.open() as session:
                 self.assertEqual((session.version, list(session.edges())), (0, edges))
-            self.assertEqual(store.pending, 1)
-            store.commit() if not edges else store.discard()
+            store.commit()
             with store.open() as session:
                 self.assertEqual(list(session.edges()), [("k", "a", "b", Edge(5, 1, 1))])
             self.kill(server)
             if not edges:
                 self.assertFalse(os.path.exists(self.saved))
+
+    def test_a_server_that_is_back_at_once(self):
+        """Then the client sends the batch again by itself, and is told all the same that nobody knows: it isn't in twice."""
+        is_back, stores = threading.Event(), []
+
+        def commit():
+            stores.append(self.client())
+            talk, stored = stores[0].engine.talk, stores[0]
+            stored.add("k", "a", "b", 5, 1)
+            real = talk.close
+            with mock.patch.object(talk, "close", lambda: is_back.wait(60) and real()):  # (before it tries again)
+                stored.commit()
+
+        def begin():
+            self.begin("--save", self.saved)
+            is_back.set()
+        fault = self.unanswered("saved", commit, begin)
+        self.assertIsInstance(fault, SessionClosed)
+        self.assertRegex(str(fault), "began anew, with what was saved.*Whether the batch that was sent is in isn't known: look")
+        self.assertEqual((stores[0].pending, stores[0].discard(), stores[0].pending), (1, 1, 0))
+        with stores[0].open() as session:
+            self.assertEqual(list(session.edges()), [("k", "a", "b", Edge(5, 1, 1))])
 
     def test_a_post_in_flight(self):
         """Whoever posts by HTTP gets no answer at all; the file has all of a post's rows or none."""

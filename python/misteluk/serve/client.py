@@ -165,10 +165,15 @@ class ServedEngine:
         ids = {it.decode("ascii") for it in _AN_ID.findall(text)}
         texts = {it: self.names.to_user(it) for it in ids if self.names.to_user(it) != it}
         body = {"operations": text.decode("ascii"), "texts": texts, "collect": flight.collect}
+        unknown, run = "Whether the batch that was sent is in isn't known", self.talk.run
         try:
             return Receipt(Commit(**self._of_batch("POST", flight, body)))
         except (NoServer, NoAnswer) as fault:
-            raise type(fault)(f"{fault}. Whether the batch that was sent is in isn't known: the next commit asks") from fault
+            raise type(fault)(f"{fault}. {unknown}: the next commit asks") from fault
+        except SessionClosed as fault:
+            if self.talk.run == run:
+                raise
+            raise SessionClosed(f"{fault}. {unknown}: look before") from None  # (the server before may have had it, and saved it)
 
     def _of_batch(self, method: str, flight: ServedFlight, body: Optional[Mapping[str, Any]] = None) -> Dict[str, Any]:
         return self._as_feeder(method, f"/v1/feeder/{part(flight.feeder)}/batches/{flight.number}", body)
