@@ -53,7 +53,8 @@ class LibraryEngine:
         self._versions: "List[weakref.ref[LibraryVersion]]" = []
         # The handle of a batch that was applied, and so has no operation: the next one takes it.
         self._empty: List[Owned] = []
-        self._rebased: Optional[Tuple[LibraryVersion, Rebased]] = None
+        # The last rebase: its version, what it did, and the versions that it closes.
+        self._rebased: "Optional[Tuple[LibraryVersion, Rebased, List[weakref.ref[LibraryVersion]]]]" = None
         # (an endless one has few vertices at first, so that it lets those go that have no edge, before it takes many)
         is_plain = limits.vertices is limits.kinds is None
         self._opening = self._new(0, blocks or FIRST_BLOCKS, limits.shape(0, MOST_KINDS if endless and is_plain else 0))
@@ -285,12 +286,12 @@ class LibraryEngine:
             del self._held[version.slot]
         self._settle()
 
-    def _close_versions(self) -> None:
-        for it in self._versions:
+    def _close_versions(self, versions: "Sequence[weakref.ref[LibraryVersion]]") -> None:
+        for it in versions:
             version = it()
             if version is not None:
                 version.end()
-        self._held.clear()
+        self._held = {at: it for at, it in self._held.items() if it not in versions}
 
     # Beginning anew.
 
@@ -330,8 +331,9 @@ class LibraryEngine:
 
     @alone
     def rebase(self, version: Any) -> Rebased:
-        if self._rebased is not None and self._rebased[0] is version:
-            return self._rebased[1]  # (an interrupt came before this was told)
+        if self._rebased is not None and self._rebased[0] is version:  # (an interrupt came before this was told)
+            self._close_versions(self._rebased[2])
+            return self._rebased[1]
         opening = self._settle()
         stat = self._stat(opening)
         if version.desk is opening.desk and version.number == stat.version:
@@ -340,8 +342,8 @@ class LibraryEngine:
             opening = self._copy(content_of(version), 0)
         self._opening = opening._replace(before=0)
         found = self._stat(self._opening)
-        self._rebased = version, Rebased(0, found.names, found.edges, found.used)
-        self._close_versions()
+        self._rebased = version, Rebased(0, found.names, found.edges, found.used), self._versions
+        self._close_versions(self._versions)
         return self._rebased[1]
 
     @alone
@@ -357,7 +359,7 @@ class LibraryEngine:
     def close(self) -> None:
         if self.is_closed:
             return
-        self._close_versions()
+        self._close_versions(self._versions)
         opening, self.is_closed = self._opening, True
         self._opening = opening._replace(desk=Owned(interface.Desk(), self.handles.desks))
         del opening
