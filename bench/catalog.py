@@ -71,6 +71,7 @@ def every() -> Iterator[Measurement]:
     yield Measurement("neighbors", "How long do a session's walks take, compared with networkx and SQLite?", 3, ("networkx",))
     yield Measurement("edges", "How many single edges does a session answer in a second?", 1)
     yield Measurement("endless", "Is a feed without end right at ten points, and how long is its longest commit?", 3)
+    yield Measurement("renewals", "How long does a store in process stand still when it starts over, by its edges?", 0.5)
     yield Measurement("fleet", "What do fleets of parts take, in memory and in time?", 5)
     yield Measurement("serve", "How long do a server's clients wait, and what does the feed lose?", 3, ("starlette", "uvicorn"))
     yield Measurement("soak", "Does a server stay as it is while clients come, go and are killed?", 31, ("starlette", "uvicorn"))

@@ -65,9 +65,14 @@ def ask(url: str, seed: int, pause: float, until: float, times: Times) -> None:
     store.close()
 
 
-def clients(url: str, count: int, seed: int, pause: float, until: float, found: "queue.Queue[Times]") -> None:
-    """A process of some clients, each a thread."""
+def clients(url: str, count: int, seed: int, pause: float, seconds: float, ready: Any, go: Any,
+            found: "queue.Queue[Times]") -> None:
+    """A process of some clients, each a thread. They ask when it is told to go."""
+    import misteluk  # noqa: F401
     times: Times = {it: [] for it in QUESTIONS}
+    ready.release()
+    go.wait()
+    until = time.time() + seconds
     threads = [threading.Thread(target=ask, args=(url, seed + it, pause, until, times)) for it in range(count)]
     for it in threads:
         it.start()
@@ -96,17 +101,24 @@ def fed_rows(store: Any) -> int:
     return int(store.engine.talk.call("GET", "/v1/stat").json()["feed"]["rows"])
 
 
-def asked(url: str, count: int, pause: float, until: float) -> Times:
-    """The times of so many clients, who ask until then."""
+def asked(store: Any, url: str, count: int, pause: float, seconds: float) -> Tuple[Times, float]:
+    """The times of so many clients, who ask for so long, and the rows a second that came in meanwhile."""
     spawn = get_context("spawn")
     found: "queue.Queue[Times]" = spawn.Queue()
+    ready, go = spawn.Semaphore(0), spawn.Event()
     shares = [len(range(it, count, THREADS)) for it in range(min(THREADS, count))]
-    running = [spawn.Process(target=clients, args=(url, it, 100 * at, pause, until, found)) for at, it in enumerate(shares)]
+    running = [spawn.Process(target=clients, args=(url, it, 100 * at, pause, seconds, ready, go, found))
+               for at, it in enumerate(shares)]
     for it in running:
         it.start()
-    times = [found.get(timeout=max(0.0, until - time.time()) + 60) for _ in running]
-    time.sleep(max(0.0, until - time.time()))
-    return {name: [it for some in times for it in some[name]] for name in QUESTIONS}
+    for _ in running:
+        ready.acquire()
+    before, begun = fed_rows(store), time.time()
+    go.set()
+    times = [found.get(timeout=seconds + 60) for _ in running]
+    time.sleep(max(0.0, begun + seconds - time.time()))
+    taken = (fed_rows(store) - before) / (time.time() - begun)
+    return {name: [it for some in times for it in some[name]] for name in QUESTIONS}, taken
 
 
 def measured(room: pathlib.Path, rate: int, count: int, pause: float, seconds: float) -> Tuple[Times, float]:
@@ -119,9 +131,7 @@ def measured(room: pathlib.Path, rate: int, count: int, pause: float, seconds: f
         try:
             store = misteluk.Served(url)
             time.sleep(2)
-            before, begun = fed_rows(store), time.time()
-            times = asked(url, count, pause, begun + seconds)
-            taken = (fed_rows(store) - before) / (time.time() - begun)
+            times, taken = asked(store, url, count, pause, seconds)
             store.kill()
         finally:
             is_over.set()

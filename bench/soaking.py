@@ -18,16 +18,18 @@ from typing import IO, Any, Counter, Dict, List, Tuple, cast
 from bench.measuring import of_process
 from bench.places import TOP
 
-NAMES, RATE, WINDOW, CLIENTS, IDLE = 20_000, 10_000, 100_000, 8, 10.0
+NAMES, WINDOW, CLIENTS, IDLE, KILLED_EVERY = 20_000, 100_000, 8, 10.0, 5.0
+# What a client may meet: all seats are taken by versions of those that were killed, or its own was let go.
+FORESEEN = ("NoSeat", "Full", "SessionClosed")
 
 
-def feed(pipe: IO[str], is_over: threading.Event) -> None:
-    """Writes rows at their rate: a few vertices have most edges, and one name in fifty rows is new."""
+def feed(pipe: IO[str], rate: int, new_names: int, is_over: threading.Event) -> None:
+    """Writes so many rows a second: a few vertices have most edges, and so many names a second are new."""
     chance, begun = random.Random(1), time.monotonic()
     for count in range(0, 1 << 40, 100):
-        if is_over.wait(max(0.0, begun + count / RATE - time.monotonic())):
+        if is_over.wait(max(0.0, begun + count / rate - time.monotonic())):
             return
-        base = count // 50
+        base = count * new_names // rate
         try:
             pipe.write("".join(f"v{base + int(NAMES * chance.random() ** 3)},v{base + chance.randrange(NAMES)},"
                                f"{chance.randrange(100)},{count + it}\n" for it in range(100)))
@@ -127,10 +129,10 @@ def status_of_post(path: str) -> int:
 class Watched:
     """A server, and what it takes."""
 
-    def __init__(self, room: pathlib.Path) -> None:
+    def __init__(self, room: pathlib.Path, renew_after: str) -> None:
         self.path, self._log = f"{room}/socket", room / "log"
         asked = ["serve", "-", "--add", "--source", "1", "--target", "2", "--weight", "3", "--time", "4", "--every", "200ms",
-                 "--keep", str(WINDOW), "--idle", str(IDLE), "--listen", f"unix:{self.path}"]
+                 "--keep", str(WINDOW), "--idle", str(IDLE), "--listen", f"unix:{self.path}", "--renew-after", renew_after]
         with open(self._log, "w", encoding="utf-8") as log:
             self.process = subprocess.Popen([sys.executable, "-m", "misteluk", *asked], stdin=subprocess.PIPE,
                                             stdout=subprocess.PIPE, stderr=log, text=True,

@@ -1,19 +1,21 @@
 """How long a server's clients wait for an answer while a feed comes in, and what the feed loses by them.
 
     python3 -m bench run serve           a feed of 10,000 rows a second, and one at full speed, with 1, 8 and 64 clients
-    python3 -m bench run serve --clients 8 --seconds 5 --pause 0.005
+    python3 -m bench run serve --rates 10000        one half of it
+    python3 -m bench run serve --clients 0 8 --seconds 5 --pause 0.005
 
 `misteluk serve -` runs as a process, and its standard input is the feed. Clients are processes of their own; each asks, by a
 session of the last version that it opens again each second, an edge, the edges out of a vertex, and a table of degrees in turn,
-with a pause between them. A row shows the median and the 99th percentile of each, in milliseconds, and the rows a second that
-came in; the first row of a feed is that without clients. It wants a machine that does nothing else.
+with a pause between them. A row shows the median and the 99th percentile of each, in milliseconds, the rows a second that came
+in, and what part they are of those without clients, if that is the first row of the feed. It wants a machine that does nothing
+else.
 """
 from __future__ import annotations
 
 import argparse
 import pathlib
 import statistics
-from typing import List
+from typing import Iterator, List
 
 from bench import tables
 from bench.serving import QUESTIONS, Times, measured
@@ -26,7 +28,16 @@ def options(parser: argparse.ArgumentParser) -> None:
     parser.add_argument("--pause", type=float, default=0.02, help="seconds between a client's questions")
 
 
-def row(rate: int, count: int, times: Times, taken: float) -> List[str]:
+def rows(words: argparse.Namespace, room: pathlib.Path) -> Iterator[List[str]]:
+    for rate in words.rates:
+        alone = 0.0
+        for count in words.clients:
+            times, taken = measured(room, rate, count, words.pause, words.seconds)
+            alone = alone if count else taken
+            yield [*row(rate, count, times), tables.count(taken), f"{taken / alone:.2f}" if alone else tables.ABSENT]
+
+
+def row(rate: int, count: int, times: Times) -> List[str]:
     cells = []
     for name in QUESTIONS:
         ordered = sorted(times[name])
@@ -34,10 +45,10 @@ def row(rate: int, count: int, times: Times, taken: float) -> List[str]:
             cells += [f"{1000 * statistics.median(ordered):.2f}", f"{1000 * ordered[int(0.99 * len(ordered))]:.1f}"]
         else:
             cells += [tables.ABSENT, tables.ABSENT]
-    return [f"{rate:,} a second" if rate else "full speed", str(count), *cells, tables.count(taken)]
+    return [f"{rate:,} a second" if rate else "full speed", str(count), *cells]
 
 
 def measure(words: argparse.Namespace, room: pathlib.Path) -> None:
-    head = ["feed", "clients", "edge, ms", "p99", "out of a vertex, ms", "p99", "degrees, ms", "p99", "rows a second"]
-    tables.show(head, (row(rate, count, *measured(room, rate, count, words.pause, words.seconds))
-                       for rate in words.rates for count in words.clients))
+    head = ["feed", "clients", "edge, ms", "p99", "out of a vertex, ms", "p99", "degrees, ms", "p99", "rows a second",
+            "of those alone"]
+    tables.show(head, rows(words, room))

@@ -1,6 +1,7 @@
 """Whether a server stays as it is while clients come, go and are killed: half an hour of it, on this machine alone.
 
     python3 -m bench run soak --minutes 2     or 30 without a number
+    python3 -m bench run soak --minutes 9 --new-names 1000         in ten minutes: names come and go five times as fast
 
 `misteluk serve -` runs as a process. Its standard input is a feed of 10,000 rows a second, whose window holds 100,000 of them
 and whose names come and go. Eight clients, processes, each connect, hold a version, ask, and go, again and again; one of them is
@@ -23,13 +24,12 @@ from typing import Any, Counter, Iterator, List, Tuple
 from bench import measuring, soaking, tables
 from bench.soaking import Clients, Watched, stat_of
 
-KILLED_EVERY = 5.0
-# What a client may meet: all seats are taken by versions of those that were killed, or its own was let go.
-FORESEEN = ("NoSeat", "Full", "SessionClosed")
-
 
 def options(parser: argparse.ArgumentParser) -> None:
     parser.add_argument("--minutes", type=float, default=30.0)
+    parser.add_argument("--rate", type=int, default=10_000, help="rows a second")
+    parser.add_argument("--new-names", type=int, default=200, help="a second; idle ones are let go when there are 131,071")
+    parser.add_argument("--renew-after", default="1000000", metavar="OPERATIONS", help="as the server takes it")
     parser.add_argument("--client", nargs=2, metavar=("URL", "SEED"), help=argparse.SUPPRESS)
 
 
@@ -45,21 +45,21 @@ class Soak:
 
     def rows(self, seconds: float) -> Iterator[List[str]]:
         """A row each twelfth of the time."""
-        begun, next_kill, since = time.monotonic(), KILLED_EVERY, 0.0
+        begun, next_kill, since = time.monotonic(), soaking.KILLED_EVERY, 0.0
         rows_before, next_row = stat_of(self.store)["feed"]["rows"], seconds / 12
         while time.monotonic() - begun < seconds:
             time.sleep(1)
             now = time.monotonic() - begun
             self.samples.append((now, *self.server.taken()))
             if now >= next_kill:
-                next_kill += KILLED_EVERY
+                next_kill += soaking.KILLED_EVERY
                 self.clients.kill_one()
                 self.statuses[soaking.status_of_post(self.server.path)] += 1
             if now >= next_row:
                 stat, recent = stat_of(self.store), [it for it in self.samples if it[0] > since]
                 rate = (stat["feed"]["rows"] - rows_before) / (now - since)
-                yield [f"{now / 60:.1f}", f"{max(it[1] for it in recent):.0f}", str(max(it[2] for it in recent)),
-                       tables.count(rate), str(len(stat["held"])), tables.count(stat["edges"])]
+                counts = map(tables.count, (rate, len(stat["held"]), stat["edges"], stat["operations_kept"]))
+                yield [f"{now / 60:.1f}", f"{max(it[1] for it in recent):.0f}", str(max(it[2] for it in recent)), *counts]
                 rows_before, since, next_row = stat["feed"]["rows"], now, next_row + seconds / 12
 
     def faults(self) -> Iterator[str]:
@@ -77,7 +77,7 @@ class Soak:
         if len(held) != 1 or held[0]["clients"]:
             yield f"versions are left: {held}"
         yield from (f"a fault in the server's log:{it}" for it in self.server.faults()[:1])
-        strange = {it: count for it, count in self.clients.met.items() if it not in (*FORESEEN, "answers")}
+        strange = {it: count for it, count in self.clients.met.items() if it not in (*soaking.FORESEEN, "answers")}
         if strange or set(self.statuses) != {409}:
             yield f"clients met {strange}, posts {dict(self.statuses)}"
 
@@ -88,7 +88,7 @@ def watched(server: Watched, seconds: float, is_over: threading.Event, store: An
     soak = Soak(server, store)
     for pace in (16_000, 0):
         threading.Thread(target=soaking.read_slowly, args=(server.path, pace, is_over)).start()
-    head = ["minute", "MiB at most", "descriptors at most", "rows a second", "versions held", "edges"]
+    head = ["minute", "MiB at most", "descriptors at most", "rows a second", "versions held", "edges", "operations kept"]
     try:
         tables.show(head, soak.rows(seconds))
     finally:
@@ -102,8 +102,8 @@ def measure(words: argparse.Namespace, room: pathlib.Path) -> int:
     import misteluk
     if words.client:
         soaking.client(words.client[0], int(words.client[1]))
-    server, is_over, no_feed = Watched(room), threading.Event(), threading.Event()
-    feeder = threading.Thread(target=soaking.feed, args=(server.process.stdin, no_feed))
+    server, is_over, no_feed = Watched(room, words.renew_after), threading.Event(), threading.Event()
+    feeder = threading.Thread(target=soaking.feed, args=(server.process.stdin, words.rate, words.new_names, no_feed))
     feeder.start()
     store = misteluk.Served(server.url)
     try:

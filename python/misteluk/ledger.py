@@ -10,7 +10,7 @@ from typing import Any, Dict, List, NamedTuple, Optional, Sequence, Tuple
 from .engine.guard import FORKS, Guard, alone
 from .engine.operations import COMMANDS, EXPIRE, REMOVE, Operations, Row
 from .engine.protocol import Denied, Engine, Flight, Receipt
-from .errors import OperationsRefused, PoolEmpty, Refused, StoreError, refusal
+from .errors import Busy, OperationsRefused, PoolEmpty, Refused, SessionClosed, StoreError, refusal
 from .values import records
 from .values.answers import Commit, Stat
 from .values.names import must_be_texts
@@ -204,6 +204,9 @@ class Ledger:
         except Denied as fault:
             self._books = self._books._replace(flight=None)
             raise self._refused(fault, batch, of_pending) from None
+        except (Busy, SessionClosed):  # (it isn't on its way: nothing was sent, or nobody answers it any more, as is told)
+            self._books = self._books._replace(flight=None)
+            raise
         return self._book(flight, receipt)
 
     def _land(self) -> None:
@@ -216,6 +219,9 @@ class Ledger:
         except Denied as fault:
             self._books = self._books._replace(flight=None)
             raise self._refused(fault, flight.batch, self._books.of_pending) from None
+        except SessionClosed:  # (as above)
+            self._books = self._books._replace(flight=None)
+            raise
         if receipt is None and not flight.cut:
             self._books = self._books._replace(flight=None)
         elif receipt is not None:

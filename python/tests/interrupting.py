@@ -81,8 +81,8 @@ def lines(make, call, is_right, step=1):
 class Scene:
     """A store with two edges, a session of them, and an amount that is pending three times; or what becomes of these."""
 
-    def __init__(self):
-        self.store = Store(blocks=64, seats=3, **PATIENCE)
+    def __init__(self, **options):
+        self.store = Store(blocks=64, seats=3, **PATIENCE, **options)
         self.store.insert("l", "a", "b", 5, 1)
         self.store.insert("l", "b", "c", 7, 1)
         self.store.commit()

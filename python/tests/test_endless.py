@@ -1,12 +1,17 @@
 """Feeds without end, in this process: a store begins anew where it is full, and what is held, pending or counted stays."""
+import os
+import subprocess
+import sys
+import threading
 import unittest
 from unittest import mock
 
-from support import ENGINE, Case
+from support import ENGINE, HERE, Case
 
 import misteluk
 from misteluk import Limits, Edge, Store
 from misteluk.engine import library
+from misteluk.values import limits
 
 
 @unittest.skipUnless(ENGINE == "library", "of the library alone")
@@ -144,6 +149,144 @@ class Endless(Case):
             store.rebase(old)
         self.assertEqual((store.stat()[:3], store.stat().free, list(old.edges())), ((6, 17, 17), 0, edges))
         self.assertEqual(list(store.open().edges()), edges)
+
+
+@unittest.skipUnless(ENGINE == "library", "of the library alone")
+class Level(Case):
+    """A store that renews itself keeps few operations, however many came."""
+
+    def fill(self, store, batches=100, edges=4):
+        """Batches of ten additions to few edges; gives the versions, and how many operations were kept behind each."""
+        versions, kept = [], []
+        for at in range(batches):
+            for it in range(10):
+                store.add("k", f"s{(at + it) % edges}", "t", 1, at)
+            versions.append(store.commit().version)
+            kept.append(store.operations_kept)
+        return versions, kept
+
+    def test_few_are_kept(self):
+        for renew_after, most in ((None, 1001), (1000, 991), (95, 91), (30, 30), (1, 10)):
+            store = self.store("add k s0 t 1 1", renew_after=renew_after)
+            session, before = store.open(), store.open().degrees()
+            versions, kept = self.fill(store)
+            self.assertEqual((versions, max(kept)), (list(range(2, 102)), most), renew_after)
+            self.assertEqual((session.version, list(session.edges())), (1, [("k", "s0", "t", Edge(1, 1, 1))]))
+            self.assertEqual(session.degrees(), before)
+            with store.open() as last:
+                self.assertEqual((last.version, [edge.weight for *_, edge in last.edges()]), (101, [251, 250, 250, 250]))
+
+    def test_twice_the_edges(self):
+        """Many edges: so that it begins anew as seldom as it takes little beside the operations."""
+        store = self.store(renew_after=1)
+        for at in range(100):
+            store.insert("k", f"s{at}", "t")
+        store.commit()
+        kept = self.fill(store, 30, 100)[1]
+        self.assertEqual((kept[:11], max(kept)), ([*range(110, 201, 10), 10], 200))
+
+    def test_out_of_memory(self):
+        """Then the batch goes in all the same, and the next one tries it again."""
+        store = self.store("add k s0 t 1 1", renew_after=20)
+        with mock.patch.object(store.engine.library, "desk_rebase", lambda _: library.Code.MEMORY):
+            self.assertEqual(self.fill(store, 5), ([2, 3, 4, 5, 6], [11, 21, 31, 41, 51]))
+        self.assertEqual(self.fill(store, 1), ([7], [10]))
+        with store.open() as last:
+            self.assertEqual(sum(edge.weight for *_, edge in last.edges()), 61)
+
+    def test_memory(self):
+        """What a process takes at most for 400,000 additions to a graph of a hundred edges: some 200 bytes for each that is
+        kept."""
+        program = """if True:
+            import re, sys
+            from misteluk import Store
+            peak = lambda: int(re.search(r"VmHWM:\\s+(\\d+)", open("/proc/self/status").read())[1]) / 1024
+            store = Store(renew_after=int(sys.argv[1]) or None)
+            for at in range(200):
+                for it in range(2_000):
+                    store.add("k", f"s{it % 100}", "t")
+                store.commit()
+                if at == 9:
+                    before = peak()
+            print(store.stat().edges, store.stat().version, peak() - before)
+            store.close()
+        """
+        grown = {}
+        for renew_after in (20_000, 0):
+            done = subprocess.run([sys.executable, "-c", program, str(renew_after)], check=True, text=True,
+                                  stdout=subprocess.PIPE, env={**os.environ, "PYTHONPATH": str(HERE.parent)})
+            *told, grown[renew_after] = map(float, done.stdout.split())
+            self.assertEqual(told, [100, 200])
+        self.assertGreater(grown[0], 50)
+        self.assertLess(grown[20_000], 5)
+
+    def test_questions_go_on_meanwhile(self):
+        """A session answers while the store begins anew, which here waits for that."""
+        store = self.store("add k s0 t 1 1", renew_after=1)
+        session, real, found = store.open(), store.engine.library.desk_rebase, []
+        begun, answered = threading.Event(), threading.Event()
+
+        def ask():
+            begun.wait(60)
+            found.append((session.edge("k", "s0", "t"), session.levels("s0")))
+            answered.set()
+
+        def slow(desk):
+            begun.set()
+            found.append(answered.wait(60))
+            return real(desk)
+        thread = threading.Thread(target=ask)
+        thread.start()
+        with mock.patch.object(store.engine.library, "desk_rebase", slow):
+            self.assertEqual(self.fill(store, 1), ([2], [10]))
+        thread.join()
+        self.assertEqual(found, [(Edge(1, 1, 1), {"s0": 0, "t": 1}), True])
+
+    def test_seats_are_as_many(self):
+        """Also where the sessions were opened before it began anew."""
+        store = self.store(seats=2, renew_after=10)
+        sessions = [store.open()]
+        self.fill(store, 5)
+        sessions.append(store.open())
+        self.fill(store, 5)
+        self.assertRaises(misteluk.NoSeat, store.open)
+        sessions.pop(0).close()
+        self.assertEqual(store.open().version, 10)
+
+    def test_what_it_takes(self):
+        self.assertRaisesRegex(ValueError, "from 1 on, and not 0", Store, renew_after=0)
+        self.assertRaisesRegex(ValueError, "a store that renews itself is one in this process", Store, engine="program",
+                               renew_after=5)
+
+
+@unittest.skipUnless(ENGINE == "library", "of the library alone")
+class Crowded(Case):
+    """A batch that finds no room, for more than one reason."""
+
+    def test_all_seats_are_taken(self):
+        """A store lets idle names go by reading its last version, also where sixteen sessions hold others."""
+        with mock.patch.object(limits, "MOST_PRODUCT", 6_400):
+            store, sessions = self.store(endless=True, seats=16), []
+            for at in range(16):
+                self.feed(store, f"insert k a b{at} 1 1")
+                sessions.append(store.open())
+            for at in range(200):
+                self.feed(store, f"insert k s{at} t 1 1", f"remove k s{at} t")
+        self.assertEqual((store.stat().version, store.stat().edges), (216, 16))
+        self.assertLess(store.stat().names, 101)
+        self.assertEqual([len(list(it.edges())) for it in sessions], list(range(1, 17)))
+
+    def test_names_and_blocks(self):
+        """A batch for which there have to be more names, and then more blocks."""
+        with mock.patch.object(library, "FIRST_BLOCKS", 128), mock.patch.object(limits, "MOST_PRODUCT", 6_400):
+            store = self.store(endless=True)
+            for at in range(90):
+                store.insert("k", f"s{at}", "t")
+            store.commit()
+            for at in range(90, 180):
+                store.insert("k", f"s{at}", "t")
+            self.assertEqual(store.commit().inserted, 90)
+        self.assertEqual((store.stat()[:3], store.blocks), ((2, 181, 180), 512))
 
 
 @unittest.skipUnless(ENGINE == "program", "of the program alone")

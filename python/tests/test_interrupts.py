@@ -4,6 +4,7 @@ Each call is interrupted at each line that it runs in the calling thread, and wh
 timer, beside a model of the store. Each test is made again with a fault that is planted, and has to find it.
 """
 import ctypes
+import functools
 import gc
 import multiprocessing
 import os
@@ -21,12 +22,12 @@ from support import ENGINE, OF_PIPES, Case, as_soon_as
 
 import misteluk
 from misteluk import Store, ledger
-from misteluk.engine import calls
+from misteluk.engine import calls, library
 
 
 class Interrupts(Case):
-    def lines(self, name, step=1):
-        return lines(Scene, CALLS[name], lambda scene: after(name, scene), step)
+    def lines(self, name, step=1, scene=Scene):
+        return lines(scene, CALLS[name], lambda scene: after(name, scene), step)
 
     def test_each_line(self):
         for name in CALLS:
@@ -34,6 +35,26 @@ class Interrupts(Case):
                 count, wrong = self.lines(name)
                 self.assertGreater(count, 3)
                 self.assertEqual(wrong, [])
+
+    @unittest.skipUnless(ENGINE == "library", "of the library alone")
+    def test_each_line_where_it_renews_itself(self):
+        """Nothing is applied twice or lost, the session answers on, and versions are counted on, wherever the interrupt comes."""
+        anew = functools.partial(Scene, renew_after=1)
+        scene = anew()
+        self.addCleanup(scene.end)
+        self.assertEqual((scene.store.operations_kept, scene.store.commit().version, scene.store.operations_kept), (2, 2, 3))
+        for name, step in (("commit", 1), ("small batches", 4)):
+            count, wrong = self.lines(name, step, anew)
+            self.assertGreater(count, 30)
+            self.assertEqual(wrong, [])
+
+        def unnoted(engine, opening, stat):
+            """A fault to plant: that it began anew is noted a step later."""
+            library.check(engine.library.desk_rebase(opening.desk.raw))
+            engine._opening = opening._replace(before=stat.version, kept=library.Tally())
+            return engine._opening
+        with mock.patch.object(library.LibraryEngine, "_begin_anew", unnoted):
+            self.assertGreater(len(self.lines("commit", scene=anew)[1]), 0)
 
     def test_each_line_finds_a_fault(self):
         if ENGINE == "program":

@@ -80,7 +80,11 @@ class Answers(ServeCase):
             async with await connect_async(self.server.url) as session:
                 levels, edge, walk = await asyncio.gather(session.levels("ana"), session.edge("transfer", "ben", "funnel"),
                                                           session.path("boss", "offshore"))
-                graph = await session.ask(session.session.edges_columns, kind="owes")
+                graph, into = await session.ask(session.session.edges_columns, kind="owes"), await session.edges_into("funnel")
+                self.assertEqual((session.version, session.is_open, len(into), "neighbors" in dir(session)), (1, True, 2, True))
+                with self.assertRaises(misteluk.NoVertex):
+                    await session.out_of("zed")
+                self.assertRaises(AttributeError, lambda: session.nothing)
                 async with await connect_async(self.server.url) as other:
                     return levels, edge, walk, len(graph), bool(await session.diff(other))
         found = asyncio.run(both())
@@ -113,6 +117,43 @@ class Answers(ServeCase):
         as_soon_as(lambda: [it["version"] for it in self.ask("/v1/stat").json["held"]] == [version + 20])
 
 
+class Level(ServeCase):
+    """A server whose store renews itself."""
+
+    def test_replies_over_renewals(self):
+        """Few operations are kept, versions are counted on, and what is told of a version that is held stays as it was."""
+        self.fed(renew_after=20)
+        name = self.post("/v1/sessions").json["session"]
+        held = [f"/v1/{it}{mark}session={name}" for it, mark in (
+            ("edge?kind=transfer&source=ana&target=funnel", "&"), ("degrees", "?"), ("levels?source=ana", "&"), ("edges", "?"),
+            ("names?like=n", "&"), ("into?vertex=funnel", "&"), ("view?vertex=funnel", "&"))]
+        before, kept, versions = [self.ask(it).body for it in held], [], []
+        with connect(self.server.url, version=1) as session, Served(self.server.url) as feed:
+            edges, cores = list(session.edges()), session.cores()
+            for at in range(30):
+                for _ in range(7):
+                    feed.add("transfer", "ana", "funnel", 1, at)
+                versions.append(feed.commit().version)
+                kept.append(self.ask("/v1/stat").json["operations_kept"])
+                self.assertEqual([self.ask(it).body for it in held], before)
+            self.assertEqual((list(session.edges()), session.cores()), (edges, cores))
+            with feed.open() as last:
+                self.assertEqual(str(session.diff(last)), "<Diff: 0 gone, 0 new, 1 changed>")
+        self.assertEqual((versions, kept), (list(range(2, 32)), [11, 18, *[7, 14] * 14]))
+        self.assertEqual(self.ask("/v1/edge?kind=transfer&source=ana&target=funnel").json,
+                         {"version": 31, "edge": {"weight": 980 + 30 * 7, "first": 1, "recent": 29}})
+
+    def test_a_feed_that_is_followed(self):
+        path = self.file("feed.csv", "".join(f"s{it % 3},t,1,{it}\n" for it in range(500)))
+        self.serve(renew_after=40)
+        self.server.feeding.follow(self.server.store.follow(path, by="add", every=0.0, batch=10, until_end=True,
+                                                            columns=misteluk.Columns(1, 2, weight=3, time=4)))
+        as_soon_as(lambda: self.ask("/v1/stat").json["feed"]["state"] == "ended")
+        told = self.ask("/v1/stat").json
+        self.assertEqual((told["version"], told["feed"]["rows"], told["operations_kept"]), (50, 500, 20))
+        self.assertEqual([row[3] for row in self.rows_of("/v1/edges")], [167, 167, 166])
+
+
 class Feeds(ServeCase):
     def test_one_feeds(self):
         """A second one is told so, until the first one gives its seat back."""
@@ -120,6 +161,10 @@ class Feeds(ServeCase):
         with Served(self.server.url) as first, Served(self.server.url) as second:
             first.add("k", "a", "b", 5, 1)
             first.commit()
+            self.assertEqual(repr(second), f"<Served by the server {self.server.url}: 0 sessions open, 0 pending>")
+            second.add("k", "a", "c", 5, 1)
+            self.assertRaisesRegex(Busy, "another client feeds", second.commit)
+            self.assertEqual((second.discard(), second.pending), (1, 0))
             second.add("k", "a", "b", 5, 1)
             self.assertRaisesRegex(Busy, "another client feeds", second.commit)
             self.assertEqual(self.post("/v1/rows", {"rows": FEED}).json["error"], "Busy")
@@ -218,8 +263,9 @@ class Feeds(ServeCase):
         self.assertEqual(self.post("/v1/rows", {"rows": FEED}).status, 200)
 
     def test_beside_a_feed_at_full_speed(self):
-        """Clients that ask meanwhile: each answer is of one version, and versions don't go back."""
-        self.fed(["add", "turn", "s0", "t", 0, 1])
+        """Clients that ask meanwhile: each answer is of one version, and versions don't go back, also where the store renews
+        itself every few batches."""
+        self.fed(["add", "turn", "s0", "t", 0, 1], renew_after=50)
         wrong, answers, is_over = [], [], threading.Event()
 
         def watch():

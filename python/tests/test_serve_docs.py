@@ -71,19 +71,32 @@ class Page(ServeCase):
         self.assertEqual(failed, 0, said.getvalue())
         self.assertGreater(tried, 5)
 
+    def stat(self):
+        return json.load(urllib.request.urlopen(f"http://127.0.0.1:{self.port}/v1/stat"))
+
     def test_the_tutorial_s_part(self):
-        """Its last version is asked for, which is there when all rows are in."""
+        """Commands and conversation in the order of the page, each when the rows of the file are in that it has by then."""
         (self.room / "examples").symlink_to(TOP / "examples")
         text = (TOP / "docs/TUTORIAL.md").read_text(encoding="utf-8")
-        part = text.partition("### Several who look\n")[2].partition("\n## ")[0].replace("7700", str(self.port))
+        part = text.partition("### A team on one feed\n")[2].partition("\n## ")[0].replace("7700", str(self.port))
         self.typed(re.findall(r"(?m)^    \$ (shipments\(\) .*)$", text)[0], 0)
-        (begin, wanted), *others = commands(part)
-        self.assertEqual(self.typed(begin, 1).strip("\n"), wanted)
-        url = f"http://127.0.0.1:{self.port}"
-        as_soon_as(lambda: json.load(urllib.request.urlopen(f"{url}/v1/stat"))["feed"]["state"] == "ended")
-        for command, wanted in others:
-            self.assertEqual(self.typed(command, 1).strip("\n"), wanted)
-        self.assertEqual(len(others), 2)
+        count, known, said = 0, {}, io.StringIO()
+        for block in re.findall(r"(?m)(?:^    .*\n)+", part):
+            for command, wanted in commands(block):
+                self.assertEqual(self.typed(command, wanted.count("\n") + 1).strip("\n"), wanted)
+                count += 1
+            if ">>>" in block:
+                rows = (self.room / "lanes.csv").read_text().count("\n") - 1
+                as_soon_as(lambda: self.stat()["feed"]["rows"] == rows)
+                page = doctest.DocTestParser().get_doctest(block, known, "TUTORIAL.md", None, 0)
+                with redirect_stdout(said):
+                    failed, tried = doctest.DocTestRunner().run(page, clear_globs=False)
+                self.assertEqual(failed, 0, said.getvalue())
+                known, count = page.globs, count + tried
+            if "hers" in block and "close" not in block:  # (what the page says that a browser shows)
+                url = f"http://127.0.0.1:{self.port}/v1/view?vertex=kassel&hops=1&beside=1"
+                self.assertRegex(urllib.request.urlopen(url).read().decode(), "<b>6</b>\\s*gone")
+        self.assertEqual(([(it["version"], it["clients"]) for it in self.stat()["held"]], count), ([(2, 0)], 13))
 
     def test_what_it_tells_of(self):
         """The questions and options of its tables are those that there are."""

@@ -81,6 +81,21 @@ class Kept(ServeCase):
         self.addCleanup(found.close)
         self.assertEqual(list(found.open().edges()), [("k", "a", "b", Edge(5, 1, 1))])
 
+    def test_the_end_saves_where_all_seats_are_taken(self):
+        done, store = self.begin("1000"), self.client()
+        sessions = []
+        for at in range(16):
+            sessions.append(store.open())
+            store.add("k", "a", f"b{at}", 5, 1)
+            store.commit()
+        self.assertNotIn(16, [it["version"] for it in told(store)["held"]])
+        done.send_signal(signal.SIGTERM)
+        done.communicate(timeout=60)
+        self.assertEqual(done.returncode, 0)
+        found = Store.restore(self.saved)
+        self.addCleanup(found.close)
+        self.assertEqual(len(found.open().edges_columns()), 16)
+
     def test_a_pipe_goes_on(self):
         """What a pipe brings goes into what was saved."""
         words = ["-", "--add", "--source", "1", "--target", "2", "--every", "10ms", "--listen", f"unix:{self.path}", "--save",

@@ -42,7 +42,7 @@ class Page(ServeCase):
         browser = self.open()
         browser.wait_for("document.getElementById('edges').textContent === '4'")
         browser.see("document.getElementById('hold').click()")
-        browser.wait_for("document.getElementById('held').textContent.includes('this page one')")
+        browser.wait_for("document.getElementById('held').textContent.includes('this page')")
         self.assertEqual([it["clients"] for it in self.ask("/v1/stat").json["held"]], [1])
         self.post("/v1/rows", {"rows": [["remove", "transfer", "ben", "funnel"], ["add", "transfer", "zed", "funnel", 7, 5],
                                         ["add", "transfer", "funnel", "offshore", -940, 6]]})
@@ -56,7 +56,7 @@ class Page(ServeCase):
             self.assertIn(mark, page)
         browser.wait_for("document.getElementById('view').style.height !== ''")  # (its script ran, under the page's policy)
         browser.see("[...document.querySelectorAll('#held button')].find((it) => it.textContent === 'Let go').click()")
-        browser.wait_for("!document.getElementById('held').textContent.includes('this page one')")
+        browser.wait_for("!document.getElementById('held').textContent.includes('this page')")
         self.assertEqual([it["version"] for it in self.ask("/v1/stat").json["held"]], [2])
         self.assertEqual(browser.logged, [])
 

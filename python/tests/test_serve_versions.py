@@ -56,6 +56,24 @@ class Versions(Case):
         self.assertEqual([it.version for it in self.board.held()], [0, *range(2, 17)])
         self.assertEqual(self.board.keep(leases[2].name).shared.version, 2)
 
+    def test_some_rows_of_a_post_are_no_version(self):
+        """Also where a seat becomes free while the others go in."""
+        leases = []
+        for _ in range(16):
+            leases.append(self.board.lease())
+            self.advance()
+        real, told = self.at.engine.fly, []
+
+        def fly(flight):
+            found = real(flight)
+            if leases:
+                self.board.let_go(leases.pop().name)
+            told.append([it for it, _ in self.told()])
+            return found
+        with mock.patch.object(self.at.engine, "fly", fly):
+            Feeding(self.board, Limits()).rows([["add", "k", f"s{it}", "t", "1", "1"] for it in range(5_000)])
+        self.assertEqual((told, [it for it, _ in self.told()]), ([[*range(15)], [*range(14)]], [*range(14), 18]))
+
     def test_who_asks_isn_t_silent(self):
         lease = self.board.lease()
         self.clock.now = 59
@@ -108,17 +126,19 @@ class Versions(Case):
         feeding.claim()
         self.assertRaises(SessionClosed, feeding.batch, first.name, 2, "a,k,x,y,1,1\n", {}, True)
 
-    def test_it_begins_anew(self):
-        """Behind many operations, of which a store remembers each; versions count on, and those that are held stay."""
-        feeding, lease = Feeding(self.board, Limits(), self.clock), self.board.lease()
-        with mock.patch("misteluk.serve.feeding.RENEWED", 20):
-            for it in range(9):
-                feeding.rows([["add", "k", "a", "b", "1", str(at)] for at in range(10)])
-        self.assertEqual((len(self.at.renewals), self.told()), (3, [(0, 1), (9, 0)]))
-        with self.board.lent() as session:
-            self.assertEqual(session.edge("k", "a", "b").weight, 90)
-        with self.board.lent(lease.name) as session:
-            self.assertEqual(len(session), 0)
+    def test_sixteen_versions_over_renewals(self):
+        """Those that were held before a store began anew count too."""
+        leases = []
+        for _ in range(20):
+            try:
+                leases.append(self.board.lease())
+            except Full as fault:
+                self.assertEqual(fault.word, "NoSeat")
+            self.advance()
+            self.at.renew()
+        self.assertEqual((len(leases), [it for it, _ in self.told()]), (16, list(range(16))))
+        self.board.let_go(leases.pop().name)
+        self.assertEqual([it for it, _ in self.told()], [*range(15), 20])
 
     def test_the_rate(self):
         feeding = Feeding(self.board, Limits(), self.clock)

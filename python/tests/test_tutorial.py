@@ -29,6 +29,12 @@ def commands(text):
             yield command, re.sub(r"(?m)^    ", "", lines).strip("\n")
 
 
+def text_of(path):
+    """A page, but for the tutorial's part that has a server, which test_serve_docs.py runs."""
+    before, mark, part = path.read_text(encoding="utf-8").partition("### A team on one feed\n")
+    return before + part[part.index("\n## "):] if mark else before
+
+
 def is_like(told, wanted):
     """Whether the lines are the wanted ones, where `...` stands for any."""
     return re.fullmatch(".*".join(map(re.escape, wanted.split("..."))), told, re.S) is not None
@@ -49,13 +55,11 @@ class Documents(Case):
         """Runs the client's commands, those that show a file's head, and what stands before them on the page: a function of
         the shell, or a file that is written. Returns how many there were of the first two."""
         count, before = 0, ""
-        for command, wanted in commands(path.read_text()):
+        for command, wanted in commands(text_of(path)):
             if re.fullmatch(r"\w+\(\) \{ .* \}|printf '[^']*' > \S+", command):
                 before += f"{command}\n"
                 continue
             names = "|".join(["misteluk", "stinger drive", "head", *re.findall(r"(?m)^(\w+)\(\) \{", before)])
-            if command.endswith("&") or command.startswith("curl"):  # (test_serve_docs.py runs these)
-                continue
             if " picture " in command and not optional("matplotlib") or not re.search(rf"\b({names})\b", command):
                 continue
             run = subprocess.run(before + command, shell=True, executable="/bin/bash", cwd=self.room, env=self.env,
@@ -73,7 +77,7 @@ class Documents(Case):
         here = os.getcwd()
         os.chdir(self.room)
         self.addCleanup(os.chdir, here)
-        told, text = io.StringIO(), path.read_text(encoding="utf-8")
+        told, text = io.StringIO(), text_of(path)
         if optional("networkx") and optional("pandas"):
             text = re.sub(" *# doctest: \\+SKIP", "", text)
         page = doctest.DocTestParser().get_doctest(text, {}, path.name, str(path), 0)

@@ -12,5 +12,6 @@ Choices:
   `starmap`). A finalizer's note is made by code in C, because an interrupt in a finalizer is lost.
 - A store in process grows by a copy. A desk has its blocks and limits from its opening on, and each block takes memory. So a
   store opens small, and a larger desk takes its place.
+- A store renews itself before a batch, and never after one: an interrupt then finds the batch begun or not, as without that.
 - A fleet uses programs, because its parts are many and its questions are other people's code.
 """

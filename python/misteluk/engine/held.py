@@ -19,10 +19,19 @@ NO_HOLD, A_ROW = (1 << 64) - 1, 32
 ALL_EDGES = interface.View(WHOLE.since, WHOLE.until, interface.ANY_KIND)
 
 
+class Tally:
+    """How many operations a desk keeps: those of each batch that it applied."""
+
+    __slots__ = ("count",)
+
+    def __init__(self) -> None:
+        self.count = 0
+
+
 class Opening(NamedTuple):
     """What an engine has from one beginning anew to the next: its desk, and the holds that are to be given back there; how many
-    versions were made before; its names; the desk's blocks and limits; and the version at which it is about to begin anew, with
-    the step by which it does."""
+    versions were made before; its names; the desk's blocks and limits; the operations that it keeps; and the version at which it
+    is about to begin anew, with the step by which it does."""
 
     desk: Owned
     holds: Notes
@@ -30,6 +39,7 @@ class Opening(NamedTuple):
     known: Known
     blocks: int
     shape: Limits
+    kept: Tally
     anew: Optional[Tuple[int, Step]] = None
 
 

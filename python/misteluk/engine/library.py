@@ -17,39 +17,44 @@ from .calling import MOST_AT_ONCE, WORDS, Known, LibraryFlight, check, fill, ope
 from .copies import Content, content_of, operations_of
 from .finding import find_library
 from .guard import Guard, Notes, Owned, Step, alone
-from .held import LibraryVersion, Opening
+from .held import LibraryVersion, Opening, Tally
 from .interface import Code
 from .operations import REMOVE, Operations
 from .protocol import Denied, Receipt
-from ..errors import NoSeat, StoreError
+from ..errors import NoMemory, NoSeat, StoreError
 from ..values.answers import Collected, Commit, Rebased, Renewed, Stat
 from ..values.limits import MOST_BLOCKS, MOST_KINDS, Limits
 
 # How many blocks a desk has at first, and how many times as many one that has room for more.
 FIRST_BLOCKS, MORE_BLOCKS = 65_536, 4
+# Of how many operations for each edge a desk isn't begun anew: so that this takes little beside them.
+TIMES_EDGES = 2
 
 
 class LibraryEngine:
     """A desk in this process. It begins anew by itself where it is full: of batches, or of blocks that held versions need.
     Versions that are held stay as they are. Where nothing says how many blocks, vertices or kinds there are at most, a larger
     desk with the same edges takes its place once they are needed. `endless`: before that it lets names and kinds go that have no
-    edge."""
+    edge. `renew_after`: it also begins anew before a batch with which it would keep more than so many operations, and more than
+    twice as many as there are edges."""
 
     name = "library"
     records_sent, records_left, most_blocks = 0, None, MOST_BLOCKS
 
     def __init__(self, blocks: Optional[int], seats: int, endless: bool, limits: Limits = Limits(),
-                 library: "Optional[str | os.PathLike[str]]" = None) -> None:
+                 renew_after: Optional[int] = None, library: "Optional[str | os.PathLike[str]]" = None) -> None:
         self.path = find_library(library)
         self.library, self.handles = opened(self.path)
         self.grows, self.limits, self.seats, self._endless = blocks is None, limits, seats, endless
+        self._renew_after = renew_after
         self.is_closed = False
         self.guard = self._guard = Guard()
         self._held: "Dict[int, weakref.ref[LibraryVersion]]" = {}
         self._versions: "List[weakref.ref[LibraryVersion]]" = []
         # The handle of a batch that was applied, and so has no operation: the next one takes it.
         self._empty: List[Owned] = []
-        self._rebased: Optional[Tuple[LibraryVersion, Rebased]] = None
+        # The last rebase: its version, what it did, and the versions that it closes.
+        self._rebased: "Optional[Tuple[LibraryVersion, Rebased, List[weakref.ref[LibraryVersion]]]]" = None
         # (an endless one has few vertices at first, so that it lets those go that have no edge, before it takes many)
         is_plain = limits.vertices is limits.kinds is None
         self._opening = self._new(0, blocks or FIRST_BLOCKS, limits.shape(0, MOST_KINDS if endless and is_plain else 0))
@@ -58,11 +63,15 @@ class LibraryEngine:
         """An opening with an empty desk, of so many versions before."""
         desk = Owned(interface.Desk(), self.handles.desks)
         check(self.library.desk_new_within(interface.Limits(*shape), blocks, desk.raw))
-        return Opening(desk, Notes(), version, Known.nothing(), blocks, shape)
+        return Opening(desk, Notes(), version, Known.nothing(), blocks, shape, Tally())
 
     @property
     def blocks(self) -> int:
         return self._opening.blocks
+
+    @property
+    def operations_kept(self) -> int:
+        return self._opening.kept.count
 
     @property
     def has_ended(self) -> bool:
@@ -87,10 +96,10 @@ class LibraryEngine:
         if opening.anew is not None:
             version, step = opening.anew
             begun = step.gave == [Code.OK]
-            opening = opening._replace(anew=None, before=version if begun else opening.before)
+            opening = opening._replace(anew=None)
             if begun:
+                opening = opening._replace(before=version, kept=Tally())
                 opening.holds.forget()
-                self._held.clear()
             self._opening = opening
         opening.holds.give_back(self.library.desk_release, opening.desk.raw)
         for at in [at for at, it in self._held.items() if it() is None]:
@@ -129,7 +138,9 @@ class LibraryEngine:
     @alone
     def fly(self, flight: LibraryFlight) -> Receipt:
         opening = self._settle()
-        tried: Set[str] = set()
+        tried: "Set[Tuple[str, int]]" = set()
+        if flight.step is None:
+            opening = self._level(opening, flight.batch.size)
         while True:
             if flight.step is None or flight.step.gave not in ([], [Code.OK]):
                 flight.step = Step(self.library.desk_apply, opening.desk.raw, flight.owned.raw, flight.counts)
@@ -144,13 +155,27 @@ class LibraryEngine:
 
     def _receipt(self, opening: Opening, flight: LibraryFlight) -> Receipt:
         it, self._empty = flight.counts, [flight.owned]
+        opening.kept.count += flight.batch.size
         if flight.collect:
             self._collect(opening)
         return Receipt(Commit(it.version + opening.before, it.inserted, it.updated, it.removed, it.absent, it.overflowed, 1,
                               it.expired))
 
-    def _help(self, opening: Opening, code: int, flight: LibraryFlight, tried: Set[str]) -> Optional[Opening]:
-        """Makes room for a batch that was refused, by what wasn't tried yet; `None` where nothing helps."""
+    def _level(self, opening: Opening, more: int) -> Opening:
+        """Begins anew where the desk would keep too many operations with so many more: each of them takes memory until then."""
+        kept, most = opening.kept.count, self._renew_after
+        if most is None or kept == 0 or kept + more <= most:
+            return opening
+        stat = self._stat(opening)
+        if kept + more <= TIMES_EDGES * stat.edges:
+            return opening
+        try:
+            return self._begin_anew(opening, stat)
+        except NoMemory:  # (there may be some for the batch; the next one tries this again)
+            return self._opening
+
+    def _help(self, opening: Opening, code: int, flight: LibraryFlight, tried: "Set[Tuple[str, int]]") -> Optional[Opening]:
+        """Makes room for a batch that was refused, by what wasn't tried yet for such a refusal; `None` where nothing helps."""
         is_full = code in (Code.NAMES_FULL, Code.KINDS_FULL)
         stat = self._stat(opening)
         ways: Sequence[Tuple[str, object, Callable[[], Optional[Opening]]]] = (
@@ -158,16 +183,17 @@ class LibraryEngine:
             ("begin anew", code == Code.BATCHES_FULL or code == Code.BLOCKS_FULL and stat.retired,
              lambda: self._begin_anew(opening, stat)),
             ("let go", is_full and self._endless, lambda: self._without_idle_names(opening, stat)),
-            ("grow", is_full or code == Code.BLOCKS_FULL, lambda: self._grown(opening, code, flight)))
+            ("grow", is_full or code == Code.BLOCKS_FULL, lambda: self._grown(self._opening, code, flight)))
         for name, is_of_use, way in ways:
-            if is_of_use and name not in tried:
-                tried.add(name)
+            if is_of_use and (name, code) not in tried:
+                tried.add((name, code))
                 found = way()
                 if found is not None:
                     return found
         return None
 
     def _without_idle_names(self, opening: Opening, stat: Stat) -> Optional[Opening]:
+        opening = self._begin_anew(opening, stat)  # (so that there is a seat to read it by)
         try:
             return self._copy(self._content(opening).without_idle_names(), stat.version)
         except Denied:
@@ -260,12 +286,12 @@ class LibraryEngine:
             del self._held[version.slot]
         self._settle()
 
-    def _close_versions(self) -> None:
-        for it in self._versions:
+    def _close_versions(self, versions: "Sequence[weakref.ref[LibraryVersion]]") -> None:
+        for it in versions:
             version = it()
             if version is not None:
                 version.end()
-        self._held.clear()
+        self._held = {at: it for at, it in self._held.items() if it not in versions}
 
     # Beginning anew.
 
@@ -293,7 +319,6 @@ class LibraryEngine:
             at += len(part)
         check(self.library.desk_rebase(opening.desk.raw))
         self._opening = opening
-        self._held.clear()
         return opening
 
     def _content(self, opening: Opening) -> Content:
@@ -306,8 +331,9 @@ class LibraryEngine:
 
     @alone
     def rebase(self, version: Any) -> Rebased:
-        if self._rebased is not None and self._rebased[0] is version:
-            return self._rebased[1]  # (an interrupt came before this was told)
+        if self._rebased is not None and self._rebased[0] is version:  # (an interrupt came before this was told)
+            self._close_versions(self._rebased[2])
+            return self._rebased[1]
         opening = self._settle()
         stat = self._stat(opening)
         if version.desk is opening.desk and version.number == stat.version:
@@ -316,8 +342,8 @@ class LibraryEngine:
             opening = self._copy(content_of(version), 0)
         self._opening = opening._replace(before=0)
         found = self._stat(self._opening)
-        self._rebased = version, Rebased(0, found.names, found.edges, found.used)
-        self._close_versions()
+        self._rebased = version, Rebased(0, found.names, found.edges, found.used), self._versions
+        self._close_versions(self._versions)
         return self._rebased[1]
 
     @alone
@@ -333,7 +359,7 @@ class LibraryEngine:
     def close(self) -> None:
         if self.is_closed:
             return
-        self._close_versions()
+        self._close_versions(self._versions)
         opening, self.is_closed = self._opening, True
         self._opening = opening._replace(desk=Owned(interface.Desk(), self.handles.desks))
         del opening

@@ -57,7 +57,7 @@ class ProgramEngine:
     interrupt ends the waiting for it."""
 
     name = "program"
-    limits, most_blocks, grows = OF_PROGRAM, records.MOST_BLOCKS, False
+    limits, most_blocks, grows, operations_kept = OF_PROGRAM, records.MOST_BLOCKS, False, None
 
     def __init__(self, program: str, blocks: int, seats: int, workers: int, timeout: float) -> None:
         self.program, self.blocks, self.seats = program, blocks, seats

@@ -212,6 +212,10 @@ class Engine(Protocol):
     @property
     def records_left(self) -> Optional[int]: ...
 
+    @property
+    def operations_kept(self) -> Optional[int]:
+        """How many operations it keeps that came since it began, or began anew; `None` where that isn't known here."""
+
     def fit(self, vertices: int, kinds: int, blocks: int) -> None:
         """Has room for so many before they come, where it may have more: nothing that is told or held changes."""
 

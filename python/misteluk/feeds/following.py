@@ -132,6 +132,11 @@ class Following(Iterator[Followed]):
         return self._incoming.is_half and not self.has_unread
 
     @property
+    def ended_half(self) -> bool:
+        """Whether the feed came to its end amid a line, as where a pipe's writer was killed: that line is a row nevertheless."""
+        return self._source.ended_half
+
+    @property
     def has_unread(self) -> bool:
         """Whether more is there than was read, as where it was stopped amid a long file."""
         return self._source.has_unread

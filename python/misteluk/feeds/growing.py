@@ -50,7 +50,7 @@ class Growing:
         decoder = codecs.getincrementaldecoder(codec)(errors="surrogateescape")
         self._decoder = io.IncrementalNewlineDecoder(decoder, translate=False)
         self.half = ""
-        self.is_at_end = False
+        self.is_at_end = self.ended_half = False
         # Whoever waits for more hears this bell too, which any thread and a signal's handler may ring.
         self._bell, self._cord = os.pipe()
         os.set_blocking(self._cord, False)
@@ -95,8 +95,9 @@ class Growing:
             return []
         self.is_at_end = not data
         found = list(io.StringIO(self.half + self._decoder.decode(data, not data), newline=""))
-        is_half = bool(found) and not self.is_at_end and not found[-1].endswith(("\n", "\r"))
-        self.half = found.pop() if is_half else ""
+        is_half = bool(found) and not found[-1].endswith(("\n", "\r"))
+        self.ended_half = is_half and self.is_at_end
+        self.half = found.pop() if is_half and not self.is_at_end else ""
         if len(self.half) > MOST_LINE:
             raise FeedFault(f"{self.name}: a line of more than {MOST_LINE} characters")
         return found

@@ -37,6 +37,11 @@ def script() -> str:
     return f"\n{_part('page.js')}"
 
 
+def style() -> str:
+    """How a page looks, also the one of a server."""
+    return _part("base.css")
+
+
 def counted(count: int, word: str) -> str:
     """How many there are, in words."""
     many = "vertices" if word == "vertex" else f"{word}s"
@@ -108,7 +113,7 @@ class Page:
         return (f'<!DOCTYPE html>\n<html lang="en">\n<head>\n<meta charset="utf-8">\n'
                 f'<meta http-equiv="Content-Security-Policy" content="{POLICY}">\n'
                 f'<meta name="viewport" content="width=device-width, initial-scale=1">\n<title>{escape(self.title)}</title>\n'
-                f"<style>\n{_part('page.css')}</style>\n</head>\n<body>\n<main>\n{self._header()}{self._legend()}"
+                f"<style>\n{style()}{_part('page.css')}</style>\n</head>\n<body>\n<main>\n{self._header()}{self._legend()}"
                 f'<div class="{"both" if self.is_two else "alone"}">\n{pictures}{tables}</div>\n{self._notes()}</main>\n'
                 f"<script>{script()}</script>\n</body>\n</html>\n")
 

@@ -7,6 +7,7 @@ Choices:
 - Whoever commits a version holds it right away, so no question waits for the feed. A session is closed outside of the board's
   lock, because that waits for a batch that is being applied.
 - At most 16 versions are held, by any number of clients: clients of one version share its seat.
+- Rows of one post that are several batches are no version until all are in, so nobody sees or saves a part of them.
 - A silent client loses its hold, and only a request breaks the silence. So a notebook that was left open keeps no version.
 - A batch has a number, so one whose answer was lost is sent again and applied once.
 - Questions over the whole graph have threads of their own, so a question for one edge doesn't wait for them. The server sets

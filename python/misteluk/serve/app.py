@@ -18,12 +18,13 @@ from .board import Board, Full, Lease
 from .feeding import Feeding
 from .gate import Run
 from .keeping import Keeper
-from .flow import Pool, Streamed, first_of, within
+from .flow import Pool, Streamed, as_json, first_of, within
 from .limits import Limits
 from .openapi import described
 from .page import POLICY
 from .questions import HELD, QUESTIONS, Question
 from ..engine.protocol import Denied
+from ..page.page import style
 from ..errors import Busy, NoKind, NoMemory, NoVertex, PoolEmpty, Refused, SessionClosed, StoreError
 from ..values.units import whole_text
 
@@ -127,27 +128,28 @@ class Api:
         stat, units = self.board.stat, self.store.ledger.terms.units
         told = {"server": self._run.name, "began": self._run.began, "saved": self._keeper and self._keeper.told(),
                 "version": stat.version, "vertices": stat.names, "edges": stat.edges,
+                "operations_kept": self.store.operations_kept,
                 "blocks": {"all": self.store.blocks, "grow": self.store.engine.grows, "free": stat.free, "retired": stat.retired,
                            "used": stat.used},
                 "held": [it._asdict() for it in await self.quick.run(self.board.held)], "seats": self.store.seats,
                 "feed": self.feeding.told(), "limits": self.limits._asdict(),
                 "units": {"weight_scale": units.weight_scale, "times": units.times, "decimals": units.decimals,
                           "rounding": units.rounding}}
-        return _json(told)
+        return as_json(told)
 
     async def description(self, request: Request) -> Response:
-        return _json(described())
+        return as_json(described())
 
     # Sessions.
 
     async def hold(self, request: Request) -> Response:
         version = HELD[1].read(request.query_params["version"]) if "version" in request.query_params else None
         lease = await self.held.run(lambda: self.board.lease(version), lambda it: self.board.let_go(it.name))
-        return _json(_lease(lease, self.limits), 201)
+        return as_json(_lease(lease, self.limits), 201)
 
     async def keep(self, request: Request) -> Response:
         lease = await self.held.run(lambda: self.board.keep(request.path_params["session"]))
-        return _json(_lease(lease, self.limits))
+        return as_json(_lease(lease, self.limits))
 
     async def let_go(self, request: Request) -> Response:
         await self.held.run(lambda: self.board.let_go(request.path_params["session"]))
@@ -173,11 +175,11 @@ class Api:
         if kind not in ("text/csv", "application/json"):
             raise ValueError("rows are text/csv or application/json, as their Content-Type says")
         found = _rows_of_csv(body) if kind == "text/csv" else _rows_of_json(_loaded(body))
-        return _json((await self.feed.run(lambda: self.feeding.rows(found, name)))._asdict())
+        return as_json((await self.feed.run(lambda: self.feeding.rows(found, name)))._asdict())
 
     async def claim(self, request: Request) -> Response:
         feeder = await self.feed.run(self.feeding.claim, lambda it: self.feeding.let_go(it.name))
-        return _json({"feeder": feeder.name, "idle": self.limits.idle}, 201)
+        return as_json({"feeder": feeder.name, "idle": self.limits.idle}, 201)
 
     async def leave(self, request: Request) -> Response:
         await self.feed.run(lambda: self.feeding.let_go(request.path_params["feeder"]))
@@ -191,12 +193,12 @@ class Api:
             raise ValueError("a batch has operations, a text, and texts by their ids")
         records: str = text
         receipt = await self.feed.run(lambda: self.feeding.batch(it["feeder"], it["number"], records, texts, collect))
-        return _json(receipt._asdict())
+        return as_json(receipt._asdict())
 
     async def landed(self, request: Request) -> Response:
         it = request.path_params
         receipt = await self.feed.run(lambda: self.feeding.landed(it["feeder"], it["number"]))
-        return _json({"receipt": None if receipt is None else receipt._asdict()})
+        return as_json({"receipt": None if receipt is None else receipt._asdict()})
 
     # Bodies.
 
@@ -221,13 +223,9 @@ def _lease(lease: Lease, limits: Limits) -> Dict[str, Any]:
     return {"session": lease.name, "version": lease.shared.version, "vertices": lease.shared.session.names, "idle": limits.idle}
 
 
-def _json(told: Dict[str, Any], status: int = 200, headers: Optional[Dict[str, str]] = None) -> Response:
-    return Response(json.dumps(told).encode("ascii") + b"\n", status, headers, wire.JSON)
-
-
 def _file(name: str, media: str) -> Callable[[Request], Any]:
     """A file of the package, which is the page or a part of it."""
-    data = pkgutil.get_data(__package__ or "", name) or b""
+    data = (style().encode("utf-8") if media == "text/css" else b"") + (pkgutil.get_data(__package__ or "", name) or b"")
 
     async def handle(request: Request) -> Response:
         return Response(data, headers={"content-security-policy": POLICY}, media_type=media)
@@ -237,7 +235,7 @@ def _file(name: str, media: str) -> Callable[[Request], Any]:
 def _no_route(request: Request, fault: Exception) -> Response:
     status = getattr(fault, "status_code", 404)
     reason = "there is no such call: /openapi.json tells which there are" if status == 404 else "this call has another method"
-    return _json(wire.fault("NoCall", reason), status, getattr(fault, "headers", None))
+    return as_json(wire.fault("NoCall", reason), status, getattr(fault, "headers", None))
 
 
 # Rows.
@@ -275,15 +273,15 @@ def _field(at: int, value: Any) -> str:
 def told_fault(fault: Exception) -> Response:
     """A fault as a client is told it."""
     if isinstance(fault, Full):
-        return _json(wire.fault(fault.word, str(fault), fault.after), 503, {"retry-after": str(fault.after)})
+        return as_json(wire.fault(fault.word, str(fault), fault.after), 503, {"retry-after": str(fault.after)})
     if isinstance(fault, TooLarge):
-        return _json(wire.fault("TooLarge", str(fault)), 413, {"connection": "close"})
+        return as_json(wire.fault("TooLarge", str(fault)), 413, {"connection": "close"})
     status, word = _status(fault)
     more: Dict[str, Any] = {"denied": True} if isinstance(fault, Denied) else {}
     if isinstance(fault, Denied) and fault.stat is not None:
         more["stat"] = fault.stat._asdict()
     told = REASONS.get(word) or (fault.told if isinstance(fault, Refused) else str(fault))
-    return _json(wire.fault(word, told, **more), status)
+    return as_json(wire.fault(word, told, **more), status)
 
 
 def _status(fault: Exception) -> Tuple[int, str]:

@@ -65,6 +65,8 @@ class Board:
         self._held: Dict[int, Shared] = {}
         self._leases: Dict[str, Lease] = {}
         self._last: Optional[Shared] = None
+        # Whether rows go in that are several batches: a version with some of them isn't held.
+        self._is_amid = False
         self.stat: Stat = store.stat()
         self.advance()
 
@@ -72,13 +74,18 @@ class Board:
         """Holds the last version in the place of the one before. Where all seats hold versions that clients have, there is none
         that is last until one of them is let go."""
         with self._locked():
-            self.stat = self.store.stat()
+            self._is_amid, self.stat = False, self.store.stat()
             before, self._last = self._last, None
             if before is not None and len(self._held) == self.store.seats:
                 self._drop(before)
             self._hold_last()
             if before is not None:
                 self._drop(before)
+
+    def begin(self) -> None:
+        """Holds no version until `advance`: those that come have some of the rows alone that go in together."""
+        with self._lock:
+            self._is_amid = True
 
     @contextmanager
     def _locked(self) -> Iterator[None]:
@@ -104,6 +111,8 @@ class Board:
         """Holds the last version, where there is a seat for it and it isn't held."""
         known = self._last or self._held.get(self.stat.version)
         if known is None:
+            if self._is_amid:
+                return
             self._close_gone()
             try:
                 session = self.store.open()
@@ -162,6 +171,12 @@ class Board:
     def _end(self, lease: Lease) -> None:
         del self._leases[lease.name], lease.shared.leases[lease.name]
         self._drop(lease.shared)
+
+    def let_all_go(self) -> None:
+        """Lets go what clients hold: the last version is held then."""
+        with self._locked():
+            for it in list(self._leases.values()):
+                self._end(it)
 
     def sweep(self) -> int:
         """Lets go what silent clients hold, and gives how many they were."""

@@ -10,10 +10,10 @@ from .talk import Talk, part
 from ..engine.guard import Guard, alone
 from ..engine.operations import Operations
 from ..engine.protocol import Arrays, Denied, Ends, Marks, Receipt, Scope
-from ..errors import SessionClosed, StoreError
+from ..errors import NoAnswer, NoServer, SessionClosed, StoreError
 from ..session import Session
 from ..store import Store
-from ..values.answers import Collected, Commit, Rebased, Renewed, Stat
+from ..values.answers import Collected, Commit, Stat
 from ..values.limits import MOST_BLOCKS, Limits
 from ..values.names import NameTable
 from ..values.units import Units
@@ -108,7 +108,7 @@ class ServedEngine:
     """The store of a server. The first batch takes the seat of the one that feeds it; it is given back at the end."""
 
     name = "served"
-    records_sent, records_left = 0, None
+    records_sent, records_left, operations_kept = 0, None, None
     limits, most_blocks = Limits(), MOST_BLOCKS
 
     def __init__(self, talk: Talk) -> None:
@@ -165,7 +165,15 @@ class ServedEngine:
         ids = {it.decode("ascii") for it in _AN_ID.findall(text)}
         texts = {it: self.names.to_user(it) for it in ids if self.names.to_user(it) != it}
         body = {"operations": text.decode("ascii"), "texts": texts, "collect": flight.collect}
-        return Receipt(Commit(**self._of_batch("POST", flight, body)))
+        unknown, run = "Whether the batch that was sent is in isn't known", self.talk.run
+        try:
+            return Receipt(Commit(**self._of_batch("POST", flight, body)))
+        except (NoServer, NoAnswer) as fault:
+            raise type(fault)(f"{fault}. {unknown}: the next commit asks") from fault
+        except SessionClosed as fault:
+            if self.talk.run == run:
+                raise
+            raise SessionClosed(f"{fault}. {unknown}: look before") from None  # (the server before may have had it, and saved it)
 
     def _of_batch(self, method: str, flight: ServedFlight, body: Optional[Mapping[str, Any]] = None) -> Dict[str, Any]:
         return self._as_feeder(method, f"/v1/feeder/{part(flight.feeder)}/batches/{flight.number}", body)
@@ -236,11 +244,10 @@ class ServedEngine:
         except StoreError:
             pass
 
-    def rebase(self, version: Any) -> Rebased:
+    def rebase(self, version: Any = None) -> Any:
         raise StoreError("a server's store is begun anew by the server alone")
 
-    def renew(self) -> Renewed:
-        raise StoreError("a server's store is begun anew by the server alone")
+    renew = rebase
 
     @alone
     def close(self) -> None:
@@ -278,6 +285,10 @@ class Served(Store[Any, Any]):
         begin(engine=engine, weight_scale=engine.units.weight_scale, times=engine.units.times, decimals=engine.units.decimals,
               rounding=engine.units.rounding)
         self.ledger.terms.names = engine.names
+
+    def __repr__(self) -> str:
+        state = f"{self.engine.open_count} sessions open, {self.pending} pending"
+        return f"<Served by {self.engine.told()}: {'closed' if self._is_closed else state}>"
 
 
 class Connected(Session[Any, Any]):

@@ -22,8 +22,6 @@ from ..values.names import is_plain
 
 # What a client calls an operation, and the command of its record.
 COMMANDS = {"insert": "i", "add": "a", "remove": "r", "expire": "x"}
-# Behind how many operations a store begins anew: it remembers each of them until then. Of many edges, so many times as they are.
-RENEWED, TIMES_EDGES = 1_000_000, 8
 # Of how many clients that fed before it is remembered what their last batch did.
 FEEDERS = 100
 # Over how many seconds the feed's rate is told.
@@ -65,7 +63,6 @@ class Feeding:
     def __init__(self, board: Board, limits: Limits, clock: Callable[[], float] = time.monotonic) -> None:
         self.board, self.store, self.limits, self._clock = board, board.store, limits, clock
         self.rate = Rate(clock)
-        self._remembered = 0
         self.state, self.fault = "open", ""
         self._lock = threading.RLock()
         self._feeder: Optional[Feeder] = None
@@ -85,7 +82,7 @@ class Feeding:
         before = 0
         try:
             for step in following:
-                self._count(step.rows - before)
+                self.rate.add(step.rows - before)
                 before = step.rows
                 self.board.advance()
             self.state = "ended"
@@ -169,16 +166,8 @@ class Feeding:
     def _apply(self, operations: Operations, collect: bool) -> Commit:
         engine = self.store.engine
         receipt = engine.fly(engine.flight(operations, collect)).commit
-        self._count(operations.size)
+        self.rate.add(operations.size)
         return receipt
-
-    def _count(self, operations: int) -> None:
-        """Counts operations that went in, and has the store begin anew where it remembers many."""
-        self.rate.add(operations)
-        self._remembered += operations
-        if self._remembered > max(RENEWED, TIMES_EDGES * self.board.stat.edges):
-            self._remembered = 0
-            self.store.renew()
 
     # Rows in the user's terms.
 
@@ -192,8 +181,10 @@ class Feeding:
                 self._known(name)
             if not rows:
                 raise ValueError("there are no rows")
+            found = self._records(rows)
+            self.board.begin()
             try:
-                return self._in_batches(self._records(rows))
+                return self._in_batches(found)
             finally:
                 self.board.advance()
 
@@ -229,8 +220,9 @@ class Feeding:
         state = self.state
         if self._feeder is not None and self._feeder.heard > self._clock() - self.limits.idle and not self._is_followed:
             state = "a client feeds"
+        is_half = self._following is not None and self._following.ended_half
         return {"state": state, "rows": self.rate.total, "rows_a_second": round(self.rate.a_second(), 1),
-                **({"error": self.fault} if self.fault else {})}
+                **({"half_line": True} if is_half else {}), **({"error": self.fault} if self.fault else {})}
 
     def close(self) -> None:
         """Ends the feed that is followed: what was read goes in."""
@@ -247,6 +239,7 @@ def checked_operations(text: str) -> Operations:
     found = None if rest else _plain_rows(lines)
     if found is not None:
         return Operations(found)
+    rows: List[Row] = []
     for at, line in enumerate([*lines, *filter(None, [rest])], 1):
         fields = records.split_record(line)
         faults = records.faults_of(fields)
@@ -254,7 +247,8 @@ def checked_operations(text: str) -> Operations:
             raise refusal(faults[0].word, f"row {at}: {faults[0]}", advice="")
         if fields[0] not in records.OPERATIONS or records.record(fields) != f"{line}\n" or rest:
             raise refusal("BadCommand", f"row {at} is no operation", advice="")
-    return Operations([row_of(records.split_record(it)) for it in lines])
+        rows.append(row_of(fields))
+    return Operations(rows)
 
 
 def _plain_rows(lines: Sequence[str]) -> Optional[List[Row]]:

@@ -2,11 +2,15 @@
 from __future__ import annotations
 
 import asyncio
+import json
 import threading
 from concurrent.futures import Future, ThreadPoolExecutor
 from contextlib import asynccontextmanager
-from typing import Any, AsyncIterator, Awaitable, Callable, Iterator, List, MutableMapping, Optional, Tuple, TypeVar
+from typing import Any, AsyncIterator, Awaitable, Callable, Dict, Iterator, List, MutableMapping, Optional, Tuple, TypeVar
 
+from starlette.responses import Response
+
+from . import wire
 from .board import Full
 from .limits import BYTES_AT_ONCE, Limits
 
@@ -16,6 +20,11 @@ Send = Callable[[Message], Awaitable[None]]
 Receive = Callable[[], Awaitable[Message]]
 # How many questions may wait for each that is answered.
 WAITING = 100
+
+
+def as_json(value: Dict[str, Any], status: int = 200, headers: Optional[Dict[str, str]] = None) -> Response:
+    """A short answer."""
+    return Response(json.dumps(value).encode("ascii") + b"\n", status, headers, wire.JSON)
 
 
 @asynccontextmanager

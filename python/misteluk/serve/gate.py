@@ -2,21 +2,21 @@
 from __future__ import annotations
 
 import hmac
-import json
 import sys
 import traceback
 from typing import Any, Awaitable, Callable, Dict, NamedTuple, Optional
 from urllib.parse import urlsplit
 
+from starlette.responses import Response
+
 from . import wire
 from .board import Full
-from .limits import RUN
-from .flow import Message, Receive, Send
+from .flow import Message, Receive, Send, as_json
+from .limits import LOOPBACK, RUN
 
 App = Callable[[Any, Receive, Send], Awaitable[None]]
 # What has no data, so that a browser can ask for the token by it.
 OPEN = ("/", "/live.js", "/live.css", "/openapi.json")
-LOOPBACK = frozenset(("localhost", "127.0.0.1", "::1"))
 HEADERS = [(b"x-content-type-options", b"nosniff"), (b"cache-control", b"no-store"), (b"referrer-policy", b"no-referrer"),
            (b"cross-origin-resource-policy", b"same-origin")]
 
@@ -49,7 +49,7 @@ class Gate:
             return
         has_begun = False
 
-        async def told(message: Message) -> None:
+        async def send_on(message: Message) -> None:
             nonlocal has_begun
             if message["type"] == "http.response.start":
                 has_begun = True
@@ -57,10 +57,10 @@ class Gate:
             await send(message)
         refused = self._refused(scope)
         if refused is not None:
-            await _tell(told, *refused)
+            await refused(scope, receive, send_on)
             return
         try:
-            await self._app(scope, receive, told)
+            await self._app(scope, receive, send_on)
         except Exception as fault:  # (a client is told nothing of it)
             if has_begun and isinstance(fault, Full):  # (one that doesn't take its answer is no fault of the server's)
                 _cut(send)
@@ -68,37 +68,33 @@ class Gate:
             traceback.print_exc(file=sys.stderr)
             if has_begun:
                 raise
-            await _tell(told, 500, wire.fault("Fault", "the server has a fault, and its log tells which"))
+            told = wire.fault("Fault", "the server has a fault, and its log tells which")
+            await as_json(told, 500)(scope, receive, send_on)
 
-    def _refused(self, scope: Any) -> "Optional[tuple[int, Dict[str, Any]]]":
-        """The status and what is told where a request isn't let in."""
-        headers: Dict[bytes, bytes] = dict(scope["headers"])
-
-        def told(name: bytes) -> str:
-            return headers.get(name, b"").decode("latin-1")
-        refused = self._stranger(scope, told)
-        known = told(RUN.encode("ascii"))
+    def _refused(self, scope: Any) -> Optional[Response]:
+        """What is told where a request isn't let in."""
+        headers = {name: value.decode("latin-1") for name, value in scope["headers"]}
+        refused, known = self._stranger(scope["path"], headers), headers.get(RUN.encode("ascii"))
         if refused is None and known and known != self._run.name:
-            return 410, wire.fault("SessionClosed", f"this server began anew, {self._run.began}")
+            return as_json(wire.fault("SessionClosed", f"this server began anew, {self._run.began}"), 410)
         return refused
 
-    def _stranger(self, scope: Any, told: Callable[[bytes], str]) -> "Optional[tuple[int, Dict[str, Any]]]":
+    def _stranger(self, path: str, headers: Dict[bytes, str]) -> Optional[Response]:
         """The same where the client isn't one that may ask."""
-        host, origin = told(b"host"), told(b"origin")
-        is_elsewhere = told(b"sec-fetch-site") in ("cross-site", "same-site") and scope["path"] not in OPEN
+        host, origin = headers.get(b"host", ""), headers.get(b"origin")
+        is_elsewhere = headers.get(b"sec-fetch-site") in ("cross-site", "same-site") and path not in OPEN
         if is_elsewhere or origin and urlsplit(origin).netloc != host:
-            return 403, wire.fault("NotAllowed", "a page of another origin can't ask this server")
+            return as_json(wire.fault("NotAllowed", "a page of another origin can't ask this server"), 403)
         if self._token is None:
             if not self._is_local and _name_of(host) not in LOOPBACK:
-                return 403, wire.fault("NotAllowed", "this server is for its own machine, as localhost")
+                return as_json(wire.fault("NotAllowed", "this server is for its own machine, as localhost"), 403)
             return None
-        if scope["path"] in OPEN:
-            return None
-        way, _, given = told(b"authorization").partition(" ")
+        way, _, given = headers.get(b"authorization", "").partition(" ")
         is_right = hmac.compare_digest(given.strip().encode("utf-8"), self._token.encode("utf-8"))
-        if way.casefold() == "bearer" and is_right:
+        if path in OPEN or way.casefold() == "bearer" and is_right:
             return None
-        return 401, wire.fault("NotAllowed", "the header `Authorization: Bearer TOKEN` has to have this server's token")
+        reason = "the header `Authorization: Bearer TOKEN` has to have this server's token"
+        return as_json(wire.fault("NotAllowed", reason), 401, {"www-authenticate": "Bearer"})
 
 
 def _name_of(host: str) -> str:
@@ -117,10 +113,3 @@ def _cut(send: Send) -> None:
         transport.abort()
 
 
-async def _tell(send: Send, status: int, told: Dict[str, Any]) -> None:
-    body = json.dumps(told).encode("ascii") + b"\n"
-    headers = [(b"content-type", b"application/json"), (b"content-length", str(len(body)).encode("ascii"))]
-    if status == 401:
-        headers.append((b"www-authenticate", b"Bearer"))
-    await send({"type": "http.response.start", "status": status, "headers": headers})
-    await send({"type": "http.response.body", "body": body})

@@ -31,8 +31,8 @@ class Keeper:
         self._lock = _locked(place_of(path))
 
     def restored(self, **options: Any) -> "Optional[Store[Any, Any]]":
-        """The store that the file has, and `None` where there is no file. Raises `SaveFault` for one that is damaged, or is
-        another one: it stays as it is."""
+        """The store that the file has, as version 0, and `None` where there is no file. Raises `SaveFault` for one that is
+        damaged, or is another one: it stays as it is."""
         if not os.path.exists(self.path):
             return None
         units = {it: options.pop(it) for it in ("weight_scale", "times") if options.get(it) is not None}
@@ -41,6 +41,7 @@ class Keeper:
         if told != units:
             store.close()
             raise ValueError(f"{self.path} has {told}, and not {units}")
+        store.rebase(store.open())  # (so it keeps no operations, and its versions are counted from 0)
         return store
 
     def told_of_file(self) -> str:

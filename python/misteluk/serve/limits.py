@@ -7,6 +7,8 @@ from ..values.limits import within
 
 # How many rows an answer is written by at once: short steps leave other questions their turn.
 ROWS_AT_ONCE = 2_048
+# The names of this machine.
+LOOPBACK = ("localhost", "127.0.0.1", "::1")
 # The header that names a server's run.
 RUN = "misteluk-server"
 # How many bytes of an answer's columns are written at once.

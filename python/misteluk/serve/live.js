@@ -40,7 +40,8 @@
     };
     const row = (it) => {
         const made = document.createElement("tr"), mine = held !== null && held.version === it.version;
-        const by = `${it.clients} ${it.clients === 1 ? "client" : "clients"}${mine ? ", this page one" : ""}`;
+        const others = it.clients - (mine ? 1 : 0), clients = `${others} ${mine ? "other " : ""}${others === 1 ? "client" : "clients"}`;
+        const by = [...mine ? ["this page"] : [], ...others ? [clients] : []].join(" and ") || "nobody";
         made.append(element("td", it.is_last ? `${number(it.version)}, the last` : number(it.version)));
         made.append(element("td", number(it.vertices)), element("td", by));
         const act = element("td", "");
@@ -83,7 +84,8 @@
         the("vertices").textContent = number(told.vertices);
         the("version").textContent = number(told.version);
         the("rate").textContent = number(Math.round(told.feed.rows_a_second));
-        const fault = told.feed.error ? `: ${told.feed.error}.` : "";
+        const half = told.feed.half_line ? " Its last line had no end, and may be cut." : "";
+        const fault = (told.feed.error ? `: ${told.feed.error}.` : "") + half;
         the("feed").textContent = `${states[told.feed.state] ?? ""}${fault} ${number(told.feed.rows)} rows came in.${anew}`;
         [limit, last] = [told.limits.idle, told.version];
         if (held !== null && !told.held.some((it) => it.version === held.version)) held = null;

@@ -11,12 +11,11 @@ from typing import Any, List, NamedTuple, Optional
 from .board import Board
 from .feeding import Feeding
 from .keeping import Keeper
-from .limits import Limits
+from .limits import LOOPBACK, Limits
 from ..errors import Missing, StoreError
 from ..store import Store
 
 UNIX = "unix:"
-LOOPBACK = ("localhost", "127.0.0.1", "::1")
 USUAL = "127.0.0.1:7700"
 # How many connections may be there for each client that may be, and for those that hold nothing.
 CONNECTIONS = 64
@@ -157,6 +156,7 @@ class Server:
             for it in beside:
                 it.join()
             self.feeding.close()
+            self.board.let_all_go()
             if keeper is not None:
                 keeper.save(self.board)
             self._api.close()

@@ -61,7 +61,7 @@ class Talk:
         token = token or os.environ.get("MISTELUK_TOKEN")
         self._headers = {"Authorization": f"Bearer {token}"} if token else {}
         # Which run of the server this client knows.
-        self._run = ""
+        self.run = ""
         self._idle: Deque[HTTPConnection] = deque()
         self._process = os.getpid()
 
@@ -102,10 +102,10 @@ class Talk:
 
     def _on(self, connection: HTTPConnection, method: str, path: str, body: Optional[Mapping[str, Any]]) -> Told:
         given = None if body is None else json.dumps(body).encode("ascii")
-        known = {RUN: self._run} if self._run else {}
+        known = {RUN: self.run} if self.run else {}
         connection.request(method, path, given, {**self._headers, **known, **({} if given is None else {"Content-Type": JSON})})
         response: HTTPResponse = connection.getresponse()
-        self._run = response.headers.get(RUN, "")
+        self.run = response.headers.get(RUN, "")
         media = response.headers.get_content_type()
         told = Told(response.status, media, response.read(), response.headers.get("Retry-After", ""))
         self._idle.append(connection)

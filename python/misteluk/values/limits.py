@@ -6,6 +6,8 @@ from typing import List, NamedTuple, Optional
 # What no limits pass: kinds, vertices times kinds (so that a sum of weights has room in its type), batches, and blocks.
 MOST_KINDS, MOST_PRODUCT, MOST_BATCHES, MOST_BLOCKS = 64, 8_388_606, (1 << 32) - 1, 4_293_918_719
 USUAL_BATCHES = 65_536
+# Behind how many operations a store renews itself that a feed without end fills, if nothing else is said.
+USUAL_RENEWAL = 1_000_000
 
 
 class Limits(NamedTuple):
