@@ -18,7 +18,7 @@ from ..errors import (BadRows, NoAnswer, OperationsRefused, PoolEmpty, ProgramEn
 from .advice import Reading, advise
 from .feed import Block, Feed, Path, part_of, turned
 from .growing import DelimitedRows, Growing, Incoming, Opened, Rows, SnapRows
-from .loading import Count, must_be_way
+from .surveys import Count, must_be_way
 from .opening import ReadAs, form_of, reads
 from ..engine.calls import Calls
 from ..engine.operations import EXPIRY

@@ -11,7 +11,7 @@ from ..errors import NoKind, NoVertex, ProgramEnded, RecordLimit, StoreError
 from ..feeds.advice import advise
 from ..feeds.opening import ReadAs
 from ..feeds.feed import Feed, Path, Row
-from ..feeds.loading import Survey, survey
+from ..feeds.surveys import Survey, survey
 from .parted import rows_in
 from ..session import Session
 from ..store import Store
