@@ -8,7 +8,7 @@ from collections import deque
 from datetime import timedelta
 from itertools import repeat
 from types import TracebackType
-from typing import TYPE_CHECKING, Any, Deque, Iterator, List, NamedTuple, Optional, Tuple, Type, Union
+from typing import TYPE_CHECKING, Any, Deque, Iterator, List, NamedTuple, Optional, Type, Union
 
 from ..values import records
 from ..values.answers import Commit

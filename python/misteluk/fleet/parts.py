@@ -4,7 +4,7 @@ from __future__ import annotations
 import threading
 from functools import partial
 from inspect import signature
-from typing import Any, Callable, Dict, Iterable, Iterator, List, NamedTuple, Optional, Sequence, Tuple, Union
+from typing import Any, Callable, Dict, Iterable, Iterator, NamedTuple, Optional, Sequence, Tuple, Union
 
 from ..values import records
 from ..errors import NoKind, NoVertex, ProgramEnded, RecordLimit, StoreError
