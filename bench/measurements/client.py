@@ -1,11 +1,13 @@
 """The client in Python next to networkx, igraph, graph-tool, scipy and SQLite over one file: a load, questions, exports, and
-single edges. One table, whose cells are microseconds or milliseconds elapsed and, after them, of the processor.
+single edges. One table, whose cells are microseconds or milliseconds elapsed and, after them, of the processor; and one of what is
+aimed at, next to igraph where it is there, and what was found, of processor time.
 
     python3 -m bench run client              500,000 edges between 60,000 vertices, five turns
     python3 -m bench run client 50000 3      so many edges, and so many turns
     python3 -m bench run client --program    also over `stinger run`, through pipes
 
-With 500,000 edges `stinger run` has no record left for an export.
+Tables and exports are asked of sessions that were asked nothing before, but for the edges at vertices: these are asked of one that
+has read all edges. "Once more" is without what the first such question puts in order. With 500,000 edges `stinger run` has no record left for an export.
 
 All take turns, and medians are printed. Each answer is compared with the client's in the first turn, and the measurement stops
 where one differs. The library is the proved one, or the one that MISTELUK_LIBRARY names.
@@ -16,7 +18,7 @@ import argparse
 import importlib
 import importlib.util
 import pathlib
-from typing import Any, Dict, List, Optional
+from typing import Any, Dict, Iterator, List, Optional
 
 from bench import tables
 from bench.measuring import Spent, in_turns, medians, stop, timed
@@ -28,10 +30,15 @@ ROWS = [("load", "load the file", False), ("rows", "from rows in memory", False)
         ("weights", "weight out of each vertex", True), ("weights_in", "weight in of each vertex", True),
         ("levels", "levels from a vertex", True), ("components", "components", True), ("cores", "core numbers", True),
         ("out_of", f"edges out of {ASKED} vertices", True), ("into", f"edges into {ASKED} vertices", True),
+        ("into_again", f"edges into {ASKED} vertices, once more", False),
         ("arrays", "all edges", True), ("frame", "all edges as a frame", False), ("gathered", "one edge more, gathered", False),
         ("single", "one edge more, its own version", False)]
 # These say how many edges they added.
 ADDED = ("gathered", "single")
+# At most so many times what igraph takes, for what; and at most so many microseconds an edge.
+BESIDE_IGRAPH = {"load": (2.5, "rows"), **{what: (2.0, what) for what in (
+    "degrees", "weights", "weights_in", "levels", "components", "cores", "out_of", "into", "into_again")}}
+AN_EDGE = {"arrays": 2.0, "frame": 2.0, "gathered": 3.3, "single": 20.0}
 Times = Dict[str, Spent]
 
 
@@ -76,6 +83,19 @@ def cell(what: str, spent: Optional[Spent]) -> str:
     return f"{spent.elapsed * scale:,.1f} / {spent.processor * scale:,.1f}"
 
 
+def aims(times: Dict[str, Times], edges: int) -> Iterator[List[str]]:
+    """What is aimed at, and what was found, by processor time."""
+    mine, beside = times[Client.name], times.get("igraph", {})
+    for what, told, _ in ROWS:
+        if what in BESIDE_IGRAPH and BESIDE_IGRAPH[what][1] in beside:
+            aim, other = BESIDE_IGRAPH[what]
+            by = "igraph" if other == what else f"igraph's {next(row[1] for row in ROWS if row[0] == other)}"
+            yield [told, f"{aim} × {by}", f"{tables.ratio(mine[what].processor, beside[other].processor)} ×"]
+        elif what in AN_EDGE and what in mine:
+            found = mine[what].processor * 1e6 / (1 if what in ADDED else edges)
+            yield [told, f"{AN_EDGE[what]} µs an edge", f"{found:.2f} µs"]
+
+
 def measure(words: argparse.Namespace, room: pathlib.Path) -> None:
     makes: List[Any] = [Client, *([Program] if words.program else [])]
     makes += [make for module, make in OTHERS.items() if importlib.util.find_spec(module)]
@@ -86,3 +106,5 @@ def measure(words: argparse.Namespace, room: pathlib.Path) -> None:
     times = {name: {what: medians([it[what] for it in some]) for what in some[0]} for name, some in runs.items()}
     print(f"{words.edges:,} edges, {words.turns} turns; milliseconds, of one edge microseconds: elapsed / of the processor\n")
     tables.show(["what", *times], ([told, *(cell(what, it.get(what)) for it in times.values())] for what, told, _ in ROWS))
+    print()
+    tables.show(["what", "aim: at most", "found"], aims(times, words.edges))

@@ -1,5 +1,6 @@
-"""Single edges asked of a session one after another, and next to them as many by two system calls each on the same pipes, without
-the client: what the program and the system take. Five rounds in turns, each in a store of its own; then medians.
+"""Single edges asked of a session one after another, over the library in this process and over a program by pipes; and as many by
+two system calls each on the same pipes, without the client: what the program and the system take. Five rounds in turns, each in a
+store of its own; then medians.
 """
 from __future__ import annotations
 
@@ -7,7 +8,7 @@ import argparse
 import functools
 import os
 import pathlib
-from typing import Any, Callable, Dict
+from typing import Any, Callable, Dict, Optional, Tuple
 
 from bench import tables
 from bench.measuring import in_turns, spread, timed
@@ -42,9 +43,10 @@ def by_calls(store: Any, session: Any, times: int) -> None:
     talk.records += times * len(EDGES)
 
 
-def round_of(ask: Callable[[Any, Any, int], None], path: str, requests: int) -> float:
-    """Requests a second in a store of its own, whose every request finds an edge."""
-    with Store(blocks=BLOCKS, engine="program", program=path) as store:
+def round_of(ask: Callable[[Any, Any, int], None], path: Optional[str], requests: int) -> float:
+    """Requests a second in a store of its own, of this program or else in process, whose every request finds an edge."""
+    made: Any = Store(blocks=BLOCKS, engine="program" if path else "library", program=path)
+    with made as store:
         for number, edge in enumerate(EDGES):
             store.insert(*edge, number, time=number)
         store.commit(collect=True)
@@ -57,9 +59,10 @@ def round_of(ask: Callable[[Any, Any, int], None], path: str, requests: int) -> 
 
 def measure(words: argparse.Namespace, _: pathlib.Path) -> None:
     path = program(words.program)
-    ways = {"the client": by_client, "two system calls": by_calls}
-    works: Dict[str, Callable[[], float]] = {name: functools.partial(round_of, ask, path, words.requests)
-                                             for name, ask in ways.items()}
+    ways: Dict[str, Tuple[Any, Optional[str]]] = {"the client": (by_client, None), "by pipes": (by_client, path),
+                                                  "two system calls": (by_calls, path)}
+    works: Dict[str, Callable[[], float]] = {name: functools.partial(round_of, *way, words.requests)
+                                             for name, way in ways.items()}
     found = {name: spread(rates) for name, rates in in_turns(works, words.rounds).items()}
     tables.show(["way", "edges a second", "least", "most"],
                 ([name, *map(tables.count, (it.median, it.least, it.most))] for name, it in found.items()))

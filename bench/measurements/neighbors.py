@@ -1,11 +1,11 @@
-"""What a session's walks take next to networkx and SQLite, all three over one file of a bank's transfers; what the client's
-memory of edges takes of a load; and what a saved version takes.
+"""What a session's walks take, over the library in this process and over a program by pipes, next to networkx and SQLite, for one
+file of a bank's transfers; what the memory of edges takes of a load by pipes; and what a version saved by pipes takes.
 
     python3 -m bench run neighbors          200,000 transfers between 20,000 accounts, one of which some 2,000 send to
     python3 -m bench run neighbors 20000    so many transfers, 2,000 to 300,000, between a tenth as many accounts
 
-The client asks a program. Elapsed seconds, medians of five runs in turns. Each answer is compared with those of the other two,
-and the measurement stops where they differ. SQLite is that of Python, in memory.
+Elapsed seconds, medians of five runs in turns. Each answer is compared with those of the others, and the measurement stops where
+they differ. SQLite is that of Python, in memory.
 """
 from __future__ import annotations
 

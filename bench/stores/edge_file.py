@@ -63,7 +63,8 @@ class Client:
         return table["out"].values, table["into"].values
 
     def weights(self) -> Any:
-        return self.session.degrees().columns["weight_out"].values
+        with self.store.open() as session:
+            return session.degrees().columns["weight_out"].values
 
     def weights_in(self) -> Any:
         return self.session.weights_in().columns["weight_in"].values
@@ -83,11 +84,15 @@ class Client:
     def into(self) -> Any:
         return [self.session.edges_into(it) for it in self.given.asked]
 
+    into_again = into
+
     def arrays(self) -> Any:
-        return self.session.edges_columns()
+        with self.store.open() as session:
+            return session.edges_columns()
 
     def frame(self) -> Any:
-        return self.session.edges_frame()
+        with self.store.open() as session:
+            return session.edges_frame()
 
     def gathered(self) -> int:
         for it in range(SINGLE):

@@ -23,6 +23,9 @@ class Other:
     def fill(self, rows: Any) -> None:
         raise NotImplementedError
 
+    def into_again(self) -> Any:
+        return getattr(self, "into")()
+
     def number(self, rows: Any) -> Tuple[List[int], List[int]]:
         numbers: Dict[str, int] = {}
         ends = [(numbers.setdefault(it[0], len(numbers)), numbers.setdefault(it[1], len(numbers))) for it in rows]

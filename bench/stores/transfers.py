@@ -39,12 +39,15 @@ def rows_of(path: str) -> Iterator[Tuple[str, str, int, int]]:
 
 
 class Client:
-    """The client, and the program that it talks to."""
+    """The client over the library in this process."""
 
     def __init__(self, path: str) -> None:
-        self.store = Store(blocks=BLOCKS, engine="program", program=program())
+        self.store = self.made()
         self.store.load(path, by="add", columns=COLUMNS, progress=False)
         self.session = self.store.open()
+
+    def made(self) -> "Store[Any, Any]":
+        return Store(engine="library")
 
     def into(self, name: str) -> Any:
         return self.session.into(name)
@@ -56,19 +59,29 @@ class Client:
         return self.session.within(name, HOPS)
 
     def edges(self) -> List[Edge]:
-        return [(source, target, *edge) for _, source, target, edge in self.session.edges()]
+        return [(source, target, it.weight, it.first, it.recent) for _, source, target, it in self.session.edges()]
 
     def weights_in(self) -> Any:
         return self.session.weights_in()
 
     def program_seconds(self) -> float:
-        """The processor time of the program."""
-        with open(f"/proc/{cast(Any, self.store).engine.talk.process.pid}/stat") as file:
-            user, system = file.read().rpartition(")")[2].split()[11:13]
-        return (int(user) + int(system)) / os.sysconf("SC_CLK_TCK")
+        """The processor time of another process."""
+        return 0.0
 
     def close(self) -> None:
         self.store.close()
+
+
+class ByPipes(Client):
+    """The client, and the program that it talks to."""
+
+    def made(self) -> "Store[Any, Any]":
+        return Store(blocks=BLOCKS, engine="program", program=program())
+
+    def program_seconds(self) -> float:
+        with open(f"/proc/{cast(Any, self.store).engine.talk.process.pid}/stat") as file:
+            user, system = file.read().rpartition(")")[2].split()[11:13]
+        return (int(user) + int(system)) / os.sysconf("SC_CLK_TCK")
 
 
 class Networkx:
@@ -155,7 +168,7 @@ class Sqlite:
         self.base.close()
 
 
-SIDES = {"the client": Client, "networkx": Networkx, "SQLite": Sqlite}
+SIDES = {"the client": Client, "by pipes": ByPipes, "networkx": Networkx, "SQLite": Sqlite}
 
 
 def chosen(path: str) -> Tuple[int, List[str], str, str]:

@@ -19,9 +19,10 @@ from .errors import (AlreadyOpen, BadCommand, BadFields, BadName, BadRows, BadSl
 from .feeds.delimited import delimited
 from .feeds.feed import Columns, Feed, matrix_market, snap
 from .feeds.following import Followed, Following, follow
-from .feeds.loading import Loaded, Survey, load, load_in_steps, survey
+from .feeds.loading import Loaded, load, load_in_steps
 from .feeds.objects import from_columns, from_networkx, from_pandas, from_rows
 from .feeds.opening import ReadAs, open_feed
+from .feeds.surveys import Survey, survey
 from .fleet.fleet import Fleet
 from .lint import lint
 from .page.view import View, view

@@ -32,6 +32,9 @@ class Books(NamedTuple):
     feed: Optional[Feed] = None
 
 
+NOTHING = Books()
+
+
 class Ledger:
     """The pending operations of a store, in the engine's terms, and what became of its batches."""
 
@@ -138,9 +141,11 @@ class Ledger:
         that into `taken` as the last thing it does: then it was told."""
         if self.is_closed:
             raise StoreError("the store is closed")
-        self._forget_taken()
+        if self.taken:
+            self._forget_taken()
         try:
-            self._land()
+            if self._books.flight is not None:
+                self._land()
             left = len(self.pending)
             while left or not self._books.untold:
                 part = self.pending[:min(batch, left)]
@@ -155,14 +160,12 @@ class Ledger:
 
     def _forget_taken(self) -> None:
         """Lets go what was told. (Where that is broken off, it's found gone the next time.)"""
-        count = len(self.taken)
-        if not count:
-            return
+        count, books = len(self.taken), self._books
         untold: Tuple[Commit, ...] = ()
-        if self.taken[count - 1] is not self._books.untold:
+        if self.taken[count - 1] is not books.untold:
             told = {id(it) for receipts in self.taken[:count] for it in receipts}
-            untold = tuple([it for it in self._books.untold if id(it) not in told])
-        self._books = Books(untold, *self._books[1:])
+            untold = tuple([it for it in books.untold if id(it) not in told])
+        self._books = Books(untold, *books[1:]) if untold or books.flight is not None else NOTHING
         del self.taken[:count]
 
     @alone

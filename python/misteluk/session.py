@@ -113,7 +113,7 @@ class Session(Generic[W, T]):
                until: Moment = records.MOST_TIME) -> Answer[int]:
         """The least number of edges on a walk from the source, for each vertex that one reaches."""
         scope, asked = self._scope("levels", kind, since, until, source)
-        name = self._terms.names.to_program(source, keep=False)
+        name = self._terms.asked(source)
         reached, levels = self._asked(self.held.levels, asked, scope, name)
         names = self._all_names()
         names = names if len(reached) == len(names) else list(map(names.__getitem__, reached))
@@ -256,7 +256,7 @@ class Session(Generic[W, T]):
 
     def _beside(self, vertex: str, kind: Optional[str], since: Moment, until: Moment, is_out: bool) -> Edges:
         scope, asked = self._scope("out_of" if is_out else "into", kind, since, until, vertex)
-        name = self._terms.names.to_program(vertex, keep=False)
+        name = self._terms.asked(vertex)
         return self._edges(self._asked(self.held.out_of if is_out else self.held.into, asked, scope, name))
 
     def edges_out_of(self, source: str, kind: Optional[str] = None, since: Moment = 0,
@@ -302,7 +302,7 @@ class Session(Generic[W, T]):
         scope, asked = self._scope("path", kind, since, until, target)
         levels = self.levels(source, kind, since, until)
         if target not in levels:
-            self._asked(self.held.levels, asked, scope, self._terms.names.to_program(target, keep=False))
+            self._asked(self.held.levels, asked, scope, self._terms.asked(target))
             return None
         walk = walks.back(self, levels, target, kind, since, until)
         if edges:

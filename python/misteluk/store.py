@@ -198,7 +198,7 @@ class Store(Generic[W, T]):
         return (told, self.ledger.taken.append(receipts))[0]  # type: ignore[func-returns-value]  # (one line: see `ledger`)
 
     @reads
-    def load(self, feed: Any, *, by: str, batch: int = records.MOST_OPERATIONS, collect: bool = True, skip_bad: bool = False,
+    def load(self, feed: Any, *, by: str, batch: Optional[int] = None, collect: bool = True, skip_bad: bool = False,
              progress: Optional[bool] = None, **read_as: Any) -> "Loaded":
         """Loads a file, a networkx graph, a pandas frame, columns or rows; `by` is "set" or "add". See `misteluk.load`; the
         further options are those of `misteluk.ReadAs`."""

@@ -4,6 +4,8 @@ import pickle
 import random
 import unittest
 from array import array
+from collections import Counter
+from itertools import accumulate
 from unittest import mock
 
 from support import Case, optional
@@ -61,14 +63,16 @@ class Tables(Case):
 
 class ByTarget(unittest.TestCase):
     def test_the_order_of_targets(self):
-        """By numpy, where it is there, and in a loop: edges in order of their targets, those of one in order of their places."""
+        """By numpy, where it is there, and in a loop: edges in order of their targets, those of one in order of their places.
+        Numbers of targets may have more than 16 bits."""
         made = random.Random(5)
-        for count in (1, 2, 40):
-            for _ in range(20):
+        for count, turns in ((1, 20), (2, 20), (40, 20), (70_000, 1)):
+            for _ in range(turns):
                 edges = Arrays.of(made.randrange(120))
                 edges.targets[:] = array("I", (made.randrange(count) for _ in range(edges.size)))
                 wanted = [at for _, at in sorted((it, at) for at, it in enumerate(edges.targets))]
-                begins = [sum(it < target for it in edges.targets) for target in range(count + 1)]
+                sizes = Counter(edges.targets)
+                begins = list(accumulate((sizes[target] for target in range(count)), initial=0))
                 for many in (0, 1_000):
                     with self.subTest(many=many), mock.patch.object(fields, "MANY", many):
                         order, ends = edges.by_target(count)

@@ -117,6 +117,23 @@ class Room(Case):
             store.load(self.path(3_000), by="set", batch=500)
         self.assertEqual((copy.call_count, store.blocks, store.stat().edges, store.stat().version), (1, 4_096, 3_000, 6))
 
+    def test_a_load_makes_batches_as_large_as_there_are_blocks_for(self):
+        """Two of three parts have room at once in 12,000 blocks, and a batch that is said stays as it is."""
+        for blocks, batch, versions in ((None, None, 1), (12_000, None, 2), (None, 4_096, 3)):
+            with self.subTest(blocks=blocks, batch=batch):
+                store = self.store(blocks=blocks)
+                loaded = store.load(self.path(10_000), by="set", batch=batch)
+                self.assertEqual(loaded.commit[:2] + (loaded.commit.batches,), (versions, 10_000, versions))
+                self.assertEqual((store.stat().version, loaded.records), (versions, 10_000 + 2 * versions))
+                self.assertEqual(self.told(store)[2], sorted(("link", *it, (1, 0, 0)) for it in self.path(10_000)))
+
+    def test_a_large_batch_of_a_load_that_is_refused_goes_in_as_far_as_it_can(self):
+        store = self.store(limits=Limits(vertices=12_000))
+        store.load([(f"w{it}", f"w{it + 1}") for it in range(2_999)], by="set")
+        with self.assertRaisesRegex(misteluk.NamesFull, "lines 8193 to 10000 was refused, .* 8192 rows before it are"):
+            store.load(self.path(10_000), by="set")
+        self.assertEqual((store.stat().version, store.stat().edges), (3, 2_999 + 8_192))
+
     def test_more_vertices_and_kinds(self):
         """The walls are for the product of both, here of 64: a desk has room for the one or for the other."""
         with mock.patch.object(limits, "MOST_PRODUCT", 64):

@@ -421,8 +421,9 @@ class Calls(Case):
         right, edges, wrong, at = call(), list(session.edges()), [], 1
         while len(wrong) < 3:
             try:
+                session.held._degrees = None  # (it would have the answers already)
                 if ENGINE == "program":
-                    session.held._all = None  # (it would have the answers already)
+                    session.held._all = None
                 if not at_line(at, call):
                     break
                 if (call(), list(session.edges())) != (right, edges):

@@ -7,7 +7,8 @@ from itertools import accumulate
 from typing import Any, Dict, List, Optional, Tuple
 
 from ..errors import FeedFault
-from ..feeds.loading import Part, Survey, load_in_steps
+from ..feeds.loading import load_in_steps
+from ..feeds.surveys import Part, Survey
 from ..session import Session
 from ..store import Store
 from ..page.view import MOST_DRAWN, MOST_HOPS, USUAL_DRAWN, View, view

@@ -21,7 +21,9 @@ from ..feeds.feed import STANDARD_INPUT, feed_name
 from ..engine.making import LIBRARY, PROGRAM, choose
 from ..fleet.fleet import Fleet
 from ..lint import lint
-from ..feeds.loading import Survey, check, load, load_in_steps, survey
+from ..feeds.limits import check
+from ..feeds.loading import load, load_in_steps
+from ..feeds.surveys import Survey, survey
 from ..values.names import shown
 from .options import columns_of, make_parser, renewal_of
 from .questions import Question, all_lines

@@ -44,7 +44,7 @@ QUESTIONS = ("degrees, components, cores or edges, with a kind behind them or no
 
 
 def add_feed_options(parser: argparse.ArgumentParser, blocks: Optional[str] = BLOCKS, edge_lists: bool = True,
-                     saved: str = "", is_needed: bool = True) -> None:
+                     saved: str = "", is_needed: bool = True, batch: Optional[int] = records.MOST_OPERATIONS) -> None:
     """Options of a feed; `saved` says what a saved file, or none, in its place is for, where there may be one."""
     count: Any = None if is_needed else "?"
     parser.add_argument("file", nargs=count, help=f"a delimited file, an edge list (SNAP), or a Matrix Market file; .gz is "
@@ -79,7 +79,7 @@ def add_feed_options(parser: argparse.ArgumentParser, blocks: Optional[str] = BL
     store = parser.add_argument_group("the store")
     if blocks is not None:
         store.add_argument("--blocks", type=int, help=f"else {blocks}")
-    store.add_argument("--batch", type=int, default=records.MOST_OPERATIONS, metavar="N", help="rows a batch (4,096 at most)")
+    store.add_argument("--batch", type=int, default=batch, metavar="N", help="rows a batch (4,096 at most)")
     add_program(store)
 
 
@@ -217,7 +217,7 @@ def make_parser() -> argparse.ArgumentParser:
     parser.add_argument("-V", "--version", action="version", version=f"misteluk {VERSION}")
     commands = parser.add_subparsers(dest="command", required=True)
     load = commands.add_parser("load", help="load a file, and ask; nothing is kept unless it is saved")
-    add_feed_options(load)
+    add_feed_options(load, batch=None)
     ask = load.add_argument_group("what then")
     ask.add_argument("--dry-run", action="store_true", help="count and check the file, and send nothing")
     ask.add_argument("--script", metavar="OUT", help="write the records as a script for `stinger run`, and send nothing")

@@ -45,7 +45,7 @@ def refusal_of(code: int) -> Exception:
 
 def check(code: int) -> None:
     """Raises where a call was refused."""
-    if code != Code.OK:
+    if code:
         raise refusal_of(code)
 
 

@@ -2,6 +2,7 @@
 from __future__ import annotations
 
 from array import array
+from bisect import bisect_left
 from ctypes import c_uint32, c_uint64
 from itertools import chain
 from typing import Any, List, NamedTuple, Optional, Protocol, Sequence, Tuple, Union
@@ -70,6 +71,7 @@ class LibraryVersion:
         self.number = self.count = 0
         self._names: Optional[List[str]] = None
         self._all: Optional[Arrays] = None
+        self._degrees: "Optional[Tuple[array[int], array[int], array[int]]]" = None
         self._by_target: "Optional[Tuple[Sequence[int], array[int]]]" = None
 
     def begin(self) -> None:
@@ -93,7 +95,7 @@ class LibraryVersion:
         self._holds.let_go(self._hold)
         self._idle.clear()
         self._first = Owned(interface.Version(), self._versions)
-        self._all = self._by_target = self._names = None
+        self._all = self._by_target = self._degrees = self._names = None
 
     # How it is asked.
 
@@ -167,7 +169,11 @@ class LibraryVersion:
         return columns if self.count else [array(it) for it in codes]
 
     def degrees(self, scope: Scope) -> "Tuple[array[int], array[int], array[int]]":
+        if scope == WHOLE and self._degrees is not None:
+            return self._degrees
         out, into, weights = self._table(self._library.version_degrees, "IIq", self._view(scope))
+        if scope == WHOLE:
+            self._degrees = out, into, weights
         return out, into, weights
 
     def labels(self, scope: Scope) -> "array[int]":
@@ -222,7 +228,29 @@ class LibraryVersion:
         return found
 
     def out_of(self, scope: Scope, name: str) -> Arrays:
-        view, source, size, count = self._view(scope), self._vertex(name), A_ROW, c_uint64()
+        view, source, all_ = self._view(scope), self._vertex(name), self._all
+        if all_ is None:
+            return self._row(view, source)
+        begin = bisect_left(all_.sources, source)  # (they stand source by source)
+        places = range(begin, bisect_left(all_.sources, source + 1, begin))
+        return self._those(all_, scope, view, sorted(places, key=all_.targets.__getitem__))
+
+    def into(self, scope: Scope, name: str) -> Arrays:
+        view, target, all_ = self._view(scope), self._vertex(name), self.edges(WHOLE)
+        if self._by_target is None:
+            self._by_target = all_.by_target(self.count)
+        order, ends = self._by_target
+        return self._those(all_, scope, view, order[ends[target]:ends[target + 1]])
+
+    def _those(self, all_: Arrays, scope: Scope, view: interface.View, places: Sequence[int]) -> Arrays:
+        """The edges of a vertex that count, by their kinds, and of one kind as their places stand."""
+        if scope is not WHOLE:
+            places = all_.places(None if scope.kind is None else view.kind, scope, places)
+        return all_.at(places if self._kind_count == 1 else sorted(places, key=all_.kinds.__getitem__))
+
+    def _row(self, view: interface.View, source: int) -> Arrays:
+        """The edges that go out of a vertex, which are asked for."""
+        size, count = A_ROW, c_uint64()
         code: int = Code.BAD_LENGTH
         while code == Code.BAD_LENGTH:
             size = max(size, count.value)
@@ -233,11 +261,3 @@ class LibraryVersion:
             raise refusal_of(code)
         found.sources[:] = array("I", (source,)) * size
         return found.at(sorted(range(count.value), key=list(zip(kinds, targets)).__getitem__))
-
-    def into(self, scope: Scope, name: str) -> Arrays:
-        view, target, all_ = self._view(scope), self._vertex(name), self.edges(WHOLE)
-        if self._by_target is None:
-            self._by_target = all_.by_target(self.count)
-        order, ends = self._by_target
-        found = all_.places(None if scope.kind is None else view.kind, scope, order[ends[target]:ends[target + 1]])
-        return all_.at(sorted(found, key=lambda at: (all_.kinds[at], all_.sources[at])))

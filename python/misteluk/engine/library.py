@@ -53,6 +53,7 @@ class LibraryEngine:
         self._versions: "List[weakref.ref[LibraryVersion]]" = []
         # The handle of a batch that was applied, and so has no operation: the next one takes it.
         self._empty: List[Owned] = []
+        self._freed = c_uint64()
         # The last rebase: its version, what it did, and the versions that it closes.
         self._rebased: "Optional[Tuple[LibraryVersion, Rebased, List[weakref.ref[LibraryVersion]]]]" = None
         # (an endless one has few vertices at first, so that it lets those go that have no edge, before it takes many)
@@ -102,8 +103,9 @@ class LibraryEngine:
                 opening.holds.forget()
             self._opening = opening
         opening.holds.give_back(self.library.desk_release, opening.desk.raw)
-        for at in [at for at, it in self._held.items() if it() is None]:
-            del self._held[at]
+        if self._held:
+            for at in [at for at, it in self._held.items() if it() is None]:
+                del self._held[at]
         self.handles.give_back(self.library)
         return opening
 
@@ -114,9 +116,8 @@ class LibraryEngine:
                     stat.blocks_used)
 
     def _collect(self, opening: Opening) -> int:
-        freed = c_uint64()
-        check(self.library.desk_collect(opening.desk.raw, freed))
-        return freed.value
+        check(self.library.desk_collect(opening.desk.raw, self._freed))
+        return self._freed.value
 
     # Batches.
 
@@ -138,26 +139,31 @@ class LibraryEngine:
     @alone
     def fly(self, flight: LibraryFlight) -> Receipt:
         opening = self._settle()
-        tried: "Set[Tuple[str, int]]" = set()
         if flight.step is None:
             opening = self._level(opening, flight.batch.size)
-        while True:
-            if flight.step is None or flight.step.gave not in ([], [Code.OK]):
-                flight.step = Step(self.library.desk_apply, opening.desk.raw, flight.owned.raw, flight.counts)
-            code = flight.step.make()
-            if code == Code.OK:
-                return self._receipt(opening, flight)
+        code = self._applied(opening, flight)
+        tried: "Set[Tuple[str, int]]" = set()
+        while code:
             helped = self._help(opening, code, flight, tried)
             if helped is None:
                 flight.step = None
                 raise self._denied(self._opening, code, flight)
-            opening = helped
+            opening, code = helped, self._applied(helped, flight)
+        return self._receipt(opening, flight)
+
+    def _applied(self, opening: Opening, flight: LibraryFlight) -> int:
+        """The code by which a batch was applied, once, or refused."""
+        step = flight.step
+        if step is None or step.gave and step.gave[0]:
+            step = flight.step = Step(self.library.desk_apply, opening.desk.raw, flight.owned.raw, flight.counts)
+        code: int = step.make()
+        return code
 
     def _receipt(self, opening: Opening, flight: LibraryFlight) -> Receipt:
         it, self._empty = flight.counts, [flight.owned]
         opening.kept.count += flight.batch.size
         if flight.collect:
-            self._collect(opening)
+            check(self.library.desk_collect(opening.desk.raw, self._freed))
         return Receipt(Commit(it.version + opening.before, it.inserted, it.updated, it.removed, it.absent, it.overflowed, 1,
                               it.expired))
 

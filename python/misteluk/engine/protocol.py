@@ -9,6 +9,7 @@ from __future__ import annotations
 from array import array
 from collections import Counter
 from itertools import accumulate
+from operator import itemgetter
 from typing import Any, List, NamedTuple, Optional, Protocol, Sequence, Tuple
 
 from .operations import Operations
@@ -32,8 +33,8 @@ class Scope(NamedTuple):
 
 
 WHOLE = Scope()
-# How many bits the lower half of a weight has.
-HALF = 20
+# How many bits the lower half of a weight has; and from how many edges on numpy is quicker than loops, once it is loaded.
+HALF, A_FEW = 20, 500
 
 
 class Arrays(NamedTuple):
@@ -63,7 +64,10 @@ class Arrays(NamedTuple):
 
     def at(self, places: Sequence[int]) -> "Arrays":
         """The edges in these places."""
-        return Arrays(*[array(it.typecode, [it[at] for at in places]) for it in self])
+        if len(places) < 2:
+            return Arrays(*[array(it.typecode, [it[at] for at in places]) for it in self])
+        pick = itemgetter(*places)
+        return Arrays(*[array(it.typecode, pick(it)) for it in self])
 
     def places(self, kind: Optional[int], scope: Scope, among: Optional[Sequence[int]] = None) -> Sequence[int]:
         """Where the edges are that count, of the kind of this number or of any; of those in some places, where these are said."""
@@ -76,7 +80,7 @@ class Arrays(NamedTuple):
 
     def weights_in(self, count: int) -> "array[int]":
         """For each of so many vertices the weight that comes in."""
-        numpy = numpy_for(self.size)
+        numpy = numpy_for(self.size, A_FEW)
         if numpy is not None:
             # (A sum of floats is exact where it stays below 2^53, as those of halves of weights do.)
             targets, weights = numpy.asarray(self.targets), numpy.asarray(self.weights)
@@ -91,12 +95,14 @@ class Arrays(NamedTuple):
     def by_target(self, count: int) -> "Tuple[Sequence[int], array[int]]":
         """The places of edges in order of their targets, of which there are so many, and where those of each begin. (Without
         numpy in a loop, which lets other threads have their turn: a sort of all of them would keep these waiting.)"""
-        numpy = numpy_for(self.size)
+        numpy = numpy_for(self.size, A_FEW)
         if numpy is not None:
             targets = numpy.asarray(self.targets)
-            order = numpy.argsort(targets, kind="stable").astype("uint32")
-            ends = numpy.concatenate([[0], numpy.cumsum(numpy.bincount(targets, minlength=count))]).astype("uint32")
-            return array("I", order.tobytes()), array("I", ends.tobytes())
+            order = numpy.argsort(targets.astype("uint16"), kind="stable")  # (by so many bits numpy sorts in one go)
+            if count > 1 << 16:
+                order = order[numpy.argsort((targets >> 16).astype("uint16")[order], kind="stable")]
+            ends = numpy.cumsum(numpy.bincount(targets, minlength=count))
+            return array("I", order.astype("uint32").tobytes()), array("I", [0, *ends.tolist()])
         counts = Counter(self.targets)
         ends = array("I", accumulate(map(counts.__getitem__, range(count)), initial=0))
         order, free = array("I", bytes(4 * self.size)), list(ends)

@@ -8,7 +8,7 @@ from collections import deque
 from datetime import timedelta
 from itertools import repeat
 from types import TracebackType
-from typing import TYPE_CHECKING, Any, Deque, Iterator, List, NamedTuple, Optional, Tuple, Type, Union
+from typing import TYPE_CHECKING, Any, Deque, Iterator, List, NamedTuple, Optional, Type, Union
 
 from ..values import records
 from ..values.answers import Commit
@@ -18,7 +18,7 @@ from ..errors import (BadRows, NoAnswer, OperationsRefused, PoolEmpty, ProgramEn
 from .advice import Reading, advise
 from .feed import Block, Feed, Path, part_of, turned
 from .growing import DelimitedRows, Growing, Incoming, Opened, Rows, SnapRows
-from .loading import Count, must_be_way
+from .surveys import Count, must_be_way
 from .opening import ReadAs, form_of, reads
 from ..engine.calls import Calls
 from ..engine.operations import EXPIRY

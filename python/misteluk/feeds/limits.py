@@ -12,7 +12,7 @@ from ..values.limits import MOST_BLOCKS, Limits
 FOR_AN_EXPORT = 100
 
 if TYPE_CHECKING:
-    from .loading import Survey
+    from .surveys import Survey
     from ..store import Store
 
 

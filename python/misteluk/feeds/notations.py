@@ -3,7 +3,7 @@ from __future__ import annotations
 
 import re
 from datetime import date
-from typing import Callable, Dict, Iterator, List, NamedTuple, Optional, Sequence
+from typing import Dict, Iterator, NamedTuple, Optional
 
 from .feed import Block, Feed, Table
 from ..values.units import EPOCH, MICROSECOND, each_once

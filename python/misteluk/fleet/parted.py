@@ -18,7 +18,7 @@ from ..errors import BadName, BadRows, FeedFault, Place, Refused
 from ..feeds.advice import Reading, advise
 from ..feeds import feed as feeds
 from ..feeds.feed import Block, Feed, Path, Row, part_of, rows_of
-from ..feeds.loading import MOST_FAULTS
+from ..feeds.surveys import MOST_FAULTS
 from ..values.names import text_reason
 from ..feeds.progress import Progress, no_collection
 from ..values.records import Fault

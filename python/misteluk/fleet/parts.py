@@ -4,14 +4,14 @@ from __future__ import annotations
 import threading
 from functools import partial
 from inspect import signature
-from typing import Any, Callable, Dict, Iterable, Iterator, List, NamedTuple, Optional, Sequence, Tuple, Union
+from typing import Any, Callable, Dict, Iterable, Iterator, NamedTuple, Optional, Sequence, Tuple, Union
 
 from ..values import records
 from ..errors import NoKind, NoVertex, ProgramEnded, RecordLimit, StoreError
 from ..feeds.advice import advise
 from ..feeds.opening import ReadAs
 from ..feeds.feed import Feed, Path, Row
-from ..feeds.loading import Survey, survey
+from ..feeds.surveys import Survey, survey
 from .parted import rows_in
 from ..session import Session
 from ..store import Store

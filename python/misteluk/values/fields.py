@@ -1,6 +1,7 @@
 """Many fields of text at once: as places in their bytes, of which numpy reads names and numbers without a text for each."""
 from __future__ import annotations
 
+import sys
 from array import array
 from typing import Any, Callable, Iterator, List, Optional, Sequence, overload
 
@@ -9,9 +10,11 @@ from typing import Any, Callable, Iterator, List, Optional, Sequence, overload
 MANY, MOST_BYTES, MIX = 50_000, 64, 0x9E37_79B9_7F4A_7C15
 
 
-def numpy_for(count: int) -> Any:
-    """The package numpy, where it is there and so many items are worth that it is loaded; else `None`."""
-    if count < MANY:
+def numpy_for(count: int, where_loaded: Optional[int] = None) -> Any:
+    """The package numpy, where it is there and so many items are worth that it is loaded; else `None`. Where it is loaded already
+    fewer items may be worth that it is used."""
+    least = MANY if where_loaded is None or "numpy" not in sys.modules else min(where_loaded, MANY)
+    if count < least:
         return None
     try:
         import numpy

@@ -10,7 +10,7 @@ import base64
 import hashlib
 import re
 import threading
-from typing import Dict, Iterable, List, Mapping, NamedTuple, Optional, Sequence, Tuple, Union
+from typing import Dict, Iterable, Mapping, NamedTuple, Optional, Sequence, Tuple, Union
 
 from . import records
 

@@ -120,6 +120,10 @@ class Terms:
         """Whether names, or kinds, are the engine's as they stand, whoever asks first."""
         return self.right.issuperset(names) or all(isinstance(it, str) for it in names) and self.are_as_they_are(names)
 
+    def asked(self, name: str) -> str:
+        """What stands for a name that a question has: an id that no name has, where it is none that was told."""
+        return name if name in self.right else self.names.to_program(name, keep=False)
+
     def _name_of(self, text: str, is_kind: bool) -> str:
         if is_kind and text == records.ANY or text_reason(text):
             return ""

@@ -1,0 +1,312 @@
+"""A feed is read whole, counted and checked before its first row is applied."""
+from __future__ import annotations
+
+import time
+from array import array
+from collections import Counter
+from dataclasses import dataclass
+from functools import cached_property
+from itertools import compress, repeat
+from operator import lshift, or_, rshift
+from typing import Any, Dict, Iterable, Iterator, List, NamedTuple, Optional, Sequence, Set, Tuple
+
+from .advice import advise, as_written
+from .feed import Block, rows_of, turned
+from .opening import ReadAs, reads
+from .progress import Progress, no_collection
+from ..engine.operations import COMMANDS as OF_COMMANDS, Dictionary, Numbered, Operations
+from ..errors import Place, Refused
+from ..values import records
+from ..values.terms import Terms
+from ..values.units import Units
+
+
+COMMANDS = {"set": "i", "add": "a"}
+# More bits than a number of a name has.
+BITS = 32
+# How many faults are told of, beside the first of each rule.
+MOST_FAULTS = 10
+
+
+class Part(NamedTuple):
+    """A batch of a feed: its operations, and where each came from."""
+
+    columns: Numbered
+    lines: "array[int]"
+
+    @property
+    def text(self) -> bytes:
+        """Its records."""
+        return Operations(columns=self.columns).text
+
+    def some(self, rows: slice) -> "Part":
+        """A batch of some of the operations."""
+        return Part(self.columns.some(rows), self.lines[rows])
+
+    @staticmethod
+    def joined(parts: "Sequence[Part]") -> "Part":
+        """The operations of several batches of a feed, as one."""
+        first, *others = parts
+        columns, lines = first.columns.some(slice(None)), first.lines[:]
+        for it in others:
+            lines.extend(it.lines)
+            for column, more in zip(columns[:6], it.columns[:6]):
+                column.extend(more)
+        return Part(columns, lines)
+
+    def keys(self) -> "Iterator[int]":
+        """The edges by number: kind, source and target in one."""
+        ends = map(or_, map(lshift, self.columns.sources, repeat(BITS)), self.columns.targets)
+        if len(self.columns.of_kinds.numbers) == 1:
+            return ends
+        return map(or_, map(lshift, self.columns.kinds, repeat(2 * BITS)), ends)
+
+    def __repr__(self) -> str:
+        return f"<Part of {len(self.lines)} records>"
+
+
+class Need(NamedTuple):
+    """What a batch needs: as many free blocks as it has operations, beside those that the feed's edges before it take."""
+
+    before: int
+    operations: int
+
+    def beside(self, used: int) -> int:
+        """How many blocks the batch needs where so many are used already."""
+        return max(self.before, used) + self.operations
+
+
+class Counted(NamedTuple):
+    """How many edges parts have, and the blocks that these take; and what the last two batches need, since none before them needs
+    as many blocks: each has as many operations and less before it."""
+
+    edges: int
+    blocks: int
+    needs: List[Need]
+
+
+def counted(parts: Sequence[Part]) -> Counted:
+    edges: Set[int] = set()
+    for part in parts[:-2]:
+        edges.update(part.keys())
+    blocks, needs = Blocks(edges), []
+    for part in parts[-2:]:
+        needs.append(Need(blocks.count, len(part.lines)))
+        blocks.put(part.keys())
+    return Counted(len(blocks.edges), blocks.count, needs)
+
+
+@dataclass(frozen=True, repr=False)
+class Survey:
+    """What a feed holds: checked, counted, and ready to be sent. Its edges and their blocks are counted once somebody asks. It
+    `joins` where nobody said how large batches are: a load in this process may then make larger ones of several."""
+
+    feed: str
+    by: str
+    parts: List[Part]
+    rows: int
+    names: int
+    kinds: List[str]
+    bad: int
+    fault_counts: Dict[str, int]
+    faults: List[Refused]
+    seconds: float
+    terms: Terms
+    joins: bool = False
+
+    @cached_property
+    def _counted(self) -> Counted:
+        return counted(self.parts)
+
+    @property
+    def edges(self) -> int:
+        return self._counted.edges
+
+    @property
+    def blocks(self) -> int:
+        return self._counted.blocks
+
+    def records(self, collect: bool = True, batches: Optional[int] = None) -> int:
+        """How many records a load sends: the rows, a commit for each batch, and a collection."""
+        return self.rows - self.bad + (2 if collect else 1) * (len(self.parts) if batches is None else batches)
+
+    @property
+    def needed(self) -> int:
+        """How many blocks a store needs that is empty and has no session open."""
+        return self.needed_beside(0)
+
+    def needed_beside(self, used: int) -> int:
+        """How many blocks a store needs of which so many are used."""
+        return max((it.beside(used) for it in self._counted.needs), default=0)
+
+    @property
+    def room(self) -> int:
+        """How many blocks are enough, as is seen before edges are counted."""
+        count = self.rows - self.bad
+        edges = min(count, self.names * len(self.kinds)) + count // records.BLOCK_EDGES
+        return edges + max((len(it.lines) for it in self.parts), default=0)
+
+    def surely_fits(self, blocks: int, used: int = 0) -> bool:
+        """Whether so many blocks, of which so many are used, are surely enough."""
+        return used + self.room <= blocks
+
+    @property
+    def times(self) -> Tuple[Any, Any]:
+        """The first and the last time, in the units that the feed was counted in."""
+        times = [it for part in self.parts for it in part.columns.times] or [0]
+        return self.terms.units.time_to_user(min(times)), self.terms.units.time_to_user(max(times))
+
+    def fitting(self) -> int:
+        """The number of blocks to make a store with: the usual one, or what is needed."""
+        return min(max(records.USUAL_BLOCKS, self.needed), records.MOST_BLOCKS)
+
+    def counts(self) -> Dict[str, int]:
+        return {"rows": self.rows, "names": self.names, "kinds": len(self.kinds), "edges": self.edges, "blocks": self.blocks,
+                "needed": self.needed, "records": self.records(), "bad": self.bad}
+
+    def __str__(self) -> str:
+        counts = ((self.rows, "row"), (self.names, "name"), (len(self.kinds), "kind"), (self.edges, "edge"),
+                  (self.blocks, "block"))
+        *told, blocks = (f"{count} {word}{'s' * (count != 1)}" for count, word in counts)
+        batches = "1 batch needs" if len(self.parts) == 1 else f"{len(self.parts)} batches need"
+        return f"{self.feed}: {', '.join(told)} in {blocks}; {batches} {self.needed} blocks"
+
+    def __repr__(self) -> str:
+        return f"<Survey of {self}>"
+
+
+class Blocks:
+    """How many blocks edges take. Those of one kind and source share them."""
+
+    def __init__(self, edges: Set[int]) -> None:
+        self.edges = edges
+        self._counts = Counter(map(rshift, edges, repeat(BITS)))
+
+    @property
+    def count(self) -> int:
+        return sum(-(-it // records.BLOCK_EDGES) for it in self._counts.values())
+
+    def put(self, keys: Iterable[int]) -> None:
+        new = set(keys).difference(self.edges)
+        self._counts.update(map(rshift, new, repeat(BITS)))
+        self.edges |= new
+
+
+class Count:
+    """Checks rows, and makes batches of them. A loop over rows is one in C where it can be: there are many rows."""
+
+    def __init__(self, feed: str, by: str, batch: int, terms: Terms, decimal: str = ".") -> None:
+        self.begun = time.monotonic()
+        self.terms, self.decimal = terms, decimal
+        self.feed, self.by, self.command, self.batch = feed, by, COMMANDS[by], batch
+        self.code = OF_COMMANDS.index(self.command)
+        self.parts: List[Part] = []
+        self.of_kinds, self.of_names = Dictionary(), Dictionary()
+        self.filling = self._empty()
+        self.bad = self.rows = 0
+        self.faults: List[Refused] = []
+        # How many rows break a rule, by its word and field.
+        self.fault_counts: Dict[str, int] = {}
+
+    def _empty(self) -> Part:
+        columns: Any = map(array, "BIIIqQ")
+        return Part(Numbered._make([*columns, self.of_kinds, self.of_names]), array("q"))
+
+    def take(self, block: Block) -> None:
+        """Counts rows, and puts those that can be taken into batches of `batch`."""
+        weights, times = self.terms.units.weights_of(block.weights), self.terms.units.times_of(block.times)
+        columns = None if None in weights or None in times else self._numbered(block)
+        if columns is not None:
+            self.rows += len(block.lines)
+        else:
+            block = self.written(block)
+            weights, times = block.weights, block.times
+            columns = self._columns(block)
+        self._fill(block.lines, (*columns, weights, times))
+
+    def _columns(self, block: Block) -> "Tuple[array[int], array[int], array[int]]":
+        names = self.of_names.column
+        return self.of_kinds.column(block.kinds), names(block.sources), names(block.targets)
+
+    def _numbered(self, block: Block) -> "Optional[Tuple[array[int], array[int], array[int]]]":
+        """The numbers of rows' kinds, sources and targets, where each is seen to be the engine's name as it stands."""
+        kinds, names = len(self.of_kinds.numbers), len(self.of_names.numbers)
+        found = self._columns(block)
+        new = [*self.of_kinds.since(kinds), *self.of_names.since(names)]
+        if not new or self.terms.are_as_they_are(new):
+            return found
+        self.of_kinds.forget_since(kinds)
+        self.of_names.forget_since(names)
+        return None
+
+    def _fill(self, lines: Sequence[int], columns: Sequence[Any]) -> None:
+        """Puts rows into batches."""
+        self.filling.columns.codes.frombytes(bytes((self.code,)) * len(lines))
+        for column, values in zip(self.filling.columns[1:6], columns):
+            column.extend(values)
+        self.filling.lines.extend(lines)
+        begins = range(0, len(self.filling.lines) - self.batch + 1, self.batch)
+        self.parts += [self.filling.some(slice(it, it + self.batch)) for it in begins]
+        if begins:
+            self.filling = self.filling.some(slice(begins[-1] + self.batch, None))
+
+    def written(self, block: Block) -> Block:
+        """The rows that can be taken, in the engine's terms; what is wrong with others is counted and told."""
+        self.rows += len(block.lines)
+        found = self.terms.written(block)
+        if not any("" in it for it in found[1:4]) and None not in found.weights and None not in found.times:
+            return found
+        is_right = [bool(kind and source and target) and weight is not None and time is not None
+                    for _, kind, source, target, weight, time in rows_of(found)]
+        for row, right in zip(rows_of(block), is_right):
+            if not right:
+                self._tell((self.command, *row[1:]), row[0])
+        return Block(*(list(compress(it, is_right)) for it in found[:6]))
+
+    def _tell(self, fields: Sequence[str], line: int) -> None:
+        """Counts a row that breaks a rule, and tells of it."""
+        self.bad += 1
+        for it in self.terms.faults_of(fields):
+            rule = f"{it.word} {it.field}"
+            self.fault_counts[rule] = self.fault_counts.get(rule, 0) + 1
+            if len(self.faults) < MOST_FAULTS or self.fault_counts[rule] == 1:
+                self.faults.append(self.terms.refusal(as_written(it, self.decimal), place=Place(self.feed, line)))
+
+    def survey(self, joins: bool = False) -> Survey:
+        """What was counted, when all rows were taken."""
+        if self.filling.lines:
+            self.parts.append(self.filling)
+            self.filling = self._empty()
+        kinds = list(map(self.terms.names.to_user, self.of_kinds.names))
+        return Survey(self.feed, self.by, self.parts, self.rows, len(self.of_names.numbers), kinds, self.bad, self.fault_counts,
+                      self.faults, time.monotonic() - self.begun, self.terms, joins)
+
+
+def must_be_way(by: str, batch: int) -> None:
+    """Raises `ValueError` where rows can't be taken so, or batches not be so large."""
+    if by not in COMMANDS:
+        raise ValueError(f"by is 'set' (a later weight replaces an earlier one) or 'add' (amounts are summed), and not {by!r}")
+    if not 1 <= batch <= records.MOST_OPERATIONS:
+        raise ValueError(f"batch is from 1 to {records.MOST_OPERATIONS}, and not {batch}")
+
+
+@reads
+def survey(data: Any, *, by: str, batch: Optional[int] = None, progress: Optional[bool] = None,
+           terms: Optional[Terms] = None, **read_as: Any) -> Survey:
+    """Reads a feed whole, counts and checks it: what it holds, how many blocks it needs, which rows are bad. Nothing is applied.
+    `batch`: see `load`.
+    The further options are those of `ReadAs`; a store that is loaded with it takes its units. `terms` are those of a store that
+    is to take it, and stand for its units."""
+    how, size = ReadAs(**read_as), records.MOST_OPERATIONS if batch is None else batch
+    must_be_way(by, size)
+    feed = turned(how.feed(data), names=how.names)
+    scale, times = how.units_said
+    terms = terms or Terms(units=Units(1 if scale is None else scale, times or "number", rounding=how.rounding))
+    counter, told = Count(feed.name, by, size, terms, how.decimal), Progress(f"reading {feed.name}", None, progress)
+    with no_collection():
+        for block in feed.blocks():
+            counter.take(block)
+            told.step(len(block.lines))
+    told.end()
+    advise(counter.faults, how.reading(data, terms.units))
+    return counter.survey(joins=batch is None)
