@@ -27,8 +27,9 @@ from bench.stores.columns import ASKED, TABLES, Igraph, Input, Networkx, Store, 
 SINGLE = 20_000
 # What is measured, by the name of its call; an aim is a multiple of igraph's time.
 ROWS = [("load", "load from columns", None), ("degrees", "degrees", 1.5), ("levels", "levels", 1.5),
-        ("components", "components", 1.5), ("cores", "cores", 1.5), ("out_edges", f"out-edges of {ASKED:,} vertices", 2.0),
-        ("all_edges", "all edges", 2.0), ("feed", "one edge, each its own version", None)]
+        ("components", "components", 1.5), ("cores", "cores", 1.5),
+        ("out_neighbors", f"out-neighbors of {ASKED:,} vertices", 2.0), ("all_edges", "all edges", 2.0),
+        ("feed", "one edge, each its own version", None)]
 OTHERS: List[Any] = [Igraph, Networkx]
 Times = Dict[str, Spent]
 

@@ -4,11 +4,11 @@ from __future__ import annotations
 import array
 import random
 import threading
-from ctypes import c_size_t, c_uint32, c_uint64, c_void_p
+from ctypes import CDLL, byref, c_size_t, c_uint32, c_uint64, c_void_p
 from typing import Any, Dict, List, Tuple
 
 from bench.calls import VIEW, at, columns, must
-from bench.places import BLOCKS
+from bench.places import BLOCKS, library
 from misteluk.engine import interface
 from misteluk.engine.interface import NOT_REACHED, Code
 
@@ -82,14 +82,18 @@ class Store:
     def cores(self) -> None:
         must(self.library.version_cores(self.version, VIEW, at(self.tables[2]), self.count))
 
-    def out_edges(self) -> List[Tuple[Any, Any]]:
-        # (words that ctypes needn't make anew for each call)
-        words, count, found = [it for each in self.row for it in (c_void_p(at(each)), c_size_t(self.given.edges))], c_uint64(), []
+    def out_neighbors(self) -> List[Any]:
+        # (words that ctypes needn't make or convert for each call)
+        count, found, targets = c_uint64(), [], self.row[1]
+        words = [it for each in self.row for it in (c_void_p(at(each)), c_size_t(self.given.edges))] + [byref(count)]
+        ask, held = CDLL(library()).misteluk_version_row, (byref(self.version), byref(VIEW))
         for place in self.given.asked:
             number = self.numbers[place]
             if number is not None:
-                must(self.library.version_row(self.version, VIEW, number, *words, count))
-                found.append((self.row[1][:count.value], self.row[2][:count.value]))
+                code = ask(*held, c_uint32(number), *words)
+                if code:
+                    must(code)
+                found.append(targets[:count.value])
         return found
 
     def all_edges(self) -> None:
@@ -183,7 +187,7 @@ class Igraph:
     def cores(self) -> None:
         self.core = self.joined.coreness()
 
-    def out_edges(self) -> List[Any]:
+    def out_neighbors(self) -> List[Any]:
         return [self.graph.neighbors(it, mode="out") for it in self.given.asked]
 
     def all_edges(self) -> None:
@@ -236,7 +240,7 @@ class Networkx:
     def cores(self) -> None:
         self.core = self.networkx.core_number(self.joined)
 
-    def out_edges(self) -> List[Any]:
+    def out_neighbors(self) -> List[Any]:
         names = self.given.names
         return [list(self.graph.successors(names[it])) for it in self.given.asked if names[it] in self.graph]
 
