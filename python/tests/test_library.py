@@ -21,11 +21,18 @@ from misteluk.engine.guard import Guard, Notes, Owned, Step, alone
 SESSION = []
 
 
-def in_a_fork():
+def told(call):
     try:
-        return str(SESSION[0].degrees())
+        return str(call())
     except misteluk.StoreError as fault:
         return str(fault)
+
+
+def answers():
+    """What a session answers to calls, of which it keeps something."""
+    session = SESSION[0]
+    return [told(it) for it in (session.degrees, session.edges_columns, lambda: session.edges_into("b"),
+                                lambda: session.edges_out_of("a"), lambda: session.edge("k", "a", "b"))]
 
 
 @unittest.skipUnless(ENGINE == "library", "of the library alone")
@@ -52,6 +59,19 @@ class InProcess(Case):
         for it in threads:
             it.join()
         self.assertEqual((wrong, store.stat().version), ([], 61))
+
+    def test_a_number_that_a_later_version_told(self):
+        """An older version doesn't have the name or kind, though its number is known by then."""
+        store = self.store("insert k a b 1 1")
+        old = store.open()
+        store.insert("l", "b", "c", 2, 2)
+        store.commit()
+        new = store.open()
+        self.assertEqual((new.edge("l", "b", "c"), len(new.edges_into("c", "l"))), (Edge(2, 2, 2), 1))
+        for ask in (old.edges_into, old.edges_out_of, lambda name: old.edge("k", "a", name)):
+            self.assertRaises(misteluk.NoVertex, ask, "c")
+        self.assertRaises(misteluk.NoKind, old.edge, "l", "a", "b")
+        self.assertEqual((old.edge("k", "a", "b"), new.edge("k", "a", "b")), (Edge(1, 1, 1), Edge(1, 1, 1)))
 
     def test_threads_feed_one_store(self):
         store = self.store()
@@ -91,8 +111,9 @@ class InProcess(Case):
         store = self.store("insert k a b 1 1")
         SESSION[:] = [store.open()]
         self.addCleanup(SESSION.clear)
+        self.assertNotIn("another process's", " ".join(answers()))
         with multiprocessing.get_context("fork").Pool(1) as pool:
-            self.assertIn("another process's", pool.apply(in_a_fork))
+            self.assertEqual([it for it in pool.apply(answers) if "another process's" not in it], [])
         self.assertEqual(SESSION[0].edge("k", "a", "b"), Edge(1, 1, 1))
 
     def test_a_fork_makes_its_own(self):

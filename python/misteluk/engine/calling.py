@@ -81,15 +81,18 @@ class Handles(NamedTuple):
 
 
 class Known(NamedTuple):
-    """The names and kinds of an opening by number, as far as they were asked for. Those that are known stay as they are."""
+    """The names and kinds of an opening by number, as far as they were asked for, and the numbers of those that were asked about.
+    What is known stays as it is."""
 
     names: List[str]
     kinds: List[str]
     lock: Any
+    of_names: Dict[str, int]
+    of_kinds: Dict[str, int]
 
     @staticmethod
     def nothing() -> "Known":
-        return Known([], [], threading.RLock())
+        return Known([], [], threading.RLock(), {}, {})
 
 
 class LibraryFlight:

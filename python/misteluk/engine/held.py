@@ -5,7 +5,7 @@ from array import array
 from bisect import bisect_left
 from ctypes import c_uint32, c_uint64
 from itertools import chain
-from typing import Any, List, NamedTuple, Optional, Protocol, Sequence, Tuple, Union
+from typing import Any, Dict, List, NamedTuple, Optional, Protocol, Sequence, Tuple, Union
 
 from . import interface
 from .calling import Handles, Known, address, check, refusal_of, room, texts_of
@@ -128,19 +128,28 @@ class LibraryVersion:
     def _view(self, scope: Scope) -> interface.View:
         if scope == WHOLE:
             return ALL_EDGES
-        kind = interface.ANY_KIND if scope.kind is None else self._number(self._library.version_kind, scope.kind)
+        kind = interface.ANY_KIND if scope.kind is None else self._kind(scope.kind)
         return interface.View(scope.since, scope.until, kind)
 
-    def _number(self, call: Any, name: str) -> int:
-        """The number of a kind or vertex."""
+    def _number(self, call: Any, name: str, known: Dict[str, int], count: int) -> int:
+        """The number of a kind or vertex, of which the version has so many. One that any version of the opening told is that of
+        each version that has as many, and isn't asked for again."""
+        number = known.get(name, count)
+        if number < count:
+            self._engine.guard.check()
+            return number
         found = c_uint32()
         code = self._ask(call, name.encode("ascii"), len(name), found)
         if code:
             raise refusal_of(code)
+        known[name] = found.value
         return found.value
 
     def _vertex(self, name: str) -> int:
-        return self._number(self._library.version_vertex, name)
+        return self._number(self._library.version_vertex, name, self._known.of_names, self.count)
+
+    def _kind(self, name: str) -> int:
+        return self._number(self._library.version_kind, name, self._known.of_kinds, self._kind_count)
 
     def names(self) -> List[str]:
         if self._names is None:
@@ -170,6 +179,7 @@ class LibraryVersion:
 
     def degrees(self, scope: Scope) -> "Tuple[array[int], array[int], array[int]]":
         if scope == WHOLE and self._degrees is not None:
+            self._engine.guard.check()
             return self._degrees
         out, into, weights = self._table(self._library.version_degrees, "IIq", self._view(scope))
         if scope == WHOLE:
@@ -190,7 +200,7 @@ class LibraryVersion:
     def edge(self, ends: Ends) -> Optional[Marks]:
         kind, source, target = ends
         marks = interface.Edge()
-        numbers = self._number(self._library.version_kind, kind), self._vertex(source), self._vertex(target)
+        numbers = self._kind(kind), self._vertex(source), self._vertex(target)
         code = self._ask(self._library.version_edge, *numbers, marks)
         if code == Code.NO_EDGE:
             return None
@@ -208,6 +218,7 @@ class LibraryVersion:
 
     def edges(self, scope: Scope) -> Arrays:
         view = self._view(scope)
+        self._engine.guard.check()
         if self._all is not None:
             places = self._all.places(None if scope.kind is None else view.kind, scope)
             return self._all if scope == WHOLE else self._all.at(places)
