@@ -1,13 +1,14 @@
 """The client in Python next to networkx, igraph, graph-tool, scipy and SQLite over one file: a load, questions, exports, and
-single edges. One table, whose cells are microseconds or milliseconds elapsed and, after them, of the processor; and one of what is
-aimed at, next to igraph where it is there, and what was found, of processor time.
+single edges. One table, whose cells are microseconds or milliseconds elapsed and, after them, of the processor; and one of what
+is aimed at, next to igraph where it is there, and what was found, of processor time.
 
     python3 -m bench run client              500,000 edges between 60,000 vertices, five turns
     python3 -m bench run client 50000 3      so many edges, and so many turns
     python3 -m bench run client --program    also over `stinger run`, through pipes
 
-Tables and exports are asked of sessions that were asked nothing before, but for the edges at vertices: these are asked of one that
-has read all edges. "Once more" is without what the first such question puts in order. With 500,000 edges `stinger run` has no record left for an export.
+Tables and exports are asked of sessions that were asked nothing before, but for the edges at vertices: these are asked of one
+that has read all edges. "Once more" is without what the first such question puts in order. With 500,000 edges `stinger run` has
+no record left for an export.
 
 All take turns, and medians are printed. Each answer is compared with the client's in the first turn, and the measurement stops
 where one differs. The library is the proved one, or the one that MISTELUK_LIBRARY names.
