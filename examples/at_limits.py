@@ -91,8 +91,8 @@ def complete_graph() -> Story:
 
 
 def many_edges() -> Story:
-    """256 sources with 257 targets each: 65,792 edges, more than 16 bits count; then the same behind a rebase."""
-    story, sources, targets = Story(), 256, 257
+    """260 sources with 400 targets each: 104,000 edges, more than 16 bits count; then the same behind a rebase."""
+    story, sources, targets = Story(), 260, 400
     edges, used = sources * targets, sources * blocks_for(targets)
     places = [(a, b) for a in range(sources) for b in range(targets)]
     story.insert([f"i,k,s{a},t{b},{a + b},{b}" for a, b in places])
@@ -150,6 +150,10 @@ def all_names() -> Story:
     story.stat(most, most - 1, 0, blocks_for(most - 1))
     story.insert(["i,k,v65535,hub,5,1"])
     story.stat(most, most, 0, blocks_for(most - 1) + 1)
+    # Several workers look up the ends of so many removals, none of which finds an edge.
+    for n in range(1, 3_001):
+        story.give(f"r,k,v{n},v{most - n}")
+    story.give("commit", f"commit v={story.version + 1} ins=0 upd=0 rem=0 abs=3000 ovf=0")
     return story
 
 
@@ -195,6 +199,21 @@ def expire_half(story: Story, kinds: int, targets: int, retired: int, blocks: in
     story.give("edge,0,k31,s,t9", "edge 0 none")
     story.give("edge,0,k32,s,t9", "edge 0 33 32 32")
     story.give("collect", f"collect floor={story.version} recycled={retired + half * each + 1} retired=0")
+
+
+def many_old_rows() -> Story:
+    """32,000 rows with a block each, of an old edge and a young one: an expiry replaces every block, and the next drops it."""
+    blocks, rows = 65_536, 32_000
+    story = Story("--blocks", str(blocks))
+    story.insert([f"i,k,s{n},{target}" for n in range(rows) for target in ("old,1,1", "young,1,9")])
+    story.stat(rows + 2, 2 * rows, 0, rows, blocks)
+    for time, left in (5, rows), (10, 0):
+        story.version += 1
+        story.give(f"x,{time}")
+        story.give("commit", f"commit v={story.version} ins=0 upd=0 rem=0 abs=0 ovf=0 exp={rows}")
+        story.stat(rows + 2, left, rows, left, blocks)
+        story.give("collect", f"collect floor={story.version} recycled={rows} retired=0")
+    return story
 
 
 class Seats:
@@ -310,8 +329,9 @@ def collect(story: Story, model: Model, held: List[int]) -> None:
 
 
 CASES: Dict[str, Callable[[], Story]] = {
-    "the complete graph of 66 vertices": complete_graph, "65,792 edges": many_edges, "65,536 names": all_names,
-    "64 kinds in a row": all_kinds, "16 seats": all_seats, "batches for several workers": long_batches}
+    "the complete graph of 66 vertices": complete_graph, "104,000 edges": many_edges, "65,536 names": all_names,
+    "64 kinds in a row": all_kinds, "32,000 old rows": many_old_rows, "16 seats": all_seats,
+    "batches for several workers": long_batches}
 
 
 def fault_of(program: str, story: Story, workers: int) -> str:

@@ -250,6 +250,11 @@ class Calls(Case):
         self.assertEqual(held.path("a", "t", since=5), ["a", "s16", "t"])
         self.assertEqual(store.open().path("a", "t"), ["a", "s16", "t"])
 
+    def test_a_path_whose_step_has_many_edges_from_elsewhere(self):
+        """No walk reaches the vertices of the first 16 edges into the last one."""
+        session = self.store(*(f"insert k b{it} t 1 1" for it in range(16)), "insert k a s 1 1", "insert k s t 1 1").open()
+        self.assertEqual(session.path("a", "t"), ["a", "s", "t"])
+
     def test_one_vertex(self):
         session = self.store("insert k a b 3 1", "insert l a b 4 5", "insert k b a 1 2", "insert k a a 9 3",
                              "insert k c c 1 1").open()
