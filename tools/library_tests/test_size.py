@@ -1,5 +1,6 @@
-"""Each call that works on a store, once over 2^20 names and so many edges, compared with numpy and igraph; and a hub with 2^22 edges
-of the greatest weight. A call that gave up from some size on would fail here alone. By hand, since it takes minutes and gigabytes:
+"""Each call that works on a store, once over 2^20 names and so many edges, compared with numpy and igraph; and a hub with 2^22
+edges of the greatest weight. A call that gave up from some size on would fail here alone. By hand, since it takes minutes and
+gigabytes:
 
     EDGES=10000000 tools/test_library size
 """
