@@ -96,7 +96,8 @@ pub fn serve<A: AllocGlobal + Threads + Wait + Sync, R: Read + Drop, W: Write>(
 /// of the writer did; fewer than 1,000,000 records were read then. `Read` where csv's reader failed or the limit on
 /// records was reached, `Write` where a call of the writer failed. `Memory` never at the limit; `Start` while the feed
 /// gives records. `flushed` says that each text but one cut off by the writer was flushed. `unread`: where no store was
-/// opened and nothing flushed, as at the first opening, nothing was read.
+/// opened and nothing flushed, as at the first opening, nothing was read. `machine`: for each store that was opened, what was
+/// done over it is a run of the machine of interleavings, whose replies are what the slots print (`specs/Segments.antt`).
 ///
 /// ```
 /// let mut feed = Feed::over(rt.alloc(), script);
