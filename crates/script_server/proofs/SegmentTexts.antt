@@ -1,7 +1,7 @@
 -- How far script and machine have come together, and what a run has written when it ends.
 use Rattle.std.proofs.Common.{◌≡◌, ℕ, ◌+◌, List, [], ◌∷◌, ◌++◌, length, append_assoc, append-nil, refl, sym, ◌∙◌, ap, subst}
 use Rattle.std.proofs.{Common.{inl, inr}, lemmas.Bool.true≢false}
-use Rattle.std.specs.{Prelude.{false, Option, None, Some, Result, Ok, Err, IfSome, OnOk}, Io.KnownBytes.Appends}
+use Rattle.std.specs.{Prelude.{false, true, Option, None, Some, Result, Ok, Err, IfSome, OnOk}, Io.KnownBytes.Appends}
 use Rattle.feed_csv.specs.{Commands.item_of, Records.{IsOver, Row}, Script.Script}
 use Rattle.feed_csv.specs.declared.command.{Command.Command, FeedWord.FeedWord}
 use Rattle.feed_csv.specs.declared.command.FeedWord.TheVariants as feed_word

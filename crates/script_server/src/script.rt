@@ -81,9 +81,6 @@ pub fn serve<A: AllocGlobal + Threads + Wait + Sync, R: Read + Drop, W: Write>(
     ensures text { IfSome (R.remaining reader) (λ bytes.
         (done : ℕ) × AppendsSome (W.contents writer.old) (W.contents writer.new)
         (IsText (set_up config) (records_of bytes) done result)) }
-    ensures machine { IfSome (R.remaining reader) (λ bytes.
-        (done : ℕ) × AppendsSome (W.contents writer.old) (W.contents writer.new)
-        (IsMachineText (set_up config) (records_of bytes) done result)) }
 {
     let mut feed = Feed::over(rt.alloc(), reader);
     let mut sink = Sink::over(writer);
