@@ -84,7 +84,7 @@ pub fn serve<A: AllocGlobal + Threads + Wait + Sync, R: Read + Drop, W: Write>(
 {
     let mut feed = Feed::over(rt.alloc(), reader);
     let mut sink = Sink::over(writer);
-    run_script(rt, config, &mut feed, &mut sink)
+    run_text(rt, config, &mut feed, &mut sink)
 }
 
 /// [`serve`] over a feed that gave nothing yet and a sink that hasn't failed, which show afterwards why the run ended.
@@ -122,6 +122,25 @@ pub fn run_script<A: AllocGlobal + Threads + Wait + Sync, R: Read, W: Write>(
         Ok(mut run) => turn_all(rt, feed, &mut run, sink),
         Err(fault) => Err(fault),
     }
+}
+
+/// [`run_script`], without what it says of the machine.
+fn run_text<A: AllocGlobal + Threads + Wait + Sync, R: Read, W: Write>(
+    rt: &A,
+    config: Config,
+    feed: &mut Feed<R>,
+    sink: &mut Sink<'_, W>,
+) -> Result<Summary, ServeFault>
+    requires feed { IsFresh feed.old }
+    requires sink { sink.old.failed ≡ false }
+    ensures same_writer { sink.new.writer.ghost_name ≡ sink.old.writer.ghost_name }
+    ensures cause { HasCause feed.new sink.new.failed result }
+    ensures flushed { is_start result ≡ false → sink.new.failed ≡ false → sink.new.flushed ≡ true }
+    ensures unread { is_start result ≡ true → sink.new.flushed ≡ false → feed.new ≡ feed.old }
+    ensures text { IfSome feed.old.left (λ rows. AppendsSome (held W.contents sink.old) (held W.contents sink.new)
+        (IsText (set_up config) rows (records_done feed.new) result)) }
+{
+    run_script(rt, config, feed, sink)
 }
 
 /// A run before its first record; or the end of one that has no store, or for which there is no memory.

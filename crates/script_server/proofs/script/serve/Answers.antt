@@ -5,5 +5,5 @@ use Rattle.script_server.proofs.script.serve.Goals as goal
 pub returns : goal.returns
 returns g c =
     let told = from_bytes _ _ _ _ _ _ _ _ (ap (λ feed. feed.left) c.over-feed.ensures)
-    (ap g.W.Write.contents c.over-sink.ensures.held) c.run_script.ensures.text in
+    (ap g.W.Write.contents c.over-sink.ensures.held) c.run_text.ensures.text in
     first_of (search (rules, told), grind (arith, common_steps, told))
