@@ -1,4 +1,4 @@
-//! Blocks for a batch over a version that no pool keeps: tests and measurements apply batches with them.
+//! Blocks for a batch over a version that no pool keeps: tests apply batches with them.
 
 ghost use Rattle.std.specs.Prelude.{◌≡◌, ◌≢◌, ◌<◌, ◌≤◌, ◌^◌, length, false, IfOk, IfSome, All, AllPairs};
 ghost use Rattle.std.specs.List.{range_with_len};
@@ -41,7 +41,7 @@ fn blank_from(alloc: Global, first: u32, count: usize) -> Result<Vec<Arc<Block>>
 
 /// So many empty blocks, at most 4,096, of numbers that are all different and that the version doesn't have: those that
 /// follow its greatest. Nothing where memory is refused, or where a number would be 2^32.
-pub fn fresh_blocks(alloc: Global, version: &Version, count: usize) -> Option<Vec<Arc<Block>>>
+pub(crate) fn fresh_blocks(alloc: Global, version: &Version, count: usize) -> Option<Vec<Arc<Block>>>
     requires count { count ≤ 4096 }
     ensures many { IfSome result (λ v. length v.items ≡ count) }
     ensures distinct { IfSome result (λ v. AllPairs ◌≢◌ (numbers_of v.items)) }

@@ -2,6 +2,7 @@
 //! them: a crate with tests of its own is proved once more for these.
 #![tactic(auto)]
 
+#[cfg(test)]
 mod blocks;
 #[cfg(test)]
 mod layers;
@@ -9,5 +10,3 @@ mod layers;
 mod texts;
 #[cfg(test)]
 mod versions;
-
-pub use blocks::fresh_blocks;
