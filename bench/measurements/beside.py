@@ -1,7 +1,7 @@
 """Processor time of a request over a version that a session holds, in numbers and without lines: alone, and while another thread
 feeds batches of 4,096 changes to the same store. The version has 65,536 insertions of an R-MAT graph. Nine runs of five rounds
 each, in which the two take turns: medians of all, and the median, least and greatest of the runs' ratios. It runs the proved
-program of crates/bench_readers, which `rt run` builds.
+program of crates/example_store, which `rt run` builds.
 """
 from __future__ import annotations
 
@@ -16,13 +16,13 @@ from bench import tables
 from bench.measuring import spread, stop
 from bench.places import TOP
 
-CRATE = TOP / "crates/bench_readers"
+CRATE = TOP / "crates/example_store"
 # Nanoseconds by request and by when it was asked.
 Times = Dict[Tuple[str, str], List[int]]
 
 
 def options(parser: argparse.ArgumentParser) -> None:
-    parser.add_argument("--program", metavar="FILE", help="another program than the one that `rt run` builds of bench_readers")
+    parser.add_argument("--program", metavar="FILE", help="another program than the one that `rt run` builds of example_store")
     parser.add_argument("--runs", type=int, default=9, help="runs of five rounds (9)")
 
 
@@ -31,7 +31,7 @@ def built() -> str:
                          text=True)
     if ran.returncode:
         stop("\n".join(ran.stdout.splitlines()[-20:]))
-    return str(CRATE / "out/bench_readers")
+    return str(CRATE / "out/example_store")
 
 
 def one_run(program: str) -> Tuple[Times, List[int]]:
@@ -42,7 +42,7 @@ def one_run(program: str) -> Tuple[Times, List[int]]:
         when, *rest = line.split()
         if when == "fed":
             fed.append(int(rest[0]))
-        elif when != "graph":
+        elif when in ("alone", "beside"):
             times[rest[0], when].append(int(rest[1]))
     return times, fed
 

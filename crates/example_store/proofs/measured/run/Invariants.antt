@@ -1,4 +1,4 @@
-use Rattle.example_shared.proofs.run.Given as goal
+use Rattle.example_store.proofs.measured.run.Given as goal
 
 -- the store is of the opening that was just made
 abbrev pub ghosts-over : goal.ghosts-over

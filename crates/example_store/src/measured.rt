@@ -1,25 +1,24 @@
 //! What a feed costs a reader: requests over a version that a session holds, alone and while another thread feeds batches to the
-//! same store. `bench_readers ROUNDS` measures that, and bench/beside runs it. Without a number it only makes a small graph.
-#![tactic(auto)]
+//! same store.
 
 mod edges;
-mod requests;
 
-ghost use Rattle.stream_store.specs.Opened.{IsOpeningOf};
+ghost use Rattle.misteluk.specs.Opened.{IsOpeningOf};
 
-use crate::edges::{Edges, insertions};
-use crate::requests::ask_each;
-use batch_apply::PassAll;
-use graph_types::STANDARD_SIZE;
-use graph_version::Version;
-use std::env;
+use self::edges::{Edges, insertions};
+use misteluk::{
+    Config, NamedFilter, Naming, Opened, PassAll, Request, Seat, Session, Store, Version,
+};
+use std::alloc::Global;
 use std::marker::Brand;
 use std::sync::Wait;
 use std::sync::atomic::AtomicBool;
 use std::sync::atomic::Ordering::SeqCst;
 use std::thread::{Threads, join, yield_now};
 use std::time::CpuClock;
-use stream_store::{Config, Naming, Opened, Seat, Session, Store};
+
+/// How many blocks the store has.
+const BLOCKS: u32 = 65_536;
 
 /// How many batches make the graph that is measured. The feed applies the same ones over and over, so that every batch copies
 /// blocks, and the graph stays as large as it is.
@@ -30,6 +29,60 @@ const MOST_FED: u32 = 4_096;
 
 /// How often a thread looks for the first batch of a round, before it gives up: only where no thread could be started.
 const TURNS: u32 = 10_000_000;
+
+/// The request of this name over all edges; nothing where memory was refused.
+fn request(alloc: Global, name: &str) -> Option<Request> {
+    let filter = NamedFilter::all();
+    match name {
+        "labels" => Some(Request::labels(filter)),
+        "cores" => Some(Request::cores(filter)),
+        "degrees" => Some(Request::degrees(filter)),
+        _ => Request::levels(alloc, "v0", filter).ok(),
+    }
+}
+
+fn clock<R: CpuClock>(rt: &R) -> Option<u128> {
+    match rt.thread_cpu_time() {
+        Ok(time) => Some(time.as_nanos()),
+        Err(_) => None,
+    }
+}
+
+/// Nanoseconds of processor time that this thread takes for a request.
+fn time_of<R: CpuClock>(rt: &R, session: &Session, request: &Request) -> Option<u128> {
+    let before = clock(rt)?;
+    if session.ask_in_numbers(request).is_err() {
+        return None;
+    }
+    Some(clock(rt)?.saturating_sub(before))
+}
+
+/// Asks a request, and prints what it took.
+fn ask<R: CpuClock + Print + AllocGlobal>(
+    rt: &R,
+    when: &str,
+    name: &str,
+    session: &Session,
+) -> bool {
+    let spent = match request(rt.alloc(), name) {
+        Some(request) => time_of(rt, session, &request),
+        None => None,
+    };
+    match spent {
+        Some(spent) => println!(rt; "{when} {name} {spent}").is_ok(),
+        None => false,
+    }
+}
+
+/// Asks each request, and prints a line for it: when it was, its name, and the time.
+fn ask_each<R: CpuClock + Print + AllocGlobal>(rt: &R, when: &str, session: &Session) -> bool {
+    for name in ["levels", "labels", "cores", "degrees"] {
+        if !ask(rt, when, name, session) {
+            return false;
+        }
+    }
+    true
+}
 
 /// Applies a batch of the next edges, and collects; whether it was applied.
 fn feed_one<J: Naming, R: Threads + Wait + Sync + AllocGlobal>(
@@ -177,27 +230,16 @@ fn over<J: Naming + Send + Sync, R: Threads + Wait + Sync + CpuClock + Print + A
     is_done
 }
 
-fn run<R: Threads + Wait + Sync + CpuClock + Print + AllocGlobal>(
+/// Measures as many rounds, or makes no more than a small graph.
+pub(crate) fn run<R: Threads + Wait + Sync + CpuClock + Print + AllocGlobal>(
     rt: &R,
     rounds: Option<u32>,
-) -> bool {
-    let Ok(config) = Config::new(1, STANDARD_SIZE, 1) else {
-        return false;
-    };
-    match Store::open(rt, rt.alloc(), config) {
-        Ok(opened) => over::<Brand, R>(rt, opened, rounds),
-        Err(_) => false,
-    }
-}
-
-fn main(rt: HostRuntime) -> Result<(), &'static str> {
-    let rounds = match env::args(&rt) {
-        Ok(mut words) => words.nth(1).and_then(|word| word.parse::<u32>().ok()),
-        Err(_) => None,
-    };
-    if run(&rt, rounds) {
-        Ok(())
+) -> Option<()> {
+    let config = Config::new(1, BLOCKS, 1).ok()?;
+    let opened = Store::open(rt, rt.alloc(), config).ok()?;
+    if over::<Brand, R>(rt, opened, rounds) {
+        Some(())
     } else {
-        Err("a call was refused")
+        None
     }
 }

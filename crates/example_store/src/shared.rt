@@ -1,5 +1,4 @@
 //! A store that threads share: one feeds it, and beside it two others read.
-#![tactic(auto)]
 
 ghost use Rattle.misteluk.specs.Opened.{IsOpeningOf};
 ghost use Rattle.misteluk.specs.Stores.{IsSeatOf};
@@ -85,12 +84,9 @@ fn over<J: Naming + Send + Sync, R: Threads + Wait + Sync>(
     Some((fed?, held))
 }
 
-fn run<R: Threads + Wait + Sync + Print>(rt: &R, alloc: Global) -> Option<()> {
+/// Opens the store, and prints what was told.
+pub(crate) fn run<R: Threads + Wait + Sync + Print>(rt: &R, alloc: Global) -> Option<()> {
     let opened = Store::open(rt, alloc, Config::new(2, 16, 2).ok()?).ok()?;
     let (fed, (one, two)) = over::<Brand, R>(rt, alloc, opened)?;
     println!(rt; "version {fed}, and each session as it was: {one}, {two}").ok()
-}
-
-fn main(rt: HostRuntime) -> Result<(), &'static str> {
-    run(&rt, rt.alloc()).ok_or("a call was refused")
 }

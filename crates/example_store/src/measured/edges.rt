@@ -1,6 +1,6 @@
 //! The edges of an R-MAT graph (Chakrabarti, Zhan, Faloutsos 2004), and batches that insert them.
 
-use graph_types::{Batch, Name, NamedOp};
+use misteluk::{Batch, Name, NamedOp};
 use std::alloc::{AllocError, Global};
 
 /// The number of vertices is 2 to this power.

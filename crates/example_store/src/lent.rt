@@ -1,5 +1,4 @@
 //! A store in one thread: a batch, a session on the version that it made, and a question.
-#![tactic(auto)]
 
 use anyhow::{Context, Result};
 use misteluk::{
@@ -41,10 +40,11 @@ fn reply<R: Threads + Wait + Sync + AllocGlobal>(rt: &R) -> Result<Reply> {
     answer
 }
 
-fn main(rt: HostRuntime) -> Result<()> {
-    if let Reply::Levels(levels) = reply(&rt)? {
+/// Prints what was answered.
+pub(crate) fn run<R: Threads + Wait + Sync + AllocGlobal + Print>(rt: &R) -> Result<()> {
+    if let Reply::Levels(levels) = reply(rt)? {
         for (town, level) in levels.iter() {
-            println!(&rt; "{town} {level}")?;
+            println!(rt; "{town} {level}")?;
         }
     }
     Ok(())
