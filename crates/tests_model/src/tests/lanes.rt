@@ -144,32 +144,6 @@ fn few_times(state: &mut u64) -> [u64; 32] {
     times
 }
 
-/// A weight from -1,000 to 1,000.
-fn small_weight(state: &mut u64) -> i64
-    ensures { IsWeight result }
-{
-    i64::from(next(state) % 2001) - 1000
-}
-
-fn small_weights(state: &mut u64) -> [i64; 32]
-    ensures { All IsWeight result }
-{
-    let mut weights = [0; 32];
-    for weight in weights.iter_mut() {
-        *weight = small_weight(state);
-    }
-    weights
-}
-
-fn first_weights(weights: &[i64], len: usize) -> &[i64]
-    requires within { len ≤ length weights.now }
-    requires weights { All IsWeight weights.now }
-    ensures few { length result.now ≡ len }
-    ensures weights { All IsWeight result.now }
-{
-    &weights[..len]
-}
-
 /// Whether a bit is set, by halving.
 fn has_bit(mask: u32, place: usize) -> bool {
     let mut rest = mask;
@@ -222,59 +196,6 @@ fn check_window(rt: &impl Abort, state: &mut u64, len: usize)
     is_within(rt, times, live, lo, hi, built(times, live, lo, hi));
 }
 
-/// The sum of the weights at the places in a mask that is halved.
-fn halved(weights: &[i64], mask: u32) -> i64 {
-    let mut rest = mask;
-    let mut sum = 0_i64;
-    for weight in weights {
-        let times = i64::from(rest % 2);
-        sum = sum.wrapping_add(weight.wrapping_mul(times));
-        rest /= 2;
-    }
-    sum
-}
-
-fn check_sum(rt: &impl Abort, state: &mut u64, len: usize)
-    requires { len ≤ 32 }
-{
-    let column = small_weights(state);
-    let weights = first_weights(&column, len);
-    let mask = next(state);
-    sums(rt, weights, mask, halved(weights, mask));
-}
-
-/// Whether a value stands at a place whose bit is set.
-fn is_there(times: &[u64], mask: u32, value: u64) -> bool {
-    for (place, time) in times.iter().enumerate() {
-        if *time == value && has_bit(mask, place) {
-            return true;
-        }
-    }
-    false
-}
-
-/// The bounds, by a look for each value below 32.
-fn looked_for(times: &[u64], mask: u32) -> Option<(u64, u64)> {
-    let mut least = None;
-    let mut greatest = None;
-    for value in 0..32u64 {
-        if is_there(times, mask, value) {
-            least = least.or(Some(value));
-            greatest = Some(value);
-        }
-    }
-    least.zip(greatest)
-}
-
-fn check_bounds(rt: &impl Abort, state: &mut u64, len: usize)
-    requires { len ≤ 32 }
-{
-    let column = few_times(state);
-    let times = &column[..len];
-    let mask = next(state) & next(state);
-    is_bounded(rt, times, mask, looked_for(times, mask));
-}
-
 /// What two columns differ in, summed up.
 fn differences(left: &[u32], right: &[u32]) -> u32 {
     let mut sum = 0_u32;
@@ -303,16 +224,14 @@ fn check_compare(rt: &impl Abort, state: &mut u64, len: usize)
     compares(rt, left, right, differences(left, right) == 0);
 }
 
-/// A search is as a walk from the end, a window's mask as built from the highest place, a sum as of a mask that is halved, bounds
-/// as by a look for each value, and columns are equal that differ in nothing.
+/// The scans in lanes: a search is as a walk from the end, a window's mask as built from the highest place, and columns are equal
+/// that differ in nothing. A sum and bounds go place by place.
 #[test]
 fn scans_as_slow_ones_do(rt: HostRuntime) {
     let mut state = 1;
     for input in 0..INPUTS {
         check_find(&rt, &mut state, input % 33);
         check_window(&rt, &mut state, input % 33);
-        check_sum(&rt, &mut state, input % 33);
-        check_bounds(&rt, &mut state, input % 33);
         check_compare(&rt, &mut state, input % 33);
     }
 }
