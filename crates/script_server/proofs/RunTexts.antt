@@ -295,16 +295,17 @@ from_run (Some rows) start setup count before mid after result shows same all =
     subst (λ from. AppendsSome from after (IsText setup rows count result)) same (all setup shows)
 
 -- from the records that are left to the bytes
-pub from_bytes : (known : Option (List ℕ)) (left : Option (List Row)) (setup : Setup) (count : ℕ)
-    (before mid after : Option (List ℕ))
-    (result : Result Summary ServeFault) → left ≡ option_map records_of known → mid ≡ before
-    → IfSome left (λ rows. AppendsSome mid after (IsText setup rows count result))
-    → IfSome known (λ bytes. (done : ℕ) × AppendsSome before after (IsText setup (records_of bytes) done result))
-from_bytes None left setup count before mid after result same held all = tt
-from_bytes (Some bytes) left setup count before mid after result same held all = (
+pub from_bytes : (IsWritten : List Row → ℕ → Result Summary ServeFault → List ℕ → Type 0) (known : Option (List ℕ))
+    (left : Option (List Row)) (count : ℕ) (before mid after last : Option (List ℕ)) (result : Result Summary ServeFault)
+    → left ≡ option_map records_of known → mid ≡ before → last ≡ after
+    → IfSome left (λ rows. AppendsSome mid after (IsWritten rows count result))
+    → IfSome known (λ bytes. (done : ℕ) × AppendsSome before last (IsWritten (records_of bytes) done result))
+from_bytes IsWritten None left count before mid after last result same held ended all = tt
+from_bytes IsWritten (Some bytes) left count before mid after last result same held ended all = (
   count,
-  subst (λ from. AppendsSome from after (IsText setup (records_of bytes) count result)) held
-      (subst (λ left. IfSome left (λ rows. AppendsSome mid after (IsText setup rows count result))) same all),
+  subst (λ to. AppendsSome before to (IsWritten (records_of bytes) count result)) (sym ended)
+      (subst (λ from. AppendsSome from after (IsWritten (records_of bytes) count result)) held
+      (subst (λ left. IfSome left (λ rows. AppendsSome mid after (IsWritten rows count result))) same all)),
 )
 
 -- a run before its first record has done none

@@ -71,7 +71,7 @@ struct Run {
 /// records done before and an error line with the number of the record that was not done; `Write` where a write failed
 /// or took nothing, or the flush at the end failed, after which nothing more is written. No clause here says when each
 /// of these ends comes, since a reader and a writer have no word for a call that failed. These are three calls, and
-/// [`run_script`], the last of them, says it.
+/// [`run_script`], the last of them, says it. `machine` is its clause too, over the records of the reader's bytes.
 pub fn serve<A: AllocGlobal + Threads + Wait + Sync, R: Read + Drop, W: Write>(
     rt: &A,
     config: Config,
@@ -81,10 +81,13 @@ pub fn serve<A: AllocGlobal + Threads + Wait + Sync, R: Read + Drop, W: Write>(
     ensures text { IfSome (R.remaining reader) (λ bytes.
         (done : ℕ) × AppendsSome (W.contents writer.old) (W.contents writer.new)
         (IsText (set_up config) (records_of bytes) done result)) }
+    ensures machine { IfSome (R.remaining reader) (λ bytes.
+        (done : ℕ) × AppendsSome (W.contents writer.old) (W.contents writer.new)
+        (IsMachineText (set_up config) (records_of bytes) done result)) }
 {
     let mut feed = Feed::over(rt.alloc(), reader);
     let mut sink = Sink::over(writer);
-    run_text(rt, config, &mut feed, &mut sink)
+    run_script(rt, config, &mut feed, &mut sink)
 }
 
 /// [`serve`] over a feed that gave nothing yet and a sink that hasn't failed, which show afterwards why the run ended.
@@ -122,25 +125,6 @@ pub fn run_script<A: AllocGlobal + Threads + Wait + Sync, R: Read, W: Write>(
         Ok(mut run) => turn_all(rt, feed, &mut run, sink),
         Err(fault) => Err(fault),
     }
-}
-
-/// [`run_script`], without what it says of the machine.
-fn run_text<A: AllocGlobal + Threads + Wait + Sync, R: Read, W: Write>(
-    rt: &A,
-    config: Config,
-    feed: &mut Feed<R>,
-    sink: &mut Sink<'_, W>,
-) -> Result<Summary, ServeFault>
-    requires feed { IsFresh feed.old }
-    requires sink { sink.old.failed ≡ false }
-    ensures same_writer { sink.new.writer.ghost_name ≡ sink.old.writer.ghost_name }
-    ensures cause { HasCause feed.new sink.new.failed result }
-    ensures flushed { is_start result ≡ false → sink.new.failed ≡ false → sink.new.flushed ≡ true }
-    ensures unread { is_start result ≡ true → sink.new.flushed ≡ false → feed.new ≡ feed.old }
-    ensures text { IfSome feed.old.left (λ rows. AppendsSome (held W.contents sink.old) (held W.contents sink.new)
-        (IsText (set_up config) rows (records_done feed.new) result)) }
-{
-    run_script(rt, config, feed, sink)
 }
 
 /// A run before its first record; or the end of one that has no store, or for which there is no memory.
