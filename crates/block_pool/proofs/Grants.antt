@@ -2,11 +2,11 @@
 use Rattle.std.proofs.Common.{◌≡◌, ℕ, zero, suc, ◌+◌, ◌-◌, ◌<◌, ◌≤◌, ◌==◌, List, [], ◌∷◌, ◌++◌, length, get_or, set, count_by}
 use Rattle.std.proofs.{Common.{take, Bool, true, false, cond, ◌&&◌, refl, sym, ap, ◌∙◌, arith, length-take}, lemmas.Bool.eqb-true}
 use Rattle.std.proofs.lemmas.{Bool.and_parts, List.{get_or-take, get_or_read}}
-use Rattle.std.proofs.{lemmas.List.take_more_set, Math.{ListN.length-set, Seq.take-set-lt}, lemmas.Grind.common_steps}
+use Rattle.std.proofs.{Math.{ListN.length-set}, lemmas.Grind.common_steps}
 use Rattle.block_pool.specs.{Pools.{marked, AreFree}, Kept.{IsNumbers, statuses, status_of, tally, Lists, popped}}
 use Rattle.block_pool.specs.declared.numbers.Numbers.{Numbers}
 use Rattle.block_reclamation.specs.{declared.status.BlockStatus.BlockStatus, Status.is_free}
-use Rattle.block_pool.proofs.Tallies.{count_last, count_here, count_at, listed_at, listed_count, lists_room, same_number, passes_at}
+use Rattle.block_pool.proofs.Tallies.{count_at, listed_at, listed_count, lists_room, same_number, passes_at}
 use Rattle.edge_block.proofs.Counts.{count_more}
 
 -- the free numbers are as many as the list has, and each that the list has is one of the pool's
@@ -121,26 +121,3 @@ popped_free pool len room k are le enough =
 pub length-marked : {A : Type 0} (ns : List ℕ) (x : A) (xs : List A) → length (marked ns x xs) ≡ length xs
 length-marked [] x xs = refl
 length-marked (n ∷ ns) x xs = length-marked ns x (set xs n x) ∙ length-set xs n x
-
--- a place of the room, where the last one behind the first len has what stood there
-after_copy : (room : List ℕ) (len place : ℕ) → len < length room → get_or (set room len (get_or room place 0)) place 0
-    ≡ get_or room place 0
-after_copy room len place lt = grind (arith, common_steps)
-
--- a number put at a place of the first len, of which the one that stood there goes behind them
-pub placed : (room : List ℕ) (len place n : ℕ) → place ≤ len → len < length room → (q : ℕ → Bool)
-    → count_by q (take (len + 1) (set (set room len (get_or room place 0)) place n)) ≡ count_by q (take len room ++ n ∷ [])
-placed room len place n le lt q =
-    let next : ℕ = get_or room place 0 in
-    let copied : List ℕ = set room len next in
-    let long = length-take (len + 1) copied in
-    let same = length-set room len next in
-    let whole = ap (count_by q) (take-set-lt (len + 1) copied place n (omega arith)) in
-    let here = count_here q (take (len + 1) copied) place n 0 (omega (arith, long, same)) in
-    let at : get_or (take (len + 1) copied) place 0 ≡ next =
-    get_or-take (len + 1) copied place 0 (omega arith) ∙ after_copy room len place lt in
-    let told : (let k : ℕ = cond (q (get_or (take (len + 1) copied) place 0)) 1 0 in k) ≡ cond (q next) 1 0 =
-    ap (λ i. cond (q i) 1 0) at in
-    let grown = ap (count_by q) (take_more_set room len next lt) ∙ count_last q (take len room) next in
-    let more = count_last q (take len room) n in
-    omega arith

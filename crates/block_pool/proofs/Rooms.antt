@@ -43,13 +43,12 @@ module _ {pool : List BlockStatus} {len : ℕ} {xs ys zs : List ℕ} (are : AreR
         status = room_for_set pool xs are.status k s (λ e. are.status k lt (out e));
         link = room_for_set pool ys are.link k s (λ e. are.link k lt (out e));
         last = λ place past within. are.last place (omega arith) (omega arith);
-        first = λ place within. are.first place (omega arith);
       }
 
   -- one that is granted
-  pub roomy_granted : 0 < len → len ≤ length pool → HasRoom xs k → HasRoom ys k → HasRoom zs (len - 1) → HasRoom zs (length pool - len)
+  pub roomy_granted : 0 < len → len ≤ length pool → HasRoom xs k → HasRoom ys k → HasRoom zs (len - 1)
       → AreRoomy (set pool k Granted) (len - 1) xs ys zs
-  roomy_granted some few here link last first =
+  roomy_granted some few here link last =
       let long = length-set pool k Granted in
       record {
         status = room_for_set pool xs are.status k Granted (λ _. here);
@@ -57,10 +56,6 @@ module _ {pool : List BlockStatus} {len : ℕ} {xs ys zs : List ℕ} (are : AreR
         last = λ place past within. elim (cases_eq place (len - 1)) [
           | inl e ↦ subst (HasRoom zs) (sym e) last
           | inr ne ↦ are.last place (omega arith) (omega arith)
-        ];
-        first = λ place within. elim (cases_eq place (length pool - len)) [
-          | inl e ↦ subst (HasRoom zs) (sym e) first
-          | inr ne ↦ are.first place (omega arith)
         ];
       }
 
@@ -90,7 +85,6 @@ module _ (n : Numbers) (kept : IsNumbers n) (status : Paged BlockStatus) (retire
           status = λ k lt out. more_status k (roomy.status k lt out);
           link = λ k lt out. more_link k (roomy.link k lt out);
           last = λ k le lt. more_free k (roomy.last k le lt);
-          first = λ k lt. more_free k (roomy.first k lt);
         };
       })
 
@@ -103,7 +97,6 @@ module _ (n : Numbers) (kept : IsNumbers n) (status : Paged BlockStatus) (retire
       status = more_status _ is.status;
       link = more_link _ is.link;
       last = more_free _ is.last;
-      first = more_free _ is.first;
     });
   }
 
@@ -139,14 +132,12 @@ pub ready_next : (old new : Numbers) → new.free.items ≡ old.free.items → n
     → (before : ℕ) → IsReady old (before + 1) → IsReady new before
 ready_next old new items less some few long rooms before is =
     let place : new.free_len - 1 - before ≡ old.free_len - 1 - (before + 1) = omega arith in
-    let low : length new.statuses.items - new.free_len + before ≡ length old.statuses.items - old.free_len + (before + 1) = omega arith in
     let number : get_or new.free.items (new.free_len - 1 - before) 0 ≡ get_or old.free.items (old.free_len - 1 - (before + 1)) 0 =
     ap (λ (ns : List ℕ). get_or ns (new.free_len - 1 - before) 0) items ∙ ap (λ i. get_or old.free.items i 0) place in
     record {
       status = rw (rooms.status, number) is.status;
       link = rw (rooms.link, number) is.link;
       last = rw (rooms.free, place) is.last;
-      first = rw (rooms.free, low) is.first;
     }
 
 pub roomier_same : (n : Numbers) → IsRoomier n n

@@ -69,20 +69,18 @@ moved from to lists = put_on to (top_of (stack_of lists from)) (taken_off from l
 abbrev pub HasRoomFor : List BlockStatus → List ℕ → Type 0
 HasRoomFor pool rooms = (k : ℕ) → k < length pool → is_free (status_of pool k) ≡ false → HasRoom rooms k
 
--- There is memory for what may be written before the next grant: what is kept of each number that isn't free, the places of the list
--- past its first len, and as many of its first ones as numbers may be freed at once.
+-- There is memory for what may be written before the next grant: what is kept of each number that isn't free, and the places of the
+-- list past its first len.
 pub record AreRoomy (pool : List BlockStatus) (len : ℕ) (statuses links places : List ℕ) : Type 0 where
   pub status : HasRoomFor pool statuses
   pub link : HasRoomFor pool links
   pub last : (place : ℕ) → len ≤ place → place < length pool → HasRoom places place
-  pub first : (place : ℕ) → place + len < length pool → HasRoom places place
 
 -- there is memory to grant the number that so many others are granted before
 pub record IsReady (n : Numbers) (before : ℕ) : Type 0 where
   pub status : HasRoom n.statuses.rooms (slice_index n.free.items (n.free_len - 1 - before))
   pub link : HasRoom n.retired.rooms (slice_index n.free.items (n.free_len - 1 - before))
   pub last : HasRoom n.free.rooms (n.free_len - 1 - before)
-  pub first : HasRoom n.free.rooms (length n.statuses.items - n.free_len + before)
 
 -- the list has the free numbers, and the stacks the retired ones
 pub record IsNumbers (n : Numbers) : Type 0 where

@@ -167,7 +167,7 @@ fn check_exchange(rt: &impl Abort, alloc: Global, hand: &mut Hand) {
     same(rt, hand.at(0).expect(rt, "a block").len(), 1);
 }
 
-/// A block that was then retired and recycled is granted as it was, too, after those that were free before.
+/// A block that was then retired and recycled is granted as it was, too, before those that were free before.
 #[test]
 fn grants_the_very_block_that_was_given_back(rt: HostRuntime) {
     check_retired(
@@ -186,8 +186,8 @@ fn check_retired(rt: &impl Abort, alloc: Global, hand: &mut Hand) {
     };
     freed(rt, hand, &copy, 1);
     granted(rt, hand, 16);
-    same(rt, hand.at(0).expect(rt, "a block").len(), 0);
-    same(rt, hand.at(15).expect(rt, "a block").len(), 1);
+    same(rt, hand.at(0).expect(rt, "a block").len(), 1);
+    same(rt, hand.at(15).expect(rt, "a block").len(), 0);
 }
 
 /// A new pool of 16 blocks; where a growth was refused, once no more is refused.

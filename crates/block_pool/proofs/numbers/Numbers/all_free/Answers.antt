@@ -33,7 +33,6 @@ returns-clause-kept c =
         status = subst (λ ps. HasRoomFor ps c.in_ok-new.field-0.rooms) (sym are) (room_first count c.in_ok-new.field-0.rooms);
         link = subst (λ ps. HasRoomFor ps c.in_ok-new-3.field-0.rooms) (sym are) (room_first count c.in_ok-new-3.field-0.rooms);
         last = λ place le lt. absurd (omega (arith, le, lt, long));
-        first = λ place lt. absurd (omega (arith, lt, long));
       };
     }
 

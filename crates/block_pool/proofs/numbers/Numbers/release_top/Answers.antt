@@ -1,10 +1,10 @@
-use Rattle.std.proofs.Common.{◌≡◌, ◌∙◌, ◌+◌, ◌<◌, ℕ, length, get_or, set, count_by, sym, ap, refl, take, arith}
-use Rattle.std.proofs.{Common.{true, subst}, Math.ListN.length-set, lemmas.{List.get_or_read, Bool.true≢false}}
+use Rattle.std.proofs.Common.{◌≡◌, ◌∙◌, ◌<◌, ℕ, length, set, sym, ap, refl, take, arith}
+use Rattle.std.proofs.{Common.{true, subst}, Math.ListN.length-set, lemmas.{List.take_more_set, Bool.true≢false}}
 use Rattle.block_pool.specs.{Chains.{Stacks, stack_of}, declared.numbers.{Numbers.Numbers, TheConstants.LOOSE}, Kept.statuses}
-use Rattle.block_pool.specs.{Kept.{status_of, IsNumbers, top_of}, Paging.{Paged, HasRoom}}
+use Rattle.block_pool.specs.{Kept.{status_of, Lists, IsNumbers, top_of}, Paging.{Paged, HasRoom}}
 use Rattle.block_reclamation.specs.{declared.status.BlockStatus.TheVariants.{Free, Granted}, Status.{is_free, is_retired}}
 use Rattle.block_pool.proofs.Tallies.{lists_more, count_at, count_here, retired_not_free}
-use Rattle.block_pool.proofs.{Grants.placed, Grants.free_places, Stacking.top_listed, Stacking.sorted_freed, Rooms.roomy_set}
+use Rattle.block_pool.proofs.{Grants.free_places, Stacking.top_listed, Stacking.sorted_freed, Rooms.roomy_set}
 use Rattle.block_pool.proofs.numbers.Numbers.release_top.Goals as goal
 
 pub top-number-requires : goal.top-number-requires
@@ -37,28 +37,12 @@ room_left : (n : Numbers) → IsNumbers n → 0 < length (stack_of n.retired.lis
 room_left n k some =
     let is = top_listed k.sorted LOOSE (omega arith) some in free_places n k _ is.0 (retired_not_free _ is.1)
 
-pub get-next-requires : goal.get-next-requires
-get-next-requires c = omega (arith, c.requires.place, room_left c.args.self.now c.requires.kept c.requires.some)
-
 pub set-requires-2 : goal.set-requires-2
 set-requires-2 c =
     let n = c.args.self.now in
     let k = c.requires.kept in
     let left = room_left n k c.requires.some in
     record { within = left; room = k.roomy.last n.free_len (omega arith) (omega (arith, left, k.free_room)) }
-
-pub set-requires-3 : goal.set-requires-3
-set-requires-3 c =
-    let n = c.args.self.now in
-    rw c.set-2.ensures (record {
-      within = omega (
-        arith,
-        c.requires.place,
-        room_left n c.requires.kept c.requires.some,
-        length-set n.free.items n.free_len c.get-next.result,
-      );
-      room = c.requires.room;
-    })
 
 pub returns-clause-kept : goal.returns-clause-kept
 returns-clause-kept c =
@@ -71,24 +55,18 @@ returns-clause-kept c =
     let within : num < length (statuses n) = omega (arith, is.0, same) in
     let st : is_retired (status_of (statuses n) num) ≡ true = ap (λ j. is_retired (status_of (statuses n) j)) same ∙ is.1 in
     let lt : n.free_len < length n.free.items = room_left n k c.requires.some in
-    let next : ℕ = c.get-next.result in
-    let is_next : next ≡ get_or n.free.items c.args.place 0 =
-    get_or_read n.free.items c.args.place next (omega (arith, c.requires.place, lt)) c.get-next.ensures 0 in
     let long_after = length-set n.statuses.items num Free in
-    let free = length-set n.free.items n.free_len next in
-    let free_after = length-set (set n.free.items n.free_len next) c.args.place num in
+    let free = length-set n.free.items n.free_len num in
     let count = rw st at (count_here is_retired (statuses n) num Free Granted within) in
-    rw (c.set.ensures, c.set-3.ensures, c.set-2.ensures, c.pop.ensures) (record {
+    rw (c.set.ensures, c.set-2.ensures, c.pop.ensures) (record {
       few = omega (arith, k.few);
       free_room = omega (arith, k.free_room);
       bound = k.bound ∙ sym long_after;
       seats = k.seats;
       free_in = omega (arith, k.free_room);
-      free_are = λ q.
-          ap (λ (i : ℕ). count_by q (take (n.free_len + 1) (set (set n.free.items n.free_len i) c.args.place num))) is_next
-          ∙ placed n.free.items n.free_len c.args.place num c.requires.place lt q
-          ∙ lists_more is_free (statuses n) (take n.free_len n.free.items) k.free_are num Free within
-          (retired_not_free (status_of (statuses n) num) st) refl q;
+      free_are = subst (Lists is_free (set (statuses n) num Free)) (sym (take_more_set n.free.items n.free_len num lt))
+          (lists_more is_free (statuses n) (take n.free_len n.free.items) k.free_are num Free within
+          (retired_not_free (status_of (statuses n) num) st) refl);
       retired_in = omega (arith, k.retired_in);
       sorted = rw same (sorted_freed k.sorted c.requires.some);
       roomy = roomy_set k.roomy num Free _ within (omega arith) (λ e. absurd (true≢false e));
@@ -102,7 +80,3 @@ returns-clause-statuses c =
     let n = c.args.self.now in
     ap (λ (st : Paged _). st.items) c.set.ensures
     ∙ ap (λ (j : ℕ). set (statuses n) j Free) (sym (ap top_of c.top-number.ensures))
-
-pub returns-clause-places : goal.returns-clause-places
-returns-clause-places c =
-    ap (λ (ps : Paged _). ps.rooms) c.set-3.ensures ∙ ap (λ (ps : Paged _). ps.rooms) c.set-2.ensures

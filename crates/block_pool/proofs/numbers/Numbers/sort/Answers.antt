@@ -1,7 +1,7 @@
-use Rattle.std.proofs.{Common.{◌≡◌, ◌∙◌, count_by, map, length, ap, sym, subst, refl, arith}, lemmas.List.{Sums.count_by-le-length, length-map}}
-use Rattle.block_pool.specs.{Chains.stack_of, declared.numbers.TheConstants.LOOSE, Kept.{statuses, HasPins}, Paging.HasRoom}
+use Rattle.std.proofs.{Common.{◌≡◌, ◌∙◌, count_by, map, sym, subst, refl, arith}, lemmas.List.{Sums.count_by-le-length}}
+use Rattle.block_pool.specs.{Chains.stack_of, declared.numbers.TheConstants.LOOSE, Kept.{statuses, HasPins}}
 use Rattle.block_reclamation.specs.Status.{is_reclaimable, recycled}
-use Rattle.block_pool.proofs.{Tallies.{none_past, retired_not_free}, Stacking.{all_sorted, no_number, top_listed}, Grants.free_places}
+use Rattle.block_pool.proofs.{Tallies.{none_past}, Stacking.{all_sorted, no_number}}
 use Rattle.block_pool.proofs.numbers.Numbers.sort.Goals as goal
 
 pub sort-init : goal.sort-init
@@ -11,28 +11,15 @@ sort-init c = record {
   late = c.requires.late;
   after = refl;
   counted = omega arith;
-  free = omega arith;
-  places = refl;
 }
 
 pub sort_top-count-requires : goal.sort_top-count-requires
 sort_top-count-requires c = record {
+  floor = c.floor-floor.ensures;
   kept = c.sort.invariant.kept;
-  place = omega (arith, c.sort.invariant.free);
   pins = c.sort.invariant.pins;
   late = c.sort.invariant.late;
   some = omega (arith, c.height.ensures, c.sort-test.true);
-  room =
-      let n = c.sort.self in
-      let first = c.args.self.now in
-      let is = top_listed c.sort.invariant.kept.sorted LOOSE (omega arith) (omega (arith, c.height.ensures, c.sort-test.true)) in
-      let left = free_places n c.sort.invariant.kept _ is.0 (retired_not_free _ is.1) in
-      let same = ap length c.sort.invariant.after in
-      let now = length-map (statuses n) (recycled c.args.copy.now) in
-      let old = length-map (statuses first) (recycled c.args.copy.now) in
-      subst (λ rooms. HasRoom rooms c.sort.count) (sym c.sort.invariant.places)
-      (c.requires.kept.roomy.first c.sort.count
-      (omega (arith, left, c.sort.invariant.free, c.sort.invariant.kept.free_room, same, now, old)));
 }
 
 pub overflow_add-count : goal.overflow_add-count
@@ -47,8 +34,6 @@ sort-preserved c = record {
   late = c.sort_top-count.ensures.late;
   after = c.sort_top-count.ensures.recycled ∙ c.sort.invariant.after;
   counted = omega (arith, c.sort.invariant.counted, c.sort_top-count.ensures.count);
-  free = omega (arith, c.sort.invariant.free, c.sort_top-count.ensures.free);
-  places = c.sort_top-count.ensures.places ∙ c.sort.invariant.places;
 }
 
 -- at last no number is due

@@ -11,8 +11,6 @@ invariant-sort l = record {
   late : AreNeeded l.copy (statuses l.self) (stack_of l.self.retired.lists LATE);
   after : map (recycled l.copy) (statuses l.self) ≡ map (recycled l.copy) (statuses l.initial.self);
   counted : l.count + count_by (is_reclaimable l.copy) (statuses l.self) ≡ count_by (is_reclaimable l.copy) (statuses l.initial.self);
-  free : l.self.free_len ≡ l.initial.self.free_len + l.count;
-  places : l.self.free.rooms ≡ l.initial.self.free.rooms;
 }
 
 abbrev pub decreases-sort : goal.decreases-sort

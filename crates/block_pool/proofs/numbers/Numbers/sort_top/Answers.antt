@@ -61,7 +61,7 @@ returns-clause-late c =
     rw (c.move_top-2.ensures.same.same, c.move_top-2.ensures.lists)
     (needed_moved copy (statuses n) n.retired.lists LOOSE LATE LATE (omega arith) (omega arith)
     (λ e. ap (is_reclaimable copy) (dated (goal.at.returns-clause-late c).After-dates_of-dates)
-    ∙ kept_back c.dates_of-dates.result.birth c.dates_of-dates.result.retirement copy (sym c.needs.ensures ∙ c.if-not-needs.false))
+    ∙ kept_back c.dates_of-dates.result.birth c.dates_of-dates.result.retirement copy (sym c.is_needed.ensures ∙ c.if-not-is_needed.false))
     c.requires.late)
 
 -- and may be due
@@ -69,12 +69,12 @@ freed : (c : goal.After-release_top) → is_reclaimable c.args.copy.now (status_
     (top_of (stack_of c.args.self.now.retired.lists LOOSE))) ≡ true
 freed c = grind (arith, common_steps)
 
-pub returns-then-not-needs-clause-recycled : goal.returns-then-not-needs-clause-recycled
-returns-then-not-needs-clause-recycled c =
+pub returns-then-not-is_needed-clause-recycled : goal.returns-then-not-is_needed-clause-recycled
+returns-then-not-is_needed-clause-recycled c =
     ap (map (recycled c.args.copy.now)) c.release_top.ensures.statuses ∙ recycled_set c.args.copy.now (statuses c.args.self.now) _ (freed c)
 
-pub returns-then-not-needs-clause-count : goal.returns-then-not-needs-clause-count
-returns-then-not-needs-clause-count c =
+pub returns-then-not-is_needed-clause-count : goal.returns-then-not-is_needed-clause-count
+returns-then-not-is_needed-clause-count c =
     let copy = c.args.copy.now in
     let listed = top_listed c.requires.kept.sorted LOOSE (omega arith) c.requires.some in
     let less = past_set copy (statuses c.args.self.now) _ listed.0 (freed c) in

@@ -31,7 +31,6 @@ returns-clause-kept c =
     let (same, within, st) = free_read n k m num (omega (arith, c.requires.some)) c.get-number.ensures in
     let long_after = length-set n.statuses.items num Granted in
     let z : n.free_len - 1 - 0 ≡ n.free_len - 1 = omega arith in
-    let y : length n.statuses.items - n.free_len + 0 ≡ length n.statuses.items - n.free_len = omega arith in
     let here = ap (λ i. get_or n.free.items i 0) z ∙ sym same in
     rw c.set.ensures (record {
       few = omega (arith, k.few);
@@ -48,8 +47,7 @@ returns-clause-kept c =
           ∙ sym (count_kept is_retired (statuses n) num Granted within (free_not_retired (status_of (statuses n) num) st));
       sorted = sorted_set k.sorted num Granted within (free_not_retired (status_of (statuses n) num) st) refl (λ _. refl);
       roomy = roomy_granted k.roomy num c.requires.some k.free_in (subst (HasRoom n.statuses.rooms) here c.requires.ready.status)
-          (subst (HasRoom n.retired.rooms) here c.requires.ready.link) (subst (HasRoom n.free.rooms) z c.requires.ready.last)
-          (subst (HasRoom n.free.rooms) y c.requires.ready.first);
+          (subst (HasRoom n.retired.rooms) here c.requires.ready.link) (subst (HasRoom n.free.rooms) z c.requires.ready.last);
     })
 
 pub returns-clause-statuses : goal.returns-clause-statuses
