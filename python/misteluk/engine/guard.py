@@ -23,6 +23,7 @@ F = TypeVar("F", bound=Callable[..., Any])
 # Sets an attribute and gives nothing: in an expression it is one line with what is given then.
 put: Any = setattr
 _RAW = attrgetter("raw")
+_process, _this_frame = os.getpid, sys._getframe
 
 
 class Step:
@@ -117,7 +118,7 @@ class Guard:
         return os.getpid() != self._process
 
     def check(self) -> None:
-        if os.getpid() != self._process:
+        if _process() != self._process:
             raise StoreError("the store is another process's, of which this one is a fork: make a store here")
 
     def is_below(self, frame: Optional[FrameType]) -> bool:
@@ -134,7 +135,7 @@ def alone(method: F) -> F:
         guard: Guard = self._guard
         guard.check()
         with guard.lock:
-            frame = sys._getframe()
+            frame = _this_frame()
             if guard.holder is not None and guard.is_below(frame):
                 raise StoreError("a signal's handler can't call a store while it interrupts another call of it")
             guard.holder = frame

@@ -66,8 +66,9 @@ class Arrays(NamedTuple):
         """The edges in these places."""
         if len(places) < 2:
             return Arrays(*[array(it.typecode, [it[at] for at in places]) for it in self])
-        pick = itemgetter(*places)
-        return Arrays(*[array(it.typecode, pick(it)) for it in self])
+        kinds, sources, targets, weights, firsts, recents = map(itemgetter(*places), self)
+        return Arrays(array("I", kinds), array("I", sources), array("I", targets), array("q", weights), array("Q", firsts),
+                      array("Q", recents))
 
     def places(self, kind: Optional[int], scope: Scope, among: Optional[Sequence[int]] = None) -> Sequence[int]:
         """Where the edges are that count, of the kind of this number or of any; of those in some places, where these are said."""
@@ -101,8 +102,9 @@ class Arrays(NamedTuple):
             order = numpy.argsort(targets.astype("uint16"), kind="stable")  # (by so many bits numpy sorts in one go)
             if count > 1 << 16:
                 order = order[numpy.argsort((targets >> 16).astype("uint16")[order], kind="stable")]
-            ends = numpy.cumsum(numpy.bincount(targets, minlength=count))
-            return array("I", order.astype("uint32").tobytes()), array("I", [0, *ends.tolist()])
+            ends = numpy.zeros(count + 1, dtype="uint32")
+            numpy.cumsum(numpy.bincount(targets, minlength=count), out=ends[1:])
+            return array("I", order.astype("uint32").tobytes()), array("I", ends.tobytes())
         counts = Counter(self.targets)
         ends = array("I", accumulate(map(counts.__getitem__, range(count)), initial=0))
         order, free = array("I", bytes(4 * self.size)), list(ends)
