@@ -81,9 +81,11 @@ class Handles(NamedTuple):
     desks: Notes
 
     def give_back(self, library: Library) -> None:
-        self.versions.give_back(library.version_free)
-        self.batches.give_back(library.batch_free)
-        self.desks.give_back(library.desk_free)
+        versions, batches, desks = self
+        if versions.gone or versions.left or batches.gone or batches.left or desks.gone or desks.left:
+            versions.give_back(library.version_free)
+            batches.give_back(library.batch_free)
+            desks.give_back(library.desk_free)
 
 
 class Known(NamedTuple):
