@@ -5,6 +5,7 @@ from array import array
 from bisect import bisect_left
 from ctypes import c_size_t, c_uint32, c_uint64, c_void_p
 from itertools import chain
+from operator import itemgetter
 from typing import Any, Dict, List, NamedTuple, Optional, Protocol, Sequence, Tuple, Union
 
 from . import interface
@@ -251,19 +252,21 @@ class LibraryVersion:
         if all_ is None:
             return self._row(view, source)
         begin = bisect_left(all_.sources, source)  # (they stand source by source)
-        places = range(begin, bisect_left(all_.sources, source + 1, begin))
-        return self._those(all_, scope, view, sorted(places, key=all_.targets.__getitem__))
+        near = min(begin + A_ROW, all_.size)  # (most rows end before this)
+        end = bisect_left(all_.sources, source + 1, begin, near)
+        places = range(begin, end if end < near else bisect_left(all_.sources, source + 1, near))
+        return self._those(all_, scope, view, sorted(places, key=all_.targets.__getitem__), True)
 
     def into(self, scope: Scope, name: str) -> Arrays:
         view, target, all_ = self._view(scope), self._vertex(name), self.edges(WHOLE)
         order, ends = all_.by_target(self.count)
-        return self._those(all_, scope, view, order[ends[target]:ends[target + 1]])
+        return self._those(all_, scope, view, order[ends[target]:ends[target + 1]], False)
 
-    def _those(self, all_: Arrays, scope: Scope, view: interface.View, places: Sequence[int]) -> Arrays:
+    def _those(self, all_: Arrays, scope: Scope, view: interface.View, places: Sequence[int], is_out: bool) -> Arrays:
         """The edges of a vertex that count, of those in some places."""
         if scope is not WHOLE:
             places = all_.places(None if scope.kind is None else view.kind, scope, places)
-        return self._by_kind(all_, places)
+        return self._by_kind(all_, places, is_out)
 
     def _row(self, view: interface.View, source: int) -> Arrays:
         """The edges that go out of a vertex, which are asked for."""
@@ -279,10 +282,17 @@ class LibraryVersion:
             raise refusal_of(code)
         found, count = row.columns, row.count.value
         found.sources[:count] = array("I", (source,)) * count
-        found = self._by_kind(found, sorted(range(count), key=found.targets.__getitem__))
+        found = self._by_kind(found, sorted(range(count), key=found.targets.__getitem__), True)
         self._rows.append(row)
         return found
 
-    def _by_kind(self, edges: Arrays, places: Sequence[int]) -> Arrays:
-        """The edges in some places, by their kinds, and of one kind as the places stand."""
-        return edges.at(places if self._kind_count == 1 else sorted(places, key=edges.kinds.__getitem__))
+    def _by_kind(self, edges: Arrays, places: Sequence[int], is_out: bool) -> Arrays:
+        """The edges in some places, which have one source, or one target, by their kinds, and of one kind as the places stand."""
+        count = len(places)
+        if self._kind_count > 1 or count < 2:
+            return edges.at(sorted(places, key=edges.kinds.__getitem__))
+        kinds, sources, targets, weights, firsts, recents = edges
+        pick, first = itemgetter(*places), places[0]
+        return Arrays(kinds[:count], sources[first:first + 1] * count if is_out else array("I", pick(sources)),
+                      array("I", pick(targets)) if is_out else targets[first:first + 1] * count, array("q", pick(weights)),
+                      array("Q", pick(firsts)), array("Q", pick(recents)))
