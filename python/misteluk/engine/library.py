@@ -141,9 +141,15 @@ class LibraryEngine:
     @alone
     def fly(self, flight: LibraryFlight) -> Receipt:
         opening = self._settle()
-        if flight.step is None:
-            opening = self._level(opening, flight.batch.size)
+        if flight.step is None and self._renew_after is not None:
+            opening = self._level(opening, flight.batch.size, self._renew_after)
         code = self._applied(opening, flight)
+        if code:
+            opening = self._helped(opening, code, flight)
+        return self._receipt(opening, flight)
+
+    def _helped(self, opening: Opening, code: int, flight: LibraryFlight) -> Opening:
+        """Applies a batch that was refused, once there is room for it. Raises `Denied` where nothing makes any."""
         tried: "Set[Tuple[str, int]]" = set()
         while code:
             helped = self._help(opening, code, flight, tried)
@@ -151,7 +157,7 @@ class LibraryEngine:
                 flight.step = None
                 raise self._denied(self._opening, code, flight)
             opening, code = helped, self._applied(helped, flight)
-        return self._receipt(opening, flight)
+        return opening
 
     def _applied(self, opening: Opening, flight: LibraryFlight) -> int:
         """The code by which a batch was applied, once, or refused."""
@@ -166,13 +172,13 @@ class LibraryEngine:
         self._empty = [flight.owned]
         opening.kept.count += flight.batch.size
         if flight.collect:
-            self._collect(opening)
+            check(self.library.desk_collect(opening.desk.raw, self._freed))
         return Receipt(Commit(version + opening.before, inserted, updated, removed, absent, overflowed, 1, expired))
 
-    def _level(self, opening: Opening, more: int) -> Opening:
+    def _level(self, opening: Opening, more: int, most: int) -> Opening:
         """Begins anew where the desk would keep too many operations with so many more: each of them takes memory until then."""
-        kept, most = opening.kept.count, self._renew_after
-        if most is None or kept == 0 or kept + more <= most:
+        kept = opening.kept.count
+        if kept == 0 or kept + more <= most:
             return opening
         stat = self._stat(opening)
         if kept + more <= TIMES_EDGES * stat.edges:
