@@ -237,8 +237,7 @@ class Ledger:
             flight.cut.extend(map(self.pending.__delitem__, (slice(flight.batch.size),)))
         if books.feed is not None:
             self._take(*books.feed)
-        untold = (*books.untold, receipt.commit) if books.of_pending else books.untold
-        self._books = Books(untold)
+        self._books = Books((*books.untold, receipt.commit) if books.of_pending else books.untold)
         if receipt.refused:
             told = [self._refusal(flight.batch, at, word) for at, word in receipt.refused]
             raise OperationsRefused(receipt.commit.version, told)

@@ -255,9 +255,14 @@ class Session(Generic[W, T]):
     # From vertex to vertex.
 
     def _beside(self, vertex: str, kind: Optional[str], since: Moment, until: Moment, is_out: bool) -> Edges:
+        call = self.held.out_of if is_out else self.held.into
+        if kind is None and since == 0 and until == records.MOST_TIME and vertex in self._terms.right and self.held.is_open:
+            try:  # (in few steps: they are as long as the call)
+                return self._edges(call(WHOLE, vertex))
+            except Denied as fault:
+                raise self._terms.denied(fault, str(Called("out_of" if is_out else "into", (vertex,)))) from None
         scope, asked = self._scope("out_of" if is_out else "into", kind, since, until, vertex)
-        name = self._terms.asked(vertex)
-        return self._edges(self._asked(self.held.out_of if is_out else self.held.into, asked, scope, name))
+        return self._edges(self._asked(call, asked, scope, self._terms.asked(vertex)))
 
     def edges_out_of(self, source: str, kind: Optional[str] = None, since: Moment = 0,
                      until: Moment = records.MOST_TIME) -> Edges:
@@ -265,8 +270,8 @@ class Session(Generic[W, T]):
         return self._beside(source, kind, since, until, True)
 
     def edges_into(self, target: str, kind: Optional[str] = None, since: Moment = 0, until: Moment = records.MOST_TIME) -> Edges:
-        """The edges that come into the target; as `edges_out_of`. The first such question puts all edges of the version in order
-        of their targets, which is kept with the session."""
+        """The edges that come into the target; as `edges_out_of`. The first such question, or `weights_in`, puts all edges of
+        the version in order of their targets, which is kept with the session."""
         return self._beside(target, kind, since, until, False)
 
     def out_of(self, source: str, kind: Optional[str] = None, since: Moment = 0,

@@ -75,7 +75,7 @@ class ByTarget(unittest.TestCase):
                 begins = list(accumulate((sizes[target] for target in range(count)), initial=0))
                 for many in (0, 1_000):
                     with self.subTest(many=many), mock.patch.object(fields, "MANY", many):
-                        order, ends = edges.by_target(count)
+                        order, ends = Arrays(*edges).by_target(count)  # (which keeps what it found)
                         self.assertEqual((list(order), list(ends)), (wanted, begins))
 
     def test_weights_that_come_in(self):
@@ -88,7 +88,16 @@ class ByTarget(unittest.TestCase):
             wanted = [sum(weight for it, weight in zip(edges.targets, edges.weights) if it == target) for target in range(count)]
             for many in (0, 1_000):
                 with self.subTest(many=many), mock.patch.object(fields, "MANY", many):
-                    self.assertEqual(list(edges.weights_in(count)), wanted)
+                    self.assertEqual(list(Arrays(*edges).weights_in(count)), wanted)
+
+    def test_weights_whose_sum_leaves_64_bits(self):
+        """The sum of all may, though none of a vertex does."""
+        edges = Arrays.of(600)
+        edges.targets[:], edges.weights[:] = array("I", range(600)), array("q", [1 << 62, -(1 << 62), 1 << 62] * 200)
+        self.assertGreater(sum(edges.weights), 1 << 63)
+        for many in (0, 1_000):
+            with self.subTest(many=many), mock.patch.object(fields, "MANY", many):
+                self.assertEqual(Arrays(*edges).weights_in(600), edges.weights)
 
 
 class EdgesOfAVersion(Case):

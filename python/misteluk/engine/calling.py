@@ -11,9 +11,10 @@ from typing import Any, Dict, List, NamedTuple, Optional, Tuple
 from . import interface
 from .guard import Notes, Owned, Step
 from .interface import Code, Library
-from .operations import ADD, INSERT, REMOVE, Numbered, Operations
-from .protocol import Denied
+from .operations import EXPIRE, REMOVE, Numbered, Operations
+from .protocol import A_FEW, Denied
 from ..errors import LibraryNotFound, NoMemory, StoreError
+from ..values.fields import numpy_for
 
 # The words of codes that the client's users know.
 WORDS = {Code.BATCHES_FULL: "BatchLimit", Code.NAMES_FULL: "NamesFull", Code.KINDS_FULL: "KindsFull",
@@ -60,11 +61,16 @@ def address(column: "array[int]") -> int:
 
 def texts_of(text: "array[int]", ends: "array[int]") -> List[str]:
     """Names that stand one after another."""
-    told, at, found = text.tobytes().decode("ascii"), 0, []
-    for end in ends:
-        found.append(told[at:end])
-        at = end
-    return found
+    count, numpy = len(ends), numpy_for(len(ends), A_FEW)
+    if numpy is None:
+        told = text.tobytes().decode("ascii")
+        return list(map(told.__getitem__, map(slice, chain((0,), ends), ends)))
+    is_text = numpy.ones(len(text) + count, dtype=bool)
+    is_text[numpy.asarray(ends).astype("int64") + numpy.arange(count)] = False
+    spread = numpy.full(len(is_text), ord(" "), dtype="uint8")  # (a space, which no name has, stands behind each)
+    spread[is_text] = text
+    names: List[str] = spread.tobytes().decode("ascii").split()
+    return names
 
 
 class Handles(NamedTuple):
@@ -75,9 +81,11 @@ class Handles(NamedTuple):
     desks: Notes
 
     def give_back(self, library: Library) -> None:
-        self.versions.give_back(library.version_free)
-        self.batches.give_back(library.batch_free)
-        self.desks.give_back(library.desk_free)
+        versions, batches, desks = self
+        if versions.gone or versions.left or batches.gone or batches.left or desks.gone or desks.left:
+            versions.give_back(library.version_free)
+            batches.give_back(library.batch_free)
+            desks.give_back(library.desk_free)
 
 
 class Known(NamedTuple):
@@ -112,17 +120,13 @@ def fill(library: Library, raw: interface.Batch, batch: Operations) -> None:
     if batch.size > FEW:
         _fill_at_once(library, raw, batch.columns)
         return
-    calls: Any = library
     for code, kind, source, target, weight, time in batch.rows:
-        names = kind.encode("ascii"), len(kind), source.encode("ascii"), len(source), target.encode("ascii"), len(target)
-        if code == INSERT:
-            done = calls.batch_insert(raw, *names, weight, time)
-        elif code == ADD:
-            done = calls.batch_add(raw, *names, weight, time)
-        elif code == REMOVE:
-            done = calls.batch_remove(raw, *names)
-        else:
-            done = calls.batch_expire(raw, time)
+        if code == EXPIRE:
+            done = library.batch_expire(raw, time)
+        else:  # (signs of names are ASCII, and so are as many as their bytes)
+            call: Any = (library.batch_insert, library.batch_add, library.batch_remove)[code]
+            marks = () if code == REMOVE else (weight, time)
+            done = call(raw, kind.encode(), len(kind), source.encode(), len(source), target.encode(), len(target), *marks)
         if done:
             raise refusal_of(done)
 

@@ -23,6 +23,7 @@ F = TypeVar("F", bound=Callable[..., Any])
 # Sets an attribute and gives nothing: in an expression it is one line with what is given then.
 put: Any = setattr
 _RAW = attrgetter("raw")
+_process, _this_frame = os.getpid, sys._getframe
 
 
 class Step:
@@ -64,35 +65,36 @@ class Notes:
     def __init__(self) -> None:
         self._known: Dict[Note, Note] = {}
         self._pop: Callable[..., Optional[Note]] = self._known.pop
-        self._gone: Deque[Note] = deque()
-        self._left: Deque[Note] = deque()
+        # Those whose owners are gone, and those that were let go.
+        self.gone: Deque[Note] = deque()
+        self.left: Deque[Note] = deque()
 
     def know(self, owner: object, raw: Any) -> Note:
-        note = Note(owner, self._gone.append)  # type: ignore[arg-type]
+        note = Note(owner, self.gone.append)  # type: ignore[arg-type]
         note.raw = raw
         self._known[note] = note
         return note
 
     def let_go(self, *notes: Note) -> None:
         """Notes that this is to be given back now. A second time it isn't known any more."""
-        self._left.extend(filter(None, map(self._pop, notes, repeat(None))))
+        self.left.extend(filter(None, map(self._pop, notes, repeat(None))))
 
     def give_back(self, call: Callable[..., Any], *before: Any) -> None:
         """Gives back what was noted, by a function in C."""
-        while self._gone or self._left:
+        while self.gone or self.left:
             try:
-                self._left.extend(filter(None, map(self._pop, iter(self._gone.popleft, None), repeat(None))))
+                self.left.extend(filter(None, map(self._pop, iter(self.gone.popleft, None), repeat(None))))
             except IndexError:  # (there are no more)
                 pass
             try:
-                deque(map(call, *map(repeat, before), map(_RAW, iter(self._left.popleft, None))), 0)
+                deque(map(call, *map(repeat, before), map(_RAW, iter(self.left.popleft, None))), 0)
             except IndexError:
                 pass
 
     def forget(self) -> None:
         """Gives nothing back of what was noted."""
-        self._gone.clear()
-        self._left.clear()
+        self.gone.clear()
+        self.left.clear()
 
 
 # An item for each fork between the process that loaded this module and the one that runs: to count them is quicker than to ask
@@ -108,16 +110,16 @@ class Guard:
     def __init__(self) -> None:
         self.lock = threading.RLock()
         self.holder: Optional[FrameType] = None
-        self._process = os.getpid()
+        self.process = os.getpid()
         self.forks = len(FORKS)
 
     @property
     def is_elsewhere(self) -> bool:
         """Whether this process is a fork of the one that made this."""
-        return os.getpid() != self._process
+        return os.getpid() != self.process
 
     def check(self) -> None:
-        if os.getpid() != self._process:
+        if _process() != self.process:
             raise StoreError("the store is another process's, of which this one is a fork: make a store here")
 
     def is_below(self, frame: Optional[FrameType]) -> bool:
@@ -132,9 +134,10 @@ def alone(method: F) -> F:
     @functools.wraps(method)
     def call(self: Any, *given: Any, **named: Any) -> Any:
         guard: Guard = self._guard
-        guard.check()
+        if _process() != guard.process:
+            guard.check()
         with guard.lock:
-            frame = sys._getframe()
+            frame = _this_frame()
             if guard.holder is not None and guard.is_below(frame):
                 raise StoreError("a signal's handler can't call a store while it interrupts another call of it")
             guard.holder = frame

@@ -3,8 +3,9 @@ from __future__ import annotations
 
 from array import array
 from bisect import bisect_left
-from ctypes import c_uint32, c_uint64
+from ctypes import c_size_t, c_uint32, c_uint64, c_void_p
 from itertools import chain
+from operator import itemgetter
 from typing import Any, Dict, List, NamedTuple, Optional, Protocol, Sequence, Tuple, Union
 
 from . import interface
@@ -55,6 +56,17 @@ class Holder(Protocol):
     def release(self, version: Any) -> None: ...
 
 
+class Row:
+    """Room for the edges of a vertex, so many, which calls use again, and where it is, as the library takes it."""
+
+    __slots__ = ("columns", "places", "count")
+
+    def __init__(self, size: int) -> None:
+        self.columns, self.count = Arrays.of(size), c_uint64()
+        kinds, _, *others = self.columns
+        self.places: Any = [word for it in (kinds, *others) for word in (c_void_p(address(it)), c_size_t(size))]
+
+
 class LibraryVersion:
     """A version that is held. Each thread that asks takes a handle of its own: a copy of the first one, which is never asked."""
 
@@ -67,12 +79,12 @@ class LibraryVersion:
         self._hold = self._holds.know(self, hold)
         self.step = Step(self._library.desk_hold, self.desk.raw, self._first.raw, hold)
         self._idle: List[Owned] = []
+        self._rows: List[Row] = []
         self._is_open = False
         self.number = self.count = 0
         self._names: Optional[List[str]] = None
         self._all: Optional[Arrays] = None
         self._degrees: "Optional[Tuple[array[int], array[int], array[int]]]" = None
-        self._by_target: "Optional[Tuple[Sequence[int], array[int]]]" = None
 
     def begin(self) -> None:
         """Asks what it holds."""
@@ -95,25 +107,22 @@ class LibraryVersion:
         self._holds.let_go(self._hold)
         self._idle.clear()
         self._first = Owned(interface.Version(), self._versions)
-        self._all = self._by_target = self._degrees = self._names = None
+        self._all = self._degrees = self._names = None
 
     # How it is asked.
 
     def _ask(self, call: Any, *given: Any) -> int:
-        handle = self._take()
-        code: int = call(handle.raw, *given)
-        self._idle.append(handle)
-        return code
-
-    def _take(self) -> Owned:
-        """A handle that nobody else has."""
+        """Asks by a handle that nobody else has."""
         self._engine.guard.check()
         if not self.is_open:
             raise SessionClosed(f"the session of version {self.number} is closed")
         try:
-            return self._idle.pop()
+            handle = self._idle.pop()
         except IndexError:
-            return self._clone()
+            handle = self._clone()
+        code: int = call(handle.raw, *given)
+        self._idle.append(handle)
+        return code
 
     def _clone(self) -> Owned:
         handle = Owned(interface.Version(), self._versions)
@@ -243,32 +252,47 @@ class LibraryVersion:
         if all_ is None:
             return self._row(view, source)
         begin = bisect_left(all_.sources, source)  # (they stand source by source)
-        places = range(begin, bisect_left(all_.sources, source + 1, begin))
-        return self._those(all_, scope, view, sorted(places, key=all_.targets.__getitem__))
+        near = min(begin + A_ROW, all_.size)  # (most rows end before this)
+        end = bisect_left(all_.sources, source + 1, begin, near)
+        places = range(begin, end if end < near else bisect_left(all_.sources, source + 1, near))
+        return self._those(all_, scope, view, sorted(places, key=all_.targets.__getitem__), True)
 
     def into(self, scope: Scope, name: str) -> Arrays:
         view, target, all_ = self._view(scope), self._vertex(name), self.edges(WHOLE)
-        if self._by_target is None:
-            self._by_target = all_.by_target(self.count)
-        order, ends = self._by_target
-        return self._those(all_, scope, view, order[ends[target]:ends[target + 1]])
+        order, ends = all_.by_target(self.count)
+        return self._those(all_, scope, view, order[ends[target]:ends[target + 1]], False)
 
-    def _those(self, all_: Arrays, scope: Scope, view: interface.View, places: Sequence[int]) -> Arrays:
-        """The edges of a vertex that count, by their kinds, and of one kind as their places stand."""
+    def _those(self, all_: Arrays, scope: Scope, view: interface.View, places: Sequence[int], is_out: bool) -> Arrays:
+        """The edges of a vertex that count, of those in some places."""
         if scope is not WHOLE:
             places = all_.places(None if scope.kind is None else view.kind, scope, places)
-        return all_.at(places if self._kind_count == 1 else sorted(places, key=all_.kinds.__getitem__))
+        return self._by_kind(all_, places, is_out)
 
     def _row(self, view: interface.View, source: int) -> Arrays:
         """The edges that go out of a vertex, which are asked for."""
-        size, count = A_ROW, c_uint64()
-        code: int = Code.BAD_LENGTH
-        while code == Code.BAD_LENGTH:
-            size = max(size, count.value)
-            kinds, _, targets, *marks = found = Arrays.of(size)
-            places = [it for column in (kinds, targets, *marks) for it in (column.buffer_info()[0], size)]
-            code = self._ask(self._library.version_row, view, source, *places, count)
+        try:
+            row = self._rows.pop()
+        except IndexError:
+            row = Row(A_ROW)
+        code: int = self._ask(self._library.version_row, view, source, *row.places, row.count)
+        if code == Code.BAD_LENGTH:
+            row = Row(row.count.value)
+            code = self._ask(self._library.version_row, view, source, *row.places, row.count)
         if code:
             raise refusal_of(code)
-        found.sources[:] = array("I", (source,)) * size
-        return found.at(sorted(range(count.value), key=list(zip(kinds, targets)).__getitem__))
+        found, count = row.columns, row.count.value
+        found.sources[:count] = array("I", (source,)) * count
+        found = self._by_kind(found, sorted(range(count), key=found.targets.__getitem__), True)
+        self._rows.append(row)
+        return found
+
+    def _by_kind(self, edges: Arrays, places: Sequence[int], is_out: bool) -> Arrays:
+        """The edges in some places, which have one source, or one target, by their kinds, and of one kind as the places stand."""
+        count = len(places)
+        if self._kind_count > 1 or count < 2:
+            return edges.at(sorted(places, key=edges.kinds.__getitem__))
+        kinds, sources, targets, weights, firsts, recents = edges
+        pick, first = itemgetter(*places), places[0]
+        return Arrays(kinds[:count], sources[first:first + 1] * count if is_out else array("I", pick(sources)),
+                      array("I", pick(targets)) if is_out else targets[first:first + 1] * count, array("q", pick(weights)),
+                      array("Q", pick(firsts)), array("Q", pick(recents)))

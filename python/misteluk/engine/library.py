@@ -7,6 +7,7 @@ next call of the engine frees it. At the end of the process nothing is freed, an
 from __future__ import annotations
 
 import os
+import struct
 import time
 import weakref
 from ctypes import c_uint64
@@ -27,6 +28,8 @@ from ..values.limits import MOST_BLOCKS, MOST_KINDS, Limits
 
 # How many blocks a desk has at first, and how many times as many one that has room for more.
 FIRST_BLOCKS, MORE_BLOCKS = 65_536, 4
+# How the counts of a batch stand in memory.
+_COUNTS = struct.Struct("=7Q")
 # Of how many operations for each edge a desk isn't begun anew: so that this takes little beside them.
 TIMES_EDGES = 2
 
@@ -102,10 +105,9 @@ class LibraryEngine:
                 opening = opening._replace(before=version, kept=Tally())
                 opening.holds.forget()
             self._opening = opening
-        opening.holds.give_back(self.library.desk_release, opening.desk.raw)
-        if self._held:
-            for at in [at for at, it in self._held.items() if it() is None]:
-                del self._held[at]
+        holds = opening.holds
+        if holds.gone or holds.left:
+            holds.give_back(self.library.desk_release, opening.desk.raw)
         self.handles.give_back(self.library)
         return opening
 
@@ -139,9 +141,15 @@ class LibraryEngine:
     @alone
     def fly(self, flight: LibraryFlight) -> Receipt:
         opening = self._settle()
-        if flight.step is None:
-            opening = self._level(opening, flight.batch.size)
+        if flight.step is None and self._renew_after is not None:
+            opening = self._level(opening, flight.batch.size, self._renew_after)
         code = self._applied(opening, flight)
+        if code:
+            opening = self._helped(opening, code, flight)
+        return self._receipt(opening, flight)
+
+    def _helped(self, opening: Opening, code: int, flight: LibraryFlight) -> Opening:
+        """Applies a batch that was refused, once there is room for it. Raises `Denied` where nothing makes any."""
         tried: "Set[Tuple[str, int]]" = set()
         while code:
             helped = self._help(opening, code, flight, tried)
@@ -149,7 +157,7 @@ class LibraryEngine:
                 flight.step = None
                 raise self._denied(self._opening, code, flight)
             opening, code = helped, self._applied(helped, flight)
-        return self._receipt(opening, flight)
+        return opening
 
     def _applied(self, opening: Opening, flight: LibraryFlight) -> int:
         """The code by which a batch was applied, once, or refused."""
@@ -160,17 +168,17 @@ class LibraryEngine:
         return code
 
     def _receipt(self, opening: Opening, flight: LibraryFlight) -> Receipt:
-        it, self._empty = flight.counts, [flight.owned]
+        version, inserted, updated, removed, absent, overflowed, expired = _COUNTS.unpack(flight.counts)
+        self._empty = [flight.owned]
         opening.kept.count += flight.batch.size
         if flight.collect:
             check(self.library.desk_collect(opening.desk.raw, self._freed))
-        return Receipt(Commit(it.version + opening.before, it.inserted, it.updated, it.removed, it.absent, it.overflowed, 1,
-                              it.expired))
+        return Receipt(Commit(version + opening.before, inserted, updated, removed, absent, overflowed, 1, expired))
 
-    def _level(self, opening: Opening, more: int) -> Opening:
+    def _level(self, opening: Opening, more: int, most: int) -> Opening:
         """Begins anew where the desk would keep too many operations with so many more: each of them takes memory until then."""
-        kept, most = opening.kept.count, self._renew_after
-        if most is None or kept == 0 or kept + more <= most:
+        kept = opening.kept.count
+        if kept == 0 or kept + more <= most:
             return opening
         stat = self._stat(opening)
         if kept + more <= TIMES_EDGES * stat.edges:
@@ -263,6 +271,7 @@ class LibraryEngine:
     @alone
     def hold(self, slot: Optional[int]) -> LibraryVersion:
         opening = self._settle()
+        self._held = {at: it for at, it in self._held.items() if it() is not None}
         free = [it for it in range(self.seats) if it not in self._held]
         if slot is None and not free:
             raise NoSeat()

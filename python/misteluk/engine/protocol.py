@@ -33,19 +33,24 @@ class Scope(NamedTuple):
 
 
 WHOLE = Scope()
-# How many bits the lower half of a weight has; and from how many edges on numpy is quicker than loops, once it is loaded.
-HALF, A_FEW = 20, 500
+# From how many edges on numpy is quicker than loops, once it is loaded.
+A_FEW = 500
 
 
-class Arrays(NamedTuple):
-    """Edges as columns of one length: the numbers of kinds, sources and targets, and what the edges have."""
-
+class _Columns(NamedTuple):
     kinds: "array[int]"
     sources: "array[int]"
     targets: "array[int]"
     weights: "array[int]"
     firsts: "array[int]"
     recents: "array[int]"
+
+
+class Arrays(_Columns):
+    """Edges as columns of one length: the numbers of kinds, sources and targets, and what the edges have. Their order by targets
+    is kept, once it was asked for."""
+
+    _by_target: "Optional[Tuple[Sequence[int], array[int]]]" = None
 
     @staticmethod
     def none() -> "Arrays":
@@ -66,8 +71,9 @@ class Arrays(NamedTuple):
         """The edges in these places."""
         if len(places) < 2:
             return Arrays(*[array(it.typecode, [it[at] for at in places]) for it in self])
-        pick = itemgetter(*places)
-        return Arrays(*[array(it.typecode, pick(it)) for it in self])
+        kinds, sources, targets, weights, firsts, recents = map(itemgetter(*places), self)
+        return Arrays(array("I", kinds), array("I", sources), array("I", targets), array("q", weights), array("Q", firsts),
+                      array("Q", recents))
 
     def places(self, kind: Optional[int], scope: Scope, among: Optional[Sequence[int]] = None) -> Sequence[int]:
         """Where the edges are that count, of the kind of this number or of any; of those in some places, where these are said."""
@@ -82,27 +88,33 @@ class Arrays(NamedTuple):
         """For each of so many vertices the weight that comes in."""
         numpy = numpy_for(self.size, A_FEW)
         if numpy is not None:
-            # (A sum of floats is exact where it stays below 2^53, as those of halves of weights do.)
-            targets, weights = numpy.asarray(self.targets), numpy.asarray(self.weights)
-            halves = weights >> HALF, weights & (1 << HALF) - 1
-            high, low = (numpy.bincount(targets, it, count).astype("int64") for it in halves)
-            return array("q", ((high << HALF) + low).tobytes())
+            # (A sum of all may leave 64 bits. What two of them differ by is right nevertheless, since it stays within them.)
+            order, ends = map(numpy.asarray, self.by_target(count))
+            sums = numpy.zeros(self.size + 1, dtype="int64")
+            numpy.cumsum(numpy.asarray(self.weights)[order], out=sums[1:])
+            return array("q", numpy.diff(sums[ends]).tobytes())
         found = array("q", bytes(8 * count))
         for target, weight in zip(self.targets, self.weights):
             found[target] += weight
         return found
 
     def by_target(self, count: int) -> "Tuple[Sequence[int], array[int]]":
-        """The places of edges in order of their targets, of which there are so many, and where those of each begin. (Without
-        numpy in a loop, which lets other threads have their turn: a sort of all of them would keep these waiting.)"""
+        """The places of edges in order of their targets, of which there are so many, and where those of each begin."""
+        if self._by_target is None:
+            self._by_target = self._in_order_of_targets(count)
+        return self._by_target
+
+    def _in_order_of_targets(self, count: int) -> "Tuple[Sequence[int], array[int]]":
+        """(Without numpy in a loop, which lets other threads have their turn: a sort of all would keep these waiting.)"""
         numpy = numpy_for(self.size, A_FEW)
         if numpy is not None:
             targets = numpy.asarray(self.targets)
             order = numpy.argsort(targets.astype("uint16"), kind="stable")  # (by so many bits numpy sorts in one go)
             if count > 1 << 16:
                 order = order[numpy.argsort((targets >> 16).astype("uint16")[order], kind="stable")]
-            ends = numpy.cumsum(numpy.bincount(targets, minlength=count))
-            return array("I", order.astype("uint32").tobytes()), array("I", [0, *ends.tolist()])
+            ends = numpy.zeros(count + 1, dtype="uint32")
+            numpy.cumsum(numpy.bincount(targets, minlength=count), out=ends[1:])
+            return array("I", order.astype("uint32").tobytes()), array("I", ends.tobytes())
         counts = Counter(self.targets)
         ends = array("I", accumulate(map(counts.__getitem__, range(count)), initial=0))
         order, free = array("I", bytes(4 * self.size)), list(ends)
