@@ -239,6 +239,7 @@ impl Numbers {
         ensures kept { IsNumbers self.new }
         ensures statuses { statuses self.new ≡ statuses self.old }
         ensures pins { self.new.pins ≡ slice_set self.old.pins seat pin }
+        ensures still { slice_index_or self.old.pins seat None ≡ pin → self.new ≡ self.old }
     {
         if self.pins[seat] == pin {
             return;
@@ -253,6 +254,7 @@ impl Numbers {
         ensures kept { IsNumbers self.new }
         ensures same { IsSame self.old self.new }
         ensures late { AreNeeded copy.now (statuses self.new) (stack_of self.new.retired.lists LATE) }
+        ensures still { copies.reach_of copy.now < self.old.least → self.new ≡ self.old }
     {
         if copy.reach() < self.least {
             return;
