@@ -17,6 +17,7 @@ use Rattle.script_lines.specs.declared.words.Word.{Word}
 use Rattle.store_steps.specs.{Boards.ShowsBoard, Desks.DeskView, Shown.ShowsWorld}
 use Rattle.store_steps.specs.Steps.{Accepts, IsTaken, TakesAt, past_numbers, posting, recycling}
 use Rattle.store_steps.proofs.{BoardSteps.shows_floored, BoardSteps.shows_sessions, Reached.same_count}
+use Rattle.store_steps.proofs.Questions.{question_done, question_replies, silent_posting, silent_recycling, then_done}
 use Rattle.stream_store.specs.{Kept.DeskState, Seats.{SessionView, held_graph, held_version}}
 use Rattle.script_commands.specs.Machine.{AddsReplies, AreEventsOf, Continues, IsReplyTo, ShowsMachine, asking, held_at, session_for}
 use Rattle.script_commands.specs.{Servers.{IsServer, pending_of}, Slots.{IsPinned, held_by, held_in, held_of}}
@@ -29,7 +30,7 @@ use Rattle.version_answers.specs.{Numbered.{IsNumberedAnswer, named}, declared.n
 use Rattle.script_lines.specs.Lines.{shown_lines}
 use Rattle.std.specs.Prelude.{◌≢◌, ◌⊎◌}
 use Rattle.script_commands.specs.States.{ask_word}
-use Rattle.script_commands.proofs.Moving.{asking_done, asking_replies, closing_done, done_cons, opening_done, quiet_map, quiet_posting, quiet_replies}
+use Rattle.script_commands.proofs.Moving.{closing_done, opening_done, silent_closing, silent_opening}
 
 -- The pins
 
@@ -100,7 +101,7 @@ commit_moves old new batch lines here slots same accepts shows =
       there = record { world = t.after; replies = here.replies };
       are = (a.taken, refl);
       done = t.done;
-      replies = quiet_replies events here.world here.replies (quiet_posting new.desk.desk.last (pending_of old) a.taken);
+      replies = silent_posting new.desk.desk.last (pending_of old) a.taken here.world here.replies;
       told = refl;
       shown = record {
         desk = t.shown;
@@ -155,7 +156,7 @@ open_moves old new slot last held lines here desk pinned floor number free holds
       are = refl;
       done = opening_done w slot (found old w slot None shows free)
           ∙ ap (λ n. Some (with_sessions w (set w.sessions slot (Holding (record { pin = n; settled = true; version = n }))))) is;
-      replies = quiet_replies (Pin slot ∷ Enter slot ∷ Settle slot ∷ []) w here.replies refl;
+      replies = silent_opening slot w here.replies;
       told = refl;
       shown = slot_shown old new w slot last (Some held) shows desk pinned floor holds;
     }
@@ -172,7 +173,7 @@ close_moves old new slot last held lines here desk pinned floor there holds show
       there = record { world = with_sessions w (set w.sessions slot Idle); replies = here.replies };
       are = refl;
       done = closing_done w slot hold (found old w slot (Some held) shows there);
-      replies = quiet_replies (Release slot ∷ []) w here.replies refl;
+      replies = silent_closing slot w here.replies;
       told = refl;
       shown = slot_shown old new w slot last None shows desk pinned floor holds;
     }
@@ -197,9 +198,8 @@ collect_moves old new copy last lines here pinned floor holds same takes shows =
       events = Floor ∷ events;
       there = record { world = t.after; replies = here.replies };
       are = ap (λ c. Floor ∷ recycling c old.desk.desk.pool) same;
-      done = done_cons Floor events w (floored w) t.after refl t.done;
-      replies = quiet_replies (Floor ∷ events) w here.replies
-          (quiet_map Recycle (λ b. refl) (past_numbers copy old.desk.desk.pool));
+      done = then_done Floor events w (floored w) t.after refl t.done;
+      replies = (here.replies, refl, silent_recycling (past_numbers copy old.desk.desk.pool) (floored w) here.replies);
       told = refl;
       shown = record {
         desk = t.shown;
@@ -262,8 +262,8 @@ question_moves server slot request held outcome start here events there is is_st
       events = asking w slot request (Ok held);
       there = record { world = w; replies = new };
       are = ap (asking w slot request) (sym holds);
-      done = asking_done w slot request hold at;
-      replies = asking_replies w slot request hold at here.replies is.0 known named answer;
+      done = question_done w slot request hold at;
+      replies = question_replies w slot request hold at here.replies is.0 known named answer;
       told = subst (λ o. IsReplyTo slot request w o outcome here.replies new) (sym holds)
           (is.0, refl, is.2 ∙ ap (λ g. answer_result slot request g is.0) graph);
       shown = shows;

@@ -3,9 +3,9 @@ use Rattle.std.proofs.Common.{◌≡◌, ℕ, zero, suc, ◌+◌, List, [], ◌�
 use Rattle.std.proofs.Common.{get_or, refl, sym, ap, subst, ◌∙◌}
 use Rattle.std.specs.{List.AllZip, Prelude.Some}
 use Rattle.feed_csv.specs.{Commands.item_of, Records.Row}
-use Rattle.epoch_core.specs.{Runs.{AllReplies, Runs, next_world, run}, declared.events.Event.Event}
-use Rattle.epoch_core.specs.Worlds.{Answer, IsStart, MachineState, World, replies_of}
-use Rattle.store_steps.{specs.Steps.all_done, proofs.Histories.done_is_run}
+use Rattle.epoch_core.specs.{Runs.{AllReplies, Runs, run}, declared.events.Event.Event}
+use Rattle.epoch_core.specs.Worlds.{Answer, IsStart, MachineState, replies_of}
+use Rattle.store_steps.{specs.Steps.all_done, proofs.{Histories.done_is_run, Questions.both_reply, Reached.run_more}}
 use Rattle.script_commands.specs.declared.server.Server.{Server}
 use Rattle.script_commands.specs.States.{IsRecordResult, Progress, RecordResult, Reopens, after_record, answer_result, printed}
 use Rattle.script_server.specs.Segments.{AreSegments, Does, DoesAll, IsSegment, IsShown, Prints, Segment, Stand, question_to, stand}
@@ -14,23 +14,13 @@ use Rattle.script_server.proofs.SegmentSteps.{Answered}
 -- Runs of the machine, one after another
 
 -- events, and then others
-runs_on : (es fs : List Event) (w : World) (old mid new : List (List Answer)) → AllReplies w es old mid
-    → AllReplies (run es w) fs mid new
-    → Runs (record { world = w; replies = old }) (es ++ fs) (record { world = run fs (run es w); replies = new })
-runs_on [] fs w old mid new all more = record { world = refl; replies = subst (λ replies. AllReplies w fs replies new) all more }
-runs_on (e ∷ es) fs w old mid new all more =
-    let rest = runs_on es fs (next_world w e) all.0 mid new all.2 more in
-    record { world = rest.world; replies = (all.0, all.1, rest.replies) }
-
 pub runs_append : (start here there : MachineState) (es fs : List Event) → Runs start es here
     → all_done fs here.world ≡ Some there.world → AllReplies here.world fs here.replies there.replies → Runs start (es ++ fs) there
-runs_append start here there es fs runs done replies =
-    let all = runs_on es fs start.world start.replies here.replies there.replies runs.replies
-    (subst (λ w. AllReplies w fs here.replies there.replies) runs.world replies) in
-    record {
-      world = sym (done_is_run fs here.world there.world done) ∙ (ap (run fs) runs.world ∙ all.world);
-      replies = all.replies;
-    }
+runs_append start here there es fs runs done replies = record {
+  world = sym (done_is_run fs here.world there.world done) ∙ (ap (run fs) runs.world ∙ sym (run_more es fs start.world));
+  replies = both_reply es fs start.world start.replies here.replies there.replies runs.replies
+      (subst (λ w. AllReplies w fs here.replies there.replies) runs.world replies);
+}
 
 -- The answers that are printed
 

@@ -44,7 +44,7 @@ silent_reads (suc n) s w replies = (replies, refl, silent_reads n s _ replies)
 
 -- Events one after another
 
-then_done : (e : Event) (es : List Event) (w mid after : World) → step w e ≡ Some mid → all_done es mid ≡ Some after
+pub then_done : (e : Event) (es : List Event) (w mid after : World) → step w e ≡ Some mid → all_done es mid ≡ Some after
     → all_done (e ∷ es) w ≡ Some after
 then_done e es w mid after one rest = ap (option_and_then (all_done es)) one ∙ rest
 
@@ -57,14 +57,14 @@ both_done (e ∷ es) fs w mid after front rest =
       | Some next ↦ λ is. both_done es fs next mid after is rest
     ] front
 
-both_reply : (es fs : List Event) (w : World) (old mid new : List (List Answer)) → AllReplies w es old mid
+pub both_reply : (es fs : List Event) (w : World) (old mid new : List (List Answer)) → AllReplies w es old mid
     → AllReplies (run es w) fs mid new → AllReplies w (es ++ fs) old new
 both_reply [] fs w old mid new all more = subst (λ rs. AllReplies w fs rs new) all more
 both_reply (e ∷ es) fs w old mid new all more = (all.0, all.1, both_reply es fs (next_world w e) all.0 mid new all.2 more)
 
 -- A question
 
-changed_to : (w : World) (s : ℕ) (change : SessionState → Option SessionState) (session next : SessionState)
+pub changed_to : (w : World) (s : ℕ) (change : SessionState → Option SessionState) (session next : SessionState)
     → slice_get w.sessions s ≡ Some session → change session ≡ Some next
     → move w s change ≡ Some (with_sessions w (set w.sessions s next))
 changed_to w s change session next found is =
