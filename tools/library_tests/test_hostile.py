@@ -254,7 +254,7 @@ class Hostile(unittest.TestCase):
         self.assertEqual(told, [(2, 1), (1, 3), (0, 3)])
         source.value = 4_000_000_000
         self.refuses(Code.OK, it.version_edges(held, view(), source, *words, count))
-        self.assertEqual((count.value, source.value >= 3), (0, True))
+        self.assertEqual((count.value, source.value), (0, 4_000_000_000))
         self.assertTrue(all(it.is_left_alone() for it in arrays))
 
     def test_names_past_the_last_and_texts_that_are_too_short(self) -> None:

@@ -1,6 +1,6 @@
 //! Batches.
 
-ghost use Rattle.std.specs.Prelude.{◌≡◌, [], Some, IsSome, length, OnOk, OnErr};
+ghost use Rattle.std.specs.Prelude.{◌≡◌, [], Some, None, IsSome, length, OnOk, OnErr};
 ghost use Rattle.graph_types.specs.declared.batches.NamedOp.TheVariants.{Insert, Incr, Remove, Expire};
 ghost use Rattle.misteluk_c.specs.Held.{batch_in, Asks, IsAlone, Makes, TellsPush};
 
@@ -62,6 +62,7 @@ fn unshare(held: &mut Held) -> Result<(), AllocError>
     ensures same { batch_in (Some held.new) ≡ batch_in (Some held.old) }
     ensures alone { OnOk result (IsAlone held.new) }
     ensures batch { OnErr result (IsSome (batch_in (Some held.old))) }
+    ensures none { batch_in (Some held.old) ≡ None → held.new ≡ held.old }
 {
     if let Held::Shared(shared) = held {
         let copy = Batch::clone(shared)?;
@@ -83,6 +84,7 @@ pub extern "C" fn misteluk_batch_insert(
 ) -> u32
     ensures push { Asks (batch_in batch.old.held) result
         (λ ops. TellsPush (Insert kind.now source.now target.now weight time) ops batch.new.held result) }
+    ensures none { batch_in batch.old.held ≡ None → batch.new.held ≡ batch.old.held }
 {
     let Some(mut held) = batch.take(alloc) else {
         return NO_HANDLE;
@@ -105,6 +107,7 @@ pub extern "C" fn misteluk_batch_add(
 ) -> u32
     ensures push { Asks (batch_in batch.old.held) result
         (λ ops. TellsPush (Incr kind.now source.now target.now amount time) ops batch.new.held result) }
+    ensures none { batch_in batch.old.held ≡ None → batch.new.held ≡ batch.old.held }
 {
     let Some(mut held) = batch.take(alloc) else {
         return NO_HANDLE;
@@ -125,6 +128,7 @@ pub extern "C" fn misteluk_batch_remove(
 ) -> u32
     ensures push { Asks (batch_in batch.old.held) result
         (λ ops. TellsPush (Remove kind.now source.now target.now) ops batch.new.held result) }
+    ensures none { batch_in batch.old.held ≡ None → batch.new.held ≡ batch.old.held }
 {
     let Some(mut held) = batch.take(alloc) else {
         return NO_HANDLE;
@@ -138,6 +142,7 @@ pub extern "C" fn misteluk_batch_remove(
 #[unsafe(no_mangle)]
 pub extern "C" fn misteluk_batch_expire(alloc: Global, batch: &mut Handle, time: u64) -> u32
     ensures push { Asks (batch_in batch.old.held) result (λ ops. TellsPush (Expire time) ops batch.new.held result) }
+    ensures none { batch_in batch.old.held ≡ None → batch.new.held ≡ batch.old.held }
 {
     let Some(mut held) = batch.take(alloc) else {
         return NO_HANDLE;
@@ -157,7 +162,8 @@ fn insert_in(
     weight: i64,
     time: u64,
 ) -> u32
-    ensures { Asks (batch_in (Some held.old)) result (λ ops. TellsPush (Insert kind.now source.now target.now weight time) ops (Some held.new) result) }
+    ensures push { Asks (batch_in (Some held.old)) result (λ ops. TellsPush (Insert kind.now source.now target.now weight time) ops (Some held.new) result) }
+    ensures none { batch_in (Some held.old) ≡ None → held.new ≡ held.old }
 {
     let Ok(()) = unshare(held) else {
         return MEMORY;
@@ -187,7 +193,8 @@ fn add_in(
     amount: i64,
     time: u64,
 ) -> u32
-    ensures { Asks (batch_in (Some held.old)) result (λ ops. TellsPush (Incr kind.now source.now target.now amount time) ops (Some held.new) result) }
+    ensures push { Asks (batch_in (Some held.old)) result (λ ops. TellsPush (Incr kind.now source.now target.now amount time) ops (Some held.new) result) }
+    ensures none { batch_in (Some held.old) ≡ None → held.new ≡ held.old }
 {
     let Ok(()) = unshare(held) else {
         return MEMORY;
@@ -209,7 +216,8 @@ fn add_in(
 
 #[tactic(auto, using(crate::proofs::Pushes::not_unshared))]
 fn remove_in(alloc: Global, held: &mut Held, kind: &[u8], source: &[u8], target: &[u8]) -> u32
-    ensures { Asks (batch_in (Some held.old)) result (λ ops. TellsPush (Remove kind.now source.now target.now) ops (Some held.new) result) }
+    ensures push { Asks (batch_in (Some held.old)) result (λ ops. TellsPush (Remove kind.now source.now target.now) ops (Some held.new) result) }
+    ensures none { batch_in (Some held.old) ≡ None → held.new ≡ held.old }
 {
     let Ok(()) = unshare(held) else {
         return MEMORY;
@@ -222,7 +230,8 @@ fn remove_in(alloc: Global, held: &mut Held, kind: &[u8], source: &[u8], target:
 
 #[tactic(auto, using(crate::proofs::Pushes::not_unshared))]
 fn expire_in(held: &mut Held, time: u64) -> u32
-    ensures { Asks (batch_in (Some held.old)) result (λ ops. TellsPush (Expire time) ops (Some held.new) result) }
+    ensures push { Asks (batch_in (Some held.old)) result (λ ops. TellsPush (Expire time) ops (Some held.new) result) }
+    ensures none { batch_in (Some held.old) ≡ None → held.new ≡ held.old }
 {
     let Ok(()) = unshare(held) else {
         return MEMORY;

@@ -1,7 +1,7 @@
 -- Edges and values written one after another, and rows side by side.
 use Rattle.std.proofs.Common.{◌≡◌, ℕ, ◌+◌, ◌≤◌, ◌<◌, ◌^◌, List, [], ◌∷◌, ◌++◌, zero, suc, length, get_or, drop, replicate}
 use Rattle.std.proofs.Common.{refl, sym, ap, ◌∙◌, arith, add-zero, add-one, append_assoc, append-nil, length-append}
-use Rattle.std.proofs.{Math.Seq.drop-cons, lemmas.List.{FromFn.length-map-range_with_len, length-replicate}}
+use Rattle.std.proofs.{Math.Seq.drop-cons, lemmas.List.{FromFn.length-map-range_with_len, length-replicate, nil_from_length}}
 use Rattle.std.specs.declared.{sync.Arc.Arc, alloc.Global.Global}
 use Rattle.graph_types.specs.declared.ids.Filter.{Filter}
 use Rattle.graph_types.specs.{Graph.Graph, Answer.{degree_at, degree_table}}
@@ -9,7 +9,7 @@ use Rattle.edge_block.specs.{Slots.BlockView, Lending.LentEdge, declared.blocks.
 use Rattle.version_pages.specs.Rows.{row_of, blocks_of}
 use Rattle.graph_version.specs.{Sharing.{block_value, block_values}, Versions.{VersionView, IsVersion}}
 use Rattle.graph_version.proofs.BlockCounts.{few_blocks}
-use Rattle.version_columns.specs.Rows.{Columns, with_edge, with_edges, with_values, block_edges, edges_of, row_edges, rows_from, sources_from}
+use Rattle.version_columns.specs.Rows.{Columns, with_edge, with_edges, with_values, block_edges, edges_of, row_edges, rows_from, sources_from, edge_columns}
 
 -- edges behind others, and values
 pub with_edges-append : (at : ℕ) (xs ys : List LentEdge) (c : Columns)
@@ -73,3 +73,15 @@ sources_long f v source (suc n) =
     let each = length-append (replicate (length (row_edges f v source)) source) (sources_from f v (source + 1) n) in
     let long = length-replicate (length (row_edges f v source)) source in
     omega (arith, here, each, long, sources_long f v (source + 1) n)
+
+-- where there are no edges to write, all is as it was
+pub none_written : (f : Filter) (v : VersionView) (source n : ℕ) (old new : Columns) (old_sources new_sources : List ℕ)
+    → length (rows_from f v source n) ≡ 0 → new ≡ with_edges 0 (rows_from f v source n) old
+    → new_sources ≡ with_values 0 (sources_from f v source n) old_sources
+    → edge_columns source new_sources new ≡ edge_columns source old_sources old
+none_written f v source n old new old_sources new_sources none edges values =
+    let rows = nil_from_length (rows_from f v source n) none in
+    let sources = nil_from_length (sources_from f v source n) (sources_long f v source n ∙ none) in
+    let columns_same : new ≡ old = edges ∙ ap (λ es. with_edges 0 es old) rows in
+    let sources_same : new_sources ≡ old_sources = values ∙ ap (λ xs. with_values 0 xs old_sources) sources in
+    ap (λ xs. edge_columns source xs new) sources_same ∙ ap (edge_columns source old_sources) columns_same

@@ -96,9 +96,10 @@ IsRowCount v view source count = (f : Filter) → filter_of (content v) view ≡
 -- several rows
 
 -- the rows of the sources from one to below the next have so many edges, which have room; there are no more sources, or the
--- next row has none
+-- next row has none. Where the first is no source, it stays
 pub record AreRows (f : Filter) (v : VersionView) (source next room count : ℕ) : Type 0 where
   pub onward : source ≤ next
+  pub most : (next ≤ length (content v).names) ⊎ (next ≡ source)
   pub counted : count ≡ length (rows_from f v source (next - source))
   pub fits : count ≤ room
   pub whole : (length (content v).names ≤ next) ⊎ (room < count + length (row_edges f v next))
@@ -130,9 +131,9 @@ WritesEdges v view old new count (Ok _) =
     × AreRows f v old.source new.source (length old.columns.kinds) count
     × WrittenRows f v old.source new.source old.columns new.columns old.sources new.sources
     × ((0 < count) ⊎ (length (content v).names ≤ new.source))
-WritesEdges v view old new count (Err NoKind) = filter_of (content v) view ≡ None
+WritesEdges v view old new count (Err NoKind) = (filter_of (content v) view ≡ None) × (new ≡ old)
 WritesEdges v view old new count (Err BadLength) =
-    (f : Filter) × (filter_of (content v) view ≡ Some f) × (new.source ≡ old.source)
+    (f : Filter) × (filter_of (content v) view ≡ Some f) × (new ≡ old)
     × (((length old.sources == length old.columns.kinds) && are_long (length old.columns.kinds) old.columns ≡ false)
     ⊎ IsTooLong f v old.source (length old.columns.kinds) count)
 WritesEdges v view old new count (Err _) = ⊥

@@ -1,4 +1,4 @@
-use Rattle.std.proofs.Common.{◌≡◌, ◌+◌, ◌-◌, ◌++◌, suc, length, replicate, sym, ap, ◌∙◌, arith, length-append}
+use Rattle.std.proofs.Common.{◌≡◌, ◌+◌, ◌-◌, ◌++◌, suc, inl, length, replicate, sym, ap, ◌∙◌, arith, length-append}
 use Rattle.std.proofs.lemmas.List.{length-map}
 use Rattle.version_columns.proofs.Columns.{few_in_row, rows_from-more, sources_from-more, sources_long, with_edges-append, with_values-append}
 use Rattle.graph_version.specs.Sharing.{block_value, block_values}
@@ -40,6 +40,7 @@ loop-next-preserved c =
     let filled : c.write_blocks-end.result - count ≡ length (row_edges f v next) = omega (arith, end, many) in
     record {
       onward = omega (arith, so_far.onward);
+      most = inl (omega (arith, c.loop-next-test.true));
       counted = omega (arith, end, so_far.counted, all, both, many);
       fits = omega (arith, end, so_far.fits, c.count_blocks.ensures, c.loop-next.auto.kinds, c.write_blocks-end.auto.kinds);
       edges = wrote ∙ ap (with_edges count piece) so_far.edges ∙ ap (λ m. with_edges m piece (with_edges 0 R old)) start
