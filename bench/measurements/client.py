@@ -6,9 +6,8 @@ is aimed at, next to igraph where it is there, and what was found, of processor 
     python3 -m bench run client 50000 3      so many edges, and so many turns
     python3 -m bench run client --program    also over `stinger run`, through pipes
 
-Tables and exports are asked of sessions that were asked nothing before, edges at vertices of one that has read all edges, and
-has put them in order of their targets for the weights in; "of a new session" they take both. With 500,000 edges `stinger run`
-has no record left for an export.
+Tables and exports are asked of sessions that were asked nothing before, edges at vertices of one that has read all edges. "Once
+more" is without what the first such question puts in order. With 500,000 edges `stinger run` has no record left for an export.
 
 All take turns, and medians are printed. Each answer is compared with the client's in the first turn, and the measurement stops
 where one differs. The library is the proved one, or the one that MISTELUK_LIBRARY names.
@@ -32,7 +31,6 @@ ROWS = [("load", "load the file", False), ("rows", "from rows in memory", False)
         ("levels", "levels from a vertex", True), ("components", "components", True), ("cores", "core numbers", True),
         ("out_of", f"edges out of {ASKED} vertices", True), ("into", f"edges into {ASKED} vertices", True),
         ("into_again", f"edges into {ASKED} vertices, once more", False),
-        ("into_first", f"edges into {ASKED} vertices, of a new session", False),
         ("arrays", "all edges", True), ("frame", "all edges as a frame", False), ("gathered", "one edge more, gathered", False),
         ("single", "one edge more, its own version", False)]
 # These say how many edges they added.

@@ -86,10 +86,6 @@ class Client:
 
     into_again = into
 
-    def into_first(self) -> Any:
-        with self.store.open() as session:
-            return [session.edges_into(it) for it in self.given.asked]
-
     def arrays(self) -> Any:
         with self.store.open() as session:
             return session.edges_columns()

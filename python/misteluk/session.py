@@ -270,8 +270,8 @@ class Session(Generic[W, T]):
         return self._beside(source, kind, since, until, True)
 
     def edges_into(self, target: str, kind: Optional[str] = None, since: Moment = 0, until: Moment = records.MOST_TIME) -> Edges:
-        """The edges that come into the target; as `edges_out_of`. The first such question, or `weights_in`, puts all edges of
-        the version in order of their targets, which is kept with the session."""
+        """The edges that come into the target; as `edges_out_of`. The first such question puts all edges of the version in order
+        of their targets, which is kept with the session."""
         return self._beside(target, kind, since, until, False)
 
     def out_of(self, source: str, kind: Optional[str] = None, since: Moment = 0,

@@ -12,6 +12,7 @@ from support import Case, optional
 
 import misteluk
 from misteluk import Changed, Degree, Edge
+from misteluk.engine.calling import texts_of
 from misteluk.engine.protocol import Arrays
 from misteluk.values import fields
 
@@ -75,29 +76,33 @@ class ByTarget(unittest.TestCase):
                 begins = list(accumulate((sizes[target] for target in range(count)), initial=0))
                 for many in (0, 1_000):
                     with self.subTest(many=many), mock.patch.object(fields, "MANY", many):
-                        order, ends = Arrays(*edges).by_target(count)  # (which keeps what it found)
+                        order, ends = edges.by_target(count)
                         self.assertEqual((list(order), list(ends)), (wanted, begins))
 
     def test_weights_that_come_in(self):
-        """By numpy, where it is there, and in a loop: sums of weights up to the greatest, which no float has."""
+        """By numpy, where it is there, and in a loop: sums of weights up to the greatest; those of many no float has."""
         made = random.Random(6)
-        for count in (1, 3, 40):
-            edges = Arrays.of(300)
-            edges.targets[:] = array("I", (made.randrange(count) for _ in range(300)))
-            edges.weights[:] = array("q", (made.choice((1 << 40, -(1 << 40), made.randrange(-9, 1 << 40))) for _ in range(300)))
+        for count, size in ((1, 300), (3, 300), (40, 300), (1, 9_001), (2, 30_000)):
+            edges, some = Arrays.of(size), range(-9 if size == 300 else (1 << 40) - 9, 1 << 40)
+            edges.targets[:] = array("I", (made.randrange(count) for _ in range(size)))
+            edges.weights[:] = array("q", (made.choice((1 << 40, -(1 << 40) * (size == 300), made.choice(some)))
+                                           for _ in range(size)))
             wanted = [sum(weight for it, weight in zip(edges.targets, edges.weights) if it == target) for target in range(count)]
             for many in (0, 1_000):
                 with self.subTest(many=many), mock.patch.object(fields, "MANY", many):
-                    self.assertEqual(list(Arrays(*edges).weights_in(count)), wanted)
+                    self.assertEqual(list(edges.weights_in(count)), wanted)
 
-    def test_weights_whose_sum_leaves_64_bits(self):
-        """The sum of all may, though none of a vertex does."""
-        edges = Arrays.of(600)
-        edges.targets[:], edges.weights[:] = array("I", range(600)), array("q", [1 << 62, -(1 << 62), 1 << 62] * 200)
-        self.assertGreater(sum(edges.weights), 1 << 63)
-        for many in (0, 1_000):
-            with self.subTest(many=many), mock.patch.object(fields, "MANY", many):
-                self.assertEqual(Arrays(*edges).weights_in(600), edges.weights)
+
+class NamesInOneText(unittest.TestCase):
+    def test_names_are_cut_out_of_their_text(self):
+        """By numpy, where it is there, and in a loop: names of any signs that names have, and of each length."""
+        made, signs = random.Random(8), "".join(map(chr, range(0x21, 0x7F)))
+        for count in (1, 64, 300):
+            names = ["".join(made.choices(signs, k=at % 64 + 1)) for at in range(count)]
+            text, ends = array("B", "".join(names).encode("ascii")), array("Q", accumulate(map(len, names)))
+            for many in (0, 1_000):
+                with self.subTest(count=count, many=many), mock.patch.object(fields, "MANY", many):
+                    self.assertEqual(texts_of(text, ends), names)
 
 
 class EdgesOfAVersion(Case):

@@ -84,6 +84,7 @@ class LibraryVersion:
         self.number = self.count = 0
         self._names: Optional[List[str]] = None
         self._all: Optional[Arrays] = None
+        self._by_target: "Optional[Tuple[Sequence[int], array[int]]]" = None
         self._degrees: "Optional[Tuple[array[int], array[int], array[int]]]" = None
 
     def begin(self) -> None:
@@ -107,7 +108,7 @@ class LibraryVersion:
         self._holds.let_go(self._hold)
         self._idle.clear()
         self._first = Owned(interface.Version(), self._versions)
-        self._all = self._degrees = self._names = None
+        self._all = self._by_target = self._degrees = self._names = None
 
     # How it is asked.
 
@@ -259,7 +260,9 @@ class LibraryVersion:
 
     def into(self, scope: Scope, name: str) -> Arrays:
         view, target, all_ = self._view(scope), self._vertex(name), self.edges(WHOLE)
-        order, ends = all_.by_target(self.count)
+        if self._by_target is None:
+            self._by_target = all_.by_target(self.count)
+        order, ends = self._by_target
         return self._those(all_, scope, view, order[ends[target]:ends[target + 1]], False)
 
     def _those(self, all_: Arrays, scope: Scope, view: interface.View, places: Sequence[int], is_out: bool) -> Arrays:

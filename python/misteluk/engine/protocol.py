@@ -33,24 +33,20 @@ class Scope(NamedTuple):
 
 
 WHOLE = Scope()
-# From how many edges on numpy is quicker than loops, once it is loaded.
-A_FEW = 500
+# How many bits the lower half of a weight has; up to which size a float has each whole number; and from how many edges on numpy
+# is quicker than loops, once it is loaded.
+HALF, EXACT, A_FEW = 20, 1 << 53, 500
 
 
-class _Columns(NamedTuple):
+class Arrays(NamedTuple):
+    """Edges as columns of one length: the numbers of kinds, sources and targets, and what the edges have."""
+
     kinds: "array[int]"
     sources: "array[int]"
     targets: "array[int]"
     weights: "array[int]"
     firsts: "array[int]"
     recents: "array[int]"
-
-
-class Arrays(_Columns):
-    """Edges as columns of one length: the numbers of kinds, sources and targets, and what the edges have. Their order by targets
-    is kept, once it was asked for."""
-
-    _by_target: "Optional[Tuple[Sequence[int], array[int]]]" = None
 
     @staticmethod
     def none() -> "Arrays":
@@ -88,24 +84,21 @@ class Arrays(_Columns):
         """For each of so many vertices the weight that comes in."""
         numpy = numpy_for(self.size, A_FEW)
         if numpy is not None:
-            # (A sum of all may leave 64 bits. What two of them differ by is right nevertheless, since it stays within them.)
-            order, ends = map(numpy.asarray, self.by_target(count))
-            sums = numpy.zeros(self.size + 1, dtype="int64")
-            numpy.cumsum(numpy.asarray(self.weights)[order], out=sums[1:])
-            return array("q", numpy.diff(sums[ends]).tobytes())
+            # (A sum of floats is exact where it stays within 2^53, as those of halves of weights do, where others may not.)
+            targets, weights = numpy.asarray(self.targets), numpy.asarray(self.weights)
+            if max(int(weights.max()), -int(weights.min())) * self.size <= EXACT:
+                return array("q", numpy.bincount(targets, weights, count).astype("int64").tobytes())
+            halves = weights >> HALF, weights & (1 << HALF) - 1
+            high, low = (numpy.bincount(targets, it, count).astype("int64") for it in halves)
+            return array("q", ((high << HALF) + low).tobytes())
         found = array("q", bytes(8 * count))
         for target, weight in zip(self.targets, self.weights):
             found[target] += weight
         return found
 
     def by_target(self, count: int) -> "Tuple[Sequence[int], array[int]]":
-        """The places of edges in order of their targets, of which there are so many, and where those of each begin."""
-        if self._by_target is None:
-            self._by_target = self._in_order_of_targets(count)
-        return self._by_target
-
-    def _in_order_of_targets(self, count: int) -> "Tuple[Sequence[int], array[int]]":
-        """(Without numpy in a loop, which lets other threads have their turn: a sort of all would keep these waiting.)"""
+        """The places of edges in order of their targets, of which there are so many, and where those of each begin. (Without
+        numpy in a loop, which lets other threads have their turn: a sort of all of them would keep these waiting.)"""
         numpy = numpy_for(self.size, A_FEW)
         if numpy is not None:
             targets = numpy.asarray(self.targets)
