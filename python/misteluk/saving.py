@@ -23,7 +23,6 @@ from .feeds.feed import escaped, parts_of
 from .engine.finding import Path
 from .values.names import MARK
 from .feeds.progress import Progress
-from .values.units import Units
 
 if TYPE_CHECKING:
     from .session import Session
