@@ -272,8 +272,9 @@ class Served(Store[Any, Any]):
             store.commit()
 
     One client feeds a store at a time: the first commit takes the seat, and raises `Busy` where another one has it; `close` gives
-    it back. Its sessions are let go where they are silent for as long as the server says (`--idle`). `token` is the server's,
-    else that of the variable MISTELUK_TOKEN. `timeout`: for how many seconds the server may be silent.
+    it back. Its sessions are let go where they ask nothing for as long as the server says (`--idle`): no call keeps them but a
+    question, such as `len(session)`. `token` is the server's, else that of the variable MISTELUK_TOKEN. `timeout`: for how many
+    seconds the server may be silent.
 
     Raises `NoServer` where none answers, and `NotAllowed` where it doesn't let this client in.
     """
