@@ -3,7 +3,7 @@
 ghost use Rattle.std.specs.Prelude.{◌≡◌, Some, None, length, MatchOption};
 ghost use Rattle.graph_version.specs.Versions.{content};
 ghost use Rattle.version_columns.specs.Lookups.{size_of, edge_at};
-ghost use Rattle.version_columns.specs.Tables.{WritesCores, WritesLabels, WritesLevels, WritesDegrees};
+ghost use Rattle.version_columns.specs.Tables.{WritesCores, WritesLabels, WritesLevels, WritesDegrees, degree_columns};
 ghost use Rattle.version_columns.specs.Rows.{columns, edge_columns, WritesRow, IsRowCount, WritesEdges};
 ghost use Rattle.misteluk_c.specs.Held.{version_in, Asks, Makes, Tells, TellsNumber, TellsNames, TellsEdge};
 
@@ -217,7 +217,8 @@ pub extern "C" fn misteluk_version_degrees(
     out_weight: &mut [i64],
 ) -> u32
     ensures same { version.new.held ≡ version.old.held }
-    ensures told { Asks (version_in version.old.held) result (λ v. Tells result (WritesDegrees (content v) view.now outgoing.new incoming.new out_weight.new)) }
+    ensures told { Asks (version_in version.old.held) result (λ v. Tells result (WritesDegrees (content v) view.now (degree_columns outgoing.old incoming.old out_weight.old)
+        (degree_columns outgoing.new incoming.new out_weight.new))) }
 {
     let Some(held) = version.take(alloc) else {
         return NO_HANDLE;
@@ -244,7 +245,7 @@ pub extern "C" fn misteluk_version_levels(
     levels: &mut [u32],
 ) -> u32
     ensures same { version.new.held ≡ version.old.held }
-    ensures told { Asks (version_in version.old.held) result (λ v. Tells result (WritesLevels (content v) view.now source (length levels.old) levels.new)) }
+    ensures told { Asks (version_in version.old.held) result (λ v. Tells result (WritesLevels (content v) view.now source levels.old levels.new)) }
 {
     let Some(held) = version.take(alloc) else {
         return NO_HANDLE;
@@ -268,7 +269,7 @@ pub extern "C" fn misteluk_version_labels(
     labels: &mut [u32],
 ) -> u32
     ensures same { version.new.held ≡ version.old.held }
-    ensures told { Asks (version_in version.old.held) result (λ v. Tells result (WritesLabels (content v) view.now (length labels.old) labels.new)) }
+    ensures told { Asks (version_in version.old.held) result (λ v. Tells result (WritesLabels (content v) view.now labels.old labels.new)) }
 {
     let Some(held) = version.take(alloc) else {
         return NO_HANDLE;
@@ -290,7 +291,7 @@ pub extern "C" fn misteluk_version_cores(
     cores: &mut [u32],
 ) -> u32
     ensures same { version.new.held ≡ version.old.held }
-    ensures told { Asks (version_in version.old.held) result (λ v. Tells result (WritesCores (content v) view.now (length cores.old) cores.new)) }
+    ensures told { Asks (version_in version.old.held) result (λ v. Tells result (WritesCores (content v) view.now cores.old cores.new)) }
 {
     let Some(held) = version.take(alloc) else {
         return NO_HANDLE;

@@ -1,5 +1,5 @@
 -- What a session of the machine does when its slot opens on the last version, or closes.
-use Rattle.std.proofs.Common.{◌≡◌, ℕ, List, [], ◌∷◌, set, refl, ap, ◌∙◌}
+use Rattle.std.proofs.Common.{◌≡◌, ℕ, List, [], ◌∷◌, set, true, false, refl, ap, ◌∙◌}
 use Rattle.std.{proofs.lemmas.List.set-set, specs.Prelude.slice_get}
 use Rattle.std.specs.declared.option.Option.TheVariants.{Some}
 use Rattle.epoch_core.specs.declared.events.Event.TheVariants.{Pin, Enter, Settle, Release}

@@ -3,6 +3,7 @@
 
 mod answers;
 mod batches;
+mod beside;
 mod checks;
 mod desks;
 mod gates;

@@ -41,7 +41,11 @@ fn blank_from(alloc: Global, first: u32, count: usize) -> Result<Vec<Arc<Block>>
 
 /// So many empty blocks, at most 4,096, of numbers that are all different and that the version doesn't have: those that
 /// follow its greatest. Nothing where memory is refused, or where a number would be 2^32.
-pub(crate) fn fresh_blocks(alloc: Global, version: &Version, count: usize) -> Option<Vec<Arc<Block>>>
+pub(crate) fn fresh_blocks(
+    alloc: Global,
+    version: &Version,
+    count: usize,
+) -> Option<Vec<Arc<Block>>>
     requires count { count ≤ 4096 }
     ensures many { IfSome result (λ v. length v.items ≡ count) }
     ensures distinct { IfSome result (λ v. AllPairs ◌≢◌ (numbers_of v.items)) }

@@ -6,31 +6,39 @@ use Rattle.version_columns.specs.declared.views.{View.View, ColumnError.ColumnEr
 use Rattle.version_columns.specs.Views.{filter_of, first_refusal, no_number, IsWritten}
 
 -- core numbers, and labels
-abbrev pub WritesCores : Graph → View → ℕ → List ℕ → Result (Unit {0}) ColumnError → Type 0
-WritesCores g view room cores result =
-    IsWritten (first_refusal (filter_of g view) true (room == length g.names))
-    ((f : Filter) × (filter_of g view ≡ Some f) × AreCoreNumbers f g cores) result
+abbrev pub WritesCores : Graph → View → List ℕ → List ℕ → Result (Unit {0}) ColumnError → Type 0
+WritesCores g view old new result =
+    IsWritten (first_refusal (filter_of g view) true (length old == length g.names)) old new
+    ((f : Filter) × (filter_of g view ≡ Some f) × AreCoreNumbers f g new) result
 
-abbrev pub WritesLabels : Graph → View → ℕ → List ℕ → Result (Unit {0}) ColumnError → Type 0
-WritesLabels g view room labels result =
-    IsWritten (first_refusal (filter_of g view) true (room == length g.names))
-    ((f : Filter) × (filter_of g view ≡ Some f) × AreLabels f g labels) result
+abbrev pub WritesLabels : Graph → View → List ℕ → List ℕ → Result (Unit {0}) ColumnError → Type 0
+WritesLabels g view old new result =
+    IsWritten (first_refusal (filter_of g view) true (length old == length g.names)) old new
+    ((f : Filter) × (filter_of g view ≡ Some f) × AreLabels f g new) result
 
 -- levels from a source: a number that is no level where no walk leads
-abbrev pub WritesLevels : Graph → View → ℕ → ℕ → List ℕ → Result (Unit {0}) ColumnError → Type 0
-WritesLevels g view source room levels result =
-    IsWritten (first_refusal (filter_of g view) (nat_lt source (length g.names)) (room == length g.names))
+abbrev pub WritesLevels : Graph → View → ℕ → List ℕ → List ℕ → Result (Unit {0}) ColumnError → Type 0
+WritesLevels g view source old new result =
+    IsWritten (first_refusal (filter_of g view) (nat_lt source (length g.names)) (length old == length g.names)) old new
     ((f : Filter) × (filter_of g view ≡ Some f)
-    × ((found : List (Option ℕ)) × AreLevels f g source found × (levels ≡ map (λ level. unwrap_or level no_number) found))) result
+    × ((found : List (Option ℕ)) × AreLevels f g source found × (new ≡ map (λ level. unwrap_or level no_number) found))) result
 
 -- degrees, in three columns
-pub record AreDegrees (f : Filter) (g : Graph) (outgoing incoming : List ℕ) (weights : List ℤ) : Type 0 where
-  pub outgoing_are : outgoing ≡ map (λ d. d.outgoing) (degree_table f g)
-  pub incoming_are : incoming ≡ map (λ d. d.incoming) (degree_table f g)
-  pub weights_are : weights ≡ map (λ d. d.out_weight) (degree_table f g)
+pub record DegreeColumns : Type 0 where
+  pub outgoing : List ℕ
+  pub incoming : List ℕ
+  pub weights : List ℤ
 
-abbrev pub WritesDegrees : Graph → View → List ℕ → List ℕ → List ℤ → Result (Unit {0}) ColumnError → Type 0
-WritesDegrees g view outgoing incoming weights result =
-    IsWritten (first_refusal (filter_of g view) true
-    ((length outgoing == length g.names) && (length incoming == length g.names) && (length weights == length g.names)))
-    ((f : Filter) × (filter_of g view ≡ Some f) × AreDegrees f g outgoing incoming weights) result
+abbrev pub degree_columns : List ℕ → List ℕ → List ℤ → DegreeColumns
+degree_columns outgoing incoming weights = record { outgoing = outgoing; incoming = incoming; weights = weights }
+
+pub record AreDegrees (f : Filter) (g : Graph) (c : DegreeColumns) : Type 0 where
+  pub outgoing_are : c.outgoing ≡ map (λ d. d.outgoing) (degree_table f g)
+  pub incoming_are : c.incoming ≡ map (λ d. d.incoming) (degree_table f g)
+  pub weights_are : c.weights ≡ map (λ d. d.out_weight) (degree_table f g)
+
+abbrev pub WritesDegrees : Graph → View → DegreeColumns → DegreeColumns → Result (Unit {0}) ColumnError → Type 0
+WritesDegrees g view old new result =
+    IsWritten (first_refusal (filter_of g view) true ((length old.outgoing == length g.names)
+    && (length old.incoming == length g.names) && (length old.weights == length g.names))) old new
+    ((f : Filter) × (filter_of g view ≡ Some f) × AreDegrees f g new) result

@@ -24,7 +24,8 @@ first_refusal (Some f) false length_ok = Some NoVertex
 first_refusal (Some f) true false = Some BadLength
 first_refusal (Some f) true true = None
 
--- the result is the refusal, if there is one; else what was to be written is written, or memory was refused
-abbrev pub IsWritten : Option ColumnError → Type 0 → Result (Unit {0}) ColumnError → Type 0
-IsWritten refusal Written (Ok _) = (refusal ≡ None) × Written
-IsWritten refusal Written (Err error) = (refusal ≡ Some error) ⊎ ((refusal ≡ None) × (error ≡ OutOfMemory))
+-- the result is the refusal, if there is one; else what was to be written is written, or memory was refused. A refusal leaves the
+-- columns as they were
+abbrev pub IsWritten : {X : Type 0} → Option ColumnError → X → X → Type 0 → Result (Unit {0}) ColumnError → Type 0
+IsWritten refusal old new Written (Ok _) = (refusal ≡ None) × Written
+IsWritten refusal old new Written (Err error) = (new ≡ old) × ((refusal ≡ Some error) ⊎ ((refusal ≡ None) × (error ≡ OutOfMemory)))

@@ -2,7 +2,7 @@
 
 ghost use Rattle.std.specs.Prelude.{◌≡◌, length, map, unwrap_or};
 ghost use Rattle.graph_version.specs.Versions.{content};
-ghost use Rattle.version_columns.specs.Tables.{WritesCores, WritesLabels, WritesLevels, WritesDegrees};
+ghost use Rattle.version_columns.specs.Tables.{WritesCores, WritesLabels, WritesLevels, WritesDegrees, degree_columns};
 ghost use Rattle.version_columns.specs.Views.{no_number};
 
 use crate::views::{ColumnError, NO_NUMBER, View, filter_of};
@@ -20,7 +20,7 @@ pub fn write_cores(
     view: &View,
     column: &mut [u32],
 ) -> Result<(), ColumnError>
-    ensures { WritesCores (content version.now) view.now (length column.old) column.new result }
+    ensures { WritesCores (content version.now) view.now column.old column.new result }
 {
     let Some(filter) = filter_of(version, view) else {
         return Err(ColumnError::NoKind);
@@ -43,7 +43,7 @@ pub fn write_labels(
     view: &View,
     column: &mut [u32],
 ) -> Result<(), ColumnError>
-    ensures { WritesLabels (content version.now) view.now (length column.old) column.new result }
+    ensures { WritesLabels (content version.now) view.now column.old column.new result }
 {
     let Some(filter) = filter_of(version, view) else {
         return Err(ColumnError::NoKind);
@@ -68,7 +68,7 @@ pub fn write_levels(
     source: u32,
     column: &mut [u32],
 ) -> Result<(), ColumnError>
-    ensures { WritesLevels (content version.now) view.now source (length column.old) column.new result }
+    ensures { WritesLevels (content version.now) view.now source column.old column.new result }
 {
     let Some(filter) = filter_of(version, view) else {
         return Err(ColumnError::NoKind);
@@ -108,7 +108,8 @@ pub fn write_degrees(
     incoming: &mut [u32],
     weights: &mut [i64],
 ) -> Result<(), ColumnError>
-    ensures { WritesDegrees (content version.now) view.now outgoing.new incoming.new weights.new result }
+    ensures { WritesDegrees (content version.now) view.now (degree_columns outgoing.old incoming.old weights.old)
+        (degree_columns outgoing.new incoming.new weights.new) result }
 {
     let Some(filter) = filter_of(version, view) else {
         return Err(ColumnError::NoKind);

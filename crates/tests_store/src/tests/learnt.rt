@@ -198,12 +198,30 @@ fn learns_of_first<J: Naming, R: Threads + Wait + Sync>(
     }
 }
 
+/// How many batches a long feed has.
+const LONG: u64 = 1_100;
+
+/// Whether the store confirms what a seat has seen behind a long feed, which begins behind version 2.
+fn confirms_late<J: Naming, R: Threads + Wait + Sync>(
+    rt: &R,
+    alloc: Global,
+    store: &Store<J>,
+    seat: &Seat,
+) -> bool
+    requires { seat.now.seen.book ≡ J.book }
+{
+    for _ in 0..LONG {
+        let _receipt = store.apply(rt, &PassAll, Batch::new(alloc));
+    }
+    confirms(rt, store, seat.seen(), 2 + LONG)
+}
+
 /// Whether the store confirmed what it was shown, and the session was of version 1; what was collected while it held that and once
 /// it let go; and the counts then.
 type Learnt = (bool, Collected, Collected, Stat);
 
 /// A seat learns of a batch and acquires its version, lets it go behind the next batch, and the store is collected before and after.
-/// The store confirms what the seat has seen at the opening, behind the batch and at its entry.
+/// The store confirms what the seat has seen at the opening, behind the batch, at its entry, and behind a long feed.
 fn learnt_over<J: Naming, R: Threads + Wait + Sync>(
     rt: &R,
     alloc: Global,
@@ -219,9 +237,11 @@ fn learnt_over<J: Naming, R: Threads + Wait + Sync>(
     let is_more = handed_of(rt, store, &PassAll, batch_named(alloc, "more")).is_some();
     let held = store.collect(rt);
     let is_first = has_first(alloc, &session);
-    let _seat = session.release(rt, store);
-    let is_so = at_opening & is_learnt & at_entry & is_more & is_first;
-    (is_so, held, store.collect(rt), store.stat(rt))
+    let seat = session.release(rt, store);
+    let (free, stat) = (store.collect(rt), store.stat(rt));
+    let is_late = confirms_late(rt, alloc, store, &seat);
+    let is_so = at_opening & is_learnt & at_entry & is_more & is_first & is_late;
+    (is_so, held, free, stat)
 }
 
 /// The block that the second batch replaced stays while version 1 is held.

@@ -5,6 +5,7 @@ ghost use Rattle.std.specs.Prelude.{All};
 ghost use Rattle.stream_store.specs.Opened.{IsOpeningOf};
 ghost use Rattle.stream_store.specs.Stores.{IsSeatOf};
 
+use super::beside::check_beside;
 use super::checks::check_so;
 use super::learnt::{check_learnt, check_learnt_later};
 use super::told_readers::check_told_readers;
@@ -20,6 +21,8 @@ use stream_store::{Config, Naming, Opened, Seat, Store};
 pub(super) enum Story {
     /// A seat learns of a batch, and lets what that left go behind the next one.
     Learnt,
+    /// A seat comes and goes while a batch is held and a collection waits.
+    Beside,
     /// A seat learns of a batch, where a growth may be refused.
     LearntLater,
     /// Four readers are handed the receipts of a feeder.
@@ -38,6 +41,7 @@ fn check_seat<J: Naming + Send + Sync, R: Threads + Wait + Sync + Abort + Print>
 {
     match story {
         Story::Learnt => check_learnt(rt, alloc, store, seat),
+        Story::Beside => check_beside(rt, alloc, store, seat),
         _ => check_learnt_later(rt, alloc, store, seat),
     }
 }
