@@ -251,12 +251,18 @@ class LibraryVersion:
     def out_of(self, scope: Scope, name: str) -> Arrays:
         view, source, all_ = self._view(scope), self._vertex(name), self._all
         if all_ is None:
-            return self._row(view, source)
+            found = self._row(view, source)
+            assert found is not None  # (there is no bound)
+            return found
         begin = bisect_left(all_.sources, source)  # (they stand source by source)
         near = min(begin + A_ROW, all_.size)  # (most rows end before this)
         end = bisect_left(all_.sources, source + 1, begin, near)
         places = range(begin, end if end < near else bisect_left(all_.sources, source + 1, near))
         return self._those(all_, scope, view, sorted(places, key=all_.targets.__getitem__), True)
+
+    def few_out_of(self, scope: Scope, name: str, most: int) -> Optional[Arrays]:
+        """The same where they are so many at most, else `None`: what takes longer the caller may have done by another thread."""
+        return self._row(self._view(scope), self._vertex(name), most)
 
     def into(self, scope: Scope, name: str) -> Arrays:
         view, target, all_ = self._view(scope), self._vertex(name), self.edges(WHOLE)
@@ -271,14 +277,17 @@ class LibraryVersion:
             places = all_.places(None if scope.kind is None else view.kind, scope, places)
         return self._by_kind(all_, places, is_out)
 
-    def _row(self, view: interface.View, source: int) -> Arrays:
-        """The edges that go out of a vertex, which are asked for."""
+    def _row(self, view: interface.View, source: int, most: Optional[int] = None) -> Optional[Arrays]:
+        """The edges that go out of a vertex, which are asked for; `None` where they are more than so many."""
         try:
             row = self._rows.pop()
         except IndexError:
             row = Row(A_ROW)
         code: int = self._ask(self._library.version_row, view, source, *row.places, row.count)
         if code == Code.BAD_LENGTH:
+            if most is not None and row.count.value > most:
+                self._rows.append(row)
+                return None
             row = Row(row.count.value)
             code = self._ask(self._library.version_row, view, source, *row.places, row.count)
         if code:

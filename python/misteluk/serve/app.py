@@ -5,6 +5,7 @@ import csv
 import io
 import json
 import pkgutil
+import re
 from typing import Any, Callable, Dict, Iterator, List, Mapping, Optional, Sequence, Tuple
 
 from starlette.applications import Starlette
@@ -18,19 +19,21 @@ from .board import Board, Full, Lease
 from .feeding import Feeding
 from .gate import Run
 from .keeping import Keeper
-from .flow import Pool, Streamed, as_json, first_of, within
+from .flow import Pool, Receive, Send, Streamed, as_json, first_of, within
 from .limits import Limits
 from .openapi import described
 from .page import POLICY
-from .questions import HELD, QUESTIONS, Question
+from .questions import AT_ONCE, HELD, QUESTIONS, QUICK, WHOLE, Question
 from ..engine.protocol import Denied
 from ..page.page import style
 from ..errors import Busy, NoKind, NoMemory, NoVertex, PoolEmpty, Refused, SessionClosed, StoreError
 from ..values.units import whole_text
 
 QUICK_THREADS = 4
-# How many edges are a few that are asked for by their names.
-FEW = 64
+# How many edges are a few that are asked for by their names, or that go out of a vertex.
+FEW, FEW_OUT = 64, 512
+# Where the questions of clients in Python are asked.
+ASKED = re.compile(r"/v1/sessions/([^/]+)/ask")
 # What is told of names that a version doesn't have.
 REASONS = {"NoVertex": "the version has no vertex of this name; a later one may",
            "NoKind": "the version has no edge of this kind, and never had; a later one may"}
@@ -40,6 +43,22 @@ NO_ROOM = ("PoolEmpty", "NamesFull", "KindsFull", "BatchLimit")
 
 class TooLarge(ValueError):
     """A body is longer than the server takes."""
+
+
+class Led:
+    """Leads what is asked most straight to its call, and lets Starlette look through its routes for all else."""
+
+    def __init__(self, app: Starlette, ask: Callable[[Request], Any]) -> None:
+        self._app, self._ask = app, ask
+
+    async def __call__(self, scope: Any, receive: Receive, send: Send) -> None:
+        found = ASKED.fullmatch(scope["path"]) if scope["type"] == "http" and scope["method"] == "POST" else None
+        if found is None:
+            await self._app(scope, receive, send)
+            return
+        scope["path_params"] = {"session": found[1]}
+        answer = await self._ask(Request(scope, receive, send))
+        await answer(scope, receive, send)
 
 
 class Api:
@@ -53,6 +72,10 @@ class Api:
         self.held = Pool(QUICK_THREADS, limits, "held")
         self.slow = Pool(limits.questions, limits, "whole")
         self.feed = Pool(1, limits, "rows")
+        self._named = wire.Named(self.store.ledger.terms.names)
+
+    def led(self) -> Led:
+        return Led(self.app(), self._call(self.ask))
 
     def app(self) -> Starlette:
         call = self._call
@@ -104,7 +127,7 @@ class Api:
                 if it.is_needed and not given.get(it.name):
                     if it.least is None or it.name not in given:
                         raise ValueError(f"{question.name} is asked with {it.name}: {it.about}")
-            return await self._answered(lambda: self._parts(question, given), question.media, question.is_quick)
+            return await self._answered(lambda: self._parts(question, given), question.media, question.way)
         return handle
 
     def _parts(self, question: Question, given: Dict[str, Any]) -> Iterator[bytes]:
@@ -116,8 +139,10 @@ class Api:
             with self.board.lent(version=beside) as other:
                 yield from question.answer(session, {**given, "beside_session": other})
 
-    async def _answered(self, parts: Callable[[], Iterator[bytes]], media: str, is_quick: bool) -> Any:
-        pool = self.quick if is_quick else self.slow
+    async def _answered(self, parts: Callable[[], Iterator[bytes]], media: str, way: int) -> Any:
+        if way == AT_ONCE and not self.board.is_busy:
+            return Response(b"".join(parts()), media_type=media)
+        pool = self.slow if way == WHOLE else self.quick
         flow, first, is_more = await pool.run(lambda: first_of(parts), lambda it: it[0].close())
         if not is_more:
             return Response(first, media_type=media)
@@ -162,9 +187,14 @@ class Api:
 
         def parts() -> Iterator[bytes]:
             with self.board.lent(name) as session:
-                yield from wire.asked(session.held, str(call), asked, self.store.ledger.terms.names)
-        is_quick = call == "out_of" or call == "found" and len(asked.get("ends") or ()) <= FEW
-        return await self._answered(parts, wire.COLUMNS, is_quick)
+                yield from wire.asked(session.held, str(call), asked, self._named)
+        if call == "out_of" and not self.board.is_busy:
+            with self.board.lent(name) as session:
+                few = wire.few(session.held, asked, FEW_OUT)
+            if few is not None:
+                return Response(few, media_type=wire.COLUMNS)
+        is_short = call == "found" and len(asked.get("ends") or ()) <= FEW
+        return await self._answered(parts, wire.COLUMNS, AT_ONCE if is_short else QUICK if call == "out_of" else WHOLE)
 
     # The feed.
 

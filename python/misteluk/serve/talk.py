@@ -6,7 +6,7 @@ import os
 import socket
 from collections import deque
 from http.client import HTTPConnection, HTTPException, HTTPResponse, HTTPSConnection
-from typing import Any, Deque, Dict, Mapping, NamedTuple, Optional, Tuple
+from typing import Any, Deque, Dict, List, Mapping, NamedTuple, Optional, Tuple
 from urllib.parse import quote, urlsplit
 
 from .limits import RUN
@@ -18,7 +18,32 @@ from ..values.answers import Stat
 JSON = "application/json"
 
 
-class OfUnix(HTTPConnection):
+class AtOnce(HTTPConnection):
+    """A connection that sends a request in one piece, so that the server wakes once for it."""
+
+    _pieces: Optional[List[bytes]] = None
+
+    def endheaders(self, message_body: Any = None, *, encode_chunked: bool = False) -> None:
+        self._pieces = []
+        try:
+            super().endheaders(message_body, encode_chunked=encode_chunked)
+            whole = b"".join(self._pieces)
+        finally:
+            self._pieces = None
+        self.send(whole)
+
+    def send(self, data: Any) -> None:
+        if self._pieces is None:
+            super().send(data)
+        else:
+            self._pieces.append(data)
+
+
+class AtOnceSafely(AtOnce, HTTPSConnection):
+    """The same over TLS."""
+
+
+class OfUnix(AtOnce):
     """A connection to a Unix socket."""
 
     def __init__(self, path: str, timeout: float) -> None:
@@ -75,7 +100,7 @@ class Talk:
             pass
         if self.url.startswith(UNIX):
             return OfUnix(self.url[len(UNIX):], self.timeout), False
-        kind = HTTPSConnection if self._parts.scheme == "https" else HTTPConnection
+        kind = AtOnceSafely if self._parts.scheme == "https" else AtOnce
         return kind(self._parts.hostname or "", self._parts.port, timeout=self.timeout), False
 
     def ask(self, method: str, path: str, body: Optional[Mapping[str, Any]] = None) -> Told:
