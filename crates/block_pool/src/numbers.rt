@@ -8,7 +8,6 @@ ghost use Rattle.block_reclamation.specs.declared.status.BlockStatus.TheVariants
 ghost use Rattle.block_reclamation.specs.Status.{is_free, is_in_use, is_retired, is_reclaimable, most_blocks, recycled};
 ghost use Rattle.block_pool.specs.Pools.{marked, retired, is_in_use_at, is_used_at};
 ghost use Rattle.block_pool.specs.Kept.{status_of, popped, AreNeeded, HasPins, top_of, moved, taken_off};
-ghost use Rattle.block_pool.specs.Paging.{HasRoom};
 
 use crate::pages::{Blank, Pages};
 use crate::stacks::LinkedStacks;
@@ -130,8 +129,6 @@ impl Numbers {
         self.statuses.make(number as usize)?;
         self.retired.make(number)?;
         self.free.make(place)?;
-        self.free
-            .make(self.statuses.len() - self.free_len + before)?;
         Ok(number)
     }
 
@@ -288,8 +285,6 @@ impl Numbers {
         ensures same { IsSame self.old self.new }
         ensures least { self.new.least ≡ self.old.least }
         ensures lists { self.new.retired.lists ≡ moved from to self.old.retired.lists }
-        ensures free { self.new.free_len ≡ self.old.free_len }
-        ensures places { self.new.free.rooms ≡ self.old.free.rooms }
     {
         let number = self.retired.top(from);
         self.retired.pop(from);
@@ -308,20 +303,17 @@ impl Numbers {
     {
         let mut count: u32 = 0;
         'sort: while self.retired.height(LOOSE) > 0 {
-            count += self.sort_top(copy, count as usize);
+            count += self.sort_top(copy);
         }
         count
     }
 
-    /// Frees the top of the loose numbers, as the free number of that place, or puts it under a pin that needs it, or to the
-    /// late ones; 1 where it was freed.
-    fn sort_top(&mut self, copy: &PinCopy, place: usize) -> u32
+    /// Frees the top of the loose numbers, or puts it under a pin that needs it, or to the late ones; 1 where it was freed.
+    fn sort_top(&mut self, copy: &PinCopy) -> u32
         requires kept { IsNumbers self.old }
-        requires place { place ≤ self.old.free_len }
         requires pins { HasPins copy.now self.old.pins }
         requires late { AreNeeded copy.now (statuses self.old) (stack_of self.old.retired.lists LATE) }
         requires some { 0 < length (stack_of self.old.retired.lists LOOSE) }
-        requires room { HasRoom self.old.free.rooms place }
         ensures kept { IsNumbers self.new }
         ensures pins { self.new.pins ≡ self.old.pins }
         ensures late { AreNeeded copy.now (statuses self.new) (stack_of self.new.retired.lists LATE) }
@@ -329,13 +321,11 @@ impl Numbers {
         ensures recycled { map (recycled copy.now) (statuses self.new) ≡ map (recycled copy.now) (statuses self.old) }
         ensures count { result + count_by (is_reclaimable copy.now) (statuses self.new)
             ≡ count_by (is_reclaimable copy.now) (statuses self.old) }
-        ensures free { self.new.free_len ≡ self.old.free_len + result }
-        ensures places { self.new.free.rooms ≡ self.old.free.rooms }
     {
         let number = self.retired.top(LOOSE);
         let dates = self.dates_of(number);
         if !copy.needs(dates.birth, dates.retirement) {
-            self.release_top(place);
+            self.release_top();
             return 1;
         }
         if let Some(seat) = witness(copy, dates) {
@@ -361,28 +351,21 @@ impl Numbers {
         }
     }
 
-    /// Makes the top of the loose numbers free, at a place of the free ones; the one that stood there becomes the next to be
-    /// granted. A collection puts what it frees at the first places: readers may still hold the version before, and a block
-    /// that it has would be copied before it is filled. Until the next collection most have let it go.
-    fn release_top(&mut self, place: usize)
+    /// Makes the top of the loose numbers free, and the next one to be granted: what is kept of it, and its block, were used
+    /// last, and may still be in a cache.
+    fn release_top(&mut self)
         requires kept { IsNumbers self.old }
-        requires place { place ≤ self.old.free_len }
         requires some { 0 < length (stack_of self.old.retired.lists LOOSE) }
-        requires room { HasRoom self.old.free.rooms place }
         ensures kept { IsNumbers self.new }
         ensures pins { self.new.pins ≡ self.old.pins }
         ensures lists { self.new.retired.lists ≡ taken_off LOOSE self.old.retired.lists }
         ensures statuses { statuses self.new ≡ slice_set (statuses self.old) (top_of (stack_of self.old.retired.lists LOOSE)) Free }
-        ensures free { self.new.free_len ≡ self.old.free_len + 1 }
-        ensures places { self.new.free.rooms ≡ self.old.free.rooms }
     {
         let number = self.retired.top(LOOSE);
         self.retired.pop(LOOSE);
         self.retired_len -= 1;
         self.statuses.set(number as usize, BlockStatus::Free);
-        let next = self.free.get(place);
-        self.free.set(self.free_len, next);
-        self.free.set(place, number);
+        self.free.set(self.free_len, number);
         self.free_len += 1;
     }
 }
