@@ -251,6 +251,7 @@ impl Ready {
             batch,
             taken,
             dropped_numbers,
+            dropped_again,
             dropped,
             unused,
             sources,
@@ -265,7 +266,7 @@ impl Ready {
         };
         enter(&mut kept.journal, entry);
         kept.last.follow(version, sources.as_slice());
-        move_blocks(&mut kept.pool, dropped, unused, number);
+        move_blocks(&mut kept.pool, dropped, dropped_again, unused, number);
         (Desk { parts }, Accepted { number, outcomes })
     }
 
