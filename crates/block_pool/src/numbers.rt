@@ -301,16 +301,18 @@ impl Numbers {
         ensures statuses { statuses self.new ≡ map (recycled copy.now) (statuses self.old) }
         ensures count { result ≡ count_by (is_reclaimable copy.now) (statuses self.old) }
     {
+        let floor = copy.floor();
         let mut count: u32 = 0;
         'sort: while self.retired.height(LOOSE) > 0 {
-            count += self.sort_top(copy);
+            count += self.sort_top(copy, floor);
         }
         count
     }
 
     /// Frees the top of the loose numbers, or puts it under a pin that needs it, or to the late ones; 1 where it was freed.
-    fn sort_top(&mut self, copy: &PinCopy) -> u32
+    fn sort_top(&mut self, copy: &PinCopy, floor: u64) -> u32
         requires kept { IsNumbers self.old }
+        requires floor { floor ≡ copies.floor_of copy.now }
         requires pins { HasPins copy.now self.old.pins }
         requires late { AreNeeded copy.now (statuses self.old) (stack_of self.old.retired.lists LATE) }
         requires some { 0 < length (stack_of self.old.retired.lists LOOSE) }
@@ -324,7 +326,7 @@ impl Numbers {
     {
         let number = self.retired.top(LOOSE);
         let dates = self.dates_of(number);
-        if !copy.needs(dates.birth, dates.retirement) {
+        if !is_needed(copy, floor, dates) {
             self.release_top();
             return 1;
         }
@@ -368,6 +370,15 @@ impl Numbers {
         self.free.set(self.free_len, number);
         self.free_len += 1;
     }
+}
+
+/// Whether a copy with this floor needs a block of these dates. It needs none that was retired at the floor or before: mostly that
+/// tells it of all, and no pin is looked at.
+fn is_needed(copy: &PinCopy, floor: u64, dates: Dates) -> bool
+    requires { floor ≡ copies.floor_of copy.now }
+    ensures { result ≡ copies.needs copy.now dates.birth dates.retirement }
+{
+    floor < dates.retirement && copy.needs(dates.birth, dates.retirement)
 }
 
 /// The first seat whose settled pin needs a block of these dates.

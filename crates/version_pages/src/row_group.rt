@@ -91,5 +91,8 @@ fn put_in_page(pages: &mut [Arc<Page>], place: usize, row: Row) -> Result<(), Al
     ensures rows { OnOk result (in_pages pages.new ≡ slice_set (in_pages pages.old) place row) }
     ensures pages { ArePages pages.new }
 {
+    if let Some(page) = Arc::get_mut(&mut pages[place / PAGE]) {
+        return page.put(place % PAGE, row);
+    }
     Arc::make_mut(&mut pages[place / PAGE])?.put(place % PAGE, row)
 }

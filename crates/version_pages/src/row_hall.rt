@@ -120,5 +120,8 @@ fn put_in_group(groups: &mut Vec<Arc<Group>>, place: usize, row: Row) -> Result<
     ensures groups { AreGroups groups.new.items }
     ensures few { length groups.new.items ≤ 64 }
 {
+    if let Some(group) = Arc::get_mut(&mut groups[place / GROUP]) {
+        return group.put(place % GROUP, row);
+    }
     Arc::make_mut(&mut groups[place / GROUP])?.put(place % GROUP, row)
 }

@@ -239,6 +239,9 @@ fn put_in_part(parts: &mut [Arc<Part>], place: usize, row: Row) -> Result<u64, A
     ensures rows { OnOk result (in_parts parts.new ≡ slice_set (in_parts parts.old) place row) }
     ensures parts { AreParts parts.new }
 {
+    if let Some(part) = Arc::get_mut(&mut parts[place / PART]) {
+        return Ok(part.set(place % PART, row));
+    }
     let before = Arc::make_mut(&mut parts[place / PART])?.set(place % PART, row);
     Ok(before)
 }

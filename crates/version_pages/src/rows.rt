@@ -238,5 +238,8 @@ fn put_row(
     ensures few { length halls.new.items ≤ 2 ^ 16 }
 {
     add_halls(alloc, halls, source / HALL + 1)?;
+    if let Some(hall) = Arc::get_mut(&mut halls[source / HALL]) {
+        return hall.put(alloc, source % HALL, row);
+    }
     Arc::make_mut(&mut halls[source / HALL])?.put(alloc, source % HALL, row)
 }
