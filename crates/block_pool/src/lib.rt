@@ -8,6 +8,7 @@
 //! grant, with that of its page: only `Pool::new` and `Pool::grant` take memory.
 #![tactic(auto)]
 
+mod dates;
 mod numbers;
 mod pages;
 mod pool;

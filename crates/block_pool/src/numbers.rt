@@ -1,8 +1,7 @@
 //! Which numbers are free, in use or retired.
 
 ghost use Rattle.std.specs.Prelude.{◌≡◌, ◌≢◌, ◌<◌, ◌≤◌, ℕ, length, map, replicate, count_by, slice_index, slice_set, ◌+◌, ◌-◌, IfOk};
-ghost use Rattle.std.specs.Prelude.{true, IfSome, OnOk, slice_index_or, None, []};
-ghost use Rattle.block_reclamation.specs.Copies as copies;
+ghost use Rattle.std.specs.Prelude.{true, OnOk, []};
 ghost use Rattle.block_pool.specs.Chains.{stack_of};
 ghost use Rattle.block_reclamation.specs.declared.status.BlockStatus.TheVariants.{Free, Granted, Used, Retired};
 ghost use Rattle.block_reclamation.specs.Status.{is_free, is_in_use, is_retired, is_reclaimable, most_blocks, recycled};
@@ -10,17 +9,11 @@ ghost use Rattle.block_pool.specs.Pools.{marked, retired, is_in_use_at, is_used_
 ghost use Rattle.block_pool.specs.Kept.{status_of, popped, AreNeeded, HasPins, top_of, moved, taken_off};
 ghost use Rattle.block_pool.specs.Paging.{HasRoom};
 
+use crate::dates::{Dates, witness};
 use crate::pages::{Blank, Pages};
 use crate::stacks::LinkedStacks;
 use block_reclamation::{BlockStatus, PinCopy, SEATS};
 use std::alloc::{AllocError, Global};
-
-/// When a retired block was first listed, and when it was left out.
-#[derive(Clone, Copy)]
-struct Dates {
-    birth: u64,
-    retirement: u64,
-}
 
 /// What a used block is once it is retired.
 fn after_retiring(status: BlockStatus, version: u64) -> BlockStatus
@@ -384,28 +377,5 @@ impl Numbers {
         self.free.set(self.free_len, next);
         self.free.set(place, number);
         self.free_len += 1;
-    }
-}
-
-/// The first seat whose settled pin needs a block of these dates.
-fn witness(copy: &PinCopy, dates: Dates) -> Option<usize>
-    ensures { IfSome result (λ seat. (seat < SEATS)
-        × (copies.is_between dates.birth dates.retirement (slice_index_or copy.now.settled seat None) ≡ true)) }
-{
-    for seat in 0..SEATS {
-        if is_between(copy.settled[seat], dates) {
-            return Some(seat);
-        }
-    }
-    None
-}
-
-/// Whether a settled pin holds a version that listed a block of these dates.
-fn is_between(pin: Option<u64>, dates: Dates) -> bool
-    ensures { result ≡ copies.is_between dates.birth dates.retirement pin }
-{
-    match pin {
-        Some(pin) => dates.birth <= pin && pin < dates.retirement,
-        None => false,
     }
 }
