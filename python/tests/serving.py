@@ -10,14 +10,12 @@ import sys
 import unittest
 from typing import Any, Dict, NamedTuple, Optional
 
-from support import ENGINE, HERE, Case, optional
+from support import ENGINE, HERE, Case
 
 import misteluk
 from misteluk.serve.limits import Limits
 from misteluk.serve.server import Server
 
-HAS_PACKAGES = all(map(optional, ("starlette", "uvicorn")))
-NO_PACKAGES = "starlette or uvicorn is not there"
 OF_LIBRARY = "of the library alone"
 FEED = (("add", "transfer", "ana", "funnel", 980, 1), ("add", "transfer", "ben", "funnel", 950, 1),
         ("add", "transfer", "funnel", "offshore", 3850, 3), ("add", "owes", "boss", "ana", 2100, 1))
@@ -46,7 +44,6 @@ class Clock:
 
 
 @unittest.skipUnless(ENGINE == "library", OF_LIBRARY)
-@unittest.skipUnless(HAS_PACKAGES, NO_PACKAGES)
 class ServeCase(Case):
     """A case with a server."""
 

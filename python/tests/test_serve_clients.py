@@ -150,7 +150,6 @@ class Doors(ServeCase):
         for path in ("/", "/v1/stat", "/v1/edges", "/v1/nothing", "/live.js"):
             self.assertEqual(self.ask(path).headers["x-content-type-options"], "nosniff")
         self.assertIn("default-src 'none'", self.ask("/").headers["content-security-policy"])
-        self.assertNotIn("uvicorn", str(self.ask("/").headers))
 
 
 class Slow:
@@ -259,17 +258,6 @@ class Commands(ServeCase):
             with redirect_stderr(said):
                 self.assertEqual(main(["serve", *words]), 1, words)
             self.assertIn(told, said.getvalue())
-
-
-class Packages(Case):
-    @unittest.skipUnless(ENGINE == "library", OF_LIBRARY)
-    def test_without_them(self):
-        """What is missing is asked for by its name, and a socket is left free."""
-        path = self.room / "socket"
-        with misteluk.Store() as store, mock.patch.dict(sys.modules, {"uvicorn": None}):
-            self.assertRaisesRegex(misteluk.Missing, "a server needs uvicorn: apt-get install python3-uvicorn", Server, store,
-                                   f"unix:{path}")
-        self.assertFalse(path.exists())
 
 
 if __name__ == "__main__":

@@ -218,7 +218,7 @@ class Lost(ServeCase):
             reader.sendall(b"GET /v1/edges HTTP/1.1\r\nHost: localhost\r\n\r\n")
             as_soon_as(lambda: self.server.board._last.asked)
             as_soon_as(lambda: not self.server.board._last.asked)
-            as_soon_as(lambda: not self.server._runner.server_state.connections)
+            as_soon_as(lambda: not self.server._connections)
             told_of.assert_not_called()
 
 

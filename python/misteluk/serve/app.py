@@ -5,29 +5,27 @@ import csv
 import io
 import json
 import pkgutil
-from typing import Any, Callable, Dict, Iterator, List, Mapping, Optional, Sequence, Tuple
-
-from starlette.applications import Starlette
-from starlette.exceptions import HTTPException
-from starlette.requests import ClientDisconnect, Request
-from starlette.responses import Response
-from starlette.routing import Route
+from typing import Any, Awaitable, Callable, Dict, Iterator, List, Mapping, Optional, Sequence, Tuple
+from urllib.parse import parse_qsl
 
 from . import wire
 from .board import Board, Full, Lease
+from .connection import Answered
 from .feeding import Feeding
-from .gate import Run
+from .gate import Gate
 from .keeping import Keeper
-from .flow import Pool, Streamed, as_json, first_of, within
+from .flow import Flow, Pool
+from .http import Request, Response, as_json
 from .limits import Limits
 from .openapi import described
 from .page import POLICY
-from .questions import HELD, QUESTIONS, Question
+from .questions import AT_ONCE, HELD, QUESTIONS, QUICK, WHOLE, Question
 from ..engine.protocol import Denied
 from ..page.page import style
 from ..errors import Busy, NoKind, NoMemory, NoVertex, PoolEmpty, Refused, SessionClosed, StoreError
 from ..values.units import whole_text
 
+Handle = Callable[..., Answered]
 QUICK_THREADS = 4
 # How many edges are a few that are asked for by their names.
 FEW = 64
@@ -38,65 +36,65 @@ REASONS = {"NoVertex": "the version has no vertex of this name; a later one may"
 NO_ROOM = ("PoolEmpty", "NamesFull", "KindsFull", "BatchLimit")
 
 
-class TooLarge(ValueError):
-    """A body is longer than the server takes."""
+# What stands for a name in the address of a call.
+NAMED = {"sessions": "{session}", "feeder": "{feeder}"}
+FAULTS = (StoreError, Denied, ValueError, TypeError)
 
 
 class Api:
     """The calls of a server over a board and a feed."""
 
-    def __init__(self, board: Board, feeding: Feeding, limits: Limits, run: Run, keeper: Optional[Keeper]) -> None:
-        self.board, self.feeding, self.limits, self._run, self._keeper = board, feeding, limits, run, keeper
-        self.store = board.store
+    def __init__(self, board: Board, feeding: Feeding, limits: Limits, gate: Gate, keeper: Optional[Keeper]) -> None:
+        self.board, self.feeding, self.limits, self._keeper = board, feeding, limits, keeper
+        self.store, self._run, self.headers, self.refused = board.store, gate.run, gate.run.headers, gate.refused
         self.quick = Pool(QUICK_THREADS, limits, "quick")
         # (to let a version go waits for a batch that is being applied)
         self.held = Pool(QUICK_THREADS, limits, "held")
         self.slow = Pool(limits.questions, limits, "whole")
         self.feed = Pool(1, limits, "rows")
+        self.routes = self._routes()
 
-    def app(self) -> Starlette:
-        call = self._call
-        files = [Route(f"/{name}", _file(name or "live.html", media), methods=["GET"]) for name, media in
-                 (("", "text/html; charset=utf-8"), ("live.css", "text/css"), ("live.js", "text/javascript"))]
-        asked = [Route(f"/v1/{it.name}", call(self._asking(it)), methods=["GET"]) for it in QUESTIONS]
-        held = [Route("/v1/sessions/{session}/ask", call(self.ask), methods=["POST"]),
-                Route("/v1/sessions", call(self.hold), methods=["POST"]),
-                Route("/v1/sessions/{session}", call(self.keep), methods=["PUT"]),
-                Route("/v1/sessions/{session}", call(self.let_go), methods=["DELETE"])]
-        fed = [Route("/v1/rows", call(self.rows), methods=["POST"]), Route("/v1/feeder", call(self.claim), methods=["POST"]),
-               Route("/v1/feeder/{feeder}", call(self.leave), methods=["DELETE"]),
-               Route("/v1/feeder/{feeder}/batches/{number:int}", call(self.batch), methods=["POST"]),
-               Route("/v1/feeder/{feeder}/batches/{number:int}", call(self.landed), methods=["DELETE"])]
-        told = [Route("/v1/stat", call(self.stat), methods=["GET"]),
-                Route("/openapi.json", call(self.description), methods=["GET"])]
-        # (routes are looked through in order: those that are asked most come first)
-        app = Starlette(routes=[*held, *asked, *told, *fed, *files], exception_handlers={HTTPException: _no_route})
-        app.router.redirect_slashes = False
-        return app
+    def _routes(self) -> Dict[str, Dict[str, Handle]]:
+        """Each call by its address and method."""
+        files = {f"/{name}": {"GET": _file(name or "live.html", media)} for name, media in
+                 (("", "text/html; charset=utf-8"), ("live.css", "text/css"), ("live.js", "text/javascript"))}
+        asked: Dict[str, Dict[str, Handle]] = {f"/v1/{it.name}": {"GET": self._asking(it)} for it in QUESTIONS}
+        return {**files, **asked,
+                "/v1/sessions": {"POST": self.hold},
+                "/v1/sessions/{session}": {"PUT": self.keep, "DELETE": self.let_go},
+                "/v1/sessions/{session}/ask": {"POST": self.ask},
+                "/v1/rows": {"POST": self.rows},
+                "/v1/feeder": {"POST": self.claim},
+                "/v1/feeder/{feeder}": {"DELETE": self.leave},
+                "/v1/feeder/{feeder}/batches/{number}": {"POST": self.batch, "DELETE": self.landed},
+                "/v1/stat": {"GET": self.stat},
+                "/openapi.json": {"GET": lambda _: as_json(described())}}
+
+    def answer(self, request: Request) -> Answered:
+        """What a request is answered; its faults are told as JSON."""
+        path, names = _template(request.path)
+        methods = self.routes.get(path, {})
+        handle = methods.get("GET" if request.method == "HEAD" else request.method)
+        if handle is None:
+            return _no_call(methods)
+        try:
+            found = handle(request, *names)
+        except FAULTS as fault:
+            return told_fault(fault)
+        return found if isinstance(found, Response) else _told(found)
 
     def close(self) -> None:
         for it in (self.quick, self.held, self.slow, self.feed):
             it.close()
-
-    def _call(self, handle: Callable[[Request], Any]) -> Callable[[Request], Any]:
-        """A call whose faults are told as JSON."""
-        async def call(request: Request) -> Any:
-            try:
-                return await handle(request)
-            except (StoreError, Denied, ValueError, TypeError) as fault:
-                return told_fault(fault)
-            except ClientDisconnect:  # (nobody reads it)
-                return Response(status_code=400)
-        return call
 
     # What is asked.
 
     def _asking(self, question: Question) -> Callable[[Request], Any]:
         parameters = {it.name: it for it in (*question.parameters, *HELD)}
 
-        async def handle(request: Request) -> Any:
+        def handle(request: Request) -> Answered:
             given: Dict[str, Any] = {}
-            for name, text in request.query_params.multi_items():
+            for name, text in parse_qsl(request.query, keep_blank_values=True):
                 if name not in parameters or name in given:
                     raise ValueError(f"{question.name} takes each of these once: {', '.join(parameters)}")
                 given[name] = parameters[name].read(text)
@@ -104,7 +102,7 @@ class Api:
                 if it.is_needed and not given.get(it.name):
                     if it.least is None or it.name not in given:
                         raise ValueError(f"{question.name} is asked with {it.name}: {it.about}")
-            return await self._answered(lambda: self._parts(question, given), question.media, question.is_quick)
+            return self._answered(lambda: self._parts(question, given), question.media, question.way)
         return handle
 
     def _parts(self, question: Question, given: Dict[str, Any]) -> Iterator[bytes]:
@@ -116,12 +114,15 @@ class Api:
             with self.board.lent(version=beside) as other:
                 yield from question.answer(session, {**given, "beside_session": other})
 
-    async def _answered(self, parts: Callable[[], Iterator[bytes]], media: str, is_quick: bool) -> Any:
-        pool = self.quick if is_quick else self.slow
-        flow, first, is_more = await pool.run(lambda: first_of(parts), lambda it: it[0].close())
-        if not is_more:
-            return Response(first, media_type=media)
-        return Streamed(flow, first, media, self.slow, self.limits)
+    def _answered(self, parts: Callable[[], Iterator[bytes]], media: str, way: int) -> Answered:
+        if way == AT_ONCE and not self.board.is_busy:
+            return Response(b"".join(parts()), media=media)
+        return self._in_turn(parts, media, self.slow if way == WHOLE else self.quick)
+
+    async def _in_turn(self, parts: Callable[[], Iterator[bytes]], media: str, pool: Pool) -> Response:
+        """An answer of one of the threads, and the parts behind the first one as its reader takes them."""
+        flow, first, is_more = await pool.run(lambda: Flow(parts(), self.slow).begun(), lambda it: it[0].close())
+        return Response(first, media=media, flow=flow if is_more else None)
 
     async def stat(self, request: Request) -> Response:
         """What the store holds; no question waits for the feed by it."""
@@ -137,105 +138,100 @@ class Api:
                           "rounding": units.rounding}}
         return as_json(told)
 
-    async def description(self, request: Request) -> Response:
-        return as_json(described())
-
     # Sessions.
 
     async def hold(self, request: Request) -> Response:
-        version = HELD[1].read(request.query_params["version"]) if "version" in request.query_params else None
+        asked = dict(parse_qsl(request.query, keep_blank_values=True))
+        version = HELD[1].read(asked["version"]) if "version" in asked else None
         lease = await self.held.run(lambda: self.board.lease(version), lambda it: self.board.let_go(it.name))
         return as_json(_lease(lease, self.limits), 201)
 
-    async def keep(self, request: Request) -> Response:
-        lease = await self.held.run(lambda: self.board.keep(request.path_params["session"]))
-        return as_json(_lease(lease, self.limits))
+    async def keep(self, request: Request, name: str) -> Response:
+        return as_json(_lease(await self.held.run(lambda: self.board.keep(name)), self.limits))
 
-    async def let_go(self, request: Request) -> Response:
-        await self.held.run(lambda: self.board.let_go(request.path_params["session"]))
-        return Response(status_code=204)
+    async def let_go(self, request: Request, name: str) -> Response:
+        await self.held.run(lambda: self.board.let_go(name))
+        return Response(status=204)
 
-    async def ask(self, request: Request) -> Any:
+    def ask(self, request: Request, name: str) -> Answered:
         """A question of a client in Python, in the engine's terms."""
-        asked = await self._object(request)
-        name, call = request.path_params["session"], asked.get("call")
+        asked = _object(request.body)
+        call = asked.get("call")
 
         def parts() -> Iterator[bytes]:
             with self.board.lent(name) as session:
                 yield from wire.asked(session.held, str(call), asked, self.store.ledger.terms.names)
-        is_quick = call == "out_of" or call == "found" and len(asked.get("ends") or ()) <= FEW
-        return await self._answered(parts, wire.COLUMNS, is_quick)
+        is_short = call == "found" and len(asked.get("ends") or ()) <= FEW
+        return self._answered(parts, wire.COLUMNS, AT_ONCE if is_short else QUICK if call == "out_of" else WHOLE)
 
     # The feed.
 
     async def rows(self, request: Request) -> Response:
         """Rows of a client, in the user's terms."""
-        name = request.query_params.get("feeder")
-        body, kind = await self._body(request), request.headers.get("content-type", "").partition(";")[0].strip()
+        name = dict(parse_qsl(request.query, keep_blank_values=True)).get("feeder")
+        kind = request.headers.get("content-type", "").partition(";")[0].strip()
         if kind not in ("text/csv", "application/json"):
             raise ValueError("rows are text/csv or application/json, as their Content-Type says")
-        found = _rows_of_csv(body) if kind == "text/csv" else _rows_of_json(_loaded(body))
+        found = _rows_of_csv(request.body) if kind == "text/csv" else _rows_of_json(_loaded(request.body))
         return as_json((await self.feed.run(lambda: self.feeding.rows(found, name)))._asdict())
 
     async def claim(self, request: Request) -> Response:
         feeder = await self.feed.run(self.feeding.claim, lambda it: self.feeding.let_go(it.name))
         return as_json({"feeder": feeder.name, "idle": self.limits.idle}, 201)
 
-    async def leave(self, request: Request) -> Response:
-        await self.feed.run(lambda: self.feeding.let_go(request.path_params["feeder"]))
-        return Response(status_code=204)
+    async def leave(self, request: Request, feeder: str) -> Response:
+        await self.feed.run(lambda: self.feeding.let_go(feeder))
+        return Response(status=204)
 
-    async def batch(self, request: Request) -> Response:
+    async def batch(self, request: Request, feeder: str, number: str) -> Response:
         """A batch of a client in Python, in the engine's terms."""
-        it, given = request.path_params, await self._object(request)
+        given = _object(request.body)
         text, texts, collect = given.get("operations"), given.get("texts", {}), bool(given.get("collect", True))
         if not isinstance(text, str) or not isinstance(texts, dict) or not all(isinstance(name, str) for name in texts.values()):
             raise ValueError("a batch has operations, a text, and texts by their ids")
         records: str = text
-        receipt = await self.feed.run(lambda: self.feeding.batch(it["feeder"], it["number"], records, texts, collect))
+        receipt = await self.feed.run(lambda: self.feeding.batch(feeder, int(number), records, texts, collect))
         return as_json(receipt._asdict())
 
-    async def landed(self, request: Request) -> Response:
-        it = request.path_params
-        receipt = await self.feed.run(lambda: self.feeding.landed(it["feeder"], it["number"]))
+    async def landed(self, request: Request, feeder: str, number: str) -> Response:
+        receipt = await self.feed.run(lambda: self.feeding.landed(feeder, int(number)))
         return as_json({"receipt": None if receipt is None else receipt._asdict()})
 
-    # Bodies.
 
-    async def _body(self, request: Request) -> bytes:
-        """The body; no more of it is read than may be."""
-        found = bytearray()
-        async with within(self.limits.time, "the request's body doesn't come"):
-            async for part in request.stream():
-                found.extend(part)
-                if len(found) > self.limits.body:
-                    raise TooLarge(f"a body has at most {self.limits.body:,} bytes")
-        return bytes(found)
+def _template(path: str) -> Tuple[str, List[str]]:
+    """The address of a call as it is described, and the names that stand in it."""
+    parts = path.split("/")
+    if len(parts) < 4 or parts[2] not in NAMED:
+        return path, []
+    names, parts[3] = [parts[3]], NAMED[parts[2]]
+    if len(parts) > 5 and parts[5].isascii() and parts[5].isdigit():
+        names.append(parts[5])
+        parts[5] = "{number}"
+    return "/".join(parts), names
 
-    async def _object(self, request: Request) -> Mapping[str, Any]:
-        found = _loaded(await self._body(request))
-        if not isinstance(found, dict):
-            raise ValueError("the body is an object of JSON")
-        return found
+
+async def _told(found: Awaitable[Response]) -> Response:
+    try:
+        return await found
+    except FAULTS as fault:
+        return told_fault(fault)
 
 
 def _lease(lease: Lease, limits: Limits) -> Dict[str, Any]:
     return {"session": lease.name, "version": lease.shared.version, "vertices": lease.shared.session.names, "idle": limits.idle}
 
 
-def _file(name: str, media: str) -> Callable[[Request], Any]:
+def _file(name: str, media: str) -> Handle:
     """A file of the package, which is the page or a part of it."""
     data = (style().encode("utf-8") if media == "text/css" else b"") + (pkgutil.get_data(__package__ or "", name) or b"")
-
-    async def handle(request: Request) -> Response:
-        return Response(data, headers={"content-security-policy": POLICY}, media_type=media)
-    return handle
+    response = Response(data, media=media, headers=(("content-security-policy", POLICY),))
+    return lambda _: response
 
 
-def _no_route(request: Request, fault: Exception) -> Response:
-    status = getattr(fault, "status_code", 404)
-    reason = "there is no such call: /openapi.json tells which there are" if status == 404 else "this call has another method"
-    return as_json(wire.fault("NoCall", reason), status, getattr(fault, "headers", None))
+def _no_call(methods: Mapping[str, Handle]) -> Response:
+    if not methods:
+        return as_json(wire.fault("NoCall", "there is no such call: /openapi.json tells which there are"), 404)
+    return as_json(wire.fault("NoCall", "this call has another method"), 405, ("allow", ", ".join(methods)))
 
 
 # Rows.
@@ -245,6 +241,13 @@ def _loaded(body: bytes) -> Any:
         return json.loads(body)
     except RecursionError:
         raise ValueError("the body is no JSON that has an end") from None
+
+
+def _object(body: bytes) -> Mapping[str, Any]:
+    found = _loaded(body)
+    if not isinstance(found, dict):
+        raise ValueError("the body is an object of JSON")
+    return found
 
 
 def _rows_of_csv(body: bytes) -> "List[List[str]]":
@@ -273,9 +276,7 @@ def _field(at: int, value: Any) -> str:
 def told_fault(fault: Exception) -> Response:
     """A fault as a client is told it."""
     if isinstance(fault, Full):
-        return as_json(wire.fault(fault.word, str(fault), fault.after), 503, {"retry-after": str(fault.after)})
-    if isinstance(fault, TooLarge):
-        return as_json(wire.fault("TooLarge", str(fault)), 413, {"connection": "close"})
+        return as_json(wire.fault(fault.word, str(fault), fault.after), 503, ("retry-after", str(fault.after)))
     status, word = _status(fault)
     more: Dict[str, Any] = {"denied": True} if isinstance(fault, Denied) else {}
     if isinstance(fault, Denied) and fault.stat is not None:

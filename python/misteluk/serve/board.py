@@ -189,6 +189,11 @@ class Board:
 
     # What is asked.
 
+    @property
+    def is_busy(self) -> bool:
+        """Whether a question would wait for what somebody else does here."""
+        return self._lock.locked()
+
     @contextmanager
     def lent(self, name: Optional[str] = None, version: Optional[int] = None) -> "Iterator[Session[Any, Any]]":
         """The session of a client, or that of a version, or of the last one, for as long as a question takes. What it lets go

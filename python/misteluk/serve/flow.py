@@ -1,30 +1,18 @@
-"""Answers on their way: made in worker threads, part by part, and no faster than their reader takes them."""
+"""Answers that take longer: made in worker threads, part by part."""
 from __future__ import annotations
 
 import asyncio
-import json
 import threading
 from concurrent.futures import Future, ThreadPoolExecutor
 from contextlib import asynccontextmanager
-from typing import Any, AsyncIterator, Awaitable, Callable, Dict, Iterator, List, MutableMapping, Optional, Tuple, TypeVar
+from typing import Any, AsyncIterator, Callable, Iterator, List, Optional, Tuple, TypeVar
 
-from starlette.responses import Response
-
-from . import wire
 from .board import Full
 from .limits import BYTES_AT_ONCE, Limits
 
 R = TypeVar("R")
-Message = MutableMapping[str, Any]
-Send = Callable[[Message], Awaitable[None]]
-Receive = Callable[[], Awaitable[Message]]
 # How many questions may wait for each that is answered.
 WAITING = 100
-
-
-def as_json(value: Dict[str, Any], status: int = 200, headers: Optional[Dict[str, str]] = None) -> Response:
-    """A short answer."""
-    return Response(json.dumps(value).encode("ascii") + b"\n", status, headers, wire.JSON)
 
 
 @asynccontextmanager
@@ -77,13 +65,16 @@ class Pool:
 
 
 class Flow:
-    """An answer that is made part by part, by one thread at a time."""
+    """An answer that is made part by part, by one thread at a time; those behind the first part by a pool."""
 
-    def __init__(self, parts: Iterator[bytes]) -> None:
-        self._parts, self._lock = parts, threading.Lock()
+    def __init__(self, parts: Iterator[bytes], pool: Pool) -> None:
+        self._parts, self._pool, self._lock = parts, pool, threading.Lock()
+
+    async def next(self) -> Tuple[bytes, bool]:
+        """The next bytes, and whether there are more."""
+        return await self._pool.run(self.more)
 
     def more(self) -> Tuple[bytes, bool]:
-        """The next bytes, and whether there are more."""
         with self._lock:
             found: List[bytes] = []
             size = 0
@@ -101,43 +92,11 @@ class Flow:
             if close is not None:
                 close()
 
-
-class Streamed:
-    """A response that is written as its reader takes it. Nothing is made for one that went; and one that takes nothing for too
-    long is left, so that it doesn't keep the version that it asked."""
-
-    def __init__(self, flow: Flow, first: bytes, media: str, pool: Pool, limits: Limits) -> None:
-        self._flow, self._first, self._pool, self._limits = flow, first, pool, limits
-        self._headers = [(b"content-type", media.encode("ascii"))]
-
-    async def __call__(self, scope: Any, receive: Receive, send: Send) -> None:
-        gone = asyncio.ensure_future(self._gone(receive))
+    def begun(self) -> "Tuple[Flow, bytes, bool]":
+        """Itself with its first bytes, and whether there are more. What goes wrong before these is raised."""
         try:
-            await send({"type": "http.response.start", "status": 200, "headers": self._headers})
-            part, is_more = self._first, True
-            while not gone.done():
-                async with within(self._limits.idle, "the answer isn't read"):
-                    await send({"type": "http.response.body", "body": part, "more_body": is_more})
-                if not is_more:
-                    break
-                part, is_more = await self._pool.run(self._flow.more)
-        finally:
-            gone.cancel()
-            await asyncio.get_running_loop().run_in_executor(None, self._flow.close)
-
-    @staticmethod
-    async def _gone(receive: Receive) -> None:
-        """Ends when the reader goes."""
-        while (await receive())["type"] != "http.disconnect":
-            pass
-
-
-def first_of(parts: Callable[[], Iterator[bytes]]) -> "Tuple[Flow, bytes, bool]":
-    """An answer with its first bytes, and whether there are more. What goes wrong before these is raised."""
-    flow = Flow(parts())
-    try:
-        first, is_more = flow.more()
-    except BaseException:
-        flow.close()
-        raise
-    return flow, first, is_more
+            first, is_more = self.more()
+        except BaseException:
+            self.close()
+            raise
+        return self, first, is_more

@@ -2,23 +2,17 @@
 from __future__ import annotations
 
 import hmac
-import sys
-import traceback
-from typing import Any, Awaitable, Callable, Dict, NamedTuple, Optional
+from typing import Mapping, NamedTuple, Optional
 from urllib.parse import urlsplit
 
-from starlette.responses import Response
-
 from . import wire
-from .board import Full
-from .flow import Message, Receive, Send, as_json
+from .http import Request, Response, as_json
 from .limits import LOOPBACK, RUN
 
-App = Callable[[Any, Receive, Send], Awaitable[None]]
 # What has no data, so that a browser can ask for the token by it.
 OPEN = ("/", "/live.js", "/live.css", "/openapi.json")
-HEADERS = [(b"x-content-type-options", b"nosniff"), (b"cache-control", b"no-store"), (b"referrer-policy", b"no-referrer"),
-           (b"cross-origin-resource-policy", b"same-origin")]
+HEADERS = (("x-content-type-options", "nosniff"), ("cache-control", "no-store"), ("referrer-policy", "no-referrer"),
+           ("cross-origin-resource-policy", "same-origin"))
 
 
 class Run(NamedTuple):
@@ -27,74 +21,52 @@ class Run(NamedTuple):
     name: str
     began: str = "without an edge"
 
+    @property
+    def headers(self) -> bytes:
+        """The headers of each response."""
+        return "".join(f"{name}: {value}\r\n" for name, value in (*HEADERS, (RUN, self.name))).encode("ascii")
+
 
 class Gate:
-    """Lets requests in to the app that may ask. Without a token a request must be for this machine by its `Host`, so that no
-    name of another one leads here, unless it comes by a Unix socket (`is_local`). None is let in from a page of another
-    origin.
+    """Lets requests in that may ask. Without a token a request must be for this machine by its `Host`, so that no name of another
+    one leads here, unless it comes by a Unix socket (`is_local`). None is let in from a page of another origin.
 
     Each response has the name of the server's run. A client that says another one knew the server before this one: it is told
     so, and nothing is done for it."""
 
-    def __init__(self, app: App, token: Optional[str], is_local: bool, run: Run) -> None:
-        self._app, self._token, self._is_local, self._run = app, token, is_local, run
-        self._headers = [*HEADERS, (RUN.encode("ascii"), run.name.encode("ascii"))]
+    def __init__(self, token: Optional[str], is_local: bool, run: Run) -> None:
+        self._token, self._is_local, self.run = token, is_local, run
 
-    async def __call__(self, scope: Any, receive: Receive, send: Send) -> None:
-        if scope["type"] == "websocket":
-            await send({"type": "websocket.close", "code": 1003})
-            return
-        if scope["type"] != "http":
-            await self._app(scope, receive, send)
-            return
-        has_begun = False
-
-        async def send_on(message: Message) -> None:
-            nonlocal has_begun
-            if message["type"] == "http.response.start":
-                has_begun = True
-                message = {**message, "headers": [*message.get("headers", []), *self._headers]}
-            await send(message)
-        refused = self._refused(scope)
-        if refused is not None:
-            await refused(scope, receive, send_on)
-            return
-        try:
-            await self._app(scope, receive, send_on)
-        except Exception as fault:  # (a client is told nothing of it)
-            if has_begun and isinstance(fault, Full):  # (one that doesn't take its answer is no fault of the server's)
-                _cut(send)
-                return
-            traceback.print_exc(file=sys.stderr)
-            if has_begun:
-                raise
-            told = wire.fault("Fault", "the server has a fault, and its log tells which")
-            await as_json(told, 500)(scope, receive, send_on)
-
-    def _refused(self, scope: Any) -> Optional[Response]:
+    def refused(self, head: Request) -> Optional[Response]:
         """What is told where a request isn't let in."""
-        headers = {name: value.decode("latin-1") for name, value in scope["headers"]}
-        refused, known = self._stranger(scope["path"], headers), headers.get(RUN.encode("ascii"))
-        if refused is None and known and known != self._run.name:
-            return as_json(wire.fault("SessionClosed", f"this server began anew, {self._run.began}"), 410)
+        refused, known = self._stranger(head.path, head.headers), head.headers.get(RUN)
+        if refused is None and known and known != self.run.name:
+            return as_json(wire.fault("SessionClosed", f"this server began anew, {self.run.began}"), 410)
         return refused
 
-    def _stranger(self, path: str, headers: Dict[bytes, str]) -> Optional[Response]:
+    def _stranger(self, path: str, headers: Mapping[str, str]) -> Optional[Response]:
         """The same where the client isn't one that may ask."""
-        host, origin = headers.get(b"host", ""), headers.get(b"origin")
-        is_elsewhere = headers.get(b"sec-fetch-site") in ("cross-site", "same-site") and path not in OPEN
-        if is_elsewhere or origin and urlsplit(origin).netloc != host:
+        host, origin = headers.get("host", ""), headers.get("origin")
+        is_elsewhere = headers.get("sec-fetch-site") in ("cross-site", "same-site") and path not in OPEN
+        if is_elsewhere or origin and _host_of(origin) != host:
             return as_json(wire.fault("NotAllowed", "a page of another origin can't ask this server"), 403)
         if self._token is None:
             if not self._is_local and _name_of(host) not in LOOPBACK:
                 return as_json(wire.fault("NotAllowed", "this server is for its own machine, as localhost"), 403)
             return None
-        way, _, given = headers.get(b"authorization", "").partition(" ")
+        way, _, given = headers.get("authorization", "").partition(" ")
         is_right = hmac.compare_digest(given.strip().encode("utf-8"), self._token.encode("utf-8"))
         if path in OPEN or way.casefold() == "bearer" and is_right:
             return None
         reason = "the header `Authorization: Bearer TOKEN` has to have this server's token"
-        return as_json(wire.fault("NotAllowed", reason), 401, {"www-authenticate": "Bearer"})
+        return as_json(wire.fault("NotAllowed", reason), 401, ("www-authenticate", "Bearer"))
+
+
+def _host_of(origin: str) -> Optional[str]:
+    try:
+        return urlsplit(origin).netloc
+    except ValueError:
+        return None
 
 
 def _name_of(host: str) -> str:
@@ -103,13 +75,3 @@ def _name_of(host: str) -> str:
         return urlsplit(f"//{host}").hostname or ""
     except ValueError:
         return ""
-
-
-def _cut(send: Send) -> None:
-    """Ends the connection at once. (A `close` of it waits until its reader has taken what is written, which may be never; and
-    ASGI has no call for this, so it is asked of what uvicorn sends by.)"""
-    transport = getattr(getattr(send, "__self__", None), "transport", None)
-    if transport is not None:
-        transport.abort()
-
-

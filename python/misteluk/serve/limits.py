@@ -7,7 +7,8 @@ from ..values.limits import within
 
 # How many rows an answer is written by at once: short steps leave other questions their turn.
 ROWS_AT_ONCE = 2_048
-# The names of this machine.
+# What begins the address of a Unix socket, and the names of this machine.
+UNIX = "unix:"
 LOOPBACK = ("localhost", "127.0.0.1", "::1")
 # The header that names a server's run.
 RUN = "misteluk-server"

@@ -12,6 +12,8 @@ from ..values.answers import BY_COLUMN, Answer, Edge, Values
 from ..values.edges import Edges
 
 Given = Mapping[str, Any]
+# How a question is answered: at once, or by threads, where one over the whole graph doesn't delay a quick one.
+AT_ONCE, QUICK, WHOLE = range(3)
 # The rows of a column from one place to another.
 Part = Callable[[int, int], Sequence[Any]]
 
@@ -39,14 +41,13 @@ class Parameter(NamedTuple):
 
 
 class Question(NamedTuple):
-    """A question: its name in the URL, what it tells, what it is asked with, and what answers it. One that is `quick` looks at a
-    part of the graph alone."""
+    """A question: its name in the URL, what it tells, what it is asked with, and what answers it, in which way."""
 
     name: str
     about: str
     parameters: Tuple[Parameter, ...]
     answer: Callable[["Session[Any, Any]", Given], Iterator[bytes]]
-    is_quick: bool = False
+    way: int = WHOLE
     media: str = "application/json"
 
 
@@ -178,8 +179,8 @@ WAY = Parameter("direction", "along edges, or either way", choices=("out", "both
 HOPS = Parameter("hops", "how many steps away", True, 0, 1_000)
 
 QUESTIONS = (
-    Question("edge", "one edge, or null", (Parameter("kind", "a kind", True), *ENDS), _edge, True),
-    Question("out_of", "the edges that go out of a vertex", (*VERTEX, *SCOPE, *TOP), _out_of, True),
+    Question("edge", "one edge, or null", (Parameter("kind", "a kind", True), *ENDS), _edge, AT_ONCE),
+    Question("out_of", "the edges that go out of a vertex", (*VERTEX, *SCOPE, *TOP), _out_of, QUICK),
     Question("into", "the edges that come into a vertex", (*VERTEX, *SCOPE, *TOP), _into),
     Question("edges", "all edges", (*SCOPE, *TOP), _edges),
     Question("levels", "how many steps each vertex is from a source that is reached from it",

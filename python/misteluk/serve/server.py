@@ -1,24 +1,33 @@
 """A server that runs: where it listens, and its end."""
 from __future__ import annotations
 
+import asyncio
+import contextlib
 import os
 import secrets
+import signal
 import socket
 import stat
 import threading
 from typing import Any, List, NamedTuple, Optional
 
+from .app import Api
 from .board import Board
+from .connection import Connections
 from .feeding import Feeding
+from .gate import Gate, Run
 from .keeping import Keeper
-from .limits import LOOPBACK, Limits
-from ..errors import Missing, StoreError
+from .limits import LOOPBACK, UNIX, Limits
+from ..errors import StoreError
 from ..store import Store
 
-UNIX = "unix:"
 USUAL = "127.0.0.1:7700"
 # How many connections may be there for each client that may be, and for those that hold nothing.
 CONNECTIONS = 64
+# In how many steps of the loop a connection is there that was accepted: the loop fails at one that comes behind the end.
+STEPS = 10
+# The signals that end it. After the second one it doesn't wait for answers that were begun.
+SIGNALS = (signal.SIGINT, signal.SIGTERM)
 
 
 class Address(NamedTuple):
@@ -115,25 +124,12 @@ class Server:
         self._socket, self.address = address.bound()
         self.board = Board(store, self.limits)
         self.feeding = Feeding(self.board, self.limits)
-        self._runner, self._api = self._made(token, began)
+        gate = Gate(token, bool(address.path), Run(secrets.token_urlsafe(9), began))
+        self._api = Api(self.board, self.feeding, self.limits, gate, keeper)
+        self._connections = Connections(self._api, self.limits.clients + CONNECTIONS)
         self._thread: Optional[threading.Thread] = None
-
-    def _made(self, token: Optional[str], began: str) -> Any:
-        """What runs the app, and the app."""
-        try:
-            import uvicorn
-            from .app import Api
-        except ImportError as fault:
-            self._leave()
-            raise Missing(f"{str(fault.name).partition('.')[0]}", "a server") from None
-        from .gate import Gate, Run
-        run = Run(secrets.token_urlsafe(9), began)
-        api = Api(self.board, self.feeding, self.limits, run, self._keeper)
-        gate = Gate(api.app(), token, bool(self.address.path), run)
-        config = uvicorn.Config(gate, log_level="critical", access_log=False, lifespan="off", server_header=False,
-                                proxy_headers=False,
-                                limit_concurrency=self.limits.clients + CONNECTIONS, timeout_keep_alive=int(self.limits.idle) + 5)
-        return uvicorn.Server(config), api
+        self._loop: Optional[asyncio.AbstractEventLoop] = None
+        self._is_over = threading.Event()
 
     @property
     def url(self) -> str:
@@ -148,7 +144,7 @@ class Server:
         for it in beside:
             it.start()
         try:
-            self._runner.run(sockets=[self._socket])
+            asyncio.run(self._answers())
         finally:
             sweeping.set()
             if keeper is not None:
@@ -162,6 +158,29 @@ class Server:
             self._api.close()
             self.board.close()
             self._leave()
+
+    async def _answers(self) -> None:
+        """Answers until it is to end, and then ends what was begun, unless it is to hurry."""
+        loop = self._loop = asyncio.get_running_loop()
+        self._ends, self._hurries = asyncio.Event(), asyncio.Event()
+        for it in SIGNALS if threading.current_thread() is threading.main_thread() else ():
+            loop.add_signal_handler(it, self._sign)
+        begin: Any = loop.create_unix_server if self.address.path else loop.create_server
+        listening = await begin(self._connections.made, sock=self._socket)
+        looking = loop.create_task(self._connections.look_after())
+        if self._is_over.is_set():
+            self._sign()
+        await self._ends.wait()
+        loop.remove_reader(self._socket)
+        for _ in range(STEPS):
+            await asyncio.sleep(0)
+        listening.close()
+        looking.cancel()
+        ending = [loop.create_task(it) for it in (self._connections.end(), self._hurries.wait())]
+        await asyncio.wait(ending, return_when=asyncio.FIRST_COMPLETED)
+
+    def _sign(self) -> None:
+        (self._hurries if self._ends.is_set() else self._ends).set()
 
     def _sweep(self, is_over: threading.Event) -> None:
         while not is_over.wait(min(self.limits.idle / 4, 5.0)):
@@ -177,7 +196,10 @@ class Server:
 
     def stop(self) -> None:
         """Ends it, and waits for that."""
-        self._runner.should_exit = True
+        self._is_over.set()
+        with contextlib.suppress(RuntimeError):  # (it ended by itself)
+            if self._loop is not None:
+                self._loop.call_soon_threadsafe(self._ends.set)
         if self._thread is not None:
             self._thread.join()
 
