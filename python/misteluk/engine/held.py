@@ -265,10 +265,12 @@ class LibraryVersion:
         code: int = Code.BAD_LENGTH
         while code == Code.BAD_LENGTH:
             size = max(size, count.value)
-            kinds, _, targets, *marks = found = Arrays.of(size)
-            places = [it for column in (kinds, targets, *marks) for it in (column.buffer_info()[0], size)]
+            found = Arrays.of(size)
+            places = [it for column in found if column is not found.sources for it in (column.buffer_info()[0], size)]
             code = self._ask(self._library.version_row, view, source, *places, count)
         if code:
             raise refusal_of(code)
-        found.sources[:] = array("I", (source,)) * size
-        return found.at(sorted(range(count.value), key=list(zip(kinds, targets)).__getitem__))
+        for it in found:
+            del it[count.value:]
+        found.sources[:] = array("I", (source,)) * count.value
+        return found.in_order()

@@ -69,6 +69,16 @@ class Arrays(NamedTuple):
         pick = itemgetter(*places)
         return Arrays(*[array(it.typecode, pick(it)) for it in self])
 
+    def in_order(self) -> "Arrays":
+        """The edges in order of their kinds and targets."""
+        numpy = numpy_for(self.size, A_FEW)
+        if numpy is not None:
+            order = numpy.lexsort((self.targets, self.kinds))
+            return Arrays(*[array(it.typecode, numpy.asarray(it)[order].tobytes()) for it in self])
+        is_one = self.size > 0 and self.kinds.count(self.kinds[0]) == self.size
+        keys: Sequence[object] = self.targets if is_one else list(zip(self.kinds, self.targets))
+        return self.at(sorted(range(self.size), key=keys.__getitem__))
+
     def places(self, kind: Optional[int], scope: Scope, among: Optional[Sequence[int]] = None) -> Sequence[int]:
         """Where the edges are that count, of the kind of this number or of any; of those in some places, where these are said."""
         found: Sequence[int] = range(self.size) if among is None else among

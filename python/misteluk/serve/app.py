@@ -52,6 +52,7 @@ class Api:
         self.held = Pool(QUICK_THREADS, limits, "held")
         self.slow = Pool(limits.questions, limits, "whole")
         self.feed = Pool(1, limits, "rows")
+        self._named = wire.Named(self.store.ledger.terms.names)
         self.routes = self._routes()
 
     def _routes(self) -> Dict[str, Dict[str, Handle]]:
@@ -160,7 +161,7 @@ class Api:
 
         def parts() -> Iterator[bytes]:
             with self.board.lent(name) as session:
-                yield from wire.asked(session.held, str(call), asked, self.store.ledger.terms.names)
+                yield from wire.asked(session.held, str(call), asked, self._named)
         is_short = call == "found" and len(asked.get("ends") or ()) <= FEW
         return self._answered(parts, wire.COLUMNS, AT_ONCE if is_short else QUICK if call == "out_of" else WHOLE)
 

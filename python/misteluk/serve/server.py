@@ -20,6 +20,7 @@ from .keeping import Keeper
 from .limits import LOOPBACK, UNIX, Limits
 from ..errors import StoreError
 from ..store import Store
+from ..values.fields import MANY, numpy_for
 
 USUAL = "127.0.0.1:7700"
 # How many connections may be there for each client that may be, and for those that hold nothing.
@@ -121,6 +122,7 @@ class Server:
         if store.engine.name != "library":
             raise ValueError("a server has its store in its own process: it takes engine='library'")
         self.limits, self.store, self._keeper = limits.checked(), store, keeper
+        numpy_for(MANY)  # (where it is there: it is quicker once it is loaded, and lets others have their turn)
         self._socket, self.address = address.bound()
         self.board = Board(store, self.limits)
         self.feeding = Feeding(self.board, self.limits)

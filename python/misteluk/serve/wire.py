@@ -8,7 +8,7 @@ from __future__ import annotations
 import json
 import sys
 from array import array
-from typing import Any, Dict, Iterator, List, Mapping, Optional, Sequence
+from typing import Any, Dict, Iterator, List, Mapping, Optional, Sequence, Tuple
 
 from .limits import BYTES_AT_ONCE
 from ..engine.protocol import Denied, Held, Scope
@@ -63,10 +63,10 @@ def loaded(data: bytes) -> Any:
 
 # Questions, as `Held` is asked.
 
-def asked(held: Held, call: str, given: Mapping[str, Any], names: NameTable) -> Iterator[bytes]:
+def asked(held: Held, call: str, given: Mapping[str, Any], named: "Named") -> Iterator[bytes]:
     """What a held version answers to a call of `Held`. Raises `ValueError` for a call that there isn't, and `Denied`."""
     if call in ("names", "kinds"):
-        return iter([_json(_named(held.names() if call == "names" else held.kinds(), names))])
+        return iter([named.told(held.names() if call == "names" else held.kinds())])
     if call == "found":
         ends = [(_text(kind), _text(source), _text(target)) for kind, source, target in given.get("ends", ())]
         return iter([_json([it.word if isinstance(it, Denied) else it for it in held.found(ends)])])
@@ -103,9 +103,24 @@ def _time(value: object) -> int:
     return value
 
 
-def _named(names: Sequence[str], table: NameTable) -> Dict[str, Any]:
-    texts = {it: table.to_user(it) for it in names if it.startswith(MARK)}
-    return {"names": names, "texts": {it: text for it, text in texts.items() if text != it}}
+class Named:
+    """How names are told, with the texts of those that are ids. What was told of many last is kept: versions that follow one
+    another mostly have the same."""
+
+    def __init__(self, table: NameTable) -> None:
+        self._table = table
+        self._last: Tuple[Sequence[str], bytes] = (), b""
+
+    def told(self, names: Sequence[str]) -> bytes:
+        last, told = self._last
+        if names and last == names:
+            return told
+        ids = [it for it in names if it.startswith(MARK)]
+        texts = {it: text for it, text in zip(ids, map(self._table.to_user, ids)) if text != it}
+        found = _json({"names": names, "texts": texts})
+        if not ids and len(names) > len(last) // 2:  # (what an id stands for may be known later)
+            self._last = names, found
+        return found
 
 
 def taken(told: Dict[str, Any], table: NameTable) -> List[str]:
