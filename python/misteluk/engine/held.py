@@ -241,10 +241,16 @@ class LibraryVersion:
     def out_of(self, scope: Scope, name: str) -> Arrays:
         view, source, all_ = self._view(scope), self._vertex(name), self._all
         if all_ is None:
-            return self._row(view, source)
+            found = self._row(view, source)
+            assert found is not None
+            return found
         begin = bisect_left(all_.sources, source)  # (they stand source by source)
         places = range(begin, bisect_left(all_.sources, source + 1, begin))
         return self._those(all_, scope, view, sorted(places, key=all_.targets.__getitem__))
+
+    def few_out_of(self, scope: Scope, name: str, most: int) -> Optional[Arrays]:
+        """The same where they are so many at most, else `None`: what takes longer the caller may have done by another thread."""
+        return self._row(self._view(scope), self._vertex(name), most)
 
     def into(self, scope: Scope, name: str) -> Arrays:
         view, target, all_ = self._view(scope), self._vertex(name), self.edges(WHOLE)
@@ -259,12 +265,14 @@ class LibraryVersion:
             places = all_.places(None if scope.kind is None else view.kind, scope, places)
         return all_.at(places if self._kind_count == 1 else sorted(places, key=all_.kinds.__getitem__))
 
-    def _row(self, view: interface.View, source: int) -> Arrays:
-        """The edges that go out of a vertex, which are asked for."""
+    def _row(self, view: interface.View, source: int, most: Optional[int] = None) -> Optional[Arrays]:
+        """The edges that go out of a vertex, which are asked for; `None` where they are more than so many."""
         size, count = A_ROW, c_uint64()
         code: int = Code.BAD_LENGTH
         while code == Code.BAD_LENGTH:
             size = max(size, count.value)
+            if most is not None and size > most:
+                return None
             found = Arrays.of(size)
             places = [it for column in found if column is not found.sources for it in (column.buffer_info()[0], size)]
             code = self._ask(self._library.version_row, view, source, *places, count)

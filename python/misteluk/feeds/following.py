@@ -3,6 +3,7 @@ from __future__ import annotations
 
 import os
 import re
+import threading
 import time
 from collections import deque
 from datetime import timedelta
@@ -69,6 +70,11 @@ def kept_time(keep: Optional[Span], units: Units, what: str = "keep") -> Optiona
     return within(what, length, 0, records.MOST_TIME)
 
 
+def _is_interrupted() -> bool:
+    """Whether this thread is the one in which Python raises an interrupt."""
+    return threading.current_thread() is threading.main_thread()
+
+
 class Followed(NamedTuple):
     """What a commit of a feed did, and how far it is: the rows that are in, the bad ones that were passed over, the last line
     whose row is in, and the newest time of all rows, in the store's units."""
@@ -103,7 +109,7 @@ class Following(Iterator[Followed]):
     """A feed that is followed: each step is a commit. See `Store.follow`, which makes it.
 
     What is read and sent happens in a thread of its own, so that an interrupt loses no row and sends none twice: the next step
-    goes on behind it. `stop` may be called by any thread and a signal's handler: what was read goes in, and the steps end.
+    goes on behind it. (A step that another thread than the main one takes is never interrupted, and made there.) `stop` may be called by any thread and a signal's handler: what was read goes in, and the steps end.
     """
 
     def __init__(self, store: "Store[Any, Any]", incoming: Incoming, count: Count, pace: Pace, progress: Optional[bool]) -> None:
@@ -176,7 +182,8 @@ class Following(Iterator[Followed]):
             if self._is_done:
                 raise StopIteration
             self._progress.step(self._in - self._progress.count)
-            made: Optional[Followed] = self._calls.make(self._go_on, untaken=self._keep_untaken)
+            made: Optional[Followed] = (self._calls.make(self._go_on, untaken=self._keep_untaken) if _is_interrupted() else
+                                        self._go_on())
             if made is not None:
                 return made
             if not self._is_done and self._source.wait(self._patience(), output):

@@ -27,8 +27,8 @@ from ..values.units import whole_text
 
 Handle = Callable[..., Answered]
 QUICK_THREADS = 4
-# How many edges are a few that are asked for by their names.
-FEW = 64
+# How many edges are a few that are asked for by their names, or that go out of a vertex.
+FEW, FEW_OUT = 64, 512
 # What is told of names that a version doesn't have.
 REASONS = {"NoVertex": "the version has no vertex of this name; a later one may",
            "NoKind": "the version has no edge of this kind, and never had; a later one may"}
@@ -162,6 +162,11 @@ class Api:
         def parts() -> Iterator[bytes]:
             with self.board.lent(name) as session:
                 yield from wire.asked(session.held, str(call), asked, self._named)
+        if call == "out_of" and not self.board.is_busy:
+            with self.board.lent(name) as session:
+                found = wire.few(session.held, asked, FEW_OUT)
+            if found is not None:
+                return Response(found, media=wire.COLUMNS)
         is_short = call == "found" and len(asked.get("ends") or ()) <= FEW
         return self._answered(parts, wire.COLUMNS, AT_ONCE if is_short else QUICK if call == "out_of" else WHOLE)
 

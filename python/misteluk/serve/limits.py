@@ -13,7 +13,7 @@ LOOPBACK = ("localhost", "127.0.0.1", "::1")
 # The header that names a server's run.
 RUN = "misteluk-server"
 # How many bytes of an answer's columns are written at once.
-BYTES_AT_ONCE = 1 << 18
+BYTES_AT_ONCE = 1 << 19
 
 
 class Limits(NamedTuple):

@@ -79,6 +79,12 @@ def asked(held: Held, call: str, given: Mapping[str, Any], named: "Named") -> It
     return packed([found] if isinstance(found, array) else found)
 
 
+def few(held: Any, given: Mapping[str, Any], most: int) -> Optional[bytes]:
+    """What a held version of the library answers to `out_of`, where the edges are so many at most; else `None`."""
+    found = held.few_out_of(_scope(given), _text(given.get("name")), most)
+    return None if found is None else b"".join(packed(found))
+
+
 # The calls that give columns, and whether they are of a name.
 CALLS = {"degrees": False, "labels": False, "cores": False, "edges": False, "levels": True, "out_of": True, "into": True}
 
