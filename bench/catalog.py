@@ -7,7 +7,7 @@ from dataclasses import dataclass
 from typing import Dict, Iterator, List, Tuple
 
 # How each thing that a measurement needs is found here, and how it is installed on Debian.
-PYTHON_PACKAGES = {it: f"python3-{it}" for it in ("igraph", "networkx", "numpy", "pandas", "scipy", "starlette", "uvicorn")}
+PYTHON_PACKAGES = {it: f"python3-{it}" for it in ("igraph", "networkx", "numpy", "pandas", "scipy")}
 COMMANDS = {"valgrind": "valgrind", "rustc": "rustc", "/usr/bin/time": "time", "taskset": "util-linux"}
 
 
@@ -73,10 +73,10 @@ def every() -> Iterator[Measurement]:
     yield Measurement("endless", "Is a feed without end right at ten points, and how long is its longest commit?", 3)
     yield Measurement("renewals", "How long does a store in process stand still when it starts over, by its edges?", 0.5)
     yield Measurement("fleet", "What do fleets of parts take, in memory and in time?", 5)
-    yield Measurement("serve", "How long do a server's clients wait, and what does the feed lose?", 3, ("starlette", "uvicorn"))
-    yield Measurement("soak", "Does a server stay as it is while clients come, go and are killed?", 31, ("starlette", "uvicorn"))
+    yield Measurement("serve", "How long do a server's clients wait, and what does the feed lose?", 3, (), ("numpy",))
+    yield Measurement("soak", "Does a server stay as it is while clients come, go and are killed?", 31, (), ("numpy",))
     yield Measurement("quiet", "What can be measured in twelve minutes on a quiet machine?", 12, (),
-                      ("rustc", "/usr/bin/time", "igraph", "networkx", "numpy", "starlette", "uvicorn"))
+                      ("rustc", "/usr/bin/time", "igraph", "networkx", "numpy"))
 
 
 CATALOG: Dict[str, Measurement] = {it.name: it for it in every()}

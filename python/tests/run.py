@@ -18,10 +18,9 @@ from misteluk import LibraryNotFound, find_library  # noqa: E402
 OF_ONE_ENGINE = r"\.\.\. skipped 'of (?:pipes|the library|the program|stores in process) alone'"
 # Files of tests that make no store, or that say themselves over which engine they run: once is enough for them.
 ONCE = ("fields", "lint", "package", "records", "release", "types", "serve", "serve_clients", "serve_docs", "serve_fuzz",
-        "serve_killed", "serve_kept", "serve_page", "serve_versions")
-# Files of tests that also run over stores that a server has, and what a server needs.
+        "serve_http", "serve_killed", "serve_kept", "serve_page", "serve_versions")
+# Files of tests that also run over stores that a server has.
 SERVED = ("arrays", "names", "objects", "store", "units", "view", "walking")
-OF_SERVER = ("starlette", "uvicorn")
 
 
 def engines() -> List[str]:
@@ -58,7 +57,7 @@ def faults(text: str) -> str:
 def main(*wanted: str) -> int:
     names = sorted(it for it in os.listdir(HERE) if re.fullmatch(r"test_\w+\.py", it))
     names = [it for it in names if not wanted or it[5:-3] in wanted]
-    missing = [it for it in ("networkx", "pandas", "matplotlib", "tqdm", *OF_SERVER) if not optional(it)]
+    missing = [it for it in ("networkx", "pandas", "matplotlib", "tqdm") if not optional(it)]
     print(f"python/check: {sys.executable} ({sys.version.split()[0]}) runs {find_program()}")
     if missing:
         print(f"python/check: without {', '.join(missing)}: what needs them is passed over (apt-get install "
@@ -67,7 +66,7 @@ def main(*wanted: str) -> int:
     with concurrent.futures.ThreadPoolExecutor(2) as pool:
         over = engines()
         parts = [(name, engine) for name in names for engine in (over[:1] if name[5:-3] in ONCE else over)]
-        if not NAMED and over[0] == "library" and not set(OF_SERVER) & set(missing):
+        if not NAMED and over[0] == "library":
             parts += [(name, "served") for name in names if name[5:-3] in SERVED]
         for name, seconds, text in pool.map(run, parts):
             ran = re.search(r"(?m)^Ran (\d+) tests? in", text)

@@ -83,7 +83,6 @@ class Wheels(Case):
         self.assertEqual(told["License"], "MIT OR Apache-2.0")
         self.assertIn("help(misteluk)", told.get_payload())
         self.assertIn('networkx ; extra == "all"', told.get_all("Requires-Dist"))
-        self.assertIn('starlette ; extra == "serve"', told.get_all("Requires-Dist"))
 
     @unittest.skipUnless(optional("tomllib"), "tomllib is not there")
     def test_pyproject_is_read_as_python_reads_it(self):

@@ -76,7 +76,7 @@ class Arrays(NamedTuple):
             order = numpy.lexsort((self.targets, self.kinds))
             return Arrays(*[array(it.typecode, numpy.asarray(it)[order].tobytes()) for it in self])
         is_one = self.size > 0 and self.kinds.count(self.kinds[0]) == self.size
-        keys: Sequence[object] = self.targets if is_one else list(zip(self.kinds, self.targets))
+        keys: Any = self.targets if is_one else list(zip(self.kinds, self.targets))
         return self.at(sorted(range(self.size), key=keys.__getitem__))
 
     def places(self, kind: Optional[int], scope: Scope, among: Optional[Sequence[int]] = None) -> Sequence[int]:

@@ -109,7 +109,8 @@ class Following(Iterator[Followed]):
     """A feed that is followed: each step is a commit. See `Store.follow`, which makes it.
 
     What is read and sent happens in a thread of its own, so that an interrupt loses no row and sends none twice: the next step
-    goes on behind it. (A step that another thread than the main one takes is never interrupted, and made there.) `stop` may be called by any thread and a signal's handler: what was read goes in, and the steps end.
+    goes on behind it. (A step that another thread than the main one takes is never interrupted, and made there.) `stop` may be
+    called by any thread and a signal's handler: what was read goes in, and the steps end.
     """
 
     def __init__(self, store: "Store[Any, Any]", incoming: Incoming, count: Count, pace: Pace, progress: Optional[bool]) -> None:

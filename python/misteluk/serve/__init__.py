@@ -10,8 +10,10 @@ Choices:
 - Rows of one post that are several batches are no version until all are in, so nobody sees or saves a part of them.
 - A silent client loses its hold, and only a request breaks the silence. So a notebook that was left open keeps no version.
 - A batch has a number, so one whose answer was lost is sent again and applied once.
-- Questions over the whole graph have threads of their own, so a question for one edge doesn't wait for them. The server sets
-  Python's switch between threads to half a millisecond; at the usual five the feed would have most turns.
+- A question for an edge, or a vertex's few edges, is answered by the loop itself: it waits for no thread. Questions over the
+  whole graph have threads of their own. The server sets Python's switch between threads to half a millisecond; at the usual five
+  the feed would have most turns.
+- HTTP is read here, and no package is needed: one that is written in Python takes three times as long for a question.
 - Without a token the `Host` must name this machine, because a browser may be led here under another name.
 - A view runs in a frame that may run its own script only, known by its sum, and that can't ask the server anything.
 - A lost answer is asked for again, of the same version; no part of it is kept to go on from.

@@ -1,7 +1,7 @@
 """HTTP/1.1: requests within the bytes that a client sends, each once it is whole, and responses as bytes.
 
-What isn't written as the standard says is refused, and nothing of it is guessed: a length that is said twice, a line that goes on in
-the next one, or a sign that a name can't have.
+What isn't written as the standard says is refused, and nothing of it is guessed: a length that is said twice, a line that goes
+on in the next one, or a sign that a name can't have.
 """
 from __future__ import annotations
 

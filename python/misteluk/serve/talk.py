@@ -6,7 +6,7 @@ import os
 import re
 import socket
 from collections import deque
-from typing import Any, Deque, Dict, Mapping, NamedTuple, Optional, Tuple
+from typing import Any, Deque, Dict, List, Mapping, NamedTuple, Optional, Tuple
 from urllib.parse import quote, urlsplit
 
 from .limits import RUN, UNIX
@@ -26,7 +26,7 @@ class Link:
     def __init__(self, url: str, timeout: float) -> None:
         self.was_used = self.is_over = False
         self._socket = _connected(url, timeout)
-        self._file = self._socket.makefile("rb", 1 << 16)
+        self._file: Any = self._socket.makefile("rb", 1 << 16)
 
     def ask(self, request: bytes) -> "Tuple[int, Dict[str, str], bytes]":
         """The status of the response, its headers by small names, and its body. Raises `ConnectionError` where it isn't whole."""
@@ -41,7 +41,7 @@ class Link:
         return status, headers, b"" if status in (204, 304) else self._body(headers)
 
     def _line(self) -> bytes:
-        line = self._file.readline(MOST_LINE)
+        line: bytes = self._file.readline(MOST_LINE)
         if not line.endswith(b"\n"):
             raise ConnectionError("the connection ended before the answer did" if line else "it closed without an answer")
         return line
@@ -65,16 +65,17 @@ class Link:
         if "content-length" in headers:
             return self._whole(int(headers["content-length"]))
         self.is_over = True
-        return self._file.read()
+        data: bytes = self._file.read()
+        return data
 
     def _whole(self, count: int) -> bytes:
-        data = self._file.read(count)
+        data: bytes = self._file.read(count)
         if len(data) < count:
             raise ConnectionError("the connection ended before the answer did")
         return data
 
     def _of_chunks(self) -> bytes:
-        parts = []
+        parts: List[bytes] = []
         while True:
             size = int(self._line().partition(b";")[0], 16)
             if size == 0:
