@@ -49,6 +49,15 @@ def names_found() -> Lines:
     yield from batches(f"r,link,v{draws.randrange(8_000)},v0" for _ in range(40_000))
 
 
+def names_that_begin_alike() -> Lines:
+    """The same over 200 of 4,100 names, which differ in their last bytes alone, and of which none is a source."""
+    names = [f"{place:020}" for place in range(4_100)]
+    yield from batches(f"i,link,hub,{name},1,1" for name in names)
+    draws = random.Random(17)
+    few = draws.sample(names, 200)
+    yield from batches(f"r,link,{draws.choice(few)},{draws.choice(few)}" for _ in range(24_000))
+
+
 def rebases(times: int) -> Lines:
     yield from batches(inserted((source, source + 1) for source in range(1_500)))
     for _ in range(times):
@@ -103,5 +112,6 @@ SCRIPTS: Dict[str, Callable[[], Lines]] = {
     "expiries": expiries,
     "expiries that find nothing": idle_expiries,
     "names found": names_found,
+    "names that begin alike": names_that_begin_alike,
     "rebases": lambda: rebases(30),
 }
