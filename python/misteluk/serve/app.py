@@ -45,7 +45,7 @@ class TooLarge(ValueError):
     """A body is longer than the server takes."""
 
 
-class Led:
+class Shortcut:
     """Leads what is asked most straight to its call, and lets Starlette look through its routes for all else."""
 
     def __init__(self, app: Starlette, ask: Callable[[Request], Any]) -> None:
@@ -74,8 +74,8 @@ class Api:
         self.feed = Pool(1, limits, "rows")
         self._named = wire.Named(self.store.ledger.terms.names)
 
-    def led(self) -> Led:
-        return Led(self.app(), self._call(self.ask))
+    def shortcut(self) -> Shortcut:
+        return Shortcut(self.app(), self._call(self.ask))
 
     def app(self) -> Starlette:
         call = self._call

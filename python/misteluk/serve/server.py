@@ -129,7 +129,7 @@ class Server:
         from .gate import Gate, Run
         run = Run(secrets.token_urlsafe(9), began)
         api = Api(self.board, self.feeding, self.limits, run, self._keeper)
-        gate = Gate(api.led(), token, bool(self.address.path), run)
+        gate = Gate(api.shortcut(), token, bool(self.address.path), run)
         config = uvicorn.Config(gate, log_level="critical", access_log=False, lifespan="off", server_header=False,
                                 proxy_headers=False,
                                 limit_concurrency=self.limits.clients + CONNECTIONS, timeout_keep_alive=int(self.limits.idle) + 5)

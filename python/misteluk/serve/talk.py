@@ -39,7 +39,7 @@ class AtOnce(HTTPConnection):
             self._pieces.append(data)
 
 
-class AtOnceSafely(AtOnce, HTTPSConnection):
+class AtOnceOverTls(AtOnce, HTTPSConnection):
     """The same over TLS."""
 
 
@@ -100,7 +100,7 @@ class Talk:
             pass
         if self.url.startswith(UNIX):
             return OfUnix(self.url[len(UNIX):], self.timeout), False
-        kind = AtOnceSafely if self._parts.scheme == "https" else AtOnce
+        kind = AtOnceOverTls if self._parts.scheme == "https" else AtOnce
         return kind(self._parts.hostname or "", self._parts.port, timeout=self.timeout), False
 
     def ask(self, method: str, path: str, body: Optional[Mapping[str, Any]] = None) -> Told:
