@@ -7,7 +7,8 @@
   link's target none.
 - A link of a page leads to a file of the repository, and to a heading of it where it names one. One that shows a name, as
   [`step`](FILE.antt), leads to the file of specs that defines it.
-- Each crate of crates.txt is named in docs/ARCHITECTURE.md, and stands on crates that crates.txt lists or the kit has.
+- Each crate of crates.txt is named in docs/ARCHITECTURE.md, and stands on crates that crates.txt lists or the kit has. The map
+  there has no crate in a row above those that it stands on.
 - A crate's row has those crates of the repository that its sources, specs and proofs name, and no others.
 - ARCHITECTURE's table of words has each word once, and each is used on another page or in a docstring of something public. A
   word of this house (HOUSE) that a page uses stands in that table, or that page or the README explains it, where it shows
@@ -175,6 +176,18 @@ def unnamed_crates():
             yield f"crates.txt doesn't list {folder.name}"
 
 
+def misplaced_crates():
+    part = WORDS.read_text(encoding="utf-8").partition("\n## The map\n")[2].partition("\n## ")[0]
+    lines = [line.split("|")[1] for line in part.splitlines() if line.startswith("| ")]
+    places = {name: at for at, cell in enumerate(lines) for name in re.findall(r"`(\w+)`", cell)}
+    for row in rows():
+        name, _, below = row.partition(":")
+        crate = name.split()[0]
+        for it in below.split():
+            if crate in places and places.get(it, 0) > places[crate]:
+                yield f"docs/ARCHITECTURE.md: the map has {crate} in a row above {it}, on which it stands"
+
+
 def named_by(crate):
     """Returns what may be crates that a crate's sources, specs and proofs name: what stands before a path."""
     found = set()
@@ -336,7 +349,7 @@ def main():
         "length of sentences": [it for page in [*told, *rooms()] for it in long_sentences(page)],
         "links": [it for page in pages for it in dead_links(page)],
         "names of definitions": [it for page in pages for it in undefined_names(page)],
-        "crates": [*unnamed_crates(), *misnamed_crates()],
+        "crates": [*unnamed_crates(), *misplaced_crates(), *misnamed_crates()],
         "words": list(words_astray([*told, *rooms()])),
         "plain English": [it for page in pages for it in coined_words(page)],
         "READMEs of crates": [*long_rooms(), *readmes.stale(TOP)],

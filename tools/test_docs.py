@@ -253,6 +253,16 @@ class Trees(Tree):
         self.assertIn("costs 7 minutes", text)
         self.assertIn("one crate stands on it.\n`rt ci $(tools/crates-above low)`", text)
 
+    def test_a_crate_that_was_not_measured_takes_no_other_s_cost(self) -> None:
+        self.write("crates.txt", "low:\nhigh: low\nroof: high\n")
+        self.write("crates/roof/src/main.rt", "//! Another program.\n\nfn main() {}\n")
+        self.write("docs/ARCHITECTURE.md", MAP.replace("`low`, `high` | 7, 2", "`low`, `high`, `roof` | 7, not measured, over 2"))
+        self.assertEqual(self.run_it("--readmes")[0], 0)
+        costs = {it: (self.top / f"crates/{it}/README.md").read_text() for it in ("low", "high", "roof")}
+        self.assertIn("A change costs 7 minutes", costs["low"])
+        self.assertIn("A change has to be proved (", costs["high"])
+        self.assertIn("A change costs over 2 minutes", costs["roof"])
+
     def test_a_list_is_stale_once_its_source_has_changed(self) -> None:
         self.run_it("--readmes")
         self.write("crates/low/README.md", (self.top / "crates/low/README.md").read_text() + "\n## Choices\n\nNone.\n")

@@ -59,13 +59,15 @@ def above(name: str, below: Dict[str, List[str]]) -> List[str]:
 
 
 def costs(page: str) -> Dict[str, str]:
-    """Returns each crate's minutes, as ARCHITECTURE's map has them."""
+    """Returns each crate's minutes, as ARCHITECTURE's map has them: one item for each crate of a row, or one for all. A crate
+    that wasn't measured has none."""
     found: Dict[str, str] = {}
     for line in page.partition("\n## The map\n")[2].partition("\n## ")[0].splitlines():
         cells = [it.strip() for it in line.strip("|").split("|")]
         names = re.findall(r"`(\w+)`", cells[0])
-        minutes = re.findall(r"\d+", cells[-1])
-        found.update(zip(names, minutes if len(minutes) == len(names) else minutes * len(names)))
+        minutes = [it.strip() for it in cells[-1].split(",")]
+        each = zip(names, minutes if len(minutes) == len(names) else minutes * len(names))
+        found.update((name, count) for name, count in each if re.fullmatch(r"(?:over )?\d+", count))
     return found
 
 
