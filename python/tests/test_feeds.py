@@ -233,6 +233,14 @@ class Loads(Case):
         self.assertIn("a.csv: 3 rows, 3 names, 1 kind, 2 edges in 2 blocks; 1 batch needs 3 blocks>", repr(loaded.survey))
         self.assertEqual(repr(loaded.survey.parts), "[<Part of 3 records>]")
 
+    def test_no_more_batches_are_told_than_are_made(self):
+        """What several batches need is told for their size: a load in this process makes larger ones, so fewer."""
+        found = misteluk.survey(Feed("f", [(it, "k", f"v{it}", "hub", "1", "0") for it in range(1, 5_001)]), by="set")
+        self.assertIn(" in 5000 blocks; batches of 4096 need 5000 blocks", str(found))
+        store = self.store(blocks=10_000)
+        self.assertEqual(store.load(found, by="set").commit.batches, 1 if ENGINE == "library" else 2)
+        self.assertIn(" in 0 blocks; 0 batches need 0 blocks", str(misteluk.survey(Feed("f", []), by="set")))
+
     def test_weights_that_would_leave_their_limits_are_told(self):
         loaded = self.store().load(Feed("f", [(1, "k", "a", "b", "1099511627776", "0")] * 2), by="add")
         self.assertIn("1 amounts NOT added", str(loaded))

@@ -49,7 +49,7 @@ def check_room(store: "Store[Any, Any]", found: "Survey", used: int, count: int)
     store.engine.fit(found.names, len(found.kinds), used + found.room)
     needed = 0 if found.surely_fits(store.blocks, used) else found.needed_beside(used)
     if needed > store.blocks:
-        text = (f"{found.feed} needs at least {needed} blocks in batches of {max(len(it.lines) for it in found.parts)}, and the "
+        text = (f"{found.feed} needs at least {needed} blocks in batches of {found.largest}, and the "
                 f"store was made with {store.blocks}; nothing was sent")
         raise PoolEmpty(needed=needed, free=store.blocks - used, text=text, advice=_room_advice(store, found, used))
     if left is not None:

@@ -143,8 +143,12 @@ class Survey:
     def room(self) -> int:
         """How many blocks are enough, as is seen before edges are counted."""
         count = self.rows - self.bad
-        edges = min(count, self.names * len(self.kinds)) + count // records.BLOCK_EDGES
-        return edges + max((len(it.lines) for it in self.parts), default=0)
+        return min(count, self.names * len(self.kinds)) + count // records.BLOCK_EDGES + self.largest
+
+    @property
+    def largest(self) -> int:
+        """How many operations the largest batch has."""
+        return max((len(it.lines) for it in self.parts), default=0)
 
     def surely_fits(self, blocks: int, used: int = 0) -> bool:
         """Whether so many blocks, of which so many are used, are surely enough."""
@@ -168,7 +172,8 @@ class Survey:
         counts = ((self.rows, "row"), (self.names, "name"), (len(self.kinds), "kind"), (self.edges, "edge"),
                   (self.blocks, "block"))
         *told, blocks = (f"{count} {word}{'s' * (count != 1)}" for count, word in counts)
-        batches = "1 batch needs" if len(self.parts) == 1 else f"{len(self.parts)} batches need"
+        # (of several batches it isn't known yet how many are made: a load in this process may make larger ones)
+        batches = {0: "0 batches need", 1: "1 batch needs"}.get(len(self.parts), f"batches of {self.largest} need")
         return f"{self.feed}: {', '.join(told)} in {blocks}; {batches} {self.needed} blocks"
 
     def __repr__(self) -> str:
