@@ -11,7 +11,7 @@ import subprocess
 import sys
 import unittest
 import urllib.request
-from contextlib import redirect_stdout
+from contextlib import redirect_stdout, suppress
 
 from serving import ServeCase
 from support import HERE, TOP, as_soon_as
@@ -42,10 +42,13 @@ class Page(ServeCase):
                                       text=True, cwd=self.room, start_new_session=True,
                                       env={**os.environ, "PATH": f"{self.room}:{os.environ['PATH']}",
                                            "PYTHONPATH": str(HERE.parent)})
+        self.jobs = []
         self.addCleanup(self.end)
 
     def end(self):
-        os.killpg(self.shell.pid, signal.SIGTERM)
+        for it in (self.shell.pid, *self.jobs):
+            with suppress(ProcessLookupError):
+                os.killpg(it, signal.SIGTERM)
         self.shell.communicate(timeout=60)
 
     def typed(self, command, count):
@@ -53,7 +56,9 @@ class Page(ServeCase):
         if command.endswith("&"):
             self.shell.stdin.write(f"{command[:-1]} --listen 127.0.0.1:{self.port} &\n")
             self.shell.stdin.flush()
-            return "".join(self.shell.stdout.readline() for _ in range(count))
+            told = "".join(self.shell.stdout.readline() for _ in range(count))
+            self.jobs += map(int, self.typed("jobs -p", 0).split())
+            return told
         self.shell.stdin.write(f"{command}\necho; echo that was it\n")
         self.shell.stdin.flush()
         return "".join(iter(self.shell.stdout.readline, "that was it\n"))
@@ -74,15 +79,21 @@ class Page(ServeCase):
     def stat(self):
         return json.load(urllib.request.urlopen(f"http://127.0.0.1:{self.port}/v1/stat"))
 
+    def is_there(self):
+        with socket.socket() as there:
+            return there.connect_ex(("127.0.0.1", self.port)) == 0
+
     def test_the_tutorial_s_part(self):
         """Commands and conversation in the order of the page, each when the rows of the file are in that it has by then."""
         (self.room / "examples").symlink_to(TOP / "examples")
         text = (TOP / "docs/TUTORIAL.md").read_text(encoding="utf-8")
         part = text.partition("### A team on one feed\n")[2].partition("\n## ")[0].replace("7700", str(self.port))
+        self.typed("set -m", 0)  # (so that the shell's `kill %1` reaches what its function began)
         self.typed(re.findall(r"(?m)^    \$ (shipments\(\) .*)$", text)[0], 0)
         count, known, said = 0, {}, io.StringIO()
         for block in re.findall(r"(?m)(?:^    .*\n)+", part):
             for command, wanted in commands(block):
+                held = self.stat()["held"] if command.startswith("kill ") else []
                 self.assertEqual(self.typed(command, wanted.count("\n") + 1).strip("\n"), wanted)
                 count += 1
             if ">>>" in block:
@@ -96,7 +107,8 @@ class Page(ServeCase):
             if "hers" in block and "close" not in block:  # (what the page says that a browser shows)
                 url = f"http://127.0.0.1:{self.port}/v1/view?vertex=kassel&hops=1&beside=1"
                 self.assertRegex(urllib.request.urlopen(url).read().decode(), "<b>6</b>\\s*gone")
-        self.assertEqual(([(it["version"], it["clients"]) for it in self.stat()["held"]], count), ([(2, 0)], 13))
+        self.assertEqual(([(it["version"], it["clients"]) for it in held], count), ([(2, 0)], 14))
+        as_soon_as(lambda: not self.is_there())
 
     def test_what_it_tells_of(self):
         """The questions and options of its tables are those that there are."""
