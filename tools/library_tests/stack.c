@@ -9,23 +9,43 @@
 enum { VERTICES = 65536, PATH = 30000, BATCH = 4096, STACK = 1 << 20, PROMISED = 48 << 10, FILL = 0xA5 };
 
 static const misteluk_view every = {0, UINT64_MAX, MISTELUK_ANY_KIND};
-static misteluk_desk desk;
-static misteluk_batch batch;
+static const misteluk_limits limits = {3, 2, 2};
+static misteluk_desk desk, small;
+static misteluk_batch batch, filled;
 static misteluk_version version, copy;
 static misteluk_hold hold;
 static misteluk_counts counts;
 static misteluk_stat stat_told;
 static misteluk_size size;
+static misteluk_limits limits_told;
 static misteluk_edge edge;
+static const uint64_t kind_end = 1;
 static uint64_t ends[VERTICES], times[VERTICES], number, done;
 static uint32_t sources[VERTICES], targets[VERTICES], kinds[VERTICES], at, code;
+static uint32_t first_kind[VERTICES];
+static uint8_t insertions[VERTICES];
 static int64_t weights[VERTICES];
 static char text[VERTICES * 6];
 
 static void none(void) { }
 static void desk_new(void) { code = misteluk_desk_new(65536, &desk); }
+static void desk_new_within(void) { code = misteluk_desk_new_within(&limits, 65536, &small); }
+static void desk_limits(void) { code = misteluk_desk_limits(&desk, &limits_told); }
 static void batch_new(void) { code = misteluk_batch_new(&batch); }
 static void batch_insert(void) { code = misteluk_batch_insert(&batch, "k", 1, "00000", 5, "00001", 5, 1, 1); }
+static void batch_add(void) { code = misteluk_batch_add(&filled, "k", 1, "00000", 5, "00001", 5, 1, 1); }
+static void batch_remove(void) { code = misteluk_batch_remove(&filled, "k", 1, "00000", 5, "00001", 5); }
+static void batch_length(void) { code = misteluk_batch_length(&filled, &number); }
+static void fill(uint32_t limit)
+{
+    done = 0;
+    code = limit ? misteluk_batch_columns_within(&filled, limit, "k", 1, &kind_end, 1, text, VERTICES * 5, ends, VERTICES, insertions,
+                       VERTICES, first_kind, VERTICES, sources, VERTICES, targets, VERTICES, weights, VERTICES, times, VERTICES, &done)
+                 : misteluk_batch_columns(&filled, "k", 1, &kind_end, 1, text, VERTICES * 5, ends, VERTICES, insertions, VERTICES,
+                       first_kind, VERTICES, sources, VERTICES, targets, VERTICES, weights, VERTICES, times, VERTICES, &done);
+}
+static void batch_columns(void) { fill(0); }
+static void batch_columns_within(void) { fill(VERTICES); }
 static void batch_expire(void) { code = misteluk_batch_expire(&batch, 1); }
 static void apply(void) { code = misteluk_desk_apply(&desk, &batch, &counts); }
 static void insert_columns(void)
@@ -41,6 +61,8 @@ static void rebase(void) { code = misteluk_desk_rebase(&desk); }
 static void clone_it(void) { code = misteluk_version_clone(&version, &copy); }
 static void size_of(void) { code = misteluk_version_size(&version, &size); }
 static void vertex(void) { code = misteluk_version_vertex(&version, "00077", 5, &at); }
+static void kind(void) { code = misteluk_version_kind(&version, "k", 1, &at); }
+static void kind_names(void) { code = misteluk_version_kind_names(&version, 0, text, 1, &number, 1); }
 static void names(void) { code = misteluk_version_names(&version, 0, text, VERTICES * 5, ends, VERTICES); }
 static void edge_of(void) { code = misteluk_version_edge(&version, 0, 1, 2, &edge); }
 static void degrees(void) { code = misteluk_version_degrees(&version, &every, kinds, VERTICES, sources, VERTICES, weights, VERTICES); }
@@ -60,7 +82,8 @@ static void edges(void)
 }
 static void free_all(void)
 {
-    misteluk_version_free(version), misteluk_version_free(copy), misteluk_batch_free(batch), misteluk_desk_free(desk);
+    misteluk_version_free(version), misteluk_version_free(copy), misteluk_batch_free(batch), misteluk_batch_free(filled),
+        misteluk_desk_free(desk);
 }
 
 static void *run(void *call)
@@ -116,11 +139,20 @@ int main(void)
 {
     least = taken(none);
     measure("desk_new", desk_new);
+    measure("desk_new_within", desk_new_within);
+    misteluk_desk_free(small);
+    measure("desk_limits", desk_limits);
     measure("batch_new", batch_new);
     for (int is_star = 0; is_star < 2; is_star++) {
         draw(is_star);
         measure("desk_insert_columns", insert_columns);
     }
+    code = misteluk_batch_new(&filled);
+    measure("batch_add", batch_add);
+    measure("batch_remove", batch_remove);
+    measure("batch_columns", batch_columns);
+    measure("batch_columns_within", batch_columns_within);
+    measure("batch_length", batch_length);
     for (int it = 0; it < BATCH - 1; it++)
         batch_insert();
     measure("batch_insert", batch_insert);
@@ -130,6 +162,8 @@ int main(void)
     measure("version_clone", clone_it);
     measure("version_size", size_of);
     measure("version_vertex", vertex);
+    measure("version_kind", kind);
+    measure("version_kind_names", kind_names);
     measure("version_names", names);
     measure("version_edge", edge_of);
     measure("version_degrees", degrees);

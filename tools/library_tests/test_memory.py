@@ -68,7 +68,7 @@ class State:
             it.free()
 
 
-# Each call that asks for memory, and what it hands back.
+# Each call, and what it hands back: those that ask for no memory too, so that one which comes to ask is refused here.
 CALLS: "dict[str, Callable[[State], object]]" = {
     "batch_new": lambda it: it.made.append(Batch(it.library)),
     "batch_insert": lambda it: it.batch.insert(b"k", b"x", b"y", 1, 1),
@@ -77,7 +77,7 @@ CALLS: "dict[str, Callable[[State], object]]" = {
     "batch_expire": lambda it: it.batch.expire(3),
     "batch_columns": lambda it: append(it.batch),
     "batch_columns of an empty one": lambda it: append_alone(it),
-    "batch_columns within a limit": lambda it: append(it.batch, 65_536),
+    "batch_columns_within": lambda it: append(it.batch, 65_536),
     "desk_new": lambda it: it.made.append(Desk(it.library, 16)),
     "desk_new_within": lambda it: it.made.append(Desk(it.library, 65_537, (3, 2, 2))),
     "desk_limits": lambda it: it.desk.limits(),
@@ -96,6 +96,12 @@ CALLS: "dict[str, Callable[[State], object]]" = {
     "version_vertex": lambda it: it.held.vertex(b"b"),
     "desk_collect": lambda it: it.desk.collect(),
     "desk_stat": lambda it: fields(it.desk.stat()),
+    "desk_release": lambda it: release_one_of_two(it),
+    "batch_length": lambda it: len(it.batch),
+    "version_size": lambda it: fields(Version(it.library, it.held.handle).size),
+    "version_kind": lambda it: it.held.kind(b"m"),
+    "version_kind_names": lambda it: it.held.kind_names(),
+    "version_edge": lambda it: it.held.edge(0, 0, 1),
 }
 
 
@@ -105,6 +111,13 @@ def append(batch: Batch, limit: Optional[int] = None) -> object:
     assert done == 4 or code != Code.OK
     must(code)
     return len(batch)
+
+
+def release_one_of_two(state: State) -> object:
+    """Takes one of two holds on a version back: the other one stays."""
+    second = state.desk.hold()
+    state.desk.release(second)
+    return fields(state.desk.stat())
 
 
 def append_alone(state: State) -> object:
@@ -166,6 +179,11 @@ class Memory(unittest.TestCase):
                             self.assertEqual(found[1:], without[1:])
                             refused += 1
         self.assertGreater(refused, 100)
+
+    def test_no_call_is_forgotten(self) -> None:
+        called = {name.partition(" ")[0] for name in CALLS}
+        ends = {name for name in interface.FUNCTIONS if name.endswith("_free")}
+        self.assertEqual(set(interface.FUNCTIONS) - called - ends, {"interface"})
 
     def test_a_load_of_several_batches_keeps_those_that_are_in(self) -> None:
         edges = [(it % 3, (it + 1) % 3, it, it) for it in range(9_000)]

@@ -28,6 +28,10 @@ def comment_of(name: str) -> str:
 
 
 class Page(unittest.TestCase):
+    def test_the_stack_of_each_function_is_measured(self) -> None:
+        measured = (TOP / "tools/library_tests/stack.c").read_text(encoding="utf-8")
+        self.assertEqual({it for it in interface.FUNCTIONS if f"misteluk_{it}(" not in measured}, {"interface"})
+
     def test_each_function_stands_there_once_with_the_codes_of_the_header(self) -> None:
         names = []
         for called, _, told in rows("What each call does, and refuses"):

@@ -1,8 +1,8 @@
 """Random stores by way of C beside scripts of the same operations and requests: the lines that `stinger run` prints, worked out
 of what the library answers, are those that it prints.
 
-    tools/test_library scripts                 some scripts, of a seed that is printed
-    SCRIPTS=2000 SEED=1 tools/test_library scripts
+    tools/test_library scripts                 2,000 scripts, of a seed that is printed
+    SCRIPTS=60 SEED=1 tools/test_library scripts
 """
 import os
 import random
@@ -290,7 +290,7 @@ class Play:
 
 class Scripts(unittest.TestCase):
     def test_random_stores_answer_as_a_script_does(self) -> None:
-        seed, count = int(os.environ.get("SEED") or random.randrange(1 << 30)), int(os.environ.get("SCRIPTS") or 60)
+        seed, count = int(os.environ.get("SEED") or random.randrange(1 << 30)), int(os.environ.get("SCRIPTS") or 2_000)
         print(f"scripts: SEED={seed} SCRIPTS={count}", flush=True)
         told = 0
         for number in range(seed, seed + count):
