@@ -5,7 +5,7 @@ import random
 import unittest
 from array import array
 from collections import Counter
-from itertools import accumulate
+from itertools import accumulate, product
 from unittest import mock
 
 from support import Case, optional
@@ -93,16 +93,28 @@ class ByTarget(unittest.TestCase):
                     self.assertEqual(list(edges.weights_in(count)), wanted)
 
 
-class NamesInOneText(unittest.TestCase):
+class NamesInOneText(Case):
     def test_names_are_cut_out_of_their_text(self):
-        """By numpy, where it is there, and in a loop: names of any signs that names have, and of each length."""
+        """By numpy, where it is there, and in a loop: names of any signs that names have, and of each length. Behind the last one
+        is room that was not used, or none."""
         made, signs = random.Random(8), "".join(map(chr, range(0x21, 0x7F)))
         for count in (1, 64, 300):
             names = ["".join(made.choices(signs, k=at % 64 + 1)) for at in range(count)]
-            text, ends = array("B", "".join(names).encode("ascii")), array("Q", accumulate(map(len, names)))
-            for many in (0, 1_000):
-                with self.subTest(count=count, many=many), mock.patch.object(fields, "MANY", many):
+            ends = array("Q", accumulate(map(len, names)))
+            for many, room in product((0, 1_000), (0, 1, 9)):
+                text = array("B", "".join(names).encode("ascii") + bytes(room))
+                with self.subTest(count=count, many=many, room=room), mock.patch.object(fields, "MANY", many):
                     self.assertEqual(texts_of(text, ends), names)
+
+    def test_newer_names_behind_those_that_are_known(self):
+        """A version is asked for its names, and then a later one, in which many more are: it is asked for the new ones alone."""
+        store = self.store()
+        for first, last in ((0, 40), (40, 1_100), (1_100, 1_101), (1_101, 2_400)):
+            self.feed(store, *(f"insert k v{at} v{at + 1} 1 1" for at in range(first, last)))
+            with self.subTest(last=last), store.open() as session:
+                names = [f"v{at}" for at in range(last + 1)]
+                self.assertEqual([(it, *row) for it, row in session.degrees().items()],
+                                 [(it, it != names[-1], it != names[0], it != names[-1]) for it in names])
 
 
 class EdgesOfAVersion(Case):

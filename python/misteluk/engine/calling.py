@@ -60,11 +60,12 @@ def address(column: "array[int]") -> int:
 
 
 def texts_of(text: "array[int]", ends: "array[int]") -> List[str]:
-    """Names that stand one after another."""
+    """Names that stand one after another. Behind the last one may be room that was not used."""
     count, numpy = len(ends), numpy_for(len(ends), A_FEW)
     if numpy is None:
         told = text.tobytes().decode("ascii")
         return list(map(told.__getitem__, map(slice, chain((0,), ends), ends)))
+    text = text[:ends[-1]]
     is_text = numpy.ones(len(text) + count, dtype=bool)
     is_text[numpy.asarray(ends).astype("int64") + numpy.arange(count)] = False
     spread = numpy.full(len(is_text), ord(" "), dtype="uint8")  # (a space, which no name has, stands behind each)
