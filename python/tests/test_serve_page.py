@@ -86,23 +86,75 @@ class Page(ServeCase):
         self.server.stop()
         browser.wait_for("document.getElementById('fault').textContent === \"The server doesn't answer.\"")
 
+    def fault_is_watched(self, browser):
+        """Counts from here on how often the fault's text is taken away."""
+        browser.see("window.gone = 0; new MutationObserver((all) => { gone += all.filter((it) => it.target.hidden).length })"
+                    ".observe(document.getElementById('fault'), { attributeFilter: ['hidden'] })")
+
+    def refresh(self, browser, edges):
+        """Has a row come in, and waits until the page has been refreshed with it."""
+        self.post("/v1/rows", {"rows": [["add", "transfer", f"more{edges}", "funnel", 7, 5]]})
+        browser.wait_for(f"document.getElementById('edges').textContent === '{edges}'")
+
     def test_a_name_that_isn_t_there(self):
+        """The fault stays while the page is refreshed, and goes when what the user tries next succeeds."""
         self.fed()
         browser = self.open()
+        browser.wait_for("document.getElementById('edges').textContent === '4'")
         browser.see("document.getElementById('vertex').value = 'nobody'; document.getElementById('look').requestSubmit()")
         told = browser.wait_for("!document.getElementById('fault').hidden && document.getElementById('fault').textContent")
         self.assertIn("no vertex of this name", told)
+        self.fault_is_watched(browser)
+        for edges in (5, 6):
+            self.refresh(browser, edges)
+        self.assertEqual((self.text(browser, "fault"), browser.see("window.gone")), (told, 0))
+        self.look(browser, "funnel")
+        self.assertEqual((self.text(browser, "fault"), browser.see("document.getElementById('fault').hidden")), ("", True))
+
+    def test_a_name_that_is_typed_and_looked_at_at_once(self):
+        """No search for the typed letters comes after, and takes the fault away."""
+        self.fed()
+        browser = self.open()
+        browser.wait_for("document.getElementById('edges').textContent === '4'")
+        browser.see("window.asked = []; window.plain = fetch; "
+                    "window.fetch = (...given) => { window.asked.push(given[0]); return plain(...given) }; 0")
+        browser.see("const it = document.getElementById('vertex'); it.value = 'nobody'; it.dispatchEvent(new Event('input')); "
+                    "document.getElementById('look').requestSubmit()")
+        told = browser.wait_for("!document.getElementById('fault').hidden && document.getElementById('fault').textContent")
+        self.fault_is_watched(browser)
+        browser.see("new Promise((done) => setTimeout(done, 600))")  # (a search begins 150 ms after a letter)
+        self.assertEqual((self.text(browser, "fault"), browser.see("window.gone")), (told, 0))
+        asked = browser.see("window.asked")
+        self.assertEqual([[it for it in asked if part in it] for part in ("v1/view", "v1/names")],
+                         [["v1/view?vertex=nobody&hops=2"], []])
+
+    def test_a_fault_of_the_user_and_one_of_the_server(self):
+        """Both are read, and the server's goes by itself when it answers again."""
+        self.fed()
+        browser = self.open()
+        browser.wait_for("document.getElementById('edges').textContent === '4'")
+        browser.see("document.getElementById('vertex').value = 'nobody'; document.getElementById('look').requestSubmit()")
+        told = browser.wait_for("!document.getElementById('fault').hidden && document.getElementById('fault').textContent")
+        browser.see("window.asked = fetch; window.fetch = () => Promise.reject(new TypeError('gone')); 0")
+        both = "The server doesn't answer.\n" + told
+        browser.wait_for(f"document.getElementById('fault').textContent === {json.dumps(both)}")
+        browser.see("window.fetch = window.asked; 0")
+        browser.wait_for(f"document.getElementById('fault').textContent === {json.dumps(told)}")
 
     def test_a_token(self):
         self.serve(token="open-sesame")
         browser = self.open()
         browser.wait_for("!document.getElementById('entry').hidden")
         self.assertEqual(self.text(browser, "edges"), "–")
-        for token, expression in (("wrong-one", "!document.getElementById('fault').hidden"),
-                                  ("open-sesame", "document.getElementById('edges').textContent === '0'")):
-            browser.see(f"document.getElementById('token').value = '{token}'; document.getElementById('entry').requestSubmit()")
-            browser.wait_for(expression)
-        browser.wait_for("document.getElementById('entry').hidden")
+        enter = "document.getElementById('token').value = '{}'; document.getElementById('entry').requestSubmit()"
+        told = browser.wait_for("!document.getElementById('fault').hidden && document.getElementById('fault').textContent")
+        self.fault_is_watched(browser)
+        browser.see(enter.format("wrong-one"))
+        browser.see("new Promise((done) => setTimeout(done, 1500))")  # (a refresh comes each second)
+        self.assertEqual((self.text(browser, "fault"), browser.see("window.gone")), (told, 0))
+        browser.see(enter.format("open-sesame"))
+        browser.wait_for("document.getElementById('edges').textContent === '0'")
+        browser.wait_for("document.getElementById('entry').hidden && document.getElementById('fault').hidden")
 
     def test_a_phone(self):
         """Nothing is wider than the screen."""

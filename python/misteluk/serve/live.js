@@ -18,18 +18,22 @@
         }
         return answer;
     };
-    const tell = (fault) => {
-        the("fault").hidden = !fault;
-        the("fault").textContent = fault ? fault.message : "";
+    // What the last refresh met, and the user's acts: their faults stay until she acts again, whatever is refreshed meanwhile.
+    const faults = { refresh: "", acts: [] };
+    const tell = () => {
+        const text = [...new Set([faults.refresh, ...faults.acts])].filter((it) => it !== "").join("\n");
+        the("fault").hidden = text === "";
+        if (the("fault").textContent !== text) the("fault").textContent = text;
     };
-    const trying = (act) => async (event) => {
+    const refreshing = (act) => async () => {
+        faults.refresh = await act().then(() => "", (fault) => fault.message);
+        tell();
+    };
+    const acting = (act) => async (event) => {
         event?.preventDefault();
-        try {
-            await act(event);
-            tell(null);
-        } catch (fault) {
-            tell(fault);
-        }
+        faults.acts = [];
+        tell();
+        await act().catch((fault) => { faults.acts.push(fault.message); tell(); });
     };
 
     // What the store holds.
@@ -48,7 +52,7 @@
         if (mine) {
             const button = element("button", "Let go");
             button.type = "button";
-            button.addEventListener("click", trying(letGo));
+            button.addEventListener("click", acting(letGo));
             act.append(button);
         }
         made.append(act);
@@ -76,7 +80,7 @@
         open: "No one feeds it.", followed: "Its feed is followed.", ended: "Its feed came to its end.",
         failed: "Its feed was ended by a fault", "a client feeds": "A client feeds it.",
     };
-    const look = trying(async () => {
+    const look = refreshing(async () => {
         const told = await (await ask("v1/stat")).json();
         the("entry").hidden = true;
         know(told);
@@ -112,7 +116,7 @@
     };
 
     // A vertex, and its neighborhood.
-    const find = trying(async () => {
+    const find = acting(async () => {
         const text = the("vertex").value.trim();
         const names = text === "" ? [] : (await (await ask(`v1/names?top=12&like=${encodeURIComponent(text)}`)).json()).columns.name;
         the("names").replaceChildren(...names.map((name) => {
@@ -123,7 +127,8 @@
             return item;
         }));
     });
-    const show = trying(async () => {
+    const show = acting(async () => {
+        clearTimeout(wait);  // (a search would take the fault of this away)
         const given = new URLSearchParams({ vertex: the("vertex").value.trim(), hops: the("hops").value });
         const beside = the("beside").value;
         if (beside !== "" && Number(beside) !== last) given.set("beside", beside);
@@ -134,12 +139,12 @@
         the("names").replaceChildren();
     });
 
-    the("entry").addEventListener("submit", trying(async () => {
+    the("entry").addEventListener("submit", acting(async () => {
         sessionStorage.setItem("token", the("token").value);
         the("token").value = "";
         await look();
     }));
-    the("hold").addEventListener("click", trying(hold));
+    the("hold").addEventListener("click", acting(hold));
     the("look").addEventListener("submit", show);
     the("vertex").addEventListener("input", () => { clearTimeout(wait); wait = setTimeout(find, 150); });
     // (the frame, which can do nothing else here, tells how high it is)
