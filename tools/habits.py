@@ -19,6 +19,8 @@
   to it.
 - No definition, and no lemma with its name and type, stands twice in `specs/` and `proofs/`.
 - A wrong body names files of its crate, and has pairs of an old line, which stands in its file once, and a new one.
+- README.md, CONTRIBUTING.md, CHANGELOG.md, docs/ and python/README.md have together at most 163,840 bytes, 160 KiB: a page that
+  gets longer has another get shorter.
 - A commit's subject has at most 72 characters.
 
 Its last line is 'N passed, M failed'.
@@ -37,6 +39,7 @@ WIDTH = 130
 SUBJECT = 72
 SENTENCE = 30
 ROOM = 60
+BYTES = 163_840
 # Subjects of before this one were written without the rule.
 SINCE = "cf1127e"
 PAGES = {".md", ".py", ".rs", ""}
@@ -332,6 +335,18 @@ def lost_edits(path):
         yield f"{name}: {olds} old lines and {news} new ones"
 
 
+def plain_pages(known):
+    """Returns the pages that users and contributors read: those at the top, in docs/, and the client's own."""
+    tops = {TOP / it for it in ("README.md", "CONTRIBUTING.md", "CHANGELOG.md", "python/README.md")}
+    return [it for it in known if it in tops or it.suffix == ".md" and it.parent == TOP / "docs"]
+
+
+def too_many_bytes(pages):
+    total = sum(len(it.read_bytes()) for it in pages)
+    if total > BYTES:
+        yield f"{len(pages)} pages have {total:,} bytes, {total - BYTES:,} too many"
+
+
 def long_subjects():
     is_known = subprocess.run(["git", "cat-file", "-e", SINCE], cwd=TOP, capture_output=True).returncode == 0
     for subject in git("log", "--format=%s", *([f"{SINCE}.."] if is_known else ["-1"])):
@@ -356,6 +371,7 @@ def main():
         "programs over the library": [*unshown_programs(), *unnamed_exports()],
         "statements": list(statements.told_twice(TOP)),
         "wrong bodies": [it for path in edits for it in lost_edits(path)],
+        "bytes of pages": list(too_many_bytes(plain_pages(known))),
         "subjects": list(long_subjects()),
     }
     for habit, places in habits.items():
