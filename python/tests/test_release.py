@@ -170,6 +170,7 @@ class Releases(Case):
         for it in first:
             self.assertEqual(run("sha256sum", "-c", f"{it.name}.sha256", cwd=it.parent).returncode, 0)
         self.notes_say_what_was_made(notes.read_text(), first)
+        self.leads_nowhere_else(notes.read_text())
         self.release(*self.unproved)
         self.assertEqual({it: hashlib.sha256(it.read_bytes()).hexdigest() for it in first}, first)
         with tarfile.open(archive) as tar:
@@ -199,8 +200,18 @@ class Releases(Case):
             self.assertIn(f"| `{name}` | {hashlib.sha256(pathlib.Path(it).read_bytes()).hexdigest()} |", notes)
         self.assertIn("**UNPROVED.**", notes)
         self.assertIn("toolchain none: not proved", notes)
-        changes = (TOP / "CHANGELOG.md").read_text().split(f"\n## {misteluk.__version__}\n")[1].split("\n## ")[0].strip()
-        self.assertIn(changes, notes)
+        changes = (TOP / "CHANGELOG.md").read_text().split(f"\n## {misteluk.__version__}\n")[1].split("\n## ")[0]
+        self.assertEqual(re.findall(r"(?m)^### (.*)$", changes), re.findall(r"(?m)^## (.*)$", notes))
+        parts = [it.strip() for it in re.split(r"(?m)^### .*$|\[[^\]]*\]\([^)]*\)", changes) if it.strip()]
+        self.assertGreater(len(parts), 5)
+        for it in parts:
+            self.assertIn(it, notes)
+
+    def leads_nowhere_else(self, notes):
+        """Notes are read where no page stands beside them."""
+        links = re.findall(r"\]\(([^)]*)\)", notes)
+        anchors = {f"#{it.lower().replace(' ', '-')}" for it in re.findall(r"(?m)^## (.*)$", notes)}
+        self.assertEqual([it for it in links if it not in anchors], [])
 
     def from_the_archive(self, there):
         """The client of the archive finds its program by itself."""
@@ -286,7 +297,8 @@ class Releases(Case):
         self.prove()
         self.refused("the gate did not pass over this commit: ./check runs it")
         (self.top / "out").mkdir()
-        for note in ("0" * 40 + "\nkit-1\n", self.git("rev-parse", "HEAD") + "\n"):
+        head = self.git("rev-parse", "HEAD")
+        for note in ("0" * 40 + "\nkit-1\n5 minutes\n", f"{head}\n", f"{head}\nkit-1\n", f"{head}\n\n5 minutes\n"):
             (self.top / "out/gate_passed").write_text(note)
             self.refused("the gate did not pass over this commit: ./check runs it")
 
@@ -294,14 +306,17 @@ class Releases(Case):
         """Has the copy look as after a gate that passed over its commit."""
         self.prove()
         (self.top / "out").mkdir()
-        (self.top / "out/gate_passed").write_text(self.git("rev-parse", "HEAD") + "\nkit-1 logic 2\n")
+        (self.top / "out/gate_passed").write_text(self.git("rev-parse", "HEAD") + "\nkit-1 logic 2\n31 minutes on 4 processors\n")
 
     def test_the_proved_program(self):
         self.addCleanup(self.git, "tag", "-d", TAG)
         self.pass_gate()
         archive, wheel, notes = self.release().stdout.splitlines()
         self.assertNotIn("UNPROVED", archive + pathlib.Path(notes).read_text())
-        self.assertIn("toolchain `kit-1 logic 2`.", pathlib.Path(notes).read_text())
+        self.leads_nowhere_else(pathlib.Path(notes).read_text())
+        notes = pathlib.Path(notes).read_text()
+        for it in ("toolchain `kit-1 logic 2`.", "It took 31 minutes on 4 processors.", self.git("rev-parse", "HEAD")):
+            self.assertIn(it, notes)
         self.assertEqual(pathlib.Path(wheel).name, f"misteluk-{misteluk.__version__}-py3-none-linux_x86_64.whl")
         with tarfile.open(archive) as tar:
             (page,) = (tar.extractfile(it).read().decode() for it in tar if it.name.endswith("x86_64/PROVED.md"))
