@@ -74,7 +74,7 @@ def every() -> Iterator[Measurement]:
     yield Measurement("renewals", "How long does a store in process stand still when it starts over, by its edges?", 0.5)
     yield Measurement("fleet", "What do fleets of parts take, in memory and in time?", 5)
     yield Measurement("serve", "How long do a server's clients wait, and what does the feed lose?", 3, ("starlette", "uvicorn"))
-    yield Measurement("soak", "Does a server stay as it is while clients come, go and are killed?", 31, ("starlette", "uvicorn"))
+    yield Measurement("soak", "Does a server stay as it is while clients hold, go and are killed?", 31, ("starlette", "uvicorn"))
     yield Measurement("quiet", "What can be measured in twelve minutes on a quiet machine?", 12, (),
                       ("rustc", "/usr/bin/time", "igraph", "networkx", "numpy", "starlette", "uvicorn"))
 

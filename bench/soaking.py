@@ -1,4 +1,5 @@
-"""A server under clients that come, go and are killed, and under readers that take little: what `soak` watches."""
+"""A server under clients that hold a version, come and go, fall silent or are killed, and under readers that take little: what
+`soak` watches."""
 from __future__ import annotations
 
 import collections
@@ -18,9 +19,13 @@ from typing import IO, Any, Counter, Dict, List, Tuple, cast
 from bench.measuring import of_process
 from bench.places import TOP
 
-NAMES, WINDOW, CLIENTS, IDLE, KILLED_EVERY = 20_000, 100_000, 8, 10.0, 5.0
-# What a client may meet: all seats are taken by versions of those that were killed, or its own was let go.
-FORESEEN = ("NoSeat", "Full", "SessionClosed")
+NAMES, WINDOW, IDLE, KILLED_EVERY = 20_000, 100_000, 10.0, 5.0
+# What clients of each sort may meet: all seats are taken by versions of those that were killed; and one that was silent for too
+# long has its version let go, as another may whom a busy machine kept waiting as long between two connections.
+HOLDS, COMES, SILENT = "holds", "comes and goes", "silent"
+FORESEEN = {HOLDS: ("NoSeat", "Full"), COMES: ("NoSeat", "Full", "SessionClosed"), SILENT: ("NoSeat", "Full", "SessionClosed")}
+# The eight clients, and from which of them on one may be killed.
+CLIENTS, MORTAL = (HOLDS, HOLDS, SILENT, HOLDS, *[COMES] * 4), 3
 
 
 def feed(pipe: IO[str], rate: int, new_names: int, is_over: threading.Event) -> None:
@@ -38,25 +43,62 @@ def feed(pipe: IO[str], rate: int, new_names: int, is_over: threading.Event) -> 
             return
 
 
-def client(url: str, seed: int) -> None:
-    """Connects, holds, asks and goes until it is killed; a line tells what each round met."""
+def asked(session: Any, chance: random.Random, names: List[str]) -> None:
+    vertex = chance.choice(names) if names else "v1"
+    calls: List[Any] = [session.out_of, session.levels, session.neighbors, session.out_of]
+    chance.choice(calls)(vertex)
+
+
+def tell(sort: str, met: Counter[str]) -> None:
+    """Tells in a line what a client met."""
+    print(json.dumps({f"{sort}: {it}": count for it, count in met.items()}), flush=True)
+    met.clear()
+
+
+def holding(session: Any, chance: random.Random, met: Counter[str]) -> None:
+    """Asks twice a second for half a minute to two, while later versions come: what it holds stays as it is."""
+    first = session.version, len(session), session.degrees().dict()
+    for count in range(chance.randrange(60, 240)):
+        asked(session, chance, list(first[2]))
+        met["answers"] += 1
+        if count % 10 == 9:
+            is_same = (session.version, len(session), session.degrees().dict()) == first
+            met["the version as it was" if is_same else "another version than the one held"] += 1
+            tell(HOLDS, met)
+        time.sleep(0.5)
+
+
+def coming(session: Any, chance: random.Random, met: Counter[str]) -> None:
+    """Asks a few questions, one after another."""
+    names = list(session.degrees())
+    for _ in range(chance.randrange(5, 40)):
+        asked(session, chance, names)
+        met["answers"] += 1
+        time.sleep(0.1)
+
+
+def silent(session: Any, chance: random.Random, met: Counter[str]) -> None:
+    """Asks once, is silent for longer than the server waits, and asks again."""
+    asked(session, chance, [])
+    met["answers"] += 1
+    time.sleep(2.5 * IDLE)
+    asked(session, chance, [])
+    met["an answer after its silence"] += 1
+
+
+def client(url: str, sort: str, seed: str) -> None:
+    """Does as clients of its sort do, again and again until it is killed; a line tells what each round met."""
     import misteluk
-    chance = random.Random(seed)
+    chance, does = random.Random(seed), {HOLDS: holding, COMES: coming, SILENT: silent}[sort]
     while True:
         met: Counter[str] = collections.Counter()
         try:
             with misteluk.connect(url) as session:
-                names = list(session.degrees())
-                for _ in range(chance.randrange(5, 40)):
-                    vertex = chance.choice(names) if names else "v1"
-                    calls: List[Any] = [session.out_of, session.levels, session.neighbors, session.out_of]
-                    chance.choice(calls)(vertex)
-                    met["answers"] += 1
-                    time.sleep(0.1)
+                does(session, chance, met)
         except misteluk.StoreError as fault:
             met[type(fault).__name__] += 1
             time.sleep(0.5)
-        print(json.dumps(met), flush=True)
+        tell(sort, met)
 
 
 class Clients:
@@ -65,11 +107,11 @@ class Clients:
     def __init__(self, url: str) -> None:
         self._url, self._seed, self.killed = url, 0, 0
         self.met: Counter[str] = collections.Counter()
-        self._running = [self._begun() for _ in range(CLIENTS)]
+        self._running = [self._begun(it) for it in CLIENTS]
 
-    def _begun(self) -> "subprocess.Popen[str]":
+    def _begun(self, sort: str) -> "subprocess.Popen[str]":
         self._seed += 1
-        words = [sys.executable, "-m", "bench", "run", "soak", "--client", self._url, str(self._seed)]
+        words = [sys.executable, "-m", "bench", "run", "soak", "--client", self._url, sort, str(self._seed)]
         process = subprocess.Popen(words, cwd=TOP, stdout=subprocess.PIPE, text=True)
         threading.Thread(target=self._read, args=(process.stdout,)).start()
         return process
@@ -83,9 +125,9 @@ class Clients:
         lines.close()
 
     def kill_one(self) -> None:
-        at = random.randrange(CLIENTS)
+        at = random.randrange(MORTAL, len(CLIENTS))
         self._end(self._running[at])
-        self._running[at] = self._begun()
+        self._running[at] = self._begun(CLIENTS[at])
         self.killed += 1
 
     def _end(self, process: "subprocess.Popen[str]") -> None:
@@ -124,6 +166,13 @@ def status_of_post(path: str) -> int:
         return connection.getresponse().status
     finally:
         connection.close()
+
+
+def strange(met: Counter[str]) -> Dict[str, int]:
+    """What clients met that none of their sort may meet; and what each time should have met them, if it never did."""
+    must = f"{HOLDS}: the version as it was", f"{SILENT}: SessionClosed"
+    foreseen = {*must, *(f"{sort}: {it}" for sort, them in FORESEEN.items() for it in (*them, "answers"))}
+    return {**{it: count for it, count in met.items() if it not in foreseen}, **{it: 0 for it in must if not met[it]}}
 
 
 class Watched:

@@ -4,11 +4,15 @@ measuring with a stand-in for the program; and that a cost which has grown fails
 from __future__ import annotations
 
 import argparse
+import collections
 import importlib
 import importlib.util
 import io
+import json
+import math
 import os
 import pathlib
+import random
 import re
 import shutil
 import subprocess
@@ -16,13 +20,13 @@ import sys
 import tempfile
 import unittest
 from contextlib import redirect_stderr, redirect_stdout
-from typing import Dict, List, Optional
+from typing import Dict, List, Optional, Tuple
 from unittest import mock
 
 sys.dont_write_bytecode = True
 TOP = pathlib.Path(__file__).resolve().parent.parent
 sys.path[:0] = [str(TOP), str(TOP / "python")]
-from bench import measuring, needs, readme, scripts, tables  # noqa: E402
+from bench import measuring, needs, readme, scripts, soaking, tables  # noqa: E402
 from bench.catalog import CATALOG, Measurement  # noqa: E402
 from bench.measurements import costs, quiet  # noqa: E402
 
@@ -199,6 +203,65 @@ class Measuring(unittest.TestCase):
         for command, told in ends.items():
             self.assertEqual(quiet.run_within(["sh", "-c", command], to, 1, ""), told)
         self.assertIn("not here\n", to.read_text())
+
+
+class Degrees(Dict[str, int]):
+    def dict(self) -> Dict[str, int]:
+        return self
+
+
+class Held:
+    """Stands in for a session, whose version is another from some question on."""
+
+    def __init__(self, questions: float) -> None:
+        self.left, self.asked = questions, 0
+
+    @property
+    def version(self) -> int:
+        return 1 if self.asked <= self.left else 2
+
+    def __len__(self) -> int:
+        return 3
+
+    def degrees(self) -> Degrees:
+        return Degrees({"a": 1})
+
+    def levels(self, vertex: str) -> None:
+        self.asked += 1
+
+    out_of = neighbors = levels
+
+
+class Soaking(unittest.TestCase):
+    def held(self, questions: float) -> "collections.Counter[str]":
+        met: "collections.Counter[str]" = collections.Counter()
+        told = io.StringIO()
+        with mock.patch("time.sleep"), redirect_stdout(told):
+            soaking.holding(Held(questions), random.Random(1), met)
+            soaking.tell(soaking.HOLDS, met)
+        for line in told.getvalue().splitlines():
+            met.update(json.loads(line))
+        return met
+
+    def test_what_is_held(self) -> None:
+        """A version that is another one is seen, and else it is said that it was as before."""
+        for questions, word, other in ((math.inf, "the version as it was", "another version than the one held"),
+                                       (9, "another version than the one held", "the version as it was")):
+            met = self.held(questions)
+            self.assertGreater(met[f"holds: {word}"], 5)
+            self.assertEqual(met[f"holds: {other}"], 0)
+
+    def test_what_is_strange(self) -> None:
+        """What must be met and isn't, and what none of a sort may meet."""
+        must = {"holds: the version as it was": 1, "silent: SessionClosed": 1}
+        cases: List[Tuple[Dict[str, int], Dict[str, int]]] = [
+            ({}, {}), ({"comes and goes: SessionClosed": 2, "holds: NoSeat": 1, "holds: answers": 9}, {}),
+            ({"holds: SessionClosed": 1}, {"holds: SessionClosed": 1}),
+            ({"silent: an answer after its silence": 1}, {"silent: an answer after its silence": 1}),
+            ({"silent: SessionClosed": 0}, {"silent: SessionClosed": 0}),
+            ({"holds: the version as it was": 0}, {"holds: the version as it was": 0})]
+        for more, told in cases:
+            self.assertEqual(soaking.strange(collections.Counter({**must, **more})), told, more)
 
 
 if __name__ == "__main__":

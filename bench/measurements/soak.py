@@ -1,16 +1,17 @@
 """Whether a server stays as it is while clients come, go and are killed: half an hour of it, on this machine alone.
 
-    python3 -m bench run soak --minutes 2     or 30 without a number
-    python3 -m bench run soak --minutes 9 --new-names 1000         in ten minutes: names come and go five times as fast
+    python3 -m bench run soak --minutes 9 --new-names 1000         in place of 30; names come and go five times as fast
 
-`misteluk serve -` runs as a process. Its standard input is a feed of 10,000 rows a second, whose window holds 100,000 of them
-and whose names come and go. Eight clients, processes, each connect, hold a version, ask, and go, again and again; one of them is
-killed (SIGKILL) every five seconds, and another takes its place. One reader takes all edges at 160,000 bytes a second, another
-takes nothing of its answer, and one that posts rows gets `Busy`.
+The standard input of `misteluk serve -` is a feed of 10,000 rows a second; its window holds 100,000, and names come and go. Eight
+clients are processes. Three hold a version for up to two minutes and ask it, and it must stay as it is; four connect, ask, and
+go; one is silent for 25 seconds, and must find its version closed. One of these four and a holder is killed (SIGKILL) every five
+seconds, and another takes its place. One reader takes all edges at 160,000 bytes a second, another nothing of its answer, and one
+that posts rows gets `Busy`.
 
-A row shows the most memory and descriptors of the server in the minutes before it. Status 1 means that the last quarter took over
-1.1 times the memory of the third one; that descriptors or held versions are left once all clients are gone; that the server wrote
-a fault; or that a client met another one than `NoSeat`, `Full` and `SessionClosed`.
+A row, each minute or twelfth of a shorter time, has the most memory and descriptors of the server's process since the row before.
+Status 1: the last quarter took over 1.1 times the memory of the third; descriptors or versions are left once all clients are
+gone; the server wrote a fault; a client met another one than `NoSeat`, `Full` and, if it doesn't hold on, `SessionClosed`; or the
+silent one never met this, or no holder asked ten times.
 """
 from __future__ import annotations
 
@@ -30,7 +31,7 @@ def options(parser: argparse.ArgumentParser) -> None:
     parser.add_argument("--rate", type=int, default=10_000, help="rows a second")
     parser.add_argument("--new-names", type=int, default=200, help="a second; idle ones are let go when there are 131,071")
     parser.add_argument("--renew-after", default="1000000", metavar="OPERATIONS", help="as the server takes it")
-    parser.add_argument("--client", nargs=2, metavar=("URL", "SEED"), help=argparse.SUPPRESS)
+    parser.add_argument("--client", nargs=3, metavar=("URL", "SORT", "SEED"), help=argparse.SUPPRESS)
 
 
 class Soak:
@@ -44,9 +45,9 @@ class Soak:
         self.statuses: Counter[int] = collections.Counter()
 
     def rows(self, seconds: float) -> Iterator[List[str]]:
-        """A row each twelfth of the time."""
-        begun, next_kill, since = time.monotonic(), soaking.KILLED_EVERY, 0.0
-        rows_before, next_row = stat_of(self.store)["feed"]["rows"], seconds / 12
+        """A row each minute, or each twelfth of a short time."""
+        begun, next_kill, since, every = time.monotonic(), soaking.KILLED_EVERY, 0.0, min(60.0, seconds / 12)
+        rows_before, next_row = stat_of(self.store)["feed"]["rows"], every
         while time.monotonic() - begun < seconds:
             time.sleep(1)
             now = time.monotonic() - begun
@@ -60,7 +61,7 @@ class Soak:
                 rate = (stat["feed"]["rows"] - rows_before) / (now - since)
                 counts = map(tables.count, (rate, len(stat["held"]), stat["edges"], stat["operations_kept"]))
                 yield [f"{now / 60:.1f}", f"{max(it[1] for it in recent):.0f}", str(max(it[2] for it in recent)), *counts]
-                rows_before, since, next_row = stat["feed"]["rows"], now, next_row + seconds / 12
+                rows_before, since, next_row = stat["feed"]["rows"], now, next_row + every
 
     def faults(self) -> Iterator[str]:
         """What isn't as it should be."""
@@ -77,8 +78,7 @@ class Soak:
         if len(held) != 1 or held[0]["clients"]:
             yield f"versions are left: {held}"
         yield from (f"a fault in the server's log:{it}" for it in self.server.faults()[:1])
-        strange = {it: count for it, count in self.clients.met.items() if it not in (*soaking.FORESEEN, "answers")}
-        if strange or set(self.statuses) != {409}:
+        if (strange := soaking.strange(self.clients.met)) or set(self.statuses) != {409}:
             yield f"clients met {strange}, posts {dict(self.statuses)}"
 
 
@@ -101,7 +101,7 @@ def watched(server: Watched, seconds: float, is_over: threading.Event, store: An
 def measure(words: argparse.Namespace, room: pathlib.Path) -> int:
     import misteluk
     if words.client:
-        soaking.client(words.client[0], int(words.client[1]))
+        soaking.client(*words.client)
     server, is_over, no_feed = Watched(room, words.renew_after), threading.Event(), threading.Event()
     feeder = threading.Thread(target=soaking.feed, args=(server.process.stdin, words.rate, words.new_names, no_feed))
     feeder.start()
