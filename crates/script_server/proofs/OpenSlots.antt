@@ -4,7 +4,7 @@ use Rattle.std.proofs.lemmas.{Bool.{eqb-true, eqb-false}, List.map-append, List.
 use Rattle.std.specs.{Prelude.{None, Some, Option, Result, Ok, Err, slice_get, if◌then◌else◌}, List.{AllZip, list_any}}
 use Rattle.feed_csv.specs.{Commands.item_of, Records.Row, declared.command.Command.Command, declared.command.FeedWord.FeedWord}
 use Rattle.feed_csv.specs.declared.command.Command.TheVariants.{Op, Commit, OpenSlot, CloseSlot, Query, Collect, Stat, Rebase}
-use Rattle.graph_types.specs.{Graph.Graph, declared.requests.Request.Request}
+use Rattle.graph_types.specs.{Graph.{Graph, unlimited}, declared.requests.Request.Request}
 use Rattle.epoch_core.specs.{Holdings.Observation, Machine.Question}
 use Rattle.script_lines.specs.declared.words.Word.{Word}
 use Rattle.script_commands.specs.States.{Held, IsRecordResult, IsReplied, Progress, RecordResult, ServerState, after_item}
@@ -12,7 +12,7 @@ use Rattle.script_commands.specs.States.{after_record, beginning, last_held, ver
 use Rattle.script_server.specs.{Executions.Executes, Sessions.{AreToldAlike, IsToldAt, OthersChangeNothing, StaysOpen, Tells}}
 use Rattle.script_server.specs.Sessions.{asked_in, asked_of, closes_slot, observed_in, request_to, requests_to}
 use Rattle.script_server.proofs.SessionLines.{Stands, Turn, both_told, none_replicated, stands_committed, stands_else, turn}
-use Rattle.script_server.proofs.SessionLines.{was_free}
+use Rattle.script_server.proofs.SessionLines.{told_unlimited, was_free}
 
 stays : (slot : ℕ) (item : Result Command FeedWord) (s : ServerState) (outcome : RecordResult) (g : Graph)
     → closes_slot slot item ≡ false → Stands slot s (Some g) → IsRecordResult item s outcome
@@ -52,8 +52,11 @@ told_held slot request s outcome g (Err word) at stands is = absurd (let no : Er
 told_held slot request s outcome g (Ok held) at stands is =
     let both : Ok held ≡ Ok stands.0 = sym at ∙ stands.1 in
     let same : held ≡ stands.0 = cc in
-    let graph : version held.number s ≡ g = ap (λ h. version h.number s) same ∙ stands.3 in
-    (subst (λ h. IsToldAt slot (record { request = request; graph = h }) outcome) graph (is.0, is.1, is.2), tt)
+    let graph : unlimited (version held.number s) ≡ g = ap (λ h. unlimited (version h.number s)) same ∙ stands.3 in (
+      subst (λ h. IsToldAt slot (record { request = request; graph = h }) outcome) graph
+          (told_unlimited slot request (version held.number s) outcome (is.0, is.1, is.2)),
+      tt,
+    )
 
 told_query : (slot other : ℕ) (request : Request) (s : ServerState) (outcome : RecordResult) (g : Graph) (t : Bool)
     → other == slot ≡ t → Stands slot s (Some g) → IsReplied other request s (version_in (slice_get s.held other)) outcome

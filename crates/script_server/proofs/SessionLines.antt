@@ -6,9 +6,11 @@ use Rattle.std.proofs.lemmas.List.Elements.{same_from_all_zip}
 use Rattle.std.specs.{Prelude.{None, Some, Option, Result, Ok, Err, slice_get, slice_set, if◌then◌else◌}, List.AllZip}
 use Rattle.feed_csv.specs.{Commands.item_of, Records.Row, declared.command.Command.Command, declared.command.FeedWord.FeedWord}
 use Rattle.feed_csv.specs.declared.command.Command.TheVariants.{Op, Commit, OpenSlot, CloseSlot, Query, Collect, Stat, Rebase}
-use Rattle.graph_types.{proofs.OneAnswer.one_answer, specs.{Graph.Graph, Step.left_by, declared.requests.Request.Request}}
+use Rattle.graph_types.proofs.{OneAnswer.one_answer, LimitsKept.same_answer}
+use Rattle.graph_types.specs.{Graph.{Graph, unlimited}, Limits.standard_limits, Step.left_by}
+use Rattle.graph_types.specs.declared.requests.Request.{Request, TheVariants.{Levels, Labels, Cores, Degrees, OneEdge}}
 use Rattle.epoch_core.specs.{Holdings.{Observation, Entered, Replied, Released, answered_first, holdings_of, questions}}
-use Rattle.epoch_core.{specs.Machine.Question, proofs.Lists.{set_same, set_else}}
+use Rattle.epoch_core.{specs.{Machine.Question, Worlds.Answer}, proofs.Lists.{set_same, set_else}}
 use Rattle.script_lines.specs.{declared.words.Word.Word}
 use Rattle.script_commands.specs.States.{Held, IsRecordResult, IsReplied, Progress, RecordResult, ServerState, Setup, after_commit}
 use Rattle.script_commands.specs.States.{after_item, after_record, answer_result, beginning, close_result, last_held, last_version}
@@ -16,11 +18,27 @@ use Rattle.script_commands.specs.States.{lines_unless, open_refusal, rebase_resu
 use Rattle.script_server.specs.{Executions.Executes, Sessions.{AgreeingSlotsAreToldAlike, AreToldAlike, IsToldAt, LinesAreAnswers}}
 use Rattle.script_server.specs.Sessions.{Tells, TellsOfEachSlot, asked_in, asked_of, observed_in}
 
--- the slot holds no version, or one of this graph
+-- the slot holds no version, or one of this graph, whatever the limits
 abbrev pub Stands : ℕ → ServerState → Option Graph → Type 0
 Stands slot s None = (held : Held) → version_in (slice_get s.held slot) ≡ Ok held → ⊥
 Stands slot s (Some g) =
-    (held : Held) × (version_in (slice_get s.held slot) ≡ Ok held) × (held.number ≤ length s.batches) × (version held.number s ≡ g)
+    (held : Held) × (version_in (slice_get s.held slot) ≡ Ok held) × (held.number ≤ length s.batches)
+    × (unlimited (version held.number s) ≡ g)
+
+-- what an answer comes to doesn't show the limits of its graph
+one_result : (slot : ℕ) (request : Request) (g : Graph) (answer : Answer)
+    → answer_result slot request g answer ≡ answer_result slot request (unlimited g) answer
+one_result slot (Levels source filter) g answer = refl
+one_result slot (Labels filter) g answer = refl
+one_result slot (Cores filter) g answer = refl
+one_result slot (Degrees filter) g answer = refl
+one_result slot (OneEdge kind source target) g answer = refl
+
+pub told_unlimited : (slot : ℕ) (request : Request) (g : Graph) (outcome : RecordResult)
+    → IsToldAt slot (record { request = request; graph = g }) outcome
+    → IsToldAt slot (record { request = request; graph = unlimited g }) outcome
+told_unlimited slot request g outcome told =
+    (told.0, same_answer request g standard_limits told.0 told.1, told.2 ∙ one_result slot request g told.0)
 
 -- the questions of the holding that goes on, and of those to come
 abbrev here_owed : Option Graph → List Observation → List Question
@@ -47,7 +65,8 @@ stands_committed slot s (Some g) stands = (
   stands.0,
   stands.1,
   omega (arith, stands.2, length-append s.batches (s.pending ∷ [])),
-  ap (λ batches. left_by batches s.opening) (take-append-le stands.0.number s.batches (s.pending ∷ []) stands.2) ∙ stands.3,
+  ap (λ batches. unlimited (left_by batches s.opening)) (take-append-le stands.0.number s.batches (s.pending ∷ []) stands.2)
+      ∙ stands.3,
 )
 
 -- a slot that is opened, or closed
@@ -61,15 +80,15 @@ stands_else slot other s to (Some g) ne stands =
 opens : (slot other : ℕ) (s : ServerState) (now : Option Graph) (t : Bool) → other == slot ≡ t → Stands slot s now
     → slice_get s.held other ≡ Some None
     → Turn slot (record s { held = slice_set s.held other (Some (last_held s)) }) now
-    (if t then Entered (last_version s) ∷ [] else []) []
+    (if t then Entered (unlimited (last_version s)) ∷ [] else []) []
 opens slot other s None true is stands free = record {
-  next = Some (last_version s);
+  next = Some (unlimited (last_version s));
   stands = (
     last_held s,
     ap version_in (ap (slice_get (slice_set s.held other (Some (last_held s)))) (sym (eqb-true other slot is))
         ∙ set_same s.held other None (Some (last_held s)) free),
     omega arith,
-    ap (λ batches. left_by batches s.opening) (take_all (length s.batches) s.batches (omega arith)),
+    ap (λ batches. unlimited (left_by batches s.opening)) (take_all (length s.batches) s.batches (omega arith)),
   );
   answers = λ more rest z. z;
 }
@@ -127,12 +146,13 @@ asks slot request s None outcome (Ok held) at stands is = absurd (stands held at
 asks slot request s (Some g) outcome (Ok held) at stands is =
     let both : Ok held ≡ Ok stands.0 = sym at ∙ stands.1 in
     let same : held ≡ stands.0 = cc in
-    let graph : version held.number s ≡ g = ap (λ h. version h.number s) same ∙ stands.3 in
+    let graph : unlimited (version held.number s) ≡ g = ap (λ h. unlimited (version h.number s)) same ∙ stands.3 in
     record {
       next = Some g;
       stands = stands;
       answers = λ more rest z. (
-        subst (λ h. IsToldAt slot (record { request = request; graph = h }) outcome) graph (is.0, is.1, is.2),
+        subst (λ h. IsToldAt slot (record { request = request; graph = h }) outcome) graph
+            (told_unlimited slot request (version held.number s) outcome (is.0, is.1, is.2)),
         z,
       );
     }

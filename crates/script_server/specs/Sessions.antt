@@ -3,7 +3,7 @@ use Rattle.std.specs.Prelude.{◌≡◌, ℕ, ◌+◌, ◌==◌, List, [], ◌�
 use Rattle.std.specs.{Prelude.Bool, Prelude.true, Prelude.false, Prelude.IsFalse, List.{AllZip, flat_map, list_any}}
 use Rattle.feed_csv.specs.{Commands.item_of, Records.Row}
 use Rattle.feed_csv.specs.declared.{command.Command.{Command, TheVariants.{OpenSlot, CloseSlot, Query, Rebase}}, command.FeedWord.FeedWord}
-use Rattle.graph_types.specs.declared.requests.Request.{Request}
+use Rattle.graph_types.specs.{Graph.unlimited, declared.requests.Request.Request}
 use Rattle.epoch_core.specs.{Holdings.{Observation, Entered, Replied, Released, holdings_of, questions}, Worlds.Answer}
 use Rattle.epoch_core.specs.Machine.{Question, Answers}
 use Rattle.script_lines.specs.declared.words.Word.{Word}
@@ -20,10 +20,10 @@ abbrev pub asked_of : ℕ → ServerState → Result Command FeedWord → List R
 asked_of slot s (Ok (Query other request)) = if other == slot then asked_in (version_in (slice_get s.held slot)) request else []
 asked_of slot s _ = []
 
--- what befalls the slot in a record that comes to this: it is opened on the last version, closed, as a rebase closes all slots,
--- or replied to
+-- what befalls the slot in a record that comes to this: it is opened on the last version, whatever the limits, closed, as a rebase
+-- closes all slots, or replied to
 abbrev pub observed_in : ℕ → ServerState → Result Command FeedWord → RecordResult → List Observation
-observed_in slot s (Ok (OpenSlot other)) (Ok lines) = if other == slot then Entered (last_version s) ∷ [] else []
+observed_in slot s (Ok (OpenSlot other)) (Ok lines) = if other == slot then Entered (unlimited (last_version s)) ∷ [] else []
 observed_in slot s (Ok (CloseSlot other)) (Ok lines) = if other == slot then Released ∷ [] else []
 observed_in slot s (Ok (Rebase other)) (Ok lines) = Released ∷ []
 observed_in slot s item _ = map Replied (asked_of slot s item)
@@ -63,7 +63,8 @@ LinesAreAnswers =
 
 -- in two scripts, over any set-ups: where two slots have the same holdings, the k-th requests are told one answer, and at slots of
 -- one number they come to the same: the same lines, or the same word, beside which an error line has its record's number. Holdings
--- are the same where they are as many, and the k-th ones have versions of equal graphs and equal lists of requests
+-- are the same where they are as many, and the k-th ones have versions of equal graphs, whatever the limits, and equal lists of
+-- requests
 pub record AgreeingSlotsAreToldAlike : Type 0 where
   pub two_slots :
       (slot other : ℕ) (setup other_setup : Setup) (rows other_rows : List Row) (text other_text : List ℕ)

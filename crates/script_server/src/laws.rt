@@ -20,9 +20,9 @@ pub fn law_some_text()
 /// - `each`: each text that a script prints says what befell each slot, and what the slot's requests came to.
 /// - `answers`, in one script: these are, one by one, the answers to the requests of the slot's holdings, each over what the
 ///   batches up to the held version leave.
-/// - `alike`, in two scripts, over any set-ups: where two slots have as many holdings, of versions of equal content and with
-///   equal lists of requests, the k-th requests get one answer; at slots of one number the same lines or the same word, beside
-///   which an error line has its record's number.
+/// - `alike`, in two scripts, over any set-ups: where two slots have as many holdings, of versions of equal content, whatever
+///   the limits, and with equal lists of requests, the k-th requests get one answer; at slots of one number the same lines or
+///   the same word, beside which an error line has its record's number.
 /// - `others`, from where a slot holds a version on: until a `close` or a `rebase` the same requests are told the same,
 ///   whatever other records are added or struck.
 pub fn law_session_lines()
