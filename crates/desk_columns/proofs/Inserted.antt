@@ -1,5 +1,5 @@
 -- A batch with one insertion more, and a refusal of a part as one of the whole.
-use Rattle.std.proofs.Common.{◌≡◌, ℕ, ◌+◌, suc, List, length, count_by, Option, Some, true, refl, sym, ap, subst, inl, inr, ◌∙◌, add-one}
+use Rattle.std.proofs.Common.{◌≡◌, ℕ, ◌+◌, ◌<◌, suc, List, length, count_by, Option, Some, true, refl, sym, ap, subst, inl, inr, ◌∙◌, add-one}
 use Rattle.std.specs.Prelude.{Result, Ok, Err}
 use Rattle.graph_types.specs.{Limits.most_operations, declared.batches.NamedOp.NamedOp}
 use Rattle.block_reclamation.specs.Status.{is_free}
@@ -37,6 +37,7 @@ pub taken_of : (old new : OwnedView) (counts counted : Counts) (ops : List Named
 taken_of old new counts counted ops a tried counted_is = record {
   from = tried.from;
   collected = tried.collected;
+  within = tried.applied.within;
   accepts = tried.applied.accepted;
   held = tried.applied.held;
   counted_is = counted_is ∙ (ap (λ (n : ℕ). with_outcomes counts n a.outcomes) tried.applied.number
@@ -57,16 +58,17 @@ refused_of old new ops error tried =
     )
 
 pub refused_rest : (c : Insertions) (done : ℕ) (old new : OwnedView) (error : InsertColumnsError) → are_alike c ≡ true
-    → RefusesPart c done old error new → RefusesRest c done old error new
-refused_rest c done old new BadLength alike refused = absurd refused
-refused_rest c done old new (BadInsertion error) alike refused = (alike, refused)
-refused_rest c done old new (Refused error) alike refused = (alike, refused)
-refused_rest c done old new OutOfMemory alike refused = (alike, refused)
+    → done < length c.sources → RefusesPart c done old error new → RefusesRest c done old error new
+refused_rest c done old new BadLength alike left refused = absurd refused
+refused_rest c done old new (BadInsertion error) alike left refused = (alike, left, refused)
+refused_rest c done old new (Refused error) alike left refused = (alike, left, refused)
+refused_rest c done old new OutOfMemory alike left refused = (alike, left, refused)
 
 pub refused_at : (c : Insertions) (at done : ℕ) (old new : OwnedView) (error : InsertColumnsError) → done ≡ at → are_alike c ≡ true
-    → RefusesPart c at old error new → RefusesRest c done old error new
-refused_at c at done old new error same alike refused =
-    refused_rest c done old new error alike (subst (λ (n : ℕ). RefusesPart c n old error new) (sym same) refused)
+    → at < length c.sources → RefusesPart c at old error new → RefusesRest c done old error new
+refused_at c at done old new error same alike left refused =
+    refused_rest c done old new error alike (subst (λ (n : ℕ). n < length c.sources) (sym same) left)
+    (subst (λ (n : ℕ). RefusesPart c n old error new) (sym same) refused)
 
 -- the insertions that are in: none, and the same ones
 pub begun : (first : OwnedView) (start counts : Counts) (c : Insertions) → counts ≡ start → AreIn first start c 0 first counts

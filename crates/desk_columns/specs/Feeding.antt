@@ -4,7 +4,7 @@ use Rattle.graph_types.specs.{Limits.{most_operations, operation_limit}, Step.ou
 use Rattle.graph_version.specs.Versions.{content}
 use Rattle.block_reclamation.specs.{Status.is_free}
 use Rattle.store_steps.specs.{Boards.raised_board, Desks.IsCollected, Steps.Accepts}
-use Rattle.desk.specs.{Owned.{OwnedView, copied}, Refusals.Refuses, declared.errors.ApplyError.ApplyError, declared.ready.Accepted.Accepted}
+use Rattle.desk.specs.{Owned.{OwnedView, copied}, Refusals.{Refuses, IsWithin}, declared.errors.ApplyError.ApplyError, declared.ready.Accepted.Accepted}
 use Rattle.desk.specs.declared.errors.ApplyError.TheVariants.{PoolEmpty}
 use Rattle.batch_columns.specs.Dictionaries.{Insertions, insertion_at, insertions_from, IsInserted}
 use Rattle.batch_columns.specs.declared.columns.InsertError.{InsertError}
@@ -46,6 +46,7 @@ MayCollect ops old new =
 -- a batch is applied to a desk as it is, or refused
 pub record IsApplied (old : OwnedView) (ops : List NamedOp) (answer : Result Accepted ApplyError) (new : OwnedView) : Type 0 where
   pub held : new ≡ record old { desk = new.desk }
+  pub within : OnOk answer (IsWithin old.desk.last (count_by is_free old.desk.pool) ops)
   pub accepted : OnOk answer (Accepts old.desk ops new.desk)
   pub number : IfOk answer (λ a. a.number ≡ length new.desk.last.batches)
   pub outcomes_are : IfOk answer (λ a. a.outcomes ≡ outcomes ops (content old.desk.last))
@@ -62,6 +63,7 @@ pub record IsTried (old : OwnedView) (ops : List NamedOp) (answer : Result Accep
 pub record Takes (old : OwnedView) (counts : Counts) (ops : List NamedOp) (new : OwnedView) (counted : Counts) : Type 0 where
   pub from : OwnedView
   pub collected : MayCollect ops old from
+  pub within : IsWithin from.desk.last (count_by is_free from.desk.pool) ops
   pub accepts : Accepts from.desk ops new.desk
   pub held : new ≡ record from { desk = new.desk }
   pub counted_is : counted ≡ with_outcomes counts (length new.desk.last.batches) (outcomes ops (content from.desk.last))
@@ -91,9 +93,10 @@ batch_length parts c at = min (parts * operation_limit) (length c.sources - at)
 abbrev pub BearsParts : OwnedView → ℕ → Type 0
 BearsParts o parts = (parts ≡ 1) ⊎ ((parts ≤ most_parts) × (parts * operation_limit ≤ count_by is_free o.desk.pool))
 
--- so many insertions from a place on are taken as a batch, and counted
+-- so many insertions from a place on, and at least one, are taken as a batch, and counted
 pub record TakesNext (c : Insertions) (at count : ℕ) (old : OwnedView) (counts : Counts) (new : OwnedView) (counted : Counts)
     : Type 0 where
+  pub some : 0 < count
   pub parts : ℕ
   pub bears : BearsParts old parts
   pub count_is : count ≡ batch_length parts c at
@@ -115,12 +118,10 @@ RefusesPart c at old (Refused error) new =
     (ops : List NamedOp) × (insertions_from c at (batch_length 1 c at) ≡ Some ops) × RefusesBatch old ops error new
 RefusesPart c at old OutOfMemory new = new ≡ old
 
--- the same of the whole, of which the insertions before a place are in
+-- the same of the whole, of which the insertions before a place are in; some are left where the columns have one length
 abbrev pub RefusesRest : Insertions → ℕ → OwnedView → InsertColumnsError → OwnedView → Type 0
 RefusesRest c done old BadLength new = (are_alike c ≡ false) × (done ≡ 0) × (new ≡ old)
-RefusesRest c done old (BadInsertion error) new = (are_alike c ≡ true) × RefusesPart c done old (BadInsertion error) new
-RefusesRest c done old (Refused error) new = (are_alike c ≡ true) × RefusesPart c done old (Refused error) new
-RefusesRest c done old OutOfMemory new = (are_alike c ≡ true) × RefusesPart c done old OutOfMemory new
+RefusesRest c done old error new = (are_alike c ≡ true) × (done < length c.sources) × RefusesPart c done old error new
 
 abbrev pub Ends : Insertions → ℕ → OwnedView → Result (Unit {0}) InsertColumnsError → OwnedView → Type 0
 Ends c done old (Ok _) new = (are_alike c ≡ true) × (done ≡ length c.sources) × (new ≡ old)

@@ -215,7 +215,6 @@ fn insert_next(
     requires within { from < length insertions.now.sources.now }
     requires alike { specs.are_alike (columns_of insertions.now) ≡ true }
     ensures taken { IfOk result (λ count. TakesNext (columns_of insertions.now) from count desk.old counts.old desk.new counts.new) }
-    ensures some { IfOk result (λ count. 0 < count) }
     ensures refused { IfErr result (λ e. RefusesPart (columns_of insertions.now) from desk.old e desk.new) }
     ensures counts { OnErr result (counts.new ≡ counts.old) }
 {

@@ -11,6 +11,7 @@ returns-in-Ok c =
       collected = inl refl;
       applied = record {
         held = e.held;
+        within = e.within;
         accepted = e.accepted;
         number = e.number;
         outcomes_are = e.outcomes;
@@ -27,6 +28,7 @@ returns-in-Err c =
       collected = inl refl;
       applied = record {
         held = e.held;
+        within = e.within;
         accepted = e.accepted;
         number = e.number;
         outcomes_are = e.outcomes;
@@ -47,6 +49,7 @@ returns-in-Err-PoolEmpty c =
     (record { desk = collected.collected; board = collected.board; held = collected.held })
     (record {
       held = e.held;
+      within = e.within;
       accepted = e.accepted;
       number = e.number;
       outcomes_are = e.outcomes;

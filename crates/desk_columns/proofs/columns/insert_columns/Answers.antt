@@ -39,7 +39,7 @@ returns-in-Err c =
           (columns_of c.args.insertions.now) c.loop-at.at c.loop-at.done c.loop-at.desk c.loop-at.counts c.insert_next.new.counts
           c.loop-at.invariant.done_is c.in-Err.ensures.counts c.loop-at.invariant.are_in;
       ends = refused_at (columns_of c.args.insertions.now) c.loop-at.at c.loop-at.done c.loop-at.desk c.insert_next.new.desk
-          c.in-Err.error c.loop-at.invariant.done_is alike c.in-Err.ensures.refused;
+          c.in-Err.error c.loop-at.invariant.done_is alike (omega (arith, c.loop-at-test.true)) c.in-Err.ensures.refused;
     }
 
 pub returns : goal.returns

@@ -1,4 +1,4 @@
-use Rattle.std.proofs.Common.{◌≡◌, refl, subst, inl, ◌∙◌}
+use Rattle.std.proofs.Common.{◌≡◌, refl, subst, inl, arith, ◌∙◌}
 use Rattle.desk.specs.Owned.{OwnedView}
 use Rattle.desk_counts.specs.declared.counts.Counts.{Counts}
 use Rattle.desk_columns.specs.Feeding.{Takes}
@@ -21,6 +21,7 @@ returns-clause-taken c =
     let from : Takes c.args.desk.now c.if-not-is_small.counts ops c.insert_part.new.desk c.insert_part.new.counts =
     subst (λ (o : OwnedView). Takes o c.if-not-is_small.counts ops c.insert_part.new.desk c.insert_part.new.counts) desk takes in
     record {
+      some = omega (arith, c.min-part.ensures);
       parts = 1;
       bears = inl refl;
       count_is = c.min-part.ensures;

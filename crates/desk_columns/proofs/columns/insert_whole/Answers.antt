@@ -16,6 +16,7 @@ returns-in-Ok-apply-clause-taken c =
       whole_of c.args.desk.now c.apply.new.self c.args.counts.now c.count_accepted.new.counts ops c.in-Ok-apply.accepted
           (record {
             held = e.held;
+            within = e.within;
             accepted = e.accepted;
             number = e.number;
             outcomes_are = e.outcomes;
