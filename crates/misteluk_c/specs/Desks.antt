@@ -3,10 +3,11 @@ use Rattle.std.specs.Prelude.{◌≡◌, ◌⊎◌, ◌+◌, ℕ, List, [], leng
 use Rattle.graph_types.specs.{Step.outcomes, declared.batches.NamedOp.NamedOp}
 use Rattle.graph_version.specs.{Versions.{content, empty_version}, Kept.edge_total, Rebased.IsRebased}
 use Rattle.block_reclamation.specs.Status.{is_free, is_retired, is_in_use, is_reclaimable}
-use Rattle.store_steps.specs.{Desks.{DeskView, IsCollected}, Opening.{IsVersionZero, opened_desk}, Steps.Accepts}
-use Rattle.desk.specs.{Refusals.Refuses, declared.errors.ApplyError.ApplyError, declared.errors.HoldError.TheVariants.NoSeat, declared.owned.Hold.Hold}
+use Rattle.store_steps.specs.{Desks.DeskView, Opening.{IsVersionZero, opened_desk}, Steps.Accepts}
+use Rattle.desk.specs.{Refusals.{Refuses, IsWithin}, declared.errors.ApplyError.ApplyError, declared.errors.HoldError.TheVariants.NoSeat, declared.owned.Hold.Hold}
 use Rattle.desk.specs.declared.errors.ApplyError.TheVariants as refused
 use Rattle.desk.specs.Owned.{OwnedView, opened_owned, HoldsOnce, RefusesHold, IsReleased, RefusesRelease, copied}
+use Rattle.desk_columns.specs.Feeding.{Collects}
 use Rattle.desk_counts.specs.{Counted.{with_outcomes, none_counted}, declared.counts.Counts.Counts}
 use Rattle.store_handles.specs.declared.held.Held.{Held}
 use Rattle.store_handles.specs.declared.held.Held.TheVariants as held
@@ -26,10 +27,11 @@ apply_code refused.KindsFull = 13
 apply_code (refused.PoolEmpty needed free) = 14
 apply_code refused.OutOfMemory = 1
 
--- a batch is accepted, and its handle is empty then; or refused, and all is as it was
+-- a batch is within the limits and accepted, and its handle is empty then; or refused, and all is as it was
 abbrev pub TellsApplied : OwnedView → List NamedOp → OwnedView → Option Held → ℕ → Counts → Type 0
 TellsApplied old ops new batch code counts =
-    ((code ≡ 0) × (batch_in batch ≡ Some []) × Accepts old.desk ops new.desk × (new ≡ record old { desk = new.desk })
+    ((code ≡ 0) × (batch_in batch ≡ Some []) × IsWithin old.desk.last (count_by is_free old.desk.pool) ops
+    × Accepts old.desk ops new.desk × (new ≡ record old { desk = new.desk })
     × (counts ≡ with_outcomes (none_counted 0) (length new.desk.last.batches) (outcomes ops (content old.desk.last))))
     ⊎ ((error : ApplyError) × (code ≡ apply_code error) × Refuses old.desk.last (count_by is_free old.desk.pool) ops error
     × (new ≡ old) × (batch_in batch ≡ Some ops))
@@ -40,8 +42,7 @@ TellsApply old ops desk batch code counts = IsSomeAnd (desk_in desk) (λ new. Te
 abbrev pub TellsCollect : OwnedView → Option Held → ℕ → ℕ → Type 0
 TellsCollect old desk code freed =
     (code ≡ 0) × (freed ≡ count_by (is_reclaimable (copied old.desk old.board)) old.desk.pool)
-    × IsSomeAnd (desk_in desk) (λ new. IsCollected old.desk (copied old.desk old.board) new.desk
-    × (new.counts ≡ old.counts) × (new.opening ≡ old.opening))
+    × IsSomeAnd (desk_in desk) (Collects old)
 
 abbrev pub stat_of : DeskView → DeskStat
 stat_of d =
