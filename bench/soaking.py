@@ -193,8 +193,10 @@ class Watched:
         return f"unix:{self.path}"
 
     def taken(self) -> Tuple[float, int]:
-        """Its memory in MiB, and its descriptors."""
-        return of_process("VmRSS", self.process.pid) / 1024, len(os.listdir(f"/proc/{self.process.pid}/fd"))
+        """Its memory in MiB, with that of the process that reads its feed, and its descriptors."""
+        pid = self.process.pid
+        reader, = pathlib.Path(f"/proc/{pid}/task/{pid}/children").read_text().split()
+        return (of_process("VmRSS", pid) + of_process("VmRSS", reader)) / 1024, len(os.listdir(f"/proc/{pid}/fd"))
 
     def faults(self) -> List[str]:
         """What it wrote of faults of its own."""

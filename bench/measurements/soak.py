@@ -8,10 +8,10 @@ go; one is silent for 25 seconds, and must find its version closed. One of these
 seconds, and another takes its place. One reader takes all edges at 160,000 bytes a second, another nothing of its answer, and one
 that posts rows gets `Busy`.
 
-A row, each minute or twelfth of a shorter time, has the most memory and descriptors of the server's process since the row before.
-Status 1: the last quarter took over 1.1 times the memory of the third; descriptors or versions are left once all clients are
-gone; the server wrote a fault; a client met another one than `NoSeat`, `Full` and, if it doesn't hold on, `SessionClosed`; or the
-silent one never met this, or no holder asked ten times.
+A row, each minute or twelfth of a shorter time, has the most memory of the server and its feed's reader, and its most
+descriptors, since the row before. Status 1: the last quarter took over 1.1 times the memory of the third; descriptors or versions
+are left once all clients are gone; the server wrote a fault; a client met another one than `NoSeat`, `Full` and, if it doesn't
+hold on, `SessionClosed`; or the silent one never met this, or no holder asked ten times.
 """
 from __future__ import annotations
 

@@ -63,6 +63,23 @@ class Dictionary:
         return self._encoded
 
 
+class Encoded(Dictionary):
+    """Names by number as they were encoded, perhaps by another process; they aren't asked for any more."""
+
+    def __init__(self, text: bytes, ends: "array[int]") -> None:
+        super().__init__()
+        self._encoded = text, ends
+
+    @property
+    def names(self) -> List[str]:
+        text, ends = self._encoded
+        return [text[begin:end].decode("ascii") for begin, end in zip([0, *ends], ends)]
+
+    @property
+    def encoded(self) -> "Tuple[bytes, array[int]]":
+        return self._encoded
+
+
 class Numbered(NamedTuple):
     """Operations as columns of one length: what each does; its kind, source and target by number; its weight and time."""
 

@@ -24,6 +24,7 @@ from .opening import ReadAs, form_of, reads
 from ..engine.calls import Calls
 from ..engine.operations import EXPIRY
 from .progress import Progress
+from ..values.terms import Terms
 from ..values.units import MICROSECOND, Units
 
 if TYPE_CHECKING:
@@ -105,6 +106,16 @@ class Pace(NamedTuple):
     how: ReadAs
 
 
+class Recipe(NamedTuple):
+    """How a feed is followed: its form, how its rows go in and how many at once, and whether its end is that of all."""
+
+    form: str
+    by: str
+    batch: int
+    until_end: bool
+    pace: Pace
+
+
 class Following(Iterator[Followed]):
     """A feed that is followed: each step is a commit. See `Store.follow`, which makes it.
 
@@ -113,9 +124,11 @@ class Following(Iterator[Followed]):
     called by any thread and a signal's handler: what was read goes in, and the steps end.
     """
 
-    def __init__(self, store: "Store[Any, Any]", incoming: Incoming, count: Count, pace: Pace, progress: Optional[bool]) -> None:
+    def __init__(self, store: "Store[Any, Any]", incoming: Incoming, count: Count, recipe: Recipe,
+                 progress: Optional[bool]) -> None:
         self.store, self.name, self._ledger = store, incoming.name, store.ledger
-        self._incoming, self._source, self._count, self._pace = incoming, incoming.source, count, pace
+        self._incoming, self._source, self._count, self._pace = incoming, incoming.source, count, recipe.pace
+        self.recipe = recipe
         # Rows that were read, the lines of those that are pending, and since when the first of these is.
         self._blocks: Deque[Block] = deque()
         self._lines: List[int] = []
@@ -127,6 +140,16 @@ class Following(Iterator[Followed]):
         self._is_stopped = self._is_done = False
         self._progress = Progress(f"following {self.name}", None, progress, "rows")
         self._calls = Calls()
+
+    @property
+    def descriptor(self) -> int:
+        """The descriptor of what is read."""
+        return self._source.descriptor
+
+    @property
+    def terms(self) -> Terms:
+        """Those of the feed."""
+        return self._count.terms
 
     @property
     def faults(self) -> List[Refused]:
@@ -352,9 +375,16 @@ def follow(store: "Store[Any, Any]", feed: Union[Path, Opened], *, by: str, ever
         raise Uncommitted(f"{store.pending} operations are pending: commit or discard them before a feed is followed",
                           store.ledger.told_pending)
     turned(Feed("", ()), names=how.names)
-    source = Growing(feed, how.encoding, until_end)
-    rows: Rows = (SnapRows(source.name, how.columns.usual_kind, how.third) if form == "snap" else
+    return following_of(store, feed, Recipe(form, by, batch, until_end, pace), terms, progress)
+
+
+def following_of(store: "Store[Any, Any]", feed: Union[Path, Opened], recipe: Recipe, terms: Terms,
+                 progress: Optional[bool]) -> Following:
+    """A feed that is followed into a store by a recipe. See `follow`."""
+    how = recipe.pace.how
+    source = Growing(feed, how.encoding, recipe.until_end)
+    rows: Rows = (SnapRows(source.name, how.columns.usual_kind, how.third) if recipe.form == "snap" else
                   DelimitedRows(source.name, how.columns, how.delimiter, how.header))
     store.ledger.take_terms(terms)
-    count = Count(source.name, by, batch, terms, how.decimal)
-    return Following(store, Incoming(source, rows, how.notation, how.names), count, pace, progress)
+    count = Count(source.name, recipe.by, recipe.batch, terms, how.decimal)
+    return Following(store, Incoming(source, rows, how.notation, how.names), count, recipe, progress)

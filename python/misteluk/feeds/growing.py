@@ -56,6 +56,11 @@ class Growing:
         os.set_blocking(self._cord, False)
 
     @property
+    def descriptor(self) -> int:
+        """The descriptor of what is read."""
+        return self._file
+
+    @property
     def cord(self) -> int:
         """The descriptor of the bell's cord, for `signal.set_wakeup_fd`: Python then rings it for each signal that comes, also
         for one that the system gives to another thread than the one that waits."""

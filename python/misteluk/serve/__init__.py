@@ -9,6 +9,9 @@ Choices:
 - At most 16 versions are held, by any number of clients: clients of one version share its seat.
 - Rows of one post that are several batches are no version until all are in, so nobody sees or saves a part of them.
 - A silent client loses its hold, and only a request breaks the silence. So a notebook that was left open keeps no version.
+- A feed is read by a process of its own, since Python runs one thread at a time: the server only applies its batches, by calls of
+  C that let other threads run.
+- Little questions are answered on the loop; so are tables of a version, once one of them was made. A client sorts by itself.
 - A batch has a number, so one whose answer was lost is sent again and applied once.
 - Questions over the whole graph have threads of their own, so a question for one edge doesn't wait for them. The server sets
   Python's switch between threads to half a millisecond; at the usual five the feed would have most turns.

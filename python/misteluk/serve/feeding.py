@@ -13,6 +13,7 @@ from .limits import Limits
 from ..engine.operations import COMMANDS as OF_RECORDS, Operations, Row, row_of
 from ..engine.protocol import Denied
 from ..errors import Busy, SessionClosed, StoreError, refusal
+from ..feeds.apart import Apart
 from ..feeds.feed import parts_of
 from ..feeds.following import Following
 from ..ledger import sum_of
@@ -67,18 +68,19 @@ class Feeding:
         self._lock = threading.RLock()
         self._feeder: Optional[Feeder] = None
         self._before: Deque[Feeder] = deque(maxlen=FEEDERS)
-        self._following: Optional[Following] = None
+        self._following: Optional[Apart] = None
         self._thread: Optional[threading.Thread] = None
 
     # A feed that is followed.
 
     def follow(self, following: Following) -> None:
-        """Has a feed go in by a thread of its own, until it ends or `close` ends it."""
-        self._following, self.state = following, "followed"
-        self._thread = threading.Thread(target=self._run, args=(following,), name="feed")
+        """Has a feed go in by a thread and a process of their own, until it ends or `close` ends it."""
+        apart = Apart(following)
+        self._following, self.state = apart, "followed"
+        self._thread = threading.Thread(target=self._run, args=(apart,), name="feed")
         self._thread.start()
 
-    def _run(self, following: Following) -> None:
+    def _run(self, following: Apart) -> None:
         before = 0
         try:
             for step in following:

@@ -10,6 +10,7 @@ import base64
 import hashlib
 import re
 import threading
+from itertools import islice
 from typing import Dict, Iterable, Mapping, NamedTuple, Optional, Sequence, Tuple, Union
 
 from . import records
@@ -87,6 +88,10 @@ class NameTable:
         """The texts of many names, as those of a table."""
         known = self._texts
         return [known.get(it, it) for it in names] if known else names
+
+    def since(self, count: int) -> Dict[str, str]:
+        """The texts behind the first ones, so many, by their ids."""
+        return dict(islice(self._texts.items(), count, None))
 
     def put(self, texts: Mapping[str, str]) -> None:
         """Takes texts by their ids, as a saved file has them, into a table that is empty yet."""

@@ -1,0 +1,123 @@
+"""A process that reads a feed for another one, which has the store: what `Apart` begins.
+
+It does what `Following` does, but that each commit goes out as columns, which the other process has only to apply. It ends with
+the feed; once the other one wants no more of it, when it sends what it has read; and at once where the other one is gone.
+"""
+from __future__ import annotations
+
+import gc
+import os
+import pickle
+import signal
+import threading
+import traceback
+from itertools import islice
+from typing import Any, Dict, List, NamedTuple, Tuple
+
+from . import parcels
+from .following import Followed, Following, Recipe, following_of
+from ..engine.operations import Operations, Row
+from ..errors import StoreError
+from ..values.answers import Commit
+from ..values.names import NameTable
+from ..values.terms import Terms
+from ..values.units import Units
+
+NOTHING = Commit(0, 0, 0, 0, 0, 0, 0, 0)
+
+
+class Wanted(NamedTuple):
+    """What is to be read, by its name and descriptor, and how."""
+
+    name: str
+    descriptor: int
+    recipe: Recipe
+    units: Units
+
+    def fileno(self) -> int:
+        return self.descriptor
+
+
+class Outbox:
+    """What stands for the store here, and for its ledger: what is committed goes out."""
+
+    def __init__(self, descriptor: int, names: NameTable) -> None:
+        self.ledger = self
+        self.kinds: Dict[str, None] = {}
+        self.rows: List[Row] = []
+        self.taken: List[Tuple[Commit, ...]] = []
+        self._descriptor, self._names = descriptor, names
+        self._kinds_sent = self._texts_sent = 0
+        self._batch = Operations([])
+
+    @property
+    def pending(self) -> List[Row]:
+        return self.rows
+
+    def take_terms(self, terms: Terms) -> None:
+        """Nothing: they were taken there."""
+
+    def commit(self, collect: bool, batch: int) -> Tuple[Commit, Tuple[Commit, ...]]:
+        """Has what is pending go out with the step that it is of."""
+        self._batch, self.rows = Operations(self.rows), []
+        return NOTHING, (NOTHING,)
+
+    def send(self, step: Followed, first: int) -> None:
+        """Sends the batch of a step, whose first row is that of a line, with the kinds and texts of ids that are new."""
+        kinds = list(islice(self.kinds, self._kinds_sent, None))
+        texts = self._names.since(self._texts_sent)
+        self._kinds_sent, self._texts_sent = self._kinds_sent + len(kinds), self._texts_sent + len(texts)
+        of = self._batch.columns
+        head = {"rows": step.rows, "first": first, "line": step.line, "kinds": kinds, "texts": texts}
+        parcels.send(self._descriptor, parcels.packed(head, [*of.of_kinds.encoded, *of.of_names.encoded, *of[:6]]))
+
+    def end(self, **how: Any) -> None:
+        """Sends the last that there is."""
+        parcels.send(self._descriptor, parcels.packed(how))
+
+
+def read(following: Following, outbox: Outbox) -> None:
+    """Sends what a feed has, to its end or until it is stopped, and what ended it."""
+    first = 1
+    try:
+        for step in following:
+            outbox.send(step, first)
+            first = step.line + 1
+    except BrokenPipeError:  # (nobody wants it any more)
+        raise
+    except (StoreError, ValueError, OSError) as fault:
+        outbox.end(word=getattr(fault, "word", "") or type(fault).__name__, text=str(fault))
+    else:
+        outbox.end(is_half=following.ended_half)
+
+
+def run(following: Following, outbox: Outbox) -> None:
+    """Reads, and ends the process."""
+    status = 1
+    try:
+        read(following, outbox)
+        status = 0
+    except BrokenPipeError:
+        pass
+    except BaseException:
+        traceback.print_exc()
+    finally:
+        os._exit(status)
+
+
+def main(said: int, descriptor: int) -> None:
+    """The process: what it is to read stands in what is said first. What is said behind that has it stop; where nobody can say
+    anything any more it ends at once. Signals are for the process that began it."""
+    for it in (signal.SIGINT, signal.SIGTERM):
+        signal.signal(it, signal.SIG_IGN)
+    gc.set_threshold(100_000)  # (rows make no cycles, and it would look through them again and again)
+    with open(said, "rb") as file:
+        wanted: Wanted = pickle.load(file)
+        names = NameTable()
+        outbox: Any = Outbox(descriptor, names)
+        following = following_of(outbox, wanted, wanted.recipe, Terms(names, wanted.units), False)
+        # (by a thread that no signal interrupts, whose steps take less time)
+        threading.Thread(target=run, args=(following, outbox), daemon=True).start()
+        while file.read(1):
+            following.stop()
+    os._exit(0)

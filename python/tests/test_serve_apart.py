@@ -1,0 +1,255 @@
+"""The process that reads a server's feed: what comes over whole, and what is told where it or the server is killed."""
+import os
+import pathlib
+import random
+import signal
+import subprocess
+import sys
+import threading
+import unittest
+from array import array
+from contextlib import suppress
+from unittest import mock
+
+from serving import FEED, ServeCase
+from support import as_soon_as
+
+import misteluk
+from misteluk import Columns, Served
+from misteluk.feeds import apart, parcels
+from misteluk.serve.server import Server
+
+ROWS = Columns(1, 2, weight=3, time=4)
+AS_ROWS = ("--add", "--source", "1", "--target", "2", "--weight", "3", "--time", "4", "--every", "10ms")
+
+
+def parent_of(pid):
+    """The parent of a process; `None` where there is none, or where it has ended."""
+    try:
+        with open(f"/proc/{pid}/stat") as file:
+            fields = file.read().rpartition(")")[2].split()
+    except OSError:
+        return None
+    return None if fields[0] == "Z" else int(fields[1])
+
+
+def children(pid):
+    return [int(it) for it in os.listdir("/proc") if it.isdigit() and parent_of(it) == pid]
+
+
+def open_count(pid):
+    return len(os.listdir(f"/proc/{pid}/fd"))
+
+
+def read_by(pid, path):
+    """How many bytes of a file a process has read."""
+    for it in os.listdir(f"/proc/{pid}/fd"):
+        with suppress(OSError):
+            if os.readlink(f"/proc/{pid}/fd/{it}") == path:
+                return int(pathlib.Path(f"/proc/{pid}/fdinfo/{it}").read_text().split()[1])
+    return None
+
+
+class Parcels(unittest.TestCase):
+    HEAD = {"rows": 3, "texts": {"~~a": "Иванов"}}
+
+    def received(self, data):
+        ours, theirs = os.pipe()
+        with os.fdopen(theirs, "wb") as file:
+            threading.Thread(target=lambda: file.write(data) and file.close()).start()
+            try:
+                found = parcels.received(ours)
+                return found, parcels.received(ours)
+            finally:
+                os.close(ours)
+
+    def test_what_is_sent_comes(self):
+        columns = [b"ab", array("Q", [1, 1 << 63]), array("q", [-5]), array("I"), array("B", [3])]
+        (head, found), rest = self.received(parcels.packed(self.HEAD, columns))
+        self.assertEqual((head["rows"], head["texts"], rest), (3, {"~~a": "Иванов"}, None))
+        self.assertEqual([(it.typecode, it.tolist()) for it in found],
+                         [("B", [97, 98]), ("Q", [1, 1 << 63]), ("q", [-5]), ("I", []), ("B", [3])])
+
+    def test_what_is_cut_is_nothing(self):
+        data = parcels.packed({"rows": 1}, [array("I", [7])])
+        for size in range(1, len(data)):
+            self.assertEqual(self.received(data[:size]), (None, None), size)
+
+
+class Apart(ServeCase):
+    def stat(self):
+        return self.ask("/v1/stat").json
+
+    def feed(self):
+        return self.stat()["feed"]
+
+    def follow(self, path, **options):
+        how = {"by": "add", "every": 0.01, "columns": ROWS, **options}
+        self.server.feeding.follow(self.server.store.follow(path, **how))
+        return self.server.feeding._following
+
+    def append(self, path, text):
+        with open(path, "a") as file:
+            file.write(text)
+
+    # What comes.
+
+    def test_names_kinds_and_units(self):
+        """Names and kinds that aren't plain, decimals and dates come as a store in one process takes them."""
+        rows = ["ana,Иванов Пётр,12.50,2024-05-01,pays",
+                "Иванов Пётр,bob,0.25,2024-05-02,owes money",
+                "ana,Иванов Пётр,1,2024-05-03,pays"]
+        path = self.file("feed.csv", "".join(f"{it}\n" for it in rows))
+        self.serve(weight_scale=100, times="iso")
+        self.follow(path, columns=Columns(1, 2, kind=5, weight=3, time=4), until_end=True)
+        as_soon_as(lambda: self.feed()["state"] == "ended")
+        with self.server.store.open() as session:
+            told = [(kind, source, target, str(edge.weight), edge.recent.day) for kind, source, target, edge in session.edges()]
+        self.assertEqual(sorted(told), [("owes money", "Иванов Пётр", "bob", "0.25", 2),
+                                        ("pays", "ana", "Иванов Пётр", "13.50", 3)])
+        self.assertEqual(list(self.server.store.kinds), ["pays", "owes money"])
+
+    def test_a_window(self):
+        """Commits expire what is older than is kept."""
+        path = self.file("feed.csv", "".join(f"s{it},t,1,{it}\n" for it in range(100)))
+        self.serve()
+        self.follow(path, keep=9, batch=10, until_end=True)
+        as_soon_as(lambda: self.feed()["state"] == "ended")
+        self.assertEqual(sorted(row[1] for row in self.rows_of("/v1/edges")), [f"s{it}" for it in range(90, 100)])
+
+    def test_a_bad_row_in_the_middle(self):
+        path = self.file("feed.csv", "".join(f"s{it % 7},t,{'many' if it == 4_499 else 1},{it}\n" for it in range(9_000)))
+        self.serve()
+        with mock.patch("sys.stderr") as told:
+            self.follow(path, batch=1_000)
+            as_soon_as(lambda: self.feed()["state"] == "failed")
+        self.assertEqual((self.feed()["error"], self.feed()["rows"]), ("BadRows", 4_499))
+        self.assertEqual(sum(row[3] for row in self.rows_of("/v1/edges")), 4_499)
+        self.assertIn("feed.csv:4500", "".join(it.args[0] for it in told.write.call_args_list))
+        self.assertEqual(self.post("/v1/rows", {"rows": FEED}).status, 200)
+
+    def test_a_batch_that_is_refused(self):
+        """Those before it are in, and it isn't, nor is one behind it."""
+        path = self.file("feed.csv", "a,b,1,1\nb,a,1,2\na,c,1,3\na,b,1,4\n")
+        store = misteluk.Store(seats=16, limits=misteluk.Limits(vertices=2))
+        self.addCleanup(self.let_go, store)
+        self.server = Server(store, "127.0.0.1:0").start()
+        self.addCleanup(self.server.stop)
+        with mock.patch("sys.stderr") as told:
+            self.follow(path, batch=1)
+            as_soon_as(lambda: self.feed()["state"] == "failed")
+        self.assertEqual((self.feed()["error"], self.feed()["rows"], self.stat()["edges"]), ("NamesFull", 2, 2))
+        self.assertIn("2 rows to line 2 are in, and 1 rows, lines 3 to 3, aren't",
+                      "".join(it.args[0] for it in told.write.call_args_list))
+
+    def test_what_was_read_goes_in_at_the_end(self):
+        """Rows that wait for their commit are committed where the server is ended."""
+        path = self.file("feed.csv", "ana,bob,5,1\nbob,cat,7,2\n")
+        server = self.serve()
+        reading = self.follow(path, every=1_000.0)
+        as_soon_as(lambda: read_by(reading.process.pid, path) == os.path.getsize(path))
+        self.assertEqual(self.stat()["version"], 0)
+        server.stop()
+        self.assertEqual((server.feeding.state, server.feeding.rate.total, server.board.stat.edges), ("ended", 2, 2))
+        self.assertEqual((reading.process.returncode, children(os.getpid())), (0, []))
+
+    # Who is killed, or hangs.
+
+    def test_nothing_is_left(self):
+        path = self.file("feed.csv", "ana,bob,5,1\n")
+        self.serve()
+        self.ask("/v1/stat")
+        before = open_count(os.getpid())
+        for _ in range(3):
+            self.follow(path, until_end=True)
+            as_soon_as(lambda: self.feed()["state"] == "ended")
+            as_soon_as(lambda: not self.server.feeding._thread.is_alive())
+        self.assertEqual((children(os.getpid()), self.feed()["rows"]), ([], 3))
+        as_soon_as(lambda: open_count(os.getpid()) <= before)
+
+    def test_the_reader_is_killed(self):
+        """What the server says is in is in, once; it goes on, and is told of no more rows than came whole."""
+        chance = random.Random(7)
+        for turn in range(4):
+            path = self.file(f"feed{turn}.csv", "".join(f"s{it % 11},t{it % 13},1,{it}\n" for it in range(300_000)))
+            self.serve()
+            with mock.patch("sys.stderr") as told:
+                reading = self.follow(path)
+                count = chance.randrange(1, 100_000)
+                as_soon_as(lambda: self.server.feeding.rate.total >= count)
+                os.kill(reading.process.pid, signal.SIGKILL)
+                as_soon_as(lambda: self.feed()["state"] == "failed")
+            rows = self.feed()["rows"]
+            self.assertEqual(self.feed()["error"], "ReaderEnded")
+            self.assertTrue(count <= rows < 300_000)
+            self.assertEqual(sum(row[3] for row in self.rows_of("/v1/edges")), rows)
+            self.assertIn(f"was ended by signal 9; {rows} rows to line {rows} are in", "".join(
+                it.args[0] for it in told.write.call_args_list))
+            self.assertEqual(self.post("/v1/rows", {"rows": FEED}).status, 200)
+            self.assertIsNone(parent_of(reading.process.pid))
+
+    def test_the_server_is_killed(self):
+        """The process that reads ends with it, whether it waits for rows or has more than the server takes."""
+        for text in ("ana,bob,5,1\n", "ana,bob,5,1\n" * 300_000):
+            path, where = self.file("feed.csv", text), str(self.room / "socket")
+            server = self.command(path, *AS_ROWS, "--listen", f"unix:{where}")
+            self.assertIn("serves", server.stdout.readline())
+            as_soon_as(lambda: children(server.pid))
+            reader, = children(server.pid)
+            with Served(f"unix:{where}") as store:
+                as_soon_as(lambda: store.stat().edges == 1)
+                server.kill()
+                server.wait()
+            as_soon_as(lambda: parent_of(reader) is None, 20)
+
+    def test_signals_to_all_of_them(self):
+        """An interrupt at a terminal, and SIGTERM, are for the server: the process that reads goes on until it is told."""
+        path, where = self.file("feed.csv", "ana,bob,5,1\n"), str(self.room / "socket")
+        server = self.command(path, *AS_ROWS, "--listen", f"unix:{where}")
+        self.assertIn("serves", server.stdout.readline())
+        with Served(f"unix:{where}") as store:
+            as_soon_as(lambda: store.stat().edges == 1)
+            reader, = children(server.pid)
+            self.assertNotEqual(os.getsid(reader), os.getsid(server.pid))
+            for it in (signal.SIGINT, signal.SIGTERM):
+                os.kill(reader, it)
+            self.append(path, "bob,cat,7,2\n")
+            as_soon_as(lambda: store.stat().edges == 2)
+        server.send_signal(signal.SIGINT)
+        self.assertIn("ended at version 2, of 2 edges", server.communicate(timeout=60)[1])
+        self.assertEqual((server.returncode, parent_of(reader)), (0, None))
+
+    def test_a_reader_that_hangs(self):
+        """The server ends nevertheless."""
+        path = self.file("feed.csv", "ana,bob,5,1\n")
+        server = self.serve()
+        with mock.patch.object(apart, "PATIENCE", 0.3), mock.patch("sys.stderr"):
+            reading = self.follow(path)
+            as_soon_as(lambda: self.stat()["edges"] == 1)
+            os.kill(reading.process.pid, signal.SIGSTOP)
+            server.stop()
+        self.assertEqual((server.feeding.fault, reading.process.returncode), ("ReaderEnded", -9))
+
+    def test_one_that_cannot_begin(self):
+        with mock.patch.object(apart, "_CODE", "import sys; sys.exit(3)"), mock.patch("sys.stderr") as told:
+            self.serve()
+            self.follow(self.file("feed.csv", "ana,bob,5,1\n"))
+            as_soon_as(lambda: self.feed()["state"] == "failed")
+        self.assertIn("ended with status 3; 0 rows to line 0 are in", "".join(it.args[0] for it in told.write.call_args_list))
+
+    def test_a_pipe(self):
+        """Its writer is told where the reader is gone, as where nobody reads it."""
+        self.serve()
+        code = "import time\nwhile True: print('a,b,1,1', flush=True); time.sleep(.01)"
+        with subprocess.Popen([sys.executable, "-c", code], stdout=subprocess.PIPE, stderr=subprocess.DEVNULL) as writer:
+            with mock.patch("sys.stderr"):
+                reading = self.follow(writer.stdout)
+                writer.stdout.close()
+                as_soon_as(lambda: self.feed()["rows"] > 3)
+                os.kill(reading.process.pid, signal.SIGKILL)
+                as_soon_as(lambda: self.feed()["state"] == "failed")
+            self.assertEqual(writer.wait(60), 1)
+
+
+if __name__ == "__main__":
+    unittest.main()
