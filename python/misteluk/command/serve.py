@@ -17,6 +17,10 @@ from ..values import records
 
 # How long one thread of the server may run before another has its turn, in seconds: a feed at full speed else has most of them.
 TURN = 0.0005
+# How many blocks a server's store has at first, if nothing is said; those that aren't used take no memory. Versions that clients
+# hold need the blocks that batches replaced meanwhile, and a store without free ones begins anew: beside a quick feed it would do
+# so again and again.
+ROOM = 262_144
 
 
 def add_options(parser: argparse.ArgumentParser) -> None:
@@ -56,6 +60,7 @@ def serve(words: argparse.Namespace, how: Dict[str, Any], renew_after: Optional[
         keeper = None if words.save is None else ends.enter_context(contextlib.closing(Keeper(words.save, words.save_every)))
         store, began = store_of(words, keeper, renew_after)
         ends.enter_context(store)
+        store.engine.fit(0, 0, ROOM)
         server = Server(store, words.listen, token=token, limits=limits, keeper=keeper, began=began)
         before, sys_turn = signal.getsignal(signal.SIGINT), sys.getswitchinterval()
         sys.setswitchinterval(TURN)
