@@ -86,6 +86,8 @@ class LibraryVersion:
         self._all: Optional[Arrays] = None
         self._by_target: "Optional[Tuple[Sequence[int], array[int]]]" = None
         self._degrees: "Optional[Tuple[array[int], array[int], array[int]]]" = None
+        # What a server keeps of answers, as it told them.
+        self.told: Dict[str, bytes] = {}
 
     def begin(self) -> None:
         """Asks what it holds."""
@@ -107,8 +109,10 @@ class LibraryVersion:
         self._is_open = False
         self._holds.let_go(self._hold)
         self._idle.clear()
+        self._rows.clear()
         self._first = Owned(interface.Version(), self._versions)
         self._all = self._by_target = self._degrees = self._names = None
+        self.told = {}
 
     # How it is asked.
 
@@ -251,8 +255,11 @@ class LibraryVersion:
     def out_of(self, scope: Scope, name: str) -> Arrays:
         view, source, all_ = self._view(scope), self._vertex(name), self._all
         if all_ is None:
-            found = self._row(view, source)
-            assert found is not None  # (there is no bound)
+            row = self._row(view, source)
+            assert row is not None  # (there is no bound)
+            order = sorted(range(row.count.value), key=row.columns.targets.__getitem__)
+            found = self._by_kind(row.columns, order, True)
+            self._rows.append(row)
             return found
         begin = bisect_left(all_.sources, source)  # (they stand source by source)
         near = min(begin + A_ROW, all_.size)  # (most rows end before this)
@@ -261,8 +268,14 @@ class LibraryVersion:
         return self._those(all_, scope, view, sorted(places, key=all_.targets.__getitem__), True)
 
     def few_out_of(self, scope: Scope, name: str, most: int) -> Optional[Arrays]:
-        """The same where they are so many at most, else `None`: what takes longer the caller may have done by another thread."""
-        return self._row(self._view(scope), self._vertex(name), most)
+        """The same in any order, where they are so many at most, else `None`: what takes longer the caller may have done by
+        another thread."""
+        row = self._row(self._view(scope), self._vertex(name), most)
+        if row is None:
+            return None
+        found = Arrays(*[it[:row.count.value] for it in row.columns])
+        self._rows.append(row)
+        return found
 
     def into(self, scope: Scope, name: str) -> Arrays:
         view, target, all_ = self._view(scope), self._vertex(name), self.edges(WHOLE)
@@ -277,8 +290,8 @@ class LibraryVersion:
             places = all_.places(None if scope.kind is None else view.kind, scope, places)
         return self._by_kind(all_, places, is_out)
 
-    def _row(self, view: interface.View, source: int, most: Optional[int] = None) -> Optional[Arrays]:
-        """The edges that go out of a vertex, which are asked for; `None` where they are more than so many."""
+    def _row(self, view: interface.View, source: int, most: Optional[int] = None) -> Optional[Row]:
+        """The edges that go out of a vertex, which are asked for, as they stand; `None` where they are more than so many."""
         try:
             row = self._rows.pop()
         except IndexError:
@@ -292,11 +305,9 @@ class LibraryVersion:
             code = self._ask(self._library.version_row, view, source, *row.places, row.count)
         if code:
             raise refusal_of(code)
-        found, count = row.columns, row.count.value
-        found.sources[:count] = array("I", (source,)) * count
-        found = self._by_kind(found, sorted(range(count), key=found.targets.__getitem__), True)
-        self._rows.append(row)
-        return found
+        count = row.count.value
+        row.columns.sources[:count] = array("I", (source,)) * count
+        return row
 
     def _by_kind(self, edges: Arrays, places: Sequence[int], is_out: bool) -> Arrays:
         """The edges in some places, which have one source, or one target, by their kinds, and of one kind as the places stand."""

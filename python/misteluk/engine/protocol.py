@@ -80,6 +80,11 @@ class Arrays(NamedTuple):
             found = [at for at in found if scope.since <= self.recents[at] <= scope.until]
         return found
 
+    def in_order(self, ends: "array[int]") -> "Arrays":
+        """The edges in order of their kinds, and those of one kind in order of these numbers."""
+        order = sorted(range(self.size), key=ends.__getitem__)
+        return self.at(sorted(order, key=self.kinds.__getitem__))
+
     def weights_in(self, count: int) -> "array[int]":
         """For each of so many vertices the weight that comes in."""
         numpy = numpy_for(self.size, A_FEW)

@@ -5,7 +5,6 @@ import csv
 import io
 import json
 import pkgutil
-import re
 from typing import Any, Callable, Dict, Iterator, List, Mapping, Optional, Sequence, Tuple
 
 from starlette.applications import Starlette
@@ -15,12 +14,14 @@ from starlette.responses import Response
 from starlette.routing import Route
 
 from . import wire
+from .asking import OF_FEW, Answers, Shortcut
 from .board import Board, Full, Lease
+from .faults import told_fault
 from .feeding import Feeding
 from .gate import Run
 from .keeping import Keeper
-from .flow import Pool, Receive, Send, Streamed, as_json, first_of, within
-from .limits import Limits
+from .flow import Pool, Streamed, as_json, first_of, within
+from .limits import Limits, TooLarge
 from .openapi import described
 from .page import POLICY
 from .questions import AT_ONCE, HELD, QUESTIONS, QUICK, WHOLE, Question
@@ -30,35 +31,6 @@ from ..errors import Busy, NoKind, NoMemory, NoVertex, PoolEmpty, Refused, Sessi
 from ..values.units import whole_text
 
 QUICK_THREADS = 4
-# How many edges are a few that are asked for by their names, or that go out of a vertex.
-FEW, FEW_OUT = 64, 512
-# Where the questions of clients in Python are asked.
-ASKED = re.compile(r"/v1/sessions/([^/]+)/ask")
-# What is told of names that a version doesn't have.
-REASONS = {"NoVertex": "the version has no vertex of this name; a later one may",
-           "NoKind": "the version has no edge of this kind, and never had; a later one may"}
-# What batches are refused for that were right.
-NO_ROOM = ("PoolEmpty", "NamesFull", "KindsFull", "BatchLimit")
-
-
-class TooLarge(ValueError):
-    """A body is longer than the server takes."""
-
-
-class Shortcut:
-    """Leads what is asked most straight to its call, and lets Starlette look through its routes for all else."""
-
-    def __init__(self, app: Starlette, ask: Callable[[Request], Any]) -> None:
-        self._app, self._ask = app, ask
-
-    async def __call__(self, scope: Any, receive: Receive, send: Send) -> None:
-        found = ASKED.fullmatch(scope["path"]) if scope["type"] == "http" and scope["method"] == "POST" else None
-        if found is None:
-            await self._app(scope, receive, send)
-            return
-        scope["path_params"] = {"session": found[1]}
-        answer = await self._ask(Request(scope, receive, send))
-        await answer(scope, receive, send)
 
 
 class Api:
@@ -72,10 +44,10 @@ class Api:
         self.held = Pool(QUICK_THREADS, limits, "held")
         self.slow = Pool(limits.questions, limits, "whole")
         self.feed = Pool(1, limits, "rows")
-        self._named = wire.Named(self.store.ledger.terms.names)
+        self.answers = Answers(board, self.store.ledger.terms.names)
 
     def shortcut(self) -> Shortcut:
-        return Shortcut(self.app(), self._call(self.ask))
+        return Shortcut(self.app(), self._call(self.ask), self.answers, self.limits)
 
     def app(self) -> Starlette:
         call = self._call
@@ -183,18 +155,8 @@ class Api:
     async def ask(self, request: Request) -> Any:
         """A question of a client in Python, in the engine's terms."""
         asked = await self._object(request)
-        name, call = request.path_params["session"], asked.get("call")
-
-        def parts() -> Iterator[bytes]:
-            with self.board.lent(name) as session:
-                yield from wire.asked(session.held, str(call), asked, self._named)
-        if call == "out_of" and not self.board.is_busy:
-            with self.board.lent(name) as session:
-                few = wire.few(session.held, asked, FEW_OUT)
-            if few is not None:
-                return Response(few, media_type=wire.COLUMNS)
-        is_short = call == "found" and len(asked.get("ends") or ()) <= FEW
-        return await self._answered(parts, wire.COLUMNS, AT_ONCE if is_short else QUICK if call == "out_of" else WHOLE)
+        name, call = request.path_params["session"], str(asked.get("call"))
+        return await self._answered(lambda: self.answers.parts(name, asked), wire.COLUMNS, QUICK if call in OF_FEW else WHOLE)
 
     # The feed.
 
@@ -296,32 +258,3 @@ def _field(at: int, value: Any) -> str:
     if isinstance(value, str) or type(value) in (int, float) and (at > 3 or at == 1):
         return whole_text(value)
     raise ValueError("a row has texts, and numbers as weight or time")
-
-
-# Faults.
-
-def told_fault(fault: Exception) -> Response:
-    """A fault as a client is told it."""
-    if isinstance(fault, Full):
-        return as_json(wire.fault(fault.word, str(fault), fault.after), 503, {"retry-after": str(fault.after)})
-    if isinstance(fault, TooLarge):
-        return as_json(wire.fault("TooLarge", str(fault)), 413, {"connection": "close"})
-    status, word = _status(fault)
-    more: Dict[str, Any] = {"denied": True} if isinstance(fault, Denied) else {}
-    if isinstance(fault, Denied) and fault.stat is not None:
-        more["stat"] = fault.stat._asdict()
-    told = REASONS.get(word) or (fault.told if isinstance(fault, Refused) else str(fault))
-    return as_json(wire.fault(word, told, **more), status)
-
-
-def _status(fault: Exception) -> Tuple[int, str]:
-    word = getattr(fault, "word", "") or type(fault).__name__
-    if isinstance(fault, (NoVertex, NoKind)) or word in ("NoVertex", "NoKind"):
-        return 404, word
-    if isinstance(fault, SessionClosed):
-        return 410, word
-    if isinstance(fault, (Busy, PoolEmpty)) or word in NO_ROOM:
-        return 409, word
-    if isinstance(fault, NoMemory):
-        return 503, word
-    return 400, word if isinstance(fault, (StoreError, Denied)) else "BadRequest"

@@ -89,7 +89,8 @@ class ServedVersion:
         return Arrays(*self._columns("edges", scope))
 
     def out_of(self, scope: Scope, name: str) -> Arrays:
-        return Arrays(*self._columns("out_of", scope, name=name))
+        found = Arrays(*self._columns("out_of", scope, name=name))
+        return found.in_order(found.targets)  # (here, since the server answers others meanwhile)
 
     def into(self, scope: Scope, name: str) -> Arrays:
         return Arrays(*self._columns("into", scope, name=name))

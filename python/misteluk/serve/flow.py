@@ -5,8 +5,8 @@ import asyncio
 import json
 import threading
 from concurrent.futures import Future, ThreadPoolExecutor
-from contextlib import asynccontextmanager
-from typing import Any, AsyncIterator, Awaitable, Callable, Dict, Iterator, List, MutableMapping, Optional, Tuple, TypeVar
+from types import TracebackType
+from typing import Any, Awaitable, Callable, Dict, Iterator, List, MutableMapping, Optional, Tuple, Type, TypeVar
 
 from starlette.responses import Response
 
@@ -27,25 +27,26 @@ def as_json(value: Dict[str, Any], status: int = 200, headers: Optional[Dict[str
     return Response(json.dumps(value).encode("ascii") + b"\n", status, headers, wire.JSON)
 
 
-@asynccontextmanager
-async def within(seconds: float, reason: str) -> AsyncIterator[None]:
+class within:
     """What is awaited here ends within so many seconds, or by `Full`. (`asyncio.wait_for` makes a task of it each time.)"""
-    task, is_late = asyncio.current_task(), False
 
-    def end() -> None:
-        nonlocal is_late
-        is_late = True
-        if task is not None:
-            task.cancel()
-    timer = asyncio.get_running_loop().call_later(seconds, end)
-    try:
-        yield
-    except asyncio.CancelledError:
-        if is_late:
-            raise Full("TooLong", reason, 1) from None
-        raise
-    finally:
-        timer.cancel()
+    def __init__(self, seconds: float, reason: str) -> None:
+        self._seconds, self._reason, self._is_late = seconds, reason, False
+
+    async def __aenter__(self) -> None:
+        self._task = asyncio.current_task()
+        self._timer = asyncio.get_running_loop().call_later(self._seconds, self._end)
+
+    def _end(self) -> None:
+        self._is_late = True
+        if self._task is not None:
+            self._task.cancel()
+
+    async def __aexit__(self, kind: Optional[Type[BaseException]], fault: Optional[BaseException],
+                        trace: Optional[TracebackType]) -> None:
+        self._timer.cancel()
+        if self._is_late and isinstance(fault, asyncio.CancelledError):
+            raise Full("TooLong", self._reason, 1) from None
 
 
 class Pool:

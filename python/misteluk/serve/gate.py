@@ -4,6 +4,7 @@ from __future__ import annotations
 import hmac
 import sys
 import traceback
+from functools import lru_cache
 from typing import Any, Awaitable, Callable, Dict, NamedTuple, Optional
 from urllib.parse import urlsplit
 
@@ -19,6 +20,9 @@ App = Callable[[Any, Receive, Send], Awaitable[None]]
 OPEN = ("/", "/live.js", "/live.css", "/openapi.json")
 HEADERS = [(b"x-content-type-options", b"nosniff"), (b"cache-control", b"no-store"), (b"referrer-policy", b"no-referrer"),
            (b"cross-origin-resource-policy", b"same-origin")]
+# The headers of a request that say who asks.
+OF_RUN = RUN.encode("ascii")
+LOOKED_AT = {b"host", b"origin", b"sec-fetch-site", b"authorization", OF_RUN}
 
 
 class Run(NamedTuple):
@@ -38,7 +42,7 @@ class Gate:
 
     def __init__(self, app: App, token: Optional[str], is_local: bool, run: Run) -> None:
         self._app, self._token, self._is_local, self._run = app, token, is_local, run
-        self._headers = [*HEADERS, (RUN.encode("ascii"), run.name.encode("ascii"))]
+        self._headers = [*HEADERS, (OF_RUN, run.name.encode("ascii"))]
 
     async def __call__(self, scope: Any, receive: Receive, send: Send) -> None:
         if scope["type"] == "websocket":
@@ -73,8 +77,8 @@ class Gate:
 
     def _refused(self, scope: Any) -> Optional[Response]:
         """What is told where a request isn't let in."""
-        headers = {name: value.decode("latin-1") for name, value in scope["headers"]}
-        refused, known = self._stranger(scope["path"], headers), headers.get(RUN.encode("ascii"))
+        headers = {name: value.decode("latin-1") for name, value in scope["headers"] if name in LOOKED_AT}
+        refused, known = self._stranger(scope["path"], headers), headers.get(OF_RUN)
         if refused is None and known and known != self._run.name:
             return as_json(wire.fault("SessionClosed", f"this server began anew, {self._run.began}"), 410)
         return refused
@@ -97,6 +101,7 @@ class Gate:
         return as_json(wire.fault("NotAllowed", reason), 401, {"www-authenticate": "Bearer"})
 
 
+@lru_cache(256)
 def _name_of(host: str) -> str:
     """The name of a `Host`, without its port."""
     try:

@@ -15,6 +15,10 @@ RUN = "misteluk-server"
 BYTES_AT_ONCE = 1 << 18
 
 
+class TooLarge(ValueError):
+    """A body is longer than the server takes."""
+
+
 class Limits(NamedTuple):
     """`idle`: after how many seconds of silence a client's version, or its seat as the feeder, is let go. `clients`: how many
     sessions there may be. `body`: how many bytes a request's body may have. `time`: how many seconds a question may take.

@@ -11,7 +11,7 @@ from array import array
 from typing import Any, Dict, Iterator, List, Mapping, Optional, Sequence, Tuple
 
 from .limits import BYTES_AT_ONCE
-from ..engine.protocol import Denied, Held, Scope
+from ..engine.protocol import WHOLE, Denied, Held, Scope
 from ..errors import Misread
 from ..values import records
 from ..values.names import MARK, NameTable
@@ -20,6 +20,8 @@ from ..values.names import MARK, NameTable
 COLUMNS, JSON = "application/octet-stream", "application/json"
 # How many bytes the numbers of a column may have: those that are used here.
 WIDTHS = {"I": 4, "q": 8, "Q": 8}
+# How many bytes a row of a table has at most.
+WIDEST = 16
 
 
 # Columns.
@@ -80,9 +82,14 @@ def asked(held: Held, call: str, given: Mapping[str, Any], named: "Named") -> It
 
 
 def few(held: Any, given: Mapping[str, Any], most: int) -> Optional[bytes]:
-    """What a held version of the library answers to `out_of`, where the edges are so many at most; else `None`."""
+    """What a held version of the library answers to `out_of`, in any order, where the edges are so many at most; else `None`."""
     found = held.few_out_of(_scope(given), _text(given.get("name")), most)
     return None if found is None else b"".join(packed(found))
+
+
+def is_of_all(given: Mapping[str, Any]) -> bool:
+    """Whether a question is one over all edges, of any kind and time."""
+    return _scope(given) == WHOLE
 
 
 # The calls that give columns, and whether they are of a name.

@@ -1,0 +1,117 @@
+"""What clients in Python ask, in the engine's terms. Most of it is little, and answered on the loop without a thread's help."""
+from __future__ import annotations
+
+import json
+import re
+from typing import Any, Callable, Dict, Iterator, Mapping, Optional
+
+from starlette.requests import Request
+from starlette.responses import Response
+
+from . import wire
+from .board import Board, Full
+from .faults import told_fault
+from .flow import Message, Receive, Send, within
+from .limits import Limits
+from ..engine.protocol import Denied
+from ..errors import StoreError
+from ..session import Session
+from ..values.names import NameTable
+
+# How many edges are a few that are asked for by their names, or that go out of a vertex; and what asks for these.
+FEW, FEW_OUT = 64, 4_096
+OF_FEW = ("found", "out_of")
+# The tables of all edges that are kept as they were told, since each client asks for them, and how many bytes one has at most.
+TABLES, MOST_KEPT = ("degrees", "labels", "cores"), 1 << 20
+# Where it is asked.
+ASKED = re.compile(r"/v1/sessions/([^/]+)/ask")
+Ask = Callable[[Request], Any]
+
+
+class Answers:
+    """What held versions answer to clients in Python."""
+
+    def __init__(self, board: Board, names: NameTable) -> None:
+        self._board, self._named = board, wire.Named(names)
+
+    def parts(self, name: str, asked: Mapping[str, Any]) -> Iterator[bytes]:
+        """What a client's version answers, part by part."""
+        call = str(asked.get("call"))
+        with self._board.lent(name) as session:
+            parts = wire.asked(session.held, call, asked, self._named)
+            if call in TABLES and wire.is_of_all(asked) and wire.WIDEST * session.names <= MOST_KEPT:
+                told = b"".join(parts)
+                _told_of(session)[call] = told
+                parts = iter([told])
+            yield from parts
+
+    def at_once(self, name: str, asked: Any) -> Optional[bytes]:
+        """The answer, where that takes little; else `None`."""
+        call = asked.get("call") if isinstance(asked, dict) else None
+        if self._board.is_busy or call not in OF_FEW and call not in TABLES:
+            return None
+        with self._board.lent(name) as session:
+            if call == "out_of":
+                return wire.few(session.held, asked, FEW_OUT)
+            if call == "found":
+                ends = asked.get("ends")
+                is_short = isinstance(ends, list) and len(ends) <= FEW
+                return b"".join(wire.asked(session.held, call, asked, self._named)) if is_short else None
+            return _told_of(session).get(call) if wire.is_of_all(asked) else None
+
+
+def _told_of(session: "Session[Any, Any]") -> Dict[str, bytes]:
+    """The tables of a version that were told; it lets them go as it is closed."""
+    held: Any = session.held
+    found: Dict[str, bytes] = held.told
+    return found
+
+
+class Shortcut:
+    """Leads what is asked most straight to its answer, and lets Starlette look through its routes for all else."""
+
+    def __init__(self, app: Any, ask: Ask, answers: Answers, limits: Limits) -> None:
+        self._app, self._ask, self._answers, self._limits = app, ask, answers, limits
+
+    async def __call__(self, scope: Any, receive: Receive, send: Send) -> None:
+        found = ASKED.fullmatch(scope["path"]) if scope["type"] == "http" and scope["method"] == "POST" else None
+        if found is None:
+            await self._app(scope, receive, send)
+            return
+        try:
+            async with within(self._limits.time, "the request's body doesn't come"):
+                first = await receive()
+        except Full as fault:
+            await told_fault(fault)(scope, receive, send)
+            return
+        told = self._told(found[1], first)
+        if isinstance(told, bytes):
+            length = str(len(told)).encode("ascii")
+            headers = [(b"content-length", length), (b"content-type", wire.COLUMNS.encode("ascii"))]
+            await send({"type": "http.response.start", "status": 200, "headers": headers})
+            await send({"type": "http.response.body", "body": told})
+            return
+        scope["path_params"] = {"session": found[1]}
+        answer = told or await self._ask(Request(scope, _again(first, receive), send))
+        await answer(scope, receive, send)
+
+    def _told(self, name: str, first: Message) -> "bytes | Response | None":
+        """The answer to a request that came whole, or the fault of it; `None` where it is to go the long way."""
+        body = first.get("body", b"")
+        if first["type"] != "http.request" or first.get("more_body") or len(body) > self._limits.body:
+            return None
+        try:
+            return self._answers.at_once(name, json.loads(body))
+        except RecursionError:
+            return None
+        except (StoreError, Denied, ValueError, TypeError) as fault:
+            return told_fault(fault)
+
+
+def _again(first: Message, receive: Receive) -> Receive:
+    """A request's messages, whose first one was taken."""
+    left = [first]
+
+    async def again() -> Message:
+        return left.pop() if left else await receive()
+    return again

@@ -1,0 +1,46 @@
+"""Faults as a client is told them."""
+from __future__ import annotations
+
+from typing import Any, Dict, Tuple
+
+from starlette.responses import Response
+
+from . import wire
+from .board import Full
+from .flow import as_json
+from .limits import TooLarge
+from ..engine.protocol import Denied
+from ..errors import Busy, NoKind, NoMemory, NoVertex, PoolEmpty, Refused, SessionClosed, StoreError
+
+# What is told of names that a version doesn't have.
+REASONS = {"NoVertex": "the version has no vertex of this name; a later one may",
+           "NoKind": "the version has no edge of this kind, and never had; a later one may"}
+# What batches are refused for that were right.
+NO_ROOM = ("PoolEmpty", "NamesFull", "KindsFull", "BatchLimit")
+
+
+def told_fault(fault: Exception) -> Response:
+    """A fault as a client is told it."""
+    if isinstance(fault, Full):
+        return as_json(wire.fault(fault.word, str(fault), fault.after), 503, {"retry-after": str(fault.after)})
+    if isinstance(fault, TooLarge):
+        return as_json(wire.fault("TooLarge", str(fault)), 413, {"connection": "close"})
+    status, word = _status(fault)
+    more: Dict[str, Any] = {"denied": True} if isinstance(fault, Denied) else {}
+    if isinstance(fault, Denied) and fault.stat is not None:
+        more["stat"] = fault.stat._asdict()
+    told = REASONS.get(word) or (fault.told if isinstance(fault, Refused) else str(fault))
+    return as_json(wire.fault(word, told, **more), status)
+
+
+def _status(fault: Exception) -> Tuple[int, str]:
+    word = getattr(fault, "word", "") or type(fault).__name__
+    if isinstance(fault, (NoVertex, NoKind)) or word in ("NoVertex", "NoKind"):
+        return 404, word
+    if isinstance(fault, SessionClosed):
+        return 410, word
+    if isinstance(fault, (Busy, PoolEmpty)) or word in NO_ROOM:
+        return 409, word
+    if isinstance(fault, NoMemory):
+        return 503, word
+    return 400, word if isinstance(fault, (StoreError, Denied)) else "BadRequest"
