@@ -5,10 +5,11 @@ import json
 import os
 import socket
 from collections import deque
-from http.client import HTTPConnection, HTTPException, HTTPResponse, HTTPSConnection
-from typing import Any, Deque, Dict, List, Mapping, NamedTuple, Optional, Tuple
-from urllib.parse import quote, urlsplit
+from http.client import HTTPConnection, HTTPException, HTTPSConnection
+from typing import Any, Deque, Dict, Mapping, NamedTuple, Optional, Tuple
+from urllib.parse import SplitResult, quote, urlsplit
 
+from . import answers
 from .limits import RUN
 from .server import UNIX
 from ..engine.protocol import Denied
@@ -18,32 +19,7 @@ from ..values.answers import Stat
 JSON = "application/json"
 
 
-class AtOnce(HTTPConnection):
-    """A connection that sends a request in one piece, so that the server wakes once for it."""
-
-    _pieces: Optional[List[bytes]] = None
-
-    def endheaders(self, message_body: Any = None, *, encode_chunked: bool = False) -> None:
-        self._pieces = []
-        try:
-            super().endheaders(message_body, encode_chunked=encode_chunked)
-            whole = b"".join(self._pieces)
-        finally:
-            self._pieces = None
-        self.send(whole)
-
-    def send(self, data: Any) -> None:
-        if self._pieces is None:
-            super().send(data)
-        else:
-            self._pieces.append(data)
-
-
-class AtOnceOverTls(AtOnce, HTTPSConnection):
-    """The same over TLS."""
-
-
-class OfUnix(AtOnce):
+class OfUnix(HTTPConnection):
     """A connection to a Unix socket."""
 
     def __init__(self, path: str, timeout: float) -> None:
@@ -84,7 +60,11 @@ class Talk:
             raise ValueError(f"a server's address is http://HOST:PORT or unix:PATH, and not {url!r}")
         self._parts = parts
         token = token or os.environ.get("MISTELUK_TOKEN")
-        self._headers = {"Authorization": f"Bearer {token}"} if token else {}
+        if token and not (token.isprintable() and token.isascii()):
+            raise ValueError("a token has printable ASCII signs alone")
+        # What each request says.
+        self._headers = "\r\n".join([f"Host: {_host_of(parts)}", "Accept-Encoding: identity",
+                                     *([f"Authorization: Bearer {token}"] if token else [])])
         # Which run of the server this client knows.
         self.run = ""
         self._idle: Deque[HTTPConnection] = deque()
@@ -100,7 +80,7 @@ class Talk:
             pass
         if self.url.startswith(UNIX):
             return OfUnix(self.url[len(UNIX):], self.timeout), False
-        kind = AtOnceOverTls if self._parts.scheme == "https" else AtOnce
+        kind = HTTPSConnection if self._parts.scheme == "https" else HTTPConnection
         return kind(self._parts.hostname or "", self._parts.port, timeout=self.timeout), False
 
     def ask(self, method: str, path: str, body: Optional[Mapping[str, Any]] = None) -> Told:
@@ -126,15 +106,27 @@ class Talk:
             raise
 
     def _on(self, connection: HTTPConnection, method: str, path: str, body: Optional[Mapping[str, Any]]) -> Told:
-        given = None if body is None else json.dumps(body).encode("ascii")
-        known = {RUN: self.run} if self.run else {}
-        connection.request(method, path, given, {**self._headers, **known, **({} if given is None else {"Content-Type": JSON})})
-        response: HTTPResponse = connection.getresponse()
-        self.run = response.headers.get(RUN, "")
-        media = response.headers.get_content_type()
-        told = Told(response.status, media, response.read(), response.headers.get("Retry-After", ""))
+        if connection.sock is None:
+            connection.connect()
+        link: Any = connection.sock
+        link.sendall(self._request(method, path, body))
+        status, headers, whole, is_last = answers.read(link, method)
+        if is_last:
+            connection.close()
+        self.run = headers.get(RUN, "")
+        media = headers.get("content-type", "").partition(";")[0].strip().lower()
         self._idle.append(connection)
-        return told
+        return Told(status, media, whole, headers.get("retry-after", ""))
+
+    def _request(self, method: str, path: str, body: Optional[Mapping[str, Any]]) -> bytes:
+        """A request, in one piece, so that the server wakes once for it."""
+        given = b"" if body is None else json.dumps(body).encode("ascii")
+        lines = [f"{method} {path} HTTP/1.1", self._headers, f"Content-Length: {len(given)}"]
+        if self.run:
+            lines.append(f"{RUN}: {self.run}")
+        if body is not None:
+            lines.append(f"Content-Type: {JSON}")
+        return "\r\n".join([*lines, "\r\n"]).encode("latin-1") + given
 
     def call(self, method: str, path: str, body: Optional[Mapping[str, Any]] = None) -> Told:
         """What a request gives; a fault that the server tells is raised."""
@@ -146,6 +138,13 @@ class Talk:
     def close(self) -> None:
         while self._idle:
             self._idle.pop().close()
+
+
+def _host_of(parts: SplitResult) -> str:
+    """What a request names as its host."""
+    host = parts.hostname or "localhost"
+    name = f"[{host}]" if ":" in host else host if host.isascii() else host.encode("idna").decode("ascii")
+    return name if parts.port is None else f"{name}:{parts.port}"
 
 
 def part(name: str) -> str:

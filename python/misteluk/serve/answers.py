@@ -1,0 +1,90 @@
+"""How a response is read: most have a length and come whole, and are read at once; the others `http.client` reads."""
+from __future__ import annotations
+
+import io
+import re
+import socket
+from http.client import HTTPResponse, RemoteDisconnected
+from typing import Any, Dict, NamedTuple, Optional
+
+# How many bytes are taken at once, and how long a head is at most that is read at once.
+AT_ONCE, MOST_HEAD = 1 << 18, 1 << 14
+_STATUS = re.compile(rb"HTTP/1\.1 ([2-5]\d\d)(?: .*)?")
+BEGIN, _NO_BODY = b"HTTP/1.", (204, 304)
+
+
+class Answer(NamedTuple):
+    """A response: its status, its headers by small names, its body, and whether its connection ends with it."""
+
+    status: int
+    headers: Dict[str, str]
+    body: bytes
+    is_last: bool
+
+
+class Begun(io.RawIOBase):
+    """A socket of which something was read already, as `HTTPResponse` reads it."""
+
+    def __init__(self, begin: bytes, link: socket.socket) -> None:
+        self._begin, self._link = begin, link
+
+    def readable(self) -> bool:
+        return True
+
+    def readinto(self, buffer: Any) -> int:
+        part, self._begin = self._begin[:len(buffer)], self._begin[len(buffer):]
+        if not part:
+            return self._link.recv_into(buffer)
+        buffer[:len(part)] = part
+        return len(part)
+
+    def makefile(self, mode: str) -> io.BufferedReader:
+        return io.BufferedReader(self)
+
+
+def read(link: socket.socket, method: str) -> Answer:
+    """The response to a request of this method. Raises `HTTPException` where it is none, and `OSError`."""
+    data, more = b"", link.recv(AT_ONCE)
+    while more and b"\r\n\r\n" not in data + more and _may_go_on(data + more):
+        data, more = data + more, link.recv(AT_ONCE)
+    if not more:
+        raise RemoteDisconnected(f"it ended the connection {'amid' if data else 'without'} a response")
+    return _whole(link, data + more) or _any(link, data + more, method)
+
+
+def _may_go_on(data: bytes) -> bool:
+    """Whether these bytes may begin a response whose head is to be read at once."""
+    return len(data) < MOST_HEAD and data[:len(BEGIN)] == BEGIN[:len(data)]
+
+
+def _whole(link: socket.socket, data: bytes) -> Optional[Answer]:
+    """A response that tells its length. `None` where it may be of another form; then nothing was taken."""
+    head, mark, rest = data.partition(b"\r\n\r\n")
+    first, *lines = head.split(b"\r\n")
+    status = _STATUS.fullmatch(first)
+    headers = {name.decode("latin-1").lower(): value.strip().decode("latin-1")
+               for name, _, value in (it.partition(b":") for it in lines)}
+    length = headers.get("content-length", "")
+    if (not mark or status is None or int(status[1]) in _NO_BODY or len(headers) < len(lines) or not length.isdigit()
+            or not length.isascii() or "transfer-encoding" in headers):
+        return None
+    left = int(length) - len(rest)
+    if left < 0:
+        return None
+    parts = [rest]
+    while left:
+        more = link.recv(min(left, AT_ONCE))
+        if not more:
+            raise RemoteDisconnected("it ended the connection amid a response")
+        parts.append(more)
+        left -= len(more)
+    return Answer(int(status[1]), headers, b"".join(parts), headers.get("connection", "").lower() == "close")
+
+
+def _any(link: socket.socket, data: bytes, method: str) -> Answer:
+    begun: Any = Begun(data, link)
+    with HTTPResponse(begun, method=method) as response:
+        response.begin()
+        body = response.read()
+        headers = {name.lower(): value for name, value in response.headers.items()}
+        return Answer(response.status, headers, body, bool(response.will_close))

@@ -1,0 +1,134 @@
+"""What a client in Python and a server say to each other: responses of each form, and questions in parts and at once."""
+import json
+import socket
+import time
+import unittest
+from array import array
+from http.client import HTTPException, RemoteDisconnected
+
+from serving import ServeCase
+
+from misteluk import connect
+from misteluk.serve import answers, wire
+from misteluk.serve.limits import Limits
+
+WHOLE = b"HTTP/1.1 200 OK\r\nContent-Length: 5\r\nMisteluk-Server: x\r\n\r\nhello"
+CHUNKED = b"HTTP/1.1 200 OK\r\ntransfer-encoding: chunked\r\n\r\n5\r\nhello\r\n3\r\n!!!\r\n0\r\n\r\n"
+
+
+class Link:
+    """A connection by which bytes come, so many at once, and then its end."""
+
+    def __init__(self, data, step):
+        self.data, self.step = data, step
+
+    def recv(self, size):
+        part, self.data = self.data[:min(size, self.step)], self.data[min(size, self.step):]
+        return part
+
+    def recv_into(self, buffer):
+        part = self.recv(len(buffer))
+        buffer[:len(part)] = part
+        return len(part)
+
+
+class Reading(unittest.TestCase):
+    def read(self, data, step=1 << 20):
+        """The response that such bytes are."""
+        return answers.read(Link(data, step), "GET")
+
+    def test_forms(self):
+        for data, told in (
+                (WHOLE, (200, b"hello", False)), (CHUNKED, (200, b"hello!!!", False)),
+                (b"HTTP/1.1 200 OK\r\n\r\nhello", (200, b"hello", True)),
+                (b"HTTP/1.1 204 No Content\r\n\r\n", (204, b"", False)),
+                (b"HTTP/1.1 304 Not Modified\r\nContent-Length: 5\r\n\r\n", (304, b"", False)),
+                (b"HTTP/1.1 100 Continue\r\n\r\n" + WHOLE, (200, b"hello", False)),
+                (WHOLE.replace(b"\r\n\r\n", b"\r\nConnection: close\r\n\r\n"), (200, b"hello", True)),
+                (WHOLE.replace(b"1.1", b"1.0"), (200, b"hello", True)),
+                (WHOLE.replace(b"200 OK", b"503"), (503, b"hello", False)),
+                (WHOLE.replace(b"x\r\n", b"x\r\nLong: " + b"y" * 20_000 + b"\r\n"), (200, b"hello", False)),
+                (b"HTTP/1.1 200 OK\r\nContent-Length: 1000000\r\n\r\n" + b"z" * 1_000_000, (200, b"z" * 1_000_000, False))):
+            for step in (1, 7, 1 << 20) if len(data) < 1_000 else (4_096,):
+                found = self.read(data, step)
+                self.assertEqual((found.status, found.body, found.is_last), told, (data[:100], step))
+        self.assertEqual(self.read(WHOLE).headers, {"content-length": "5", "misteluk-server": "x"})
+
+    def test_what_is_none(self):
+        self.assertRaises(RemoteDisconnected, self.read, b"")
+        for data, end in ((WHOLE, len(WHOLE)), (CHUNKED, CHUNKED.index(b"0\r\n\r\n"))):
+            for size in range(1, end):
+                self.assertRaises((HTTPException, ConnectionError), self.read, data[:size])
+        for data in (b"SSH-2.0-OpenSSH\r\n\r\n", b"\x00" * 200, b"HTTP/1.1 twenty\r\n\r\n", b"a" * 100_000):
+            self.assertRaises(HTTPException, self.read, data)
+
+
+class Asked(ServeCase):
+    def raw(self, body, *parts):
+        """The response to a question whose request comes in parts."""
+        path = f"/v1/sessions/{self.name}/ask".encode()
+        head = b"POST %s HTTP/1.1\r\nHost: localhost\r\nContent-Length: %d\r\n\r\n" % (path, len(body))
+        data = head + body
+        with socket.create_connection(("127.0.0.1", self.server.address.port)) as link:
+            link.setsockopt(socket.IPPROTO_TCP, socket.TCP_NODELAY, 1)
+            before = 0
+            for end in (*(len(head) + it for it in parts), len(data)):
+                link.sendall(data[before:end])
+                before = end
+                time.sleep(0.02 if parts else 0)
+            found = answers.read(link, "POST")
+        return found.status, found.body
+
+    def test_at_once_and_in_parts(self):
+        """An answer is the same, however its question comes, and whether it is the first of its kind or not."""
+        self.fed()
+        self.name = self.post("/v1/sessions").json["session"]
+        whole = {"kind": None, "since": 0, "until": (1 << 63) - 1}
+        for asked in ({"call": "found", "ends": [["transfer", "ana", "funnel"]]}, {"call": "out_of", "name": "ana", **whole},
+                      {"call": "degrees", **whole}, {"call": "labels", **whole}, {"call": "cores", **whole}, {"call": "edges"},
+                      {"call": "names"}, {"call": "out_of", "name": "zed"}, {"call": "found", "ends": [[1, 2, 3]]},
+                      {"call": "degrees", "kind": "none"}, {"call": "none"}, {"call": "found", "ends": 5}):
+            body = json.dumps(asked).encode()
+            told = self.raw(body)
+            self.assertEqual(self.raw(body), told, asked)
+            self.assertEqual(self.raw(body, 0, 3, 10), told, asked)
+        self.assertEqual(self.raw(b'{"call": "found", "ends": [["transfer", "ana", "funnel"]]}'), (200, b"[[980, 1, 1]]"))
+        for body in (b"", b"[]", b"nothing", b"[" * 100_000, b'{"call": ["found"]}'):
+            self.assertEqual(self.raw(body)[0], 400, body[:20])
+
+    def test_tables_are_those_of_their_version(self):
+        """What is kept of a version is told of no other one, nor of some of its edges."""
+        self.fed()
+        with connect(self.server.url) as first:
+            for _ in range(2):
+                self.assertEqual(first.degrees()["ana"], (1, 1, 980))
+                self.assertEqual(first.degrees("owes")["ana"], (0, 1, 0))
+                self.assertEqual(first.degrees(since=2)["ana"], (0, 0, 0))
+            self.post("/v1/rows", {"rows": [["add", "transfer", "ana", "ben", 20, 9]]})
+            with connect(self.server.url) as second:
+                for _ in range(2):
+                    self.assertEqual((first.degrees()["ana"], second.degrees()["ana"]), ((1, 1, 980), (2, 1, 1_000)))
+                    self.assertEqual(second.components()["ben"], "ana")
+
+    def test_a_question_that_is_too_long(self):
+        self.fed(limits=Limits(body=1_024, time=0.5))
+        self.name = self.post("/v1/sessions").json["session"]
+        status, body = self.raw(b'{"call": "found", "ends": [], "more": "%s"}' % (b"x" * 2_000))
+        self.assertEqual((status, json.loads(body)["error"]), (413, "TooLarge"))
+        with socket.create_connection(("127.0.0.1", self.server.address.port)) as link:  # (whose body never comes)
+            link.sendall(b"POST /v1/sessions/x/ask HTTP/1.1\r\nHost: localhost\r\nContent-Length: 9\r\n\r\n")
+            found = answers.read(link, "POST")
+        self.assertEqual((found.status, json.loads(found.body)["error"]), (503, "TooLong"))
+
+    def test_the_order_of_edges(self):
+        """A client has them in order, whatever the server's order is."""
+        self.fed(*(["add", kind, "hub", f"t{it * 7 % 50:02}", it, it] for it in range(50) for kind in ("b", "a")))
+        with connect(self.server.url) as session, self.server.store.open() as local:
+            self.assertEqual(list(session.edges_out_of("hub")), list(local.edges_out_of("hub")))
+            self.assertEqual(len(session.edges_out_of("hub")), 100)
+        row = wire.unpacked(b'[["I", 2], ["Q", 1]]\n' + array("I", [1, 2]).tobytes() + array("Q", [9]).tobytes())
+        self.assertEqual([it.tolist() for it in row], [[1, 2], [9]])
+
+
+if __name__ == "__main__":
+    unittest.main()
