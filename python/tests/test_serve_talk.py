@@ -9,7 +9,9 @@ from http.client import HTTPException, RemoteDisconnected
 from serving import ServeCase
 
 from misteluk import connect
+from misteluk.engine.operations import row_of
 from misteluk.serve import answers, wire
+from misteluk.serve.feeding import _seen_rows
 from misteluk.serve.limits import Limits
 
 WHOLE = b"HTTP/1.1 200 OK\r\nContent-Length: 5\r\nMisteluk-Server: x\r\n\r\nhello"
@@ -61,6 +63,29 @@ class Reading(unittest.TestCase):
                 self.assertRaises((HTTPException, ConnectionError), self.read, data[:size])
         for data in (b"SSH-2.0-OpenSSH\r\n\r\n", b"\x00" * 200, b"HTTP/1.1 twenty\r\n\r\n", b"a" * 100_000):
             self.assertRaises(HTTPException, self.read, data)
+
+
+class Rows(ServeCase):
+    def test_rows_that_are_seen_at_once(self):
+        """They are what they are row by row, and those that break a rule, or have names of another form, aren't."""
+        for units in ({}, {"weight_scale": 100, "times": "iso"}):
+            self.serve(**units)
+            self.assertEqual(self.ask("/v1/stat").status, 200)
+            feeding, terms = self.server.feeding, self.server.store.ledger.terms
+            weights = ["5", "-7", "0", str(1 << 40)] if not units else ["5", "-7.25", "0", "10.5"]
+            times = ["0", "3", "9" * 18] if not units else ["2024-05-01", "2024-05-01T12:00:00", "0"]
+            rows = [[word, kind, "a", f"b{at}", weight, time] for word in ("add", "insert") for kind in ("k", "l")
+                    for at, weight in enumerate(weights) for time in times]
+            found = _seen_rows(rows, terms)
+            self.assertEqual(found, [row_of(terms.turned([{"add": "a", "insert": "i"}[it[0]], *it[1:]])[0]) for it in rows])
+            self.assertEqual((feeding._records(rows), list(self.server.store.kinds)), (found, ["k", "l"]))
+            for more in (["remove", "k", "a", "b"], ["expire", "5"], ["add", "k", "a", "b", "many", "1"], ["Add", *rows[0][1:]],
+                         ["add", "k", "a", "Иванов", "5", times[0]], ["add", "*", "a", "b", "5", times[0]],
+                         ["add", "k", "", "b", "5", times[0]], ["add", "k", "a b", "b", "5", times[0]],
+                         ["add", "k", "~~AAAAAAAAAAAAAAAAAAAA", "b", "5", times[0]], ["add", "k", "a", "b", "5", "-1"],
+                         ["add", "k", "a", "b", str((1 << 40) + 1), times[0]], ["add", "k", "a", "b", "5"], []):
+                self.assertIsNone(_seen_rows([*rows, more], terms), more)
+            self.assertEqual(len(terms.names), 0)
 
 
 class Asked(ServeCase):

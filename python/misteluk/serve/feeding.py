@@ -20,6 +20,7 @@ from ..ledger import sum_of
 from ..values import records
 from ..values.answers import Commit
 from ..values.names import is_plain
+from ..values.terms import Terms
 
 # What a client calls an operation, and the command of its record.
 COMMANDS = {"insert": "i", "add": "a", "remove": "r", "expire": "x"}
@@ -203,6 +204,10 @@ class Feeding:
     def _records(self, rows: Sequence[Sequence[str]]) -> List[Row]:
         """The operations of rows. Raises a `Refused` for the first row that is none; no name is kept then."""
         terms, ledger = self.store.ledger.terms, self.store.ledger
+        found = _seen_rows(rows, terms)
+        if found is not None:
+            ledger.kinds.update(dict.fromkeys(row[1] for row in found))
+            return found
         asked = [(COMMANDS.get(row[0] if row else "", ""), *row[1:]) for row in rows]
         for at, fields in enumerate(asked, 1):
             if not fields[0]:
@@ -251,6 +256,20 @@ def checked_operations(text: str) -> Operations:
             raise refusal("BadCommand", f"row {at} is no operation", advice="")
         rows.append(row_of(fields))
     return Operations(rows)
+
+
+def _seen_rows(rows: Sequence[Sequence[str]], terms: Terms) -> Optional[List[Row]]:
+    """The operations of a client's rows, where each is seen at once to be an insertion or addition of names that are the engine's
+    as they stand; else `None`."""
+    if set(map(len, rows)) != {6}:
+        return None
+    words, kinds, sources, targets, weights, times = zip(*rows)
+    if not set(words) <= {"insert", "add"} or not terms.knows({*kinds, *sources, *targets}):
+        return None
+    numbers: Any = terms.units.weights_of(weights), terms.units.times_of(times)
+    if any(None in it for it in numbers):
+        return None
+    return list(zip((OF_RECORDS.index(COMMANDS[it]) for it in words), kinds, sources, targets, *numbers))
 
 
 def _plain_rows(lines: Sequence[str]) -> Optional[List[Row]]:
