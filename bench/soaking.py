@@ -79,10 +79,11 @@ def coming(session: Any, chance: random.Random, met: Counter[str]) -> None:
 
 def silent(session: Any, chance: random.Random, met: Counter[str]) -> None:
     """Asks once, is silent for longer than the server waits, and asks again."""
-    asked(session, chance, [])
+    names = list(session.degrees())  # (a name that nobody uses for long is let go)
+    asked(session, chance, names)
     met["answers"] += 1
     time.sleep(2.5 * IDLE)
-    asked(session, chance, [])
+    asked(session, chance, names)
     met["an answer after its silence"] += 1
 
 
