@@ -64,16 +64,20 @@ class Page(ServeCase):
         return "".join(iter(self.shell.stdout.readline, "that was it\n"))
 
     def test_the_page(self):
-        found = list(commands(self.text))
-        for command, wanted in found:
-            told = self.typed(command, wanted.count("\n") + 1).strip("\n")
-            self.assertTrue(is_like(told, wanted), f"\n$ {command}\nprinted\n{told}\nand not\n{wanted}")
-        self.assertGreater(len(found), 6)
-        page = doctest.DocTestParser().get_doctest(self.text, {}, PAGE.name, str(PAGE), 0)
-        said = io.StringIO()
-        with redirect_stdout(said):
-            failed, tried = doctest.DocTestRunner(optionflags=doctest.ELLIPSIS).run(page)
-        self.assertEqual(failed, 0, said.getvalue())
+        """Its blocks in their order, as a reader types them."""
+        typed, tried, known, said = 0, 0, {}, io.StringIO()
+        for block in re.findall(r"(?m)(?:^    .*\n)+", self.text):
+            for command, wanted in commands(block):
+                told = self.typed(command, wanted.count("\n") + 1).strip("\n")
+                self.assertTrue(is_like(told, wanted), f"\n$ {command}\nprinted\n{told}\nand not\n{wanted}")
+                typed += 1
+            if ">>>" in block:
+                page = doctest.DocTestParser().get_doctest(block, known, PAGE.name, str(PAGE), 0)
+                with redirect_stdout(said):
+                    failed, count = doctest.DocTestRunner(optionflags=doctest.ELLIPSIS).run(page, clear_globs=False)
+                self.assertEqual(failed, 0, said.getvalue())
+                known, tried = page.globs, tried + count
+        self.assertGreater(typed, 6)
         self.assertGreater(tried, 5)
 
     def stat(self):
