@@ -1,11 +1,11 @@
 -- The version without batches is a version.
-use Rattle.std.proofs.Common.{◌≡◌, ◌∙◌, ℕ, List, [], refl, sym, ap, arith, true≢false}
+use Rattle.std.proofs.Common.{◌≡◌, ◌∙◌, ℕ, List, [], Bool, refl, sym, ap, arith, true≢false}
 use Rattle.std.specs.{Option.is_some, FinMap.get-empty, FinMap.len-empty}
 use Rattle.graph_types.specs.{Graph.Graph, Graph.Stamp, Graph.key_cmp, Step.empty_graph_in, declared.batches.NamedOp.NamedOp}
 use Rattle.graph_types.specs.Limits.{LimitsView, AreLimits, standard_limits}
 use Rattle.edge_block.specs.{Slots.BlockView, Rows.IsRow}
 use Rattle.vertex_names.specs.Book.{Book, empty_book}
-use Rattle.graph_version.specs.{Versions.IsVersion, Versions.{empty_version, empty_version_in}, Kept.version_of, Kept.IsSummary}
+use Rattle.graph_version.specs.{Versions.IsVersion, Versions.{empty_version, empty_version_in}, Kept.version_of, Kept.IsSummary, Logs.keeps_batches}
 
 pub no_row : IsRow []
 no_row = record { within = λ k d h. absurd (omega arith); between = tt }
@@ -29,13 +29,14 @@ is_empty_version = is_empty_version_in standard_limits standard_are_limits
 
 -- what a version keeps is true of the one without batches
 pub is_kept_empty : (limits : LimitsView) (names kinds : Book) (opening : Graph) (batches : List (List NamedOp)) (rows : List (List BlockView))
-    (edges : ℕ) → AreLimits limits → names ≡ empty_book limits.names → kinds ≡ empty_book limits.kinds
+    (edges : ℕ) (keeps : Bool) → AreLimits limits → names ≡ empty_book limits.names → kinds ≡ empty_book limits.kinds
     → opening ≡ empty_graph_in limits → batches ≡ [] → rows ≡ []
-    → edges ≡ 0 → IsSummary names kinds edges (version_of opening batches rows)
-is_kept_empty limits names kinds opening batches rows edges are n k o b r e =
-    rw (n, k, o, b, r, e) (record {
+    → edges ≡ 0 → keeps ≡ keeps_batches limits → IsSummary names kinds edges keeps (version_of opening batches rows)
+is_kept_empty limits names kinds opening batches rows edges keeps are n k o b r e kept =
+    rw (n, k, o, b, r, e, kept) (record {
       names_are = refl;
       kinds_are = refl;
       edges_are = sym (len-empty key_cmp Stamp);
+      keeps_are = refl;
       version = is_empty_version_in limits are;
     })

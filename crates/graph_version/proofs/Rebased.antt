@@ -1,6 +1,6 @@
 -- A version 0 over copies of another version's blocks.
 use Rattle.std.proofs.Common.{◌≡◌, ◌≢◌, ℕ, zero, suc, ◌+◌, ◌-◌, ◌<◌, ◌≤◌, List, [], ◌∷◌, ◌++◌, map, length, take, drop, get_or}
-use Rattle.std.proofs.Common.{refl, sym, ap, ap₂, subst, ◌∙◌, arith, inl, inr, All, AllPairs, length-append, ℤ, true, rules, w64}
+use Rattle.std.proofs.Common.{refl, sym, ap, ap₂, subst, ◌∙◌, arith, inl, inr, All, AllPairs, length-append, ℤ, Bool, true, rules, w64}
 use Rattle.std.proofs.{Common.FitsSigned, lemmas.List.{append-nil, take-append-drop, take_all, drop_all, length-map, map-append}}
 use Rattle.std.proofs.lemmas.{List.{drop_more, get_or_past, Elements.{All-head, All-tail, All-cons}}, Bool.cases_lt}
 use Rattle.std.{proofs.lemmas.Bool.Decides.eqb_tells, specs.{declared.{sync.Arc.Arc, alloc.Global.Global}, FinMap.{len, get}}}
@@ -13,7 +13,7 @@ use Rattle.edge_block.specs.{declared.blocks.Block.Block, Rows.shape_of, Batches
 use Rattle.vertex_names.specs.Book.{Book}
 use Rattle.version_pages.specs.{Rows.{row_of, blocks_of, numbers_of, Replaces}, Sharing.{block_value, block_values}}
 use Rattle.graph_version.specs.{Versions.{VersionView, IsBlockOf, AreRowsOf, IsVersion, content, layout_of}, Edges.edge_from}
-use Rattle.graph_version.specs.{Edges.{edges_in_block, edges_in_blocks}, Kept.{vertex_book, kind_book, version_of, IsSummary}}
+use Rattle.graph_version.specs.{Edges.{edges_in_block, edges_in_blocks}, Kept.{vertex_book, kind_book, version_of, IsSummary}, Logs.keeps_batches}
 use Rattle.graph_version.specs.LentEdges.{edge_of}
 use Rattle.graph_version.specs.Rebased.{AreCopies, IsRebased, rows_like, unnumbered}
 use Rattle.graph_version.proofs.{Shown.rows_each_once, Totals.same_blocks, Totals.at_source, Totals.elsewhere}
@@ -190,14 +190,16 @@ is_version_zero v blocks copy g is like same = record {
 
 -- what the other version keeps this one keeps
 pub rebased_kept : (names kinds old_names old_kinds : Book) (v : VersionView) (blocks : List BlockView)
-    (batches : List (List NamedOp)) (copy : List (List BlockView)) (g : Graph) (edges : ℕ) → IsSummary old_names old_kinds edges v
+    (batches : List (List NamedOp)) (copy : List (List BlockView)) (g : Graph) (edges : ℕ) (keeps old_keeps : Bool)
+    → IsSummary old_names old_kinds edges old_keeps v → keeps ≡ keeps_batches v.opening.limits
     → names ≡ old_names → kinds ≡ old_kinds → batches ≡ [] → LookLike v blocks copy → g ≡ content v
-    → IsSummary names kinds edges (version_of g batches copy)
-rebased_kept names kinds old_names old_kinds v blocks batches copy g edges is n k none like same =
-    subst (λ (bs : List (List NamedOp)). IsSummary names kinds edges (version_of g bs copy)) (sym none) (record {
+    → IsSummary names kinds edges keeps (version_of g batches copy)
+rebased_kept names kinds old_names old_kinds v blocks batches copy g edges keeps old_keeps is kept n k none like same =
+    subst (λ (bs : List (List NamedOp)). IsSummary names kinds edges keeps (version_of g bs copy)) (sym none) (record {
       names_are = n ∙ is.names_are ∙ ap vertex_book (sym same);
       kinds_are = k ∙ is.kinds_are ∙ ap kind_book (sym same);
       edges_are = is.edges_are ∙ ap (λ (h : Graph). len h.edges) (sym same);
+      keeps_are = kept ∙ ap keeps_batches (sym (ap (λ (h : Graph). h.limits) same ∙ limits_left_by v.batches v.opening));
       version = is_version_zero v blocks copy g is.version like same;
     })
 
@@ -256,18 +258,18 @@ pub numbers_long : (a b : List (Arc Block Global)) → numbers_of (block_values 
 numbers_long a b same = grind (arith, common_steps, length-map)
 
 -- the content's lists
-pub same_content : (names kinds : Book) (edges : ℕ) (v : VersionView) (c : Content) (l : LimitsView)
-    → IsSummary names kinds edges v
+pub same_content : (names kinds : Book) (edges : ℕ) (keeps : Bool) (v : VersionView) (c : Content) (l : LimitsView)
+    → IsSummary names kinds edges keeps v
     → c.names ≡ names.names → c.kinds ≡ kinds.names → c.edges ≡ edges_in_blocks (blocks_of v.rows)
     → l ≡ v.opening.limits → graph_in l c ≡ content v
-same_content names kinds edges v c l is n k e same = grind (arith, common_steps, rows_each_once, limits_left_by)
+same_content names kinds edges keeps v c l is n k e same = grind (arith, common_steps, rows_each_once, limits_left_by)
 
 -- they are a content
-pub listed_content : (names kinds : Book) (edges : ℕ) (v : VersionView) (c : Content) (l : LimitsView)
-    → IsSummary names kinds edges v
+pub listed_content : (names kinds : Book) (edges : ℕ) (keeps : Bool) (v : VersionView) (c : Content) (l : LimitsView)
+    → IsSummary names kinds edges keeps v
     → AllPairs (λ a b. a ≢ b) c.names → AllPairs (λ a b. a ≢ b) c.kinds → All (λ e. IsStamp (stamp_of e)) c.edges
     → c.edges ≡ edges_in_blocks (blocks_of v.rows) → graph_in l c ≡ content v → IsContentIn l c
-listed_content names kinds edges v c l is apart kinds_apart stamps e same =
+listed_content names kinds edges keeps v c l is apart kinds_apart stamps e same =
     let each = rows_each_once (content v) v.rows is.version.rows in
     let once = subst (AllPairs (λ (a b : Edge). key_of a ≢ key_of b)) (sym e) each.once in
     let names_few : length c.names ≤ l.names = subst (λ (g : Graph). length g.names ≤ g.limits.names) (sym same)

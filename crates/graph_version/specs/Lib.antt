@@ -1,5 +1,7 @@
 pub mod Versions
 pub mod Edges
+pub mod Graphs
+pub mod Logs
 pub mod Kept
 pub mod Drafts
 pub mod Lending

@@ -8,6 +8,7 @@ ghost use Rattle.graph_version.specs.Edges.{edges_in_blocks};
 ghost use Rattle.graph_version.specs.Kept.{edge_total};
 ghost use Rattle.graph_version.specs.Drafts.{drafted_over, with_batch, ReplacesRow, IsWhole};
 
+use crate::batch_log::BatchLog;
 use crate::opening::Opening;
 use crate::tables::RowTable;
 use crate::versions::Version;
@@ -16,7 +17,7 @@ use graph_types::{Batch, VertexId};
 use std::alloc::AllocError;
 use std::marker::Model;
 use std::sync::Arc;
-use version_pages::{BatchList, Rows};
+use version_pages::Rows;
 use vertex_names::NameBook;
 
 /// A version that is being made over another one, from which it takes all that isn't set or replaced.
@@ -27,12 +28,14 @@ pub struct VersionDraft {
     opening: Opening,
     names: NameBook,
     kinds: NameBook,
-    batches: BatchList,
+    batches: BatchLog,
     rows: Rows,
 }
 
 impl Model for VersionDraft {
+    ghost use Rattle.std.specs.Prelude.{◌≡◌};
     ghost use Rattle.graph_version.specs.Kept.{version_of, opening_graph};
+    ghost use Rattle.graph_version.specs.Logs.{keeps_batches};
     ghost use Rattle.graph_version.specs.Drafts.{DraftView};
     ghost use Rattle.std.specs.Coded.{codes};
     ghost use Rattle.graph_types.specs.Coded.{graph_code};
@@ -44,8 +47,10 @@ impl Model for VersionDraft {
     ghost view = { λ d. record {
       names = d.names;
       kinds = d.kinds;
-      version = version_of (opening_graph d.opening) d.batches d.rows;
+      version = version_of (opening_graph d.opening) d.batches.batches d.rows;
     } };
+
+    ghost invariant = { λ d. d.batches.keeps ≡ keeps_batches (opening_graph d.opening).limits };
 }
 
 impl VersionDraft {

@@ -8,6 +8,7 @@
 //! ([`VersionEdges`]), and a plain list of arcs serves tests and examples ([`ListedArcs`]).
 #![tactic(auto)]
 
+mod batch_log;
 mod drafts;
 mod edges;
 mod laws;
@@ -18,6 +19,9 @@ mod opening;
 mod rebase;
 mod source;
 mod tables;
+mod told;
+mod told_graph;
+mod told_opening;
 mod version_edges;
 mod versions;
 

@@ -6,9 +6,11 @@ ghost use Rattle.edge_block.specs.Slots.{IsStamp};
 ghost use Rattle.version_pages.specs.Rows.{row_of, blocks_of, numbers_of, Replaces};
 ghost use Rattle.version_pages.specs.Sharing.{block_value, block_values};
 ghost use Rattle.graph_version.specs.Versions.{content};
+ghost use Rattle.graph_version.specs.Kept.{opening_graph};
 ghost use Rattle.graph_version.specs.Edges.{edges_in_block, edges_in_blocks};
 ghost use Rattle.graph_version.specs.Rebased.{AreCopies, IsRebased, rows_like, unnumbered};
 
+use crate::batch_log::{BatchLog, keeps_batches};
 use crate::lending::all_edges;
 use crate::listed::ListedContent;
 use crate::opening::Opening;
@@ -17,7 +19,7 @@ use edge_block::Block;
 use graph_types::{Content, Edge, List, Name, VertexId};
 use std::alloc::{AllocError, Global};
 use std::sync::Arc;
-use version_pages::{BatchList, Rows};
+use version_pages::Rows;
 use vertex_names::NameBook;
 
 impl Version {
@@ -31,10 +33,10 @@ impl Version {
     {
         let alloc = *blocks.allocator();
         Ok(Version {
-            opening: Opening::Shared(Arc::new(alloc, self.contents(alloc)?)?),
+            opening: self.as_opening(alloc)?,
             names: self.names.share()?,
             kinds: self.kinds.share()?,
-            batches: BatchList::new(alloc),
+            batches: BatchLog::new(alloc, keeps_batches(self.opening.limits())),
             rows: rows_over(alloc, &self.rows, blocks.as_slice())?,
             edges: self.edges,
         })
@@ -54,6 +56,18 @@ impl Version {
         let held = blocks_in(*blocks.allocator(), &self.rows)?;
         copy_each(blocks.as_mut_slice(), held.as_slice())?;
         Ok(blocks)
+    }
+
+    /// Its content as an opening: as plain lists where batches are kept, and else in the proofs alone.
+    fn as_opening(&self, alloc: Global) -> Result<Opening, AllocError>
+        ensures { IfOk result (λ opening. opening_graph opening ≡ content self.now) }
+    {
+        let limits = self.opening.limits();
+        if keeps_batches(limits) {
+            Ok(Opening::Shared(Arc::new(alloc, self.contents(alloc)?)?))
+        } else {
+            Ok(Opening::told(alloc, self, limits))
+        }
     }
 
     /// Its content as plain lists.

@@ -1,6 +1,6 @@
 //! The version and its calls.
 
-ghost use Rattle.std.specs.Prelude.{◌≡◌, ◌%◌, ◌^◌, ◌++◌, ◌∷◌, [], List, length, MatchOption};
+ghost use Rattle.std.specs.Prelude.{◌≡◌, ◌%◌, ◌^◌, ◌++◌, ◌∷◌, [], true, List, length, MatchOption};
 ghost use Rattle.std.specs.Option.{option_map};
 ghost use Rattle.graph_types.specs.Graph.{IsContentIn, graph_in};
 ghost use Rattle.graph_types.specs.Limits.{AreLimits};
@@ -14,7 +14,9 @@ ghost use Rattle.edge_block.specs.Rows.{shape_of, block_at};
 ghost use Rattle.graph_version.specs.Edges.{lent_to, edges_in_blocks, AreEachOnce};
 ghost use Rattle.graph_version.specs.LentEdges.{edges_left};
 ghost use Rattle.graph_version.specs.Kept.{vertex_book, kind_book, edge_total};
+ghost use Rattle.graph_version.specs.Logs.{keeps_batches};
 
+use crate::batch_log::{BatchLog, keeps_batches};
 use crate::edges::EdgeIter;
 use crate::lending::{BlockNumbers, RowIter};
 use crate::opening::Opening;
@@ -23,7 +25,7 @@ use graph_types::{Batch, Content, KindId, Limits, VertexId};
 use std::alloc::Global;
 use std::marker::Model;
 use std::sync::Arc;
-use version_pages::{BatchIter, BatchList, Rows};
+use version_pages::{BatchIter, Rows};
 use vertex_names::NameBook;
 
 /// A graph after some batches. It never changes.
@@ -34,7 +36,7 @@ pub struct Version {
     pub(crate) opening: Opening,
     pub(crate) names: NameBook,
     pub(crate) kinds: NameBook,
-    pub(crate) batches: BatchList,
+    pub(crate) batches: BatchLog,
     pub(crate) rows: Rows,
     pub(crate) edges: u64,
 }
@@ -63,9 +65,10 @@ impl Model for Version {
 
     ghost coded = { Prim.hlevel (codes, graph_code) };
 
-    ghost view = { λ v. version_of (opening_graph v.opening) v.batches v.rows };
+    ghost view = { λ v. version_of (opening_graph v.opening) v.batches.batches v.rows };
 
-    ghost invariant = { λ v. IsSummary v.names v.kinds v.edges (version_of (opening_graph v.opening) v.batches v.rows) };
+    ghost invariant = { λ v.
+        IsSummary v.names v.kinds v.edges v.batches.keeps (version_of (opening_graph v.opening) v.batches.batches v.rows) };
 }
 
 impl Version {
@@ -92,7 +95,7 @@ impl Version {
             opening: Opening::empty(alloc, limits),
             names: NameBook::new(alloc, limits.names()),
             kinds: NameBook::new(alloc, limits.kinds()),
-            batches: BatchList::new(alloc),
+            batches: BatchLog::new(alloc, keeps_batches(limits)),
             rows: Rows::new(alloc),
             edges: 0,
         }
@@ -114,8 +117,10 @@ impl Version {
     }
 
     /// What it began with, before its first batch: a content within the limits, with each edge listed once. It takes no memory.
+    /// Where batches aren't kept, it is a content of no use.
     pub fn opening(&self) -> &Content
-        ensures graph { graph_in self.now.opening.limits result.now ≡ self.now.opening }
+        ensures graph { keeps_batches self.now.opening.limits ≡ true
+            → graph_in self.now.opening.limits result.now ≡ self.now.opening }
         ensures content { IsContentIn self.now.opening.limits result.now }
     {
         self.opening.content()
@@ -136,12 +141,25 @@ impl Version {
         ensures number { result ≡ length self.now.batches }
         ensures version { IsVersion self.now }
     {
-        self.batches.len() as u64
+        self.batches.len()
     }
 
-    /// Lends the batches, the first one first.
+    /// Whether its batches are kept: under limits of fewer than 4,294,967,295 batches, as the standard ones. It takes no memory.
+    ///
+    /// ```
+    /// let endless = Version::empty_within(alloc, Limits::new(65_536, 64, u32::MAX)?);
+    /// assert!(rt; !endless.keeps_batches());
+    /// ```
+    pub fn keeps_batches(&self) -> bool
+        ensures { result ≡ keeps_batches self.now.opening.limits }
+    {
+        self.batches.keeps()
+    }
+
+    /// Lends the batches, the first one first, where they are kept. Where they aren't, a version has its last batch alone, and
+    /// lends none.
     pub fn batches(&self) -> BatchIter<'_>
-        ensures { batches_left result ≡ self.now.batches }
+        ensures { keeps_batches self.now.opening.limits ≡ true → batches_left result ≡ self.now.batches }
     {
         self.batches.iter()
     }

@@ -39,6 +39,7 @@ fn empty(alloc: Global) -> Content
 
 /// The content that the version's batches leave, one after another, of the empty one.
 pub(crate) fn content_of(alloc: Global, version: &Version) -> Result<Content, DriveWord>
+    requires { version.now.opening ≡ empty_graph }
     ensures content { IfOk result (IsContentIn standard_limits) }
     ensures graph { IfOk result (λ content. graph_of content ≡ left_by version.now.batches empty_graph) }
 {

@@ -3,7 +3,7 @@ use Rattle.graph_version.{specs.{Kept.edge_total, Drafts.{DraftView, IsWhole}}, 
 use Rattle.graph_version.proofs.drafts.VersionDraft.finish_counted.Goals as goal
 
 pub invariant_of-result : goal.invariant_of-result
-invariant_of-result c = whole_kept _ _ _ _ _ _ (subst IsWhole (sym c.self.view_is) c.requires.whole)
+invariant_of-result c = whole_kept _ _ _ _ _ _ _ c.self.invariant (subst IsWhole (sym c.self.view_is) c.requires.whole)
     (subst (λ (d : DraftView). c.args.edges ≡ edge_total d.version % 2 ^ 64) (sym c.self.view_is) c.requires.edges)
 
 pub returns : goal.returns

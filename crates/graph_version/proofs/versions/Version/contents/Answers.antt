@@ -12,16 +12,16 @@ invariant_of-result c =
     let stamps =
     subst (All (λ (e : Edge). IsStamp (stamp_of e))) (sym c.of-3.ensures) c.in_ok-edges_in.ensures.stamps in
     let same =
-    same_content c.self.inside.names c.self.inside.kinds c.self.inside.edges _ _ _ c.self.invariant
+    same_content c.self.inside.names c.self.inside.kinds c.self.inside.edges _ _ _ _ c.self.invariant
     (c.of.ensures ∙ c.in_ok-names_in.ensures.names) (c.of-2.ensures ∙ c.in_ok-names_in-2.ensures.names) edges
     c.limits.ensures in
     record {
-      listed_once = listed_content c.self.inside.names c.self.inside.kinds c.self.inside.edges _ _ _ c.self.invariant names
+      listed_once = listed_content c.self.inside.names c.self.inside.kinds c.self.inside.edges _ _ _ _ c.self.invariant names
           kinds stamps edges same;
     }
 
 pub returns : goal.returns
 returns c =
-    same_content c.self.inside.names c.self.inside.kinds c.self.inside.edges _ _ _ c.self.invariant
+    same_content c.self.inside.names c.self.inside.kinds c.self.inside.edges _ _ _ _ c.self.invariant
     (c.of.ensures ∙ c.in_ok-names_in.ensures.names) (c.of-2.ensures ∙ c.in_ok-names_in-2.ensures.names)
     (c.of-3.ensures ∙ c.in_ok-edges_in.ensures.edges) c.limits.ensures ∙ ap content c.self.view_is

@@ -1,6 +1,7 @@
-use Rattle.std.{proofs.Common.{◌≡◌, ◌∙◌, ap, subst}, specs.Arc.arc_value}
-use Rattle.graph_types.specs.Graph.{graph_in}
-use Rattle.graph_version.specs.{declared.listed.ListedContent.ListedContent, Versions.content, Kept.IsSummary, Rebased.rows_like}
+use Rattle.std.proofs.Common.{◌≡◌, ◌∙◌, ap, subst}
+use Rattle.graph_types.specs.Graph.{Graph}
+use Rattle.graph_version.specs.{Versions.VersionView, Versions.content, Kept.{IsSummary, opening_graph}, Rebased.rows_like}
+use Rattle.graph_version.specs.Logs.{LogView, keeps_batches}
 use Rattle.graph_version.proofs.Rebased.{LookLike, look_blocks, rebased_kept, rebased_is}
 use Rattle.version_pages.specs.{Rows.row_of, Sharing.block_values}
 use Rattle.graph_version.proofs.versions.Version.rebased.Goals as goal
@@ -12,12 +13,12 @@ invariant_of-result c =
       looks = λ s. c.in_ok-rows_over.ensures s
           ∙ (λ i. row_of (rows_like (c.self.view_is i).rows (block_values (c.as_slice.ensures.value i))) s);
     } in
-    let listed : ListedContent = arc_value {X = ListedContent} c.in_ok-new.field-0 in
-    let same : graph_in listed.limits listed.content ≡ content c.args.self.now =
-    ap (λ (listed : ListedContent). graph_in listed.limits listed.content) c.in_ok-new.ensures.ok ∙ c.in_ok-contents.ensures in
-    rebased_kept _ _ c.self.inside.names c.self.inside.kinds c.args.self.now (block_values c.args.blocks.items) _ _ _ _
-    (subst (IsSummary c.self.inside.names c.self.inside.kinds c.self.inside.edges) c.self.view_is c.self.invariant)
-    c.in_ok-share.ensures c.in_ok-share-2.ensures c.new-2.ensures like same
+    let kept = ap (λ (l : LogView). l.keeps) c.new.ensures ∙ c.keeps_batches.ensures
+    ∙ ap keeps_batches (c.limits.ensures ∙ ap (λ (v : VersionView). v.opening.limits) c.self.view_is) in
+    rebased_kept _ _ c.self.inside.names c.self.inside.kinds c.args.self.now (block_values c.args.blocks.items) _ _ _ _ _ _
+    (subst (IsSummary c.self.inside.names c.self.inside.kinds c.self.inside.edges c.self.inside.batches.keeps) c.self.view_is
+    c.self.invariant) kept
+    c.in_ok-share.ensures c.in_ok-share-2.ensures (ap (λ (l : LogView). l.batches) c.new.ensures) like c.in_ok-as_opening.ensures
 
 pub returns : goal.returns
 returns c =
@@ -27,10 +28,8 @@ returns c =
       looks = λ s. c.in_ok-rows_over.ensures s
           ∙ (λ i. row_of (rows_like (c.self.view_is i).rows (block_values (c.as_slice.ensures.value i))) s);
     } in
-    let listed : ListedContent = arc_value {X = ListedContent} c.in_ok-new.field-0 in
-    let same : graph_in listed.limits listed.content ≡ content c.args.self.now =
-    ap (λ (listed : ListedContent). graph_in listed.limits listed.content) c.in_ok-new.ensures.ok ∙ c.in_ok-contents.ensures in
     record {
-      rebased = rebased_is c.args.self.now blocks _ _ _ c.new-2.ensures like same;
+      rebased = rebased_is c.args.self.now blocks _ _ _ (ap (λ (l : LogView). l.batches) c.new.ensures) like
+          c.in_ok-as_opening.ensures;
       blocks = look_blocks c.args.self.now blocks c.in_ok-rows_over.field-0 like;
     }
