@@ -4,6 +4,7 @@ ghost use Rattle.std.specs.Prelude.{◌≡◌, IfOk, OnOk};
 ghost use Rattle.graph_types.specs.Graph.{graph_of, IsContentIn};
 ghost use Rattle.graph_types.specs.Limits.{standard_limits};
 ghost use Rattle.graph_types.specs.Step.{empty_graph, left_by};
+ghost use Rattle.graph_version.specs.BatchLending.{batches_left};
 ghost use Rattle.store_drive.specs.Reports.{plain_word};
 
 use crate::reports::DriveWord;
@@ -11,6 +12,7 @@ use graph_model::{PlainError, plain_apply};
 use graph_types::{Batch, Content, List};
 use graph_version::Version;
 use std::alloc::Global;
+use version_pages::BatchIter;
 
 impl From<PlainError> for DriveWord {
     ghost from_gives = { λ error e. e ≡ plain_word error };
@@ -37,6 +39,14 @@ fn empty(alloc: Global) -> Content
     }
 }
 
+/// The batches of a version that began with nothing: its limits are the standard ones, under which they are kept.
+fn kept_batches(version: &Version) -> BatchIter<'_>
+    requires { version.now.opening ≡ empty_graph }
+    ensures { batches_left result ≡ version.now.batches }
+{
+    version.batches()
+}
+
 /// The content that the version's batches leave, one after another, of the empty one.
 pub(crate) fn content_of(alloc: Global, version: &Version) -> Result<Content, DriveWord>
     requires { version.now.opening ≡ empty_graph }
@@ -44,7 +54,7 @@ pub(crate) fn content_of(alloc: Global, version: &Version) -> Result<Content, Dr
     ensures graph { IfOk result (λ content. graph_of content ≡ left_by version.now.batches empty_graph) }
 {
     let mut content = empty(alloc);
-    for batch in version.batches() {
+    for batch in kept_batches(version) {
         let _outcomes = plain_apply(alloc, &mut content, batch)?;
     }
     Ok(content)
