@@ -74,7 +74,8 @@ typedef struct { void *at; } misteluk_version;
 
 /* How many vertices and kinds the graph of a desk may have, and how many batches the desk accepts until it is rebased. A desk
  * that is opened without limits of its own has 65,536, 64 and 65,536. No limits pass these walls: 67,108,863 vertices, 64 kinds,
- * and vertices times kinds at most 8,388,606. So a sum of weights is below 2^63. */
+ * and vertices times kinds at most 8,388,606. So a sum of weights is below 2^63. A desk of UINT32_MAX batches keeps none of those
+ * that it has applied, so that a stream of updates to a graph of constant size takes level memory. */
 typedef struct {
     uint32_t names, kinds, batches;
 } misteluk_limits;

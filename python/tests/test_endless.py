@@ -176,6 +176,15 @@ class Level(Case):
             with store.open() as last:
                 self.assertEqual((last.version, [edge.weight for *_, edge in last.edges()]), (101, [251, 250, 250, 250]))
 
+    def test_none_is_kept(self):
+        """A store of the greatest limit on batches has no operation to let go, and so doesn't begin anew."""
+        store = self.store("add k s0 t 1 1", limits=Limits(batches=4_294_967_295), renew_after=1)
+        versions, kept = self.fill(store)
+        self.assertEqual((versions, max(kept), store.renewals), (list(range(2, 102)), 0, []))
+        other = self.store("add k s0 t 1 1", limits=Limits(batches=4_294_967_294))
+        self.assertEqual((self.fill(other)[0], other.operations_kept), (versions, 1001))
+        self.assertEqual(list(store.open().edges()), list(other.open().edges()))
+
     def test_twice_the_edges(self):
         """Many edges: so that it begins anew as seldom as it takes little beside the operations."""
         store = self.store(renew_after=1)

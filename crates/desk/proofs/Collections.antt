@@ -1,7 +1,7 @@
 -- What a desk keeps at its opening, and over a collection.
-use Rattle.std.proofs.Common.{◌≡◌, ℕ, zero, suc, ◌+◌, ◌≤◌, List, [], ◌∷◌, replicate, length, ap, arith, count_by, ◌∙◌}
+use Rattle.std.proofs.Common.{◌≡◌, ℕ, zero, suc, ◌+◌, ◌≤◌, Bool, List, [], ◌∷◌, replicate, length, refl, sym, ap, arith, count_by, ◌∙◌}
 use Rattle.std.{proofs.lemmas.{Grind.common_steps, List.length-map}, specs.Prelude.slice_set}
-use Rattle.graph_version.specs.{Rows.blocks_of, Rows.numbers_of, Versions.VersionView}
+use Rattle.graph_version.specs.{Rows.blocks_of, Rows.numbers_of, Versions.VersionView, Logs.keeps_batches}
 use Rattle.block_pool.{specs.Pools.marked, proofs.Grants.length-marked}
 use Rattle.block_reclamation.specs.declared.status.BlockStatus.{BlockStatus, TheVariants.Free, TheVariants.Used}
 use Rattle.block_reclamation.specs.{Status.{is_retired, recycled}, declared.copies.PinCopy.PinCopy}
@@ -11,9 +11,9 @@ use Rattle.desk.specs.Kept.{IsKept}
 use Rattle.edge_block.proofs.Counts.{count_more}
 
 -- what is kept holds of equal values too
-pub kept_same : (d e : DeskView) (entries room others more : ℕ) → IsKept d entries room → e ≡ d → others ≡ entries → room ≤ more
+pub kept_same : (d e : DeskView) (keeps others : Bool) (room more : ℕ) → IsKept d keeps room → e ≡ d → others ≡ keeps → room ≤ more
     → IsKept e others more
-kept_same d e entries room others more kept same len grows = grind (arith, common_steps)
+kept_same d e keeps others room more kept same alike grows = grind (arith, common_steps)
 
 -- no block is retired at an opening
 none_retired : (n : ℕ) → count_by is_retired (replicate n Free) ≡ 0
@@ -37,26 +37,28 @@ long_replicate : (n : ℕ) → length (replicate n Free) ≡ n
 long_replicate n = grind (arith, common_steps)
 
 -- an opened desk
-pub opened_kept : (blocks : ℕ) (v : VersionView) → IsVersionZero blocks v → 16 ≤ blocks → IsKept (opened_desk blocks v) 0 0
+pub opened_kept : (blocks : ℕ) (v : VersionView) → IsVersionZero blocks v → 16 ≤ blocks → IsKept (opened_desk blocks v) (keeps_batches v.opening.limits) 0
 opened_kept blocks v zero_is some = record {
   desk = opened_is_desk blocks v zero_is;
   blocks_some =
       let long : length (marked (numbers_of (blocks_of v.rows)) (Used 0) (replicate blocks Free)) ≡ blocks =
       length-marked (numbers_of (blocks_of v.rows)) (Used 0) (replicate blocks Free) ∙ long_replicate blocks in
       omega arith;
+  keeps_are = refl;
   room_is = let none = marked_unretired (numbers_of (blocks_of v.rows)) (replicate blocks Free) (none_retired blocks) in omega
       arith;
 }
 
 -- the desk after a collection
-pub collection_kept : (d e : DeskView) (copy : PinCopy) (entries capacity others room : ℕ) → IsKept d entries capacity
-    → copy.last ≤ length d.last.batches → e ≡ desk_collected d copy → others + count_by is_retired e.pool ≤ room
+pub collection_kept : (d e : DeskView) (copy : PinCopy) (keeps others : Bool) (before room : ℕ) → IsKept d keeps before
+    → copy.last ≤ length d.last.batches → e ≡ desk_collected d copy → others ≡ keeps → count_by is_retired e.pool ≤ room
     → IsKept e others room
-collection_kept d e copy entries capacity others room kept low is fits = record {
+collection_kept d e copy keeps others before room kept low is alike fits = record {
   desk = collected_is_desk d e copy kept.desk low (is_collected d e copy is);
   blocks_some =
       let long : length e.pool ≡ length d.pool = ap (λ (x : DeskView). length x.pool) is ∙ length-map d.pool (recycled copy) in
       let some = kept.blocks_some in
       omega arith;
+  keeps_are = alike ∙ kept.keeps_are ∙ ap (λ (x : DeskView). keeps_batches x.last.opening.limits) (sym is);
   room_is = fits;
 }

@@ -1,15 +1,15 @@
 -- A batch handed over: what the desk's call does with what was made of it.
-use Rattle.std.proofs.Common.{◌≡◌, ℕ, ◌+◌, ◌≤◌, true, false, List, [], ◌∷◌, ◌++◌, length, map, refl, sym, ap, subst, ◌∙◌, arith}
-use Rattle.std.proofs.{Common.{count_by, vec_len}, lemmas.{Grind.common_steps, List.{map-append, length-map}}}
+use Rattle.std.proofs.Common.{◌≡◌, ℕ, ◌+◌, ◌≤◌, Bool, true, false, List, [], ◌∷◌, ◌++◌, length, map, refl, sym, ap, subst, ◌∙◌, arith}
+use Rattle.std.proofs.{Common.{count_by, vec_len}, lemmas.{Grind.common_steps, List.length-map}}
 use Rattle.std.specs.{declared.{sync.Arc.Arc, alloc.Global.Global}, Prelude.All, List.sum_by, Arc.arc_value}
-use Rattle.graph_types.specs.declared.batches.NamedOp.{NamedOp}
+use Rattle.graph_types.specs.{Graph.Graph, declared.batches.NamedOp.NamedOp}
 use Rattle.edge_block.specs.declared.blocks.Block.{Block}
 use Rattle.batch_shards.specs.RowBlocks.{block_of, blocks_of, numbers_of}
-use Rattle.graph_version.specs.{declared.versions.Version.Version, Versions.VersionView, Versions.content}
+use Rattle.graph_version.specs.{declared.versions.Version.Version, Versions.VersionView, Versions.content, Logs.keeps_batches}
 use Rattle.block_reclamation.specs.{Status.{is_listed, is_free, is_retired, is_in_use}, declared.status.BlockStatus.BlockStatus}
 use Rattle.block_reclamation.specs.declared.status.BlockStatus.TheVariants.{Free, Granted, Used}
 use Rattle.block_pool.specs.Pools.{retired, marked, changed, AreFree}
-use Rattle.store_steps.{specs.{Desks.{DeskView, IsDesk, FollowsLayout}, Steps.Accepts}, proofs.BatchLaws.accepted_steps}
+use Rattle.store_steps.{specs.{Journal.Entry, Desks.{DeskView, IsDesk, FollowsLayout}, Steps.Accepts}, proofs.BatchLaws.accepted_steps}
 use Rattle.store_steps.proofs.Applications.{Application, next_desk, born_pool, retired_pool, moves_left}
 use Rattle.store_steps.proofs.{Accepting.{made_accepted, made_desk}, RetiredCounts.retired_room, GrantedBlocks.taken_granted}
 use Rattle.store_steps.proofs.GrantedBlocks.{taken_movable, dropped_movable, unused_movable, granted_movable, given_back}
@@ -170,12 +170,12 @@ next_long a =
 abbrev pub entry_in : Handing → JournalEntry
 entry_in h = entries.Applied h.prepared.batch h.prepared.taken h.prepared.dropped_numbers
 
-pub end_desk : (h : Handing) (opened : List ℕ) (last : VersionView) (entries old_entries : List JournalEntry)
-    (pool : List BlockStatus) → h.old.opened ≡ opened → map entry_of old_entries ≡ h.old.journal → last ≡ version_of h
-    → entries ≡ old_entries ++ entry_in h ∷ [] → pool ≡ (next_desk (application h)).pool
+pub end_desk : (h : Handing) (opened : List ℕ) (last : VersionView) (entries old_entries : List Entry)
+    (pool : List BlockStatus) → h.old.opened ≡ opened → old_entries ≡ h.old.journal → last ≡ version_of h
+    → entries ≡ old_entries ++ entry_of (entry_in h) ∷ [] → pool ≡ (next_desk (application h)).pool
     → desk_of opened last entries pool ≡ next_desk (application h)
 end_desk h opened last entries old_entries pool same_opened before same_last same_entries same_pool =
-    grind (arith, common_steps, dropped_is, map-append)
+    grind (arith, common_steps, dropped_is)
 
 pub end_accepts : (h : Handing) (new : DeskView) → new ≡ next_desk (application h) → Accepts h.old h.ops new
 end_accepts h new is =
@@ -199,20 +199,22 @@ end_room h end is =
     omega arith
 
 -- the journal's room for what is retired then, where as much was made as for what was retired and what was dropped
-pub end_fits : (h : Handing) (end : List BlockStatus) (entries capacity before dropped : ℕ) → end ≡ (next_desk (application h)).pool
-    → before ≡ count_by is_retired h.pool → dropped ≡ vec_len h.prepared.dropped → entries + (before + dropped) ≤ capacity
-    → entries + count_by is_retired end ≤ capacity
-end_fits h end entries capacity before dropped is retired many fits =
-    let room = end_room h end is in let ok = h.prepared.dropped.ok in omega (arith, ok.0)
+pub end_fits : (h : Handing) (end : List BlockStatus) (room before dropped : ℕ) → end ≡ (next_desk (application h)).pool
+    → before ≡ count_by is_retired h.pool → dropped ≡ vec_len h.prepared.dropped → before + dropped ≤ room
+    → count_by is_retired end ≤ room
+end_fits h end room before dropped is retired many fits =
+    let fewer = end_room h end is in let ok = h.prepared.dropped.ok in omega (arith, ok.0)
 
-pub end_kept : (h : Handing) (new : DeskView) (entries room : ℕ) → new ≡ next_desk (application h) → 16 ≤ length h.old.pool
-    → entries + count_by is_retired new.pool ≤ room → IsKept new entries room
-end_kept h new entries room is some fits = record {
+pub end_kept : (h : Handing) (new : DeskView) (keeps : Bool) (room : ℕ) → new ≡ next_desk (application h) → 16 ≤ length h.old.pool
+    → keeps ≡ keeps_batches h.old.last.opening.limits → count_by is_retired new.pool ≤ room → IsKept new keeps room
+end_kept h new keeps room is some kept fits = record {
   desk = subst IsDesk (sym is) (made_desk (application h));
   blocks_some =
       let same = ap (λ (d : DeskView). length d.pool) is in
       let as_many = next_long (application h) in
       omega arith;
+  keeps_are = kept ∙ ap (λ (g : Graph). keeps_batches g.limits) (sym h.is_prepared.opening)
+      ∙ ap (λ (d : DeskView). keeps_batches d.last.opening.limits) (sym is);
   room_is = fits;
 }
 

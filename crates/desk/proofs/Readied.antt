@@ -1,5 +1,5 @@
 -- A batch that is ready, as one handed over.
-use Rattle.std.proofs.Common.{◌≡◌, ℕ, ◌+◌, ◌≤◌, List, map, refl, sym, ap, subst, ◌∙◌, count_by, vec_len, vec_capacity}
+use Rattle.std.proofs.Common.{◌≡◌, ℕ, ◌+◌, ◌≤◌, List, refl, sym, ap, subst, ◌∙◌, count_by, vec_len}
 use Rattle.std.specs.Arc.{arc_value}
 use Rattle.graph_types.specs.declared.batches.NamedOp.{NamedOp}
 use Rattle.graph_version.specs.{declared.versions.Version.Version, Rows.row_of, Versions.{VersionView, content}}
@@ -7,7 +7,7 @@ use Rattle.batch_apply.specs.{Planned.IsPlan, declared.plans.Plan.Plan}
 use Rattle.block_reclamation.specs.{Status.is_retired, declared.status.BlockStatus.{BlockStatus, TheVariants.{Free, Granted}}}
 use Rattle.block_pool.specs.Pools.{marked, AreFree}
 use Rattle.store_steps.{specs.Desks.DeskView, proofs.GrantedBlocks.given_back}
-use Rattle.desk.specs.{Applying.IsPrepared, Kept.{IsKept, desk_in, entry_of}, declared.{applying.Prepared.Prepared, desks.Parts.Parts}}
+use Rattle.desk.specs.{Applying.IsPrepared, Kept.{IsKept, desk_in}, Journals.JournalView, declared.{applying.Prepared.Prepared, desks.Parts.Parts}}
 use Rattle.desk.specs.Ready.{IsGranted, IsReady, old_of, ops_of}
 use Rattle.desk.proofs.{Handing.Handing, Collections.kept_same}
 
@@ -28,29 +28,29 @@ handing_of parts numbers p r = record {
 
 -- parts that differ in room alone
 module _ (p q : Parts) (numbers : List ℕ) (opened : q.opened ≡ p.opened) (last : q.last ≡ p.last) (pool : q.pool ≡ p.pool)
-    (items : q.journal.items ≡ p.journal.items) where
+    (entries : q.journal.entries ≡ p.journal.entries) where
   pub same_old : old_of q numbers ≡ old_of p numbers
   same_old = λ i. record {
     opened = opened i;
     last = last i;
-    journal = map entry_of (items i);
+    journal = entries i;
     pool = marked numbers Free (pool i);
   }
 
-  pub granted_same : IsGranted p numbers → vec_len q.journal ≡ vec_len p.journal → vec_capacity p.journal ≤ vec_capacity q.journal
+  pub granted_same : IsGranted p numbers → q.journal.keeps ≡ p.journal.keeps → p.journal.room ≤ q.journal.room
       → IsGranted q numbers
-  granted_same is len grows = record {
-    before = kept_same (old_of p numbers) (old_of q numbers) _ _ _ _ is.before same_old len grows;
+  granted_same is alike grows = record {
+    before = kept_same (old_of p numbers) (old_of q numbers) _ _ _ _ is.before same_old alike grows;
     free = subst (λ (d : DeskView). AreFree d.pool numbers) (sym same_old) is.free;
     granted = pool ∙ is.granted ∙ ap (λ (d : DeskView). marked numbers Granted d.pool) (sym same_old);
   }
 
-  pub ready_from : (ops : List NamedOp) (made : Prepared) → IsGranted p numbers → vec_len q.journal ≡ vec_len p.journal
-      → vec_capacity p.journal ≤ vec_capacity q.journal → IsPrepared (old_of p numbers).last ops numbers made
-      → vec_len q.journal + (count_by is_retired q.pool + vec_len made.dropped + 1) ≤ vec_capacity q.journal
+  pub ready_from : (ops : List NamedOp) (made : Prepared) → IsGranted p numbers → q.journal.keeps ≡ p.journal.keeps
+      → p.journal.room ≤ q.journal.room → IsPrepared (old_of p numbers).last ops numbers made
+      → count_by is_retired q.pool + vec_len made.dropped + 1 ≤ q.journal.room
       → IsReady q numbers made
-  ready_from ops made is len grows prepared room = record {
-    granted = granted_same is len grows;
+  ready_from ops made is alike grows prepared room = record {
+    granted = granted_same is alike grows;
     prepared = subst (λ (d : DeskView). IsPrepared d.last (ops_of made) numbers made) (sym same_old)
         (subst (λ xs. IsPrepared (old_of p numbers).last xs numbers made) (sym prepared.batch_is) prepared);
     room = room;
@@ -66,14 +66,14 @@ module _ (p q : Parts) (numbers : List ℕ) (free : AreFree p.pool numbers) (gra
   old_same = λ i. record {
     opened = opened i;
     last = last i;
-    journal = map entry_of (journal i).items;
+    journal = (journal i).entries;
     pool = back i;
   }
 
-  pub granted_from : IsKept (desk_in p) (vec_len p.journal) (vec_capacity p.journal) → IsGranted q numbers
+  pub granted_from : IsKept (desk_in p) p.journal.keeps p.journal.room → IsGranted q numbers
   granted_from is = record {
-    before = subst (λ (d : DeskView). IsKept d (vec_len q.journal) (vec_capacity q.journal)) (sym old_same)
-        (subst (λ j. IsKept (desk_in p) (vec_len j) (vec_capacity j)) (sym journal) is);
+    before = subst (λ (d : DeskView). IsKept d q.journal.keeps q.journal.room) (sym old_same)
+        (subst (λ (j : JournalView). IsKept (desk_in p) j.keeps j.room) (sym journal) is);
     free = subst (λ (xs : List BlockStatus). AreFree xs numbers) (sym back) free;
     granted = granted ∙ ap (marked numbers Granted) (sym back);
   }

@@ -1,5 +1,7 @@
 pub mod Applying
 pub mod Copies
+pub mod Entries
+pub mod Journals
 pub mod Kept
 pub mod Tables
 pub mod Openings

@@ -1,5 +1,5 @@
 -- A batch on its way: its blocks are granted, and then it is ready, with the next version and room in the journal.
-use Rattle.std.specs.{Prelude.{◌≡◌, ◌≢◌, ℕ, ◌+◌, ◌≤◌, List, length, count_by, vec_len, vec_capacity, All, AllPairs, false}, Arc.arc_value}
+use Rattle.std.specs.{Prelude.{◌≡◌, ◌≢◌, ℕ, ◌+◌, ◌≤◌, List, length, count_by, vec_len, All, AllPairs, false}, Arc.arc_value}
 use Rattle.std.specs.List.{sum_by}
 use Rattle.graph_types.specs.declared.batches.{Batch.Batch, NamedOp.NamedOp}
 use Rattle.graph_version.specs.{Batches.batch_value, declared.versions.Version.Version, Versions.{VersionView, is_in}}
@@ -25,7 +25,7 @@ old_of parts numbers = desk_with parts (marked numbers Free parts.pool)
 
 -- blocks of these numbers were granted to the desk of before, with which all that it keeps would be kept
 pub record IsGranted (parts : Parts) (numbers : List ℕ) : Type 0 where
-  pub before : IsKept (old_of parts numbers) (vec_len parts.journal) (vec_capacity parts.journal)
+  pub before : IsKept (old_of parts numbers) parts.journal.keeps parts.journal.room
   pub free : AreFree (old_of parts numbers).pool numbers
   pub granted : parts.pool ≡ marked numbers Granted (old_of parts numbers).pool
 
@@ -62,4 +62,4 @@ ready_of parts numbers p =
 pub record IsReady (parts : Parts) (numbers : List ℕ) (p : Prepared) : Type 0 where
   pub granted : IsGranted parts numbers
   pub prepared : IsPrepared (old_of parts numbers).last (ops_of p) numbers p
-  pub room : vec_len parts.journal + (count_by is_retired parts.pool + vec_len p.dropped + 1) ≤ vec_capacity parts.journal
+  pub room : count_by is_retired parts.pool + vec_len p.dropped + 1 ≤ parts.journal.room

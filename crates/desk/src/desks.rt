@@ -1,6 +1,6 @@
 //! The desk.
 
-ghost use Rattle.std.specs.Prelude.{◌≡◌, ℕ, ◌+◌, ◌<◌, ◌≤◌, ◌++◌, length, map, count_by, vec_capacity, vec_len};
+ghost use Rattle.std.specs.Prelude.{◌≡◌, ℕ, ◌+◌, ◌<◌, ◌≤◌, ◌++◌, length, true, map, count_by};
 ghost use Rattle.std.specs.Prelude.{IfOk, IfErr, OnOk, OnErr, Err};
 ghost use Rattle.std.specs.Arc.{arc_value};
 ghost use Rattle.std.specs.Coded.{codes};
@@ -11,6 +11,7 @@ ghost use Rattle.graph_version.specs.declared.versions.Version.{Version};
 ghost use Rattle.graph_version.specs.Versions.{content, empty_version, empty_version_in};
 ghost use Rattle.graph_version.specs.Rebased.{IsRebased};
 ghost use Rattle.graph_version.specs.Kept.{edge_total};
+ghost use Rattle.graph_version.specs.Logs.{keeps_batches};
 ghost use Rattle.block_reclamation.specs.Status.{is_free, is_in_use, is_retired, is_reclaimable, most_blocks};
 ghost use Rattle.block_reclamation.specs.Copies.{floor_of};
 ghost use Rattle.store_steps.specs.Desks.{IsDesk, IsCollected, births_in, collections};
@@ -25,8 +26,9 @@ ghost use Rattle.desk.specs.Openings.{OpensWith, RefusesOpening};
 
 use crate::applying::plan_next;
 use crate::copies::KeptCopy;
-use crate::entries::{JournalEntry, enter};
+use crate::entries::JournalEntry;
 use crate::errors::{ApplyError, OpenError};
+use crate::journals::Journal;
 use crate::last::Last;
 use crate::ready::{Accepted, Granted, Load, Ready, grant_for};
 use crate::zero::Zero;
@@ -48,7 +50,7 @@ pub(crate) struct Parts {
     pub(crate) opened: List<u32>,
     pub(crate) last: Last,
     pub(crate) pool: Pool,
-    pub(crate) journal: Vec<JournalEntry>,
+    pub(crate) journal: Journal,
 }
 
 /// A desk: the last version, the pool of blocks, and the journal.
@@ -71,7 +73,6 @@ impl Drop for Desk {
 }
 
 impl Model for Desk {
-    ghost use Rattle.std.specs.Prelude.{vec_len, vec_capacity};
     ghost use Rattle.std.specs.Coded.{codes};
     ghost use Rattle.graph_types.specs.Coded.{graph_code};
     ghost use Rattle.store_steps.specs.Desks.{DeskView};
@@ -84,7 +85,7 @@ impl Model for Desk {
     ghost view = { λ d. desk_in d.parts.value };
 
     ghost invariant = { λ d.
-        IsKept (desk_in d.parts.value) (vec_len d.parts.value.journal) (vec_capacity d.parts.value.journal) };
+        IsKept (desk_in d.parts.value) d.parts.value.journal.keeps d.parts.value.journal.room };
 }
 
 /// What a collection answers: its floor, how many blocks it recycled, and how many stay retired.
@@ -162,12 +163,13 @@ impl Desk {
             numbers,
             pool,
         } = zero;
+        let keeps = version.keeps_batches();
         let parts = Parts {
             alloc,
             opened: numbers,
             last: Last::of(version),
             pool,
-            journal: Vec::new(alloc),
+            journal: Journal::new(alloc, keeps),
         };
         Ok(Desk {
             parts: Box::new(alloc, parts)?,
@@ -359,28 +361,29 @@ impl Desk {
         let _ = &self.parts;
     }
 
-    /// What the desk did, in order. It replays legally, to the last version's batches and to what each block is. So no block
-    /// was born or retired with a number above the last version's, and the used blocks are those of the last version.
+    /// What the desk did, in order, where it keeps its batches (`Version::keeps_batches`), and else nothing. All that it did replays
+    /// legally, to the last version's batches and to what each block is. So no block was born or retired with a number above the
+    /// last version's, and the used blocks are those of the last version.
     pub fn journal(&self) -> &[JournalEntry]
-        ensures entries { map entry_of result.now ≡ self.now.journal }
+        ensures entries { keeps_batches self.now.last.opening.limits ≡ true → map entry_of result.now ≡ self.now.journal }
         ensures replays { IsDesk self.now }
         ensures dated { AreDated self.now.opened (length self.now.last.batches) self.now.pool }
         ensures used { count_by is_in_use self.now.pool ≡ block_count self.now.last }
     {
         self.facts();
-        self.parts.journal.as_slice()
+        self.parts.journal.entries()
     }
 }
 
 /// Enters a collection that recycled a block, for which there is room.
-fn enter_collection(journal: &mut Vec<JournalEntry>, copy: &PinCopy, recycled: u32)
-    requires { 0 < recycled → vec_len journal.old < vec_capacity journal.old }
-    ensures entries { map entry_of journal.new.items ≡ map entry_of journal.old.items ++ collections copy.now recycled }
-    ensures len { vec_len journal.new ≤ vec_len journal.old + recycled }
-    ensures capacity { vec_capacity journal.old ≤ vec_capacity journal.new }
+fn enter_collection(journal: &mut Journal, copy: &PinCopy, recycled: u32)
+    requires { 0 < recycled → 0 < journal.old.room }
+    ensures entries { journal.new.entries ≡ journal.old.entries ++ collections copy.now recycled }
+    ensures keeps { journal.new.keeps ≡ journal.old.keeps }
+    ensures room { journal.old.room ≤ journal.new.room + recycled }
 {
     if recycled > 0 {
         let copy = KeptCopy::of(copy);
-        enter(journal, JournalEntry::Collected { copy, recycled });
+        journal.enter(JournalEntry::Collected { copy, recycled });
     }
 }

@@ -1,7 +1,5 @@
 //! The journal's entries.
 
-ghost use Rattle.std.specs.Prelude.{◌≡◌, ◌+◌, ◌<◌, ◌≤◌, ◌++◌, ◌∷◌, [], vec_capacity, vec_len};
-
 use crate::copies::KeptCopy;
 use graph_types::{Batch, List};
 use std::sync::Arc;
@@ -20,16 +18,4 @@ pub enum JournalEntry {
         copy: KeptCopy,
         recycled: u32,
     },
-}
-
-/// Appends an entry, for which there is room. It takes no memory.
-pub(crate) fn enter(journal: &mut Vec<JournalEntry>, entry: JournalEntry)
-    requires { vec_len journal.old < vec_capacity journal.old }
-    ensures entered { journal.new.items ≡ journal.old.items ++ entry ∷ [] }
-    ensures len { vec_len journal.new ≡ vec_len journal.old + 1 }
-    ensures capacity { vec_capacity journal.old ≤ vec_capacity journal.new }
-{
-    let Ok(()) = journal.push(entry) else {
-        unreachable!()
-    };
 }

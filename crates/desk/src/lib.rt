@@ -15,11 +15,13 @@ mod copies;
 mod desks;
 mod entries;
 mod errors;
+mod journals;
 mod last;
 mod moves;
 mod owned;
 mod ready;
 mod seats;
+mod told;
 mod zero;
 
 pub use copies::KeptCopy;

@@ -1,6 +1,6 @@
 //! A batch on its way: its blocks are granted, and then it is ready, while the desk is still the one of before.
 
-ghost use Rattle.std.specs.Prelude.{◌≡◌, ◌<◌, ◌≤◌, ◌+◌, ℕ, List, length, count_by, vec_capacity, vec_len, IfOk, IfErr, OnOk, OnErr};
+ghost use Rattle.std.specs.Prelude.{◌≡◌, ◌<◌, ◌≤◌, ◌+◌, ℕ, List, length, count_by, vec_len, IfOk, IfErr, OnOk, OnErr};
 ghost use Rattle.std.specs.Arc.{arc_value};
 ghost use Rattle.std.specs.Coded.{codes};
 ghost use Rattle.graph_types.specs.Coded.{graph_code};
@@ -22,7 +22,7 @@ ghost use Rattle.desk.specs.Refusals.{Refuses, IsWithin, IsPlanned};
 
 use crate::applying::{Prepared, grant_blocks, made_of, next_number};
 use crate::desks::{Desk, Parts};
-use crate::entries::{JournalEntry, enter};
+use crate::entries::JournalEntry;
 use crate::errors::ApplyError;
 use crate::moves::{born_blocks, give_back_numbers, move_blocks};
 use batch_apply::{Plan, Rewritten};
@@ -189,12 +189,11 @@ fn made_with_room(
 ) -> Result<Prepared, AllocError>
     ensures prepared { IfOk result (λ p. (v : VersionView) (numbers : List ℕ)
         → IfOk rewritten (IsRewritten v (batch_value batch) numbers) → IsPrepared v (batch_value batch) numbers p) }
-    ensures room { IfOk result (λ p. vec_len parts.new.journal + (count_by is_retired parts.new.pool + vec_len p.dropped + 1)
-        ≤ vec_capacity parts.new.journal) }
+    ensures room { IfOk result (λ p. count_by is_retired parts.new.pool + vec_len p.dropped + 1 ≤ parts.new.journal.room) }
     ensures same { (parts.new.opened ≡ parts.old.opened) × (parts.new.last ≡ parts.old.last) × (parts.new.pool ≡ parts.old.pool) }
-    ensures journal { parts.new.journal.items ≡ parts.old.journal.items }
-    ensures len { vec_len parts.new.journal ≡ vec_len parts.old.journal }
-    ensures capacity { vec_capacity parts.old.journal ≤ vec_capacity parts.new.journal }
+    ensures journal { parts.new.journal.entries ≡ parts.old.journal.entries }
+    ensures keeps { parts.new.journal.keeps ≡ parts.old.journal.keeps }
+    ensures grows { parts.old.journal.room ≤ parts.new.journal.room }
 {
     let rewritten = rewritten?;
     let prepared = made_of(parts.alloc, rewritten, batch)?;
@@ -263,7 +262,7 @@ impl Ready {
             taken,
             dropped: dropped_numbers,
         };
-        enter(&mut kept.journal, entry);
+        kept.journal.enter(entry);
         kept.last.follow(version, sources.as_slice());
         move_blocks(&mut kept.pool, dropped, unused, number);
         (Desk { parts }, Accepted { number, outcomes })

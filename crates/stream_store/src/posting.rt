@@ -1,6 +1,6 @@
 //! The desk that posts on a shelf what it accepts.
 
-ghost use Rattle.std.specs.Prelude.{◌≡◌, ℕ, ◌<◌, ◌≤◌, length, map, count_by, IsSome};
+ghost use Rattle.std.specs.Prelude.{◌≡◌, ℕ, ◌<◌, ◌≤◌, length, true, map, count_by, IsSome};
 ghost use Rattle.std.specs.Prelude.{IfOk, IfErr, OnOk, OnErr};
 ghost use Rattle.std.specs.Arc.{arc_value};
 ghost use Rattle.std.specs.Coded.{codes};
@@ -9,6 +9,7 @@ ghost use mathlib.Core.List.{IsPrefix};
 ghost use Rattle.graph_version.specs.declared.versions.Version.{Version};
 ghost use Rattle.graph_version.specs.Versions.{VersionView, content};
 ghost use Rattle.graph_version.specs.Kept.{edge_total};
+ghost use Rattle.graph_version.specs.Logs.{keeps_batches};
 ghost use Rattle.block_reclamation.specs.Status.{is_free, is_in_use, is_retired, is_reclaimable};
 ghost use Rattle.block_reclamation.specs.Copies.{floor_of};
 ghost use Rattle.version_shelf.specs.Shelves.{opened_shelf};
@@ -215,10 +216,12 @@ impl Desk {
         self.kept().facts();
     }
 
-    /// What the desk did, in order. It replays legally, to the last version's batches and to what each block is. So no block
-    /// was born or retired with a number above the last version's, and the used blocks are those of the last version.
+    /// What the desk did, in order, where it keeps its batches (`Version::keeps_batches`), and else nothing. All that it did replays
+    /// legally, to the last version's batches and to what each block is. So no block was born or retired with a number above the
+    /// last version's, and the used blocks are those of the last version.
     pub fn journal(&self) -> &[JournalEntry]
-        ensures entries { map entry_of result.now ≡ self.now.desk.journal }
+        ensures entries { keeps_batches self.now.desk.last.opening.limits ≡ true
+            → map entry_of result.now ≡ self.now.desk.journal }
         ensures replays { IsDesk self.now.desk }
         ensures dated { AreDated self.now.desk.opened (length self.now.desk.last.batches) self.now.desk.pool }
         ensures used { count_by is_in_use self.now.desk.pool ≡ block_count self.now.desk.last }

@@ -24,7 +24,7 @@ from .operations import REMOVE, Operations
 from .protocol import Denied, Receipt
 from ..errors import NoMemory, NoSeat, StoreError
 from ..values.answers import Collected, Commit, Rebased, Renewed, Stat
-from ..values.limits import MOST_BLOCKS, MOST_KINDS, Limits
+from ..values.limits import MOST_BATCHES, MOST_BLOCKS, MOST_KINDS, Limits
 
 # How many blocks a desk has at first, and how many times as many one that has room for more.
 FIRST_BLOCKS, MORE_BLOCKS = 65_536, 4
@@ -75,7 +75,7 @@ class LibraryEngine:
 
     @property
     def operations_kept(self) -> int:
-        return self._opening.kept.count
+        return 0 if self._opening.shape.batches == MOST_BATCHES else self._opening.kept.count
 
     @property
     def has_ended(self) -> bool:
@@ -177,7 +177,7 @@ class LibraryEngine:
 
     def _level(self, opening: Opening, more: int, most: int) -> Opening:
         """Begins anew where the desk would keep too many operations with so many more: each of them takes memory until then."""
-        kept = opening.kept.count
+        kept = self.operations_kept
         if kept == 0 or kept + more <= most:
             return opening
         stat = self._stat(opening)

@@ -16,6 +16,7 @@ class Limits(NamedTuple):
     half as many for two, 131,071 for 64, which no store passes; and 65,536 batches.
 
         Store(limits=Limits(vertices=100_000, kinds=4))
+        Store(limits=Limits(batches=4_294_967_295))  # keeps no operation that it has applied: a stream takes level memory
 
     A program takes 65,536 vertices, 64 kinds and 65,536 batches, and no others.
     """

@@ -1,7 +1,7 @@
-use Rattle.std.proofs.Common.{refl, map, sym, subst, arith}
+use Rattle.std.proofs.Common.{refl, sym, subst, arith}
 use Rattle.std.specs.Arc.{arc_value}
 use Rattle.graph_version.specs.declared.versions.Version.{Version}
-use Rattle.desk.specs.{Kept.entry_of, Ready.{IsGranted, old_of}, declared.desks.Parts.Parts}
+use Rattle.desk.specs.{Ready.{IsGranted, old_of}, declared.desks.Parts.Parts}
 use Rattle.desk.proofs.{Handing.back_used, Collections.kept_same}
 use Rattle.desk.proofs.ready.cancelled.Goals as goal
 
@@ -21,6 +21,6 @@ invariant_of-result c =
     (λ i. record {
       opened = p.opened;
       last = p.last;
-      journal = map entry_of p.journal.items;
+      journal = p.journal.entries;
       pool = c.give_back_numbers.ensures i;
     }) refl (omega arith)

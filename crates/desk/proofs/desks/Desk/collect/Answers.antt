@@ -1,4 +1,4 @@
-use Rattle.std.proofs.Common.{◌≡◌, ℕ, ◌≤◌, length, sym, ap, subst, ◌∙◌, arith, count_by, vec_len, vec_capacity}
+use Rattle.std.proofs.Common.{◌≡◌, ℕ, ◌≤◌, length, sym, ap, subst, ◌∙◌, arith, count_by}
 use Rattle.std.{proofs.lemmas.Grind.common_steps, specs.Arc.arc_value}
 use Rattle.graph_version.specs.declared.versions.Version.{Version}
 use Rattle.block_reclamation.specs.Status.{is_reclaimable, is_retired}
@@ -9,9 +9,9 @@ use Rattle.desk.proofs.desks.Desk.collect.Goals.{After-recycle-recycled, After-e
 use Rattle.desk.proofs.desks.Desk.collect.Goals as goal
 
 -- what is lent of the desk
-kept : (c : After-recycle-recycled) → IsKept (desk_in c.deref_mut-parts.result.now) (vec_len c.deref_mut-parts.result.now.journal)
-    (vec_capacity c.deref_mut-parts.result.now.journal)
-kept c = subst (λ (q : Parts). IsKept (desk_in q) (vec_len q.journal) (vec_capacity q.journal)) (sym c.deref_mut-parts.ensures.value)
+kept : (c : After-recycle-recycled) → IsKept (desk_in c.deref_mut-parts.result.now) c.deref_mut-parts.result.now.journal.keeps
+    c.deref_mut-parts.result.now.journal.room
+kept c = subst (λ (q : Parts). IsKept (desk_in q) q.journal.keeps q.journal.room) (sym c.deref_mut-parts.ensures.value)
     c.self.invariant
 
 shown : (c : After-recycle-recycled) → desk_in c.deref_mut-parts.result.now ≡ c.args.self.now
@@ -31,7 +31,7 @@ old c = desk_in c.deref_mut-parts.result.now
 abbrev new : After-enter_collection → DeskView
 new c =
     let p = c.deref_mut-parts.result.now in
-    desk_of p.opened p.last c.enter_collection.new.journal.items c.recycle-recycled.new.self
+    desk_of p.opened p.last c.enter_collection.new.journal.entries c.recycle-recycled.new.self
 
 is_new : (c : After-enter_collection) → new c ≡ desk_collected (old c) c.args.copy.now
 is_new c = grind (arith, common_steps)
@@ -49,8 +49,8 @@ invariant_of-self c =
     let left = ap (count_by is_retired) c.recycle-recycled.ensures.pool in
     let room = (kept b).room_is in
     let count = c.recycle-recycled.ensures.count in
-    collection_kept (old a) (new a) c.args.copy.now _ _ _ _ (kept b) low (is_new a)
-    (omega (arith, past, left, room, count, c.enter_collection.ensures.len, c.enter_collection.ensures.capacity))
+    collection_kept (old a) (new a) c.args.copy.now _ _ _ _ (kept b) low (is_new a) c.enter_collection.ensures.keeps
+    (omega (arith, past, left, room, count, c.enter_collection.ensures.room))
 
 pub returns-clause-steps : goal.returns-clause-steps
 returns-clause-steps c =

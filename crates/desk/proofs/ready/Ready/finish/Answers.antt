@@ -52,12 +52,13 @@ invariant_of-result c =
     let h = handed a in
     let pool = end_pool h c.next_number-number.result c.born_blocks.new.pool c.move_blocks.new.pool (number_is a) (born_is b)
     c.move_blocks.ensures in
-    let end = end_desk h p.opened c.follow.new.self c.enter.new.journal.items p.journal.items
+    let end = end_desk h p.opened c.follow.new.self c.enter.new.self.entries p.journal.entries
     c.move_blocks.new.pool refl refl c.follow.ensures c.enter.ensures.entered pool in
     let room = (ready a).room in
     end_kept h _ _ _ end (ready a).granted.before.blocks_some
-    (end_fits h c.move_blocks.new.pool _ _ (count_by is_retired p.pool) (vec_len c.self.inside.prepared.dropped) pool refl refl
-    (omega (arith, room, c.enter.ensures.len, c.enter.ensures.capacity)))
+    (c.enter.ensures.keeps ∙ (ready a).granted.before.keeps_are)
+    (end_fits h c.move_blocks.new.pool _ (count_by is_retired p.pool) (vec_len c.self.inside.prepared.dropped) pool refl refl
+    (omega (arith, room, c.enter.ensures.room)))
 
 pub returns-clause-desk : goal.returns-clause-desk
 returns-clause-desk c =
@@ -67,7 +68,7 @@ returns-clause-desk c =
     let h = handed a in
     let pool = end_pool h c.next_number-number.result c.born_blocks.new.pool c.move_blocks.new.pool (number_is a) (born_is b)
     c.move_blocks.ensures in
-    end_desk h p.opened c.follow.new.self c.enter.new.journal.items p.journal.items
+    end_desk h p.opened c.follow.new.self c.enter.new.self.entries p.journal.entries
     c.move_blocks.new.pool refl refl c.follow.ensures c.enter.ensures.entered pool
     ∙ ap (λ (r : ReadyView). r.new)
     (ap (λ (q : Parts). ready_of q c.self.inside.numbers.items c.self.inside.prepared) c.deref_mut-kept.ensures.value ∙ c.self.view_is)

@@ -1,4 +1,4 @@
-use Rattle.desk.proofs.entries.enter.Goals as goal
+use Rattle.desk.proofs.journals.push.Goals as goal
 
 -- Its search is long where it fails.
 pub returns-clause-entered : goal.returns-clause-entered
