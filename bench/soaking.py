@@ -179,10 +179,10 @@ def strange(met: Counter[str]) -> Dict[str, int]:
 class Watched:
     """A server, and what it takes."""
 
-    def __init__(self, room: pathlib.Path, renew_after: str) -> None:
+    def __init__(self, room: pathlib.Path) -> None:
         self.path, self._log = f"{room}/socket", room / "log"
         asked = ["serve", "-", "--add", "--source", "1", "--target", "2", "--weight", "3", "--time", "4", "--every", "200ms",
-                 "--keep", str(WINDOW), "--idle", str(IDLE), "--listen", f"unix:{self.path}", "--renew-after", renew_after]
+                 "--keep", str(WINDOW), "--idle", str(IDLE), "--listen", f"unix:{self.path}"]
         with open(self._log, "w", encoding="utf-8") as log:
             self.process = subprocess.Popen([sys.executable, "-m", "misteluk", *asked], stdin=subprocess.PIPE,
                                             stdout=subprocess.PIPE, stderr=log, text=True,

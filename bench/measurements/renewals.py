@@ -1,8 +1,7 @@
 """How long a store in this process stands still when it renews itself, by its edges: processor time of this process.
 
 A feed of additions makes graphs of 10,000, 100,000 and 1,000,000 edges; a few vertices have most of them. A row shows the median
-of five renewals, that for an edge, the time of the feed for each addition, and what part of it renewals are that come behind two
-additions for each edge. `misteluk serve` renews its store no more often than that.
+of five renewals, and that for an edge.
 """
 from __future__ import annotations
 
@@ -22,16 +21,13 @@ def options(parser: argparse.ArgumentParser) -> None:
     parser.add_argument("--edges", type=int, nargs="*", default=[10_000, 100_000, 1_000_000])
 
 
-def fed(store: Any, edges: int) -> float:
-    """Feeds a store until it has so many edges; gives the processor time of an addition."""
-    chance, count, spent = random.Random(1), 0, 0.0
+def feed(store: Any, edges: int) -> None:
+    """Feeds a store until it has so many edges."""
+    chance = random.Random(1)
     while store.stat().edges < edges:
         for _ in range(BATCH):
             store.add("link", f"v{int(edges / 5 * chance.random() ** 3)}", f"v{chance.randrange(max(edges // 5, 1))}")
-        begun = time.process_time()
         store.commit()
-        spent, count = spent + time.process_time() - begun, count + BATCH
-    return spent / count
 
 
 def renewed(store: Any) -> float:
@@ -44,12 +40,11 @@ def rows(sizes: List[int]) -> Iterator[List[str]]:
     import misteluk
     for edges in sizes:
         with misteluk.Store(engine="library") as store:
-            addition = fed(store, edges)
+            feed(store, edges)
             renewal = statistics.median(renewed(store) for _ in range(RENEWALS))
             there = store.stat().edges
-            yield [tables.count(there), tables.seconds(renewal), f"{1e6 * renewal / there:.2f} µs", f"{1e6 * addition:.2f} µs",
-                   f"{renewal / (2 * there * addition):.1%}"]
+            yield [tables.count(there), tables.seconds(renewal), f"{1e6 * renewal / there:.2f} µs"]
 
 
 def measure(words: argparse.Namespace, room: pathlib.Path) -> None:
-    tables.show(["edges", "a renewal", "for an edge", "an addition", "of two additions for each edge"], rows(words.edges))
+    tables.show(["edges", "a renewal", "for an edge"], rows(words.edges))

@@ -30,7 +30,6 @@ def options(parser: argparse.ArgumentParser) -> None:
     parser.add_argument("--minutes", type=float, default=30.0)
     parser.add_argument("--rate", type=int, default=10_000, help="rows a second")
     parser.add_argument("--new-names", type=int, default=200, help="a second; idle ones are let go when there are 131,071")
-    parser.add_argument("--renew-after", default="1000000", metavar="OPERATIONS", help="as the server takes it")
     parser.add_argument("--client", nargs=3, metavar=("URL", "SORT", "SEED"), help=argparse.SUPPRESS)
 
 
@@ -59,7 +58,7 @@ class Soak:
             if now >= next_row:
                 stat, recent = stat_of(self.store), [it for it in self.samples if it[0] > since]
                 rate = (stat["feed"]["rows"] - rows_before) / (now - since)
-                counts = map(tables.count, (rate, len(stat["held"]), stat["edges"], stat["operations_kept"]))
+                counts = map(tables.count, (rate, len(stat["held"]), stat["edges"]))
                 yield [f"{now / 60:.1f}", f"{max(it[1] for it in recent):.0f}", str(max(it[2] for it in recent)), *counts]
                 rows_before, since, next_row = stat["feed"]["rows"], now, next_row + every
 
@@ -88,7 +87,7 @@ def watched(server: Watched, seconds: float, is_over: threading.Event, store: An
     soak = Soak(server, store)
     for pace in (16_000, 0):
         threading.Thread(target=soaking.read_slowly, args=(server.path, pace, is_over)).start()
-    head = ["minute", "MiB at most", "descriptors at most", "rows a second", "versions held", "edges", "operations kept"]
+    head = ["minute", "MiB at most", "descriptors at most", "rows a second", "versions held", "edges"]
     try:
         tables.show(head, soak.rows(seconds))
     finally:
@@ -102,7 +101,7 @@ def measure(words: argparse.Namespace, room: pathlib.Path) -> int:
     import misteluk
     if words.client:
         soaking.client(*words.client)
-    server, is_over, no_feed = Watched(room, words.renew_after), threading.Event(), threading.Event()
+    server, is_over, no_feed = Watched(room), threading.Event(), threading.Event()
     feeder = threading.Thread(target=soaking.feed, args=(server.process.stdin, words.rate, words.new_names, no_feed))
     feeder.start()
     store = misteluk.Served(server.url)

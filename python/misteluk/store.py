@@ -59,9 +59,6 @@ class Store(Generic[W, T]):
     weights as "decimal" (`Decimal`) or "float". Where neither of the first two is said, the first load says both, unless an
     operation came before it.
     `endless`: whether names and kinds that have no edge are let go where there would be too many (see `renew`).
-    `renew_after`: a store in this process keeps each operation, about 200 bytes, until it begins anew. With a number here it does
-    so by itself, before a batch with which it would keep more operations than that, and than twice as many as it has edges. So
-    its memory stays level in a long run; else it begins anew only where it is full (see `renew`).
     `timeout`: for how many seconds the program may neither read nor write while it is waited for; then `NoAnswer` is raised, and
     the call may be made again.
 
@@ -73,66 +70,58 @@ class Store(Generic[W, T]):
     def __init__(self: "Store[int, int]", *, weight_scale: Literal[1], times: Optional[Literal["number"]] = None,
                  decimals: str = "decimal", blocks: Optional[int] = None, seats: int = ..., workers: int = ...,
                  program: Optional[Path] = None, timeout: float = ..., endless: bool = False,
-                 rounding: Optional[str] = None, engine: Optional[str] = None, limits: Optional[Limits] = None,
-                 renew_after: Optional[int] = None) -> None: ...
+                 rounding: Optional[str] = None, engine: Optional[str] = None, limits: Optional[Limits] = None) -> None: ...
 
     @overload
     def __init__(self: "Store[int, int]", *, weight_scale: Optional[Literal[1]] = None, times: Literal["number"],
                  decimals: str = "decimal", blocks: Optional[int] = None, seats: int = ..., workers: int = ...,
                  program: Optional[Path] = None, timeout: float = ..., endless: bool = False,
-                 rounding: Optional[str] = None, engine: Optional[str] = None, limits: Optional[Limits] = None,
-                 renew_after: Optional[int] = None) -> None: ...
+                 rounding: Optional[str] = None, engine: Optional[str] = None, limits: Optional[Limits] = None) -> None: ...
 
     @overload
     def __init__(self: "Store[int, datetime]", *, weight_scale: Optional[Literal[1]] = None, times: Literal["iso"],
                  decimals: str = "decimal", blocks: Optional[int] = None, seats: int = ..., workers: int = ...,
                  program: Optional[Path] = None, timeout: float = ..., endless: bool = False,
-                 rounding: Optional[str] = None, engine: Optional[str] = None, limits: Optional[Limits] = None,
-                 renew_after: Optional[int] = None) -> None: ...
+                 rounding: Optional[str] = None, engine: Optional[str] = None, limits: Optional[Limits] = None) -> None: ...
 
     @overload
     def __init__(self: "Store[Decimal, int]", *, weight_scale: int, times: Optional[Literal["number"]] = None,
                  decimals: Literal["decimal"] = "decimal", blocks: Optional[int] = None, seats: int = ..., workers: int = ...,
                  program: Optional[Path] = None, timeout: float = ..., endless: bool = False,
-                 rounding: Optional[str] = None, engine: Optional[str] = None, limits: Optional[Limits] = None,
-                 renew_after: Optional[int] = None) -> None: ...
+                 rounding: Optional[str] = None, engine: Optional[str] = None, limits: Optional[Limits] = None) -> None: ...
 
     @overload
     def __init__(self: "Store[Decimal, datetime]", *, weight_scale: int, times: Literal["iso"],
                  decimals: Literal["decimal"] = "decimal", blocks: Optional[int] = None, seats: int = ..., workers: int = ...,
                  program: Optional[Path] = None, timeout: float = ..., endless: bool = False,
-                 rounding: Optional[str] = None, engine: Optional[str] = None, limits: Optional[Limits] = None,
-                 renew_after: Optional[int] = None) -> None: ...
+                 rounding: Optional[str] = None, engine: Optional[str] = None, limits: Optional[Limits] = None) -> None: ...
 
     @overload
     def __init__(self: "Store[float, int]", *, weight_scale: int, times: Optional[Literal["number"]] = None,
                  decimals: Literal["float"], blocks: Optional[int] = None, seats: int = ..., workers: int = ...,
                  program: Optional[Path] = None, timeout: float = ..., endless: bool = False,
-                 rounding: Optional[str] = None, engine: Optional[str] = None, limits: Optional[Limits] = None,
-                 renew_after: Optional[int] = None) -> None: ...
+                 rounding: Optional[str] = None, engine: Optional[str] = None, limits: Optional[Limits] = None) -> None: ...
 
     @overload
     def __init__(self: "Store[float, datetime]", *, weight_scale: int, times: Literal["iso"],
                  decimals: Literal["float"], blocks: Optional[int] = None, seats: int = ..., workers: int = ...,
                  program: Optional[Path] = None, timeout: float = ..., endless: bool = False,
-                 rounding: Optional[str] = None, engine: Optional[str] = None, limits: Optional[Limits] = None,
-                 renew_after: Optional[int] = None) -> None: ...
+                 rounding: Optional[str] = None, engine: Optional[str] = None, limits: Optional[Limits] = None) -> None: ...
 
     @overload
     def __init__(self: "Store[Any, Any]", *, weight_scale: Optional[int] = None, times: Optional[str] = None,
                  decimals: str = "decimal", blocks: Optional[int] = None, seats: int = ..., workers: int = ...,
                  program: Optional[Path] = None, timeout: float = ..., endless: bool = False,
-                 rounding: Optional[str] = None, engine: Optional[str] = None, limits: Optional[Limits] = None,
-                 renew_after: Optional[int] = None) -> None: ...
+                 rounding: Optional[str] = None, engine: Optional[str] = None, limits: Optional[Limits] = None) -> None: ...
 
     def __init__(self, *, blocks: Optional[int] = None, seats: int = records.USUAL_SEATS, workers: int = records.USUAL_WORKERS,
                  program: Optional[Path] = None, timeout: float = 60.0, weight_scale: Optional[int] = None,
                  times: Optional[str] = None, decimals: str = "decimal", endless: bool = False,
                  rounding: Optional[str] = None, engine: "Union[str, Engine, None]" = None,
-                 limits: Optional[Limits] = None, renew_after: Optional[int] = None) -> None:
+                 limits: Optional[Limits] = None) -> None:
         self._is_closed = True
         units = Units(1 if weight_scale is None else weight_scale, times or "number", decimals, rounding).checked()
-        self.engine = make_engine(engine, blocks, seats, workers, program, timeout, endless, limits, renew_after)
+        self.engine = make_engine(engine, blocks, seats, workers, program, timeout, endless, limits)
         self.seats = self.engine.seats
         self.ledger = Ledger(self.engine, units, weight_scale is not None or times is not None)
         self._renewals: List[Renewed] = []
@@ -289,8 +278,7 @@ class Store(Generic[W, T]):
 
     def renew(self) -> Renewed:
         """Begins anew with the last version's edges, as a store in this process does of itself before it is full of batches, or
-        of blocks that only sessions need, and where `renew_after` says so. Versions count on, what is pending stays so, and open
-        sessions hold their versions, for which the operations before them are kept.
+        of blocks that only sessions need. Versions count on, what is pending stays so, and open sessions hold their versions.
         An endless store also lets go, where a batch would leave too many, the names and kinds that have no edge; a request for
         one then raises `NoVertex` or `NoKind`. A program can't do so, and raises `StoreError`."""
         self.ledger.settle()
@@ -304,7 +292,8 @@ class Store(Generic[W, T]):
 
     @property
     def operations_kept(self) -> Optional[int]:
-        """How many operations a store in this process keeps, those since it began, or began anew; `None` for another one."""
+        """How many operations a store in this process keeps: 0, but with a limit on batches those since it began, or began anew;
+        `None` for another one."""
         return self.engine.operations_kept
 
     @property

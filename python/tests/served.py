@@ -37,13 +37,13 @@ class Own(ServedEngine):
 
 
 def made(engine: "Union[str, Engine, None]", blocks: Optional[int], seats: int, workers: int, program: Any, timeout: float,
-         endless: bool, most: "Optional[misteluk.Limits]", renew_after: Optional[int] = None) -> Engine:
+         endless: bool, most: "Optional[misteluk.Limits]") -> Engine:
     """As `make_engine`, but that a server has the store for which none is named."""
     if engine is not None or program is not None:
-        return make_engine(engine, blocks, seats, workers, program, timeout, endless, most, renew_after)
+        return make_engine(engine, blocks, seats, workers, program, timeout, endless, most)
     begin: Any = Store
     with mock.patch.object(misteluk.store, "make_engine", make_engine):
-        store = begin(engine=LIBRARY, blocks=blocks, seats=16, endless=endless, limits=most, renew_after=renew_after)
+        store = begin(engine=LIBRARY, blocks=blocks, seats=16, endless=endless, limits=most)
     server = Server(store, "127.0.0.1:0", limits=Limits(idle=600))
     own = Own(server.start())
     own.seats = seats

@@ -51,8 +51,8 @@ class ServeCase(Case):
     """A case with a server."""
 
     def serve(self, listen: str = "127.0.0.1:0", token: Optional[str] = None, limits: Limits = Limits(),
-              **options: Any) -> Server:
-        store = misteluk.Store(seats=16, endless=True, **options)
+              batches: Optional[int] = None, **options: Any) -> Server:
+        store = misteluk.Store(seats=16, endless=True, limits=misteluk.Limits(batches=batches), **options)
         self.addCleanup(self.let_go, store)
         server = Server(store, listen, token=token, limits=limits).start()
         self.addCleanup(server.stop)

@@ -153,7 +153,7 @@ class Endless(Case):
 
 @unittest.skipUnless(ENGINE == "library", "of the library alone")
 class Level(Case):
-    """A store that renews itself keeps few operations, however many came."""
+    """A store keeps no operation that it has applied, unless its batches have a limit: then those since it began anew."""
 
     def fill(self, store, batches=100, edges=4):
         """Batches of ten additions to few edges; gives the versions, and how many operations were kept behind each."""
@@ -165,52 +165,64 @@ class Level(Case):
             kept.append(store.operations_kept)
         return versions, kept
 
+    def test_none_is_kept(self):
+        """It has no operation to let go, and so doesn't begin anew."""
+        store, most = self.store("add k s0 t 1 1"), 4_294_967_295
+        with mock.patch.object(store.engine.library, "desk_rebase", lambda _: self.fail("it began anew")):
+            versions, kept = self.fill(store)
+        self.assertEqual((versions, max(kept)), (list(range(2, 102)), 0))
+        for batches, kept in ((most - 1, 1001), (most, 0)):
+            other = self.store("add k s0 t 1 1", limits=Limits(batches=batches))
+            self.assertEqual((self.fill(other)[0], other.operations_kept), (versions, kept))
+            self.assertEqual(list(store.open().edges()), list(other.open().edges()))
+
+    def test_none_is_kept_however_it_begins_anew(self):
+        """As where it grows, or is rebased to an older version."""
+        def limit():
+            return store.engine._opening.shape.batches, store.operations_kept
+        with mock.patch.object(library, "FIRST_BLOCKS", 32):
+            store, none = self.store("insert k a b 1 1"), (4_294_967_295, 0)
+        self.assertEqual(limit(), none)
+        old = store.open()
+        for at in range(40):
+            store.insert("k", f"s{at}", "t")
+        store.commit()
+        self.assertEqual((store.blocks, limit()), (128, none))
+        self.feed(store, *(f"insert k{it} a b 1 1" for it in range(10)))
+        self.assertEqual((store.engine._opening.shape.kinds, limit()), (16, none))
+        store.renew()
+        self.assertEqual(limit(), none)
+        store.rebase(old)
+        self.assertEqual((list(store.open().edges()), limit()), ([("k", "a", "b", Edge(1, 1, 1))], none))
+
     def test_few_are_kept(self):
-        for renew_after, most in ((None, 1001), (1000, 991), (95, 91), (30, 30), (1, 10)):
-            store = self.store("add k s0 t 1 1", renew_after=renew_after)
+        for batches, most in ((1_000, 1_001), (95, 941), (3, 30), (1, 10)):
+            store = self.store("add k s0 t 1 1", limits=Limits(batches=batches))
             session, before = store.open(), store.open().degrees()
             versions, kept = self.fill(store)
-            self.assertEqual((versions, max(kept)), (list(range(2, 102)), most), renew_after)
+            self.assertEqual((versions, max(kept)), (list(range(2, 102)), most), batches)
             self.assertEqual((session.version, list(session.edges())), (1, [("k", "s0", "t", Edge(1, 1, 1))]))
             self.assertEqual(session.degrees(), before)
             with store.open() as last:
                 self.assertEqual((last.version, [edge.weight for *_, edge in last.edges()]), (101, [251, 250, 250, 250]))
 
-    def test_none_is_kept(self):
-        """A store of the greatest limit on batches has no operation to let go, and so doesn't begin anew."""
-        store = self.store("add k s0 t 1 1", limits=Limits(batches=4_294_967_295), renew_after=1)
-        versions, kept = self.fill(store)
-        self.assertEqual((versions, max(kept), store.renewals), (list(range(2, 102)), 0, []))
-        other = self.store("add k s0 t 1 1", limits=Limits(batches=4_294_967_294))
-        self.assertEqual((self.fill(other)[0], other.operations_kept), (versions, 1001))
-        self.assertEqual(list(store.open().edges()), list(other.open().edges()))
-
-    def test_twice_the_edges(self):
-        """Many edges: so that it begins anew as seldom as it takes little beside the operations."""
-        store = self.store(renew_after=1)
-        for at in range(100):
-            store.insert("k", f"s{at}", "t")
-        store.commit()
-        kept = self.fill(store, 30, 100)[1]
-        self.assertEqual((kept[:11], max(kept)), ([*range(110, 201, 10), 10], 200))
-
     def test_out_of_memory(self):
-        """Then the batch goes in all the same, and the next one tries it again."""
-        store = self.store("add k s0 t 1 1", renew_after=20)
+        """Then the batch is pending still, and the next commit tries it again."""
+        store = self.store("add k s0 t 1 1", limits=Limits(batches=1))
+        store.add("k", "s0", "t", 1, 2)
         with mock.patch.object(store.engine.library, "desk_rebase", lambda _: library.Code.MEMORY):
-            self.assertEqual(self.fill(store, 5), ([2, 3, 4, 5, 6], [11, 21, 31, 41, 51]))
-        self.assertEqual(self.fill(store, 1), ([7], [10]))
-        with store.open() as last:
-            self.assertEqual(sum(edge.weight for *_, edge in last.edges()), 61)
+            self.assertRaises(misteluk.NoMemory, store.commit)
+        self.assertEqual((store.pending, store.stat().version, store.commit().version), (1, 1, 2))
+        self.assertEqual(store.open().edge("k", "s0", "t"), Edge(2, 1, 2))
 
     def test_memory(self):
         """What a process takes at most for 400,000 additions to a graph of a hundred edges: some 200 bytes for each that is
         kept."""
         program = """if True:
             import re, sys
-            from misteluk import Store
+            from misteluk import Limits, Store
             peak = lambda: int(re.search(r"VmHWM:\\s+(\\d+)", open("/proc/self/status").read())[1]) / 1024
-            store = Store(renew_after=int(sys.argv[1]) or None)
+            store = Store(limits=Limits(batches=int(sys.argv[1]) or None))
             for at in range(200):
                 for it in range(2_000):
                     store.add("k", f"s{it % 100}", "t")
@@ -221,17 +233,17 @@ class Level(Case):
             store.close()
         """
         grown = {}
-        for renew_after in (20_000, 0):
-            done = subprocess.run([sys.executable, "-c", program, str(renew_after)], check=True, text=True,
+        for batches in (0, 65_536):
+            done = subprocess.run([sys.executable, "-c", program, str(batches)], check=True, text=True,
                                   stdout=subprocess.PIPE, env={**os.environ, "PYTHONPATH": str(HERE.parent)})
-            *told, grown[renew_after] = map(float, done.stdout.split())
+            *told, grown[batches] = map(float, done.stdout.split())
             self.assertEqual(told, [100, 200])
-        self.assertGreater(grown[0], 50)
-        self.assertLess(grown[20_000], 5)
+        self.assertGreater(grown[65_536], 50)
+        self.assertLess(grown[0], 5)
 
     def test_questions_go_on_meanwhile(self):
         """A session answers while the store begins anew, which here waits for that."""
-        store = self.store("add k s0 t 1 1", renew_after=1)
+        store = self.store("add k s0 t 1 1", limits=Limits(batches=1))
         session, real, found = store.open(), store.engine.library.desk_rebase, []
         begun, answered = threading.Event(), threading.Event()
 
@@ -253,7 +265,7 @@ class Level(Case):
 
     def test_seats_are_as_many(self):
         """Also where the sessions were opened before it began anew."""
-        store = self.store(seats=2, renew_after=10)
+        store = self.store(seats=2, limits=Limits(batches=1))
         sessions = [store.open()]
         self.fill(store, 5)
         sessions.append(store.open())
@@ -261,11 +273,6 @@ class Level(Case):
         self.assertRaises(misteluk.NoSeat, store.open)
         sessions.pop(0).close()
         self.assertEqual(store.open().version, 10)
-
-    def test_what_it_takes(self):
-        self.assertRaisesRegex(ValueError, "from 1 on, and not 0", Store, renew_after=0)
-        self.assertRaisesRegex(ValueError, "a store that renews itself is one in this process", Store, engine="program",
-                               renew_after=5)
 
 
 @unittest.skipUnless(ENGINE == "library", "of the library alone")

@@ -39,7 +39,7 @@ class Interrupts(Case):
     @unittest.skipUnless(ENGINE == "library", "of the library alone")
     def test_each_line_where_it_renews_itself(self):
         """Nothing is applied twice or lost, the session answers on, and versions are counted on, wherever the interrupt comes."""
-        anew = functools.partial(Scene, renew_after=1)
+        anew = functools.partial(Scene, limits=misteluk.Limits(batches=1))
         scene = anew()
         self.addCleanup(scene.end)
         self.assertEqual((scene.store.operations_kept, scene.store.commit().version, scene.store.operations_kept), (2, 2, 3))

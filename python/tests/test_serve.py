@@ -118,11 +118,11 @@ class Answers(ServeCase):
 
 
 class Level(ServeCase):
-    """A server whose store renews itself."""
+    """A server whose store begins anew behind every few batches."""
 
     def test_replies_over_renewals(self):
         """Few operations are kept, versions are counted on, and what is told of a version that is held stays as it was."""
-        self.fed(renew_after=20)
+        self.fed(batches=3)
         name = self.post("/v1/sessions").json["session"]
         held = [f"/v1/{it}{mark}session={name}" for it, mark in (
             ("edge?kind=transfer&source=ana&target=funnel", "&"), ("degrees", "?"), ("levels?source=ana", "&"), ("edges", "?"),
@@ -139,13 +139,13 @@ class Level(ServeCase):
             self.assertEqual((list(session.edges()), session.cores()), (edges, cores))
             with feed.open() as last:
                 self.assertEqual(str(session.diff(last)), "<Diff: 0 gone, 0 new, 1 changed>")
-        self.assertEqual((versions, kept), (list(range(2, 32)), [11, 18, *[7, 14] * 14]))
+        self.assertEqual((versions, kept), (list(range(2, 32)), [11, 18, *[7, 14, 21] * 9, 7]))
         self.assertEqual(self.ask("/v1/edge?kind=transfer&source=ana&target=funnel").json,
                          {"version": 31, "edge": {"weight": 980 + 30 * 7, "first": 1, "recent": 29}})
 
     def test_a_feed_that_is_followed(self):
         path = self.file("feed.csv", "".join(f"s{it % 3},t,1,{it}\n" for it in range(500)))
-        self.serve(renew_after=40)
+        self.serve(batches=4)
         self.server.feeding.follow(self.server.store.follow(path, by="add", every=0.0, batch=10, until_end=True,
                                                             columns=misteluk.Columns(1, 2, weight=3, time=4)))
         as_soon_as(lambda: self.ask("/v1/stat").json["feed"]["state"] == "ended")
@@ -265,7 +265,7 @@ class Feeds(ServeCase):
     def test_beside_a_feed_at_full_speed(self):
         """Clients that ask meanwhile: each answer is of one version, and versions don't go back, also where the store renews
         itself every few batches."""
-        self.fed(["add", "turn", "s0", "t", 0, 1], renew_after=50)
+        self.fed(["add", "turn", "s0", "t", 0, 1], batches=2)
         wrong, answers, is_over = [], [], threading.Event()
 
         def watch():

@@ -18,7 +18,6 @@ from support import ENGINE, HERE, Case, as_soon_as
 import misteluk
 from misteluk import Busy, Edge, NoSeat, NoServer, NotAllowed, Served, SessionClosed, connect
 from misteluk.command.main import main
-from misteluk.command.options import make_parser, renewal_of
 from misteluk.serve.limits import Limits
 from misteluk.serve.server import Address, Server, token_of
 
@@ -199,23 +198,15 @@ class Commands(ServeCase):
             store.load([(f"s{it}", "t", 1, 1) for it in range(70_000)], by="set", progress=False)
             self.assertEqual(store.stat().edges, 70_000)
 
-    def test_how_many_operations_it_keeps(self):
-        for words, kept in ((["--renew-after", "20"], 10), (["--renew-after", "never"], 70), ([], 70)):
-            path = str(self.room / f"socket{len(words)}{kept}")
-            self.begin("--listen", f"unix:{path}", *words)
-            with Served(f"unix:{path}") as store:
-                for _ in range(7):
-                    for at in range(10):
-                        store.add("k", "a", "b", 1, at)
-                    store.commit()
-                told = store.engine.talk.call("GET", "/v1/stat").json()
-                self.assertEqual((told["version"], told["operations_kept"], store.operations_kept), (7, kept, None))
-        usual = make_parser().parse_args(["serve"])
-        self.assertEqual((renewal_of(usual, True), renewal_of(usual, False)), (1_000_000, None))
-        for wrong in ("0", "-1", "many", ""):
-            with redirect_stderr(io.StringIO()) as said:
-                self.assertRaises(SystemExit, main, ["serve", "--renew-after", wrong])
-            self.assertIn("from 1 on, or never", said.getvalue())
+    def test_it_keeps_no_operation(self):
+        path = str(self.room / "socket")
+        self.begin("--listen", f"unix:{path}")
+        with Served(f"unix:{path}") as store:
+            for at in range(7):
+                store.add("k", "a", "b", 1, at)
+                store.commit()
+            told = store.engine.talk.call("GET", "/v1/stat").json()
+            self.assertEqual((told["version"], told["operations_kept"], store.operations_kept), (7, 0, None))
 
     def test_a_server_that_is_killed(self):
         """Its clients are told so; the next one takes its socket, and they connect anew."""

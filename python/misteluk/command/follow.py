@@ -68,7 +68,7 @@ class Teller:
         self.words, self.store, self.following = words, store, following
         self.units = store.units
         self.within = kept_time(words.within, self.units, "within")
-        self.faults_told = self.renewals_told = 0
+        self.faults_told = 0
 
     def run(self) -> None:
         """Tells of each step until there is none. An output whose reader has gone ends it, also while there is no row."""
@@ -80,7 +80,6 @@ class Teller:
                 return
             finally:
                 self.tell_faults()
-            self.tell_renewals()
             self.following.clear_progress()
             self.tell(step)
             if sys.stdout:
@@ -108,13 +107,6 @@ class Teller:
 
     def write(self, told: Dict[str, Any]) -> None:
         print(json.dumps(told, default=for_json, ensure_ascii=False))
-
-    def tell_renewals(self) -> None:
-        """Tells when the store went on in a new program."""
-        for it in self.store.renewals[self.renewals_told:]:
-            self.following.clear_progress()
-            print(f"misteluk: {it}", file=sys.stderr)
-            self.renewals_told += 1
 
     def tell_faults(self) -> None:
         """Tells of bad rows that were passed over since the last time, as they are told of in a load: the first ones."""

@@ -25,7 +25,7 @@ from ..feeds.limits import check
 from ..feeds.loading import load, load_in_steps
 from ..feeds.surveys import Survey, survey
 from ..values.names import shown
-from .options import columns_of, make_parser, renewal_of
+from .options import columns_of, make_parser
 from .questions import Question, all_lines
 from ..page.view import view
 from ..saving import is_saved, size_of
@@ -167,13 +167,12 @@ def run_fleet(words: argparse.Namespace) -> int:
 def run_follow(words: argparse.Namespace) -> int:
     is_endless = choose(words.engine, words.program)[0] == LIBRARY
     blocks = words.blocks or (None if is_endless else records.MOST_BLOCKS)
-    with Store(blocks=blocks, endless=is_endless, rounding=words.rounding, renew_after=renewal_of(words, is_endless),
-               **engine_of(words)) as store:
+    with Store(blocks=blocks, endless=is_endless, rounding=words.rounding, **engine_of(words)) as store:
         return telling.follow(words, store, form_of_feed(words))
 
 
 def run_serve(words: argparse.Namespace) -> int:
-    return serve.serve(words, form_of_feed(words), renewal_of(words, True))
+    return serve.serve(words, form_of_feed(words))
 
 
 def run_doctor(words: argparse.Namespace) -> int:

@@ -12,7 +12,6 @@ from ..version import VERSION
 from ..engine.making import ENGINES
 from ..feeds.feed import Column, Columns
 from ..feeds.notations import DECIMALS, TIMES
-from ..values.limits import USUAL_RENEWAL
 from .questions import Question, question
 
 
@@ -151,21 +150,6 @@ def add_pace(live: Any) -> None:
                       "and when a batch is full (1s)")
     live.add_argument("--keep", metavar="TIME", help="let edges go that weren't touched for so long by the feed's own times: as "
                       "12h or 14d where they are dates, else a whole number")
-    live.add_argument("--renew-after", type=renewal, metavar="OPERATIONS", help="have a store in this process start over by "
-                      "itself before it keeps more operations, and more than two for each edge, so that its memory stays level "
-                      f"({USUAL_RENEWAL:,}); `never` keeps them all")
-
-
-def renewal(text: str) -> int:
-    """A number of operations; `never` is 0."""
-    if text != "never" and not (text.isascii() and text.isdigit() and int(text) > 0):
-        raise argparse.ArgumentTypeError(f"a number of operations from 1 on, or never, and not {text!r}")
-    return 0 if text == "never" else int(text)
-
-
-def renewal_of(words: argparse.Namespace, is_here: bool) -> Optional[int]:
-    """Behind how many operations a store renews itself, which one in another process can't."""
-    return USUAL_RENEWAL if words.renew_after is None and is_here else words.renew_after or None
 
 
 def add_follow(follow: argparse.ArgumentParser) -> None:

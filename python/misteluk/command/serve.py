@@ -46,7 +46,7 @@ def add_options(parser: argparse.ArgumentParser) -> None:
                         f"graph are answered at once ({usual.questions})")
 
 
-def serve(words: argparse.Namespace, how: Dict[str, Any], renew_after: Optional[int]) -> int:
+def serve(words: argparse.Namespace, how: Dict[str, Any]) -> int:
     """Serves a store until a signal ends it."""
     limits = Limits(words.idle, words.clients, words.body, words.longest, words.questions)
     if words.file is not None and words.by is None:
@@ -58,7 +58,7 @@ def serve(words: argparse.Namespace, how: Dict[str, Any], renew_after: Optional[
     token = token_of(words.token_file)
     with contextlib.ExitStack() as ends:
         keeper = None if words.save is None else ends.enter_context(contextlib.closing(Keeper(words.save, words.save_every)))
-        store, began = store_of(words, keeper, renew_after)
+        store, began = store_of(words, keeper)
         ends.enter_context(store)
         store.engine.fit(0, 0, ROOM)
         server = Server(store, words.listen, token=token, limits=limits, keeper=keeper, began=began)
@@ -77,11 +77,10 @@ def serve(words: argparse.Namespace, how: Dict[str, Any], renew_after: Optional[
     return int(keeper is not None and bool(keeper.fault))
 
 
-def store_of(words: argparse.Namespace, keeper: Optional[Keeper], renew_after: Optional[int]) -> Tuple[Store[Any, Any], str]:
+def store_of(words: argparse.Namespace, keeper: Optional[Keeper]) -> Tuple[Store[Any, Any], str]:
     """The store that is served, and what it begins with."""
     options = {"blocks": words.blocks, "seats": records.MOST_SEATS, "endless": True, "engine": LIBRARY,
-               "renew_after": renew_after, "weight_scale": words.weight_scale,
-               "times": "iso" if words.dates else words.times, "rounding": words.rounding}
+               "weight_scale": words.weight_scale, "times": "iso" if words.dates else words.times, "rounding": words.rounding}
     store = None if keeper is None else keeper.restored(**options)
     if store is None or keeper is None:
         return Store(**options), "without an edge" if words.file is None else "with its feed"

@@ -22,7 +22,7 @@ from .held import LibraryVersion, Opening, Tally
 from .interface import Code
 from .operations import REMOVE, Operations
 from .protocol import Denied, Receipt
-from ..errors import NoMemory, NoSeat, StoreError
+from ..errors import NoSeat, StoreError
 from ..values.answers import Collected, Commit, Rebased, Renewed, Stat
 from ..values.limits import MOST_BATCHES, MOST_BLOCKS, MOST_KINDS, Limits
 
@@ -30,26 +30,22 @@ from ..values.limits import MOST_BATCHES, MOST_BLOCKS, MOST_KINDS, Limits
 FIRST_BLOCKS, MORE_BLOCKS = 65_536, 4
 # How the counts of a batch stand in memory.
 _COUNTS = struct.Struct("=7Q")
-# Of how many operations for each edge a desk isn't begun anew: so that this takes little beside them.
-TIMES_EDGES = 2
 
 
 class LibraryEngine:
     """A desk in this process. It begins anew by itself where it is full: of batches, or of blocks that held versions need.
     Versions that are held stay as they are. Where nothing says how many blocks, vertices or kinds there are at most, a larger
     desk with the same edges takes its place once they are needed. `endless`: before that it lets names and kinds go that have no
-    edge. `renew_after`: it also begins anew before a batch with which it would keep more than so many operations, and more than
-    twice as many as there are edges."""
+    edge. A desk without a limit on batches keeps none of those that it has applied."""
 
     name = "library"
     records_sent, records_left, most_blocks = 0, None, MOST_BLOCKS
 
     def __init__(self, blocks: Optional[int], seats: int, endless: bool, limits: Limits = Limits(),
-                 renew_after: Optional[int] = None, library: "Optional[str | os.PathLike[str]]" = None) -> None:
+                 library: "Optional[str | os.PathLike[str]]" = None) -> None:
         self.path = find_library(library)
         self.library, self.handles = opened(self.path)
         self.grows, self.limits, self.seats, self._endless = blocks is None, limits, seats, endless
-        self._renew_after = renew_after
         self.is_closed = False
         self.guard = self._guard = Guard()
         self._held: "Dict[int, weakref.ref[LibraryVersion]]" = {}
@@ -141,8 +137,6 @@ class LibraryEngine:
     @alone
     def fly(self, flight: LibraryFlight) -> Receipt:
         opening = self._settle()
-        if flight.step is None and self._renew_after is not None:
-            opening = self._level(opening, flight.batch.size, self._renew_after)
         code = self._applied(opening, flight)
         if code:
             opening = self._helped(opening, code, flight)
@@ -174,19 +168,6 @@ class LibraryEngine:
         if flight.collect:
             check(self.library.desk_collect(opening.desk.raw, self._freed))
         return Receipt(Commit(version + opening.before, inserted, updated, removed, absent, overflowed, 1, expired))
-
-    def _level(self, opening: Opening, more: int, most: int) -> Opening:
-        """Begins anew where the desk would keep too many operations with so many more: each of them takes memory until then."""
-        kept = self.operations_kept
-        if kept == 0 or kept + more <= most:
-            return opening
-        stat = self._stat(opening)
-        if kept + more <= TIMES_EDGES * stat.edges:
-            return opening
-        try:
-            return self._begin_anew(opening, stat)
-        except NoMemory:  # (there may be some for the batch; the next one tries this again)
-            return self._opening
 
     def _help(self, opening: Opening, code: int, flight: LibraryFlight, tried: "Set[Tuple[str, int]]") -> Optional[Opening]:
         """Makes room for a batch that was refused, by what wasn't tried yet for such a refusal; `None` where nothing helps."""

@@ -37,7 +37,7 @@ def choose(engine: Optional[str] = None, program: Optional[Path] = None) -> Tupl
 
 
 def make_engine(engine: "Union[str, Engine, None]", blocks: Optional[int], seats: int, workers: int, program: Optional[Path],
-                timeout: float, endless: bool, limits: Optional[Limits], renew_after: Optional[int] = None) -> Engine:
+                timeout: float, endless: bool, limits: Optional[Limits]) -> Engine:
     """An engine with an empty store; or the one that is given, as it is."""
     if engine is not None and not isinstance(engine, str):
         return engine
@@ -46,13 +46,11 @@ def make_engine(engine: "Union[str, Engine, None]", blocks: Optional[int], seats
         within("blocks", blocks, records.LEAST_BLOCKS, MOST_BLOCKS if name == LIBRARY else records.MOST_BLOCKS)
     within("seats", seats, 1, records.MOST_SEATS)
     within("workers", workers, 1, records.MOST_WORKERS)
-    if renew_after is not None and renew_after < 1:
-        raise ValueError(f"renew_after is a number of operations from 1 on, and not {renew_after}")
     if not timeout > 0:
         raise ValueError(f"timeout is a number of seconds above 0, and not {timeout}")
     if name == LIBRARY:
-        return LibraryEngine(blocks, seats, endless, (limits or Limits()).checked(), renew_after)
-    if endless or renew_after is not None or limits is not None:
-        what = "an endless store" if endless else "a store with limits of its own" if limits else "a store that renews itself"
+        return LibraryEngine(blocks, seats, endless, (limits or Limits()).checked())
+    if endless or limits is not None:
+        what = "an endless store" if endless else "a store with limits of its own"
         raise ValueError(f"{what} is one in this process, and this would be the program's: {why}")
     return ProgramEngine(find_program(program), blocks or records.USUAL_BLOCKS, seats, workers, timeout)

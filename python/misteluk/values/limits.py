@@ -5,18 +5,14 @@ from typing import List, NamedTuple, Optional
 
 # What no limits pass: kinds, vertices times kinds (so that a sum of weights has room in its type), batches, and blocks.
 MOST_KINDS, MOST_PRODUCT, MOST_BATCHES, MOST_BLOCKS = 64, 8_388_606, (1 << 32) - 1, 4_293_918_719
-USUAL_BATCHES = 65_536
-# Behind how many operations a store renews itself that a feed without end fills, if nothing else is said.
-USUAL_RENEWAL = 1_000_000
 
 
 class Limits(NamedTuple):
     """How much a store in this process takes at most: vertices and kinds, those of removed edges too, and batches until it begins
-    anew, by which it lets memory go. What isn't said is as large as the library has room for: 8,388,606 vertices for one kind,
-    half as many for two, 131,071 for 64, which no store passes; and 65,536 batches.
+    anew. What isn't said is as large as the library has room for: 8,388,606 vertices for one kind, half as many for two, 131,071
+    for 64, which no store passes; and 4,294,967,295 batches. With fewer batches it keeps each operation until it begins anew.
 
         Store(limits=Limits(vertices=100_000, kinds=4))
-        Store(limits=Limits(batches=4_294_967_295))  # keeps no operation that it has applied: a stream takes level memory
 
     A program takes 65,536 vertices, 64 kinds and 65,536 batches, and no others.
     """
@@ -58,7 +54,7 @@ class Limits(NamedTuple):
         least = max(vertices, self.vertices or 1)
         roomy = (it for it in (8, 16, 32, MOST_KINDS) if kinds <= it and it * least <= MOST_PRODUCT)
         room = self.kinds if self.kinds else next(roomy, max(kinds, 1))
-        return Limits(self.vertices or MOST_PRODUCT // room, room, self.batches or USUAL_BATCHES)
+        return Limits(self.vertices or MOST_PRODUCT // room, room, self.batches or MOST_BATCHES)
 
 
 # Those of a program.
