@@ -10,8 +10,8 @@ use Rattle.feed_csv.specs.Commands.{HasValidOp, Refuses, bare_command, edge_comm
 use Rattle.feed_csv.specs.Commands.{filter_command, filter_fields, item_of, levels_of, names_at, remove_of, slot_command}
 use Rattle.feed_csv.specs.Fields.{◌>>=◌, any_kind_at}
 use Rattle.feed_csv.specs.{Fields.{field, kind_at, name_at, of_length, required, slot_at, time_at, weight_at}, Number.at_most}
-use Rattle.feed_csv.specs.{Number.{has_minus, number_of, slot_of, time_of, weight_of}, Records.Row, Script.{FaultStep, NextStep}}
-use Rattle.feed_csv.specs.{Script.{Script, TakesRow}, declared.command.{Command.Command, FeedFault.FeedFault, FeedWord.FeedWord}}
+use Rattle.feed_csv.specs.{Number.{has_minus, number_of, slot_of, time_of, weight_of}, Records.Row, Script.{FaultStepIn, NextStepIn}}
+use Rattle.feed_csv.specs.{Script.{Script, TakesRowIn}, declared.command.{Command.Command, FeedFault.FeedFault, FeedWord.FeedWord}}
 use Rattle.feed_csv.specs.declared.command.FeedWord.TheVariants.{Read, BadCommand, BadFields, BadName, BadWeight, BadTime}
 use Rattle.feed_csv.specs.declared.command.FeedWord.TheVariants.{BadSlot, Memory}
 
@@ -218,13 +218,13 @@ item_of-judges row =
 
 -- a record that was taken and refused is a step of the feed
 pub refused_step : (word : FeedWord) (row : Row) (old new : Script) → word ≢ Memory → Refuses word (item_of row)
-    → TakesRow old row new → FaultStep word old new
+    → TakesRowIn None old row new → FaultStepIn None word old new
 refused_step Read row old new other same takes = absurd ((item_of-judges row).fails Read same)
 refused_step Memory row old new other same takes = absurd (other refl)
 refused_step _ row old new other same takes = (row, same, takes)
 
 -- an operation that a step gives is valid
-pub step_valid : (result : Result (Option Command) FeedFault) (old new : Script) → NextStep old result new
+pub step_valid : (result : Result (Option Command) FeedFault) (old new : Script) → NextStepIn None old result new
     → IfOk result (λ found. IfSome found HasValidOp)
 step_valid (Ok (Some command)) old new step = (item_of-judges step.0).gives command step.1
 step_valid _ old new step = tt

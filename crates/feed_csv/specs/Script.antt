@@ -1,5 +1,5 @@
 -- A feed, as its callers see it, and what one call of it does.
-use Rattle.std.specs.Prelude.{◌≡◌, ◌⊎◌, ℕ, ◌+◌, ◌<◌, Bool, true, List, Option, Some, None, Result, Ok, Err}
+use Rattle.std.specs.{Prelude.{◌≡◌, ◌<◌, ◌⊎◌, ℕ, ◌+◌, Bool, true, List, Option, Some, None, Result, Ok, Err}, Io.Iter.u64_saturate}
 use Rattle.csv.specs.declared.error.ErrorKind.{ErrorKind}
 use Rattle.feed_csv.specs.{Commands.{item_of, fault_word}, Records.{IsOver, Row, Takes, record_limit}}
 use Rattle.feed_csv.specs.declared.command.{Command.Command, FeedFault.FeedFault, FeedWord.{FeedWord, TheVariants.{Read, Memory}}}
@@ -14,22 +14,38 @@ pub record Script : Type 0 where
   pub fault : Option ErrorKind
   pub left : Option (List Row)
 
+-- A feed gives at most so many records, its limit, or as many as there are. It may give one more
+abbrev pub HasRoom : Option ℕ → ℕ → Type 0
+HasRoom (Some limit) given = given < limit
+HasRoom None given = Unit {0}
+
+-- it gave as many as it may
+abbrev pub IsFull : Option ℕ → ℕ → Type 0
+IsFull (Some limit) given = given ≡ limit
+IsFull None given = ⊥
+
+-- the number of the record behind so many. Without a limit records are counted up to 2 ^ 64 - 1, and all behind that one have its
+-- number
+abbrev pub next_number : Option ℕ → ℕ → ℕ
+next_number (Some limit) given = given + 1
+next_number None given = u64_saturate (given + 1)
+
 -- a record may be read
-pub record IsOpen (script : Script) : Type 0 where
+pub record IsOpenIn (limit : Option ℕ) (script : Script) : Type 0 where
   pub reading : script.phase ≡ Reading
-  pub room : script.given < record_limit
+  pub room : HasRoom limit script.given
 
 -- this record was taken: it is the first of those left, and the next call looks at the one after it
-pub record TakesRow (old : Script) (row : Row) (new : Script) : Type 0 where
-  pub open_before : IsOpen old
+pub record TakesRowIn (limit : Option ℕ) (old : Script) (row : Row) (new : Script) : Type 0 where
+  pub open_before : IsOpenIn limit old
   pub reading : new.phase ≡ Reading
-  pub given : new.given ≡ old.given + 1
+  pub given : new.given ≡ next_number limit old.given
   pub works : new.failed ≡ old.failed
   pub left : Takes old.left row new.left
 
 -- the input's end was met: no record is left
-pub record MeetsEnd (old new : Script) : Type 0 where
-  pub open_before : IsOpen old
+pub record MeetsEndIn (limit : Option ℕ) (old new : Script) : Type 0 where
+  pub open_before : IsOpenIn limit old
   pub over : IsOver old.left
   pub ended : new.phase ≡ Ended
   pub given : new.given ≡ old.given
@@ -49,10 +65,10 @@ pub record FailsWith (word : FeedWord) (script : Script) : Type 0 where
 
 -- why a call answers Read: csv's reader failed, and not for want of memory; the limit was reached, and nothing is read; or the
 -- feed had stopped before
-abbrev pub ReadStops : Script → Script → Type 0
-ReadStops old new =
-    (IsOpen old × FailsWith Read new)
-    ⊎ ((old.phase ≡ Reading) × (old.given ≡ record_limit) × (new ≡ record old { phase = Stopped }))
+abbrev pub ReadStopsIn : Option ℕ → Script → Script → Type 0
+ReadStopsIn limit old new =
+    (IsOpenIn limit old × FailsWith Read new)
+    ⊎ ((old.phase ≡ Reading) × IsFull limit old.given × (new ≡ record old { phase = Stopped }))
     ⊎ ((old.phase ≡ Stopped) × (new ≡ old))
 
 -- where csv's reader failed, it was for want of memory; else memory was wanting for what a record asks
@@ -60,18 +76,37 @@ abbrev pub LacksMemory : Script → Type 0
 LacksMemory script = script.failed ≡ true → FailsWith Memory script
 
 -- the next record is refused for this word
-abbrev pub RefusesRow : Script → FeedWord → Script → Type 0
-RefusesRow old word new = (row : Row) × (item_of row ≡ Err word) × TakesRow old row new
+abbrev pub RefusesRowIn : Option ℕ → Script → FeedWord → Script → Type 0
+RefusesRowIn limit old word new = (row : Row) × (item_of row ≡ Err word) × TakesRowIn limit old row new
 
 -- a call that answers this word: the feed stops, or the word is the next record's refusal
-abbrev pub FaultStep : FeedWord → Script → Script → Type 0
-FaultStep Read old new = ReadStops old new × StopsAt old new
-FaultStep Memory old new = IsOpen old × StopsAt old new × LacksMemory new
-FaultStep word old new = RefusesRow old word new
+abbrev pub FaultStepIn : Option ℕ → FeedWord → Script → Script → Type 0
+FaultStepIn limit Read old new = ReadStopsIn limit old new × StopsAt old new
+FaultStepIn limit Memory old new = IsOpenIn limit old × StopsAt old new × LacksMemory new
+FaultStepIn limit word old new = RefusesRowIn limit old word new
 
 -- one call: the next record's command; or the end, then and later; or a fault, which bears the number of the
 -- record that was not given
+abbrev pub NextStepIn : Option ℕ → Script → Result (Option Command) FeedFault → Script → Type 0
+NextStepIn limit old (Ok (Some command)) new = (row : Row) × (item_of row ≡ Ok command) × TakesRowIn limit old row new
+NextStepIn limit old (Ok None) new = MeetsEndIn limit old new ⊎ ((old.phase ≡ Ended) × (new ≡ old))
+NextStepIn limit old (Err fault) new = (fault.at ≡ next_number limit old.given) × FaultStepIn limit fault.word old new
+
+-- the same of a script's feed, whose limit is a script's
+abbrev pub IsOpen : Script → Type 0
+IsOpen script = IsOpenIn (Some record_limit) script
+
+abbrev pub TakesRow : Script → Row → Script → Type 0
+TakesRow old row new = TakesRowIn (Some record_limit) old row new
+
+abbrev pub MeetsEnd : Script → Script → Type 0
+MeetsEnd old new = MeetsEndIn (Some record_limit) old new
+
+abbrev pub RefusesRow : Script → FeedWord → Script → Type 0
+RefusesRow old word new = RefusesRowIn (Some record_limit) old word new
+
+abbrev pub FaultStep : FeedWord → Script → Script → Type 0
+FaultStep word old new = FaultStepIn (Some record_limit) word old new
+
 abbrev pub NextStep : Script → Result (Option Command) FeedFault → Script → Type 0
-NextStep old (Ok (Some command)) new = (row : Row) × (item_of row ≡ Ok command) × TakesRow old row new
-NextStep old (Ok None) new = MeetsEnd old new ⊎ ((old.phase ≡ Ended) × (new ≡ old))
-NextStep old (Err fault) new = (fault.at ≡ old.given + 1) × FaultStep fault.word old new
+NextStep old result new = NextStepIn (Some record_limit) old result new

@@ -82,7 +82,7 @@ impl FeedWord {
 #[derive(Clone, Copy, Debug, PartialEq, Eq, Error)]
 #[error("record {at}: {word}")]
 pub struct FeedFault {
-    /// From 1 to 1,000,001.
+    /// From 1: a `Feed` counts to 1,000,001, an `EndlessFeed` to 2^64 - 1, which each later record has too.
     pub at: u64,
     pub word: FeedWord,
 }

@@ -1,15 +1,10 @@
 // A feed of commands from a reader.
 
-ghost use Rattle.std.specs.Prelude.{◌≡◌, ◌+◌, ◌<◌, option_map, true, false, IfOk, IfSome, None};
-ghost use Rattle.csv.specs.Reading.{error_kind};
+ghost use Rattle.std.specs.Prelude.{◌≡◌, ◌+◌, option_map, false, IfOk, IfSome, None};
 ghost use Rattle.feed_csv.specs.Commands.{HasValidOp};
-ghost use Rattle.feed_csv.specs.Commands.{fault_word};
+ghost use Rattle.feed_csv.specs.declared.phase.Phase.{Phase};
 
-use crate::phase::Phase;
-use crate::row::next_row;
-use crate::rules::command_of;
-use crate::{Command, FeedFault, FeedWord};
-use csv::{ByteRecord, Error, ErrorKind, Reader, ReaderBuilder};
+use crate::{Command, EndlessFeed, FeedFault, FeedWord};
 use std::alloc::Global;
 use std::io::Read;
 use std::marker::Model;
@@ -23,13 +18,7 @@ const RECORD_LIMIT: u64 = 1_000_000;
 /// it told then, which the feed keeps.
 #[derive(Drop)]
 pub struct Feed<R: Read> {
-    alloc: Global,
-    reader: Reader<R>,
-    row: ByteRecord,
-    phase: Phase,
-    given: u64,
-    // What csv's reader told where it failed.
-    fault: Option<Error>,
+    records: EndlessFeed<R>,
 }
 
 impl<R: Read> Model for Feed<R> {
@@ -37,21 +26,12 @@ impl<R: Read> Model for Feed<R> {
 
     ghost Value = { Script };
 
-    ghost use Rattle.std.specs.Prelude.{◌≡◌, ◌≤◌};
-    ghost use Rattle.std.specs.Prelude.{option_map};
-    ghost use Rattle.csv.specs.Reading.{error_kind, has_failed};
-    ghost use Rattle.feed_csv.specs.Records.{IsPlain, record_limit, rows_left};
-    ghost use Rattle.feed_csv.specs.declared.phase.Phase.TheVariants.{Reading};
+    ghost use Rattle.std.specs.Prelude.{◌≤◌};
+    ghost use Rattle.feed_csv.specs.Records.{record_limit};
 
-    ghost view = { λ f. record {
-      phase = f.phase;
-      given = f.given;
-      failed = has_failed f.reader;
-      fault = option_map error_kind f.fault;
-      left = rows_left R.remaining f.reader;
-    } };
+    ghost view = { λ f. f.records };
 
-    ghost invariant = { λ f. (f.given ≤ record_limit) × (f.phase ≡ Reading → IsPlain f.reader) };
+    ghost invariant = { λ f. f.records.given ≤ record_limit };
 }
 
 impl<R: Read> Feed<R> {
@@ -68,17 +48,8 @@ impl<R: Read> Feed<R> {
           left = option_map records_of (R.remaining reader);
         } }
     {
-        let reader = ReaderBuilder::new()
-            .has_headers(false)
-            .flexible(true)
-            .from_reader(alloc, reader);
         Feed {
-            alloc,
-            reader,
-            row: ByteRecord::new(alloc),
-            phase: Phase::Reading,
-            given: 0,
-            fault: None,
+            records: EndlessFeed::over(alloc, reader),
         }
     }
 
@@ -97,80 +68,10 @@ impl<R: Read> Feed<R> {
         ensures stopped { self.old.phase ≡ Phase.Stopped
             → result ≡ Err (record { at = self.old.given + 1; word = FeedWord.Read }) }
     {
-        match self.phase {
-            Phase::Reading if self.given < RECORD_LIMIT => self.take(),
-            Phase::Ended => Ok(None),
-            _ => Err(self.stop(FeedWord::Read)),
+        if self.records.reads_behind(RECORD_LIMIT) {
+            Err(self.records.stop(FeedWord::Read))
+        } else {
+            self.records.next()
         }
-    }
-
-    // Nothing more is given.
-    fn stop(&mut self, word: FeedWord) -> FeedFault
-        ensures fault { result ≡ record { at = self.old.given + 1; word = word } }
-        ensures stopped { self.new ≡ record self.old { phase = Phase.Stopped } }
-    {
-        self.phase = Phase::Stopped;
-        FeedFault {
-            at: self.given + 1,
-            word,
-        }
-    }
-
-    // The record that was read is no command: it counts, and the feed goes on behind it.
-    fn refuse(&mut self, word: FeedWord) -> FeedFault
-        requires room { self.old.given < record_limit }
-        ensures fault { result ≡ record { at = self.old.given + 1; word = word } }
-        ensures counted { self.new ≡ record self.old { given = self.old.given + 1 } }
-    {
-        self.given += 1;
-        FeedFault {
-            at: self.given,
-            word,
-        }
-    }
-
-    // Reads a record.
-    #[tactic(auto, using(crate::proofs::Refusals::refused_step))]
-    fn take(&mut self) -> Result<Option<Command>, FeedFault>
-        requires reading { self.old.phase ≡ Phase.Reading }
-        requires room { self.old.given < record_limit }
-        ensures { NextStep self.old result self.new }
-    {
-        match next_row(&mut self.reader, &mut self.row) {
-            Ok(true) => {}
-            Ok(false) => {
-                self.phase = Phase::Ended;
-                return Ok(None);
-            }
-            Err(error) => {
-                let word = word_of(&error);
-                self.phase = Phase::Stopped;
-                self.fault = Some(error);
-                return Err(FeedFault {
-                    at: self.given + 1,
-                    word,
-                });
-            }
-        }
-        match command_of(self.alloc, &self.row) {
-            Ok(command) => {
-                self.given += 1;
-                Ok(Some(command))
-            }
-            Err(word) => match word {
-                FeedWord::Memory => Err(self.stop(FeedWord::Memory)),
-                _ => Err(self.refuse(word)),
-            },
-        }
-    }
-}
-
-// The word for a fault of `csv`.
-fn word_of(error: &Error) -> FeedWord
-    ensures { result ≡ fault_word (error_kind error.now) }
-{
-    match error.kind() {
-        ErrorKind::OutOfMemory => FeedWord::Memory,
-        _ => FeedWord::Read,
     }
 }

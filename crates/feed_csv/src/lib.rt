@@ -3,6 +3,7 @@
 #![tactic(auto)]
 
 mod command;
+mod endless;
 mod feed;
 mod fields;
 mod number;
@@ -11,4 +12,5 @@ mod row;
 mod rules;
 
 pub use command::{Command, FeedFault, FeedWord};
+pub use endless::EndlessFeed;
 pub use feed::Feed;

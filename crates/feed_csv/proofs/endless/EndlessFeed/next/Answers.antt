@@ -1,6 +1,6 @@
 use Rattle.std.proofs.Common.{rules}
 use Rattle.feed_csv.proofs.Refusals.{step_valid}
-use Rattle.feed_csv.proofs.feed.Feed.next.Goals as goal
+use Rattle.feed_csv.proofs.endless.EndlessFeed.next.Goals as goal
 
 pub take-requires : goal.take-requires
 take-requires c = search rules

@@ -1,5 +1,5 @@
 use Rattle.std.proofs.Common.{rules}
-use Rattle.feed_csv.proofs.feed.Feed.over.Goals as goal
+use Rattle.feed_csv.proofs.endless.EndlessFeed.over.Goals as goal
 
 pub returns : goal.returns
 returns c = search rules

@@ -1,5 +1,5 @@
 use Rattle.std.proofs.Common.{rules}
-use Rattle.feed_csv.proofs.feed.Feed.refuse.Goals as goal
+use Rattle.feed_csv.proofs.endless.EndlessFeed.refuse.Goals as goal
 
 -- Its search is long where it fails.
 pub returns-clause-fault : goal.returns-clause-fault
