@@ -50,14 +50,20 @@ class Answers:
         call = asked.get("call") if isinstance(asked, dict) else None
         if self._board.is_busy or call not in OF_FEW and call not in TABLES:
             return None
-        with self._board.lent(name) as session:
-            if call == "out_of":
-                return wire.few(session.held, asked, FEW_OUT)
-            if call == "found":
-                ends = asked.get("ends")
-                is_short = isinstance(ends, list) and len(ends) <= FEW
-                return b"".join(wire.asked(session.held, call, asked, self._named)) if is_short else None
-            return _told_of(session).get(call) if wire.is_of_all(asked) else None
+        loan = self._board.lend(name)
+        try:
+            return self._little(loan[0].session, call, asked)
+        finally:
+            self._board.take_back(*loan)
+
+    @staticmethod
+    def _little(session: "Session[Any, Any]", call: Any, asked: Mapping[str, Any]) -> Optional[bytes]:
+        if call == "found":
+            ends = asked.get("ends")
+            return wire.found(session.held, ends) if isinstance(ends, list) and len(ends) <= FEW else None
+        if call == "out_of":
+            return wire.few(session.held, asked, FEW_OUT)
+        return _told_of(session).get(call) if wire.is_of_all(asked) else None
 
 
 def _told_of(session: "Session[Any, Any]") -> Dict[str, bytes]:
