@@ -1,4 +1,4 @@
-"""Little questions of clients in Python, answered as their bytes arrive: uvicorn reads all else, and makes a task of each request.
+"""Little questions of clients in Python, answered as their bytes arrive. uvicorn reads all else, and makes a task of each.
 
 A request is answered here if it came whole and has the one form in which `Talk` writes it; any other form, and what is no little
 question or has a fault, goes to uvicorn as if nobody had looked at it.
@@ -64,7 +64,7 @@ class Desk:
         if found is None or self._gate.refused(*found) is not None:
             return None
         asked = ASKED.fullmatch(found[0])
-        return asked and asked[1]
+        return None if asked is None else str(asked[1])
 
     def told(self, session: str, body: bytes) -> Optional[bytes]:
         """The answer, where the question is a little one that has no fault."""
@@ -102,6 +102,7 @@ def _made(base: Any, desk: Desk) -> type:
         head, session = b"", None
         dated: Any = None
         begin = b""
+        timeout_keep_alive_task: Any = None
 
         def data_received(self, data: bytes) -> None:
             told = self._told(data) if self._is_free() else None
