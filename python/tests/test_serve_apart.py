@@ -2,6 +2,7 @@
 import os
 import pathlib
 import random
+import re
 import signal
 import subprocess
 import sys
@@ -167,26 +168,85 @@ class Apart(ServeCase):
         self.assertEqual((children(os.getpid()), self.feed()["rows"]), ([], 3))
         as_soon_as(lambda: open_count(os.getpid()) <= before)
 
+    def told_in(self, told):
+        """What was said on standard error."""
+        return "".join(it.args[0] for it in told.write.call_args_list)
+
     def test_the_reader_is_killed(self):
-        """What the server says is in is in, once; it goes on, and is told of no more rows than came whole."""
+        """Another one reads on: each row of the file is in, once, also those that come later."""
         chance = random.Random(7)
-        for turn in range(4):
-            path = self.file(f"feed{turn}.csv", "".join(f"s{it % 11},t{it % 13},1,{it}\n" for it in range(300_000)))
+        for turn in range(2):
+            path = self.file(f"feed{turn}.csv", "".join(f"s{it % 11},t{it % 13},1,{it}\n" for it in range(200_000)))
             self.serve()
             with mock.patch("sys.stderr") as told:
                 reading = self.follow(path)
-                count = chance.randrange(1, 100_000)
-                as_soon_as(lambda: self.server.feeding.rate.total >= count)
+                for killed in range(1, 4):
+                    count = chance.randrange(1, 40_000) + self.server.feeding.rate.total
+                    as_soon_as(lambda: self.server.feeding.rate.total >= count)
+                    os.kill(reading.process.pid, signal.SIGKILL)
+                    as_soon_as(lambda: reading.killed == killed)
+                as_soon_as(lambda: self.feed()["rows"] == 200_000)
+                self.append(path, "ana,bob,5,1\n")
+                as_soon_as(lambda: self.feed()["rows"] == 200_001)
+            said = re.findall(r"was ended by signal 9; (\d+) rows to line (\d+) are in, and another one reads on",
+                              self.told_in(told))
+            self.assertEqual([rows == line for rows, line in said], [True] * 3)
+            self.assertTrue(all(0 < int(rows) < 200_000 for rows, _ in said))
+            self.assertEqual(sum(row[3] for row in self.rows_of("/v1/edges")), 200_005)
+            self.assertEqual((self.feed()["state"], self.feed()["readers_killed"]), ("followed", 3))
+            self.assertEqual(len(children(os.getpid())), turn + 1)
+
+    def killed_at(self, text, more, **options):
+        """The edges where a reader is killed once it read a text, and what comes is read by another one; and what was said."""
+        path = self.file("feed.csv", text)
+        server = self.serve(**options.pop("store", {}))
+        with mock.patch("sys.stderr") as told:
+            reading = self.follow(path, **options)
+            as_soon_as(lambda: reading.place.read == os.path.getsize(path))
+            os.kill(reading.process.pid, signal.SIGKILL)
+            self.append(path, more)
+            as_soon_as(lambda: reading.place.read == os.path.getsize(path) or server.feeding.state != "followed")
+        return self.told_in(told)
+
+    def test_one_reads_on_amid_a_row(self):
+        """The header, the sign between fields, rows of several lines and a half line are read as by the one before."""
+        how = {"columns": Columns("from", "to", weight="sum", time="when"), "names": "escape"}
+        self.killed_at('from;when;to;sum\n"a\nb";1;c;5\na;2;"b', '\nc";7\nx;3;y;1\n', **how)
+        self.assertEqual(sorted(row[1:] for row in self.rows_of("/v1/edges")),
+                         [("a", "b%0Ac", 7, 2, 2), ("a%0Ab", "c", 5, 1, 1), ("x", "y", 1, 3, 3)])
+
+    def test_one_reads_on_with_the_newest_time(self):
+        """What is older than is kept goes out, though the newest row was read by the one before."""
+        self.killed_at("a,b,1,1000\n", "c,d,1,500\n", keep=9)
+        self.assertEqual([row[1] for row in self.rows_of("/v1/edges")], ["a"])
+
+    def test_a_file_that_was_cut_isnt_read_on(self):
+        path = self.file("feed.csv", "a,b,1,1\nc,d,1,2\n")
+        server = self.serve()
+        with mock.patch("sys.stderr") as told:
+            reading = self.follow(path)
+            as_soon_as(lambda: reading.place.rows == 2)
+            os.kill(reading.process.pid, signal.SIGSTOP)
+            os.truncate(path, 8)
+            os.kill(reading.process.pid, signal.SIGKILL)
+            as_soon_as(lambda: server.feeding.state == "failed")
+        self.assertIn("was cut to 8 bytes, and 16 were read of it", self.told_in(told))
+
+    def test_some_that_are_killed_in_vain(self):
+        """After three of which nothing went in the feed ends; the server goes on."""
+        path = self.file("feed.csv", "ana,bob,5,1\n")
+        self.serve()
+        with mock.patch("sys.stderr") as told:
+            reading = self.follow(path)
+            as_soon_as(lambda: self.feed()["rows"] == 1)
+            for killed in range(4):
+                as_soon_as(lambda: reading.killed == killed)
                 os.kill(reading.process.pid, signal.SIGKILL)
-                as_soon_as(lambda: self.feed()["state"] == "failed")
-            rows = self.feed()["rows"]
-            self.assertEqual(self.feed()["error"], "ReaderEnded")
-            self.assertTrue(count <= rows < 300_000)
-            self.assertEqual(sum(row[3] for row in self.rows_of("/v1/edges")), rows)
-            self.assertIn(f"was ended by signal 9; {rows} rows to line {rows} are in", "".join(
-                it.args[0] for it in told.write.call_args_list))
-            self.assertEqual(self.post("/v1/rows", {"rows": FEED}).status, 200)
-            self.assertIsNone(parent_of(reading.process.pid))
+            as_soon_as(lambda: self.feed()["state"] == "failed")
+        self.assertEqual((self.feed()["error"], self.feed()["rows"], self.feed()["readers_killed"]), ("ReaderEnded", 1, 3))
+        self.assertIn("was ended by signal 9; 1 rows to line 1 are in, and what is behind them is not", self.told_in(told))
+        self.assertEqual(self.post("/v1/rows", {"rows": FEED}).status, 200)
+        self.assertIsNone(parent_of(reading.process.pid))
 
     def test_the_server_is_killed(self):
         """The process that reads ends with it, whether it waits for rows or has more than the server takes."""
@@ -238,17 +298,19 @@ class Apart(ServeCase):
         self.assertIn("ended with status 3; 0 rows to line 0 are in", "".join(it.args[0] for it in told.write.call_args_list))
 
     def test_a_pipe(self):
-        """Its writer is told where the reader is gone, as where nobody reads it."""
+        """What was read of it is lost with its reader, so the feed ends. Its writer is told, as where nobody reads it."""
         self.serve()
         code = "import time\nwhile True: print('a,b,1,1', flush=True); time.sleep(.01)"
         with subprocess.Popen([sys.executable, "-c", code], stdout=subprocess.PIPE, stderr=subprocess.DEVNULL) as writer:
-            with mock.patch("sys.stderr"):
+            with mock.patch("sys.stderr") as told:
                 reading = self.follow(writer.stdout)
                 writer.stdout.close()
                 as_soon_as(lambda: self.feed()["rows"] > 3)
                 os.kill(reading.process.pid, signal.SIGKILL)
                 as_soon_as(lambda: self.feed()["state"] == "failed")
             self.assertEqual(writer.wait(60), 1)
+        rows = self.feed()["rows"]
+        self.assertIn(f"{rows} rows to line {rows} are in, and what it had read behind them is lost", self.told_in(told))
 
 
 if __name__ == "__main__":

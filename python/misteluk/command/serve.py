@@ -3,6 +3,7 @@ from __future__ import annotations
 
 import argparse
 import contextlib
+import gc
 import signal
 import sys
 from typing import Any, Dict, Optional, Tuple
@@ -64,6 +65,9 @@ def serve(words: argparse.Namespace, how: Dict[str, Any]) -> int:
         server = Server(store, words.listen, token=token, limits=limits, keeper=keeper, began=began)
         before, sys_turn = signal.getsignal(signal.SIGINT), sys.getswitchinterval()
         sys.setswitchinterval(TURN)
+        # (what is here by now stays to the end: a look through all of it for cycles would stop every question)
+        gc.collect()
+        gc.freeze()
         try:
             follow(server, words, how)
             tell(server, words, token)
@@ -71,6 +75,7 @@ def serve(words: argparse.Namespace, how: Dict[str, Any]) -> int:
         except KeyboardInterrupt:  # (how a server ends)
             pass
         finally:
+            gc.unfreeze()
             sys.setswitchinterval(sys_turn)
             signal.signal(signal.SIGINT, before)
     print(f"misteluk: ended at version {server.board.stat.version}, of {server.board.stat.edges} edges", file=sys.stderr)

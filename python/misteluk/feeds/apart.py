@@ -13,7 +13,7 @@ from types import TracebackType
 from typing import Any, Iterator, NamedTuple, Optional, Type
 
 from . import parcels
-from .following import Following
+from .following import Following, Place
 from .parcels import Parcel
 from .reader import Wanted
 from ..engine.conversation import how_ended
@@ -23,8 +23,8 @@ from ..values.answers import Commit
 
 # How many bytes of batches may wait, which is some batches of the largest; and the call that says so, by its number in Linux.
 WAITING, SET_PIPE_SIZE = 1 << 20, 1031
-# For how many seconds a process may be silent that is to stop.
-PATIENCE = 30.0
+# For how many seconds a process may be silent that is to stop, and how many may be killed without a batch of theirs going in.
+PATIENCE, TRIES = 30.0, 3
 _CODE = "import sys; said, out, *sys.path = sys.argv[1:]; from misteluk.feeds.reader import main; main(int(said), int(out))"
 
 
@@ -47,62 +47,100 @@ class Applied(NamedTuple):
 class Apart(Iterator[Applied]):
     """A feed that is followed as `Store.follow` says, but read by a process of its own. Each step is a batch that was applied.
 
-    Where that process is killed the steps end by a `ReadFault`, which says how far they got; a batch that didn't come whole isn't
-    in. Where this one is killed that one ends."""
+    Where that process is killed, a batch that didn't come whole isn't in. Of a file another process then reads what is behind the
+    rows that are in; this says so. The steps end by a `ReadFault`, which says how far they got, where the feed is none, so that
+    what was read of it is lost, or where some were killed in turn and nothing went in. Where this process is killed that one
+    ends."""
 
     def __init__(self, following: Following) -> None:
         self.store, self.name, self._terms = following.store, following.name, following.terms
-        self.ended_half = False
-        self.rows = self.line = 0
-        descriptor = following.descriptor
-        self._out, theirs = os.pipe()
-        said, self._say = os.pipe()
-        try:
-            _widen(self._out)
-            words = [sys.executable, "-c", _CODE, str(said), str(theirs), *(it for it in sys.path if isinstance(it, str))]
-            self.process = subprocess.Popen(words, stdin=None if descriptor == 0 else subprocess.DEVNULL,
-                                            stdout=subprocess.DEVNULL, pass_fds=(said, theirs, descriptor),
-                                            start_new_session=True)
-        except BaseException:
-            os.close(self._out)
-            os.close(self._say)
-            raise
-        finally:
-            os.close(said)
-            os.close(theirs)
-            wanted = Wanted(self.name, descriptor, following.recipe, following.terms.units)
-            following.close()
+        self._recipe, self._begin, self._file = following.recipe, following.begin, os.dup(following.descriptor)
+        self._is_input = following.descriptor == 0
+        following.close()
+        self.ended_half = self._is_stopped = False
+        self.place, self.killed, self._in_vain = Place(), 0, 0
         self._lock, self._is_over = threading.Lock(), threading.Event()
         # Since when a batch is waited for; nothing while one is applied.
         self._since: Optional[float] = None
-        self._tell(pickle.dumps(wanted))
+        self._out = self._say = -1
+        try:
+            self._start()
+        except BaseException:
+            self._give_back()
+            os.close(self._file)
+            raise
+        if self._begin is None:  # (a pipe's writer is told where nobody reads it any more)
+            os.close(self._file)
+            self._file = -1
+
+    def _start(self) -> None:
+        """Begins a process that reads on from the place."""
+        self._out, theirs = os.pipe()
+        said, self._say = os.pipe()
+        descriptor = 0 if self._is_input else self._file
+        try:
+            _widen(self._out)
+            words = [sys.executable, "-c", _CODE, str(said), str(theirs), *(it for it in sys.path if isinstance(it, str))]
+            self.process = subprocess.Popen(words, stdin=None if self._is_input else subprocess.DEVNULL,
+                                            stdout=subprocess.DEVNULL, pass_fds=(said, theirs, descriptor),
+                                            start_new_session=True)
+        finally:
+            os.close(said)
+            os.close(theirs)
+        self._tell(pickle.dumps(Wanted(self.name, descriptor, self._recipe, self._terms.units, self.place)))
+
+    def _give_back(self) -> None:
+        """Closes its ends of the pipes."""
+        ends, self._say, self._out = (self._say, self._out), -1, -1
+        for it in ends:
+            if it >= 0:
+                os.close(it)
 
     def _tell(self, data: bytes) -> None:
-        with self._lock:
-            if self._say >= 0:
-                try:
-                    os.write(self._say, data)
-                except BrokenPipeError:  # (it has ended, which the next step finds)
-                    pass
+        if self._say >= 0:
+            try:
+                os.write(self._say, data)
+            except BrokenPipeError:  # (it has ended, which the next step finds)
+                pass
 
     def __next__(self) -> Applied:
-        self._since = time.monotonic()
-        parcel = parcels.received(self._out)
-        self._since = None
-        if parcel is None:
-            raise ReadFault("ReaderEnded", f"the process that reads {self.name} {how_ended(self.process.wait())}; {self.told}, "
-                                           "and what it had read behind them is not")
+        parcel = self._received()
+        while parcel is None:
+            self._start_again()
+            parcel = self._received()
         head = parcel.head
         if "text" in head:
             raise ReadFault(head["word"], head["text"])
-        if "rows" not in head:
+        if "place" not in head:
             self.ended_half = head["is_half"]
             raise StopIteration
         return self._applied(parcel)
 
+    def _received(self) -> Optional[Parcel]:
+        self._since = time.monotonic()
+        parcel = parcels.received(self._out)
+        self._since = None
+        return parcel
+
+    def _start_again(self) -> None:
+        """Has another process read on where one was killed. Raises `ReadFault` where that isn't to be."""
+        status = self.process.wait()
+        ended = f"the process that reads {self.name} {how_ended(status)}; {self.told}"
+        with self._lock:
+            if self._begin is None:
+                raise ReadFault("ReaderEnded", f"{ended}, and what it had read behind them is lost")
+            if status >= 0 or self._is_stopped or self._in_vain == TRIES:
+                raise ReadFault("ReaderEnded", f"{ended}, and what is behind them is not")
+            self._give_back()
+            os.lseek(self._file, self._begin, os.SEEK_SET)
+            self._start()
+            self.killed, self._in_vain = self.killed + 1, self._in_vain + 1
+        print(f"misteluk: {ended}, and another one reads on", file=sys.stderr)
+
     def _applied(self, parcel: Parcel) -> Applied:
         """Applies a batch."""
         head, ledger = parcel.head, self.store.ledger
+        place = Place(*head["place"])
         kind_text, kind_ends, text, ends, codes, kinds, sources, targets, weights, times = parcel.columns
         for name, told in head["texts"].items():
             if self._terms.names.to_program(told) != name:
@@ -112,19 +150,21 @@ class Apart(Iterator[Applied]):
         try:
             commit = ledger.apply(Operations(columns=numbered), True, (self._terms, head["kinds"]))
         except StoreError as fault:
-            rows = f"{head['rows'] - self.rows} rows, lines {head['first']} to {head['line']}, aren't"
+            rows = f"{place.rows - self.place.rows} rows, lines {head['first']} to {place.line}, aren't"
             raise ReadFault(getattr(fault, "word", "") or type(fault).__name__, f"{fault}; {self.told}, and {rows}") from fault
-        self.rows, self.line = head["rows"], head["line"]
-        return Applied(commit, self.rows, self.line)
+        self.place, self._in_vain = place, 0
+        return Applied(commit, place.rows, place.line)
 
     @property
     def told(self) -> str:
         """How far it is."""
-        return f"{self.rows} rows to line {self.line} are in"
+        return f"{self.place.rows} rows to line {self.place.line} are in"
 
     def stop(self) -> None:
         """Has what was read go in, and then ends the steps. Any thread may call it."""
-        self._tell(b"!")
+        with self._lock:
+            self._is_stopped = True
+            self._tell(b"!")
         threading.Thread(target=self._watch, daemon=True).start()
 
     def _watch(self) -> None:
@@ -140,10 +180,10 @@ class Apart(Iterator[Applied]):
         """Ends the process, and waits for that."""
         self._is_over.set()
         with self._lock:
-            ends, self._say, self._out = (self._say, self._out), -1, -1
-        for it in ends:
-            if it >= 0:
-                os.close(it)
+            self._give_back()
+            file, self._file = self._file, -1
+        if file >= 0:
+            os.close(file)
         try:
             self.process.wait(PATIENCE)
         except subprocess.TimeoutExpired:

@@ -116,6 +116,16 @@ class Recipe(NamedTuple):
     pace: Pace
 
 
+class Place(NamedTuple):
+    """How far a feed is in: how many rows, to which line, their newest time in the program's times, and how many bytes of the
+    file were read by then."""
+
+    rows: int = 0
+    line: int = 0
+    newest: int = -1
+    read: int = 0
+
+
 class Following(Iterator[Followed]):
     """A feed that is followed: each step is a commit. See `Store.follow`, which makes it.
 
@@ -145,6 +155,21 @@ class Following(Iterator[Followed]):
     def descriptor(self) -> int:
         """The descriptor of what is read."""
         return self._source.descriptor
+
+    @property
+    def begin(self) -> Optional[int]:
+        """Where the reading of a file began, in bytes; `None` of what can't be read again."""
+        return self._source.begin
+
+    @property
+    def place(self) -> Place:
+        """How far it is in."""
+        return Place(self._in, self._line, self._newest, self._source.place)
+
+    def go_on(self, place: Place) -> None:
+        """Passes over what is in to a place, before the first step. The file is read from where the reading began."""
+        self._in, self._line, self._newest, self._source.least = place
+        self._incoming.rows.passed = place.line
 
     @property
     def terms(self) -> Terms:

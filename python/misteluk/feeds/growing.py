@@ -47,6 +47,9 @@ class Growing:
         self._is_file = stat.S_ISREG(os.fstat(self._file).st_mode)
         self._is_followed = self._is_file and known != 0 and not until_end
         self._is_dry = False
+        # Where the reading of a file begins, and how long it is at least where some of it was read before.
+        self.begin = os.lseek(self._file, 0, os.SEEK_CUR) if self._is_file else None
+        self.least = 0
         decoder = codecs.getincrementaldecoder(codec)(errors="surrogateescape")
         self._decoder = io.IncrementalNewlineDecoder(decoder, translate=False)
         self.half = ""
@@ -59,6 +62,11 @@ class Growing:
     def descriptor(self) -> int:
         """The descriptor of what is read."""
         return self._file
+
+    @property
+    def place(self) -> int:
+        """How far a file was read, in bytes; 0 of anything else."""
+        return os.lseek(self._file, 0, os.SEEK_CUR) if self._is_file else 0
 
     @property
     def cord(self) -> int:
@@ -126,7 +134,7 @@ class Growing:
         return any(it & select.POLLIN for _, it in poll.poll(0))
 
     def _must_be_whole(self) -> None:
-        at, size = os.lseek(self._file, 0, os.SEEK_CUR), os.fstat(self._file).st_size
+        at, size = max(self.place, self.least), os.fstat(self._file).st_size
         if size < at:
             raise FeedFault(f"{self.name} was cut to {size} bytes, and {at} were read of it: what it has now isn't known")
 
@@ -144,10 +152,16 @@ class Growing:
 
 
 class Rows:
-    """The rows of a feed's lines, as they come."""
+    """The rows of a feed's lines, as they come. Those to the line `passed` are in from before, and so passed over."""
 
-    line = 0
+    line = passed = 0
     kept: Sequence[str] = ()
+
+    def _behind(self, lines: List[str]) -> List[str]:
+        """The lines behind those that are passed over."""
+        count = min(max(self.passed - self.line, 0), len(lines))
+        self.line += count
+        return lines[count:]
 
     def take(self, lines: Sequence[str], is_end: bool) -> List[Block]:
         """The rows that are whole with these lines; at the end the last one is."""
@@ -171,6 +185,7 @@ class DelimitedRows(Rows):
             return []
         if self.picked is None:
             lines = self._begin(lines, is_end)
+        lines = self._behind(lines) if self.picked else []
         if self.picked is None or not lines:
             return []
         even = even_columns("".join(lines), self.sign or "")
@@ -195,6 +210,7 @@ class DelimitedRows(Rows):
         if self.is_named and not names:
             raise FeedFault(f"{self.feed}: columns are named, and there is no header: name them by number (from 1)")
         self.picked = Picked(self.feed, self.columns, names)
+        self.picked.is_first = self.passed <= self.line
         return lines[self.line:]
 
 
@@ -206,6 +222,7 @@ class SnapRows(Rows):
         self.wanted = snap_fields(third)
 
     def take(self, lines: Sequence[str], is_end: bool) -> List[Block]:
+        lines = self._behind(list(lines))
         rows = list(snap_rows(self.feed, enumerate(lines, self.line + 1), self.kind, self.third, self.wanted))
         self.line += len(lines)
         return [Block(*zip(*rows))] if rows else []

@@ -15,7 +15,7 @@ from itertools import islice
 from typing import Any, Dict, List, NamedTuple, Tuple
 
 from . import parcels
-from .following import Followed, Following, Recipe, following_of
+from .following import Following, Place, Recipe, following_of
 from ..engine.operations import Operations, Row
 from ..errors import StoreError
 from ..values.answers import Commit
@@ -27,12 +27,13 @@ NOTHING = Commit(0, 0, 0, 0, 0, 0, 0, 0)
 
 
 class Wanted(NamedTuple):
-    """What is to be read, by its name and descriptor, and how."""
+    """What is to be read, by its name and descriptor, and how; and how much of it is in by now."""
 
     name: str
     descriptor: int
     recipe: Recipe
     units: Units
+    place: Place
 
     def fileno(self) -> int:
         return self.descriptor
@@ -62,13 +63,14 @@ class Outbox:
         self._batch, self.rows = Operations(self.rows), []
         return NOTHING, (NOTHING,)
 
-    def send(self, step: Followed, first: int) -> None:
-        """Sends the batch of a step, whose first row is that of a line, with the kinds and texts of ids that are new."""
+    def send(self, place: Place, first: int) -> None:
+        """Sends a batch with which so much is in, whose first row is that of a line, with the kinds and texts of ids that are
+        new."""
         kinds = list(islice(self.kinds, self._kinds_sent, None))
         texts = self._names.since(self._texts_sent)
         self._kinds_sent, self._texts_sent = self._kinds_sent + len(kinds), self._texts_sent + len(texts)
         of = self._batch.columns
-        head = {"rows": step.rows, "first": first, "line": step.line, "kinds": kinds, "texts": texts}
+        head = {"place": place, "first": first, "kinds": kinds, "texts": texts}
         parcels.send(self._descriptor, parcels.packed(head, [*of.of_kinds.encoded, *of.of_names.encoded, *of[:6]]))
 
     def end(self, **how: Any) -> None:
@@ -78,10 +80,10 @@ class Outbox:
 
 def read(following: Following, outbox: Outbox) -> None:
     """Sends what a feed has, to its end or until it is stopped, and what ended it."""
-    first = 1
+    first = following.place.line + 1
     try:
         for step in following:
-            outbox.send(step, first)
+            outbox.send(following.place, first)
             first = step.line + 1
     except BrokenPipeError:  # (nobody wants it any more)
         raise
@@ -116,6 +118,7 @@ def main(said: int, descriptor: int) -> None:
         names = NameTable()
         outbox: Any = Outbox(descriptor, names)
         following = following_of(outbox, wanted, wanted.recipe, Terms(names, wanted.units), False)
+        following.go_on(wanted.place)
         # (by a thread that no signal interrupts, whose steps take less time)
         threading.Thread(target=run, args=(following, outbox), daemon=True).start()
         while file.read(1):

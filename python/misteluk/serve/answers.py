@@ -4,6 +4,7 @@ from __future__ import annotations
 import io
 import re
 import socket
+from functools import lru_cache
 from http.client import HTTPResponse, RemoteDisconnected
 from typing import Any, Dict, NamedTuple, Optional
 
@@ -20,6 +21,14 @@ class Answer(NamedTuple):
     headers: Dict[str, str]
     body: bytes
     is_last: bool
+
+
+class Head(NamedTuple):
+    """The head of a response: its status, its headers by small names, and how long its body is."""
+
+    status: int
+    headers: Dict[str, str]
+    length: int
 
 
 class Begun(io.RawIOBase):
@@ -60,16 +69,9 @@ def _may_go_on(data: bytes) -> bool:
 def _whole(link: socket.socket, data: bytes) -> Optional[Answer]:
     """A response that tells its length. `None` where it may be of another form; then nothing was taken."""
     head, mark, rest = data.partition(b"\r\n\r\n")
-    first, *lines = head.split(b"\r\n")
-    status = _STATUS.fullmatch(first)
-    headers = {name.decode("latin-1").lower(): value.strip().decode("latin-1")
-               for name, _, value in (it.partition(b":") for it in lines)}
-    length = headers.get("content-length", "")
-    if (not mark or status is None or int(status[1]) in _NO_BODY or len(headers) < len(lines) or not length.isdigit()
-            or not length.isascii() or "transfer-encoding" in headers):
-        return None
-    left = int(length) - len(rest)
-    if left < 0:
+    found = _plain(head) if mark and len(head) <= MOST_HEAD else None
+    left = -1 if found is None else found.length - len(rest)
+    if found is None or left < 0:
         return None
     parts = [rest]
     while left:
@@ -78,7 +80,21 @@ def _whole(link: socket.socket, data: bytes) -> Optional[Answer]:
             raise RemoteDisconnected("it ended the connection amid a response")
         parts.append(more)
         left -= len(more)
-    return Answer(int(status[1]), headers, b"".join(parts), headers.get("connection", "").lower() == "close")
+    return Answer(found.status, found.headers, b"".join(parts), found.headers.get("connection", "").lower() == "close")
+
+
+@lru_cache(128)
+def _plain(head: bytes) -> Optional[Head]:
+    """A head of a response that tells its length; `None` for one of another form. (Most come again and again.)"""
+    first, *lines = head.split(b"\r\n")
+    status = _STATUS.fullmatch(first)
+    headers = {name.decode("latin-1").lower(): value.strip().decode("latin-1")
+               for name, _, value in (it.partition(b":") for it in lines)}
+    length = headers.get("content-length", "")
+    if (status is None or int(status[1]) in _NO_BODY or len(headers) < len(lines) or not length.isdigit()
+            or not length.isascii() or "transfer-encoding" in headers):
+        return None
+    return Head(int(status[1]), headers, int(length))
 
 
 def _any(link: socket.socket, data: bytes, method: str) -> Answer:

@@ -3,7 +3,7 @@ from __future__ import annotations
 
 import json
 import re
-from typing import Any, Callable, Dict, Iterator, Mapping, Optional
+from typing import Any, Callable, Dict, Iterator, Mapping, Optional, Set
 
 from starlette.requests import Request
 from starlette.responses import Response
@@ -21,6 +21,8 @@ from ..values.names import NameTable
 # How many edges are a few that are asked for by their names, or that go out of a vertex; and what asks for these.
 FEW, FEW_OUT = 64, 4_096
 OF_FEW = ("found", "out_of")
+# How many vertices are remembered that have more.
+MOST_HUBS = 10_000
 # The tables of all edges that are kept as they were told, since each client asks for them, and how many bytes one has at most.
 TABLES, MOST_KEPT = ("degrees", "labels", "cores"), 1 << 20
 # Where it is asked.
@@ -33,6 +35,8 @@ class Answers:
 
     def __init__(self, board: Board, names: NameTable) -> None:
         self._board, self._named = board, wire.Named(names)
+        # Vertices that had too many edges to be answered here: the library counts them all before it says so.
+        self._hubs: Set[str] = set()
 
     def parts(self, name: str, asked: Mapping[str, Any]) -> Iterator[bytes]:
         """What a client's version answers, part by part."""
@@ -50,14 +54,28 @@ class Answers:
         call = asked.get("call") if isinstance(asked, dict) else None
         if self._board.is_busy or call not in OF_FEW and call not in TABLES:
             return None
-        with self._board.lent(name) as session:
-            if call == "out_of":
-                return wire.few(session.held, asked, FEW_OUT)
-            if call == "found":
-                ends = asked.get("ends")
-                is_short = isinstance(ends, list) and len(ends) <= FEW
-                return b"".join(wire.asked(session.held, call, asked, self._named)) if is_short else None
-            return _told_of(session).get(call) if wire.is_of_all(asked) else None
+        loan = self._board.lend(name)
+        try:
+            return self._little(loan[0].session, call, asked)
+        finally:
+            self._board.take_back(*loan)
+
+    def _little(self, session: "Session[Any, Any]", call: Any, asked: Mapping[str, Any]) -> Optional[bytes]:
+        if call == "found":
+            ends = asked.get("ends")
+            return wire.found(session.held, ends) if isinstance(ends, list) and len(ends) <= FEW else None
+        if call == "out_of":
+            return self._few(session, asked)
+        return _told_of(session).get(call) if wire.is_of_all(asked) else None
+
+    def _few(self, session: "Session[Any, Any]", asked: Mapping[str, Any]) -> Optional[bytes]:
+        name = asked.get("name")
+        if isinstance(name, str) and name in self._hubs:
+            return None
+        told = wire.few(session.held, asked, FEW_OUT)
+        if told is None and len(self._hubs) < MOST_HUBS:
+            self._hubs.add(str(name))
+        return told
 
 
 def _told_of(session: "Session[Any, Any]") -> Dict[str, bytes]:

@@ -7,7 +7,7 @@ import threading
 import time
 from collections import deque
 from contextlib import contextmanager
-from typing import Any, Callable, Deque, Dict, Iterator, List, NamedTuple, Optional
+from typing import Any, Callable, Deque, Dict, Iterator, List, NamedTuple, Optional, Tuple
 
 from .limits import Limits
 from ..errors import NoSeat, SessionClosed, StoreError
@@ -198,20 +198,28 @@ class Board:
     def lent(self, name: Optional[str] = None, version: Optional[int] = None) -> "Iterator[Session[Any, Any]]":
         """The session of a client, or that of a version, or of the last one, for as long as a question takes. What it lets go
         others close: the next commit, or `sweep`."""
+        loan = self.lend(name, version)
+        try:
+            yield loan[0].session
+        finally:
+            self.take_back(*loan)
+
+    def lend(self, name: Optional[str] = None, version: Optional[int] = None) -> "Tuple[Shared, Optional[Lease]]":
+        """The same until `take_back`."""
         with self._lock:
             lease = None if name is None else self._known(name)
             shared = self._find(version) if lease is None else lease.shared
             shared.asked += 1
             if lease is not None:
                 lease.asked += 1
-        try:
-            yield shared.session
-        finally:
-            with self._lock:
-                shared.asked -= 1
-                if lease is not None:
-                    lease.asked, lease.heard = lease.asked - 1, self._clock()
-                self._drop(shared)
+            return shared, lease
+
+    def take_back(self, shared: Shared, lease: Optional[Lease]) -> None:
+        with self._lock:
+            shared.asked -= 1
+            if lease is not None:
+                lease.asked, lease.heard = lease.asked - 1, self._clock()
+            self._drop(shared)
 
     # What is told.
 

@@ -28,6 +28,7 @@ class ServedVersion:
         self.slot, self.number, self.count = slot, int(told["version"]), int(told["vertices"])
         self.name, self._engine = str(told["session"]), engine
         self.is_held = True
+        self.path = f"/v1/sessions/{part(self.name)}"
         self._lists: Dict[str, List[str]] = {}
 
     @property
@@ -42,7 +43,7 @@ class ServedVersion:
         if not self.is_open:
             raise SessionClosed(f"the session of version {self.number} is closed")
         try:
-            return self._engine.talk.call("POST", f"/v1/sessions/{part(self.name)}/ask", {"call": call, **given}).body
+            return self._engine.talk.call("POST", f"{self.path}/ask", {"call": call, **given}).body
         except SessionClosed as fault:
             self.is_held = False
             raise SessionClosed(f"the server let version {self.number} go: {fault}. Open another session") from None
@@ -236,7 +237,7 @@ class ServedEngine:
             del self._held[version.slot]
         if version.is_held and not self.is_closed:
             version.is_held = False
-            self._left(f"/v1/sessions/{part(version.name)}")
+            self._left(version.path)
 
     def _left(self, path: str) -> None:
         """Gives back what the server has for this client; one that doesn't answer lets it go by itself."""

@@ -227,9 +227,11 @@ class Feeding:
         state = self.state
         if self._feeder is not None and self._feeder.heard > self._clock() - self.limits.idle and not self._is_followed:
             state = "a client feeds"
-        is_half = self._following is not None and self._following.ended_half
+        following = self._following
+        is_half, killed = (False, 0) if following is None else (following.ended_half, following.killed)
         return {"state": state, "rows": self.rate.total, "rows_a_second": round(self.rate.a_second(), 1),
-                **({"half_line": True} if is_half else {}), **({"error": self.fault} if self.fault else {})}
+                **({"half_line": True} if is_half else {}), **({"readers_killed": killed} if killed else {}),
+                **({"error": self.fault} if self.fault else {})}
 
     def close(self) -> None:
         """Ends the feed that is followed: what was read goes in."""

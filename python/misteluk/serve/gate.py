@@ -5,7 +5,7 @@ import hmac
 import sys
 import traceback
 from functools import lru_cache
-from typing import Any, Awaitable, Callable, Dict, NamedTuple, Optional
+from typing import Any, Awaitable, Callable, Dict, Iterable, NamedTuple, Optional, Tuple
 from urllib.parse import urlsplit
 
 from starlette.responses import Response
@@ -42,7 +42,7 @@ class Gate:
 
     def __init__(self, app: App, token: Optional[str], is_local: bool, run: Run) -> None:
         self._app, self._token, self._is_local, self._run = app, token, is_local, run
-        self._headers = [*HEADERS, (OF_RUN, run.name.encode("ascii"))]
+        self.headers = [*HEADERS, (OF_RUN, run.name.encode("ascii"))]
 
     async def __call__(self, scope: Any, receive: Receive, send: Send) -> None:
         if scope["type"] == "websocket":
@@ -57,9 +57,9 @@ class Gate:
             nonlocal has_begun
             if message["type"] == "http.response.start":
                 has_begun = True
-                message = {**message, "headers": [*message.get("headers", []), *self._headers]}
+                message = {**message, "headers": [*message.get("headers", []), *self.headers]}
             await send(message)
-        refused = self._refused(scope)
+        refused = self.refused(scope["path"], scope["headers"])
         if refused is not None:
             await refused(scope, receive, send_on)
             return
@@ -75,10 +75,10 @@ class Gate:
             told = wire.fault("Fault", "the server has a fault, and its log tells which")
             await as_json(told, 500)(scope, receive, send_on)
 
-    def _refused(self, scope: Any) -> Optional[Response]:
-        """What is told where a request isn't let in."""
-        headers = {name: value.decode("latin-1") for name, value in scope["headers"] if name in LOOKED_AT}
-        refused, known = self._stranger(scope["path"], headers), headers.get(OF_RUN)
+    def refused(self, path: str, given: Iterable[Tuple[bytes, bytes]]) -> Optional[Response]:
+        """What is told where a request for a path, with these headers, isn't let in."""
+        headers = {name: value.decode("latin-1") for name, value in given if name in LOOKED_AT}
+        refused, known = self._stranger(path, headers), headers.get(OF_RUN)
         if refused is None and known and known != self._run.name:
             return as_json(wire.fault("SessionClosed", f"this server began anew, {self._run.began}"), 410)
         return refused
@@ -116,5 +116,3 @@ def _cut(send: Send) -> None:
     transport = getattr(getattr(send, "__self__", None), "transport", None)
     if transport is not None:
         transport.abort()
-
-

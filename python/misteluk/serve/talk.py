@@ -121,12 +121,11 @@ class Talk:
     def _request(self, method: str, path: str, body: Optional[Mapping[str, Any]]) -> bytes:
         """A request, in one piece, so that the server wakes once for it."""
         given = b"" if body is None else json.dumps(body).encode("ascii")
-        lines = [f"{method} {path} HTTP/1.1", self._headers, f"Content-Length: {len(given)}"]
-        if self.run:
-            lines.append(f"{RUN}: {self.run}")
-        if body is not None:
-            lines.append(f"Content-Type: {JSON}")
-        return "\r\n".join([*lines, "\r\n"]).encode("latin-1") + given
+        run = f"\r\n{RUN}: {self.run}" if self.run else ""
+        media = "" if body is None else f"\r\nContent-Type: {JSON}"
+        # (the length is last: `direct` knows a head that comes again)
+        head = f"{method} {path} HTTP/1.1\r\n{self._headers}{run}{media}\r\nContent-Length: {len(given)}\r\n\r\n"
+        return head.encode("latin-1") + given
 
     def call(self, method: str, path: str, body: Optional[Mapping[str, Any]] = None) -> Told:
         """What a request gives; a fault that the server tells is raised."""

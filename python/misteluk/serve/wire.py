@@ -58,7 +58,7 @@ def _least_first(column: "array[int]") -> "array[int]":
 def loaded(data: bytes) -> Any:
     """What an answer of JSON has. Raises `Misread` where it is none."""
     try:
-        return json.loads(data)
+        return json.loads(data.decode("utf-8"))
     except ValueError:
         raise Misread("the server's answer is no JSON") from None
 
@@ -70,15 +70,21 @@ def asked(held: Held, call: str, given: Mapping[str, Any], named: "Named") -> It
     if call in ("names", "kinds"):
         return iter([named.told(held.names() if call == "names" else held.kinds())])
     if call == "found":
-        ends = [(_text(kind), _text(source), _text(target)) for kind, source, target in given.get("ends", ())]
-        return iter([_json([it.word if isinstance(it, Denied) else it for it in held.found(ends)])])
+        return iter([found(held, given.get("ends", ()))])
     if call not in CALLS:
         raise ValueError(f"a version isn't asked for {call!r}")
     scope = _scope(given)
-    found: Any = getattr(held, call)(scope, *([_text(given.get("name"))] if CALLS[call] else []))
+    told: Any = getattr(held, call)(scope, *([_text(given.get("name"))] if CALLS[call] else []))
     if call == "levels":
-        found = array("I", found[0]), found[1]
-    return packed([found] if isinstance(found, array) else found)
+        told = array("I", told[0]), told[1]
+    return packed([told] if isinstance(told, array) else told)
+
+
+def found(held: Held, ends: Sequence[Sequence[object]]) -> bytes:
+    """The edges with these ends: what each has, `null`, or the word of what the version lacks."""
+    marks = held.found([(_text(kind), _text(source), _text(target)) for kind, source, target in ends])
+    told = ["null" if it is None else f'"{it.word}"' if isinstance(it, Denied) else "[%d, %d, %d]" % it for it in marks]
+    return f"[{', '.join(told)}]".encode("ascii")
 
 
 def few(held: Any, given: Mapping[str, Any], most: int) -> Optional[bytes]:
@@ -117,23 +123,30 @@ def _time(value: object) -> int:
 
 
 class Named:
-    """How names are told, with the texts of those that are ids. What was told of many last is kept: versions that follow one
-    another mostly have the same."""
+    """How names are told, with the texts of those that are ids. What was told of many last is kept, since versions that follow
+    one another mostly have the same, or some more."""
 
     def __init__(self, table: NameTable) -> None:
         self._table = table
-        self._last: Tuple[Sequence[str], bytes] = (), b""
+        # Names of which none is an id, and how they were told.
+        self._last: Tuple[Sequence[str], str] = (), ""
 
     def told(self, names: Sequence[str]) -> bytes:
         last, told = self._last
-        if names and last == names:
-            return told
-        ids = [it for it in names if it.startswith(MARK)]
-        texts = {it: text for it, text in zip(ids, map(self._table.to_user, ids)) if text != it}
-        found = _json({"names": names, "texts": texts})
-        if not ids and len(names) > len(last) // 2:  # (what an id stands for may be known later)
-            self._last = names, found
-        return found
+        known = len(last)
+        if not known or len(names) < known or names[:known] != last:
+            known, told = 0, ""
+        more = names[known:]
+        ids = [it for it in more if it.startswith(MARK)]
+        if ids:
+            texts = {it: text for it, text in zip(ids, map(self._table.to_user, ids)) if text != it}
+            return _json({"names": names, "texts": texts})
+        if more:
+            added = json.dumps(more)[1:-1]
+            told = f"{told}, {added}" if known else added
+            if len(names) > len(last) // 2:  # (what an id stands for may be known later)
+                self._last = names, told
+        return f'{{"names": [{told}], "texts": {{}}}}'.encode("ascii")
 
 
 def taken(told: Dict[str, Any], table: NameTable) -> List[str]:

@@ -1,0 +1,147 @@
+"""Little questions of clients in Python, answered as their bytes arrive. uvicorn reads all else, and makes a task of each.
+
+A request is answered here if it came whole and has the one form in which `Talk` writes it; any other form, and what is no little
+question or has a fault, goes to uvicorn as if nobody had looked at it.
+"""
+from __future__ import annotations
+
+import json
+import re
+from typing import Any, Callable, Dict, List, NamedTuple, Optional, Tuple
+
+from . import wire
+from .asking import ASKED, Answers
+from .gate import Gate
+from .limits import Limits
+
+# A head but for its length, which is its last line: where it is asked, and headers by names that are known.
+_FIRST = re.compile(rb"POST (/v1/sessions/[A-Za-z0-9_-]+/ask) HTTP/1\.1")
+_HEADER = re.compile(rb"([A-Za-z-]+): ([!-~]+(?: [!-~]+)*)")
+_KNOWN = frozenset([b"host", b"accept-encoding", b"authorization", b"misteluk-server", b"content-type"])
+LENGTH, END = b"\r\nContent-Length: ", b"\r\n\r\n"
+_read = json.JSONDecoder().raw_decode
+# What is used of uvicorn's protocol.
+_USED = ("data_received", "on_message_begin", "on_message_complete", "connection_made", "timeout_keep_alive_handler")
+
+
+class Request(NamedTuple):
+    """A request that came whole: its head but for its length, and its body."""
+
+    head: bytes
+    body: bytes
+
+
+def whole(data: bytes) -> Optional[Request]:
+    """The one request that these bytes are; `None` where they are none, or more, or of another form."""
+    head, mark, body = data.partition(END)
+    first, length_mark, length = head.rpartition(LENGTH)
+    if not mark or not length_mark or not length.isdigit() or length != b"%d" % len(body):
+        return None
+    return Request(first, body)
+
+
+def headers_of(head: bytes) -> "Optional[Tuple[str, List[Tuple[bytes, bytes]]]]":
+    """The path and headers of a head, as ASGI has them; `None` where it is of another form."""
+    first, *lines = head.split(b"\r\n")
+    asked, found = _FIRST.fullmatch(first), list(map(_HEADER.fullmatch, lines))
+    if asked is None or None in found:
+        return None
+    headers = [(it[1].lower(), it[2]) for it in found if it is not None]
+    names = {name for name, _ in headers}
+    return (asked[1].decode("ascii"), headers) if len(names) == len(headers) and names <= _KNOWN else None
+
+
+class Desk:
+    """What little questions are answered by. The gate looks at each head; one that it let in it lets in each time."""
+
+    def __init__(self, gate: Gate, answers: Answers, limits: Limits) -> None:
+        self._gate, self._answers, self._most = gate, answers, limits.body
+        self._headers = [*gate.headers, (b"content-type", wire.COLUMNS.encode("ascii"))]
+
+    def session_of(self, head: bytes) -> Optional[str]:
+        """The session that a request with this head asks, where it is let in."""
+        found = headers_of(head)
+        if found is None or self._gate.refused(*found) is not None:
+            return None
+        asked = ASKED.fullmatch(found[0])
+        return None if asked is None else str(asked[1])
+
+    def told(self, session: str, body: bytes) -> Optional[bytes]:
+        """The answer, where the question is a little one that has no fault."""
+        if len(body) > self._most:
+            return None
+        try:
+            text = body.decode("ascii")
+            asked, end = _read(text)
+            return self._answers.at_once(session, asked) if end == len(text) else None
+        except Exception:  # (uvicorn's way tells it)
+            return None
+
+    def head(self, more: "List[Tuple[bytes, bytes]]") -> bytes:
+        """The head of each answer, with more headers, to its length."""
+        lines = [b"%s: %s\r\n" % it for it in (*more, *self._headers)]
+        return b"".join([b"HTTP/1.1 200 OK\r\n", *lines, b"content-length: "])
+
+
+def protocol(desk: Desk) -> "type | str":
+    """What uvicorn makes for each connection: its own protocol, by its name, where httptools isn't there."""
+    try:
+        from uvicorn.protocols.http.httptools_impl import HttpToolsProtocol
+    except ImportError:
+        return "auto"
+    if not all(hasattr(HttpToolsProtocol, it) for it in _USED):
+        return "auto"
+    return _made(HttpToolsProtocol, desk)
+
+
+def _made(base: Any, desk: Desk) -> type:
+    class Direct(base):  # type: ignore[misc]
+        """uvicorn's protocol, that answers little questions at once between other requests."""
+
+        is_amid, heard = False, 0.0
+        head, session = b"", None
+        dated: Any = None
+        begin = b""
+        timeout_keep_alive_task: Any = None
+
+        def data_received(self, data: bytes) -> None:
+            told = self._told(data) if self._is_free() else None
+            if told is None:
+                super().data_received(data)
+                return
+            self.heard = self.loop.time()
+            if self.timeout_keep_alive_task is None:
+                self.timeout_keep_alive_task = self.loop.call_later(self.timeout_keep_alive, self.timeout_keep_alive_handler)
+            if self.dated is not self.default_headers:
+                self.dated, self.begin = self.default_headers, desk.head(self.default_headers)
+            self.transport.writelines([b"%s%d\r\n\r\n" % (self.begin, len(told)), told])
+
+        def _is_free(self) -> bool:
+            """Whether no other request is under way here, and one may be answered."""
+            cycle, most = self.cycle, self.limit_concurrency
+            return not (self.is_amid or cycle is not None and not cycle.response_complete or self.flow.write_paused
+                        or self.transport.is_closing() or most is not None and len(self.connections) >= most)
+
+        def _told(self, data: bytes) -> Optional[bytes]:
+            request = whole(data)
+            if request is None:
+                return None
+            if request.head != self.head:
+                self.head, self.session = request.head, desk.session_of(request.head)
+            return None if self.session is None else desk.told(self.session, request.body)
+
+        def on_message_begin(self) -> None:
+            self.is_amid = True
+            super().on_message_begin()
+
+        def on_message_complete(self) -> None:
+            self.is_amid = False
+            super().on_message_complete()
+
+        def timeout_keep_alive_handler(self) -> None:
+            left = self.heard + self.timeout_keep_alive - self.loop.time()
+            if left <= 0:
+                super().timeout_keep_alive_handler()
+            elif not self.transport.is_closing():
+                self.timeout_keep_alive_task = self.loop.call_later(left, self.timeout_keep_alive_handler)
+    return Direct
