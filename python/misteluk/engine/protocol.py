@@ -6,6 +6,7 @@ to version within an opening.
 """
 from __future__ import annotations
 
+import sys
 from array import array
 from collections import Counter
 from itertools import accumulate
@@ -120,8 +121,9 @@ class Arrays(NamedTuple):
         return order, ends
 
     def by_source(self, count: int) -> "Optional[array[int]]":
-        """Where the edges of each source begin, which stand source by source, of so many; `None` where a search is quicker."""
-        numpy = numpy_for(self.size, A_FEW)
+        """Where the edges of each source begin, which stand source by source, of so many; `None` where numpy isn't loaded, for
+        which this alone would be no reason: a search takes a microsecond."""
+        numpy = numpy_for(self.size, A_FEW) if "numpy" in sys.modules else None
         return None if numpy is None else _begins(numpy, numpy.asarray(self.sources), count)
 
 
