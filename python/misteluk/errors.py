@@ -50,6 +50,9 @@ class Refused(StoreError):
     advice = ""
     applied: "Optional[Commit]" = None
 
+    def __init_subclass__(cls) -> None:
+        cls.word = cls.__name__
+
     def __init__(self, text: str = "", *, record: Optional[int] = None, place: Optional[Place] = None,
                  fault: Optional[Fault] = None, word: Optional[str] = None, advice: Optional[str] = None) -> None:
         self.record, self.place, self.fault = record, place, fault
@@ -71,74 +74,63 @@ class Refused(StoreError):
 
 
 class BadCommand(Refused):
-    word = "BadCommand"
+    """No command has this name."""
 
 
 class BadFields(Refused):
-    word = "BadFields"
+    """A command has another number of fields."""
 
 
 class BadName(Refused):
-    word = "BadName"
+    """A name or kind is none: see `misteluk.names`."""
 
 
 class BadWeight(Refused):
-    word = "BadWeight"
+    """A weight is no whole number, or outside its limits."""
 
 
 class BadTime(Refused):
-    word = "BadTime"
     advice = "Dates are taken by a store with times='iso' (--times iso)"
 
 
 class BadSlot(Refused):
-    word = "BadSlot"
     advice = "Ask for more seats when the store is made (seats=, 16 at most)"
 
 
 class NotOpen(Refused):
-    word = "NotOpen"
     advice = "Open a session first"
 
 
 class AlreadyOpen(Refused):
-    word = "AlreadyOpen"
     advice = "Close the session in that slot, or take another slot"
 
 
 class BadWindow(Refused):
-    word = "BadWindow"
     advice = "A window begins no later than it ends"
 
 
 class NoKind(Refused, LookupError):
-    word = "NoKind"
     advice = "The version that the session holds has no edge of this kind, and never had; a later one may"
 
 
 class NoVertex(Refused, LookupError):
-    word = "NoVertex"
     advice = "The version that the session holds has no such name; a later one may"
 
 
 class BatchFull(Refused):
-    word = "BatchFull"
     advice = "A batch has at most 4,096 operations: commit in between"
 
 
 class BatchLimit(Refused):
-    word = "BatchLimit"
     advice = ("A program takes at most 65,536 batches: make them larger, or begin it anew from a session (Store.rebase), or take "
               "a store in this process (engine='library')")
 
 
 class NamesFull(Refused):
-    word = "NamesFull"
     advice = "A program's graph has at most 65,536 names, those of removed edges too: a store in this process takes more"
 
 
 class KindsFull(Refused):
-    word = "KindsFull"
     advice = "A graph has at most 64 kinds, those of removed edges too"
 
 
@@ -146,7 +138,6 @@ class PoolEmpty(Refused):
     """A batch needs as many free blocks as it has operations, and with an expiry as many more as are used. `needed` and `free`
     say how many those are."""
 
-    word = "PoolEmpty"
     advice = "Collect, close a session that holds an old version, make batches smaller, or give the store more blocks"
 
     def __init__(self, *, needed: int, free: Optional[int], record: Optional[int] = None, place: Optional[Place] = None,
@@ -157,10 +148,7 @@ class PoolEmpty(Refused):
         super().__init__(text or f"the batch needs {needed} free blocks{left}", record=record, place=place)
 
 
-_KNOWN: Tuple[Type[Refused], ...] = (
-    BadCommand, BadFields, BadName, BadWeight, BadTime, BadSlot, NotOpen, AlreadyOpen, BadWindow, NoKind, NoVertex, BatchFull,
-    BatchLimit, NamesFull, KindsFull, PoolEmpty)
-WORDS: Dict[str, Type[Refused]] = {it.word: it for it in _KNOWN}
+WORDS: Dict[str, Type[Refused]] = {it.word: it for it in Refused.__subclasses__()}
 
 
 def refusal(word: str, text: str = "", *, record: Optional[int] = None, place: Optional[Place] = None,

@@ -27,6 +27,8 @@ if TYPE_CHECKING:
 
 R = TypeVar("R")
 RAISE: Any = object()
+# The last time that there is: a window that ends there has no end.
+LAST = records.MOST_TIME
 # An edge with its ends, as a user names them.
 Ends = Tuple[str, str, str]
 
@@ -74,10 +76,10 @@ class Session(Generic[W, T]):
     def _scope(self, call: str, kind: Optional[str], since: Moment, until: Moment, *names: str) -> "Tuple[Scope, Called]":
         """Which edges count, and the call as it was made. Raises where a name is none, the kind none, or the window no window."""
         self.must_be_open()
-        if since == 0 and until == records.MOST_TIME and self._terms.knows(names if kind is None else (*names, kind)):
+        if since == 0 and until == LAST and self._terms.knows(names if kind is None else (*names, kind)):
             return (WHOLE, Called(call, names)) if kind is None else (Scope(kind), Called(call, names, {"kind": kind}))
         must_be_texts((*names, kind or records.ANY))
-        said = (("kind", kind, None), ("since", since, 0), ("until", until, records.MOST_TIME))
+        said = (("kind", kind, None), ("since", since, 0), ("until", until, LAST))
         told = Called(call, names, {name: it for name, it, usual in said if str(it) != str(usual)})
         terms = self._terms
         fields = ["bfs" if names else "deg", str(self.slot), *names[:1], kind or records.ANY, str(since), str(until)]
@@ -109,8 +111,7 @@ class Session(Generic[W, T]):
 
     # Tables.
 
-    def levels(self, source: str, kind: Optional[str] = None, since: Moment = 0,
-               until: Moment = records.MOST_TIME) -> Answer[int]:
+    def levels(self, source: str, kind: Optional[str] = None, since: Moment = 0, until: Moment = LAST) -> Answer[int]:
         """The least number of edges on a walk from the source, for each vertex that one reaches."""
         scope, asked = self._scope("levels", kind, since, until, source)
         name = self._terms.asked(source)
@@ -119,7 +120,7 @@ class Session(Generic[W, T]):
         names = names if len(reached) == len(names) else list(map(names.__getitem__, reached))
         return self._answer("level", asked, {"level": Values(levels)}, names)
 
-    def components(self, kind: Optional[str] = None, since: Moment = 0, until: Moment = records.MOST_TIME) -> Components:
+    def components(self, kind: Optional[str] = None, since: Moment = 0, until: Moment = LAST) -> Components:
         """A label for each vertex: the first of the vertices that walks join to it, direction ignored."""
         scope, asked = self._scope("components", kind, since, until)
         labels, names = self._asked(self.held.labels, asked, scope), self._all_names()
@@ -127,18 +128,18 @@ class Session(Generic[W, T]):
         found: Components = Components.of(names, columns, self.version, str(asked), "label")
         return found
 
-    def cores(self, kind: Optional[str] = None, since: Moment = 0, until: Moment = records.MOST_TIME) -> Answer[int]:
+    def cores(self, kind: Optional[str] = None, since: Moment = 0, until: Moment = LAST) -> Answer[int]:
         """Core numbers (Seidman 1983): the greatest k so that the vertex is in a set of which each has k neighbors in it."""
         scope, asked = self._scope("cores", kind, since, until)
         return self._answer("core", asked, {"core": Values(self._asked(self.held.cores, asked, scope))})
 
-    def degrees(self, kind: Optional[str] = None, since: Moment = 0, until: Moment = records.MOST_TIME) -> Answer[Degree[W]]:
+    def degrees(self, kind: Optional[str] = None, since: Moment = 0, until: Moment = LAST) -> Answer[Degree[W]]:
         """For each vertex how many edges go out and come in, and the weight that goes out."""
         scope, asked = self._scope("degrees", kind, since, until)
         found = self._asked(self.held.degrees, asked, scope)
         return self._answer("degree", asked, degrees(*found, self._terms.units.weights_told))
 
-    def weights_in(self, kind: Optional[str] = None, since: Moment = 0, until: Moment = records.MOST_TIME) -> Answer[W]:
+    def weights_in(self, kind: Optional[str] = None, since: Moment = 0, until: Moment = LAST) -> Answer[W]:
         """For each vertex the weight that comes in."""
         scope, asked = self._scope("weights_in", kind, since, until)
         found = self._asked(self.held.edges, asked, scope)
@@ -150,7 +151,10 @@ class Session(Generic[W, T]):
     def edge(self, kind: str, source: str, target: str) -> Optional[Edge[W, T]]:
         """One edge, or `None`. Raises `NoKind` or `NoVertex` for names that the version doesn't have."""
         ends = kind, source, target
-        marks = self._asked(self.held.edge, Called("edge", ends), self._ends(ends))
+        try:  # (in few steps, as in `_beside`)
+            marks = self.held.edge(self._ends(ends))
+        except Denied as fault:
+            raise self._terms.denied(fault, str(Called("edge", ends))) from None
         return None if marks is None else self._terms.units.edge_to_user(*marks)
 
     def _ends(self, ends: Ends) -> Ends:
@@ -172,10 +176,10 @@ class Session(Generic[W, T]):
 
     @overload
     def edges(self, asked: Optional[str] = None, *, kind: Optional[str] = None, since: Moment = 0,
-              until: Moment = records.MOST_TIME) -> "Iterator[Tuple[str, str, str, Edge[W, T]]]": ...
+              until: Moment = LAST) -> "Iterator[Tuple[str, str, str, Edge[W, T]]]": ...
 
     def edges(self, asked: Any = None, *, missing: Any = RAISE, kind: Optional[str] = None, since: Moment = 0,
-              until: Moment = records.MOST_TIME) -> Any:
+              until: Moment = LAST) -> Any:
         """All edges, or those that are asked for.
 
         Without `asked`, or with a kind in its place, an iterator of (kind, source, target, `Edge`), of a kind and a window where
@@ -187,7 +191,7 @@ class Session(Generic[W, T]):
             raise ValueError(f"a kind is said once, and here are two: {asked!r} and {kind!r}")
         if asked is None or isinstance(asked, str):
             return iter(self.edges_columns(kind if asked is None else asked, since, until))
-        if kind is not None or since != 0 or until != records.MOST_TIME:
+        if kind is not None or since != 0 or until != LAST:
             raise ValueError("kind, since and until are for all edges, and not for those that are asked for one by one")
         edges = list(asked)
         for it in edges:
@@ -205,40 +209,37 @@ class Session(Generic[W, T]):
             found.append((missing if it else None) if told else self._terms.units.edge_to_user(*it))  # type: ignore[misc]
         return found
 
-    def edges_columns(self, kind: Optional[str] = None, since: Moment = 0, until: Moment = records.MOST_TIME) -> Edges:
+    def edges_columns(self, kind: Optional[str] = None, since: Moment = 0, until: Moment = LAST) -> Edges:
         """All edges as arrays with names. See `misteluk.Edges`."""
         scope, asked = self._scope("edges", kind, since, until)
         return self._edges(self._asked(self.held.edges, asked, scope))
 
-    def edges_frame(self, kind: Optional[str] = None, since: Moment = 0, until: Moment = records.MOST_TIME) -> "pandas.DataFrame":
+    def edges_frame(self, kind: Optional[str] = None, since: Moment = 0, until: Moment = LAST) -> "pandas.DataFrame":
         """All edges as a pandas frame: kind, source, target, weight, first, recent. See `misteluk.Edges.frame`."""
         return self.edges_columns(kind, since, until).frame()
 
-    def to_networkx(self, kind: Optional[str] = None, since: Moment = 0,
-                    until: Moment = records.MOST_TIME) -> "networkx.MultiDiGraph":
+    def to_networkx(self, kind: Optional[str] = None, since: Moment = 0, until: Moment = LAST) -> "networkx.MultiDiGraph":
         """All edges as a networkx graph, with every name of the version as a node, in order. An edge's key is its kind; it has
         the attributes `kind`, `weight`, `first` and `recent`."""
         return self.edges_columns(kind, since, until).to_networkx(version=self.version)
 
-    def to_igraph(self, kind: Optional[str] = None, since: Moment = 0, until: Moment = records.MOST_TIME) -> "igraph.Graph":
+    def to_igraph(self, kind: Optional[str] = None, since: Moment = 0, until: Moment = LAST) -> "igraph.Graph":
         """All edges as a directed igraph graph, whose vertices have the version's numbers, and its names as `name`. Edges have
         `kind`, `weight`, `first` and `recent`."""
         return self.edges_columns(kind, since, until).to_igraph(version=self.version)
 
-    def to_scipy(self, kind: Optional[str] = None, since: Moment = 0,
-                 until: Moment = records.MOST_TIME) -> "scipy.sparse.csr_matrix":
+    def to_scipy(self, kind: Optional[str] = None, since: Moment = 0, until: Moment = LAST) -> "scipy.sparse.csr_matrix":
         """The weights as a sparse matrix: row and column are the numbers of source and target, whose names
         `edges_columns().names` has. Of several kinds the weights are summed. Weights are in the parts that
         the store counts (`units.weight_scale`)."""
         return self.edges_columns(kind, since, until).to_scipy()
 
-    def to_csv(self, path: Path, kind: Optional[str] = None, since: Moment = 0, until: Moment = records.MOST_TIME) -> int:
+    def to_csv(self, path: Path, kind: Optional[str] = None, since: Moment = 0, until: Moment = LAST) -> int:
         """Writes all edges as CSV in UTF-8 with a header, kind, source, target, weight, first and recent, and gives how many they
         are. The file is written beside and renamed when it is whole: a fault or an interrupt leaves what was there."""
         return self.edges_columns(kind, since, until).to_csv(path)
 
-    def diff(self, later: "Session[Any, Any]", kind: Optional[str] = None, since: Moment = 0,
-             until: Moment = records.MOST_TIME) -> Diff:
+    def diff(self, later: "Session[Any, Any]", kind: Optional[str] = None, since: Moment = 0, until: Moment = LAST) -> Diff:
         """What became of this version's edges in a later one, or in another store's with the same units: which are gone, which
         are new, and which have another weight or time. See `misteluk.Diff`."""
         if later.store.units != self.store.units:
@@ -256,7 +257,7 @@ class Session(Generic[W, T]):
 
     def _beside(self, vertex: str, kind: Optional[str], since: Moment, until: Moment, is_out: bool) -> Edges:
         call = self.held.out_of if is_out else self.held.into
-        if kind is None and since == 0 and until == records.MOST_TIME and vertex in self._terms.right and self.held.is_open:
+        if kind is None and since == 0 and until == LAST and vertex in self._terms.right and self.held.is_open:
             try:  # (in few steps: they are as long as the call)
                 return self._edges(call(WHOLE, vertex))
             except Denied as fault:
@@ -264,43 +265,40 @@ class Session(Generic[W, T]):
         scope, asked = self._scope("out_of" if is_out else "into", kind, since, until, vertex)
         return self._edges(self._asked(call, asked, scope, self._terms.asked(vertex)))
 
-    def edges_out_of(self, source: str, kind: Optional[str] = None, since: Moment = 0,
-                     until: Moment = records.MOST_TIME) -> Edges:
+    def edges_out_of(self, source: str, kind: Optional[str] = None, since: Moment = 0, until: Moment = LAST) -> Edges:
         """The edges that go out of the source, each kind's apart, as arrays with names."""
         return self._beside(source, kind, since, until, True)
 
-    def edges_into(self, target: str, kind: Optional[str] = None, since: Moment = 0, until: Moment = records.MOST_TIME) -> Edges:
+    def edges_into(self, target: str, kind: Optional[str] = None, since: Moment = 0, until: Moment = LAST) -> Edges:
         """The edges that come into the target; as `edges_out_of`. The first such question puts all edges of the version in order
         of their targets, which is kept with the session."""
         return self._beside(target, kind, since, until, False)
 
-    def out_of(self, source: str, kind: Optional[str] = None, since: Moment = 0,
-               until: Moment = records.MOST_TIME) -> Dict[str, Edge[W, T]]:
+    def out_of(self, source: str, kind: Optional[str] = None, since: Moment = 0, until: Moment = LAST) -> Dict[str, Edge[W, T]]:
         """The edges that go out of the source, by target. Of several kinds to one target the weights are summed, with the least
         first time and the greatest recent one."""
         return walks.summed(self.edges_out_of(source, kind, since, until), 2)
 
-    def into(self, target: str, kind: Optional[str] = None, since: Moment = 0,
-             until: Moment = records.MOST_TIME) -> Dict[str, Edge[W, T]]:
+    def into(self, target: str, kind: Optional[str] = None, since: Moment = 0, until: Moment = LAST) -> Dict[str, Edge[W, T]]:
         """Who sends to the target: the edges that come in, by source; as `out_of`."""
         return walks.summed(self.edges_into(target, kind, since, until), 1)
 
     def neighbors(self, vertex: str, kind: Optional[str] = None, since: Moment = 0,
-                  until: Moment = records.MOST_TIME) -> Dict[str, Neighbor[W, T]]:
+                  until: Moment = LAST) -> Dict[str, Neighbor[W, T]]:
         """The vertices that an edge joins to this one, in either direction, each with the edge to it and the edge from it; as
         `out_of` and `into`."""
         out, into = self.out_of(vertex, kind, since, until), self.into(vertex, kind, since, until)
         return {it: Neighbor(out.get(it), into.get(it)) for it in {**out, **into}}
 
     @overload
-    def path(self, source: str, target: str, kind: Optional[str] = None, since: Moment = 0, until: Moment = records.MOST_TIME, *,
+    def path(self, source: str, target: str, kind: Optional[str] = None, since: Moment = 0, until: Moment = LAST, *,
              edges: "Any") -> Any: ...
 
     @overload
     def path(self, source: str, target: str, kind: Optional[str] = None, since: Moment = 0,
-             until: Moment = records.MOST_TIME) -> Optional[List[str]]: ...
+             until: Moment = LAST) -> Optional[List[str]]: ...
 
-    def path(self, source: str, target: str, kind: Optional[str] = None, since: Moment = 0, until: Moment = records.MOST_TIME, *,
+    def path(self, source: str, target: str, kind: Optional[str] = None, since: Moment = 0, until: Moment = LAST, *,
              edges: bool = False) -> Any:
         """A shortest walk from the source to the target, along edges, as the names on it with both ends; `None` where there is
         none. With `edges=True` as its edges, (kind, source, target, `Edge`) each, one of several kinds that join two names."""
@@ -314,7 +312,7 @@ class Session(Generic[W, T]):
             return walk
         return [source, *(it[2] for it in walk)]
 
-    def within(self, vertex: str, hops: int, kind: Optional[str] = None, since: Moment = 0, until: Moment = records.MOST_TIME, *,
+    def within(self, vertex: str, hops: int, kind: Optional[str] = None, since: Moment = 0, until: Moment = LAST, *,
                directed: bool = True) -> Answer[int]:
         """The vertices that are reached from this one in at most so many steps, and in how many. With `directed=False` a step
         goes along an edge either way."""

@@ -47,9 +47,13 @@ def reached(session: "Session[Any, Any]", vertex: str, hops: int, kind: Optional
 
 def summed(edges: Edges, end: int) -> Dict[str, Edge[Any, Any]]:
     """Edges by one of their ends, 1 or 2; those of several kinds are one."""
-    found: Dict[str, Edge[Any, Any]] = {}
-    for *ends, edge in edges:
-        name: Any = ends[end]
+    names = map(edges.names.__getitem__, edges.source if end == 1 else edges.target)
+    found: Dict[str, Edge[Any, Any]] = dict(zip(names, edges.edges()))
+    if len(found) == len(edges):
+        return found
+    found = {}
+    for it in edges:
+        name, edge = it[end], it[3]
         other = found.get(name)
         found[name] = edge if other is None else Edge(add(other.weight, edge.weight), min(other.first, edge.first),
                                                       max(other.recent, edge.recent))

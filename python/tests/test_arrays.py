@@ -8,7 +8,7 @@ from collections import Counter
 from itertools import accumulate, product
 from unittest import mock
 
-from support import Case, optional
+from support import ENGINE, Case, optional
 
 import misteluk
 from misteluk import Changed, Degree, Edge
@@ -129,6 +129,47 @@ class EdgesOfAVersion(Case):
         self.assertEqual(edges.top(2), [("road", "kiel", "bonn", Edge(7, 2, 2)), ("road", "ulm", "kiel", Edge(5, 1, 1))])
         self.assertEqual(edges.top(1, "recent"), [("rail", "ulm", "bonn", Edge(3, 3, 3))])
         self.assertRaises(ValueError, edges.top, 1, "first time")
+
+    def differing(self, session):
+        """Vertices of whose edges, out and in, each kind's apart, something else is told than of all edges."""
+        def of(end, name, window):
+            return Counter(it for it in session.edges(**window) if it[end] == name)
+        found = []
+        for name, window in product(session.edges_columns().names, ({}, {"kind": "k"}, {"since": 3}, {"kind": "l", "until": 5})):
+            for end, call in ((1, session.edges_out_of), (2, session.edges_into)):
+                told = list(call(name, **window))
+                kinds = [it[0] for it in told]
+                if Counter(told) != of(end, name, window) or len(set(kinds)) < sum(a != b for a, b in zip(kinds, [None, *kinds])):
+                    found.append((call.__name__, name, window))
+        return found
+
+    def test_the_edges_of_vertices(self):
+        """As they are told of a version that has told all its edges, and of one that hasn't; by numpy, where it is there, and by
+        a search. Some were removed, so that a row's places aren't in their order."""
+        made = random.Random(9)
+        rows = [f"insert {made.choice('kl')} v{made.randrange(9)} v{made.randrange(9)} {at} {at % 8}" for at in range(200)]
+        gone = [it.split()[1:4] for it in made.sample(rows, 60)]
+        for many, kinds in product((0, 1_000), ("kl", "k")):
+            store = self.store(*(it.replace(" l ", f" {kinds[-1]} ") for it in rows))
+            for kind, source, target in gone:
+                store.remove(kinds[-1] if kind == "l" else kind, source, target)
+            store.commit()
+            self.feed(store, *(f"insert {kinds[-1]} v{at} v{8 - at} 1 1" for at in range(9)), "insert l v0 v0 1 1")
+            with self.subTest(many=many, kinds=kinds), mock.patch.object(fields, "MANY", many), store.open() as session:
+                self.assertEqual(self.differing(session), [])
+                apart = {it: Counter(session.edges_out_of(it)) for it in session.edges_columns().names}
+                with store.open() as other:
+                    self.assertEqual({it: Counter(other.edges_out_of(it)) for it in apart}, apart)
+
+    @unittest.skipUnless(numpy, "numpy is not there")
+    @unittest.skipUnless(ENGINE == "library", "of the library alone")
+    def test_edges_of_a_source_that_begin_elsewhere_are_found(self):
+        rows = "insert k v1 v2 1 1", "insert k v2 v1 1 1", "insert l v1 v1 1 1"
+        with mock.patch.object(fields, "MANY", 0), self.store(*rows).open() as session:
+            self.assertEqual((self.differing(session), list(session.held._begins)), ([], [0, 2, 3]))
+            for wrong in (array("I", (0, 1, 3)), array("I", (0, 2, 2)), array("I", (1, 2, 3))):
+                with mock.patch.object(session.held, "_begins", wrong):
+                    self.assertNotEqual(self.differing(session), [])
 
     def test_windows_and_kinds(self):
         session = self.store(*ROADS).open()

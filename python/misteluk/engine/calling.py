@@ -11,7 +11,7 @@ from typing import Any, Dict, List, NamedTuple, Optional, Tuple
 from . import interface
 from .guard import Notes, Owned, Step
 from .interface import Code, Library
-from .operations import EXPIRE, REMOVE, Numbered, Operations
+from .operations import INSERT, REMOVE, Numbered, Operations
 from .protocol import A_FEW, Denied
 from ..errors import LibraryNotFound, NoMemory, StoreError
 from ..values.fields import numpy_for
@@ -121,13 +121,14 @@ def fill(library: Library, raw: interface.Batch, batch: Operations) -> None:
     if batch.size > FEW:
         _fill_at_once(library, raw, batch.columns)
         return
-    for code, kind, source, target, weight, time in batch.rows:
-        if code == EXPIRE:
+    for code, kind, source, target, weight, time in batch.rows:  # (signs of names are ASCII, so they are as many as their bytes)
+        if code < REMOVE:
+            put = library.batch_insert if code == INSERT else library.batch_add
+            done = put(raw, kind.encode(), len(kind), source.encode(), len(source), target.encode(), len(target), weight, time)
+        elif code == REMOVE:
+            done = library.batch_remove(raw, kind.encode(), len(kind), source.encode(), len(source), target.encode(), len(target))
+        else:
             done = library.batch_expire(raw, time)
-        else:  # (signs of names are ASCII, and so are as many as their bytes)
-            call: Any = (library.batch_insert, library.batch_add, library.batch_remove)[code]
-            marks = () if code == REMOVE else (weight, time)
-            done = call(raw, kind.encode(), len(kind), source.encode(), len(source), target.encode(), len(target), *marks)
         if done:
             raise refusal_of(done)
 

@@ -36,16 +36,16 @@ class Awaited:
         self.done = False
 
 
-def _widen(pipe: int) -> None:
-    """Gives a pipe room for a whole batch, where the system lets it: this side then wakes once, and not for each page that the
-    program takes out."""
+def widen(pipe: int) -> None:
+    """Gives a pipe room for a whole batch, where the system lets it: who writes then wakes once, and not for each page that the
+    other side takes out."""
     try:
         fcntl.fcntl(pipe, F_SETPIPE_SZ, MOST_WRITTEN)
     except OSError:
         pass
 
 
-def _has_more(file: int, seconds: float) -> bool:
+def has_more(file: int, seconds: float) -> bool:
     """Whether there is something to read, or the end, within so many seconds. (`select` takes no file from the 1,024th on.)"""
     poll = select.poll()
     poll.register(file, select.POLLIN)
@@ -82,7 +82,7 @@ class Conversation:
         self._in, self._out, self._err = (it.fileno() for it in (self.process.stdin, self.process.stdout, self.process.stderr))
         for it in (self._in, self._out, self._err):
             os.set_blocking(it, False)
-        _widen(self._in)
+        widen(self._in)
         self.timeout = timeout
         self.records = self.refusals = 0
         self._unsent = bytearray()
@@ -257,7 +257,7 @@ class Conversation:
 
     def _drain(self) -> None:
         """Reads what the program still said on standard error."""
-        while self._err in self._open and _has_more(self._err, 0.0) and self._read(self._err):
+        while self._err in self._open and has_more(self._err, 0.0) and self._read(self._err):
             pass
 
     def _wait(self, seconds: float) -> Optional[int]:
@@ -292,7 +292,7 @@ class Conversation:
         """Reads the lines behind the last answer: refusals of operations, and others."""
         text = self._rest
         while self._out in self._open:
-            if not _has_more(self._out, self.timeout):
+            if not has_more(self._out, self.timeout):
                 raise NoAnswer(f"the program did not end its output within {self.timeout:g} s of the end of its input")
             more = os.read(self._out, MOST_READ)
             text += more.decode("ascii", "replace")

@@ -23,7 +23,7 @@ F = TypeVar("F", bound=Callable[..., Any])
 # Sets an attribute and gives nothing: in an expression it is one line with what is given then.
 put: Any = setattr
 _RAW = attrgetter("raw")
-_process, _this_frame = os.getpid, sys._getframe
+_this_frame = sys._getframe
 
 
 class Step:
@@ -98,7 +98,7 @@ class Notes:
 
 
 # An item for each fork between the process that loaded this module and the one that runs: to count them is quicker than to ask
-# the kernel for the process, as the calls do that take longer.
+# the kernel for the process.
 FORKS: List[None] = []
 os.register_at_fork(after_in_child=functools.partial(FORKS.append, None))
 
@@ -110,16 +110,15 @@ class Guard:
     def __init__(self) -> None:
         self.lock = threading.RLock()
         self.holder: Optional[FrameType] = None
-        self.process = os.getpid()
         self.forks = len(FORKS)
 
     @property
     def is_elsewhere(self) -> bool:
         """Whether this process is a fork of the one that made this."""
-        return os.getpid() != self.process
+        return self.forks != len(FORKS)
 
     def check(self) -> None:
-        if _process() != self.process:
+        if self.forks != len(FORKS):
             raise StoreError("the store is another process's, of which this one is a fork: make a store here")
 
     def is_below(self, frame: Optional[FrameType]) -> bool:
@@ -134,13 +133,12 @@ def alone(method: F) -> F:
     @functools.wraps(method)
     def call(self: Any, *given: Any, **named: Any) -> Any:
         guard: Guard = self._guard
-        if _process() != guard.process:
+        if guard.forks != len(FORKS):
             guard.check()
         with guard.lock:
-            frame = _this_frame()
-            if guard.holder is not None and guard.is_below(frame):
+            if guard.holder is not None and guard.is_below(_this_frame()):
                 raise StoreError("a signal's handler can't call a store while it interrupts another call of it")
-            guard.holder = frame
+            guard.holder = _this_frame()
             try:
                 return method(self, *given, **named)
             finally:

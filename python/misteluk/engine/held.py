@@ -84,6 +84,7 @@ class LibraryVersion:
         self.number = self.count = 0
         self._names: Optional[List[str]] = None
         self._all: Optional[Arrays] = None
+        self._begins: "Optional[array[int]]" = None
         self._by_target: "Optional[Tuple[Sequence[int], array[int]]]" = None
         self._degrees: "Optional[Tuple[array[int], array[int], array[int]]]" = None
         # What a server keeps of answers, as it told them.
@@ -111,7 +112,7 @@ class LibraryVersion:
         self._idle.clear()
         self._rows.clear()
         self._first = Owned(interface.Version(), self._versions)
-        self._all = self._by_target = self._degrees = self._names = None
+        self._all = self._begins = self._by_target = self._degrees = self._names = None
         self.told = {}
 
     # How it is asked.
@@ -238,7 +239,7 @@ class LibraryVersion:
             return self._all if scope == WHOLE else self._all.at(places)
         found = self._read(view)
         if scope == WHOLE:
-            self._all = found
+            self._all, self._begins = found, found.by_source(self.count)
         return found
 
     def _read(self, view: interface.View) -> Arrays:
@@ -253,27 +254,35 @@ class LibraryVersion:
         return found
 
     def out_of(self, scope: Scope, name: str) -> Arrays:
-        view, source, all_ = self._view(scope), self._vertex(name), self._all
+        all_ = self._all
         if all_ is None:
-            row = self._row(view, source)
-            assert row is not None  # (there is no bound)
-            order = sorted(range(row.count.value), key=row.columns.targets.__getitem__)
-            found = self._by_kind(row.columns, order, True)
-            self._rows.append(row)
-            return found
-        begin = bisect_left(all_.sources, source)  # (they stand source by source)
-        near = min(begin + A_ROW, all_.size)  # (most rows end before this)
-        end = bisect_left(all_.sources, source + 1, begin, near)
-        places = range(begin, end if end < near else bisect_left(all_.sources, source + 1, near))
-        return self._those(all_, scope, view, sorted(places, key=all_.targets.__getitem__), True)
+            found = self.few_out_of(scope, name, None)
+            assert found is not None  # (there is no bound)
+            return self._apart(found)
+        view, source = self._view(scope), self._vertex(name)
+        begins = self._begins
+        if begins is None:  # (edges stand source by source)
+            begin = bisect_left(all_.sources, source)
+            end = bisect_left(all_.sources, source + 1, begin)
+        else:
+            begin, end = begins[source], begins[source + 1]
+        if scope is not WHOLE:
+            return self._apart(all_.at(self._counted(all_, scope, view, range(begin, end))))
+        kinds, sources, targets, weights, firsts, recents = all_
+        return self._apart(Arrays(kinds[begin:end], sources[begin:end], targets[begin:end], weights[begin:end],
+                                  firsts[begin:end], recents[begin:end]))
 
-    def few_out_of(self, scope: Scope, name: str, most: int) -> Optional[Arrays]:
-        """The same in any order, where they are so many at most, else `None`: what takes longer the caller may have done by
-        another thread."""
-        row = self._row(self._view(scope), self._vertex(name), most)
+    def few_out_of(self, scope: Scope, name: str, most: Optional[int]) -> Optional[Arrays]:
+        """The edges that go out of a vertex as its row has them, where they are so many at most, else `None`: what takes longer
+        the caller may have done by another thread."""
+        view, source = self._view(scope), self._vertex(name)
+        row = self._row(view, source, most)
         if row is None:
             return None
-        found = Arrays(*[it[:row.count.value] for it in row.columns])
+        count = row.count.value
+        kinds, _, targets, weights, firsts, recents = row.columns
+        found = Arrays(kinds[:count], array("I", (source,)) * count, targets[:count], weights[:count], firsts[:count],
+                       recents[:count])
         self._rows.append(row)
         return found
 
@@ -282,15 +291,21 @@ class LibraryVersion:
         if self._by_target is None:
             self._by_target = all_.by_target(self.count)
         order, ends = self._by_target
-        return self._those(all_, scope, view, order[ends[target]:ends[target + 1]], False)
+        places = order[ends[target]:ends[target + 1]]
+        count = len(places)
+        if scope is not WHOLE or self._kind_count > 1 or count < 2:
+            return self._apart(all_.at(self._counted(all_, scope, view, places)))
+        kinds, sources, targets, weights, firsts, recents = all_
+        pick, first = itemgetter(*places), places[0]
+        return Arrays(kinds[:count], array("I", pick(sources)), targets[first:first + 1] * count, array("q", pick(weights)),
+                      array("Q", pick(firsts)), array("Q", pick(recents)))
 
-    def _those(self, all_: Arrays, scope: Scope, view: interface.View, places: Sequence[int], is_out: bool) -> Arrays:
-        """The edges of a vertex that count, of those in some places."""
-        if scope is not WHOLE:
-            places = all_.places(None if scope.kind is None else view.kind, scope, places)
-        return self._by_kind(all_, places, is_out)
+    @staticmethod
+    def _counted(all_: Arrays, scope: Scope, view: interface.View, places: Sequence[int]) -> Sequence[int]:
+        """The places, of some, whose edges count."""
+        return places if scope is WHOLE else all_.places(None if scope.kind is None else view.kind, scope, places)
 
-    def _row(self, view: interface.View, source: int, most: Optional[int] = None) -> Optional[Row]:
+    def _row(self, view: interface.View, source: int, most: Optional[int]) -> Optional[Row]:
         """The edges that go out of a vertex, which are asked for, as they stand; `None` where they are more than so many."""
         try:
             row = self._rows.pop()
@@ -305,17 +320,11 @@ class LibraryVersion:
             code = self._ask(self._library.version_row, view, source, *row.places, row.count)
         if code:
             raise refusal_of(code)
-        count = row.count.value
-        row.columns.sources[:count] = array("I", (source,)) * count
         return row
 
-    def _by_kind(self, edges: Arrays, places: Sequence[int], is_out: bool) -> Arrays:
-        """The edges in some places, which have one source, or one target, by their kinds, and of one kind as the places stand."""
-        count = len(places)
-        if self._kind_count > 1 or count < 2:
-            return edges.at(sorted(places, key=edges.kinds.__getitem__))
-        kinds, sources, targets, weights, firsts, recents = edges
-        pick, first = itemgetter(*places), places[0]
-        return Arrays(kinds[:count], sources[first:first + 1] * count if is_out else array("I", pick(sources)),
-                      array("I", pick(targets)) if is_out else targets[first:first + 1] * count, array("q", pick(weights)),
-                      array("Q", pick(firsts)), array("Q", pick(recents)))
+    def _apart(self, found: Arrays) -> Arrays:
+        """The edges of a vertex, each kind's apart, and those of one kind as they stand."""
+        if self._kind_count < 2:
+            return found
+        kinds = found.kinds.tolist()
+        return found if kinds == sorted(kinds) else found.at(sorted(range(len(kinds)), key=kinds.__getitem__))

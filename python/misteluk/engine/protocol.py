@@ -6,6 +6,7 @@ to version within an opening.
 """
 from __future__ import annotations
 
+import sys
 from array import array
 from collections import Counter
 from itertools import accumulate
@@ -110,9 +111,7 @@ class Arrays(NamedTuple):
             order = numpy.argsort(targets.astype("uint16"), kind="stable")  # (by so many bits numpy sorts in one go)
             if count > 1 << 16:
                 order = order[numpy.argsort((targets >> 16).astype("uint16")[order], kind="stable")]
-            ends = numpy.zeros(count + 1, dtype="uint32")
-            numpy.cumsum(numpy.bincount(targets, minlength=count), out=ends[1:])
-            return array("I", order.astype("uint32").tobytes()), array("I", ends.tobytes())
+            return array("I", order.astype("uint32").tobytes()), _begins(numpy, targets, count)
         counts = Counter(self.targets)
         ends = array("I", accumulate(map(counts.__getitem__, range(count)), initial=0))
         order, free = array("I", bytes(4 * self.size)), list(ends)
@@ -120,6 +119,19 @@ class Arrays(NamedTuple):
             order[free[it]] = at
             free[it] += 1
         return order, ends
+
+    def by_source(self, count: int) -> "Optional[array[int]]":
+        """Where the edges of each source begin, which stand source by source, of so many; `None` where numpy isn't loaded, for
+        which this alone would be no reason: a search takes a microsecond."""
+        numpy = numpy_for(self.size, A_FEW) if "numpy" in sys.modules else None
+        return None if numpy is None else _begins(numpy, numpy.asarray(self.sources), count)
+
+
+def _begins(numpy: Any, numbers: Any, count: int) -> "array[int]":
+    """Where the places of each number begin, of so many, in order of the numbers; and behind them their end."""
+    begins = numpy.zeros(count + 1, dtype="uint32")
+    numpy.cumsum(numpy.bincount(numbers, minlength=count), out=begins[1:])
+    return array("I", begins.tobytes())
 
 
 class Receipt(NamedTuple):
@@ -185,10 +197,10 @@ class Held(Protocol):
         """All edges."""
 
     def out_of(self, scope: Scope, name: str) -> Arrays:
-        """The edges that go out of a vertex, in order of their kinds and targets."""
+        """The edges that go out of a vertex, each kind's apart."""
 
     def into(self, scope: Scope, name: str) -> Arrays:
-        """The edges that come into a vertex, in order of their kinds and sources."""
+        """The edges that come into a vertex, each kind's apart."""
 
     def close(self) -> None:
         """Lets the version go."""

@@ -2,7 +2,6 @@
 batch: Python runs one thread at a time, and those who ask the store have theirs."""
 from __future__ import annotations
 
-import fcntl
 import os
 import pickle
 import subprocess
@@ -16,13 +15,11 @@ from . import parcels
 from .following import Following, Place
 from .parcels import Parcel
 from .reader import Wanted
-from ..engine.conversation import how_ended
+from ..engine.conversation import how_ended, widen
 from ..engine.operations import Encoded, Numbered, Operations
 from ..errors import StoreError
 from ..values.answers import Commit
 
-# How many bytes of batches may wait, which is some batches of the largest; and the call that says so, by its number in Linux.
-WAITING, SET_PIPE_SIZE = 1 << 20, 1031
 # For how many seconds a process may be silent that is to stop, and how many may be killed without a batch of theirs going in.
 PATIENCE, TRIES = 30.0, 3
 _CODE = "import sys; said, out, *sys.path = sys.argv[1:]; from misteluk.feeds.reader import main; main(int(said), int(out))"
@@ -79,7 +76,7 @@ class Apart(Iterator[Applied]):
         said, self._say = os.pipe()
         descriptor = 0 if self._is_input else self._file
         try:
-            _widen(self._out)
+            widen(self._out)
             words = [sys.executable, "-c", _CODE, str(said), str(theirs), *(it for it in sys.path if isinstance(it, str))]
             self.process = subprocess.Popen(words, stdin=None if self._is_input else subprocess.DEVNULL,
                                             stdout=subprocess.DEVNULL, pass_fds=(said, theirs, descriptor),
@@ -196,11 +193,3 @@ class Apart(Iterator[Applied]):
     def __exit__(self, kind: Optional[Type[BaseException]], fault: Optional[BaseException],
                  trace: Optional[TracebackType]) -> None:
         self.close()
-
-
-def _widen(pipe: int) -> None:
-    """Gives a pipe more room, where the system lets it have that."""
-    try:
-        fcntl.fcntl(pipe, SET_PIPE_SIZE, WAITING)
-    except OSError:
-        pass

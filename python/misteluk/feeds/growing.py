@@ -9,6 +9,7 @@ import stat
 from typing import Iterator, List, Optional, Protocol, Sequence, Union
 
 from .delimited import Picked, even_columns, must_be_sign, whole_rows
+from ..engine.conversation import has_more
 from ..errors import FeedFault
 from .feed import STANDARD_INPUT, Block, Columns, Feed, Path, Table, codec_of, feed_name, snap_fields, snap_rows, turned
 from .notations import Notation
@@ -99,7 +100,7 @@ class Growing:
 
     def lines(self) -> List[str]:
         """The lines that are there and weren't given before, of some 64 KB at most."""
-        if self.is_at_end or not self._has_more():
+        if self.is_at_end or not (self._is_file or has_more(self._file, 0.0)):
             return []
         data = os.read(self._file, MOST_READ)
         self._is_dry = not data
@@ -114,13 +115,6 @@ class Growing:
         if len(self.half) > MOST_LINE:
             raise FeedFault(f"{self.name}: a line of more than {MOST_LINE} characters")
         return found
-
-    def _has_more(self) -> bool:
-        if self._is_file:
-            return True
-        poll = select.poll()
-        poll.register(self._file, select.POLLIN)
-        return bool(poll.poll(0))
 
     @property
     def has_unread(self) -> bool:

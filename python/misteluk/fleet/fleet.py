@@ -20,7 +20,7 @@ from ..engine.finding import find_program
 from ..engine.making import PROGRAM, VARIABLE
 from ..feeds.opening import ReadAs, reads
 from .parted import Parted, rows_in
-from .parts import Answered, FleetPart, FleetQuestion, Recipe, ask_elsewhere
+from .parts import Answered, FleetPart, FleetQuestion, FleetRecipe, ask_elsewhere
 from ..feeds.progress import Progress
 from ..values.units import Units
 
@@ -52,7 +52,7 @@ class Cluster:
     """Asks parts on the workers of a dask client. A task has its part's rows, so that it can be made again on another worker
     where its own is lost; few are sent at once, and the scheduler's memory has no more."""
 
-    def __init__(self, client: Any, parted: Parted, recipe: Recipe) -> None:
+    def __init__(self, client: Any, parted: Parted, recipe: FleetRecipe) -> None:
         self._client, self._parted, self._recipe = client, parted, recipe
         self.ahead = 4 * max(1, sum(client.ncores().values()))
 
@@ -118,7 +118,7 @@ class Fleet:
         Units(decimals=decimals).checked()
         feed = how._replace(columns=how.columns._replace(key=key)).feed(data)
         is_file = isinstance(data, (str, os.PathLike))
-        self._recipe = Recipe(feed.name, by, batch, skip_bad, how, is_file, decimals, engine, program, timeout)
+        self._recipe = FleetRecipe(feed.name, by, batch, skip_bad, how, is_file, decimals, engine, program, timeout)
         self._recipe.survey(())  # (raises where options are wrong)
         self.key = key
         self.made_again: List[str] = []

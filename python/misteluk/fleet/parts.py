@@ -99,7 +99,7 @@ class Made:
             self.store.kill()
 
 
-class Recipe(NamedTuple):
+class FleetRecipe(NamedTuple):
     """How a part's rows become a store: all that a worker elsewhere needs to know. A file's encoding and the sign before its
     decimals were read by before; they say what advice helps."""
 
@@ -139,7 +139,7 @@ class FleetPart:
     """A part, and its store where that is kept. `seats` says how many parts may be kept; `rows` gives its rows, each time that
     its store is made. It is asked by one thread at a time."""
 
-    def __init__(self, recipe: Recipe, rows: Callable[[], Iterable[Row]], seats: "threading.Semaphore") -> None:
+    def __init__(self, recipe: FleetRecipe, rows: Callable[[], Iterable[Row]], seats: "threading.Semaphore") -> None:
         self.recipe, self.rows, self._seats = recipe, rows, seats
         self._made: Optional[Made] = None
         self._lock = threading.Lock()
@@ -186,6 +186,6 @@ class FleetPart:
                 self._let_go(made, True)
 
 
-def ask_elsewhere(recipe: Recipe, pieces: Sequence[bytes], question: FleetQuestion) -> Answered:
+def ask_elsewhere(recipe: FleetRecipe, pieces: Sequence[bytes], question: FleetQuestion) -> Answered:
     """Makes a part of its pieces, asks it and lets it go: what a worker of a cluster does."""
     return FleetPart(recipe, lambda: rows_in(pieces), threading.Semaphore(0)).ask(question)
