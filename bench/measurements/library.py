@@ -1,5 +1,6 @@
 """What the store takes in a caller's process, by ctypes over libmisteluk.so, next to igraph and networkx over the same edges: a
-load from columns, tables, edges, single edges that each make a version, and tables on three threads next to one.
+load from columns, tables, edges, single edges that each make a version, and tables on three threads next to one. Two controls say
+what three threads can gain on this machine at all: hashes on threads, and the tables in three processes.
 
     python3 -m bench run library             500,000 edges between 50,000 vertices, five turns
     python3 -m bench run library 20000 3     so many edges between a tenth as many vertices, and so many turns
@@ -23,6 +24,7 @@ from bench.catalog import is_here
 from bench.measuring import Spent, in_turns, medians, stop, timed
 from bench.places import library
 from bench.stores.columns import ASKED, TABLES, Igraph, Input, Networkx, Store, Table
+from bench.stores.controls import Processes, hashes
 
 SINGLE = 20_000
 # What is measured, by the name of its call; an aim is a multiple of igraph's time.
@@ -71,6 +73,16 @@ class Turns:
                 stop(f"{self.name} has other {what}")
 
 
+def gains(edges: int, turns: int) -> Dict[str, float]:
+    """How much more three of a control do in the same time than one alone."""
+    processes = Processes(edges)
+    works = {(name, count): functools.partial(timed, functools.partial(work, count))
+             for name, work in (("hashes", hashes), ("processes", processes.make)) for count in (1, 3)}
+    spent = {key: medians([it for _, it in some]).elapsed for key, some in in_turns(works, turns).items()}
+    processes.close()
+    return {name: 3 * spent[name, 1] / spent[name, 3] for name in ("hashes", "processes")}
+
+
 def cell(times: Times, what: str) -> str:
     return f"{tables.seconds(times[what].elapsed)} ({tables.seconds(times[what].processor)})" if what in times else tables.ABSENT
 
@@ -94,8 +106,10 @@ def measure(words: argparse.Namespace, _: pathlib.Path) -> None:
     tables.show([f"{words.edges:,} edges, {given.vertices:,} vertices", *times, "the library's by igraph's", "aim"],
                 ([told, *(cell(it, what) for it in times.values()), *against_igraph(times, what, aim)]
                  for what, told, aim in ROWS))
-    ours = times["library"]
-    one, three = (ours[f"threads {it}"].elapsed for it in (1, 3))
+    ours, controls = times["library"], gains(words.edges, words.turns)
+    (one, alone), (three, each) = ((it.elapsed, it.processor) for it in (ours["threads 1"], ours["threads 3"]))
     print(f"\nload: {words.edges / ours['load'].elapsed:,.0f} edges a second (aim: 250,000)")
     print(f"core tables a second: {TABLES / one:.1f} on one thread, {3 * TABLES / three:.1f} on three, which is "
-          f"{3 * one / three:.2f} times as many (aim: 2.5 on four processors)")
+          f"{3 * one / three:.2f} times as many (aim: 2.5 on four processors)\n"
+          f"a table on three threads takes {each / alone / 3:.2f} times the processor time; three processes make "
+          f"{controls['processes']:.2f} times as many tables as one, three threads {controls['hashes']:.2f} times as many hashes")

@@ -208,6 +208,24 @@ class Rows(unittest.TestCase):
         self.assertEqual(desk.insert_columns(b"k", names[:2], [(0, 1, it, it) for it in range(12_288)])[:2], (Code.OK, 12_288))
         self.assertEqual(self.stat(desk)[:3], (2, 2, 1))
 
+    def test_a_load_collects_before_it_is_refused(self) -> None:
+        """Ten edges, each of a source of its own, in 25 blocks: each load asks for ten, and retires the ten of the one before."""
+        names, edges = [b"n%d" % it for it in range(11)], [(it, it + 1, 1, 1) for it in range(10)]
+        desk, wanted = self.open(25), (Code.OK, 10)
+        self.assertEqual(desk.insert_columns(b"k", names, edges)[:2], wanted)
+        held = desk.hold()
+        self.assertEqual(desk.insert_columns(b"k", names, edges)[:2], wanted)
+        self.assertEqual(self.stat(desk)[3:], (5, 10, 10))
+        self.assertEqual(desk.insert_columns(b"k", names, edges)[:2], (Code.BLOCKS_FULL, 0))
+        self.assertEqual(self.stat(desk), (2, 11, 10, 5, 10, 10))
+        desk.release(held)
+        self.assertEqual(desk.insert_columns(b"k", names, edges)[:2], wanted)
+        self.assertEqual(self.stat(desk), (3, 11, 10, 5, 10, 10))
+        # What a refused load collects stays collected: five are free, and with those ten too few for sixteen.
+        many = [(it % 10, 0, 1, 1) for it in range(16)]
+        self.assertEqual(desk.insert_columns(b"k", names, many)[:2], (Code.BLOCKS_FULL, 0))
+        self.assertEqual(self.stat(desk), (3, 11, 10, 15, 0, 10))
+
     def test_an_expiry(self) -> None:
         """Edges whose recent time is before it go, one of that time stays; and it asks for as many blocks as are used."""
         desk = self.open()
