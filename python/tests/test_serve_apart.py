@@ -215,6 +215,12 @@ class Apart(ServeCase):
         self.assertEqual(sorted(row[1:] for row in self.rows_of("/v1/edges")),
                          [("a", "b%0Ac", 7, 2, 2), ("a%0Ab", "c", 5, 1, 1), ("x", "y", 1, 3, 3)])
 
+    def test_one_reads_on_to_a_bad_row(self):
+        """It is told as of the feed that it is in, and not as of another form that the feed might have."""
+        told = self.killed_at("a,b,1,1\nc,d,1,2\n", "e\n")
+        self.assertEqual((self.feed()["error"], self.feed()["rows"]), ("BadRows", 2))
+        self.assertIn("feed.csv:3", told)
+
     def test_one_reads_on_with_the_newest_time(self):
         """What is older than is kept goes out, though the newest row was read by the one before."""
         self.killed_at("a,b,1,1000\n", "c,d,1,500\n", keep=9)

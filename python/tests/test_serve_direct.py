@@ -26,14 +26,14 @@ class Direct(ServeCase):
         """A server with a session, which counts what is answered directly."""
         self.fed_by(**options)
         self.told = []
-        made = direct.Desk.told
+        made = direct.Responder.told
 
-        def told(desk, session, body):
-            found = made(desk, session, body)
+        def told(responder, session, body):
+            found = made(responder, session, body)
             self.told.append(found)
             return found
-        direct.Desk.told = told
-        self.addCleanup(setattr, direct.Desk, "told", made)
+        direct.Responder.told = told
+        self.addCleanup(setattr, direct.Responder, "told", made)
 
     def fed_by(self, token=None, **options):
         self.serve(token=token, **options)
@@ -74,10 +74,10 @@ class Direct(ServeCase):
         chance, link = random.Random(5), self.link()
         bodies = [json.dumps(it).encode() for it in (
             ASKED, {"call": "out_of", "name": "ana"}, {"call": "out_of", "name": "zed"}, {"call": "out_of", "name": ["ana"]},
-            {"call": "out_of", "name": "ana", "kind": "owes", "since": 3}, {"call": "found", "ends": [["transfer", "zed", "ana"]]},
+            {"call": "out_of", "name": "ana", "kind": "owes", "since": 3}, {"call": "found", "ends": [["owes", "zed", "ana"]]},
             {"call": "found", "ends": [["owes", "ana", "ben"]] * 70}, {"call": "degrees"}, {"call": "degrees", "kind": "owes"},
             {"call": "names"}, {"call": "found", "ends": [["Иванов", "", "~~0123456789abcdefghij"]]}, {"call": None}, [], 5)]
-        bodies += [b"", b" {}", b'{"call": "cores"} ', b"\xff", b"x" * 2_000, "{\"call\": \"found\", \"ends\": [\"Ив\"]}".encode()]
+        bodies += [b"", b" {}", b'{"call": "cores"} ', b"\xff", b"x" * 2_000, '{"call": "found", "ends": ["Ив"]}'.encode()]
         for _ in range(300):
             body = bytearray(chance.choice(bodies[:9]))
             body[chance.randrange(len(body))] = chance.randrange(256)
@@ -109,7 +109,7 @@ class Direct(ServeCase):
     def test_for_this_machine_alone(self):
         self.begin()
         link = self.link()
-        for host, status in (("localhost", 200), ("evil", 403), ("127.0.0.1:7", 200), ("localhost.evil", 403), ("localhost", 200)):
+        for host, status in (("localhost", 200), ("evil", 403), ("127.0.0.1:7", 200), ("localhost.evil", 403), ("[::1]:7", 200)):
             self.assertEqual(self.asked(link, ASKED, host=host)[0], status, host)
 
     def test_amid_a_body(self):
@@ -160,7 +160,19 @@ class Direct(ServeCase):
 
 
 class Forms(unittest.TestCase):
-    """What is read directly: one form alone."""
+    """What is read directly: one form alone, and nothing over a protocol that isn't known."""
+
+    def test_another_protocol(self):
+        class Other:
+            def connection_made(self, transport):
+                self.transport, self.seen = transport, []
+
+            def data_received(self, data):
+                self.seen.append(data)
+        it = direct.made(Other, None)()
+        it.connection_made(None)
+        it.data_received(self.HEAD + b"\r\nContent-Length: 2\r\n\r\n{}")
+        self.assertEqual(len(it.seen), 1)
 
     HEAD = b"POST /v1/sessions/abc-_9/ask HTTP/1.1\r\nHost: localhost\r\nContent-Type: application/json"
 
@@ -180,8 +192,8 @@ class Forms(unittest.TestCase):
                      b"\r\nHost: localhost", b"\r\n folded", b"\r\nContent-Length: 5", b"\r\nUpgrade: x", b"\r\nX",
                      b"\r\nauthorization : x", b"\r\nAuthorization: a\nb", b"\nAuthorization: x"):
             self.assertIsNone(direct.headers_of(self.HEAD + more), more)
-        for first in (b"POST /v1/sessions/abc/ask?x=1 HTTP/1.1", b"POST /v1/sessions/a%62/ask HTTP/1.1", b"POST /v1/rows HTTP/1.1",
-                      b"GET /v1/sessions/abc/ask HTTP/1.1", b"POST /v1/sessions/abc/ask HTTP/1.0"):
+        for first in (b"POST /v1/sessions/abc/ask?x=1 HTTP/1.1", b"POST /v1/sessions/a%62/ask HTTP/1.1",
+                      b"POST /v1/rows HTTP/1.1", b"GET /v1/sessions/abc/ask HTTP/1.1", b"POST /v1/sessions/abc/ask HTTP/1.0"):
             self.assertIsNone(direct.headers_of(first + b"\r\nHost: localhost"), first)
 
 

@@ -5,14 +5,16 @@ import time
 import unittest
 from array import array
 from http.client import HTTPException, RemoteDisconnected
+from unittest import mock
 
 from serving import ServeCase
 
 from misteluk import connect
 from misteluk.engine.operations import row_of
-from misteluk.serve import answers, wire
+from misteluk.serve import answers, asking, wire
 from misteluk.serve.feeding import _seen_rows
 from misteluk.serve.limits import Limits
+from misteluk.values.names import NameTable
 
 WHOLE = b"HTTP/1.1 200 OK\r\nContent-Length: 5\r\nMisteluk-Server: x\r\n\r\nhello"
 CHUNKED = b"HTTP/1.1 200 OK\r\ntransfer-encoding: chunked\r\n\r\n5\r\nhello\r\n3\r\n!!!\r\n0\r\n\r\n"
@@ -88,6 +90,21 @@ class Rows(ServeCase):
             self.assertEqual(len(terms.names), 0)
 
 
+class Names(unittest.TestCase):
+    def test_names_that_follow_others(self):
+        """They are told whole, whatever was told before: the same, some more or fewer, others, and ids with their texts."""
+        table = NameTable()
+        known, unknown = table.to_program("Иванов Пётр"), "~~" + "A" * 20
+        self.assertTrue(known.startswith("~~"))
+        plain = [f"v{it}" for it in range(100)]
+        named = wire.Named(table)
+        for names in ([], plain[:60], plain[:60], plain, plain[:1], plain[:55], ["w0", *plain[1:]], plain, [*plain, known],
+                      [*plain, 'a"\\b'], [*plain, 'a"\\b', "c"], [*plain, unknown], plain[:70], [known], [*plain, "d"], []):
+            texts = {known: "Иванов Пётр"} if known in names else {}
+            self.assertEqual(json.loads(named.told(names)), {"names": names, "texts": texts})
+            self.assertEqual(json.loads(wire.Named(table).told(names)), {"names": names, "texts": texts})
+
+
 class Asked(ServeCase):
     def raw(self, body, *parts):
         """The response to a question whose request comes in parts."""
@@ -144,6 +161,16 @@ class Asked(ServeCase):
             link.sendall(b"POST /v1/sessions/x/ask HTTP/1.1\r\nHost: localhost\r\nContent-Length: 9\r\n\r\n")
             found = answers.read(link, "POST")
         self.assertEqual((found.status, json.loads(found.body)["error"]), (503, "TooLong"))
+
+    def test_a_hub_is_counted_once(self):
+        """Who has too many edges to be answered at once is answered by a thread from then on, as before."""
+        self.fed(*(["add", "k", "hub", f"t{it}", it, it] for it in range(50)))
+        with mock.patch.object(asking, "FEW_OUT", 40), connect(self.server.url) as session:
+            held = self.server.board._last.session.held
+            with mock.patch.object(held, "few_out_of", wraps=held.few_out_of) as counted:
+                for _ in range(3):
+                    self.assertEqual([len(session.edges_out_of(it)) for it in ("hub", "t1")], [50, 0])
+            self.assertEqual([it.args[1] for it in counted.call_args_list], ["hub", "t1", "t1", "t1"])
 
     def test_the_order_of_edges(self):
         """A client has them in order, whatever the server's order is."""

@@ -20,8 +20,9 @@ _HEADER = re.compile(rb"([A-Za-z-]+): ([!-~]+(?: [!-~]+)*)")
 _KNOWN = frozenset([b"host", b"accept-encoding", b"authorization", b"misteluk-server", b"content-type"])
 LENGTH, END = b"\r\nContent-Length: ", b"\r\n\r\n"
 _read = json.JSONDecoder().raw_decode
-# What is used of uvicorn's protocol.
-_USED = ("data_received", "on_message_begin", "on_message_complete", "connection_made", "timeout_keep_alive_handler")
+# What is used of uvicorn's protocol, as it is made: one of another version may have it under other names, and reads all then.
+_CALLS = ("data_received", "on_message_begin", "on_message_complete", "timeout_keep_alive_handler")
+_STATE = ("loop", "transport", "flow", "cycle", "connections", "limit_concurrency", "server_state", "timeout_keep_alive")
 
 
 class Request(NamedTuple):
@@ -51,7 +52,7 @@ def headers_of(head: bytes) -> "Optional[Tuple[str, List[Tuple[bytes, bytes]]]]"
     return (asked[1].decode("ascii"), headers) if len(names) == len(headers) and names <= _KNOWN else None
 
 
-class Desk:
+class Responder:
     """What little questions are answered by. The gate looks at each head; one that it let in it lets in each time."""
 
     def __init__(self, gate: Gate, answers: Answers, limits: Limits) -> None:
@@ -83,37 +84,41 @@ class Desk:
         return b"".join([b"HTTP/1.1 200 OK\r\n", *lines, b"content-length: "])
 
 
-def protocol(desk: Desk) -> "type | str":
+def protocol(responder: Responder) -> "type | str":
     """What uvicorn makes for each connection: its own protocol, by its name, where httptools isn't there."""
     try:
         from uvicorn.protocols.http.httptools_impl import HttpToolsProtocol
     except ImportError:
         return "auto"
-    if not all(hasattr(HttpToolsProtocol, it) for it in _USED):
-        return "auto"
-    return _made(HttpToolsProtocol, desk)
+    return made(HttpToolsProtocol, responder)
 
 
-def _made(base: Any, desk: Desk) -> type:
+def made(base: Any, responder: Responder) -> type:
+    """The protocol that does the rest as this one."""
     class Direct(base):  # type: ignore[misc]
         """uvicorn's protocol, that answers little questions at once between other requests."""
 
-        is_amid, heard = False, 0.0
+        is_known, is_amid, heard = False, False, 0.0
         head, session = b"", None
         dated: Any = None
         begin = b""
         timeout_keep_alive_task: Any = None
 
+        def connection_made(self, transport: Any) -> None:
+            super().connection_made(transport)
+            self.is_known = all(hasattr(self, it) for it in _STATE) and all(hasattr(base, it) for it in _CALLS)
+
         def data_received(self, data: bytes) -> None:
-            told = self._told(data) if self._is_free() else None
+            told = self._told(data) if self.is_known and self._is_free() else None
             if told is None:
                 super().data_received(data)
                 return
             self.heard = self.loop.time()
             if self.timeout_keep_alive_task is None:
                 self.timeout_keep_alive_task = self.loop.call_later(self.timeout_keep_alive, self.timeout_keep_alive_handler)
-            if self.dated is not self.default_headers:
-                self.dated, self.begin = self.default_headers, desk.head(self.default_headers)
+            usual = self.server_state.default_headers
+            if self.dated is not usual:
+                self.dated, self.begin = usual, responder.head(usual)
             self.transport.writelines([b"%s%d\r\n\r\n" % (self.begin, len(told)), told])
 
         def _is_free(self) -> bool:
@@ -127,8 +132,8 @@ def _made(base: Any, desk: Desk) -> type:
             if request is None:
                 return None
             if request.head != self.head:
-                self.head, self.session = request.head, desk.session_of(request.head)
-            return None if self.session is None else desk.told(self.session, request.body)
+                self.head, self.session = request.head, responder.session_of(request.head)
+            return None if self.session is None else responder.told(self.session, request.body)
 
         def on_message_begin(self) -> None:
             self.is_amid = True

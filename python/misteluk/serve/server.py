@@ -126,12 +126,12 @@ class Server:
         except ImportError as fault:
             self._leave()
             raise Missing(f"{str(fault.name).partition('.')[0]}", "a server") from None
-        from .direct import Desk, protocol
+        from .direct import Responder, protocol
         from .gate import Gate, Run
         run = Run(secrets.token_urlsafe(9), began)
         api = Api(self.board, self.feeding, self.limits, run, self._keeper)
         gate = Gate(api.shortcut(), token, bool(self.address.path), run)
-        config = uvicorn.Config(gate, http=protocol(Desk(gate, api.answers, self.limits)), log_level="critical",
+        config = uvicorn.Config(gate, http=protocol(Responder(gate, api.answers, self.limits)), log_level="critical",
                                 access_log=False, lifespan="off", server_header=False, proxy_headers=False,
                                 limit_concurrency=self.limits.clients + CONNECTIONS, timeout_keep_alive=int(self.limits.idle) + 5)
         return uvicorn.Server(config), api

@@ -129,24 +129,24 @@ class Named:
     def __init__(self, table: NameTable) -> None:
         self._table = table
         # Names of which none is an id, and how they were told.
-        self._last: Tuple[Sequence[str], str] = (), ""
+        self._last: Tuple[Sequence[str], bytes] = (), b""
 
     def told(self, names: Sequence[str]) -> bytes:
         last, told = self._last
         known = len(last)
         if not known or len(names) < known or names[:known] != last:
-            known, told = 0, ""
+            known, told = 0, b""
         more = names[known:]
         ids = [it for it in more if it.startswith(MARK)]
         if ids:
             texts = {it: text for it, text in zip(ids, map(self._table.to_user, ids)) if text != it}
             return _json({"names": names, "texts": texts})
         if more:
-            added = json.dumps(more)[1:-1]
-            told = f"{told}, {added}" if known else added
+            added = _json(more)[1:-1]
+            told = b"%b, %b" % (told, added) if known else added
             if len(names) > len(last) // 2:  # (what an id stands for may be known later)
                 self._last = names, told
-        return f'{{"names": [{told}], "texts": {{}}}}'.encode("ascii")
+        return b'{"names": [%b], "texts": {}}' % told
 
 
 def taken(told: Dict[str, Any], table: NameTable) -> List[str]:
