@@ -13,7 +13,7 @@ from ..engine.making import ENGINES
 from ..feeds.feed import Column, Columns
 from ..feeds.notations import DECIMALS, TIMES
 from ..values.limits import USUAL_RENEWAL
-from .questions import CommandQuestion, question
+from .questions import Question, question
 
 
 def column(text: str) -> Column:
@@ -28,7 +28,7 @@ def rows(text: str) -> int:
     return int(text)
 
 
-def asked(text: str) -> CommandQuestion:
+def asked(text: str) -> Question:
     """A question, whose fault argparse tells."""
     try:
         return question(text)
