@@ -26,7 +26,7 @@ from ..feeds.loading import load, load_in_steps
 from ..feeds.surveys import Survey, survey
 from ..values.names import shown
 from .options import columns_of, make_parser
-from .questions import CommandQuestion, all_lines
+from .questions import Question, all_lines
 from ..page.view import view
 from ..saving import is_saved, size_of
 from ..session import Session
@@ -136,8 +136,8 @@ def tell(words: argparse.Namespace, found: Survey) -> None:
 
 def answer(words: argparse.Namespace, session: Session[Any, Any], is_part: bool = False) -> Iterator[str]:
     """The lines of what is asked for. A part of a fleet needn't have the names."""
-    questions: List[CommandQuestion] = [*words.ask]
-    questions += [CommandQuestion(f"levels from {shown(it)}", "levels", (it,)) for it in words.levels]
+    questions: List[Question] = [*words.ask]
+    questions += [Question(f"levels from {shown(it)}", "levels", (it,)) for it in words.levels]
     for it in questions:
         try:
             yield from all_lines(it, session, words.top, words.column, window(words))

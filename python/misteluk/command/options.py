@@ -12,7 +12,7 @@ from ..version import VERSION
 from ..engine.making import ENGINES
 from ..feeds.feed import Column, Columns
 from ..feeds.notations import DECIMALS, TIMES
-from .questions import CommandQuestion, question
+from .questions import Question, question
 
 
 def column(text: str) -> Column:
@@ -27,7 +27,7 @@ def rows(text: str) -> int:
     return int(text)
 
 
-def asked(text: str) -> CommandQuestion:
+def asked(text: str) -> Question:
     """A question, whose fault argparse tells."""
     try:
         return question(text)

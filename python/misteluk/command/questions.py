@@ -18,7 +18,7 @@ FORMS = {0: "[KIND]", 1: "NAME [KIND]", 2: "SOURCE TARGET [KIND]", 3: "KIND SOUR
 OF_WITHIN = "NAME HOPS [KIND]"
 
 
-class CommandQuestion(NamedTuple):
+class Question(NamedTuple):
     """What is asked, and how it's told of: a table, levels from a name, a path, an edge, or those beside a name; of a kind, or of
     any."""
 
@@ -35,7 +35,7 @@ class CommandQuestion(NamedTuple):
             return {"error": fault.word, "reason": "there is no such " + ("kind" if isinstance(fault, NoKind) else "name")}
 
 
-def question(text: str) -> CommandQuestion:
+def question(text: str) -> Question:
     """A question as it is typed: `degrees`, `degrees transfer`, `levels ana`, `edge transfer ana bob`; what has spaces stands
     within quotes. Raises `ValueError` for another text."""
     try:
@@ -51,15 +51,15 @@ def question(text: str) -> CommandQuestion:
         spaces = ". A name with spaces stands within quotes" if len(words) > count > 0 else ""
         raise ValueError(f"{what} is asked as `{what} {form}`, and not as {text!r}{spaces}")
     kind = words[count] if len(words) > count else None
-    return CommandQuestion(text, what, tuple(words[:count]), kind)
+    return Question(text, what, tuple(words[:count]), kind)
 
 
-def _window(it: CommandQuestion, window: Dict[str, Any]) -> Dict[str, Any]:
+def _window(it: Question, window: Dict[str, Any]) -> Dict[str, Any]:
     """The window of a question, with its kind where it has one."""
     return {**window, "kind": it.kind} if it.kind else window
 
 
-def _table(it: CommandQuestion, session: Session[Any, Any], top: int, column: str, window: Dict[str, Any]) -> Dict[str, Any]:
+def _table(it: Question, session: Session[Any, Any], top: int, column: str, window: Dict[str, Any]) -> Dict[str, Any]:
     table: Any = getattr(session, it.what)(**_window(it, window))
     by = None if it.what == "cores" else column
     rows = [{"name": name, **(value._asdict() if by else {"core": value})} for name, value in table.most(top, by)]
@@ -67,7 +67,7 @@ def _table(it: CommandQuestion, session: Session[Any, Any], top: int, column: st
     return {"names": len(table), **told, "most": rows}
 
 
-def _components(it: CommandQuestion, session: Session[Any, Any], top: int, _: str, window: Dict[str, Any]) -> Dict[str, Any]:
+def _components(it: Question, session: Session[Any, Any], top: int, _: str, window: Dict[str, Any]) -> Dict[str, Any]:
     labels = session.components(**_window(it, window))
     sizes: Dict[str, int] = {}
     for label in labels.values():
@@ -76,7 +76,7 @@ def _components(it: CommandQuestion, session: Session[Any, Any], top: int, _: st
     return {"components": len(sizes), "names": len(labels), "most": [{"name": name, "size": size} for name, size in most]}
 
 
-def _levels(it: CommandQuestion, session: Session[Any, Any], _: int, __: str, window: Dict[str, Any]) -> Dict[str, Any]:
+def _levels(it: Question, session: Session[Any, Any], _: int, __: str, window: Dict[str, Any]) -> Dict[str, Any]:
     levels = session.levels(it.names[0], **_window(it, window))
     counts = [0] * (max(levels.values()) + 1)
     for level in levels.values():
@@ -84,7 +84,7 @@ def _levels(it: CommandQuestion, session: Session[Any, Any], _: int, __: str, wi
     return {"reached": len(levels), "levels": counts}
 
 
-def _beside(it: CommandQuestion, session: Session[Any, Any], top: int, _: str, window: Dict[str, Any]) -> Dict[str, Any]:
+def _beside(it: Question, session: Session[Any, Any], top: int, _: str, window: Dict[str, Any]) -> Dict[str, Any]:
     edges: Dict[str, Edge[Any, Any]] = getattr(session, it.what)(it.names[0], **_window(it, window))
     most = sorted(edges.items(), key=_weight, reverse=True)[:top]
     return {"edges": len(edges), "most": [{"name": name, **edge._asdict()} for name, edge in most]}
@@ -102,18 +102,18 @@ def _weight_of_edge(row: Tuple[str, str, str, Edge[Any, Any]]) -> Any:
     return row[3].weight
 
 
-def _path(it: CommandQuestion, session: Session[Any, Any], _: int, __: str, window: Dict[str, Any]) -> Dict[str, Any]:
+def _path(it: Question, session: Session[Any, Any], _: int, __: str, window: Dict[str, Any]) -> Dict[str, Any]:
     source, target = it.names
     return {"path": session.path(source, target, **_window(it, window))}
 
 
-def _edge(it: CommandQuestion, session: Session[Any, Any], _: int, __: str, ___: Dict[str, Any]) -> Dict[str, Any]:
+def _edge(it: Question, session: Session[Any, Any], _: int, __: str, ___: Dict[str, Any]) -> Dict[str, Any]:
     kind, source, target = it.names
     edge = session.edge(kind, source, target)
     return {"edge": None if edge is None else edge._asdict()}
 
 
-def _neighbors(it: CommandQuestion, session: Session[Any, Any], top: int, _: str, window: Dict[str, Any]) -> Dict[str, Any]:
+def _neighbors(it: Question, session: Session[Any, Any], top: int, _: str, window: Dict[str, Any]) -> Dict[str, Any]:
     """The neighbors with the most weight either way first."""
     found = session.neighbors(it.names[0], **_window(it, window))
     most = sorted(found.items(), key=_weight_either_way, reverse=True)[:top]
@@ -121,14 +121,14 @@ def _neighbors(it: CommandQuestion, session: Session[Any, Any], top: int, _: str
                                                                  both._asdict().items()}} for name, both in most]}
 
 
-def _within(it: CommandQuestion, session: Session[Any, Any], top: int, _: str, window: Dict[str, Any]) -> Dict[str, Any]:
+def _within(it: Question, session: Session[Any, Any], top: int, _: str, window: Dict[str, Any]) -> Dict[str, Any]:
     """The vertices that are reached, the nearest first."""
     found = session.within(it.names[0], int(it.names[1]), **_window(it, window))
     nearest = sorted(found.items(), key=lambda row: row[1])[:top]
     return {"reached": len(found), "most": [{"name": name, "level": level} for name, level in nearest]}
 
 
-def _edges(it: CommandQuestion, session: Session[Any, Any], top: int, _: str, window: Dict[str, Any]) -> Dict[str, Any]:
+def _edges(it: Question, session: Session[Any, Any], top: int, _: str, window: Dict[str, Any]) -> Dict[str, Any]:
     """The edges with the greatest weights."""
     found = list(session.edges(**_window(it, window)))
     most = sorted(found, key=_weight_of_edge, reverse=True)[:top]
@@ -140,7 +140,7 @@ _ANSWERS = {"degrees": _table, "cores": _table, "components": _components, "leve
             "neighbors": _neighbors, "within": _within, "edges": _edges, "path": _path, "edge": _edge}
 
 
-def lines(asked: CommandQuestion, found: Dict[str, Any], top: int) -> Iterator[str]:
+def lines(asked: Question, found: Dict[str, Any], top: int) -> Iterator[str]:
     """The answer as lines for a terminal: a head, and rows behind it."""
     if "error" in found:
         yield f"{asked.text}: {found['reason']} in this version"
@@ -199,6 +199,6 @@ def for_json(value: Any) -> Any:
     raise TypeError(f"{type(value).__name__} has no form in JSON")
 
 
-def all_lines(asked: CommandQuestion, session: Session[Any, Any], top: int, column: str, window: Dict[str, Any]) -> List[str]:
+def all_lines(asked: Question, session: Session[Any, Any], top: int, column: str, window: Dict[str, Any]) -> List[str]:
     """The lines of an answer, where each name and kind has to be there."""
     return list(lines(asked, _ANSWERS[asked.what](asked, session, top, column, window), top))
