@@ -2,7 +2,9 @@
 import json
 import random
 import socket
+import threading
 import unittest
+from unittest import mock
 
 from serving import ServeCase
 
@@ -77,7 +79,8 @@ class Direct(ServeCase):
             {"call": "out_of", "name": "ana", "kind": "owes", "since": 3}, {"call": "found", "ends": [["owes", "zed", "ana"]]},
             {"call": "found", "ends": [["owes", "ana", "ben"]] * 70}, {"call": "degrees"}, {"call": "degrees", "kind": "owes"},
             {"call": "names"}, {"call": "found", "ends": [["Иванов", "", "~~0123456789abcdefghij"]]}, {"call": None}, [], 5)]
-        bodies += [b"", b" {}", b'{"call": "cores"} ', b"\xff", b"x" * 2_000, '{"call": "found", "ends": ["Ив"]}'.encode()]
+        bodies += [bodies[0] + b"\n", bodies[0] + b" {}", b" " + bodies[0], b"", b" {}", b"\xff", b"x" * 2_000,
+                   '{"call": "found", "ends": ["Ив"]}'.encode()]
         for _ in range(300):
             body = bytearray(chance.choice(bodies[:9]))
             body[chance.randrange(len(body))] = chance.randrange(256)
@@ -123,6 +126,42 @@ class Direct(ServeCase):
         found = answers.read(link, "POST")
         self.assertEqual((found.status, json.loads(found.body)["error"], self.told), (400, "BadFields", []))
         self.assertEqual(self.asked(link, ASKED)[2], ANSWER)
+
+    def until_read(self, *headers):
+        """Comes back once the server has read what was written before: it takes what comes in turn."""
+        other = self.link()
+        for _ in range(2):
+            self.assertEqual(self.asked(other, ASKED, *headers)[0], 200)
+
+    def test_amid_a_head(self):
+        """What looks like a question is none where it is a part of another request's head."""
+        self.begin()
+        link = self.link()
+        self.assertEqual(self.asked(link, ASKED)[2], ANSWER)
+        for begin in ("GET /v1/stat HTTP/1.1\r\nHost: localhost\r\nX-Part: ", "GET /v1/edges HTTP/1.1\r\nX-Part: ", "GET /?"):
+            self.told.clear()
+            link.sendall(begin.encode())
+            self.until_read(LONG_WAY)
+            link.sendall(self.request(ASKED))
+            self.until_read(LONG_WAY)
+            self.assertEqual([it for it in self.told if it], [])
+            link = self.link()
+
+    def test_before_another_is_answered(self):
+        """A question that comes while another one's answer is being made waits for that."""
+        self.begin()
+        link, may_go, made = self.link(), threading.Event(), self.server._api.answers.parts
+
+        def parts(*given):
+            may_go.wait(60)
+            return made(*given)
+        with mock.patch.object(self.server._api.answers, "parts", parts):
+            link.sendall(self.request({"call": "edges"}))
+            self.until_read()
+            link.sendall(self.request(ASKED))
+            self.until_read()
+            may_go.set()
+            self.assertEqual([it[:5] for it in self.bodies(link, 2)], [b'[["I"', ANSWER[:5]])
 
     def test_one_behind_another(self):
         """Requests that come at once, or before one was answered, are answered in their order."""
