@@ -7,7 +7,8 @@ from dataclasses import dataclass
 from typing import Dict, Iterator, List, Tuple
 
 # How each thing that a measurement needs is found here, and how it is installed on Debian.
-PYTHON_PACKAGES = {it: f"python3-{it}" for it in ("igraph", "networkx", "numpy", "pandas", "scipy", "starlette", "uvicorn")}
+PYTHON_PACKAGES = {it: f"python3-{it.replace('_', '-')}" for it in (
+    "graph_tool", "igraph", "networkx", "numpy", "pandas", "scipy", "starlette", "uvicorn")}
 COMMANDS = {"valgrind": "valgrind", "rustc": "rustc", "/usr/bin/time": "time", "taskset": "util-linux"}
 
 
@@ -65,7 +66,7 @@ def every() -> Iterator[Measurement]:
                       ("igraph", "networkx"))
     yield Measurement("scale", "How do time and memory of the C library grow, up to a million names?", 8, ("numpy",))
     yield Measurement("client", "How fast is the client in Python, compared with other packages over one file?", 5, (),
-                      ("igraph", "scipy", "networkx", "pandas"))
+                      ("igraph", "graph_tool", "scipy", "networkx", "pandas"))
     yield Measurement("analyst", "Do three whole tasks of an analyst give what pandas and networkx give, and in what time?", 2,
                       ("pandas", "networkx"))
     yield Measurement("neighbors", "How long do a session's walks take, compared with networkx and SQLite?", 3, ("networkx",))
