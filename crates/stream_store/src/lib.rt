@@ -3,6 +3,7 @@
 #![tactic(auto)]
 
 mod applying;
+mod boards;
 mod config;
 mod laws;
 mod opened;

@@ -13,8 +13,9 @@ ghost use Rattle.block_reclamation.specs.Copies.{pin_at, unsettled, settled};
 ghost use Rattle.graph_version.specs.declared.versions.Version.{Version};
 ghost use Rattle.version_shelf.specs.Shelves.{Begins, IsOfOneShelf};
 ghost use Rattle.version_answers.specs.Numbered.{IsNumberedAnswer};
-ghost use Rattle.stream_store.specs.Seats.{SeatView, SessionView, held_version, held_graph, lent_to, seat_of};
+ghost use Rattle.stream_store.specs.Seats.{SeatView, SessionView, lent_or_seen, held_version, held_graph, lent_to, seat_of};
 
+use crate::boards::{KeptBoard, Settled};
 use crate::posting::Desk;
 use crate::receipts::Receipt;
 use crate::store::{Naming, Store};
@@ -100,6 +101,8 @@ pub struct Session {
     reader: ShelfReader,
     /// The version, where the desk lent it; else it is the newest that the reader saw.
     lent: Option<Arc<Version>>,
+    /// The seat's pin was settled at the number of that version.
+    settled: Settled,
 }
 
 // Written by hand: who lets one go rests on this function, and not on how each part is let go.
@@ -109,6 +112,7 @@ impl Drop for Session {
             number: _number,
             reader: _reader,
             lent: _lent,
+            settled: _settled,
         } = self;
     }
 }
@@ -123,6 +127,9 @@ impl Model for Session {
       seen = s.reader;
       lent = option_map (λ v. arc_value {X = Version} v) s.lent;
     } };
+
+    ghost invariant = { λ s. s.settled.number
+        ≡ length (lent_or_seen (option_map (λ v. arc_value {X = Version} v) s.lent) s.reader).batches };
 }
 
 impl Seat {
@@ -163,7 +170,7 @@ impl Seat {
     pub fn pin<J: Naming, R: Wait>(self, rt: &R, store: &Store<J>) -> PinnedSeat
         ensures { result ≡ self }
     {
-        self.pin_on(&mut store.board(rt))
+        KeptBoard::pin(store.board(rt), self)
     }
 
     /// Pins the seat at the floor of its board, as one that stands behind a lock of its own beside the owner of the desk.
@@ -189,11 +196,12 @@ impl Seat {
         match Arc::try_clone(desk.last()) {
             Ok(version) => {
                 board.pin(number);
-                board.settle(number, version.number());
+                let settled = Settled::at(board, number, version.number());
                 Ok(Session {
                     number,
                     reader,
                     lent: Some(version),
+                    settled,
                 })
             }
             Err(error) => Err((Seat { number, reader }, error)),
@@ -210,7 +218,7 @@ impl PinnedSeat {
         ensures held { result.lent ≡ None }
         ensures number { result.number ≡ self.number }
     {
-        self.look().settle_on(&mut store.board(rt))
+        KeptBoard::settle(store.board(rt), self.look())
     }
 
     /// As `enter`, on the seat's board.
@@ -235,18 +243,19 @@ impl PinnedSeat {
     }
 
     /// The session on the newest version that the seat has seen; its pin is settled at that version's number.
-    fn settle_on(self, board: &mut Board) -> Session
+    pub(crate) fn settle_on(self, board: &mut Board) -> Session
         ensures session { result ≡ record { number = self.number; seen = self.seen; lent = None } }
         ensures settled { board.new ≡ with_pin board.old self.number
             (option_map (settled (length self.seen.version.batches)) (pin_at board.old.pins self.number)) }
     {
         let PinnedSeat { number, reader } = self;
         let version = reader.newest().number();
-        board.settle(number, version);
+        let settled = Settled::at(board, number, version);
         Session {
             number,
             reader,
             lent: None,
+            settled,
         }
     }
 }
@@ -273,7 +282,7 @@ impl Session {
     pub fn release<J: Naming, R: Wait>(self, rt: &R, store: &Store<J>) -> Seat
         ensures { result ≡ seat_of self }
     {
-        self.release_lent(&mut store.board(rt))
+        KeptBoard::release(store.board(rt), self)
     }
 
     /// Lets the version go, lent or entered, and takes the seat's pin away.
@@ -285,6 +294,7 @@ impl Session {
             number,
             reader,
             lent: _lent,
+            settled: _settled,
         } = self;
         board.unpin(number);
         Seat { number, reader }

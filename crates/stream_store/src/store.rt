@@ -20,6 +20,7 @@ ghost use Rattle.stream_store.specs.Applying.{IsReceipt};
 ghost use Rattle.desk.specs.Refusals.{Refuses, IsWithin};
 ghost use Rattle.stream_store.specs.Stores.{IsReceiptOf, IsRefusalOf, IsOfOpening, copied};
 
+use crate::boards::KeptBoard;
 use crate::posting::Desk;
 use crate::receipts::Receipt;
 use batch_apply::Gate;
@@ -82,8 +83,9 @@ impl<J: Naming> NamedDesk<J> {
     }
 
     /// Collects by the copy of the last version's number and the pins of the board under this guard, to whose least the board's
-    /// floor is raised first. Only that waits for the board: its lock is given up before a block is recycled.
-    fn collect(&mut self, board: MutexGuard<'_, Board>) -> Collected
+    /// floor is raised first. Only that waits for the board: raising takes the guard, so its lock is given up before a block is
+    /// recycled.
+    fn collect(&mut self, board: MutexGuard<'_, KeptBoard>) -> Collected
         ensures least { IsLeast (length self.old.desk.desk.last.batches) (mutex_guard_value board.entry).pins result.floor }
         ensures collected { let copy = copied self.old.desk.desk (mutex_guard_value board.entry) in
             IsCollected self.old.desk.desk copy self.new.desk.desk }
@@ -101,20 +103,11 @@ impl<J: Naming> NamedDesk<J> {
 
     /// The copy of the last version's number and the pins of the board under this guard, which is given up once the board's
     /// floor is raised.
-    fn copy_of(&self, mut board: MutexGuard<'_, Board>) -> PinCopy
+    fn copy_of(&self, board: MutexGuard<'_, KeptBoard>) -> PinCopy
         ensures copied { result ≡ copied self.now.desk.desk (mutex_guard_value board.entry) }
         ensures least { IsLeast (length self.now.desk.desk.last.batches) (mutex_guard_value board.entry).pins (floor_of result) }
     {
-        self.raise(&mut board)
-    }
-
-    /// Raises the board's floor to the least of the last version's number and the board's pins, and answers the copy of them.
-    fn raise(&self, board: &mut Board) -> PinCopy
-        ensures copied { result ≡ copied self.now.desk.desk board.old }
-        ensures least { IsLeast (length self.now.desk.desk.last.batches) board.old.pins (floor_of result) }
-        ensures raised { board.new ≡ record board.old { floor = floor_of result } }
-    {
-        board.raise(self.desk.last().number())
+        KeptBoard::raise(board, self.desk.last().number())
     }
 
     /// Confirms what was told or seen of a version of this opening, as the desk does, and answers the desk's last version, whose
@@ -156,7 +149,7 @@ impl<J: Naming> NamedDesk<J> {
 #[derive(Drop)]
 pub struct Store<J: Naming> {
     desk: Mutex<NamedDesk<J>>,
-    board: Mutex<Board>,
+    board: Mutex<KeptBoard>,
 }
 
 impl<J: Naming> Store<J> {
@@ -170,7 +163,7 @@ impl<J: Naming> Store<J> {
                 desk,
                 of: PhantomData,
             }),
-            board: Mutex::new(board),
+            board: Mutex::new(KeptBoard::of(board)),
         }
     }
 
@@ -229,7 +222,7 @@ impl<J: Naming> Store<J> {
     }
 
     /// The board, locked.
-    pub(crate) fn board<'a, R: Wait>(&'a self, rt: &R) -> MutexGuard<'a, Board> {
+    pub(crate) fn board<'a, R: Wait>(&'a self, rt: &R) -> MutexGuard<'a, KeptBoard> {
         self.board.lock(rt)
     }
 }

@@ -6,7 +6,7 @@ use Rattle.stream_store.proofs.seats.Seat.acquire_lent.Goals as goal
 pub returns-in-Ok-clause-pinned : goal.returns-in-Ok-clause-pinned
 returns-in-Ok-clause-pinned c =
     let number : c.number.result ≡ length c.args.desk.now.desk.last.batches = search rules in
-    c.settle.ensures ∙ ap (λ o. with_pin c.pin.new.self c.self.inside.number (option_map (settled c.number.result) o))
+    c.at-settled.ensures.settled ∙ ap (λ o. with_pin c.pin.new.self c.self.inside.number (option_map (settled c.number.result) o))
     c.pin.ensures.there ∙ ap (λ n. with_pin c.pin.new.self c.self.inside.number
     (Some (record { number = max c.args.board.now.floor n; is_settled = true }))) number
     ∙ ap (λ b. with_pin b c.self.inside.number (Some
