@@ -4,11 +4,12 @@ use Rattle.std.specs.Prelude.{Result, Ok, Err}
 use Rattle.graph_types.specs.{Limits.most_operations, declared.batches.NamedOp.NamedOp}
 use Rattle.block_reclamation.specs.Status.{is_free}
 use Rattle.desk.specs.{Owned.OwnedView, Refusals.Refuses}
-use Rattle.desk.specs.declared.{errors.ApplyError.ApplyError, ready.Accepted.Accepted, errors.ApplyError.TheVariants.PoolEmpty}
+use Rattle.desk.specs.declared.{errors.ApplyError.ApplyError, ready.Accepted.Accepted}
+use Rattle.desk.specs.declared.errors.ApplyError.TheVariants.{BatchLimit, NamesFull, KindsFull, PoolEmpty, OutOfMemory as ApplyOutOfMemory}
 use Rattle.batch_columns.specs.Dictionaries.{in_order, Insertions, IsInserted}
 use Rattle.batch_columns.proofs.OneMore.{one_more, inserted_op, one_longer}
 use Rattle.desk_counts.specs.{declared.counts.Counts.Counts, Counted.with_outcomes}
-use Rattle.desk_columns.specs.Feeding.{are_alike, AreIn, AreIn.Begin, Collects, IsApplied, IsTried, MayCollect, RefusesBatch, RefusesPart, RefusesRest, Takes}
+use Rattle.desk_columns.specs.Feeding.{are_alike, AreIn, AreIn.Begin, CollectsFor, Collects, ComesBefore, IsApplied, IsTried, RefusesBatch, RefusesPart, RefusesRest, Takes}
 use Rattle.desk_columns.specs.declared.columns.InsertColumnsError.{InsertColumnsError}
 use Rattle.desk_columns.specs.declared.columns.InsertColumnsError.TheVariants.{BadLength, BadInsertion, Refused, OutOfMemory}
 
@@ -21,13 +22,32 @@ inserted_more op_at from place old new done at fit pushed =
     let there : op_at (from + length old) ≡ Some op = ap op_at (sym at) ∙ here in
     ap (in_order op_at from) longer ∙ (one_more op_at from (length old) old op fit there ∙ ap Some (sym is))
 
+-- a collection may come before each answer, and nothing before all but one
+pub collected_before : (old from : OwnedView) (ops : List NamedOp) (answer : Result Accepted ApplyError) → CollectsFor ops old from
+    → ComesBefore answer ops old from
+collected_before old from ops (Ok accepted) collects = inr collects
+collected_before old from ops (Err BatchLimit) collects = inr collects
+collected_before old from ops (Err NamesFull) collects = inr collects
+collected_before old from ops (Err KindsFull) collects = inr collects
+collected_before old from ops (Err (PoolEmpty needed left)) collects = collects
+collected_before old from ops (Err ApplyOutOfMemory) collects = inr collects
+
+-- a batch that is refused, and not for its blocks
+pub tried_once : (old new : OwnedView) (ops : List NamedOp) (error : ApplyError)
+    → ((needed left : ℕ) → error ≡ PoolEmpty needed left → ⊥) → IsApplied old ops (Err error) new → IsTried old ops (Err error) new
+tried_once old new ops BatchLimit other applied = record { from = old; collected = inl refl; applied = applied }
+tried_once old new ops NamesFull other applied = record { from = old; collected = inl refl; applied = applied }
+tried_once old new ops KindsFull other applied = record { from = old; collected = inl refl; applied = applied }
+tried_once old new ops (PoolEmpty needed left) other applied = absurd (other needed left refl)
+tried_once old new ops ApplyOutOfMemory other applied = record { from = old; collected = inl refl; applied = applied }
+
 -- a batch that is applied behind a collection
 pub tried_again : (old before from new : OwnedView) (ops again : List NamedOp) (needed left : ℕ) (answer : Result Accepted ApplyError)
     → before ≡ old → again ≡ ops → Refuses old.desk.last (count_by is_free old.desk.pool) ops (PoolEmpty needed left)
     → Collects before from → IsApplied from again answer new → IsTried old ops answer new
 tried_again old before from new ops again needed left answer same one refused collects applied = record {
   from = from;
-  collected = inr (needed, left, refused, subst (λ (o : OwnedView). Collects o from) same collects);
+  collected = collected_before old from ops answer (needed, left, refused, subst (λ (o : OwnedView). Collects o from) same collects);
   applied = subst (λ (b : List NamedOp). IsApplied from b answer new) one applied;
 }
 
@@ -53,7 +73,7 @@ pub refused_of : (old new : OwnedView) (ops : List NamedOp) (error : ApplyError)
     → RefusesBatch old ops error new
 refused_of old new ops error tried =
     let same : tried.from ≡ new = sym tried.applied.unchanged in (
-      subst (λ (o : OwnedView). MayCollect ops old o) same tried.collected,
+      subst (λ (o : OwnedView). ComesBefore (Err error) ops old o) same tried.collected,
       subst (λ (o : OwnedView). Refuses o.desk.last (count_by is_free o.desk.pool) ops error) same tried.applied.refused,
     )
 

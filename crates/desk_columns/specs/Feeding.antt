@@ -38,10 +38,19 @@ pub record Collects (old new : OwnedView) : Type 0 where
   pub board : new.board ≡ raised_board (length old.desk.last.batches) old.board
   pub held : (new.counts ≡ old.counts) × (new.opening ≡ old.opening)
 
--- as it was, or collected since fewer blocks were free than the batch asks for
+-- collected, since fewer blocks were free than the batch asks for
+abbrev pub CollectsFor : List NamedOp → OwnedView → OwnedView → Type 0
+CollectsFor ops old new =
+    (needed left : ℕ) × Refuses old.desk.last (count_by is_free old.desk.pool) ops (PoolEmpty needed left) × Collects old new
+
+-- as it was, or collected for the batch
 abbrev pub MayCollect : List NamedOp → OwnedView → OwnedView → Type 0
-MayCollect ops old new =
-    (new ≡ old) ⊎ ((needed left : ℕ) × Refuses old.desk.last (count_by is_free old.desk.pool) ops (PoolEmpty needed left) × Collects old new)
+MayCollect ops old new = (new ≡ old) ⊎ CollectsFor ops old new
+
+-- what comes before a batch's answer: nothing, or a collection; and a collection where the answer is that blocks are wanting
+abbrev pub ComesBefore : Result Accepted ApplyError → List NamedOp → OwnedView → OwnedView → Type 0
+ComesBefore (Err (PoolEmpty needed left)) ops old new = CollectsFor ops old new
+ComesBefore _ ops old new = MayCollect ops old new
 
 -- a batch is applied to a desk as it is, or refused
 pub record IsApplied (old : OwnedView) (ops : List NamedOp) (answer : Result Accepted ApplyError) (new : OwnedView) : Type 0 where
@@ -53,10 +62,10 @@ pub record IsApplied (old : OwnedView) (ops : List NamedOp) (answer : Result Acc
   pub refused : IfErr answer (Refuses old.desk.last (count_by is_free old.desk.pool) ops)
   pub unchanged : OnErr answer (new ≡ old)
 
--- the same, where the desk has collected before if too few blocks were free
+-- the same, where the desk has collected before if too few blocks were free, and so is tried a second time
 pub record IsTried (old : OwnedView) (ops : List NamedOp) (answer : Result Accepted ApplyError) (new : OwnedView) : Type 0 where
   pub from : OwnedView
-  pub collected : MayCollect ops old from
+  pub collected : ComesBefore answer ops old from
   pub applied : IsApplied from ops answer new
 
 -- a batch is taken, and counted
@@ -68,10 +77,10 @@ pub record Takes (old : OwnedView) (counts : Counts) (ops : List NamedOp) (new :
   pub held : new ≡ record from { desk = new.desk }
   pub counted_is : counted ≡ with_outcomes counts (length new.desk.last.batches) (outcomes ops (content from.desk.last))
 
--- a batch is refused, and no more than a collection was done for it
+-- a batch is refused, and no more than a collection was done for it; by its blocks only where too few are free after one
 abbrev pub RefusesBatch : OwnedView → List NamedOp → ApplyError → OwnedView → Type 0
 RefusesBatch old ops error new =
-    MayCollect ops old new × Refuses new.desk.last (count_by is_free new.desk.pool) ops error
+    ComesBefore (Err error) ops old new × Refuses new.desk.last (count_by is_free new.desk.pool) ops error
 
 -- of so many insertions from a place on, the first that is refused
 pub record IsFirstRefused (c : Insertions) (at count : ℕ) (error : InsertError) : Type 0 where

@@ -8,7 +8,7 @@ ghost use Rattle.block_reclamation.specs.Status.{is_free};
 ghost use Rattle.batch_columns.specs.Dictionaries.{insertion_at, insertions_from, IsInserted};
 ghost use Rattle.desk_counts.specs.Counted.{none_counted, with_outcomes};
 ghost use Rattle.desk_columns.specs.Feeding as specs;
-ghost use Rattle.desk_columns.specs.Feeding.{columns_of, batch_length, most_parts, BearsParts, IsFirstRefused, IsTried, RefusesPart, Takes, TakesNext, Feeds};
+ghost use Rattle.desk_columns.specs.Feeding.{columns_of, batch_length, most_parts, BearsParts, IsApplied, IsFirstRefused, IsTried, RefusesPart, Takes, TakesNext, Feeds};
 
 use batch_columns::{InsertError, insert_numbers};
 use desk::{Accepted, ApplyError, OwnedDesk};
@@ -96,6 +96,13 @@ fn batch_of(
     Ok(batch)
 }
 
+/// Applies a batch to the desk as it is, or refuses it.
+fn apply_once(desk: &mut OwnedDesk, batch: Arc<Batch>) -> Result<Accepted, ApplyError>
+    ensures { IsApplied desk.old (batch_value batch) result desk.new }
+{
+    desk.apply(batch)
+}
+
 /// Applies a batch; where too few blocks are free it collects, and tries once more with the same one.
 fn apply_collecting(
     desk: &mut OwnedDesk,
@@ -105,11 +112,11 @@ fn apply_collecting(
     requires { batch_value again ≡ batch_value batch }
     ensures { IsTried desk.old (batch_value batch) result desk.new }
 {
-    match desk.apply(batch) {
+    match apply_once(desk, batch) {
         Ok(accepted) => Ok(accepted),
         Err(ApplyError::PoolEmpty { .. }) => {
             let _collected = desk.collect();
-            desk.apply(again)
+            apply_once(desk, again)
         }
         Err(error) => Err(error),
     }
@@ -146,7 +153,7 @@ fn insert_whole(
     let Ok(batch) = Arc::new(alloc, batch) else {
         return Err(InsertColumnsError::OutOfMemory);
     };
-    match desk.apply(batch) {
+    match apply_once(desk, batch) {
         Ok(accepted) => {
             count_accepted(counts, &accepted);
             Ok(())
