@@ -12,7 +12,7 @@ from misteluk.engine.making import LIBRARY, make_engine
 from misteluk.engine.protocol import Engine
 from misteluk.ledger import Ledger
 from misteluk.serve.client import ServedEngine
-from misteluk.serve.limits import Limits
+from misteluk.serve.limits import ServerLimits
 from misteluk.serve.server import Server
 from misteluk.serve.talk import Talk
 
@@ -44,7 +44,7 @@ def made(engine: "Union[str, Engine, None]", blocks: Optional[int], seats: int, 
     begin: Any = Store
     with mock.patch.object(misteluk.store, "make_engine", make_engine):
         store = begin(engine=LIBRARY, blocks=blocks, seats=16, endless=endless, limits=most)
-    server = Server(store, "127.0.0.1:0", limits=Limits(idle=600))
+    server = Server(store, "127.0.0.1:0", limits=ServerLimits(idle=600))
     own = Own(server.start())
     own.seats = seats
     return own

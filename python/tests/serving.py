@@ -13,7 +13,7 @@ from typing import Any, Dict, NamedTuple, Optional
 from support import ENGINE, HERE, Case, optional
 
 import misteluk
-from misteluk.serve.limits import Limits
+from misteluk.serve.limits import ServerLimits
 from misteluk.serve.server import Server
 
 HAS_PACKAGES = all(map(optional, ("starlette", "uvicorn")))
@@ -50,7 +50,7 @@ class Clock:
 class ServeCase(Case):
     """A case with a server."""
 
-    def serve(self, listen: str = "127.0.0.1:0", token: Optional[str] = None, limits: Limits = Limits(),
+    def serve(self, listen: str = "127.0.0.1:0", token: Optional[str] = None, limits: ServerLimits = ServerLimits(),
               batches: Optional[int] = None, **options: Any) -> Server:
         store = misteluk.Store(seats=16, endless=True, limits=misteluk.Limits(batches=batches), **options)
         self.addCleanup(self.let_go, store)

@@ -18,7 +18,7 @@ from support import ENGINE, HERE, Case, as_soon_as
 import misteluk
 from misteluk import Busy, Edge, NoSeat, NoServer, NotAllowed, Served, SessionClosed, connect
 from misteluk.command.main import main
-from misteluk.serve.limits import Limits
+from misteluk.serve.limits import ServerLimits
 from misteluk.serve.server import Address, Server, token_of
 
 
@@ -125,15 +125,15 @@ class Doors(ServeCase):
         self.assertEqual((os.path.exists(path), (self.room / "plain").read_text()), (False, "text"))
 
     def test_bodies_have_an_end(self):
-        self.serve(limits=Limits(body=1_024))
+        self.serve(limits=ServerLimits(body=1_024))
         self.assertEqual(self.ask("/v1/rows", "POST", b"x" * 2_000, Content_Type="text/csv").status, 413)
         self.assertEqual(self.post("/v1/rows", {"rows": FEED}).status, 200)
         for name, value in (("body", 5), ("clients", 0), ("questions", 99), ("idle", 0), ("time", float("nan"))):
-            self.assertRaises(ValueError, Limits(**{name: value}).checked)
+            self.assertRaises(ValueError, ServerLimits(**{name: value}).checked)
 
     def test_a_question_that_takes_too_long(self):
         """It is told so, and lets its version go when it comes to its end."""
-        self.serve(limits=Limits(time=0.2, questions=1))
+        self.serve(limits=ServerLimits(time=0.2, questions=1))
         gate = threading.Event()
         self.addCleanup(gate.set)
         session = self.server.board._last.session

@@ -10,7 +10,7 @@ from serving import ServeCase
 
 from misteluk import connect
 from misteluk.serve import answers, direct
-from misteluk.serve.limits import RUN, Limits
+from misteluk.serve.limits import RUN, ServerLimits
 
 ASKED = {"call": "found", "ends": [["transfer", "ana", "funnel"]]}
 ANSWER = b"[[980, 1, 1]]"
@@ -72,7 +72,7 @@ class Direct(ServeCase):
 
     def test_as_the_long_way(self):
         """Bodies that are right, and such with faults, have the same response both ways, on one connection."""
-        self.begin(limits=Limits(body=1_024))
+        self.begin(limits=ServerLimits(body=1_024))
         chance, link = random.Random(5), self.link()
         bodies = [json.dumps(it).encode() for it in (
             ASKED, {"call": "out_of", "name": "ana"}, {"call": "out_of", "name": "zed"}, {"call": "out_of", "name": ["ana"]},

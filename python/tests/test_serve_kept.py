@@ -15,7 +15,7 @@ import misteluk
 from misteluk import Busy, Edge, SaveFault, Served, SessionClosed, Store
 from misteluk.serve.feeding import FEEDERS
 from misteluk.serve.keeping import Keeper
-from misteluk.serve.limits import Limits
+from misteluk.serve.limits import ServerLimits
 
 
 class Kept(ServeCase):
@@ -174,7 +174,7 @@ class Lost(ServeCase):
 
     def test_a_batch_of_one_that_lost_its_seat(self):
         """What it did is told to its client all the same; one that didn't come can't any more."""
-        self.serve(limits=Limits(idle=0.01))
+        self.serve(limits=ServerLimits(idle=0.01))
         with Served(self.server.url) as first, Served(self.server.url) as second:
             first.add("k", "a", "b", 5, 1)
             real = first.engine.talk.call
@@ -208,7 +208,7 @@ class Lost(ServeCase):
 
     def test_a_reader_that_takes_nothing_is_left(self):
         """Its connection ends when it was silent for long enough, its version goes, and that is no fault of the server's."""
-        self.serve(limits=Limits(idle=0.3))
+        self.serve(limits=ServerLimits(idle=0.3))
         rows = [(f"s{it % 300}", f"target-{it // 300}", it, it) for it in range(200_000)]
         self.server.store.load(rows, by="set", progress=False)
         self.server.board.advance()

@@ -13,7 +13,7 @@ from misteluk import connect
 from misteluk.engine.operations import row_of
 from misteluk.serve import answers, asking, wire
 from misteluk.serve.feeding import _seen_rows
-from misteluk.serve.limits import Limits
+from misteluk.serve.limits import ServerLimits
 from misteluk.values.names import NameTable
 
 WHOLE = b"HTTP/1.1 200 OK\r\nContent-Length: 5\r\nMisteluk-Server: x\r\n\r\nhello"
@@ -153,7 +153,7 @@ class Asked(ServeCase):
                     self.assertEqual(second.components()["ben"], "ana")
 
     def test_a_question_that_is_too_long(self):
-        self.fed(limits=Limits(body=1_024, time=0.5))
+        self.fed(limits=ServerLimits(body=1_024, time=0.5))
         self.name = self.post("/v1/sessions").json["session"]
         status, body = self.raw(b'{"call": "found", "ends": [], "more": "%s"}' % (b"x" * 2_000))
         self.assertEqual((status, json.loads(body)["error"]), (413, "TooLarge"))

@@ -8,7 +8,7 @@ from support import ENGINE, Case
 from misteluk import Busy, SessionClosed
 from misteluk.serve.board import Board, Full
 from misteluk.serve.feeding import Feeding
-from misteluk.serve.limits import Limits
+from misteluk.serve.limits import ServerLimits
 
 
 @unittest.skipUnless(ENGINE == "library", OF_LIBRARY)
@@ -19,7 +19,7 @@ class Versions(Case):
         super().setUp()
         self.clock = Clock()
         self.at = self.store(seats=16, endless=True)
-        self.board = Board(self.at, Limits(idle=60, clients=40), self.clock)
+        self.board = Board(self.at, ServerLimits(idle=60, clients=40), self.clock)
 
     def advance(self):
         self.at.add("k", "a", "b", 1, 1)
@@ -71,7 +71,7 @@ class Versions(Case):
             told.append([it for it, _ in self.told()])
             return found
         with mock.patch.object(self.at.engine, "fly", fly):
-            Feeding(self.board, Limits()).rows([["add", "k", f"s{it}", "t", "1", "1"] for it in range(5_000)])
+            Feeding(self.board, ServerLimits()).rows([["add", "k", f"s{it}", "t", "1", "1"] for it in range(5_000)])
         self.assertEqual((told, [it for it, _ in self.told()]), ([[*range(15)], [*range(14)]], [*range(14), 18]))
 
     def test_who_asks_isn_t_silent(self):
@@ -115,7 +115,7 @@ class Versions(Case):
         self.assertRaisesRegex(SessionClosed, "version 7 isn't held", self.board.lease, 7)
 
     def test_a_feeder_that_is_silent(self):
-        feeding = Feeding(self.board, Limits(idle=60), self.clock)
+        feeding = Feeding(self.board, ServerLimits(idle=60), self.clock)
         first = feeding.claim()
         self.clock.now = 59
         self.assertRaises(Busy, feeding.claim)
@@ -141,7 +141,7 @@ class Versions(Case):
         self.assertEqual([it for it, _ in self.told()], [*range(15), 20])
 
     def test_the_rate(self):
-        feeding = Feeding(self.board, Limits(), self.clock)
+        feeding = Feeding(self.board, ServerLimits(), self.clock)
         self.clock.now = 20
         feeding.rows([["add", "k", "a", f"t{it}", "1", "1"] for it in range(50)])
         self.assertEqual((feeding.told()["rows"], feeding.told()["rows_a_second"]), (50, 5.0))

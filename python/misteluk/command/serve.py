@@ -11,7 +11,7 @@ from typing import Any, Dict, Optional, Tuple
 from ..engine.making import LIBRARY
 from ..feeds.feed import STANDARD_INPUT
 from ..serve.keeping import USUAL_EVERY, Keeper
-from ..serve.limits import Limits
+from ..serve.limits import ServerLimits
 from ..serve.server import USUAL, Server, token_of
 from ..store import Store
 from ..values import records
@@ -25,7 +25,7 @@ ROOM = 262_144
 
 
 def add_options(parser: argparse.ArgumentParser) -> None:
-    usual = Limits()
+    usual = ServerLimits()
     listen = parser.add_argument_group("where, and for whom")
     listen.add_argument("--listen", default=USUAL, metavar="ADDRESS", help=f"HOST:PORT, or unix:PATH for a socket that its owner "
                         f"alone may use ({USUAL})")
@@ -49,7 +49,7 @@ def add_options(parser: argparse.ArgumentParser) -> None:
 
 def serve(words: argparse.Namespace, how: Dict[str, Any]) -> int:
     """Serves a store until a signal ends it."""
-    limits = Limits(words.idle, words.clients, words.body, words.longest, words.questions)
+    limits = ServerLimits(words.idle, words.clients, words.body, words.longest, words.questions)
     if words.file is not None and words.by is None:
         raise ValueError("a feed wants --set or --add")
     if words.program is not None or words.engine not in (None, LIBRARY):

@@ -12,7 +12,7 @@ from types import TracebackType
 from typing import Any, Iterator, NamedTuple, Optional, Type
 
 from . import parcels
-from .following import Following, Place
+from .following import Following, FeedPlace
 from .parcels import Parcel
 from .reader import Wanted
 from ..engine.conversation import how_ended, widen
@@ -55,7 +55,7 @@ class Apart(Iterator[Applied]):
         self._is_input = following.descriptor == 0
         following.close()
         self.ended_half = self._is_stopped = False
-        self.place, self.killed, self._in_vain = Place(), 0, 0
+        self.place, self.killed, self._in_vain = FeedPlace(), 0, 0
         self._lock, self._is_over = threading.Lock(), threading.Event()
         # Since when a batch is waited for; nothing while one is applied.
         self._since: Optional[float] = None
@@ -137,7 +137,7 @@ class Apart(Iterator[Applied]):
     def _applied(self, parcel: Parcel) -> Applied:
         """Applies a batch."""
         head, ledger = parcel.head, self.store.ledger
-        place = Place(*head["place"])
+        place = FeedPlace(*head["place"])
         kind_text, kind_ends, text, ends, codes, kinds, sources, targets, weights, times = parcel.columns
         for name, told in head["texts"].items():
             if self._terms.names.to_program(told) != name:

@@ -116,7 +116,7 @@ class Recipe(NamedTuple):
     pace: Pace
 
 
-class Place(NamedTuple):
+class FeedPlace(NamedTuple):
     """How far a feed is in: how many rows, to which line, their newest time in the program's times, and how many bytes of the
     file were read by then."""
 
@@ -162,11 +162,11 @@ class Following(Iterator[Followed]):
         return self._source.begin
 
     @property
-    def place(self) -> Place:
+    def place(self) -> FeedPlace:
         """How far it is in."""
-        return Place(self._in, self._line, self._newest, self._source.place)
+        return FeedPlace(self._in, self._line, self._newest, self._source.place)
 
-    def go_on(self, place: Place) -> None:
+    def go_on(self, place: FeedPlace) -> None:
         """Passes over what is in to a place, before the first step. The file is read from where the reading began."""
         self._in, self._line, self._newest, self._source.least = place
         self._incoming.rows.passed = place.line

@@ -15,7 +15,7 @@ from itertools import islice
 from typing import Any, Dict, List, NamedTuple, Tuple
 
 from . import parcels
-from .following import Following, Place, Recipe, following_of
+from .following import Following, FeedPlace, Recipe, following_of
 from ..engine.operations import Operations, Row
 from ..errors import StoreError
 from ..values.answers import Commit
@@ -33,7 +33,7 @@ class Wanted(NamedTuple):
     descriptor: int
     recipe: Recipe
     units: Units
-    place: Place
+    place: FeedPlace
 
     def fileno(self) -> int:
         return self.descriptor
@@ -63,7 +63,7 @@ class Outbox:
         self._batch, self.rows = Operations(self.rows), []
         return NOTHING, (NOTHING,)
 
-    def send(self, place: Place, first: int) -> None:
+    def send(self, place: FeedPlace, first: int) -> None:
         """Sends a batch with which so much is in, whose first row is that of a line, with the kinds and texts of ids that are
         new."""
         kinds = list(islice(self.kinds, self._kinds_sent, None))

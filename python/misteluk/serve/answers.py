@@ -14,7 +14,7 @@ _STATUS = re.compile(rb"HTTP/1\.1 ([2-5]\d\d)(?: .*)?")
 BEGIN, _NO_BODY = b"HTTP/1.", (204, 304)
 
 
-class Answer(NamedTuple):
+class Response(NamedTuple):
     """A response: its status, its headers by small names, its body, and whether its connection ends with it."""
 
     status: int
@@ -51,7 +51,7 @@ class Begun(io.RawIOBase):
         return io.BufferedReader(self)
 
 
-def read(link: socket.socket, method: str) -> Answer:
+def read(link: socket.socket, method: str) -> Response:
     """The response to a request of this method. Raises `HTTPException` where it is none, and `OSError`."""
     data, more = b"", link.recv(AT_ONCE)
     while more and b"\r\n\r\n" not in data + more and _may_go_on(data + more):
@@ -66,7 +66,7 @@ def _may_go_on(data: bytes) -> bool:
     return len(data) < MOST_HEAD and data[:len(BEGIN)] == BEGIN[:len(data)]
 
 
-def _whole(link: socket.socket, data: bytes) -> Optional[Answer]:
+def _whole(link: socket.socket, data: bytes) -> Optional[Response]:
     """A response that tells its length. `None` where it may be of another form; then nothing was taken."""
     head, mark, rest = data.partition(b"\r\n\r\n")
     found = _plain(head) if mark and len(head) <= MOST_HEAD else None
@@ -80,7 +80,7 @@ def _whole(link: socket.socket, data: bytes) -> Optional[Answer]:
             raise RemoteDisconnected("it ended the connection amid a response")
         parts.append(more)
         left -= len(more)
-    return Answer(found.status, found.headers, b"".join(parts), found.headers.get("connection", "").lower() == "close")
+    return Response(found.status, found.headers, b"".join(parts), found.headers.get("connection", "").lower() == "close")
 
 
 @lru_cache(128)
@@ -97,10 +97,10 @@ def _plain(head: bytes) -> Optional[Head]:
     return Head(int(status[1]), headers, int(length))
 
 
-def _any(link: socket.socket, data: bytes, method: str) -> Answer:
+def _any(link: socket.socket, data: bytes, method: str) -> Response:
     begun: Any = Begun(data, link)
     with HTTPResponse(begun, method=method) as response:
         response.begin()
         body = response.read()
         headers = {name.lower(): value for name, value in response.headers.items()}
-        return Answer(response.status, headers, body, bool(response.will_close))
+        return Response(response.status, headers, body, bool(response.will_close))

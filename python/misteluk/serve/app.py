@@ -21,10 +21,10 @@ from .feeding import Feeding
 from .gate import Run
 from .keeping import Keeper
 from .flow import Pool, Streamed, as_json, first_of, within
-from .limits import Limits, TooLarge
+from .limits import ServerLimits, TooLarge
 from .openapi import described
 from .page import POLICY
-from .questions import AT_ONCE, HELD, QUESTIONS, QUICK, WHOLE, Question
+from .questions import AT_ONCE, HELD, QUESTIONS, QUICK, WHOLE, ServedQuestion
 from ..engine.protocol import Denied
 from ..page.page import style
 from ..errors import Busy, NoKind, NoMemory, NoVertex, PoolEmpty, Refused, SessionClosed, StoreError
@@ -36,7 +36,7 @@ QUICK_THREADS = 4
 class Api:
     """The calls of a server over a board and a feed."""
 
-    def __init__(self, board: Board, feeding: Feeding, limits: Limits, run: Run, keeper: Optional[Keeper]) -> None:
+    def __init__(self, board: Board, feeding: Feeding, limits: ServerLimits, run: Run, keeper: Optional[Keeper]) -> None:
         self.board, self.feeding, self.limits, self._run, self._keeper = board, feeding, limits, run, keeper
         self.store = board.store
         self.quick = Pool(QUICK_THREADS, limits, "quick")
@@ -86,7 +86,7 @@ class Api:
 
     # What is asked.
 
-    def _asking(self, question: Question) -> Callable[[Request], Any]:
+    def _asking(self, question: ServedQuestion) -> Callable[[Request], Any]:
         parameters = {it.name: it for it in (*question.parameters, *HELD)}
 
         async def handle(request: Request) -> Any:
@@ -102,7 +102,7 @@ class Api:
             return await self._answered(lambda: self._parts(question, given), question.media, question.way)
         return handle
 
-    def _parts(self, question: Question, given: Dict[str, Any]) -> Iterator[bytes]:
+    def _parts(self, question: ServedQuestion, given: Dict[str, Any]) -> Iterator[bytes]:
         beside = given.get("beside")
         with self.board.lent(given.get("session"), given.get("version")) as session:
             if beside is None:
@@ -211,7 +211,7 @@ class Api:
         return found
 
 
-def _lease(lease: Lease, limits: Limits) -> Dict[str, Any]:
+def _lease(lease: Lease, limits: ServerLimits) -> Dict[str, Any]:
     return {"session": lease.name, "version": lease.shared.version, "vertices": lease.shared.session.names, "idle": limits.idle}
 
 

@@ -12,7 +12,7 @@ from . import wire
 from .board import Board, Full
 from .faults import told_fault
 from .flow import Message, Receive, Send, within
-from .limits import Limits
+from .limits import ServerLimits
 from ..engine.protocol import Denied
 from ..errors import StoreError
 from ..session import Session
@@ -88,7 +88,7 @@ def _told_of(session: "Session[Any, Any]") -> Dict[str, bytes]:
 class Shortcut:
     """Leads what is asked most straight to its answer, and lets Starlette look through its routes for all else."""
 
-    def __init__(self, app: Any, ask: Ask, answers: Answers, limits: Limits) -> None:
+    def __init__(self, app: Any, ask: Ask, answers: Answers, limits: ServerLimits) -> None:
         self._app, self._ask, self._answers, self._limits = app, ask, answers, limits
 
     async def __call__(self, scope: Any, receive: Receive, send: Send) -> None:

@@ -9,7 +9,7 @@ from collections import deque
 from contextlib import contextmanager
 from typing import Any, Callable, Deque, Dict, Iterator, List, NamedTuple, Optional, Tuple
 
-from .limits import Limits
+from .limits import ServerLimits
 from ..errors import NoSeat, SessionClosed, StoreError
 from ..session import Session
 from ..store import Store
@@ -44,7 +44,7 @@ class Lease:
         self.name, self.shared, self.heard, self.asked = secrets.token_urlsafe(15), shared, heard, 0
 
 
-class Held(NamedTuple):
+class HeldVersion(NamedTuple):
     """A version that is held, as it is told: by how many clients, and whether it is the last one."""
 
     version: int
@@ -57,7 +57,7 @@ class Board:
     """The versions of a store that are held. Whoever feeds the store calls `advance` behind each commit; so a question for the
     last version never waits for the feed. At most as many versions are held as the store has seats."""
 
-    def __init__(self, store: "Store[Any, Any]", limits: Limits, clock: Callable[[], float] = time.monotonic) -> None:
+    def __init__(self, store: "Store[Any, Any]", limits: ServerLimits, clock: Callable[[], float] = time.monotonic) -> None:
         self.store, self.limits, self._clock = store, limits, clock
         self._lock = threading.Lock()
         # Sessions that are to be closed, which waits for a batch that is being applied: never with the lock.
@@ -223,10 +223,10 @@ class Board:
 
     # What is told.
 
-    def held(self) -> List[Held]:
+    def held(self) -> List[HeldVersion]:
         """The versions that are held, in order."""
         with self._lock:
-            return [Held(it.version, it.session.names, len(it.leases), it is self._last)
+            return [HeldVersion(it.version, it.session.names, len(it.leases), it is self._last)
                     for it in sorted(self._held.values(), key=lambda it: it.version)]
 
     def _first_end(self, leases: Any) -> int:

@@ -12,7 +12,7 @@ from typing import Any, Callable, Dict, List, NamedTuple, Optional, Tuple
 from . import wire
 from .asking import ASKED, Answers
 from .gate import Gate
-from .limits import Limits
+from .limits import ServerLimits
 
 # A head but for its length, which is its last line: where it is asked, and headers by names that are known.
 _FIRST = re.compile(rb"POST (/v1/sessions/[A-Za-z0-9_-]+/ask) HTTP/1\.1")
@@ -55,7 +55,7 @@ def headers_of(head: bytes) -> "Optional[Tuple[str, List[Tuple[bytes, bytes]]]]"
 class Responder:
     """What little questions are answered by. The gate looks at each head; one that it let in it lets in each time."""
 
-    def __init__(self, gate: Gate, answers: Answers, limits: Limits) -> None:
+    def __init__(self, gate: Gate, answers: Answers, limits: ServerLimits) -> None:
         self._gate, self._answers, self._most = gate, answers, limits.body
         self._headers = [*gate.headers, (b"content-type", wire.COLUMNS.encode("ascii"))]
 

@@ -9,7 +9,7 @@ from collections import deque
 from typing import Any, Callable, Deque, Dict, List, Mapping, Optional, Sequence, Tuple
 
 from .board import Board
-from .limits import Limits
+from .limits import ServerLimits
 from ..engine.operations import COMMANDS as OF_RECORDS, Operations, Row, row_of
 from ..engine.protocol import Denied
 from ..errors import Busy, SessionClosed, StoreError, refusal
@@ -62,7 +62,7 @@ class Feeder:
 class Feeding:
     """Who feeds the store, one at a time; another one is told `Busy`."""
 
-    def __init__(self, board: Board, limits: Limits, clock: Callable[[], float] = time.monotonic) -> None:
+    def __init__(self, board: Board, limits: ServerLimits, clock: Callable[[], float] = time.monotonic) -> None:
         self.board, self.store, self.limits, self._clock = board, board.store, limits, clock
         self.rate = Rate(clock)
         self.state, self.fault = "open", ""

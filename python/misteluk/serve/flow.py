@@ -12,7 +12,7 @@ from starlette.responses import Response
 
 from . import wire
 from .board import Full
-from .limits import BYTES_AT_ONCE, Limits
+from .limits import BYTES_AT_ONCE, ServerLimits
 
 R = TypeVar("R")
 Message = MutableMapping[str, Any]
@@ -52,7 +52,7 @@ class within:
 class Pool:
     """Threads that answer questions; those that wait are answered in turn."""
 
-    def __init__(self, threads: int, limits: Limits, name: str) -> None:
+    def __init__(self, threads: int, limits: ServerLimits, name: str) -> None:
         self._threads, self._limits = threads, limits
         self._pool = ThreadPoolExecutor(threads, thread_name_prefix=name)
         self._waiting = 0
@@ -107,7 +107,7 @@ class Streamed:
     """A response that is written as its reader takes it. Nothing is made for one that went; and one that takes nothing for too
     long is left, so that it doesn't keep the version that it asked."""
 
-    def __init__(self, flow: Flow, first: bytes, media: str, pool: Pool, limits: Limits) -> None:
+    def __init__(self, flow: Flow, first: bytes, media: str, pool: Pool, limits: ServerLimits) -> None:
         self._flow, self._first, self._pool, self._limits = flow, first, pool, limits
         self._headers = [(b"content-type", media.encode("ascii"))]
 

@@ -19,7 +19,7 @@ class TooLarge(ValueError):
     """A body is longer than the server takes."""
 
 
-class Limits(NamedTuple):
+class ServerLimits(NamedTuple):
     """`idle`: after how many seconds of silence a client's version, or its seat as the feeder, is let go. `clients`: how many
     sessions there may be. `body`: how many bytes a request's body may have. `time`: how many seconds a question may take.
     `questions`: how many questions that go over the whole graph are answered at once, and a hundred times as many may wait."""
@@ -30,7 +30,7 @@ class Limits(NamedTuple):
     time: float = 60.0
     questions: int = 4
 
-    def checked(self) -> "Limits":
+    def checked(self) -> "ServerLimits":
         """Itself; raises `ValueError` where one of them is out of range."""
         within("clients", self.clients, 1, 100_000)
         within("body", self.body, 1_024, 1 << 30)

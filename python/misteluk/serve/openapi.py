@@ -3,7 +3,7 @@ from __future__ import annotations
 
 from typing import Any, Dict, Optional
 
-from .questions import HELD, QUESTIONS, Parameter, Question
+from .questions import HELD, QUESTIONS, Parameter, ServedQuestion
 from ..version import VERSION
 
 # What each fault is told for, by its status.
@@ -40,7 +40,7 @@ def _faults() -> Dict[str, Any]:
     return {str(status): {"description": text, "content": content} for status, text in FAULTS.items()}
 
 
-def _question(it: Question) -> Dict[str, Any]:
+def _question(it: ServedQuestion) -> Dict[str, Any]:
     media, *_ = it.media.partition(";")
     schema = {"type": "object" if media == "application/json" else "string"}
     answer = {"description": it.about, "content": {media: {"schema": schema}}}

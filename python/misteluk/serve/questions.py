@@ -40,7 +40,7 @@ class Parameter(NamedTuple):
         return int(text)
 
 
-class Question(NamedTuple):
+class ServedQuestion(NamedTuple):
     """A question: its name in the URL, what it tells, what it is asked with, and what answers it, in which way."""
 
     name: str
@@ -179,23 +179,24 @@ WAY = Parameter("direction", "along edges, or either way", choices=("out", "both
 HOPS = Parameter("hops", "how many steps away", True, 0, 1_000)
 
 QUESTIONS = (
-    Question("edge", "one edge, or null", (Parameter("kind", "a kind", True), *ENDS), _edge, AT_ONCE),
-    Question("out_of", "the edges that go out of a vertex", (*VERTEX, *SCOPE, *TOP), _out_of, QUICK),
-    Question("into", "the edges that come into a vertex", (*VERTEX, *SCOPE, *TOP), _into),
-    Question("edges", "all edges", (*SCOPE, *TOP), _edges),
-    Question("levels", "how many steps each vertex is from a source that is reached from it",
-             (Parameter("source", "a vertex's name", True), *SCOPE, *TOP), _levels),
-    Question("within", "the vertices within so many steps",
-             (*VERTEX, HOPS, WAY, *SCOPE, *TOP), _within),
-    Question("path", "a shortest walk as its names, or null", (*ENDS, *SCOPE), _path),
-    Question("degrees", "how many edges go out of each vertex and come in, and the weight that goes out", (*SCOPE, *TOP, *BY),
-             _table("degrees")),
-    Question("weights_in", "the weight that comes into each vertex", (*SCOPE, *TOP), _table("weights_in")),
-    Question("components", "a label for each vertex, the same for those that edges join", SCOPE, _table("components")),
-    Question("cores", "each vertex's core number", (*SCOPE, *TOP), _table("cores")),
-    Question("names", "names of vertices that have a text", (Parameter("like", "a part of a name"), *TOP), _names),
-    Question("view", "a page of a vertex's neighborhood, beside that of another version where one is said",
-             (*VERTEX, HOPS._replace(is_needed=False, most=MOST_HOPS), Parameter("beside", "a version that is held", least=0),
-              Parameter("most", "how many vertices are drawn", least=1, most=MOST_DRAWN), *SCOPE), _view,
-             media="text/html; charset=utf-8"),
+    ServedQuestion("edge", "one edge, or null", (Parameter("kind", "a kind", True), *ENDS), _edge, AT_ONCE),
+    ServedQuestion("out_of", "the edges that go out of a vertex", (*VERTEX, *SCOPE, *TOP), _out_of, QUICK),
+    ServedQuestion("into", "the edges that come into a vertex", (*VERTEX, *SCOPE, *TOP), _into),
+    ServedQuestion("edges", "all edges", (*SCOPE, *TOP), _edges),
+    ServedQuestion("levels", "how many steps each vertex is from a source that is reached from it",
+                   (Parameter("source", "a vertex's name", True), *SCOPE, *TOP), _levels),
+    ServedQuestion("within", "the vertices within so many steps",
+                   (*VERTEX, HOPS, WAY, *SCOPE, *TOP), _within),
+    ServedQuestion("path", "a shortest walk as its names, or null", (*ENDS, *SCOPE), _path),
+    ServedQuestion("degrees", "how many edges go out of each vertex and come in, and the weight that goes out",
+                   (*SCOPE, *TOP, *BY), _table("degrees")),
+    ServedQuestion("weights_in", "the weight that comes into each vertex", (*SCOPE, *TOP), _table("weights_in")),
+    ServedQuestion("components", "a label for each vertex, the same for those that edges join", SCOPE, _table("components")),
+    ServedQuestion("cores", "each vertex's core number", (*SCOPE, *TOP), _table("cores")),
+    ServedQuestion("names", "names of vertices that have a text", (Parameter("like", "a part of a name"), *TOP), _names),
+    ServedQuestion("view", "a page of a vertex's neighborhood, beside that of another version where one is said",
+                   (*VERTEX, HOPS._replace(is_needed=False, most=MOST_HOPS),
+                    Parameter("beside", "a version that is held", least=0),
+                    Parameter("most", "how many vertices are drawn", least=1, most=MOST_DRAWN), *SCOPE), _view,
+                   media="text/html; charset=utf-8"),
 )

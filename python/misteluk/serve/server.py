@@ -11,7 +11,7 @@ from typing import Any, List, NamedTuple, Optional
 from .board import Board
 from .feeding import Feeding
 from .keeping import Keeper
-from .limits import LOOPBACK, Limits
+from .limits import LOOPBACK, ServerLimits
 from ..errors import Missing, StoreError
 from ..store import Store
 
@@ -103,7 +103,7 @@ class Server:
     """A store that is served. `start` begins to answer, in a thread of its own; `run` does so in this one, until it is ended."""
 
     def __init__(self, store: "Store[Any, Any]", listen: str = USUAL, *, token: Optional[str] = None,
-                 limits: Limits = Limits(), keeper: Optional[Keeper] = None, began: str = "without an edge") -> None:
+                 limits: ServerLimits = ServerLimits(), keeper: Optional[Keeper] = None, began: str = "without an edge") -> None:
         address = Address.of(listen)
         if token is None and not address.is_of_here:
             raise ValueError(f"{listen} can be reached from other machines: that wants a token (--token-file)")
@@ -208,4 +208,4 @@ def token_of(path: Optional[str]) -> Optional[str]:
         return file.read().strip()
 
 
-__all__: List[str] = ["Address", "Limits", "Server", "token_of"]
+__all__: List[str] = ["Address", "ServerLimits", "Server", "token_of"]
