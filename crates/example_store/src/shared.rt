@@ -4,30 +4,50 @@ ghost use Rattle.misteluk.specs.Opened.{IsOpeningOf};
 ghost use Rattle.misteluk.specs.Stores.{IsSeatOf};
 
 use misteluk::{
-    Batch, Config, NamedFilter, NamedOp, Naming, Opened, PassAll, Reply, Request, Seat, Session,
-    Store,
+    Batch, Command, Config, EndlessFeed, NamedFilter, NamedOp, Naming, Opened, PassAll, Reply,
+    Request, Seat, Session, Store,
 };
 use std::alloc::Global;
+use std::io::Read;
 use std::marker::Brand;
 use std::sync::Wait;
 use std::thread::{Threads, join};
 
-/// A batch of one road, from `ulm` to this town.
-fn road(alloc: Global, town: &str) -> Option<Batch> {
-    let op = NamedOp::insert(alloc, "road", "ulm", town, 1, 1).ok()?;
+/// Two roads from `ulm`, as records.
+const ROADS: &str = "i,road,ulm,jena,1,1\ni,road,ulm,bern,1,1\n";
+
+/// A batch of one operation.
+fn batch_of(alloc: Global, op: NamedOp) -> Option<Batch> {
     let mut batch = Batch::new(alloc);
     batch.push(op).ok()?;
     Some(batch)
 }
 
-/// Builds two roads, and tells the number of the version with both.
+/// A batch of one road, from `ulm` to this town.
+fn road(alloc: Global, town: &str) -> Option<Batch> {
+    let op = NamedOp::insert(alloc, "road", "ulm", town, 1, 1).ok()?;
+    batch_of(alloc, op)
+}
+
+/// A batch of the next record, where it is an operation.
+fn next_batch<R: Read>(alloc: Global, records: &mut EndlessFeed<R>) -> Option<Batch> {
+    match records.next().ok()? {
+        Some(Command::Op(op)) => batch_of(alloc, op),
+        _ => None,
+    }
+}
+
+/// Builds the roads of the records, and tells the number of the version with both.
 fn feed<J: Naming, R: Threads + Wait + Sync>(
     rt: &R,
     alloc: Global,
     store: &Store<J>,
 ) -> Option<u64> {
-    let _jena = store.apply(rt, &PassAll, road(alloc, "jena")?).ok()?;
-    let bern = store.apply(rt, &PassAll, road(alloc, "bern")?).ok()?;
+    let mut records = EndlessFeed::over(alloc, ROADS.as_bytes());
+    let first = next_batch(alloc, &mut records)?;
+    let _jena = store.apply(rt, &PassAll, first).ok()?;
+    let second = next_batch(alloc, &mut records)?;
+    let bern = store.apply(rt, &PassAll, second).ok()?;
     let _collected = store.collect(rt);
     Some(bern.number)
 }

@@ -4,6 +4,7 @@
 pub use batch_apply::{Gate, PassAll};
 pub use block_reclamation::{Board, Pin, PinCopy, SeatNo};
 pub use edge_block::{Block, EdgeRef};
+pub use feed_csv::{Command, EndlessFeed, Feed, FeedFault, FeedWord};
 pub use graph_types::{
     AskError, BadLimits, Batch, Content, Degree, Edge, Filter, KindId, Limits, List, Name,
     NamedFilter, NamedOp, Outcome, PushError, Reply, Request, VertexId, is_kind_name, is_name,
