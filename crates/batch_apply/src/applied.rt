@@ -20,7 +20,7 @@ ghost use Rattle.batch_apply.specs.Gathered.{IsGathered, IsWorked};
 
 use crate::plans::Plan;
 use crate::workers::{Gate, Job, PassAll, do_all, do_alone};
-use batch_shards::{Leavings, Shard, ShardDone, write_outcomes};
+use batch_shards::{Leavings, NewRow, Shard, ShardDone, write_outcomes};
 use edge_block::Block;
 use graph_types::{Batch, Outcome, VertexId};
 use graph_version::{RowTable, Version, VersionDraft};
@@ -49,6 +49,8 @@ pub struct Applied {
 pub struct Rewritten {
     pub applied: Applied,
     pub sources: Vec<VertexId>,
+    /// The sources whose long rows were edited, each with the places at which blocks changed.
+    pub edited: Vec<(VertexId, Vec<usize>)>,
 }
 
 /// The next version of a version, after a batch of which this is the plan, with as many fresh blocks at hand as
@@ -191,7 +193,7 @@ fn finish(
         → IsRewritten version.now (batch_value batch) numbers r) }
 {
     let edges = edges_after(version.edge_count(), &all.outcomes);
-    let sources = sources_of(alloc, all.rows.as_slice())?;
+    let (sources, edited) = sources_of(alloc, all.rows.as_slice())?;
     let draft = VersionDraft::over_table(version, names, kinds, table)?;
     let draft = replace_rows(draft, all.rows)?.push_batch(batch)?;
     let applied = Applied {
@@ -201,21 +203,33 @@ fn finish(
         dropped: all.left.dropped,
         unused: all.left.unused,
     };
-    Ok(Rewritten { applied, sources })
+    Ok(Rewritten {
+        applied,
+        sources,
+        edited,
+    })
 }
 
-/// The sources of rows, in their order.
+/// The sources of rows that are whole, in their order, and those of the others, each with the places at which blocks changed.
 fn sources_of(
     alloc: Global,
-    rows: &[(VertexId, Vec<Arc<Block>>)],
-) -> Result<Vec<VertexId>, AllocError>
-    ensures { IfOk result (λ v. v.items ≡ map (λ r. r.0) rows.now) }
-{
+    rows: &[(VertexId, NewRow)],
+) -> Result<(Vec<VertexId>, Vec<(VertexId, Vec<usize>)>), AllocError> {
     let mut sources = Vec::with_capacity(alloc, rows.len())?;
+    let mut edited = Vec::new(alloc);
     for row in rows {
-        sources.push(row.0)?;
+        match &row.1 {
+            NewRow::Whole(_) => sources.push(row.0)?,
+            NewRow::Edited(edits) => {
+                let mut places = Vec::with_capacity(alloc, edits.sets.len())?;
+                for set in &edits.sets {
+                    places.push(set.0)?;
+                }
+                edited.push((row.0, places))?;
+            }
+        }
     }
-    Ok(sources)
+    Ok((sources, edited))
 }
 
 /// What the shards of a batch are given.
@@ -345,7 +359,7 @@ struct Gathered {
     /// The outcome of each operation, in the batch's order.
     outcomes: Vec<Outcome>,
     /// The rows of the next version, each with its source.
-    rows: Vec<(VertexId, Vec<Arc<Block>>)>,
+    rows: Vec<(VertexId, NewRow)>,
     left: Leavings,
 }
 
@@ -469,13 +483,16 @@ fn edges_then(before: u64, outcome: Outcome) -> u64
 /// The draft with these rows, each in the place of its source's row.
 fn replace_rows(
     draft: VersionDraft,
-    rows: Vec<(VertexId, Vec<Arc<Block>>)>,
+    rows: Vec<(VertexId, NewRow)>,
 ) -> Result<VersionDraft, AllocError>
     ensures { IfOk result (ReplacesRows (row_values rows.items) draft) }
 {
     let mut draft = draft;
     for row in rows {
-        draft = draft.replace_row(row.0, row.1)?;
+        draft = match row.1 {
+            NewRow::Whole(blocks) => draft.replace_row(row.0, blocks)?,
+            NewRow::Edited(edits) => draft.edit_row(row.0, edits)?,
+        };
     }
     Ok(draft)
 }

@@ -5,6 +5,7 @@
 #![tactic(auto)]
 
 mod groups;
+mod long_rows;
 mod notes;
 mod open_rows;
 mod outcomes;
@@ -14,4 +15,4 @@ mod rows;
 mod shard;
 
 pub use outcomes::write_outcomes;
-pub use shard::{Act, Leavings, Place, Shard, ShardDone, Step, work_on};
+pub use shard::{Act, Leavings, NewRow, Place, Shard, ShardDone, Step, work_on};

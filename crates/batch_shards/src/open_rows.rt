@@ -162,7 +162,7 @@ pub fn do_steps(
 pub const LONG_ROW: usize = 4;
 
 /// As many operations are many for a row.
-const MANY_STEPS: usize = 32;
+pub const MANY_STEPS: usize = 32;
 
 /// The row of a source as the version has it, before the batch's first operation.
 ///

@@ -96,7 +96,7 @@ fn stands_at(row: &[RowBlock], place: usize, kind: KindId, target: u32) -> bool
 }
 
 /// Changes the edge to a target, which the block has, and answers the outcome.
-fn change_here(
+pub(crate) fn change_here(
     here: &mut RowBlock,
     fresh: &mut Vec<Arc<Block>>,
     target: u32,
@@ -184,7 +184,7 @@ fn add_edge(
 }
 
 /// A block of the batch's own with one edge.
-fn new_block(
+pub(crate) fn new_block(
     fresh: &mut Vec<Arc<Block>>,
     source: VertexId,
     kind: KindId,

@@ -11,12 +11,13 @@ ghost use Rattle.batch_shards.specs.Progress.{AreRowsDone};
 ghost use Rattle.batch_shards.specs.Shards.{AreSteps};
 
 use crate::groups::{Groups, group_steps, targets_of};
-use crate::open_rows::{LONG_ROW, close_row, do_steps, open_row};
+use crate::long_rows::{close_opened, do_long_row, has_expiry};
+use crate::open_rows::{LONG_ROW, MANY_STEPS, close_row, do_steps, open_row};
 use crate::row_blocks::RowBlock;
 use crate::rows::Hints;
 use edge_block::Block;
 use graph_types::{EdgeChange, KindId, Outcome, VertexId};
-use graph_version::Version;
+use graph_version::{Edits, LONG, Version};
 use std::alloc::{AllocError, Global};
 use std::sync::Arc;
 
@@ -114,13 +115,20 @@ pub struct Shard {
     pub fresh: Vec<Arc<Block>>,
 }
 
+/// A row of the next version: all its blocks, or what changes of a long one.
+#[derive(Drop)]
+pub enum NewRow {
+    Whole(Vec<Arc<Block>>),
+    Edited(Edits),
+}
+
 /// What a shard leaves.
 #[derive(Drop)]
 pub struct ShardDone {
     /// Each operation's place in the batch, and its outcome.
     pub outcomes: Vec<(u32, Outcome)>,
     /// The sources' rows of the next version.
-    pub rows: Vec<(VertexId, Vec<Arc<Block>>)>,
+    pub rows: Vec<(VertexId, NewRow)>,
     pub left: Leavings,
 }
 
@@ -156,9 +164,30 @@ fn do_row(
     } else {
         targets_of(alloc, groups, steps, row)?
     };
+    let is_long = blocks.len() >= LONG && !has_expiry(groups, steps);
+    if is_long && asked.len() < MANY_STEPS {
+        let closed = do_long_row(
+            alloc,
+            version,
+            source,
+            blocks,
+            fresh,
+            &mut done.outcomes,
+            steps,
+            groups,
+            row,
+            &mut done.left,
+        )?;
+        done.rows.push((source, closed))?;
+        return Ok(());
+    }
     let mut opened = open_row(alloc, source, blocks, asked.as_slice())?;
     do_steps(&mut opened, fresh, &mut done.outcomes, steps, groups, row)?;
-    let closed = close_row(alloc, opened.blocks, &mut done.left)?;
+    let closed = if is_long {
+        close_opened(alloc, opened.blocks, blocks.len(), &mut done.left)?
+    } else {
+        NewRow::Whole(close_row(alloc, opened.blocks, &mut done.left)?)
+    };
     done.rows.push((source, closed))?;
     Ok(())
 }

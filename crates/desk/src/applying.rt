@@ -95,6 +95,7 @@ pub(crate) struct Prepared {
     pub(crate) unused: Vec<Arc<Block>>,
     /// The sources whose rows the version before has otherwise.
     pub(crate) sources: Vec<VertexId>,
+    pub(crate) edited: Vec<(VertexId, Vec<usize>)>,
 }
 
 /// The numbers of blocks, in their order.
@@ -118,7 +119,11 @@ pub(crate) fn made_of(
     ensures { IfOk result (λ p. (v : VersionView) (numbers : List ℕ) → IsRewritten v (batch_value batch) numbers rewritten
         → IsPrepared v (batch_value batch) numbers p) }
 {
-    let Rewritten { applied, sources } = rewritten;
+    let Rewritten {
+        applied,
+        sources,
+        edited,
+    } = rewritten;
     let Applied {
         version,
         outcomes,
@@ -137,5 +142,6 @@ pub(crate) fn made_of(
         dropped,
         unused,
         sources,
+        edited,
     })
 }

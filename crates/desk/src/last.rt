@@ -84,21 +84,31 @@ impl Last {
 
     /// Takes a later version as the last, of which the rows of these sources alone differ. Where nobody else has the version before,
     /// its rows become the table; else there is none, and the next version shares the last one's.
-    pub(crate) fn follow(&mut self, version: Arc<Version>, sources: &[VertexId])
+    pub(crate) fn follow(
+        &mut self,
+        version: Arc<Version>,
+        sources: &[VertexId],
+        edited: &[(VertexId, Vec<usize>)],
+    )
         requires { DifferAt sources.now self.old.rows (arc_value {X = Version} version).rows }
         ensures { self.new ≡ arc_value {X = Version} version }
     {
         self.table = None;
         let before = std::mem::replace(&mut self.version, version);
-        self.table = table_of(before, &self.version, sources);
+        self.table = table_of(before, &self.version, sources, edited);
     }
 }
 
 /// A table with a version's rows: those of the version before it, if nobody else has that and there is memory.
-fn table_of(before: Arc<Version>, last: &Version, sources: &[VertexId]) -> Option<RowTable>
+fn table_of(
+    before: Arc<Version>,
+    last: &Version,
+    sources: &[VertexId],
+    edited: &[(VertexId, Vec<usize>)],
+) -> Option<RowTable>
     requires { DifferAt sources.now (arc_value {X = Version} before).rows last.now.rows }
     ensures { IsTableOf last.now.rows result }
 {
     let before = Arc::into_inner(before)?;
-    RowTable::caught_up(before, last, sources).ok()
+    RowTable::caught_up(before, last, sources, edited).ok()
 }

@@ -253,6 +253,7 @@ impl Ready {
             dropped,
             unused,
             sources,
+            edited,
         } = prepared;
         let kept = &mut *parts;
         let number = next_number(kept.last.version());
@@ -263,7 +264,8 @@ impl Ready {
             dropped: dropped_numbers,
         };
         kept.journal.enter(entry);
-        kept.last.follow(version, sources.as_slice());
+        kept.last
+            .follow(version, sources.as_slice(), edited.as_slice());
         move_blocks(&mut kept.pool, dropped, unused, number);
         (Desk { parts }, Accepted { number, outcomes })
     }

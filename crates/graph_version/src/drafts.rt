@@ -17,7 +17,7 @@ use graph_types::{Batch, VertexId};
 use std::alloc::AllocError;
 use std::marker::Model;
 use std::sync::Arc;
-use version_pages::Rows;
+use version_pages::{Edits, Rows};
 use vertex_names::NameBook;
 
 /// A version that is being made over another one, from which it takes all that isn't set or replaced.
@@ -123,6 +123,14 @@ impl VersionDraft {
     {
         Ok(VersionDraft {
             rows: self.rows.replace_row(source, blocks)?,
+            ..self
+        })
+    }
+
+    /// With a source's long row edited.
+    pub fn edit_row(self, source: VertexId, edits: Edits) -> Result<VersionDraft, AllocError> {
+        Ok(VersionDraft {
+            rows: self.rows.edit_row(source, edits)?,
             ..self
         })
     }

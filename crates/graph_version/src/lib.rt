@@ -33,4 +33,5 @@ pub use listed_arcs::ListedArcs;
 pub use source::ViewEdges;
 pub use tables::RowTable;
 pub use version_edges::VersionEdges;
+pub use version_pages::{Edits, LONG};
 pub use versions::Version;

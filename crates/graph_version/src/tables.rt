@@ -37,12 +37,17 @@ impl RowTable {
         version: Version,
         later: &Version,
         sources: &[VertexId],
+        edited: &[(VertexId, Vec<usize>)],
     ) -> Result<RowTable, AllocError>
         requires { DifferAt sources.now version.rows later.now.rows }
         ensures { IfOk result (λ table. table ≡ later.now.rows) }
     {
+        let mut rows = version.into_rows();
+        for row in edited {
+            rows = rows.followed(&later.rows, row.0, row.1.as_slice())?;
+        }
         Ok(RowTable {
-            rows: version.into_rows().caught_up(&later.rows, sources)?,
+            rows: rows.caught_up(&later.rows, sources)?,
         })
     }
 

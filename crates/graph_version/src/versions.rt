@@ -207,12 +207,18 @@ impl Version {
     pub fn edge(&self, kind: KindId, source: VertexId, target: VertexId) -> Option<EdgeRef<'_>>
         ensures { option_map lent_edge result ≡ lent_at self.now kind.0 source.0 target.0 }
     {
-        for block in self.rows.row_blocks(source) {
-            if let Some(edge) = edge_in(block, kind, target) {
-                return Some(edge);
-            }
-        }
-        None
+        let place = self.rows.find_place(source, kind, target.0)?;
+        edge_in(&self.rows.row_blocks(source)[place], kind, target)
+    }
+
+    /// The place of the first block of a source's row with the edge of a kind to a target.
+    pub fn find_place(&self, source: VertexId, kind: KindId, target: u32) -> Option<usize> {
+        self.rows.find_place(source, kind, target)
+    }
+
+    /// The place of the first block of a kind with a free slot in a source's long row, from a place on.
+    pub fn room_from(&self, source: VertexId, kind: KindId, start: usize) -> Option<usize> {
+        self.rows.room_from(source, kind, start)
     }
 
     /// Lends all edges, each with its source: sources rising, and those of one source as [`Version::row`] lends them. It

@@ -13,6 +13,7 @@ mod batch_group;
 mod batch_hall;
 mod batch_page;
 mod batches;
+mod listed;
 mod row;
 mod row_group;
 mod row_hall;
@@ -20,4 +21,6 @@ mod row_page;
 mod rows;
 
 pub use batches::{BatchIter, BatchList};
+pub use listed::Edits;
+pub use row::LONG;
 pub use rows::Rows;

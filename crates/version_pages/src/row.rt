@@ -5,7 +5,9 @@ ghost use Rattle.edge_block.specs.Slots.{has_before};
 ghost use Rattle.version_pages.specs.Sharing.{block_values, row_values};
 ghost use Rattle.version_pages.specs.Ages.{is_old_row};
 
+use crate::listed::{Edits, Listed};
 use edge_block::Block;
+use graph_types::KindId;
 use std::alloc::{AllocError, Global};
 use std::marker::Model;
 use std::slice;
@@ -17,7 +19,11 @@ pub(crate) enum Blocks {
     Empty,
     One(Arc<Block>),
     Many(Arc<Vec<Arc<Block>>>),
+    Long(Arc<Listed>),
 }
+
+/// From so many blocks on a row has sketches.
+pub const LONG: usize = 64;
 
 impl Blocks {
     /// The same blocks, shared.
@@ -28,6 +34,7 @@ impl Blocks {
             Blocks::Empty => Ok(Blocks::Empty),
             Blocks::One(block) => Ok(Blocks::One(Arc::try_clone(block)?)),
             Blocks::Many(blocks) => Ok(Blocks::Many(Arc::try_clone(blocks)?)),
+            Blocks::Long(list) => Ok(Blocks::Long(Arc::try_clone(list)?)),
         }
     }
 
@@ -39,6 +46,7 @@ impl Blocks {
             Blocks::Empty => &[],
             Blocks::One(block) => slice::from_ref(block),
             Blocks::Many(blocks) => blocks.as_slice(),
+            Blocks::Long(list) => list.blocks(),
         }
     }
 }
@@ -146,11 +154,82 @@ impl Row {
     pub(crate) fn of(alloc: Global, blocks: Vec<Arc<Block>>) -> Result<Row, AllocError>
         ensures { IfOk result (λ row. row ≡ block_values blocks.items) }
     {
+        if blocks.len() >= LONG {
+            let list = Listed::of(alloc, blocks)?;
+            let since = list.since();
+            return Ok(Row {
+                blocks: Blocks::Long(Arc::new(alloc, list)?),
+                since,
+            });
+        }
         let since = blocks_since(blocks.as_slice());
         Ok(Row {
             blocks: listed(alloc, blocks)?,
             since,
         })
+    }
+
+    /// Takes the row out: an empty one with its bound is left.
+    pub(crate) fn take(&mut self) -> Row {
+        let rest = Row {
+            blocks: Blocks::Empty,
+            since: self.since,
+        };
+        std::mem::replace(self, rest)
+    }
+
+    /// The row once it has been edited; it is a long one.
+    pub(crate) fn edited(self, edits: Edits) -> Result<Row, AllocError> {
+        let Row {
+            blocks,
+            since: _since,
+        } = self;
+        let Blocks::Long(mut list) = blocks else {
+            return Err(AllocError);
+        };
+        let own = Arc::make_mut(&mut list)?;
+        own.edit(edits)?;
+        let since = own.since();
+        Ok(Row {
+            blocks: Blocks::Long(list),
+            since,
+        })
+    }
+
+    /// The row that another one is, of which this one differs at these places alone: in this one's list, where nobody else has that.
+    pub(crate) fn followed(self, from: &Row, places: &[usize]) -> Result<Row, AllocError> {
+        let Row {
+            blocks,
+            since: _since,
+        } = self;
+        let Blocks::Long(mut list) = blocks else {
+            return from.clone();
+        };
+        let Some(own) = Arc::get_mut(&mut list) else {
+            return from.clone();
+        };
+        own.follow(from.blocks(), places)?;
+        Ok(Row {
+            blocks: Blocks::Long(list),
+            since: from.since,
+        })
+    }
+
+    /// The place of the first block with the edge of a kind to a target.
+    pub(crate) fn find_place(&self, kind: KindId, target: u32) -> Option<usize> {
+        match &self.blocks {
+            Blocks::Long(list) => list.find_place(kind, target),
+            _ => self.blocks().iter().position(|block| block.kind() == kind
+                && block.find(target).is_some()),
+        }
+    }
+
+    /// The place of the first block of a kind with a free slot, from a place on, in a long row.
+    pub(crate) fn room_from(&self, kind: KindId, start: usize) -> Option<usize> {
+        match &self.blocks {
+            Blocks::Long(list) => list.room_from(kind, start),
+            _ => None,
+        }
     }
 
     /// Its blocks, in order.

@@ -74,6 +74,11 @@ impl Group {
         self.pages[place / PAGE].young_from(place % PAGE, time)
     }
 
+    /// Takes a row out of its place.
+    pub(crate) fn take(&mut self, place: usize) -> Result<Row, AllocError> {
+        Arc::make_mut(&mut self.pages[place / PAGE])?.take(place % PAGE)
+    }
+
     /// Writes a row at a place, into copies of its page and part where other versions have them.
     pub(crate) fn put(&mut self, place: usize, row: Row) -> Result<(), AllocError>
         requires { place < 1024 }

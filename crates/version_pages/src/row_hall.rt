@@ -83,6 +83,11 @@ impl Hall {
         }
     }
 
+    /// Takes a row out of its place.
+    pub(crate) fn take(&mut self, place: usize) -> Result<Row, AllocError> {
+        Arc::make_mut(&mut self.groups[place / GROUP])?.take(place % GROUP)
+    }
+
     /// Writes a row at a place, into copies of its group, page and part where other versions have them.
     pub(crate) fn put(&mut self, alloc: Global, place: usize, row: Row) -> Result<(), AllocError>
         requires { place < 65536 }

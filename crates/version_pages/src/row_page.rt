@@ -217,6 +217,11 @@ impl Page {
         self.parts[place / PART].young_from(place % PART, time)
     }
 
+    /// Takes a row out of its place.
+    pub(crate) fn take(&mut self, place: usize) -> Result<Row, AllocError> {
+        Ok(Arc::make_mut(&mut self.parts[place / PART])?.rows[place % PART].take())
+    }
+
     /// Writes a row at a place, into a copy of its part where other versions have it.
     pub(crate) fn put(&mut self, place: usize, row: Row) -> Result<(), AllocError>
         requires { place < 64 }

@@ -7,10 +7,11 @@ ghost use Rattle.version_pages.specs.Sharing.{block_values};
 ghost use Rattle.version_pages.specs.Ages.{IsNextOld};
 ghost use Rattle.version_pages.specs.RowHalls.{in_halls, AreHalls};
 
+use crate::listed::Edits;
 use crate::row::Row;
 use crate::row_hall::Hall;
 use edge_block::Block;
-use graph_types::VertexId;
+use graph_types::{KindId, VertexId};
 use std::alloc::{AllocError, Global};
 use std::marker::Model;
 use std::sync::Arc;
@@ -164,6 +165,58 @@ impl Rows {
             halls,
         })
     }
+}
+
+impl Rows {
+    /// The place of the first block of a source's row with the edge of a kind to a target.
+    pub fn find_place(&self, source: VertexId, kind: KindId, target: u32) -> Option<usize> {
+        match self.row(source) {
+            None => None,
+            Some(row) => row.find_place(kind, target),
+        }
+    }
+
+    /// The place of the first block of a kind with a free slot in a source's long row, from a place on.
+    pub fn room_from(&self, source: VertexId, kind: KindId, start: usize) -> Option<usize> {
+        match self.row(source) {
+            None => None,
+            Some(row) => row.room_from(kind, start),
+        }
+    }
+
+    /// The rows with a source's long row edited.
+    pub fn edit_row(self, source: VertexId, edits: Edits) -> Result<Rows, AllocError> {
+        let alloc = *self.halls.allocator();
+        let source = source.0 as usize;
+        let Rows { len, mut halls } = self;
+        let row = take_row(&mut halls, source)?.edited(edits)?;
+        put_row(alloc, &mut halls, source, row)?;
+        Ok(Rows { len, halls })
+    }
+
+    /// These rows once a source's long row was taken over from other rows, of which it differs at these places alone.
+    pub fn followed(
+        self,
+        from: &Rows,
+        source: VertexId,
+        places: &[usize],
+    ) -> Result<Rows, AllocError> {
+        let alloc = *self.halls.allocator();
+        let Rows { len, mut halls } = self;
+        let at = source.0 as usize;
+        let before = take_row(&mut halls, at)?;
+        let row = match from.row(source) {
+            None => Row::empty(),
+            Some(other) => before.followed(other, places)?,
+        };
+        put_row(alloc, &mut halls, at, row)?;
+        Ok(Rows { len, halls })
+    }
+}
+
+/// Takes a source's row out of its part, or out of a copy of that where other versions have it.
+fn take_row(halls: &mut Vec<Arc<Hall>>, source: usize) -> Result<Row, AllocError> {
+    Arc::make_mut(&mut halls[source / HALL])?.take(source % HALL)
 }
 
 /// Writes the rows of these sources as other rows have them.
