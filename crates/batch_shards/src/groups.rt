@@ -73,6 +73,7 @@ pub fn group_steps(alloc: Global, rows: usize, steps: &[Step]) -> Result<Option<
 }
 
 /// The first operation on a row's edges, or else the number of all operations.
+#[inline(always)]
 pub fn first_edge(groups: &Option<Groups>, steps: &[Step], row: usize) -> usize
     requires { (rows : ℕ) × (row < rows) × IsGrouped rows steps.now groups.now }
     ensures { IsNext (is_at row) steps.now 0 result }
@@ -84,6 +85,7 @@ pub fn first_edge(groups: &Option<Groups>, steps: &[Step], row: usize) -> usize
 }
 
 /// The next operation on a row's edges behind a place, where this was the next one at the place.
+#[inline(always)]
 pub fn edge_behind(
     groups: &Option<Groups>,
     steps: &[Step],
@@ -103,6 +105,7 @@ pub fn edge_behind(
 }
 
 /// From a place on an expiry, or else the number of all operations, as `Groups::later_expiry`.
+#[inline(always)]
 pub fn later_expiry(groups: &Option<Groups>, steps: &[Step], place: usize, since: u64) -> usize
     requires groups { (rows : ℕ) × IsGrouped rows steps.now groups.now }
     requires place { place ≤ length steps.now }
@@ -115,6 +118,7 @@ pub fn later_expiry(groups: &Option<Groups>, steps: &[Step], place: usize, since
 }
 
 /// The first operation on a row's edges that is not before a place, or else the number of all operations.
+#[inline(always)]
 fn edge_from(steps: &[Step], row: usize, place: usize) -> usize
     requires { place ≤ length steps.now }
     ensures { IsNext (is_at row) steps.now place result }

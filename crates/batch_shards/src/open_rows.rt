@@ -257,6 +257,7 @@ fn close_block(
 }
 
 /// The row's blocks of the next version.
+#[inline(always)]
 pub fn close_row(
     alloc: Global,
     blocks: Vec<RowBlock>,

@@ -96,6 +96,7 @@ fn stands_at(row: &[RowBlock], place: usize, kind: KindId, target: u32) -> bool
 }
 
 /// Changes the edge to a target, which the block has, and answers the outcome.
+#[inline(always)]
 pub(crate) fn change_here(
     here: &mut RowBlock,
     fresh: &mut Vec<Arc<Block>>,
@@ -184,6 +185,7 @@ fn add_edge(
 }
 
 /// A block of the batch's own with one edge.
+#[inline(always)]
 pub(crate) fn new_block(
     fresh: &mut Vec<Arc<Block>>,
     source: VertexId,

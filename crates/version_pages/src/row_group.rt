@@ -75,8 +75,15 @@ impl Group {
     }
 
     /// Takes a row out of its place.
-    pub(crate) fn take(&mut self, place: usize) -> Result<Row, AllocError> {
-        Arc::make_mut(&mut self.pages[place / PAGE])?.take(place % PAGE)
+    pub(crate) fn take(&mut self, alloc: Global, place: usize) -> Result<Row, AllocError> {
+        let page = &mut self.pages[place / PAGE];
+        if let Some(own) = Arc::get_mut(page) {
+            return own.take(alloc, place % PAGE);
+        }
+        let mut copy = Page::clone(&**page)?;
+        let row = copy.take(alloc, place % PAGE)?;
+        *page = Arc::new(alloc, copy)?;
+        Ok(row)
     }
 
     /// Writes a row at a place, into copies of its page and part where other versions have them.

@@ -84,8 +84,15 @@ impl Hall {
     }
 
     /// Takes a row out of its place.
-    pub(crate) fn take(&mut self, place: usize) -> Result<Row, AllocError> {
-        Arc::make_mut(&mut self.groups[place / GROUP])?.take(place % GROUP)
+    pub(crate) fn take(&mut self, alloc: Global, place: usize) -> Result<Row, AllocError> {
+        let group = &mut self.groups[place / GROUP];
+        if let Some(own) = Arc::get_mut(group) {
+            return own.take(alloc, place % GROUP);
+        }
+        let mut copy = Group::clone(&**group)?;
+        let row = copy.take(alloc, place % GROUP)?;
+        *group = Arc::new(alloc, copy)?;
+        Ok(row)
     }
 
     /// Writes a row at a place, into copies of its group, page and part where other versions have them.

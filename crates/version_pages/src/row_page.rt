@@ -218,8 +218,15 @@ impl Page {
     }
 
     /// Takes a row out of its place.
-    pub(crate) fn take(&mut self, place: usize) -> Result<Row, AllocError> {
-        Ok(Arc::make_mut(&mut self.parts[place / PART])?.rows[place % PART].take())
+    pub(crate) fn take(&mut self, alloc: Global, place: usize) -> Result<Row, AllocError> {
+        let part = &mut self.parts[place / PART];
+        if let Some(own) = Arc::get_mut(part) {
+            return Ok(own.rows[place % PART].take());
+        }
+        let mut copy = Part::clone(&**part)?;
+        let row = copy.rows[place % PART].take();
+        *part = Arc::new(alloc, copy)?;
+        Ok(row)
     }
 
     /// Writes a row at a place, into a copy of its part where other versions have it.

@@ -189,7 +189,7 @@ impl Rows {
         let alloc = *self.halls.allocator();
         let source = source.0 as usize;
         let Rows { len, mut halls } = self;
-        let row = take_row(&mut halls, source)?.edited(edits)?;
+        let row = take_row(alloc, &mut halls, source)?.edited(edits)?;
         put_row(alloc, &mut halls, source, row)?;
         Ok(Rows { len, halls })
     }
@@ -204,7 +204,7 @@ impl Rows {
         let alloc = *self.halls.allocator();
         let Rows { len, mut halls } = self;
         let at = source.0 as usize;
-        let before = take_row(&mut halls, at)?;
+        let before = take_row(alloc, &mut halls, at)?;
         let row = match from.row(source) {
             None => Row::empty(),
             Some(other) => before.followed(other, places)?,
@@ -215,8 +215,15 @@ impl Rows {
 }
 
 /// Takes a source's row out of its part, or out of a copy of that where other versions have it.
-fn take_row(halls: &mut Vec<Arc<Hall>>, source: usize) -> Result<Row, AllocError> {
-    Arc::make_mut(&mut halls[source / HALL])?.take(source % HALL)
+fn take_row(alloc: Global, halls: &mut Vec<Arc<Hall>>, source: usize) -> Result<Row, AllocError> {
+    let hall = &mut halls[source / HALL];
+    if let Some(own) = Arc::get_mut(hall) {
+        return own.take(alloc, source % HALL);
+    }
+    let mut copy = Hall::clone(&**hall)?;
+    let row = copy.take(alloc, source % HALL)?;
+    *hall = Arc::new(alloc, copy)?;
+    Ok(row)
 }
 
 /// Writes the rows of these sources as other rows have them.
