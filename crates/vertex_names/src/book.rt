@@ -48,10 +48,11 @@ impl<T: Drop> From<AllocFailed<T>> for AddError {
 
 /// The names that have appeared, in order of first appearance; a name's number is its place.
 ///
-/// A look-up takes no memory: one look into the cache and one comparison of texts, or else one hash, a search in two lists
-/// that rise, and one comparison more. A new name takes one copy of its text. The first one after a `share` takes a pointer for
-/// each 32,768 names, each chunk of 256 of the last ones and each of 32 shelves of the index, and each one copies of the last
-/// 256 texts at most, and of the 16 pointers of a shelf, a list and a piece of one part. The cache takes 8 to 16 bytes a name.
+/// A look-up takes no memory: a look at two slots of the cache and one comparison of texts, or else one hash, a search in two
+/// lists that rise, and one comparison more. A new name takes one copy of its text. The first one after a `share` takes a
+/// pointer for each 32,768 names, each chunk of 256 of the last ones and each of 32 shelves of the index, and each one copies
+/// of the last 256 texts at most, and of the 16 pointers of a shelf, a list and a piece of one part. The cache takes 16 to 32
+/// bytes a name.
 pub struct NameBook {
     limit: u32,
     alloc: Global,
