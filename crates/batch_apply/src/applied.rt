@@ -28,6 +28,7 @@ use std::alloc::{AllocError, Global};
 use std::sync::Arc;
 use std::thread::Threads;
 use vertex_names::NameBook;
+use version_pages::Row;
 
 /// What a batch leaves of a version.
 #[derive(Drop)]
@@ -40,6 +41,7 @@ pub struct Applied {
     pub taken: Vec<u32>,
     /// The blocks of the version before that the next one doesn't have.
     pub dropped: Vec<Arc<Block>>,
+    pub dropped_numbers: Vec<u32>,
     /// The fresh blocks that the next version doesn't have.
     pub unused: Vec<Arc<Block>>,
 }
@@ -193,12 +195,13 @@ fn finish(
     let edges = edges_after(version.edge_count(), &all.outcomes);
     let sources = sources_of(alloc, all.rows.as_slice())?;
     let draft = VersionDraft::over_table(version, names, kinds, table)?;
-    let draft = replace_rows(draft, all.rows)?.push_batch(batch)?;
+    let draft = draft.put_rows(all.rows)?.push_batch(batch)?;
     let applied = Applied {
         version: draft.finish_counted(edges),
         outcomes: all.outcomes,
         taken: all.left.taken,
         dropped: all.left.dropped,
+        dropped_numbers: all.left.dropped_numbers,
         unused: all.left.unused,
     };
     Ok(Rewritten { applied, sources })
@@ -207,7 +210,7 @@ fn finish(
 /// The sources of rows, in their order.
 fn sources_of(
     alloc: Global,
-    rows: &[(VertexId, Vec<Arc<Block>>)],
+    rows: &[(VertexId, Row)],
 ) -> Result<Vec<VertexId>, AllocError>
     ensures { IfOk result (λ v. v.items ≡ map (λ r. r.0) rows.now) }
 {
@@ -345,7 +348,7 @@ struct Gathered {
     /// The outcome of each operation, in the batch's order.
     outcomes: Vec<Outcome>,
     /// The rows of the next version, each with its source.
-    rows: Vec<(VertexId, Vec<Arc<Block>>)>,
+    rows: Vec<(VertexId, Row)>,
     left: Leavings,
 }
 
@@ -389,6 +392,7 @@ fn none_gathered(
         left: Leavings {
             taken: Vec::new(alloc),
             dropped: Vec::new(alloc),
+            dropped_numbers: Vec::new(alloc),
             unused,
         },
     })
@@ -437,6 +441,7 @@ fn add_blocks(all: &mut Leavings, left: &mut Leavings) -> Result<(), AllocError>
         ++ numbers_of left.old.unused.items) }
 {
     add_items(&mut all.dropped, &mut left.dropped)?;
+    add_items(&mut all.dropped_numbers, &mut left.dropped_numbers)?;
     add_items(&mut all.unused, &mut left.unused)?;
     Ok(())
 }
@@ -464,18 +469,4 @@ fn edges_then(before: u64, outcome: Outcome) -> u64
         Outcome::Expired(count) => before.wrapping_sub(count),
         Outcome::Updated | Outcome::Absent | Outcome::Overflow => before,
     }
-}
-
-/// The draft with these rows, each in the place of its source's row.
-fn replace_rows(
-    draft: VersionDraft,
-    rows: Vec<(VertexId, Vec<Arc<Block>>)>,
-) -> Result<VersionDraft, AllocError>
-    ensures { IfOk result (ReplacesRows (row_values rows.items) draft) }
-{
-    let mut draft = draft;
-    for row in rows {
-        draft = draft.replace_row(row.0, row.1)?;
-    }
-    Ok(draft)
 }

@@ -24,6 +24,7 @@ use crate::rows::{Hints, apply_step, expire_blocks, least_time};
 use crate::shard::{Act, Leavings, OpenRow, Place, Step};
 use edge_block::Block;
 use graph_types::{EdgeChange, KindId, Outcome, VertexId};
+use version_pages::Row;
 use std::alloc::{AllocError, Global};
 use std::sync::Arc;
 
@@ -245,6 +246,7 @@ fn close_block(
         return Ok(());
     }
     if let Some(old) = before {
+        left.dropped_numbers.push(old.number())?;
         left.dropped.push(old)?;
     }
     if is_bare(&block) {
@@ -256,21 +258,47 @@ fn close_block(
     Ok(())
 }
 
+fn close_one(blocks: RowBlock, left: &mut Leavings) -> Result<Row, AllocError> {
+    let RowBlock {
+        block,
+        touched,
+        before,
+    } = blocks;
+    if !touched {
+        return Ok(Row::of_one(block));
+    }
+    if let Some(old) = before {
+        left.dropped_numbers.push(old.number())?;
+        left.dropped.push(old)?;
+    }
+    if is_bare(&block) {
+        left.unused.push(block)?;
+        return Ok(Row::empty());
+    }
+    left.taken.push(block.number())?;
+    Ok(Row::of_one(block))
+}
+
 /// The row's blocks of the next version.
 pub fn close_row(
     alloc: Global,
-    blocks: Vec<RowBlock>,
+    mut blocks: Vec<RowBlock>,
     left: &mut Leavings,
-) -> Result<Vec<Arc<Block>>, AllocError>
+) -> Result<Row, AllocError>
     ensures row { IfOk result (λ r. blocks_of r.items ≡ after_of blocks.items) }
     ensures taken { OnOk result (left.new.taken.items ≡ left.old.taken.items ++ map (λ b. b.number) (written_of blocks.items)) }
     ensures dropped { OnOk result (blocks_of left.new.dropped.items ≡ blocks_of left.old.dropped.items
         ++ dropped_of blocks.items) }
     ensures unused { OnOk result (numbers_of left.new.unused.items ≡ numbers_of left.old.unused.items ++ unused_of blocks.items) }
 {
+    if blocks.len() == 1 {
+        if let Some(last) = blocks.pop() {
+            return close_one(last, left);
+        }
+    }
     let mut row = Vec::with_capacity(alloc, blocks.len())?;
     for block in blocks {
         close_block(block, &mut row, left)?;
     }
-    Ok(row)
+    Row::of(alloc, row)
 }

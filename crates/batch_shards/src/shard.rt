@@ -17,6 +17,7 @@ use crate::rows::Hints;
 use edge_block::Block;
 use graph_types::{EdgeChange, KindId, Outcome, VertexId};
 use graph_version::Version;
+use version_pages::Row;
 use std::alloc::{AllocError, Global};
 use std::sync::Arc;
 
@@ -92,6 +93,7 @@ pub struct Leavings {
     pub taken: Vec<u32>,
     /// The blocks of the version before that the rows no longer have.
     pub dropped: Vec<Arc<Block>>,
+    pub dropped_numbers: Vec<u32>,
     /// The fresh blocks that no row keeps.
     pub unused: Vec<Arc<Block>>,
 }
@@ -120,7 +122,7 @@ pub struct ShardDone {
     /// Each operation's place in the batch, and its outcome.
     pub outcomes: Vec<(u32, Outcome)>,
     /// The sources' rows of the next version.
-    pub rows: Vec<(VertexId, Vec<Arc<Block>>)>,
+    pub rows: Vec<(VertexId, Row)>,
     pub left: Leavings,
 }
 
@@ -189,8 +191,9 @@ fn none_done(alloc: Global, rows: usize, steps: &[Step]) -> Result<ShardDone, Al
         outcomes,
         rows: Vec::with_capacity(alloc, rows)?,
         left: Leavings {
-            taken: Vec::new(alloc),
-            dropped: Vec::new(alloc),
+            taken: Vec::with_capacity(alloc, rows)?,
+            dropped: Vec::with_capacity(alloc, rows)?,
+            dropped_numbers: Vec::with_capacity(alloc, rows)?,
             unused: Vec::new(alloc),
         },
     })

@@ -194,6 +194,12 @@ impl Pool {
         self.bodies.set(number as usize, Some(block));
     }
 
+    /// As `retire`, with the number at hand.
+    pub fn retire_numbered(&mut self, number: u32, block: Arc<Block>, version: u64) {
+        self.numbers.retire(number, version);
+        self.bodies.set(number as usize, Some(block));
+    }
+
     /// Frees each retired block that the copy doesn't need, and tells how many. It takes no memory, and time by how many
     /// blocks it frees, were retired since the last call, and stood under a settled pin that the copy hasn't; not by those
     /// that pins keep.

@@ -92,20 +92,10 @@ pub(crate) struct Prepared {
     pub(crate) taken: List<u32>,
     pub(crate) dropped_numbers: List<u32>,
     pub(crate) dropped: Vec<Arc<Block>>,
+    pub(crate) dropped_again: Vec<u32>,
     pub(crate) unused: Vec<Arc<Block>>,
     /// The sources whose rows the version before has otherwise.
     pub(crate) sources: Vec<VertexId>,
-}
-
-/// The numbers of blocks, in their order.
-fn numbers_in(alloc: Global, blocks: &[Arc<Block>]) -> Result<Vec<u32>, AllocError>
-    ensures { IfOk result (λ v. v.items ≡ numbers_of blocks.now) }
-{
-    let mut numbers = Vec::with_capacity(alloc, blocks.len())?;
-    for block in blocks {
-        numbers.push(block.number())?;
-    }
-    Ok(numbers)
 }
 
 /// What is made of a batch that was applied. It stands apart: the fewer values a function owns at an exit, the cheaper
@@ -124,9 +114,12 @@ pub(crate) fn made_of(
         outcomes,
         taken,
         dropped,
+        dropped_numbers,
         unused,
     } = applied;
-    let dropped_numbers = List::of(numbers_in(alloc, dropped.as_slice())?);
+    let mut dropped_again = Vec::with_capacity(alloc, dropped_numbers.len())?;
+    dropped_again.extend_from_slice(dropped_numbers.as_slice())?;
+    let dropped_numbers = List::of(dropped_numbers);
     let version = Arc::new(alloc, version)?;
     Ok(Prepared {
         version,
@@ -134,6 +127,7 @@ pub(crate) fn made_of(
         batch,
         taken: List::of(taken),
         dropped_numbers,
+        dropped_again,
         dropped,
         unused,
         sources,

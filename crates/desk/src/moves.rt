@@ -43,12 +43,14 @@ pub(crate) fn born_blocks(pool: &mut Pool, taken: &[u32], version: u64)
 }
 
 /// Retires blocks with the number of the version that leaves them out.
-pub(crate) fn retire_blocks(pool: &mut Pool, mut blocks: Vec<Arc<Block>>, version: u64)
+pub(crate) fn retire_blocks(pool: &mut Pool, mut blocks: Vec<Arc<Block>>, mut numbers: Vec<u32>, version: u64)
     requires { AreBornOnce (numbers_of blocks.items) pool.old }
     ensures { pool.new ≡ changed (retired version) (numbers_of blocks.items) pool.old }
 {
     while let Some(block) = blocks.pop() {
-        pool.retire(block, version);
+        if let Some(number) = numbers.pop() {
+            pool.retire_numbered(number, block, version);
+        }
     }
 }
 
@@ -56,6 +58,7 @@ pub(crate) fn retire_blocks(pool: &mut Pool, mut blocks: Vec<Arc<Block>>, versio
 pub(crate) fn move_blocks(
     pool: &mut Pool,
     dropped: Vec<Arc<Block>>,
+    numbers: Vec<u32>,
     unused: Vec<Arc<Block>>,
     version: u64,
 )
@@ -63,6 +66,6 @@ pub(crate) fn move_blocks(
     requires unused { AreUsedOnce (numbers_of unused.items) (changed (retired version) (numbers_of dropped.items) pool.old) }
     ensures { pool.new ≡ marked (numbers_of unused.items) Free (changed (retired version) (numbers_of dropped.items) pool.old) }
 {
-    retire_blocks(pool, dropped, version);
+    retire_blocks(pool, dropped, numbers, version);
     give_back_blocks(pool, unused);
 }

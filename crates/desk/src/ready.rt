@@ -250,6 +250,7 @@ impl Ready {
             batch,
             taken,
             dropped_numbers,
+            dropped_again,
             dropped,
             unused,
             sources,
@@ -264,7 +265,7 @@ impl Ready {
         };
         kept.journal.enter(entry);
         kept.last.follow(version, sources.as_slice());
-        move_blocks(&mut kept.pool, dropped, unused, number);
+        move_blocks(&mut kept.pool, dropped, dropped_again, unused, number);
         (Desk { parts }, Accepted { number, outcomes })
     }
 

@@ -17,7 +17,7 @@ use graph_types::{Batch, VertexId};
 use std::alloc::AllocError;
 use std::marker::Model;
 use std::sync::Arc;
-use version_pages::Rows;
+use version_pages::{Row, Rows};
 use vertex_names::NameBook;
 
 /// A version that is being made over another one, from which it takes all that isn't set or replaced.
@@ -124,6 +124,21 @@ impl VersionDraft {
         Ok(VersionDraft {
             rows: self.rows.replace_row(source, blocks)?,
             ..self
+        })
+    }
+
+    /// As `replace_row`, of many rows that are made.
+    pub fn put_rows(self, rows: Vec<(VertexId, Row)>) -> Result<VersionDraft, AllocError> {
+        let mut all = self.rows;
+        for row in rows {
+            all = all.put(row.0, row.1)?;
+        }
+        Ok(VersionDraft {
+            names: self.names,
+            kinds: self.kinds,
+            batches: self.batches,
+            opening: self.opening,
+            rows: all,
         })
     }
 

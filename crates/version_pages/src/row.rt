@@ -91,7 +91,7 @@ fn any_before(blocks: &[Arc<Block>], time: u64) -> bool
 }
 
 /// A source's row, and since when its edges have been touched.
-pub(crate) struct Row {
+pub struct Row {
     blocks: Blocks,
     since: u64,
 }
@@ -133,7 +133,7 @@ impl Clone for Row {
 
 impl Row {
     /// A row without blocks.
-    pub(crate) fn empty() -> Row
+    pub fn empty() -> Row
         ensures { result ≡ [] }
     {
         Row {
@@ -143,7 +143,7 @@ impl Row {
     }
 
     /// The row of these blocks.
-    pub(crate) fn of(alloc: Global, blocks: Vec<Arc<Block>>) -> Result<Row, AllocError>
+    pub fn of(alloc: Global, blocks: Vec<Arc<Block>>) -> Result<Row, AllocError>
         ensures { IfOk result (λ row. row ≡ block_values blocks.items) }
     {
         let since = blocks_since(blocks.as_slice());
@@ -151,6 +151,15 @@ impl Row {
             blocks: listed(alloc, blocks)?,
             since,
         })
+    }
+
+    /// The row of one block.
+    pub fn of_one(block: Arc<Block>) -> Row {
+        let since = block_since(&block);
+        Row {
+            blocks: Blocks::One(block),
+            since,
+        }
     }
 
     /// Its blocks, in order.

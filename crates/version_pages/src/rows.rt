@@ -166,6 +166,20 @@ impl Rows {
     }
 }
 
+impl Rows {
+    /// As `replace_row`, with the row made.
+    pub fn put(self, source: VertexId, row: Row) -> Result<Rows, AllocError> {
+        let alloc = *self.halls.allocator();
+        let source = source.0 as usize;
+        let Rows { len, mut halls } = self;
+        put_row(alloc, &mut halls, source, row)?;
+        Ok(Rows {
+            len: len.max(source + 1),
+            halls,
+        })
+    }
+}
+
 /// Writes the rows of these sources as other rows have them.
 fn take_over(
     alloc: Global,
