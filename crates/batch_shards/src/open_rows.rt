@@ -173,6 +173,7 @@ pub fn open_row(
     source: VertexId,
     row: &[Arc<Block>],
     targets: &[u32],
+    room: &mut Vec<RowBlock>,
 ) -> Result<OpenRow, AllocError>
     requires { All (λ b. (block_of b).source ≡ source.0) row.now }
     ensures blocks { IfOk result (λ r. opens r.blocks.items ≡ map kept_of row.now) }
@@ -180,7 +181,8 @@ pub fn open_row(
     ensures none_own { IfOk result (λ r. own_in r.blocks.items ≡ []) }
     ensures of_source { IfOk result (IsRowOf source) }
 {
-    let mut blocks = Vec::with_capacity(alloc, row.len() + 1)?;
+    let mut blocks = std::mem::replace(room, Vec::new(alloc));
+    blocks.reserve(row.len() + 1)?;
     for block in row {
         let block = Arc::try_clone(block)?;
         blocks.push_reserved(RowBlock {
@@ -282,7 +284,7 @@ fn close_one(blocks: RowBlock, left: &mut Leavings) -> Result<Row, AllocError> {
 /// The row's blocks of the next version.
 pub fn close_row(
     alloc: Global,
-    mut blocks: Vec<RowBlock>,
+    blocks: &mut Vec<RowBlock>,
     left: &mut Leavings,
 ) -> Result<Row, AllocError>
     ensures row { IfOk result (λ r. blocks_of r.items ≡ after_of blocks.items) }
@@ -297,7 +299,8 @@ pub fn close_row(
         }
     }
     let mut row = Vec::with_capacity(alloc, blocks.len())?;
-    for block in blocks {
+    let opened = std::mem::replace(blocks, Vec::new(alloc));
+    for block in opened {
         close_block(block, &mut row, left)?;
     }
     Row::of(alloc, row)

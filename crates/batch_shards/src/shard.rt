@@ -136,6 +136,7 @@ fn do_row(
     row: usize,
     fresh: &mut Vec<Arc<Block>>,
     done: &mut ShardDone,
+    room: &mut Vec<RowBlock>,
 ) -> Result<(), AllocError>
     requires row { row < length sources.now }
     requires steps { AreSteps (length sources.now) steps.now }
@@ -158,9 +159,10 @@ fn do_row(
     } else {
         targets_of(alloc, groups, steps, row)?
     };
-    let mut opened = open_row(alloc, source, blocks, asked.as_slice())?;
+    let mut opened = open_row(alloc, source, blocks, asked.as_slice(), room)?;
     do_steps(&mut opened, fresh, &mut done.outcomes, steps, groups, row)?;
-    let closed = close_row(alloc, opened.blocks, &mut done.left)?;
+    let closed = close_row(alloc, &mut opened.blocks, &mut done.left)?;
+    *room = opened.blocks;
     done.rows.push((source, closed))?;
     Ok(())
 }
@@ -215,6 +217,7 @@ pub fn work_on(alloc: Global, version: &Version, shard: Shard) -> Result<ShardDo
     let lists = group_steps(alloc, sources.len(), steps.as_slice())?;
     let groups = &lists;
     let mut done = none_done(alloc, sources.len(), steps.as_slice())?;
+    let mut room = Vec::new(alloc);
     for row in 0..sources.len() {
         do_row(
             alloc,
@@ -225,6 +228,7 @@ pub fn work_on(alloc: Global, version: &Version, shard: Shard) -> Result<ShardDo
             row,
             &mut fresh,
             &mut done,
+            &mut room,
         )?;
     }
     done.left.unused.append(&mut fresh)?;
