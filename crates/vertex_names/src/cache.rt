@@ -8,7 +8,7 @@ use std::sync::atomic::Ordering::Relaxed;
 /// How many slots a cache has at first.
 const FEWEST: usize = 16;
 
-/// Half of a word: a slot has a half of a name's short hash, and a number.
+/// Half of a word: a slot has the upper half of a name's short hash, and a number.
 const HALF: u64 = 1 << 32;
 
 /// A short hash of a text, in place of the long one of the index. Many names can be made that have one, and then each is
@@ -21,8 +21,8 @@ pub(crate) fn short_hash(text: &str) -> u64 {
     hash
 }
 
-/// A direct-mapped cache of numbers, which books of one store share. What it tells is a guess: each number is compared by
-/// its text, and so no contract speaks of it.
+/// A cache of numbers with two slots for each hash, which books of one store share. What it tells is a guess: each number is
+/// compared by its text, and so no contract speaks of it.
 #[derive(Drop)]
 pub(crate) struct Cache {
     slots: Vec<AtomicU64>,
@@ -37,41 +37,73 @@ impl Cache {
         Ok(Cache { slots })
     }
 
-    /// The slot of a short hash: the number of slots is a power of two.
-    fn slot(&self, hash: u64) -> Option<&AtomicU64> {
-        let place = (hash / HALF) as usize & self.slots.len().wrapping_sub(1);
-        self.slots.get(place)
+    /// The place of a hash's first slot: the number of slots is a power of two. The other one lies beside it.
+    fn place(&self, hash: u64) -> usize {
+        (hash / HALF) as usize & self.slots.len().wrapping_sub(1)
     }
 
-    /// The number that was kept last of the names in a slot, if it was kept by this short hash.
-    pub(crate) fn get(&self, hash: u64) -> Option<u32> {
-        let word = self.slot(hash)?.load(Relaxed);
-        if word / HALF == hash % HALF {
-            Some((word % HALF) as u32)
-        } else {
-            None
+    fn word(&self, place: usize) -> u64 {
+        match self.slots.get(place) {
+            None => 0,
+            Some(slot) => slot.load(Relaxed),
         }
     }
 
-    /// Keeps a number.
+    fn set(&self, place: usize, word: u64) {
+        if let Some(slot) = self.slots.get(place) {
+            slot.store(word, Relaxed);
+        }
+    }
+
+    /// The number that was kept by this short hash, or by another one with the same half.
+    pub(crate) fn get(&self, hash: u64) -> Option<u32> {
+        let place = self.place(hash);
+        let word = self.word(place);
+        if word / HALF == hash / HALF {
+            return Some((word % HALF) as u32);
+        }
+        let word = self.word(place ^ 1);
+        if word / HALF == hash / HALF {
+            return Some((word % HALF) as u32);
+        }
+        None
+    }
+
+    /// Keeps a number: what stood there goes into the other slot.
     fn put(&self, hash: u64, number: u32) {
-        if let Some(slot) = self.slot(hash) {
-            slot.store((hash % HALF) * HALF + u64::from(number), Relaxed);
+        self.put_word(hash / HALF * HALF + u64::from(number));
+    }
+
+    fn put_word(&self, word: u64) {
+        let place = self.place(word);
+        let before = self.word(place);
+        self.set(place, word);
+        if before != 0 && before / HALF != word / HALF {
+            self.set(place ^ 1, before);
         }
     }
 }
 
-/// A cache for a book of so many names, or none where that one is large enough or memory for another one is refused.
+/// A cache for a book of so many names with what another one has, or none where that one is large enough or memory for another
+/// one is refused.
 fn larger(alloc: Global, cache: &Option<Arc<Cache>>, names: usize) -> Option<Arc<Cache>> {
     let slots = match cache {
         None => 0,
         Some(cache) => cache.slots.len(),
     };
-    if names < slots {
+    if names.saturating_mul(2) < slots {
         return None;
     }
-    let cache = Cache::with_slots(alloc, slots.saturating_mul(2).max(FEWEST)).ok()?;
-    Arc::new(alloc, cache).ok()
+    let larger = Cache::with_slots(alloc, slots.saturating_mul(2).max(FEWEST)).ok()?;
+    if let Some(cache) = cache {
+        for slot in &cache.slots {
+            let word = slot.load(Relaxed);
+            if word != 0 {
+                larger.put_word(word);
+            }
+        }
+    }
+    Arc::new(alloc, larger).ok()
 }
 
 /// Makes room in the cache of a book of so many names, if it is short of it and memory isn't refused.
