@@ -3,7 +3,7 @@ use Rattle.std.proofs.Common.{◌≡◌, ℕ, zero, suc, ◌+◌, ◌-◌, ◌<�
 use Rattle.std.proofs.{Common.{take, Bool, true, false, cond, ◌&&◌, refl, sym, ap, ◌∙◌, arith, length-take}, lemmas.Bool.eqb-true}
 use Rattle.std.proofs.lemmas.{Bool.and_parts, List.{get_or-take, get_or_read}}
 use Rattle.std.proofs.{Math.{ListN.length-set}, lemmas.Grind.common_steps}
-use Rattle.block_pool.specs.{Pools.{marked, AreFree}, Kept.{IsNumbers, statuses, status_of, tally, Lists, popped}}
+use Rattle.block_pool.specs.{Pools.{marked, AreFree}, Kept.{IsNumbers, IsRoomier, statuses, status_of, tally, Lists, popped}}
 use Rattle.block_pool.specs.declared.numbers.Numbers.{Numbers}
 use Rattle.block_reclamation.specs.{declared.status.BlockStatus.BlockStatus, Status.is_free}
 use Rattle.block_pool.proofs.Tallies.{count_at, listed_at, listed_count, lists_room, same_number, passes_at}
@@ -121,3 +121,16 @@ popped_free pool len room k are le enough =
 pub length-marked : {A : Type 0} (ns : List ℕ) (x : A) (xs : List A) → length (marked ns x xs) ≡ length xs
 length-marked [] x xs = refl
 length-marked (n ∷ ns) x xs = length-marked ns x (set xs n x) ∙ length-set xs n x
+
+-- the number that is granted after so many others
+module _ (n now : Numbers) (kept : IsNumbers n) (same : IsRoomier n now) (i number : ℕ) (lt : i < n.free_len)
+    (is : number ≡ get_or now.free.items (now.free_len - 1 - i) 0) where
+  pub next_free : number ≡ get_or n.free.items (n.free_len - 1 - i) 0
+  next_free = is ∙ ap (λ (ns : List ℕ). get_or ns (now.free_len - 1 - i) 0) same.free
+      ∙ ap (λ (len : ℕ). get_or n.free.items (len - 1 - i) 0) same.free_len
+
+  pub next_within : number < length n.statuses.items
+  next_within =
+      let in_room : n.free_len ≤ length n.free.items = omega (arith, kept.free_in, kept.free_room) in
+      let here = listed_at is_free (statuses n) n.free_len n.free.items kept.free_are in_room (n.free_len - 1 - i) (omega arith) in
+      omega (arith, here.0, next_free)

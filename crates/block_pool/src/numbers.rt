@@ -1,11 +1,11 @@
 //! Which numbers are free, in use or retired.
 
 ghost use Rattle.std.specs.Prelude.{◌≡◌, ◌≢◌, ◌<◌, ◌≤◌, ℕ, length, map, replicate, count_by, slice_index, slice_set, ◌+◌, ◌-◌, IfOk};
-ghost use Rattle.std.specs.Prelude.{true, IfSome, OnOk, slice_index_or, None, []};
+ghost use Rattle.std.specs.Prelude.{true, IfSome, OnOk, slice_get, slice_index_or, None, []};
 ghost use Rattle.block_reclamation.specs.Copies as copies;
 ghost use Rattle.block_pool.specs.Chains.{stack_of};
 ghost use Rattle.block_reclamation.specs.declared.status.BlockStatus.TheVariants.{Free, Granted, Used, Retired};
-ghost use Rattle.block_reclamation.specs.Status.{is_free, is_in_use, is_retired, is_reclaimable, most_blocks, recycled};
+ghost use Rattle.block_reclamation.specs.Status.{is_at, is_free, is_granted, is_in_use, is_retired, is_reclaimable, most_blocks, recycled};
 ghost use Rattle.block_pool.specs.Pools.{marked, retired, is_in_use_at, is_used_at};
 ghost use Rattle.block_pool.specs.Kept.{status_of, popped, AreNeeded, HasPins, top_of, moved, taken_off};
 
@@ -31,6 +31,16 @@ fn after_retiring(status: BlockStatus, version: u64) -> BlockStatus
             retirement: version,
         },
         _ => status,
+    }
+}
+
+/// Whether a number of this status is granted, and not born.
+fn has_no_birth(status: BlockStatus) -> bool
+    ensures { result ≡ is_granted status }
+{
+    match status {
+        BlockStatus::Granted => true,
+        _ => false,
     }
 }
 
@@ -96,6 +106,14 @@ impl Numbers {
         ensures { result ≡ count_by is_free (statuses self.now) }
     {
         self.free_len
+    }
+
+    /// Whether a number is granted, and not born.
+    pub fn is_granted(&self, number: u32) -> bool
+        ensures { result ≡ is_at is_granted (slice_get (statuses self.now) number) }
+    {
+        let place = number as usize;
+        place < self.statuses.len() && has_no_birth(self.statuses.get(place))
     }
 
     /// How many are retired.

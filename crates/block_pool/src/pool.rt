@@ -1,12 +1,12 @@
 //! A pool: blocks that are free, in use or retired.
 
 ghost use Rattle.std.specs.Prelude.{◌≡◌, ◌⊎◌, ◌<◌, ◌≤◌, ◌+◌, [], ◌∷◌, length, map, replicate, count_by, IfOk, OnOk, OnErr, IfErr};
-ghost use Rattle.std.specs.Prelude.{IfSome, None, true, ℕ, ◌-◌, slice_index, slice_index_or, slice_set};
+ghost use Rattle.std.specs.Prelude.{IfSome, None, true, ℕ, ◌-◌, slice_get, slice_index, slice_index_or, slice_set, Err};
 ghost use Rattle.std.specs.Arc.{arc_value};
 ghost use Rattle.edge_block.specs.declared.blocks.Block.{Block};
 ghost use Rattle.block_pool.specs.Pools.{retired, is_in_use_at, marked, changed, AreFree, is_used_at};
 ghost use Rattle.block_reclamation.specs.declared.status.BlockStatus.TheVariants.{Free, Granted, Used};
-ghost use Rattle.block_reclamation.specs.Status.{is_free, is_in_use, is_retired, is_reclaimable, most_blocks, recycled};
+ghost use Rattle.block_reclamation.specs.Status.{is_at, is_free, is_granted, is_in_use, is_retired, is_reclaimable, most_blocks, recycled};
 ghost use Rattle.block_pool.specs.Kept.{statuses, popped, IsNumbers, IsRoomier, IsReady, HasRoomFor};
 ghost use Rattle.block_pool.specs.Paging.{HasRoom};
 ghost use Rattle.block_pool.specs.Pools.{AreBodies};
@@ -165,6 +165,44 @@ impl Pool {
         Ok(grant)
     }
 
+    /// Grants so many numbers without their blocks, the one that was last given back first. It takes memory for their list, and
+    /// for what is kept of the numbers: some 44 bytes each, for 4,096 at a time.
+    ///
+    /// `PoolEmpty` exactly where fewer are free; `OutOfMemory` where a growth was refused. Either leaves each number
+    /// as it was.
+    pub fn grant_numbers(&mut self, count: u32) -> Result<Vec<u32>, GrantError>
+        ensures numbers { IfOk result (λ g. AreFree self.old g.items × (length g.items ≡ count)) }
+        ensures used { IfOk result (λ g. self.new ≡ marked g.items Granted self.old) }
+        ensures refused { IfErr result (λ e. (e ≡ GrantError.OutOfMemory)
+            ⊎ ((count_by is_free self.old < count) × (e ≡ GrantError.PoolEmpty count (count_by is_free self.old)))) }
+        ensures exact { count_by is_free self.old < count
+            → result ≡ Err (GrantError.PoolEmpty count (count_by is_free self.old)) }
+        ensures unchanged { OnErr result (self.new ≡ self.old) }
+    {
+        let free = self.free();
+        if count > free {
+            return Err(GrantError::PoolEmpty {
+                needed: count,
+                free,
+            });
+        }
+        let granted = gather_numbers(
+            self.alloc,
+            &mut self.numbers,
+            &mut self.bodies,
+            count as usize,
+        )?;
+        self.numbers.use_last(count as usize);
+        Ok(granted)
+    }
+
+    /// Whether the number was granted, and was neither born nor given back since.
+    pub fn is_granted(&self, number: u32) -> bool
+        ensures { result ≡ is_at is_granted (slice_get self.now number) }
+    {
+        self.numbers.is_granted(number)
+    }
+
     /// Gives back what was granted and neither given back nor retired, with the block or without it. It takes no
     /// memory.
     pub fn give_back(&mut self, number: u32, block: Option<Arc<Block>>)
@@ -240,6 +278,35 @@ fn gather(
         numbers: granted,
         blocks,
     })
+}
+
+/// The last `count` of the free numbers with their memory. Where memory is refused, nothing is given up.
+fn gather_numbers(
+    alloc: Global,
+    numbers: &mut Numbers,
+    bodies: &mut Pages<Option<Arc<Block>>>,
+    count: usize,
+) -> Result<Vec<u32>, AllocError>
+    requires kept { IsNumbers numbers.old }
+    requires bodies { AreBodies (length numbers.old.statuses.items) bodies.old.items }
+    requires rooms { HasRoomFor (statuses numbers.old) bodies.old.rooms }
+    requires enough { count ≤ numbers.old.free_len }
+    ensures kept { IsNumbers numbers.new }
+    ensures same { IsRoomier numbers.old numbers.new }
+    ensures bodies { AreBodies (length numbers.old.statuses.items) bodies.new.items }
+    ensures rooms { HasRoomFor (statuses numbers.old) bodies.new.rooms }
+    ensures numbers { IfOk result (λ g. g.items ≡ popped numbers.old.free.items numbers.old.free_len count) }
+    ensures ready { OnOk result ((before : ℕ) → before < count → IsReady numbers.new before) }
+    ensures taken { OnOk result ((before : ℕ) → before < count
+        → HasRoom bodies.new.rooms (slice_index numbers.old.free.items (numbers.old.free_len - 1 - before))) }
+{
+    let mut granted = Vec::with_capacity(alloc, count)?;
+    for i in 0..count {
+        let number = numbers.make_ready(i)?;
+        bodies.make(number as usize)?;
+        granted.push(number)?;
+    }
+    Ok(granted)
 }
 
 /// The block of a number: its body where it was kept, else a new one.

@@ -8,7 +8,7 @@ use Rattle.std.{specs.Option.is_some, proofs.lemmas.Grind.common_steps}
 use Rattle.graph_types.specs.{Graph.{key_of, stamp_of, IsContent, IsContentIn, Graph, graph_in}, Limits.{LimitsView, IsWeight}}
 use Rattle.graph_types.{specs.declared.{batches.NamedOp.NamedOp, contents.Content.Content, ids.Edge.Edge}, proofs.Keys.get_listed}
 use Rattle.graph_types.{specs.Limits.AreLimits, proofs.LimitsKept.{limits_left_by, places_within}}
-use Rattle.edge_block.specs.{Slots.{IsStamp, Slot, BlockView, entry_in, entries_of, edges_in}, Lending.{LentEdge, lent_of}}
+use Rattle.edge_block.specs.{Slots.{IsStamp, Slot, BlockView, entry_in, entries_of, edges_in}, Lending.{lent_of}}
 use Rattle.edge_block.specs.{declared.blocks.Block.Block, Rows.shape_of, Batches.{IsLayoutOf, IsWithin}}
 use Rattle.vertex_names.specs.Book.{Book}
 use Rattle.version_pages.specs.{Rows.{row_of, blocks_of, numbers_of, Replaces}, Sharing.{block_value, block_values}}
@@ -206,6 +206,40 @@ rebased_kept names kinds old_names old_kinds v blocks batches copy g edges keeps
 pub rebased_is : (v : VersionView) (blocks : List BlockView) (batches : List (List NamedOp)) (copy : List (List BlockView))
     (g : Graph) → batches ≡ [] → LookLike v blocks copy → g ≡ content v → IsRebased v (version_of g batches copy)
 rebased_is v blocks batches copy g none like same = grind (arith, common_steps, look_layout)
+
+-- over the very rows of the other version
+
+pub reopened_kept : (names kinds old_names old_kinds : Book) (v : VersionView)
+    (batches : List (List NamedOp)) (rows : List (List BlockView)) (g : Graph) (edges : ℕ) (keeps old_keeps : Bool)
+    → IsSummary old_names old_kinds edges old_keeps v → keeps ≡ keeps_batches v.opening.limits
+    → names ≡ old_names → kinds ≡ old_kinds → batches ≡ [] → rows ≡ v.rows → g ≡ content v
+    → IsSummary names kinds edges keeps (version_of g batches rows)
+reopened_kept names kinds old_names old_kinds v batches rows g edges keeps old_keeps is kept n k none r same =
+    subst (λ (bs : List (List NamedOp)). IsSummary names kinds edges keeps (version_of g bs rows)) (sym none)
+    (subst (λ (rs : List (List BlockView)). IsSummary names kinds edges keeps (version_of g [] rs)) (sym r) (record {
+      names_are = n ∙ is.names_are ∙ ap vertex_book (sym same);
+      kinds_are = k ∙ is.kinds_are ∙ ap kind_book (sym same);
+      edges_are = is.edges_are ∙ ap (λ (h : Graph). len h.edges) (sym same);
+      keeps_are = kept ∙ ap keeps_batches (sym (ap (λ (h : Graph). h.limits) same ∙ limits_left_by v.batches v.opening));
+      version = record {
+        rows = subst (λ (h : Graph). AreRowsOf h v.rows) (sym same) is.version.rows;
+        within = subst IsWithin (sym same) is.version.within;
+        small = record {
+          names = subst (λ (h : Graph). length h.names ≤ h.limits.names) (sym same) is.version.small.names;
+          kinds = subst (λ (h : Graph). length h.kinds ≤ h.limits.kinds) (sym same) is.version.small.kinds;
+          count = omega arith;
+          limits = subst (λ (h : Graph). AreLimits h.limits) (sym same) is.version.small.limits;
+        };
+      };
+    }))
+
+pub reopened_is : (v : VersionView) (batches : List (List NamedOp)) (rows : List (List BlockView)) (g : Graph)
+    → batches ≡ [] → rows ≡ v.rows → g ≡ content v → IsRebased v (version_of g batches rows)
+reopened_is v batches rows g none r same = record {
+  opening = same;
+  batches = none;
+  rows = λ source. ap (λ (rs : List (List BlockView)). layout_of rs source) r;
+}
 
 -- Blocks copied one after another
 

@@ -42,6 +42,21 @@ impl Version {
         })
     }
 
+    /// Version 0 of a store that opens with what this version holds, over the very rows of this one.
+    pub fn reopened(&self, alloc: Global) -> Result<Version, AllocError>
+        ensures rebased { IfOk result (IsRebased self.now) }
+        ensures rows { IfOk result (λ version. version.rows ≡ self.now.rows) }
+    {
+        Ok(Version {
+            opening: self.as_opening(alloc)?,
+            names: self.names.share()?,
+            kinds: self.kinds.share()?,
+            batches: BatchLog::new(alloc, keeps_batches(self.opening.limits())),
+            rows: self.rows.share()?,
+            edges: self.edges,
+        })
+    }
+
     /// These blocks, as many as this version has and of different numbers, with what this version's blocks hold, in order of
     /// sources and rows: those of [`Version::rebased`].
     ///

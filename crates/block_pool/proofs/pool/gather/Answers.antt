@@ -1,10 +1,9 @@
-use Rattle.std.proofs.Common.{◌≡◌, ◌∙◌, ◌-◌, ◌<◌, ◌≤◌, ◌++◌, ◌∷◌, [], inl, inr, ℕ, List, None, Option, get_or, set, length, map, sym, ap, subst, arith}
+use Rattle.std.proofs.Common.{◌≡◌, ◌∙◌, ◌-◌, ◌<◌, ◌++◌, ◌∷◌, [], inl, inr, ℕ, List, None, Option, get_or, set, length, map, sym, ap, subst, arith}
 use Rattle.std.{proofs.lemmas.{Bool.cases_eq, List.map-append}, specs.{Arc.arc_value, declared.sync.Arc.Arc, declared.alloc.Global.Global}}
 use Rattle.std.proofs.lemmas.Grind.{common_steps}
 use Rattle.edge_block.specs.declared.blocks.Block.{Block}
-use Rattle.block_reclamation.specs.Status.{is_free}
-use Rattle.block_pool.specs.{declared.numbers.Numbers.Numbers, Kept.{IsNumbers, IsRoomier, IsReady, statuses, popped}, Pools.AreBodies, Paging.HasRoom}
-use Rattle.block_pool.proofs.{Grants.popped_last, Tallies.listed_at, Rooms.{roomier_same, roomier_again}}
+use Rattle.block_pool.specs.{Kept.{IsReady, popped}, Pools.AreBodies, Paging.HasRoom}
+use Rattle.block_pool.proofs.{Grants.{popped_last, next_free, next_within}, Rooms.{roomier_same, roomier_again}}
 use Rattle.block_pool.proofs.pool.gather.Goals as goal
 
 abbrev number_of : Arc Block Global → ℕ
@@ -14,19 +13,6 @@ number_of b = (arc_value {X = Block} b).number
 taken_out : (count : ℕ) (bodies : List (Option (Arc Block Global))) → AreBodies count bodies → (number : ℕ) → number < count
     → AreBodies count (set bodies number None)
 taken_out count bodies are number lt = grind (arith, common_steps)
-
--- the number that is granted after so many others
-module _ (n now : Numbers) (kept : IsNumbers n) (same : IsRoomier n now) (i number : ℕ) (lt : i < n.free_len)
-    (is : number ≡ get_or now.free.items (now.free_len - 1 - i) 0) where
-  next : number ≡ get_or n.free.items (n.free_len - 1 - i) 0
-  next = is ∙ ap (λ (ns : List ℕ). get_or ns (now.free_len - 1 - i) 0) same.free
-      ∙ ap (λ (len : ℕ). get_or n.free.items (len - 1 - i) 0) same.free_len
-
-  next_within : number < length n.statuses.items
-  next_within =
-      let in_room : n.free_len ≤ length n.free.items = omega (arith, kept.free_in, kept.free_room) in
-      let here = listed_at is_free (statuses n) n.free_len n.free.items kept.free_are in_room (n.free_len - 1 - i) (omega arith) in
-      omega (arith, here.0, next)
 
 pub loop-i-init : goal.loop-i-init
 loop-i-init c = record {
@@ -75,7 +61,7 @@ loop-i-preserved c =
     let inv = c.loop-i.invariant in
     let number : ℕ = c.in_ok-number.number in
     let lt : c.loop-i.i < n.free_len = omega (arith, c.loop-i-test.true, c.requires.enough) in
-    let is = next n c.loop-i.numbers c.requires.kept inv.same c.loop-i.i number lt c.in_ok-number.ensures.number in
+    let is = next_free n c.loop-i.numbers c.requires.kept inv.same c.loop-i.i number lt c.in_ok-number.ensures.number in
     let within = next_within n c.loop-i.numbers c.requires.kept inv.same c.loop-i.i number lt c.in_ok-number.ensures.number in
     record {
       kept = c.in_ok-number.ensures.kept;
