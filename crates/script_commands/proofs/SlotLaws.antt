@@ -1,7 +1,7 @@
 -- Slots that stay slots: as sessions are acquired and released, batches come, and the floor rises.
 use Rattle.std.proofs.Common.{◌≡◌, ◌≢◌, ℕ, zero, suc, ◌+◌, ◌<◌, ◌≤◌, ◌==◌, max, true, false, List, [], ◌∷◌, ◌++◌, length, map}
 use Rattle.std.proofs.Common.{take, get_or, set, replicate, append-nil, refl, sym, ap, ap₂, subst, ◌∙◌, arith, inl, inr, ◌-◌}
-use Rattle.std.proofs.lemmas.{Bool.{eq-eqb, eqb-true, true≢false}, List.{get_or-set_same, get_or-set_other, length-map, map-set}}
+use Rattle.std.proofs.lemmas.{Bool.{eq-eqb, eqb-true, true≢false}, List.{get_or-set_same, get_or-set_other, set-set, set-get_or, length-map, map-set}}
 use Rattle.std.proofs.lemmas.List.{take-append-le, length-append, nil_from_length, get_or-map, FromFn.get_or-range_with_len}
 use Rattle.std.proofs.{lemmas.Option.{get_or_from_slice_get, slice_get_read, slice_get_within}, Math.ListN.length-set}
 use Rattle.std.{proofs.Math.{Seq.take-length, Nat.max-eq_right}, specs.Prelude.{◌⊎◌, Option, None, Some, IfSome, slice_get}}
@@ -246,6 +246,17 @@ pub read_some : {X : Type 0} (xs : List (Option X)) (i : ℕ) (read taken : Opti
     → read ≡ get_or xs i read → taken ≡ read → taken ≡ Some x → slice_get xs i ≡ Some (Some x)
 read_some xs i read taken x below is same some =
     slice_get_read xs (length xs) i read refl below is ∙ ap (λ o. Some o) (sym same ∙ some)
+
+-- a seat that is put back where it was taken out
+pub slots_back : (last : VersionView) (board now : BoardState) (seats : List (Option SeatView)) (sessions : List (Option SessionView))
+    (slot : ℕ) (taken : Option SeatView) (seat back : SeatView) → AreSlots last board seats sessions → get_or seats slot None ≡ Some seat
+    → back ≡ seat → now ≡ board → AreSlots last now (set (set seats slot taken) slot (Some back)) sessions
+slots_back last board now seats sessions slot taken seat back are at same unchanged =
+    let put : set (set seats slot taken) slot (Some back) ≡ seats =
+    set-set seats slot taken (Some back) ∙ ap (λ (o : Option SeatView). set seats slot o) (ap (λ (s : SeatView). Some s) same ∙ sym at)
+    ∙ set-get_or seats slot None in
+    subst (λ (b : BoardState). AreSlots last b (set (set seats slot taken) slot (Some back)) sessions) (sym unchanged)
+    (subst (λ (ss : List (Option SeatView)). AreSlots last board ss sessions) (sym put) are)
 
 pub held_acquired : (sessions : List (Option SessionView)) (slot : ℕ) (seat : SeatView) (session : SessionView)
     (last : VersionView) → session ≡ lent_to seat last
