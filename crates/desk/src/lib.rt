@@ -21,6 +21,7 @@ mod moves;
 mod owned;
 mod ready;
 mod seats;
+mod shared;
 mod told;
 mod zero;
 

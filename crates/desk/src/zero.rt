@@ -1,6 +1,6 @@
 //! Version 0 of a store, before there is a desk.
 
-ghost use Rattle.std.specs.Prelude.{◌≡◌, ◌≤◌, IfOk};
+ghost use Rattle.std.specs.Prelude.{◌≡◌, ◌≤◌, All, IfOk, IfSome, replicate};
 ghost use Rattle.std.specs.Arc.{arc_value};
 ghost use Rattle.graph_version.specs.declared.versions.Version.{Version};
 ghost use Rattle.block_reclamation.specs.Status.{most_blocks};
@@ -10,6 +10,7 @@ ghost use Rattle.desk.specs.Openings.{OpensWith};
 ghost use Rattle.desk.specs.Refusals.{block_count};
 
 use crate::moves::born_blocks;
+use crate::shared::{numbers_in, pool_with};
 use block_pool::{Grant, Pool};
 use graph_types::{Limits, List};
 use graph_version::Version;
@@ -39,8 +40,42 @@ impl Zero {
         })
     }
 
-    /// A version that begins with what this one holds, over copies of its blocks.
+    /// A version that begins with what this one holds: over its very blocks where the pool can have their numbers, else over copies.
     pub(crate) fn over(alloc: Global, blocks: u32, version: &Version) -> Result<Zero, AllocError>
+        requires least { 16 ≤ blocks }
+        requires most { blocks ≤ most_blocks }
+        requires room { block_count version.now ≤ blocks }
+        ensures opens { IfOk result (OpensWith blocks) }
+        ensures rebased { IfOk result (λ zero. IsRebased version.now (arc_value {X = Version} zero.version)) }
+    {
+        match Zero::shared(alloc, blocks, version)? {
+            Some(zero) => Ok(zero),
+            None => Zero::copied(alloc, blocks, version),
+        }
+    }
+
+    /// A version that begins with what this one holds, over its very blocks; `None` where one of these has a number past the pool.
+    fn shared(alloc: Global, blocks: u32, version: &Version) -> Result<Option<Zero>, AllocError>
+        requires least { 16 ≤ blocks }
+        requires most { blocks ≤ most_blocks }
+        ensures opens { IfOk result (λ zero. IfSome zero (OpensWith blocks)) }
+        ensures rebased { IfOk result (λ zero. IfSome zero
+            (λ z. IsRebased version.now (arc_value {X = Version} z.version))) }
+    {
+        let numbers = numbers_in(alloc, version)?;
+        let Some(pool) = pool_with(alloc, blocks, numbers.as_slice())? else {
+            return Ok(None);
+        };
+        let zero = version.reopened(alloc)?;
+        Ok(Some(Zero {
+            version: Arc::new(alloc, zero)?,
+            numbers: List::of(numbers),
+            pool,
+        }))
+    }
+
+    /// A version that begins with what this one holds, over copies of its blocks.
+    fn copied(alloc: Global, blocks: u32, version: &Version) -> Result<Zero, AllocError>
         requires least { 16 ≤ blocks }
         requires most { blocks ≤ most_blocks }
         requires room { block_count version.now ≤ blocks }

@@ -4,7 +4,7 @@ use Rattle.graph_version.specs.{Rows.blocks_of, Rows.numbers_of, Sharing.block_v
 use Rattle.block_pool.specs.Pools.{AreFree, marked}
 use Rattle.block_reclamation.specs.declared.status.BlockStatus.TheVariants.{Free, Used}
 use Rattle.desk.{specs.Applying.AreUsedOnce, proofs.{Handing.back_used, Zeros.{zero_is, zero_pool, opens_with}}}
-use Rattle.desk.proofs.zero.Zero.over.Goals as goal
+use Rattle.desk.proofs.zero.Zero.copied.Goals as goal
 
 pub born_blocks-requires : goal.born_blocks-requires
 born_blocks-requires c =
