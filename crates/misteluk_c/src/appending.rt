@@ -6,6 +6,7 @@ ghost use Rattle.batch_columns.specs.Operations.{table_of};
 ghost use Rattle.misteluk_c.specs.Held.{batch_in, Asks};
 ghost use Rattle.misteluk_c.specs.Columns.{TellsColumns, TellsColumnsWithin, IsOperationLimit};
 
+use crate::asking::change;
 use crate::codes::{BAD_LIMITS, NO_HANDLE, OK, operations_code};
 use batch_columns::{Operations, with_operations};
 use graph_types::{MOST_OPERATIONS, OPERATION_LIMIT};
@@ -128,12 +129,12 @@ fn append_by(
         (λ ops. TellsColumns limit (table_of operations.now) done.old ops done.new batch.new.held result) }
     ensures none { batch_in batch.old.held ≡ None → (batch.new.held ≡ batch.old.held) × (done.new ≡ done.old) }
 {
-    let Some(mut held) = batch.take(alloc) else {
-        return NO_HANDLE;
-    };
-    let code = append_in(alloc, &mut held, limit, operations, done);
-    batch.put(held);
-    code
+    change!(
+        held,
+        alloc,
+        batch,
+        append_in(alloc, &mut held, limit, operations, done)
+    )
 }
 
 /// Puts a longer batch in the place of one that is held.

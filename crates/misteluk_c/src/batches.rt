@@ -4,6 +4,7 @@ ghost use Rattle.std.specs.Prelude.{◌≡◌, [], Some, None, IsSome, length, O
 ghost use Rattle.graph_types.specs.declared.batches.NamedOp.TheVariants.{Insert, Incr, Remove, Expire};
 ghost use Rattle.misteluk_c.specs.Held.{batch_in, Asks, IsAlone, Makes, TellsPush};
 
+use crate::asking::change;
 use crate::codes::{HELD_ALREADY, MEMORY, NO_HANDLE, OK, push_code};
 use batch_columns::{push_add, push_expire, push_insert, push_remove};
 use graph_types::{Batch, OPERATION_LIMIT};
@@ -86,12 +87,12 @@ pub extern "C" fn misteluk_batch_insert(
         (λ ops. TellsPush (Insert kind.now source.now target.now weight time) ops batch.new.held result) }
     ensures none { batch_in batch.old.held ≡ None → batch.new.held ≡ batch.old.held }
 {
-    let Some(mut held) = batch.take(alloc) else {
-        return NO_HANDLE;
-    };
-    let code = insert_in(alloc, &mut held, kind, source, target, weight, time);
-    batch.put(held);
-    code
+    change!(
+        held,
+        alloc,
+        batch,
+        insert_in(alloc, &mut held, kind, source, target, weight, time)
+    )
 }
 
 /// Appends an addition.
@@ -109,12 +110,12 @@ pub extern "C" fn misteluk_batch_add(
         (λ ops. TellsPush (Incr kind.now source.now target.now amount time) ops batch.new.held result) }
     ensures none { batch_in batch.old.held ≡ None → batch.new.held ≡ batch.old.held }
 {
-    let Some(mut held) = batch.take(alloc) else {
-        return NO_HANDLE;
-    };
-    let code = add_in(alloc, &mut held, kind, source, target, amount, time);
-    batch.put(held);
-    code
+    change!(
+        held,
+        alloc,
+        batch,
+        add_in(alloc, &mut held, kind, source, target, amount, time)
+    )
 }
 
 /// Appends a removal.
@@ -130,12 +131,12 @@ pub extern "C" fn misteluk_batch_remove(
         (λ ops. TellsPush (Remove kind.now source.now target.now) ops batch.new.held result) }
     ensures none { batch_in batch.old.held ≡ None → batch.new.held ≡ batch.old.held }
 {
-    let Some(mut held) = batch.take(alloc) else {
-        return NO_HANDLE;
-    };
-    let code = remove_in(alloc, &mut held, kind, source, target);
-    batch.put(held);
-    code
+    change!(
+        held,
+        alloc,
+        batch,
+        remove_in(alloc, &mut held, kind, source, target)
+    )
 }
 
 /// Appends an expiry.
@@ -144,12 +145,7 @@ pub extern "C" fn misteluk_batch_expire(alloc: Global, batch: &mut Handle, time:
     ensures push { Asks (batch_in batch.old.held) result (λ ops. TellsPush (Expire time) ops batch.new.held result) }
     ensures none { batch_in batch.old.held ≡ None → batch.new.held ≡ batch.old.held }
 {
-    let Some(mut held) = batch.take(alloc) else {
-        return NO_HANDLE;
-    };
-    let code = expire_in(&mut held, time);
-    batch.put(held);
-    code
+    change!(held, alloc, batch, expire_in(&mut held, time))
 }
 
 #[tactic(auto, using(crate::proofs::Pushes::not_unshared))]

@@ -5,6 +5,7 @@ ghost use Rattle.misteluk_c.specs.Held.{batch_in, version_in, Asks};
 ghost use Rattle.misteluk_c.specs.Desks as desks;
 ghost use Rattle.misteluk_c.specs.Desks.{desk_in, TellsApply, TellsApplied, TellsCollect, TellsHeld, TellsHold, TellsRelease, TellsRebase, stat_of};
 
+use crate::asking::{ask, change};
 use crate::codes::{
     BATCHES_FULL, BLOCKS_FULL, HELD_ALREADY, KINDS_FULL, MEMORY, NAMES_FULL, NO_HANDLE, NO_SEAT, OK,
 };
@@ -56,12 +57,7 @@ pub extern "C" fn misteluk_desk_apply(
         (λ ops. TellsApply o ops desk.new.held batch.new.held result counts.new)) }
     ensures same { result ≡ 2 → (desk.new.held ≡ desk.old.held) × (batch.new.held ≡ batch.old.held) }
 {
-    let Some(mut held) = desk.take(alloc) else {
-        return NO_HANDLE;
-    };
-    let code = apply_by(alloc, &mut held, batch, counts);
-    desk.put(held);
-    code
+    change!(held, alloc, desk, apply_by(alloc, &mut held, batch, counts))
 }
 
 /// Applies what a handle holds, if that is a batch.
@@ -70,12 +66,7 @@ fn apply_held(alloc: Global, desk: &mut OwnedDesk, batch: &mut Handle, counts: &
         (λ ops. TellsApplied desk.old ops desk.new batch.new.held result counts.new) }
     ensures same { result ≡ 2 → (desk.new ≡ desk.old) × (batch.new.held ≡ batch.old.held) }
 {
-    let Some(mut held) = batch.take(alloc) else {
-        return NO_HANDLE;
-    };
-    let code = apply_in(alloc, desk, &mut held, counts);
-    batch.put(held);
-    code
+    change!(held, alloc, batch, apply_in(alloc, desk, &mut held, counts))
 }
 
 /// Applies a batch, and leaves an empty one.
@@ -121,12 +112,7 @@ pub extern "C" fn misteluk_desk_collect(alloc: Global, desk: &mut Handle, freed:
     ensures told { Asks (desk_in desk.old.held) result (λ o. TellsCollect o desk.new.held result freed.new) }
     ensures same { result ≡ 2 → desk.new.held ≡ desk.old.held }
 {
-    let Some(mut held) = desk.take(alloc) else {
-        return NO_HANDLE;
-    };
-    let code = collect_by(&mut held, freed);
-    desk.put(held);
-    code
+    change!(held, alloc, desk, collect_by(&mut held, freed))
 }
 
 /// Tells the counts.
@@ -135,18 +121,15 @@ pub extern "C" fn misteluk_desk_stat(alloc: Global, desk: &mut Handle, out: &mut
     ensures told { Asks (desk_in desk.old.held) result (λ o. (result ≡ 0) × (out.new ≡ stat_of o.desk)) }
     ensures same { desk.new.held ≡ desk.old.held }
 {
-    let Some(held) = desk.take(alloc) else {
-        return NO_HANDLE;
-    };
-    let code = match &*held {
-        Held::Desk(desk) => {
+    ask!(
+        Desk,
+        alloc,
+        desk,
+        {
             *out = counts_of(desk.desk());
             OK
         }
-        _ => NO_HANDLE,
-    };
-    desk.put(held);
-    code
+    )
 }
 
 fn counts_of(desk: &Desk) -> DeskStat
@@ -176,12 +159,7 @@ pub extern "C" fn misteluk_desk_hold(
         (λ o. TellsHold o desk.new.held version.old.held version.new.held result hold.new) }
     ensures same { result ≡ 2 → (desk.new.held ≡ desk.old.held) × (version.new.held ≡ version.old.held) }
 {
-    let Some(mut held) = desk.take(alloc) else {
-        return NO_HANDLE;
-    };
-    let code = hold_by(alloc, &mut held, version, hold);
-    desk.put(held);
-    code
+    change!(held, alloc, desk, hold_by(alloc, &mut held, version, hold))
 }
 
 /// Holds a desk's last version in a handle that holds nothing.
@@ -218,12 +196,7 @@ pub extern "C" fn misteluk_desk_release(alloc: Global, desk: &mut Handle, hold: 
     ensures told { Asks (desk_in desk.old.held) result (λ o. TellsRelease o hold desk.new.held result) }
     ensures same { result ≡ 2 → desk.new.held ≡ desk.old.held }
 {
-    let Some(mut held) = desk.take(alloc) else {
-        return NO_HANDLE;
-    };
-    let code = release_by(&mut held, hold);
-    desk.put(held);
-    code
+    change!(held, alloc, desk, release_by(&mut held, hold))
 }
 
 /// Opens the desk anew over what the last version holds.
@@ -232,12 +205,7 @@ pub extern "C" fn misteluk_desk_rebase(alloc: Global, desk: &mut Handle) -> u32
     ensures told { Asks (desk_in desk.old.held) result (λ o. TellsRebase o desk.new.held result) }
     ensures same { result ≡ 2 → desk.new.held ≡ desk.old.held }
 {
-    let Some(mut held) = desk.take(alloc) else {
-        return NO_HANDLE;
-    };
-    let code = rebase_by(&mut held);
-    desk.put(held);
-    code
+    change!(held, alloc, desk, rebase_by(&mut held))
 }
 
 /// What a batch that is refused is told by.

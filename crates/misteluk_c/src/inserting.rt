@@ -7,6 +7,7 @@ ghost use Rattle.misteluk_c.specs.Desks.{desk_in};
 ghost use Rattle.misteluk_c.specs.Columns.{TellsFeeding};
 ghost use Rattle.misteluk_c.specs.Columns as columns;
 
+use crate::asking::change;
 use crate::codes::{BAD_LENGTH, MEMORY, NO_HANDLE, OK, insert_code};
 use crate::desks::apply_code;
 use desk_columns::{InsertColumnsError, Insertions, insert_columns};
@@ -50,12 +51,12 @@ pub extern "C" fn misteluk_desk_insert_columns(
         weights,
         times,
     };
-    let Some(mut held) = desk.take(alloc) else {
-        return NO_HANDLE;
-    };
-    let code = insert_by(alloc, &mut held, &insertions, counts, done);
-    desk.put(held);
-    code
+    change!(
+        held,
+        alloc,
+        desk,
+        insert_by(alloc, &mut held, &insertions, counts, done)
+    )
 }
 
 fn insert_by(

@@ -7,6 +7,7 @@
 ghost use Rattle.std.specs.Prelude.{◌≡◌};
 
 mod appending;
+mod asking;
 mod batches;
 mod codes;
 mod desks;

@@ -9,6 +9,7 @@ ghost use Rattle.misteluk_c.specs.Held.{Asks, Makes};
 ghost use Rattle.misteluk_c.specs.Desks.{desk_in};
 ghost use Rattle.misteluk_c.specs.Opening.{Opens, OpensWithin, limits_told};
 
+use crate::asking::ask;
 use crate::codes::{BAD_BLOCKS, BAD_LIMITS, HELD_ALREADY, MEMORY, NO_HANDLE, OK};
 use desk::{Desk, OwnedDesk};
 use graph_types::{Limits, STANDARD_SIZE};
@@ -89,18 +90,15 @@ pub extern "C" fn misteluk_desk_limits(
     ensures told { Asks (desk_in desk.old.held) result (λ o. (result ≡ 0) × (out.new ≡ limits_told o.desk)) }
     ensures same { desk.new.held ≡ desk.old.held }
 {
-    let Some(held) = desk.take(alloc) else {
-        return NO_HANDLE;
-    };
-    let code = match &*held {
-        Held::Desk(desk) => {
+    ask!(
+        Desk,
+        alloc,
+        desk,
+        {
             *out = limits_of(desk.desk());
             OK
         }
-        _ => NO_HANDLE,
-    };
-    desk.put(held);
-    code
+    )
 }
 
 fn limits_of(desk: &Desk) -> DeskLimits

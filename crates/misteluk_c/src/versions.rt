@@ -1,12 +1,15 @@
 //! Versions.
 
 ghost use Rattle.std.specs.Prelude.{◌≡◌, Some, None, length, MatchOption};
+ghost use Rattle.std.specs.Arc.{arc_value};
+ghost use Rattle.graph_version.specs.declared.versions.Version.{Version};
 ghost use Rattle.graph_version.specs.Versions.{content};
 ghost use Rattle.version_columns.specs.Lookups.{size_of, edge_at};
 ghost use Rattle.version_columns.specs.Tables.{WritesCores, WritesLabels, WritesLevels, WritesDegrees, degree_columns};
 ghost use Rattle.version_columns.specs.Rows.{columns, edge_columns, WritesRow, IsRowCount, WritesEdges};
 ghost use Rattle.misteluk_c.specs.Held.{version_in, Asks, Makes, Tells, TellsNumber, TellsNames, TellsEdge};
 
+use crate::asking::ask;
 use crate::codes::{
     HELD_ALREADY, MEMORY, NO_HANDLE, NO_KIND, NO_VERTEX, OK, column_code, columns_code, names_code,
 };
@@ -29,22 +32,12 @@ pub extern "C" fn misteluk_version_clone(
         (λ v. Makes out.old.held out.new.held result (λ held. version_in held ≡ Some v)) }
     ensures none { version_in version.old.held ≡ None → out.new.held ≡ out.old.held }
 {
-    let Some(held) = version.take(alloc) else {
-        return NO_HANDLE;
-    };
-    let code = clone_of(alloc, &held, out);
-    version.put(held);
-    code
+    ask!(Version, alloc, version, clone_to(alloc, version, out))
 }
 
-fn clone_of(alloc: Global, held: &Held, out: &mut Handle) -> u32
-    ensures made { Asks (version_in (Some held.now)) result
-        (λ v. Makes out.old.held out.new.held result (λ held. version_in held ≡ Some v)) }
-    ensures none { version_in (Some held.now) ≡ None → out.new.held ≡ out.old.held }
+fn clone_to(alloc: Global, version: &Arc<Version>, out: &mut Handle) -> u32
+    ensures { Makes out.old.held out.new.held result (λ held. version_in held ≡ Some (arc_value {X = Version} version.now)) }
 {
-    let Held::Version(version) = held else {
-        return NO_HANDLE;
-    };
     if !out.is_empty() {
         return HELD_ALREADY;
     }
@@ -75,15 +68,7 @@ pub extern "C" fn misteluk_version_size(
     ensures same { version.new.held ≡ version.old.held }
     ensures told { Asks (version_in version.old.held) result (λ v. (result ≡ 0) × (out.new ≡ size_of v)) }
 {
-    let Some(held) = version.take(alloc) else {
-        return NO_HANDLE;
-    };
-    let code = match &*held {
-        Held::Version(version) => size_to(version, out),
-        _ => NO_HANDLE,
-    };
-    version.put(held);
-    code
+    ask!(Version, alloc, version, size_to(version, out))
 }
 
 /// Tells the number of a vertex.
@@ -97,15 +82,12 @@ pub extern "C" fn misteluk_version_vertex(
     ensures same { version.new.held ≡ version.old.held }
     ensures told { Asks (version_in version.old.held) result (λ v. TellsNumber 16 (content v).names name.now result out.new) }
 {
-    let Some(held) = version.take(alloc) else {
-        return NO_HANDLE;
-    };
-    let code = match &*held {
-        Held::Version(version) => number_to(columns::vertex(version, name), NO_VERTEX, out),
-        _ => NO_HANDLE,
-    };
-    version.put(held);
-    code
+    ask!(
+        Version,
+        alloc,
+        version,
+        number_to(columns::vertex(version, name), NO_VERTEX, out)
+    )
 }
 
 /// Tells the number of a kind.
@@ -119,15 +101,12 @@ pub extern "C" fn misteluk_version_kind(
     ensures same { version.new.held ≡ version.old.held }
     ensures told { Asks (version_in version.old.held) result (λ v. TellsNumber 17 (content v).kinds name.now result out.new) }
 {
-    let Some(held) = version.take(alloc) else {
-        return NO_HANDLE;
-    };
-    let code = match &*held {
-        Held::Version(version) => number_to(columns::kind(version, name), NO_KIND, out),
-        _ => NO_HANDLE,
-    };
-    version.put(held);
-    code
+    ask!(
+        Version,
+        alloc,
+        version,
+        number_to(columns::kind(version, name), NO_KIND, out)
+    )
 }
 
 /// Writes names of vertices.
@@ -142,18 +121,15 @@ pub extern "C" fn misteluk_version_names(
     ensures same { version.new.held ≡ version.old.held }
     ensures told { Asks (version_in version.old.held) result (λ v. TellsNames 16 (content v).names first text.old text.new ends.new result) }
 {
-    let Some(held) = version.take(alloc) else {
-        return NO_HANDLE;
-    };
-    let code = match &*held {
-        Held::Version(version) => names_code(
+    ask!(
+        Version,
+        alloc,
+        version,
+        names_code(
             NO_VERTEX,
-            columns::write_names(version.names(), first, text, ends),
-        ),
-        _ => NO_HANDLE,
-    };
-    version.put(held);
-    code
+            columns::write_names(version.names(), first, text, ends)
+        )
+    )
 }
 
 /// Writes names of kinds.
@@ -168,18 +144,15 @@ pub extern "C" fn misteluk_version_kind_names(
     ensures same { version.new.held ≡ version.old.held }
     ensures told { Asks (version_in version.old.held) result (λ v. TellsNames 17 (content v).kinds first text.old text.new ends.new result) }
 {
-    let Some(held) = version.take(alloc) else {
-        return NO_HANDLE;
-    };
-    let code = match &*held {
-        Held::Version(version) => names_code(
+    ask!(
+        Version,
+        alloc,
+        version,
+        names_code(
             NO_KIND,
-            columns::write_names(version.kinds(), first, text, ends),
-        ),
-        _ => NO_HANDLE,
-    };
-    version.put(held);
-    code
+            columns::write_names(version.kinds(), first, text, ends)
+        )
+    )
 }
 
 /// Tells one edge.
@@ -195,15 +168,12 @@ pub extern "C" fn misteluk_version_edge(
     ensures same { version.new.held ≡ version.old.held }
     ensures told { Asks (version_in version.old.held) result (λ v. TellsEdge (edge_at (content v) kind source target) result out.new) }
 {
-    let Some(held) = version.take(alloc) else {
-        return NO_HANDLE;
-    };
-    let code = match &*held {
-        Held::Version(version) => edge_to(version, kind, source, target, out),
-        _ => NO_HANDLE,
-    };
-    version.put(held);
-    code
+    ask!(
+        Version,
+        alloc,
+        version,
+        edge_to(version, kind, source, target, out)
+    )
 }
 
 /// Writes the degrees of each vertex.
@@ -220,19 +190,12 @@ pub extern "C" fn misteluk_version_degrees(
     ensures told { Asks (version_in version.old.held) result (λ v. Tells result (WritesDegrees (content v) view.now (degree_columns outgoing.old incoming.old out_weight.old)
         (degree_columns outgoing.new incoming.new out_weight.new))) }
 {
-    let Some(held) = version.take(alloc) else {
-        return NO_HANDLE;
-    };
-    let code = match &*held {
-        Held::Version(version) => {
-            columns_code(columns::write_degrees(
-                alloc, version, view, outgoing, incoming, out_weight,
-            ))
-        },
-        _ => NO_HANDLE,
-    };
-    version.put(held);
-    code
+    ask!(
+        Version,
+        alloc,
+        version,
+        columns_code(columns::write_degrees(alloc, version, view, outgoing, incoming, out_weight))
+    )
 }
 
 /// Writes the level of each vertex.
@@ -247,17 +210,12 @@ pub extern "C" fn misteluk_version_levels(
     ensures same { version.new.held ≡ version.old.held }
     ensures told { Asks (version_in version.old.held) result (λ v. Tells result (WritesLevels (content v) view.now source levels.old levels.new)) }
 {
-    let Some(held) = version.take(alloc) else {
-        return NO_HANDLE;
-    };
-    let code = match &*held {
-        Held::Version(version) => columns_code(columns::write_levels(
-            alloc, version, view, source, levels,
-        )),
-        _ => NO_HANDLE,
-    };
-    version.put(held);
-    code
+    ask!(
+        Version,
+        alloc,
+        version,
+        columns_code(columns::write_levels(alloc, version, view, source, levels))
+    )
 }
 
 /// Writes the label of each vertex.
@@ -271,15 +229,12 @@ pub extern "C" fn misteluk_version_labels(
     ensures same { version.new.held ≡ version.old.held }
     ensures told { Asks (version_in version.old.held) result (λ v. Tells result (WritesLabels (content v) view.now labels.old labels.new)) }
 {
-    let Some(held) = version.take(alloc) else {
-        return NO_HANDLE;
-    };
-    let code = match &*held {
-        Held::Version(version) => columns_code(columns::write_labels(alloc, version, view, labels)),
-        _ => NO_HANDLE,
-    };
-    version.put(held);
-    code
+    ask!(
+        Version,
+        alloc,
+        version,
+        columns_code(columns::write_labels(alloc, version, view, labels))
+    )
 }
 
 /// Writes the core number of each vertex.
@@ -293,15 +248,12 @@ pub extern "C" fn misteluk_version_cores(
     ensures same { version.new.held ≡ version.old.held }
     ensures told { Asks (version_in version.old.held) result (λ v. Tells result (WritesCores (content v) view.now cores.old cores.new)) }
 {
-    let Some(held) = version.take(alloc) else {
-        return NO_HANDLE;
-    };
-    let code = match &*held {
-        Held::Version(version) => columns_code(columns::write_cores(alloc, version, view, cores)),
-        _ => NO_HANDLE,
-    };
-    version.put(held);
-    code
+    ask!(
+        Version,
+        alloc,
+        version,
+        columns_code(columns::write_cores(alloc, version, view, cores))
+    )
 }
 
 /// Writes the edges of one source.
@@ -322,17 +274,14 @@ pub extern "C" fn misteluk_version_row(
     ensures told { Asks (version_in version.old.held) result (λ v. Tells result (WritesRow v view.now source (columns kinds.old targets.old weights.old firsts.old recents.old)
         (columns kinds.new targets.new weights.new firsts.new recents.new)) × IsRowCount v view.now source count.new) }
 {
-    let Some(held) = version.take(alloc) else {
-        return NO_HANDLE;
-    };
-    let code = match &*held {
-        Held::Version(version) => columns_code(columns::write_row(
-            version, view, source, kinds, targets, weights, firsts, recents, count,
-        )),
-        _ => NO_HANDLE,
-    };
-    version.put(held);
-    code
+    ask!(
+        Version,
+        alloc,
+        version,
+        columns_code(columns::write_row(
+            version, view, source, kinds, targets, weights, firsts, recents, count
+        ))
+    )
 }
 
 /// Writes the edges of sources from one on.
@@ -355,17 +304,14 @@ pub extern "C" fn misteluk_version_edges(
         (edge_columns source.old sources.old (columns kinds.old targets.old weights.old firsts.old recents.old))
         (edge_columns source.new sources.new (columns kinds.new targets.new weights.new firsts.new recents.new)) count.new)) }
 {
-    let Some(held) = version.take(alloc) else {
-        return NO_HANDLE;
-    };
-    let code = match &*held {
-        Held::Version(version) => columns_code(columns::write_edges(
-            version, view, source, kinds, sources, targets, weights, firsts, recents, count,
-        )),
-        _ => NO_HANDLE,
-    };
-    version.put(held);
-    code
+    ask!(
+        Version,
+        alloc,
+        version,
+        columns_code(columns::write_edges(
+            version, view, source, kinds, sources, targets, weights, firsts, recents, count
+        ))
+    )
 }
 
 fn size_to(version: &Version, out: &mut VersionSize) -> u32
