@@ -23,11 +23,20 @@ fn first_edges(version: &Version, source: u32) -> (bool, bool) {
     (row.next().is_some(), row.next().is_some())
 }
 
+// How many batches the version lends.
+fn lent_batches(version: &Version) -> u64 {
+    let mut count: u64 = 0;
+    for _ in version.batches() {
+        count = count.saturating_add(1);
+    }
+    count
+}
+
 // The version's number, and how many batches, names, kinds and edges it has, and blocks of the first row.
 fn counts(version: &Version) -> [u64; 6] {
     [
         version.number(),
-        version.batches().count() as u64,
+        lent_batches(version),
         version.names().len() as u64,
         version.kinds().len() as u64,
         version.edge_count(),
