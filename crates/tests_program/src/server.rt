@@ -4,7 +4,6 @@
 mod arguments;
 mod checks;
 mod drives;
-mod endless;
 mod faults;
 mod feeds;
 mod growths;
