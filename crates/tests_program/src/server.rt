@@ -4,6 +4,7 @@
 mod arguments;
 mod checks;
 mod drives;
+mod endless;
 mod faults;
 mod feeds;
 mod growths;
