@@ -24,14 +24,15 @@ ENDINGS = ("", ".gz", ".xz", ".bz2")
 
 
 def answers_of(session, of_names):
-    """What a session says to every request, and in which order."""
+    """What a session says to every request, and in which order, but for neighbors: those come as the blocks have them."""
     told, store = [session.store.kinds, session.store.units, len(session)], session.store
     for kind in (None, *store.kinds, "no kind"):
         for since, until in WINDOWS:
             for ask, *given in ((session.degrees,), (session.components,), (session.cores,), (session.weights_in,),
                                 *((ask, it) for it in of_names for ask in (session.levels, session.neighbors))):
                 try:
-                    told.append(list(ask(*given, kind=kind, since=since, until=until).items()))
+                    found = list(ask(*given, kind=kind, since=since, until=until).items())
+                    told.append(sorted(found) if ask == session.neighbors else found)
                 except (misteluk.NoKind, misteluk.NoVertex) as fault:
                     told.append(fault.word)
     return told + sorted(session.edges()) + [of_names[0] in session, session.path(*session.degrees().most(2)[0][:1] * 2)
