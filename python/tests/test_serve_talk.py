@@ -170,7 +170,9 @@ class Asked(ServeCase):
             with mock.patch.object(held, "few_out_of", wraps=held.few_out_of) as counted:
                 for _ in range(3):
                     self.assertEqual([len(session.edges_out_of(it)) for it in ("hub", "t1")], [50, 0])
-            self.assertEqual([it.args[1] for it in counted.call_args_list], ["hub", "t1", "t1", "t1"])
+            # (a thread's answer has no bound)
+            at_once = [name for _, name, most in (it.args for it in counted.call_args_list) if most is not None]
+            self.assertEqual(at_once, ["hub", "t1", "t1", "t1"])
 
     def test_the_order_of_edges(self):
         """A client has them in order, whatever the server's order is."""
