@@ -1,6 +1,7 @@
 //! Work on the row of a source: it is opened, its operations are done, and it is closed.
 
 ghost use Rattle.std.specs.Prelude.{◌≡◌, ◌+◌, ◌++◌, ◌<◌, ◌≤◌, ℕ, List, [], IfOk, OnOk, All};
+ghost use Rattle.std.specs.Option.{option_to_list};
 ghost use Rattle.std.specs.Prelude.{vec_len, vec_capacity, length, map, count_by, ◌%◌, ◌^◌};
 ghost use Rattle.graph_types.specs.declared.batches.Outcome.TheVariants.{Expired};
 ghost use Rattle.graph_types.specs.Changes.{IsChange};
@@ -26,6 +27,7 @@ use edge_block::Block;
 use graph_types::{EdgeChange, KindId, Outcome, VertexId};
 use std::alloc::{AllocError, Global};
 use std::sync::Arc;
+use version_pages::Row;
 
 /// Does one operation on its row, and answers its outcome.
 fn do_step(
@@ -221,6 +223,32 @@ fn is_bare(block: &Block) -> bool
     block.is_empty()
 }
 
+/// The row's block of the next version, unless the batch has emptied it.
+fn close_one(blocks: RowBlock, left: &mut Leavings) -> Result<Option<Arc<Block>>, AllocError>
+    ensures kept { IfOk result (λ b. blocks_of (option_to_list b) ≡ after_here blocks) }
+    ensures taken { OnOk result (left.new.taken.items ≡ left.old.taken.items ++ map (λ b. b.number) (written_here blocks)) }
+    ensures dropped { OnOk result (blocks_of left.new.dropped.items ≡ blocks_of left.old.dropped.items ++ dropped_here blocks) }
+    ensures unused { OnOk result (numbers_of left.new.unused.items ≡ numbers_of left.old.unused.items ++ unused_here blocks) }
+{
+    let RowBlock {
+        block,
+        touched,
+        before,
+    } = blocks;
+    if !touched {
+        return Ok(Some(block));
+    }
+    if let Some(old) = before {
+        left.dropped.push(old)?;
+    }
+    if is_bare(&block) {
+        left.unused.push(block)?;
+        return Ok(None);
+    }
+    left.taken.push(block.number())?;
+    Ok(Some(block))
+}
+
 /// Adds a block to its row's blocks of the next version, unless the batch has emptied it.
 fn close_block(
     blocks: RowBlock,
@@ -235,42 +263,34 @@ fn close_block(
     ensures dropped { OnOk result (blocks_of left.new.dropped.items ≡ blocks_of left.old.dropped.items ++ dropped_here blocks) }
     ensures unused { OnOk result (numbers_of left.new.unused.items ≡ numbers_of left.old.unused.items ++ unused_here blocks) }
 {
-    let RowBlock {
-        block,
-        touched,
-        before,
-    } = blocks;
-    if !touched {
+    if let Some(block) = close_one(blocks, left)? {
         row.push_reserved(block);
-        return Ok(());
     }
-    if let Some(old) = before {
-        left.dropped.push(old)?;
-    }
-    if is_bare(&block) {
-        left.unused.push(block)?;
-        return Ok(());
-    }
-    left.taken.push(block.number())?;
-    row.push_reserved(block);
     Ok(())
 }
 
-/// The row's blocks of the next version.
+/// The source's row of the next version. A row of one block, as most are, needs no list.
 pub fn close_row(
     alloc: Global,
-    blocks: Vec<RowBlock>,
+    mut blocks: Vec<RowBlock>,
     left: &mut Leavings,
-) -> Result<Vec<Arc<Block>>, AllocError>
-    ensures row { IfOk result (λ r. blocks_of r.items ≡ after_of blocks.items) }
+) -> Result<Row, AllocError>
+    ensures row { IfOk result (λ r. r ≡ after_of blocks.items) }
     ensures taken { OnOk result (left.new.taken.items ≡ left.old.taken.items ++ map (λ b. b.number) (written_of blocks.items)) }
     ensures dropped { OnOk result (blocks_of left.new.dropped.items ≡ blocks_of left.old.dropped.items
         ++ dropped_of blocks.items) }
     ensures unused { OnOk result (numbers_of left.new.unused.items ≡ numbers_of left.old.unused.items ++ unused_of blocks.items) }
 {
+    if blocks.len() == 1 {
+        let Some(only) = blocks.pop() else {
+            unreachable!()
+        };
+        let kept = close_one(only, left)?;
+        return Ok(Row::of_option(kept));
+    }
     let mut row = Vec::with_capacity(alloc, blocks.len())?;
     for block in blocks {
         close_block(block, &mut row, left)?;
     }
-    Ok(row)
+    Row::of(alloc, row)
 }

@@ -19,6 +19,7 @@ use graph_types::{EdgeChange, KindId, Outcome, VertexId};
 use graph_version::Version;
 use std::alloc::{AllocError, Global};
 use std::sync::Arc;
+use version_pages::Row;
 
 /// The row of a source while a batch goes on.
 #[derive(Drop)]
@@ -120,7 +121,7 @@ pub struct ShardDone {
     /// Each operation's place in the batch, and its outcome.
     pub outcomes: Vec<(u32, Outcome)>,
     /// The sources' rows of the next version.
-    pub rows: Vec<(VertexId, Vec<Arc<Block>>)>,
+    pub rows: Vec<(VertexId, Row)>,
     pub left: Leavings,
 }
 
@@ -189,8 +190,8 @@ fn none_done(alloc: Global, rows: usize, steps: &[Step]) -> Result<ShardDone, Al
         outcomes,
         rows: Vec::with_capacity(alloc, rows)?,
         left: Leavings {
-            taken: Vec::new(alloc),
-            dropped: Vec::new(alloc),
+            taken: Vec::with_capacity(alloc, rows)?,
+            dropped: Vec::with_capacity(alloc, rows)?,
             unused: Vec::new(alloc),
         },
     })

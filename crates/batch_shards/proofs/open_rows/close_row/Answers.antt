@@ -18,13 +18,13 @@ close_block-requires c =
     let turn = YieldsList-turn (YieldsList-from_vec {s = c.into_iter-block-iterator.result} c.args.blocks.items start.0
     (start.1 ∙ c.args.blocks.ok.0))
     c.loop-block.yielded c.loop-block.block-iterator c.loop-block.yielded_by c.next.result c.next.new.self
-    c.in-Some.block c.in-Some.is c.next.ensures.steps in
+    c.in-Some-block.block c.in-Some-block.is c.next.ensures.steps in
     omega (arith, turn.0, c.loop-block.invariant.few, c.loop-block.invariant.room)
 
 pub loop-block-preserved : goal.loop-block-preserved
 loop-block-preserved c =
     let done : List RowBlock = c.loop-block.yielded in
-    let block : RowBlock = c.in-Some.block in
+    let block : RowBlock = c.in-Some-block.block in
     let number : BlockView → ℕ = λ b. b.number in
     let more = length-append done (block ∷ []) in
     record {
