@@ -168,20 +168,24 @@ const MANY_STEPS: usize = 32;
 
 /// The row of a source as the version has it, before the batch's first operation.
 ///
-/// The targets are those that the batch's operations ask for, where it has many for this row.
+/// The targets are those that the batch's operations ask for, where it has many for this row. The row's blocks come into the
+/// list, so that rows which are opened one after another take its room in turn.
 pub fn open_row(
     alloc: Global,
     source: VertexId,
     row: &[Arc<Block>],
     targets: &[u32],
+    list: Vec<RowBlock>,
 ) -> Result<OpenRow, AllocError>
-    requires { All (λ b. (block_of b).source ≡ source.0) row.now }
+    requires own { All (λ b. (block_of b).source ≡ source.0) row.now }
+    requires empty { list.items ≡ [] }
     ensures blocks { IfOk result (λ r. opens r.blocks.items ≡ map kept_of row.now) }
     ensures had { IfOk result (λ r. had_in r.blocks.items ≡ blocks_of row.now) }
     ensures none_own { IfOk result (λ r. own_in r.blocks.items ≡ []) }
     ensures of_source { IfOk result (IsRowOf source) }
 {
-    let mut blocks = Vec::with_capacity(alloc, row.len() + 1)?;
+    let mut blocks = list;
+    blocks.reserve(row.len() + 1)?;
     for block in row {
         let block = Arc::try_clone(block)?;
         blocks.push_reserved(RowBlock {
@@ -269,10 +273,10 @@ fn close_block(
     Ok(())
 }
 
-/// The source's row of the next version. A row of one block, as most are, needs no list.
-pub fn close_row(
+/// The row of these blocks in the next version.
+fn close_blocks(
     alloc: Global,
-    mut blocks: Vec<RowBlock>,
+    blocks: Vec<RowBlock>,
     left: &mut Leavings,
 ) -> Result<Row, AllocError>
     ensures row { IfOk result (λ r. r ≡ after_of blocks.items) }
@@ -281,6 +285,29 @@ pub fn close_row(
         ++ dropped_of blocks.items) }
     ensures unused { OnOk result (numbers_of left.new.unused.items ≡ numbers_of left.old.unused.items ++ unused_of blocks.items) }
 {
+    let mut row = Vec::with_capacity(alloc, blocks.len())?;
+    for block in blocks {
+        close_block(block, &mut row, left)?;
+    }
+    Row::of(alloc, row)
+}
+
+/// The source's row of the next version, whose blocks are taken out of the list. A row of one block, as most are, needs no list
+/// of its own, and leaves this one's room to the next row.
+pub fn close_row(
+    alloc: Global,
+    blocks: &mut Vec<RowBlock>,
+    left: &mut Leavings,
+) -> Result<Row, AllocError>
+    ensures row { IfOk result (λ r. r ≡ after_of blocks.old.items) }
+    ensures emptied { OnOk result (blocks.new.items ≡ []) }
+    ensures taken { OnOk result (left.new.taken.items ≡ left.old.taken.items
+        ++ map (λ b. b.number) (written_of blocks.old.items)) }
+    ensures dropped { OnOk result (blocks_of left.new.dropped.items ≡ blocks_of left.old.dropped.items
+        ++ dropped_of blocks.old.items) }
+    ensures unused { OnOk result (numbers_of left.new.unused.items ≡ numbers_of left.old.unused.items
+        ++ unused_of blocks.old.items) }
+{
     if blocks.len() == 1 {
         let Some(only) = blocks.pop() else {
             unreachable!()
@@ -288,9 +315,6 @@ pub fn close_row(
         let kept = close_one(only, left)?;
         return Ok(Row::of_option(kept));
     }
-    let mut row = Vec::with_capacity(alloc, blocks.len())?;
-    for block in blocks {
-        close_block(block, &mut row, left)?;
-    }
-    Row::of(alloc, row)
+    let opened = std::mem::replace(blocks, Vec::new(alloc));
+    close_blocks(alloc, opened, left)
 }

@@ -3,7 +3,7 @@ use Rattle.std.proofs.lemmas.{List.map-append, Iterator.{Adapters.YieldsList-fro
 use Rattle.edge_block.specs.Slots.{BlockView}
 use Rattle.batch_shards.specs.Closing.{after_here, written_here, dropped_here, unused_here, written_of}
 use Rattle.batch_shards.{specs.declared.row_blocks.RowBlock.RowBlock, proofs.Places.one_piece}
-use Rattle.batch_shards.proofs.open_rows.close_row.Goals as goal
+use Rattle.batch_shards.proofs.open_rows.close_blocks.Goals as goal
 
 -- what one more block adds behind a base
 behind : {A : Type 0} (base so_far here old new all : List A) → new ≡ old ++ here → old ≡ base ++ so_far → all ≡ so_far ++ here
@@ -18,13 +18,13 @@ close_block-requires c =
     let turn = YieldsList-turn (YieldsList-from_vec {s = c.into_iter-block-iterator.result} c.args.blocks.items start.0
     (start.1 ∙ c.args.blocks.ok.0))
     c.loop-block.yielded c.loop-block.block-iterator c.loop-block.yielded_by c.next.result c.next.new.self
-    c.in-Some-block.block c.in-Some-block.is c.next.ensures.steps in
+    c.in-Some.block c.in-Some.is c.next.ensures.steps in
     omega (arith, turn.0, c.loop-block.invariant.few, c.loop-block.invariant.room)
 
 pub loop-block-preserved : goal.loop-block-preserved
 loop-block-preserved c =
     let done : List RowBlock = c.loop-block.yielded in
-    let block : RowBlock = c.in-Some-block.block in
+    let block : RowBlock = c.in-Some.block in
     let number : BlockView → ℕ = λ b. b.number in
     let more = length-append done (block ∷ []) in
     record {
