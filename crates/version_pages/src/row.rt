@@ -173,7 +173,7 @@ impl Row {
     }
 
     /// Its blocks, in order.
-    pub(crate) fn blocks(&self) -> &[Arc<Block>]
+    pub fn blocks(&self) -> &[Arc<Block>]
         ensures { block_values result.now ≡ self.now }
     {
         self.blocks.as_slice()
