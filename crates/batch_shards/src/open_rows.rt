@@ -267,6 +267,11 @@ fn close_block(
     ensures dropped { OnOk result (blocks_of left.new.dropped.items ≡ blocks_of left.old.dropped.items ++ dropped_here blocks) }
     ensures unused { OnOk result (numbers_of left.new.unused.items ≡ numbers_of left.old.unused.items ++ unused_here blocks) }
 {
+    // Most blocks of a long row are untouched.
+    if !blocks.touched {
+        row.push_reserved(blocks.block);
+        return Ok(());
+    }
     if let Some(block) = close_one(blocks, left)? {
         row.push_reserved(block);
     }
