@@ -23,12 +23,6 @@ listed_times m (x ∷ xs) e =
 abbrev pub sources_of : List (ℕ × List BlockView) → List ℕ
 sources_of rows = map (λ r. r.0) rows
 
--- one more row
-pub among_more : (rows : List (ℕ × List BlockView)) (r : ℕ × List BlockView) (source : ℕ) (row : List BlockView)
-    → row_among (rows ++ r ∷ []) source row ≡ cond (source == r.0) r.1 (row_among rows source row)
-among_more [] r source row = refl
-among_more (x ∷ rows) r source row = among_more rows r source (cond (source == x.0) x.1 row)
-
 -- a source without a row in the list comes with none of the list's rows
 no_times : (source : ℕ) (r : ℕ × List BlockView) (rows : List (ℕ × List BlockView)) → (source == r.0) ≡ false
     → times source (sources_of rows) ≡ 0 → times source (sources_of (r ∷ rows)) ≡ 0

@@ -1,10 +1,11 @@
 -- What applying a batch to a version leaves.
-use Rattle.std.specs.Prelude.{◌≡◌, ℕ, ◌+◌, ◌==◌, List, [], ◌∷◌, ◌++◌, length, count_by, Bool, if◌then◌else◌, true, false}
+use Rattle.std.specs.Prelude.{◌≡◌, ℕ, ◌+◌, List, [], ◌∷◌, ◌++◌, length, count_by, Bool, true, false}
 use Rattle.graph_types.specs.{Step.{after_all, outcomes}, declared.batches.{NamedOp.NamedOp, Outcome.Outcome}}
 use Rattle.graph_types.specs.declared.batches.Outcome.TheVariants.{Inserted, Removed, Expired}
-use Rattle.edge_block.specs.{Slots.BlockView, Batches.{layout_after, taken_by, dropped_by}}
+use Rattle.edge_block.specs.Batches.{layout_after, taken_by, dropped_by}
 use Rattle.batch_shards.specs.{Births.CarriesBirths, Done.Exchanges, declared.shard.ShardDone.ShardDone}
-use Rattle.graph_version.specs.{Rows.{row_of, blocks_of}, Versions.{VersionView, IsVersion, content, layout_of}, Drafts.DraftView}
+use Rattle.graph_version.specs.{Rows.blocks_of, Versions.{VersionView, IsVersion, content, layout_of}}
+pub use Rattle.graph_version.specs.Drafts.{row_among, ReplacesRows}
 use Rattle.batch_shards.specs.RowBlocks as shared
 use Rattle.batch_apply.specs.{Plans.written, declared.applied.Applied.Applied}
 
@@ -27,16 +28,6 @@ pub record IsApplied (v : VersionView) (ops : List NamedOp) (numbers : List ℕ)
       (length (after_all ops (content v)).names)
   -- the rule of births
   pub births : CarriesBirths v ops a.version a.taken.items (shared.blocks_of a.dropped.items)
-
--- a source's row where these rows took the places of those before, one after another
-abbrev pub row_among : List (ℕ × List BlockView) → ℕ → List BlockView → List BlockView
-row_among [] source row = row
-row_among (r ∷ rows) source row = row_among rows source (if source == r.0 then r.1 else row)
-
--- the draft after, where these rows took their places and all else stayed
-pub record ReplacesRows (rows : List (ℕ × List BlockView)) (before after : DraftView) : Type 0 where
-  pub rows_are : (source : ℕ) → row_of after.version.rows source ≡ row_among rows source (row_of before.version.rows source)
-  pub rest : after ≡ record before { version = record before.version { rows = after.version.rows } }
 
 -- the outcomes of shards, one shard after another, written at their places
 abbrev pub written_from : List ShardDone → List Outcome → List Outcome

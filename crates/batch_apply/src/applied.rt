@@ -14,7 +14,7 @@ ghost use Rattle.batch_apply.specs.Planned.{IsPlan};
 ghost use Rattle.batch_shards.specs.Groups.{written};
 ghost use Rattle.batch_apply.specs.Gathered.{IsDealt, IsShard};
 ghost use Rattle.batch_apply.specs.Applied.{is_inserted, taken_away};
-ghost use Rattle.batch_apply.specs.Applied.{IsApplied, ReplacesRows, written_from};
+ghost use Rattle.batch_apply.specs.Applied.{IsApplied, written_from};
 ghost use Rattle.batch_apply.specs.Rewritten.{IsRewritten};
 ghost use Rattle.batch_apply.specs.Gathered.{IsGathered, IsWorked};
 
@@ -27,6 +27,7 @@ use graph_version::{RowTable, Version, VersionDraft};
 use std::alloc::{AllocError, Global};
 use std::sync::Arc;
 use std::thread::Threads;
+use version_pages::Row;
 use vertex_names::NameBook;
 
 /// What a batch leaves of a version.
@@ -193,7 +194,7 @@ fn finish(
     let edges = edges_after(version.edge_count(), &all.outcomes);
     let sources = sources_of(alloc, all.rows.as_slice())?;
     let draft = VersionDraft::over_table(version, names, kinds, table)?;
-    let draft = replace_rows(draft, all.rows)?.push_batch(batch)?;
+    let draft = draft.put_rows(all.rows)?.push_batch(batch)?;
     let applied = Applied {
         version: draft.finish_counted(edges),
         outcomes: all.outcomes,
@@ -205,10 +206,7 @@ fn finish(
 }
 
 /// The sources of rows, in their order.
-fn sources_of(
-    alloc: Global,
-    rows: &[(VertexId, Vec<Arc<Block>>)],
-) -> Result<Vec<VertexId>, AllocError>
+fn sources_of(alloc: Global, rows: &[(VertexId, Row)]) -> Result<Vec<VertexId>, AllocError>
     ensures { IfOk result (λ v. v.items ≡ map (λ r. r.0) rows.now) }
 {
     let mut sources = Vec::with_capacity(alloc, rows.len())?;
@@ -345,7 +343,7 @@ struct Gathered {
     /// The outcome of each operation, in the batch's order.
     outcomes: Vec<Outcome>,
     /// The rows of the next version, each with its source.
-    rows: Vec<(VertexId, Vec<Arc<Block>>)>,
+    rows: Vec<(VertexId, Row)>,
     left: Leavings,
 }
 
@@ -464,18 +462,4 @@ fn edges_then(before: u64, outcome: Outcome) -> u64
         Outcome::Expired(count) => before.wrapping_sub(count),
         Outcome::Updated | Outcome::Absent | Outcome::Overflow => before,
     }
-}
-
-/// The draft with these rows, each in the place of its source's row.
-fn replace_rows(
-    draft: VersionDraft,
-    rows: Vec<(VertexId, Vec<Arc<Block>>)>,
-) -> Result<VersionDraft, AllocError>
-    ensures { IfOk result (ReplacesRows (row_values rows.items) draft) }
-{
-    let mut draft = draft;
-    for row in rows {
-        draft = draft.replace_row(row.0, row.1)?;
-    }
-    Ok(draft)
 }

@@ -1,9 +1,8 @@
 -- What a row leaves at the batch's end.
 use Rattle.std.specs.{Prelude.{ℕ, List, [], ◌∷◌, map, flat_map, ◌&&◌, not, if◌then◌else◌}, Option.option_to_list}
-use Rattle.std.specs.declared.{sync.Arc.Arc, alloc.Global.Global, vec.Vec.Vec}
-use Rattle.graph_types.specs.declared.ids.VertexId.{VertexId}
-use Rattle.edge_block.specs.{declared.blocks.Block.Block, Slots.BlockView, Rows.{has_none, shape_of}}
-use Rattle.batch_shards.specs.{declared.{row_blocks.RowBlock.RowBlock, shard.OpenRow.OpenRow}, RowBlocks.{block_of, blocks_of}}
+use Rattle.edge_block.specs.{Slots.BlockView, Rows.{has_none, shape_of}}
+pub use Rattle.graph_version.specs.Drafts.{row_values}
+use Rattle.batch_shards.specs.{declared.{row_blocks.RowBlock.RowBlock, shard.OpenRow.OpenRow}, RowBlocks.block_of}
 
 -- the row's block of the next version
 abbrev pub after_here : RowBlock → List BlockView
@@ -42,9 +41,6 @@ unused_of row = flat_map unused_here row
 
 abbrev pub closed_rows : List OpenRow → List (ℕ × List BlockView)
 closed_rows work = map (λ r. (r.source.0, after_of r.blocks.items)) work
-
-abbrev pub row_values : List (VertexId × Vec (Arc Block Global) Global) → List (ℕ × List BlockView)
-row_values rows = map (λ r. (r.0.0, blocks_of r.1.items)) rows
 
 abbrev pub stays_all : List OpenRow → List BlockView
 stays_all work = flat_map (λ r. stays_of r.blocks.items) work

@@ -1,6 +1,7 @@
 //! Work on the row of a source: it is opened, its operations are done, and it is closed.
 
 ghost use Rattle.std.specs.Prelude.{◌≡◌, ◌+◌, ◌++◌, ◌<◌, ◌≤◌, ℕ, List, [], IfOk, OnOk, All};
+ghost use Rattle.std.specs.Option.{option_to_list};
 ghost use Rattle.std.specs.Prelude.{vec_len, vec_capacity, length, map, count_by, ◌%◌, ◌^◌};
 ghost use Rattle.graph_types.specs.declared.batches.Outcome.TheVariants.{Expired};
 ghost use Rattle.graph_types.specs.Changes.{IsChange};
@@ -26,6 +27,7 @@ use edge_block::Block;
 use graph_types::{EdgeChange, KindId, Outcome, VertexId};
 use std::alloc::{AllocError, Global};
 use std::sync::Arc;
+use version_pages::Row;
 
 /// Does one operation on its row, and answers its outcome.
 fn do_step(
@@ -166,20 +168,24 @@ const MANY_STEPS: usize = 32;
 
 /// The row of a source as the version has it, before the batch's first operation.
 ///
-/// The targets are those that the batch's operations ask for, where it has many for this row.
+/// The targets are those that the batch's operations ask for, where it has many for this row. The row's blocks come into the
+/// list, so that rows which are opened one after another take its room in turn.
 pub fn open_row(
     alloc: Global,
     source: VertexId,
     row: &[Arc<Block>],
     targets: &[u32],
+    list: Vec<RowBlock>,
 ) -> Result<OpenRow, AllocError>
-    requires { All (λ b. (block_of b).source ≡ source.0) row.now }
+    requires own { All (λ b. (block_of b).source ≡ source.0) row.now }
+    requires empty { list.items ≡ [] }
     ensures blocks { IfOk result (λ r. opens r.blocks.items ≡ map kept_of row.now) }
     ensures had { IfOk result (λ r. had_in r.blocks.items ≡ blocks_of row.now) }
     ensures none_own { IfOk result (λ r. own_in r.blocks.items ≡ []) }
     ensures of_source { IfOk result (IsRowOf source) }
 {
-    let mut blocks = Vec::with_capacity(alloc, row.len() + 1)?;
+    let mut blocks = list;
+    blocks.reserve(row.len() + 1)?;
     for block in row {
         let block = Arc::try_clone(block)?;
         blocks.push_reserved(RowBlock {
@@ -221,6 +227,32 @@ fn is_bare(block: &Block) -> bool
     block.is_empty()
 }
 
+/// The row's block of the next version, unless the batch has emptied it.
+fn close_one(blocks: RowBlock, left: &mut Leavings) -> Result<Option<Arc<Block>>, AllocError>
+    ensures kept { IfOk result (λ b. blocks_of (option_to_list b) ≡ after_here blocks) }
+    ensures taken { OnOk result (left.new.taken.items ≡ left.old.taken.items ++ map (λ b. b.number) (written_here blocks)) }
+    ensures dropped { OnOk result (blocks_of left.new.dropped.items ≡ blocks_of left.old.dropped.items ++ dropped_here blocks) }
+    ensures unused { OnOk result (numbers_of left.new.unused.items ≡ numbers_of left.old.unused.items ++ unused_here blocks) }
+{
+    let RowBlock {
+        block,
+        touched,
+        before,
+    } = blocks;
+    if !touched {
+        return Ok(Some(block));
+    }
+    if let Some(old) = before {
+        left.dropped.push(old)?;
+    }
+    if is_bare(&block) {
+        left.unused.push(block)?;
+        return Ok(None);
+    }
+    left.taken.push(block.number())?;
+    Ok(Some(block))
+}
+
 /// Adds a block to its row's blocks of the next version, unless the batch has emptied it.
 fn close_block(
     blocks: RowBlock,
@@ -235,34 +267,24 @@ fn close_block(
     ensures dropped { OnOk result (blocks_of left.new.dropped.items ≡ blocks_of left.old.dropped.items ++ dropped_here blocks) }
     ensures unused { OnOk result (numbers_of left.new.unused.items ≡ numbers_of left.old.unused.items ++ unused_here blocks) }
 {
-    let RowBlock {
-        block,
-        touched,
-        before,
-    } = blocks;
-    if !touched {
+    // Most blocks of a long row are untouched.
+    if !blocks.touched {
+        row.push_reserved(blocks.block);
+        return Ok(());
+    }
+    if let Some(block) = close_one(blocks, left)? {
         row.push_reserved(block);
-        return Ok(());
     }
-    if let Some(old) = before {
-        left.dropped.push(old)?;
-    }
-    if is_bare(&block) {
-        left.unused.push(block)?;
-        return Ok(());
-    }
-    left.taken.push(block.number())?;
-    row.push_reserved(block);
     Ok(())
 }
 
-/// The row's blocks of the next version.
-pub fn close_row(
+/// The row of these blocks in the next version.
+fn close_blocks(
     alloc: Global,
     blocks: Vec<RowBlock>,
     left: &mut Leavings,
-) -> Result<Vec<Arc<Block>>, AllocError>
-    ensures row { IfOk result (λ r. blocks_of r.items ≡ after_of blocks.items) }
+) -> Result<Row, AllocError>
+    ensures row { IfOk result (λ r. r ≡ after_of blocks.items) }
     ensures taken { OnOk result (left.new.taken.items ≡ left.old.taken.items ++ map (λ b. b.number) (written_of blocks.items)) }
     ensures dropped { OnOk result (blocks_of left.new.dropped.items ≡ blocks_of left.old.dropped.items
         ++ dropped_of blocks.items) }
@@ -272,5 +294,32 @@ pub fn close_row(
     for block in blocks {
         close_block(block, &mut row, left)?;
     }
-    Ok(row)
+    Row::of(alloc, row)
+}
+
+/// The source's row of the next version, whose blocks are taken out of the list. A row of one block, as most are, needs no list
+/// of its own, and leaves this one's room to the next row.
+pub fn close_row(
+    alloc: Global,
+    blocks: &mut Vec<RowBlock>,
+    left: &mut Leavings,
+) -> Result<Row, AllocError>
+    ensures row { IfOk result (λ r. r ≡ after_of blocks.old.items) }
+    ensures emptied { OnOk result (blocks.new.items ≡ []) }
+    ensures taken { OnOk result (left.new.taken.items ≡ left.old.taken.items
+        ++ map (λ b. b.number) (written_of blocks.old.items)) }
+    ensures dropped { OnOk result (blocks_of left.new.dropped.items ≡ blocks_of left.old.dropped.items
+        ++ dropped_of blocks.old.items) }
+    ensures unused { OnOk result (numbers_of left.new.unused.items ≡ numbers_of left.old.unused.items
+        ++ unused_of blocks.old.items) }
+{
+    if blocks.len() == 1 {
+        let Some(only) = blocks.pop() else {
+            unreachable!()
+        };
+        let kept = close_one(only, left)?;
+        return Ok(Row::of_option(kept));
+    }
+    let opened = std::mem::replace(blocks, Vec::new(alloc));
+    close_blocks(alloc, opened, left)
 }

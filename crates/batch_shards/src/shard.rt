@@ -19,6 +19,7 @@ use graph_types::{EdgeChange, KindId, Outcome, VertexId};
 use graph_version::Version;
 use std::alloc::{AllocError, Global};
 use std::sync::Arc;
+use version_pages::Row;
 
 /// The row of a source while a batch goes on.
 #[derive(Drop)]
@@ -120,11 +121,11 @@ pub struct ShardDone {
     /// Each operation's place in the batch, and its outcome.
     pub outcomes: Vec<(u32, Outcome)>,
     /// The sources' rows of the next version.
-    pub rows: Vec<(VertexId, Vec<Arc<Block>>)>,
+    pub rows: Vec<(VertexId, Row)>,
     pub left: Leavings,
 }
 
-/// Opens the row of a source, does its operations and closes it.
+/// Opens the row of a source, does its operations and closes it. Its blocks stand in the list meanwhile.
 fn do_row(
     alloc: Global,
     version: &Version,
@@ -134,12 +135,14 @@ fn do_row(
     row: usize,
     fresh: &mut Vec<Arc<Block>>,
     done: &mut ShardDone,
+    list: &mut Vec<RowBlock>,
 ) -> Result<(), AllocError>
     requires row { row < length sources.now }
     requires steps { AreSteps (length sources.now) steps.now }
     requires distinct { AllPairs (λ a b. a ≢ b) (map (λ s. s.0) sources.now) }
     requires groups { IsGrouped (length sources.now) steps.now groups.now }
     requires outcomes { length done.old.outcomes.items ≡ length steps.now }
+    requires empty { list.old.items ≡ [] }
     requires fresh { needed_past row (row_of version.now.rows) (map (λ s. s.0) sources.now) steps.now ≤ vec_len fresh.old }
     ensures fresh { OnOk result (needed_past (row + 1) (row_of version.now.rows) (map (λ s. s.0) sources.now) steps.now
         ≤ vec_len fresh.new) }
@@ -148,6 +151,7 @@ fn do_row(
         → AreRowsDone (row_of version.now.rows) (map (λ s. s.0) sources.now) steps.now handed (row + 1) fresh.new.items
         done.new) }
     ensures rows { OnOk result (AreBlockRows (row_of version.now.rows)) }
+    ensures emptied { OnOk result (list.new.items ≡ []) }
 {
     let source = sources[row];
     let blocks = blocks_at(version, source);
@@ -156,9 +160,11 @@ fn do_row(
     } else {
         targets_of(alloc, groups, steps, row)?
     };
-    let mut opened = open_row(alloc, source, blocks, asked.as_slice())?;
+    let room = std::mem::replace(list, Vec::new(alloc));
+    let mut opened = open_row(alloc, source, blocks, asked.as_slice(), room)?;
     do_steps(&mut opened, fresh, &mut done.outcomes, steps, groups, row)?;
-    let closed = close_row(alloc, opened.blocks, &mut done.left)?;
+    let closed = close_row(alloc, &mut opened.blocks, &mut done.left)?;
+    *list = opened.blocks;
     done.rows.push((source, closed))?;
     Ok(())
 }
@@ -189,8 +195,8 @@ fn none_done(alloc: Global, rows: usize, steps: &[Step]) -> Result<ShardDone, Al
         outcomes,
         rows: Vec::with_capacity(alloc, rows)?,
         left: Leavings {
-            taken: Vec::new(alloc),
-            dropped: Vec::new(alloc),
+            taken: Vec::with_capacity(alloc, rows)?,
+            dropped: Vec::with_capacity(alloc, rows)?,
             unused: Vec::new(alloc),
         },
     })
@@ -212,6 +218,7 @@ pub fn work_on(alloc: Global, version: &Version, shard: Shard) -> Result<ShardDo
     let lists = group_steps(alloc, sources.len(), steps.as_slice())?;
     let groups = &lists;
     let mut done = none_done(alloc, sources.len(), steps.as_slice())?;
+    let mut list = Vec::new(alloc);
     for row in 0..sources.len() {
         do_row(
             alloc,
@@ -222,6 +229,7 @@ pub fn work_on(alloc: Global, version: &Version, shard: Shard) -> Result<ShardDo
             row,
             &mut fresh,
             &mut done,
+            &mut list,
         )?;
     }
     done.left.unused.append(&mut fresh)?;

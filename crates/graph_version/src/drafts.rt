@@ -6,7 +6,7 @@ ghost use Rattle.version_pages.specs.Rows.{blocks_of};
 ghost use Rattle.version_pages.specs.Sharing.{block_values};
 ghost use Rattle.graph_version.specs.Edges.{edges_in_blocks};
 ghost use Rattle.graph_version.specs.Kept.{edge_total};
-ghost use Rattle.graph_version.specs.Drafts.{drafted_over, with_batch, ReplacesRow, IsWhole};
+ghost use Rattle.graph_version.specs.Drafts.{drafted_over, with_batch, row_values, ReplacesRow, ReplacesRows, IsWhole};
 
 use crate::batch_log::BatchLog;
 use crate::opening::Opening;
@@ -17,7 +17,7 @@ use graph_types::{Batch, VertexId};
 use std::alloc::AllocError;
 use std::marker::Model;
 use std::sync::Arc;
-use version_pages::Rows;
+use version_pages::{Row, Rows};
 use vertex_names::NameBook;
 
 /// A version that is being made over another one, from which it takes all that isn't set or replaced.
@@ -124,6 +124,23 @@ impl VersionDraft {
         Ok(VersionDraft {
             rows: self.rows.replace_row(source, blocks)?,
             ..self
+        })
+    }
+
+    /// With these rows, each in the place of its source's row, one after another. Nothing else of the draft is touched a row.
+    pub fn put_rows(self, rows: Vec<(VertexId, Row)>) -> Result<VersionDraft, AllocError>
+        ensures { IfOk result (ReplacesRows (row_values rows.items) self) }
+    {
+        let mut all = self.rows;
+        for row in rows {
+            all = all.put(row.0, row.1)?;
+        }
+        Ok(VersionDraft {
+            names: self.names,
+            kinds: self.kinds,
+            batches: self.batches,
+            opening: self.opening,
+            rows: all,
         })
     }
 

@@ -3,6 +3,7 @@
 mod blanks;
 mod drafts;
 mod journals;
+mod made_rows;
 mod ranks;
 mod shards;
 mod shelves;

@@ -20,4 +20,5 @@ mod row_page;
 mod rows;
 
 pub use batches::{BatchIter, BatchList};
+pub use row::Row;
 pub use rows::Rows;

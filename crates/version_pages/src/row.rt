@@ -1,6 +1,7 @@
 //! One source's row.
 
 ghost use Rattle.std.specs.Prelude.{◌≡◌, [], IfOk, false};
+ghost use Rattle.std.specs.Option.{option_to_list};
 ghost use Rattle.edge_block.specs.Slots.{has_before};
 ghost use Rattle.version_pages.specs.Sharing.{block_values, row_values};
 ghost use Rattle.version_pages.specs.Ages.{is_old_row};
@@ -91,7 +92,11 @@ fn any_before(blocks: &[Arc<Block>], time: u64) -> bool
 }
 
 /// A source's row, and since when its edges have been touched.
-pub(crate) struct Row {
+///
+/// Who makes a row reads its blocks' times. So workers make the rows, and the caller only puts them ([`Rows::put`]).
+///
+/// [`Rows::put`]: crate::Rows::put
+pub struct Row {
     blocks: Blocks,
     since: u64,
 }
@@ -142,8 +147,22 @@ impl Row {
         }
     }
 
+    /// The row of one block or none. It takes no memory.
+    pub fn of_option(block: Option<Arc<Block>>) -> Row
+        ensures { result ≡ block_values (option_to_list block) }
+    {
+        let Some(block) = block else {
+            return Row::empty();
+        };
+        let since = block_since(&block);
+        Row {
+            blocks: Blocks::One(block),
+            since,
+        }
+    }
+
     /// The row of these blocks.
-    pub(crate) fn of(alloc: Global, blocks: Vec<Arc<Block>>) -> Result<Row, AllocError>
+    pub fn of(alloc: Global, blocks: Vec<Arc<Block>>) -> Result<Row, AllocError>
         ensures { IfOk result (λ row. row ≡ block_values blocks.items) }
     {
         let since = blocks_since(blocks.as_slice());
@@ -154,7 +173,7 @@ impl Row {
     }
 
     /// Its blocks, in order.
-    pub(crate) fn blocks(&self) -> &[Arc<Block>]
+    pub fn blocks(&self) -> &[Arc<Block>]
         ensures { block_values result.now ≡ self.now }
     {
         self.blocks.as_slice()

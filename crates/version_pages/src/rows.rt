@@ -154,8 +154,15 @@ impl Rows {
     pub fn replace_row(self, source: VertexId, blocks: Vec<Arc<Block>>) -> Result<Rows, AllocError>
         ensures { IfOk result (λ rows. Replaces source.0 (block_values blocks.items) self rows) }
     {
+        let row = Row::of(*self.halls.allocator(), blocks)?;
+        self.put(source, row)
+    }
+
+    /// As `replace_row`, with the row made.
+    pub fn put(self, source: VertexId, row: Row) -> Result<Rows, AllocError>
+        ensures { IfOk result (λ rows. Replaces source.0 row self rows) }
+    {
         let alloc = *self.halls.allocator();
-        let row = Row::of(alloc, blocks)?;
         let source = source.0 as usize;
         let Rows { len, mut halls } = self;
         put_row(alloc, &mut halls, source, row)?;

@@ -145,7 +145,7 @@ fn write_row(text: &mut String, source: VertexId, row: &[Arc<Block>]) -> Result<
 pub(super) fn write_done(text: &mut String, done: &ShardDone) -> Result<(), AllocError> {
     write_outcomes(text, done.outcomes.as_slice())?;
     for row in &done.rows {
-        write_row(text, row.0, row.1.as_slice())?;
+        write_row(text, row.0, row.1.blocks())?;
     }
     text.push_str("; ")?;
     push_item(text, done.left.taken.len(), " ")?;

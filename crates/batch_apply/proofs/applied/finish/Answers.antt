@@ -1,6 +1,4 @@
 use Rattle.std.proofs.Common.{◌≡◌, ℕ, ◌+◌, ◌%◌, ◌^◌, ◌==◌, List, map, refl, sym, ap, ◌∙◌, subst, rules}
-use Rattle.std.specs.declared.{sync.Arc.Arc, alloc.Global.Global, vec.Vec.Vec}
-use Rattle.edge_block.specs.declared.blocks.Block.{Block}
 use Rattle.std.{specs.Prelude.count_by, specs.List.{list_any, sum_by}, specs.FinMap.len}
 use Rattle.graph_types.specs.{Graph.Graph, Step.after_all, Step.outcomes}
 use Rattle.graph_types.specs.declared.batches.{NamedOp.NamedOp}
@@ -33,11 +31,11 @@ made c numbers w =
     let a = w.gathered in
     let p = w.planned in
     let d1 : DraftView = c.in_ok-draft.draft in
-    let d2 : DraftView = c.in_ok-replace_rows.field-0 in
+    let d2 : DraftView = c.in_ok-put_rows.field-0 in
     let d3 : DraftView = c.in_ok-draft-2.draft in
     let e1 = c.in_ok-draft.ensures in
     let e2 : ReplacesRows (rows_left a.dones) d1 d2 = subst (λ rs. ReplacesRows rs d1 d2) a.rows_are
-    c.in_ok-replace_rows.ensures in
+    c.in_ok-put_rows.ensures in
     let e3 = c.in_ok-draft-2.ensures in
     let names = sym w.names_are ∙ p.names in
     let kinds = sym w.kinds_are ∙ p.kinds in
@@ -80,12 +78,12 @@ differ c s none =
     let ops : List NamedOp = batch_value c.args.batch in
     let values : List (ℕ × List BlockView) = row_values c.args.all.rows.items in
     let d1 : DraftView = c.in_ok-draft.draft in
-    let d2 : DraftView = c.in_ok-replace_rows.field-0 in
+    let d2 : DraftView = c.in_ok-put_rows.field-0 in
     let d3 : DraftView = c.in_ok-draft-2.draft in
     let among = draft_among v ops c.args.names c.args.kinds values d1 d2 d3 c.in_ok-draft.ensures
-    c.in_ok-replace_rows.ensures c.in_ok-draft-2.ensures s in
+    c.in_ok-put_rows.ensures c.in_ok-draft-2.ensures s in
     let listed = ap (list_any (λ (w : VertexId). s == w.0))
-    (sym (c.in_ok-sources.ensures ∙ ap (map (λ (r : VertexId × Vec (Arc Block Global) Global). r.0)) c.as_slice.ensures.value)) ∙ none in
+    (sym (c.in_ok-sources.ensures ∙ ap (map (λ (r : VertexId × List BlockView). r.0)) c.as_slice.ensures.value)) ∙ none in
     sym (ap (λ (d : DraftView). row_of d.version.rows s) c.in_ok-draft-2.ensures ∙ among
     ∙ among_others c.args.all.rows.items s (row_of v.rows s) listed)
 

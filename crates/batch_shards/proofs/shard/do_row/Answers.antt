@@ -7,7 +7,7 @@ use Rattle.batch_shards.proofs.{Beginnings.kept_all, Expiring.opened_owes, Expir
 use Rattle.batch_shards.{proofs.SourceRows.row_done, proofs.SourceSteps.past_more, specs.Closing.row_values, specs.Done.layout_by}
 use Rattle.batch_shards.specs.{Groups.IsSourceRow, RowBlocks.blocks_of, RowBlocks.kept_of, RowBlocks.opens, Shards.AreSteps}
 use Rattle.batch_shards.specs.{Spending.latest, Spending.unspent, Spending.old_blocks, declared.shard.OpenRow.OpenRow}
-use Rattle.std.specs.declared.{sync.Arc.Arc, alloc.Global.Global, vec.Vec.Vec}
+use Rattle.std.specs.declared.{sync.Arc.Arc, alloc.Global.Global}
 use Rattle.batch_shards.proofs.shard.do_row.Goals as goal
 
 -- the row that is opened owes its old blocks
@@ -66,7 +66,7 @@ returns-clause-done c =
     (outcomes_more v sources c.args.steps.now c.args.row start.source.0 is c.args.done.now.outcomes.items c.do_steps.new.outcomes.items
     done.written c.in_ok-do_steps.ensures.others)
     (ap row_values c.in_ok-push.ensures.items
-    ∙ map-append (λ (r : VertexId × Vec (Arc Block Global) Global). (r.0.0, blocks_of r.1.items)) c.args.done.now.rows.items
+    ∙ map-append (λ (r : VertexId × List BlockView). (r.0.0, r.1)) c.args.done.now.rows.items
     ((source, c.in_ok-closed.closed) ∷ [])
     ∙ ap₂ (λ a b. row_values c.args.done.now.rows.items ++ (a, b) ∷ [])
     (ap (λ (s : VertexId). s.0) (sym (c.in_ok-do_steps.ensures.of_source.source_is ∙ c.in_ok-opened.ensures.of_source.source_is)))

@@ -17,6 +17,7 @@ loop-row-init c = record {
       c.in_ok-done.done
       (c.in_ok-done.ensures.outcomes ∙ ap (map (λ (s : Step). (s.op, none_told s.act))) c.as_slice-2.ensures.value)
       c.in_ok-done.ensures.rows c.in_ok-done.ensures.taken c.in_ok-done.ensures.dropped c.in_ok-done.ensures.unused;
+  empty = c.new-list.ensures.items;
   rows = inl refl;
 }
 
@@ -44,6 +45,7 @@ loop-row-preserved c =
           (c.in_ok-do_row.ensures.done handed
           (both (λ (ss : List VertexId) (st : List Step). AreRowsDone v (map (λ (s : VertexId). s.0) ss) st handed
           c.loop-row.row c.loop-row.fresh.items c.loop-row.done) _ _ _ _ (sym there) (sym here) c.loop-row.invariant.done));
+      empty = c.in_ok-do_row.ensures.emptied;
       rows = inr c.in_ok-do_row.ensures.rows;
     }
 

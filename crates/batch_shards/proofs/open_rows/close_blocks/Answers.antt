@@ -3,7 +3,7 @@ use Rattle.std.proofs.lemmas.{List.map-append, Iterator.{Adapters.YieldsList-fro
 use Rattle.edge_block.specs.Slots.{BlockView}
 use Rattle.batch_shards.specs.Closing.{after_here, written_here, dropped_here, unused_here, written_of}
 use Rattle.batch_shards.{specs.declared.row_blocks.RowBlock.RowBlock, proofs.Places.one_piece}
-use Rattle.batch_shards.proofs.open_rows.close_row.Goals as goal
+use Rattle.batch_shards.proofs.open_rows.close_blocks.Goals as goal
 
 -- what one more block adds behind a base
 behind : {A : Type 0} (base so_far here old new all : List A) → new ≡ old ++ here → old ≡ base ++ so_far → all ≡ so_far ++ here

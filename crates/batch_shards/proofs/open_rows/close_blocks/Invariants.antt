@@ -1,6 +1,6 @@
 use Rattle.std.proofs.Common.{◌≡◌, ◌≤◌, ◌++◌, map, length, vec_len, vec_capacity}
 use Rattle.batch_shards.specs.{RowBlocks.{blocks_of, numbers_of}, Closing.{after_of, written_of, dropped_of, unused_of}}
-use Rattle.batch_shards.proofs.open_rows.close_row.Given as goal
+use Rattle.batch_shards.proofs.open_rows.close_blocks.Given as goal
 
 abbrev pub invariant-loop-block : goal.invariant-loop-block
 invariant-loop-block l = record {

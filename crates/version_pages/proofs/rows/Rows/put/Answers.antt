@@ -1,6 +1,6 @@
 use Rattle.std.proofs.{Common.{◌≡◌, ◌∙◌, ◌≤◌, ◌*◌, if◌then◌else◌, length, ap, arith}, lemmas.Bool.ne_eqb}
 use Rattle.version_pages.specs.{Rows.row_of, RowHalls.in_halls}
-use Rattle.version_pages.proofs.rows.Rows.replace_row.Goals as goal
+use Rattle.version_pages.proofs.rows.Rows.put.Goals as goal
 
 pub invariant_of-result : goal.invariant_of-result
 invariant_of-result c =
@@ -13,6 +13,6 @@ invariant_of-result c =
           let past : c.self.inside.len ≤ s = omega (arith, long, le) in
           let other : ¬ (s ≡ c.args.source.0) = omega (arith, long, le) in
           c.in_ok-put_row.ensures.rows s
-          ∙ ap (λ b. if b then c.in_ok-row.row else row_of (in_halls c.self.inside.halls.items) s) (ne_eqb s c.args.source.0 other)
+          ∙ ap (λ b. if b then c.args.row else row_of (in_halls c.self.inside.halls.items) s) (ne_eqb s c.args.source.0 other)
           ∙ c.self.invariant.3 s past,
     )
