@@ -60,6 +60,18 @@ class Page(ServeCase):
         self.assertEqual([it["version"] for it in self.ask("/v1/stat").json["held"]], [2])
         self.assertEqual(browser.logged, [])
 
+    def test_one_look_after_another(self):
+        """Each of them is seen: its page tells how high it stands, which is 0 where nothing is drawn."""
+        self.fed()
+        browser = self.open()
+        browser.see("window.told = []; addEventListener('message', (event) => told.push(event.data.height)); 0")
+        for vertex in ("funnel", "ana", "boss"):
+            browser.see("told.length = 0; document.getElementById('view').style.height = ''")
+            self.assertIn(f"Around {vertex}", self.look(browser, vertex))
+            self.assertGreater(min(browser.wait_for("told.length > 0 && told")), 300, vertex)
+            browser.wait_for("document.getElementById('view').style.height === `${Math.ceil(told.at(-1)) + 4}px`")
+        self.assertEqual((browser.see("document.querySelectorAll('iframe').length"), browser.logged), (1, []))
+
     def test_hostile_names(self):
         """They are text wherever they stand."""
         self.fed(*(["add", "k", name, "hub", 1, 1] for name in ODD))

@@ -132,10 +132,12 @@
         const given = new URLSearchParams({ vertex: the("vertex").value.trim(), hops: the("hops").value });
         const beside = the("beside").value;
         if (beside !== "" && Number(beside) !== last) given.set("beside", beside);
-        const view = the("view");
-        view.hidden = true;
-        view.srcdoc = await (await ask(`v1/view?${given}`)).text();
-        view.hidden = false;
+        the("view").hidden = true;
+        const page = await (await ask(`v1/view?${given}`)).text();
+        // (a frame of its own for each page: one that gets its page while it is hidden stays without a height in some browsers)
+        const view = the("view").cloneNode();
+        [view.hidden, view.style.height, view.srcdoc] = [false, "", page];
+        the("view").replaceWith(view);
         the("names").replaceChildren();
     });
 
