@@ -10,7 +10,7 @@ from .talk import Talk, part
 from ..engine.guard import Guard, alone
 from ..engine.operations import Operations
 from ..engine.protocol import Arrays, Denied, Ends, Marks, Receipt, Scope
-from ..errors import NoAnswer, NoServer, SessionClosed, StoreError
+from ..errors import NoAnswer, NoServer, NotAllowed, Refused, SessionClosed, StoreError
 from ..session import Session
 from ..store import Store
 from ..values.answers import Collected, Commit, Stat
@@ -19,6 +19,7 @@ from ..values.names import NameTable
 from ..values.units import Units
 
 _AN_ID = re.compile(rb"~~[A-Za-z0-9_-]{20}")
+UNKNOWN = "Whether the batch that was sent is in isn't known"
 
 
 class ServedVersion:
@@ -126,6 +127,7 @@ class ServedEngine:
             # (a store that grows has as many as it needs: the server says where that is too many)
             self.blocks = MOST_BLOCKS if self.grows else int(told["blocks"]["all"])
             self.units, self.idle = Units(**told["units"]).checked(), float(told["limits"]["idle"])
+            talk.most_body = int(told["limits"]["body"])
         except (KeyError, TypeError):
             raise StoreError(f"{talk.url} is no server of a store") from None
         # The texts of names that go as ids, which the store's terms share.
@@ -135,7 +137,8 @@ class ServedEngine:
 
     @property
     def has_ended(self) -> bool:
-        return self.is_closed
+        """Never: the store goes on without this client, and a batch that was sent may be in."""
+        return False
 
     @property
     def is_elsewhere(self) -> bool:
@@ -158,24 +161,33 @@ class ServedEngine:
 
     @alone
     def fly(self, flight: ServedFlight) -> Receipt:
-        if not self._feeder:
-            self._feeder = str(self._as_feeder("POST", "/v1/feeder")["feeder"])
-        if flight.feeder != self._feeder:
-            self._number += 1
-            flight.feeder, flight.number = self._feeder, self._number
+        run = self.talk.run
+        try:
+            if not self._feeder:
+                self._feeder = str(self._as_feeder("POST", "/v1/feeder")["feeder"])
+            if flight.feeder != self._feeder:
+                self._number += 1
+                flight.feeder, flight.number = self._feeder, self._number
+            return Receipt(Commit(**self._of_batch("POST", flight, self._body_of(flight))))
+        except (NoServer, NoAnswer) as fault:
+            if flight.feeder and getattr(fault, "is_sent", True):
+                raise type(fault)(f"{fault}. {UNKNOWN}: the next commit asks") from fault
+            flight.feeder = ""
+            raise type(fault)(f"{fault}. No batch was sent, and what is pending stays so") from fault
+        except (Refused, NotAllowed):
+            if self.talk.run == run:  # (so it isn't in, and nobody is asked for it)
+                flight.feeder = ""
+            raise
+        except SessionClosed as fault:
+            if self.talk.run == run or not flight.feeder:
+                raise
+            raise SessionClosed(f"{fault}. {UNKNOWN}: look before") from None  # (the server before may have had it, and saved it)
+
+    def _body_of(self, flight: ServedFlight) -> Dict[str, Any]:
         text = flight.batch.text
         ids = {it.decode("ascii") for it in _AN_ID.findall(text)}
         texts = {it: self.names.to_user(it) for it in ids if self.names.to_user(it) != it}
-        body = {"operations": text.decode("ascii"), "texts": texts, "collect": flight.collect}
-        unknown, run = "Whether the batch that was sent is in isn't known", self.talk.run
-        try:
-            return Receipt(Commit(**self._of_batch("POST", flight, body)))
-        except (NoServer, NoAnswer) as fault:
-            raise type(fault)(f"{fault}. {unknown}: the next commit asks") from fault
-        except SessionClosed as fault:
-            if self.talk.run == run:
-                raise
-            raise SessionClosed(f"{fault}. {unknown}: look before") from None  # (the server before may have had it, and saved it)
+        return {"operations": text.decode("ascii"), "texts": texts, "collect": flight.collect}
 
     def _of_batch(self, method: str, flight: ServedFlight, body: Optional[Mapping[str, Any]] = None) -> Dict[str, Any]:
         return self._as_feeder(method, f"/v1/feeder/{part(flight.feeder)}/batches/{flight.number}", body)
@@ -193,10 +205,12 @@ class ServedEngine:
             return None
         try:
             found = self._of_batch("DELETE", flight)["receipt"]
+        except (NoServer, NoAnswer) as fault:
+            raise type(fault)(f"{fault}. {UNKNOWN}, and what is pending stays so") from fault
         except SessionClosed as fault:
             flight.feeder = ""
-            raise SessionClosed(f"{fault} and applies the batch whose answer was lost. Whether that is in isn't known: look "
-                                "before") from None
+            raise SessionClosed(f"{fault} and applies the batch whose answer was lost, unless it is discarded. Whether that is in "
+                                "isn't known: look before") from None
         flight.feeder = ""
         return None if found is None else Receipt(Commit(**found))
 
@@ -288,6 +302,27 @@ class Served(Store[Any, Any]):
         begin(engine=engine, weight_scale=engine.units.weight_scale, times=engine.units.times, decimals=engine.units.decimals,
               rounding=engine.units.rounding)
         self.ledger.terms.names = engine.names
+
+    def discard(self) -> int:
+        """Lets the pending operations go, and returns how many they were.
+
+        Where a batch's answer is missing, it asks the server first: what is in isn't pending any more, and the next commit counts
+        it; what isn't in is dropped with the others. Where that can't be known, it raises as `commit` does, and drops nothing:
+        `NoServer` or `NoAnswer` as long as the server doesn't answer, and `SessionClosed` once, where another server does.
+        Nobody knows then whether the batch is in, and the next `discard` drops it with the others."""
+        try:
+            if not self.is_closed:
+                self.ledger.settle()
+        except Refused:  # (so it isn't in)
+            pass
+        return super().discard()
+
+    def _told_of_lost(self, lost: Sequence[str]) -> str:
+        sent, others = self.ledger.unanswered, "; the others aren't applied"
+        if not sent:
+            return super()._told_of_lost(lost)
+        return (f"{len(lost)} operations were pending (the error has them). The first {sent} were sent, and whether they are in "
+                f"isn't known{others if len(lost) > sent else ''}")
 
     def __repr__(self) -> str:
         state = f"{self.engine.open_count} sessions open, {self.pending} pending"
