@@ -22,7 +22,8 @@ class Browser:
         self._room = tempfile.mkdtemp()
         asked, told = os.pipe(), os.pipe()
         words = [CHROMIUM or "", "--headless", "--no-sandbox", "--disable-gpu", "--hide-scrollbars", "--disable-extensions",
-                 "--no-first-run", "--remote-debugging-pipe", f"--window-size={width},{height}", f"--user-data-dir={self._room}", *options, "about:blank"]
+                 "--no-first-run", "--remote-debugging-pipe", f"--window-size={width},{height}", f"--user-data-dir={self._room}",
+                 *options, "about:blank"]
 
         def ends() -> None:  # (Chromium reads descriptor 3 and writes 4)
             mine = os.dup(asked[0]), os.dup(told[1])

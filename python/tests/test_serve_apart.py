@@ -285,8 +285,8 @@ class Apart(ServeCase):
                 os.kill(reading.process.pid, signal.SIGKILL)
             as_soon_as(lambda: self.feed()["state"] == "failed")
         self.assertEqual((self.feed()["error"], self.feed()["rows"], self.feed()["readers_killed"]), ("ReaderEnded", 1, 4))
-        self.assertEqual(self.feed()["reason"], "the process that reads the feed was ended by signal 9; 1 rows to line 1 are in, and "
-                                                "what is behind them is not")
+        self.assertEqual(self.feed()["reason"], "the process that reads the feed was ended by signal 9; 1 rows to line 1 are in, "
+                                                "and what is behind them is not")
         self.assertIn("was ended by signal 9; 1 rows to line 1 are in, and what is behind them is not", self.told_in(told))
         self.assertEqual(self.post("/v1/rows", {"rows": FEED}).status, 200)
         self.assertIsNone(parent_of(reading.process.pid))

@@ -1,5 +1,5 @@
-"""What a client of a server has pending where an answer is missing, or a batch is too long: what `discard`, `commit` and `close` do
-with it, so that nothing is applied twice, or after it was dropped."""
+"""What a client of a server has pending where an answer is missing, or a batch is too long: what `discard`, `commit` and `close`
+do with it, so that nothing is applied twice, or after it was dropped."""
 import unittest
 from unittest import mock
 

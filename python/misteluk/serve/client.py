@@ -181,7 +181,8 @@ class ServedEngine:
         except SessionClosed as fault:
             if self.talk.run == run or not flight.feeder:
                 raise
-            raise SessionClosed(f"{fault}. {UNKNOWN}: look before") from None  # (the server before may have had it, and saved it)
+            # (the server before may have had it, and saved it)
+            raise SessionClosed(f"{fault}. {UNKNOWN}: look before") from None
 
     def _body_of(self, flight: ServedFlight) -> Dict[str, Any]:
         text = flight.batch.text

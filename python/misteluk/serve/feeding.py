@@ -93,8 +93,8 @@ class Feeding:
                 self.board.advance()
             self.state = "ended"
         except (StoreError, ValueError, OSError) as fault:
-            self.fault, self.reason = getattr(fault, "word", "") or type(fault).__name__, without_paths(str(fault), following.name)
-            self.state = "failed"
+            self.fault = getattr(fault, "word", "") or type(fault).__name__
+            self.state, self.reason = "failed", without_paths(str(fault), following.name)
             self.store.discard()
             self.board.advance()
             print(f"misteluk: the feed ended: {fault}", file=sys.stderr)
