@@ -43,7 +43,7 @@ class Pending(ServeCase):
             self.kill(server)
             fault = self.raised(NoServer, store.commit)
             self.assertRegex(str(fault), "doesn't answer.*No batch was sent, and what is pending stays so")
-            self.assertNotIn("isn't known", str(fault))
+            self.assertEqual(("isn't known" in str(fault), fault.is_sent), (False, False))
             self.assertEqual((store.pending, store.discard(), store.pending, store.discard()), (1, 1, 0, 0))
             server = self.begin()
             self.assertRaisesRegex(SessionClosed, "this server began anew", store.commit)

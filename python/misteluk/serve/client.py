@@ -170,10 +170,12 @@ class ServedEngine:
                 flight.feeder, flight.number = self._feeder, self._number
             return Receipt(Commit(**self._of_batch("POST", flight, self._body_of(flight))))
         except (NoServer, NoAnswer) as fault:
-            if flight.feeder and getattr(fault, "is_sent", True):
+            if flight.feeder and (isinstance(fault, NoAnswer) or fault.is_sent):
                 raise type(fault)(f"{fault}. {UNKNOWN}: the next commit asks") from fault
             flight.feeder = ""
-            raise type(fault)(f"{fault}. No batch was sent, and what is pending stays so") from fault
+            unsent = type(fault)(f"{fault}. No batch was sent, and what is pending stays so")
+            unsent.__dict__.update(is_sent=False)
+            raise unsent from fault
         except (Refused, NotAllowed):
             if self.talk.run == run:  # (so it isn't in, and nobody is asked for it)
                 flight.feeder = ""
@@ -210,8 +212,8 @@ class ServedEngine:
             raise type(fault)(f"{fault}. {UNKNOWN}, and what is pending stays so") from fault
         except SessionClosed as fault:
             flight.feeder = ""
-            raise SessionClosed(f"{fault} and applies the batch whose answer was lost, unless it is discarded. Whether that is in "
-                                "isn't known: look before") from None
+            raise SessionClosed(f"{fault} and applies the batch whose answer was lost, unless it is discarded. Whether that is "
+                                "in isn't known: look before") from None
         flight.feeder = ""
         return None if found is None else Receipt(Commit(**found))
 
