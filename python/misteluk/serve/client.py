@@ -4,8 +4,10 @@ from __future__ import annotations
 import re
 from array import array
 from typing import Any, Callable, Dict, List, Mapping, Optional, Sequence, Tuple, Union
+from weakref import WeakValueDictionary
 
 from . import wire
+from .alive import Hold
 from .talk import Talk, part
 from ..engine.guard import Guard, alone
 from ..engine.operations import Operations
@@ -30,6 +32,7 @@ class ServedVersion:
         self.name, self._engine = str(told["session"]), engine
         self.is_held = True
         self.path = f"/v1/sessions/{part(self.name)}"
+        self._hold = Hold(self, engine.talk, self.path, engine.idle, engine.keep_alive)
         self._lists: Dict[str, List[str]] = {}
 
     @property
@@ -39,6 +42,11 @@ class ServedVersion:
     def close(self) -> None:
         self._engine.release(self)
 
+    def end(self) -> None:
+        """Notes that the server holds it no more."""
+        self.is_held = False
+        self._hold.end()
+
     def _ask(self, call: str, **given: Any) -> bytes:
         self._engine.guard.check()
         if not self.is_open:
@@ -46,7 +54,7 @@ class ServedVersion:
         try:
             return self._engine.talk.call("POST", f"{self.path}/ask", {"call": call, **given}).body
         except SessionClosed as fault:
-            self.is_held = False
+            self.end()
             raise SessionClosed(f"the server let version {self.number} go: {fault}. Open another session") from None
 
     def _columns(self, call: str, scope: Scope, **given: Any) -> "List[array[int]]":
@@ -114,8 +122,8 @@ class ServedEngine:
     records_sent, records_left, operations_kept = 0, None, None
     limits, most_blocks = Limits(), MOST_BLOCKS
 
-    def __init__(self, talk: Talk) -> None:
-        self.talk, self.is_closed = talk, False
+    def __init__(self, talk: Talk, keep_alive: bool = False) -> None:
+        self.talk, self.is_closed, self.keep_alive = talk, False, keep_alive
         self.guard = self._guard = Guard()
         try:
             told = talk.call("GET", "/v1/stat").json()
@@ -132,7 +140,8 @@ class ServedEngine:
             raise StoreError(f"{talk.url} is no server of a store") from None
         # The texts of names that go as ids, which the store's terms share.
         self.names = NameTable()
-        self._held: Dict[int, ServedVersion] = {}
+        # (one that nobody has any more isn't held)
+        self._held: "WeakValueDictionary[int, ServedVersion]" = WeakValueDictionary()
         self._feeder, self._number = "", 0
 
     @property
@@ -253,7 +262,7 @@ class ServedEngine:
         if self._held.get(version.slot) is version:
             del self._held[version.slot]
         if version.is_held and not self.is_closed:
-            version.is_held = False
+            version.end()
             self._left(version.path)
 
     def _left(self, path: str) -> None:
@@ -291,16 +300,16 @@ class Served(Store[Any, Any]):
             store.commit()
 
     One client feeds a store at a time: the first commit takes the seat, and raises `Busy` where another one has it; `close` gives
-    it back. Its sessions are let go where they ask nothing for as long as the server says (`--idle`): no call keeps them but a
-    question, such as `len(session)`. `token` is the server's, else that of the variable MISTELUK_TOKEN. `timeout`: for how many
-    seconds the server may be silent.
+    it back. Its sessions are let go where they ask nothing for as long as the server says (`--idle`); with `keep_alive` a thread
+    tells the server in time that they are needed still, until they are closed or forgotten. `token` is the server's, else that of
+    the variable MISTELUK_TOKEN. `timeout`: for how many seconds the server may be silent.
 
     Raises `NoServer` where none answers, and `NotAllowed` where it doesn't let this client in.
     """
 
-    def __init__(self, url: str, *, token: Optional[str] = None, timeout: float = 60.0) -> None:
+    def __init__(self, url: str, *, token: Optional[str] = None, timeout: float = 60.0, keep_alive: bool = False) -> None:
         self._is_closed = True
-        engine = ServedEngine(Talk(url, token, timeout))
+        engine = ServedEngine(Talk(url, token, timeout), keep_alive)
         begin: Callable[..., None] = super().__init__
         begin(engine=engine, weight_scale=engine.units.weight_scale, times=engine.units.times, decimals=engine.units.decimals,
               rounding=engine.units.rounding)
@@ -340,8 +349,8 @@ class Connected(Session[Any, Any]):
         self.store.close()
 
 
-def connect(url: str, *, version: Optional[int] = None, token: Optional[str] = None,
-            timeout: float = 60.0) -> "Session[Any, Any]":
+def connect(url: str, *, version: Optional[int] = None, token: Optional[str] = None, timeout: float = 60.0,
+            keep_alive: bool = False) -> "Session[Any, Any]":
     """A session that holds the last version of a server's store, or this version, where somebody holds it. All that a session of
     a store in this process answers it answers too, and `session.store` opens others.
 
@@ -349,7 +358,7 @@ def connect(url: str, *, version: Optional[int] = None, token: Optional[str] = N
             print(session.version, session.levels("ana"))
 
     `url` is `http://HOST:PORT` or `unix:PATH`. See `Served` for the rest."""
-    store = Served(url, token=token, timeout=timeout)
+    store = Served(url, token=token, timeout=timeout, keep_alive=keep_alive)
     engine: Any = store.engine
     try:
         return Connected(store, engine.hold(None, version))

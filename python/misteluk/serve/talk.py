@@ -1,6 +1,7 @@
 """How a client talks with a server: requests over connections that are kept, of which each thread takes one."""
 from __future__ import annotations
 
+import copy
 import json
 import os
 import socket
@@ -148,6 +149,12 @@ class Talk:
         if told.status >= 400:
             raise fault_of(told)
         return told
+
+    def apart(self) -> "Talk":
+        """The same with connections of its own."""
+        found = copy.copy(self)
+        found._idle = deque()
+        return found
 
     def close(self) -> None:
         while self._idle:
