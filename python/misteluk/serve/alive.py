@@ -17,9 +17,9 @@ EVERY, TIMES = 20.0, 3
 
 
 class Hold:
-    """What a client does for a version beside asking it, until `end`: with `keep_alive` a thread tells the server at intervals that
-    it is needed still. It refers to the version's owner weakly: where that is forgotten, the version is given back, and the thread
-    ends."""
+    """What a client does for a version beside asking it, until `end`: with `keep_alive` a thread tells the server at intervals
+    that it is needed still. It refers to the version's owner weakly: where that is forgotten, the version is given back, and the
+    thread ends."""
 
     def __init__(self, owner: Any, talk: Talk, path: str, idle: float, keep_alive: bool) -> None:
         self._bell: "queue.SimpleQueue[None]" = queue.SimpleQueue()
