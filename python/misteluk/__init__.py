@@ -15,7 +15,7 @@ from .errors import (AlreadyOpen, BadCommand, BadFields, BadName, BadRows, BadSl
                      BatchLimit, Busy, FeedFault, Incomplete, KindsFull, LeftOut, LibraryNotFound, Misread, Missing, NamesFull,
                      NearLimit, NoAnswer, NoKind, NoMemory, NoSeat, NoServer, NotAllowed, NotOpen, NotRenewed, NoVertex,
                      OperationsRefused, OutOfMemory, OverLimit, PartsFailed, Place, PoolEmpty, ProgramEnded, ProgramNotFound,
-                     RecordLimit, Refused, SaveFault, SessionClosed, StoreError, Uncommitted)
+                     RecordLimit, Refused, SaveFault, SessionClosed, StoreError, TooLarge, Uncommitted)
 from .feeds.delimited import delimited
 from .feeds.feed import Columns, Feed, matrix_market, snap
 from .feeds.following import Followed, Following, follow
@@ -49,5 +49,5 @@ __all__ = [
     "BadWeight", "BadWindow", "BatchFull", "BatchLimit", "Busy", "FeedFault", "Incomplete", "KindsFull", "LeftOut",
     "LibraryNotFound", "Misread", "Missing", "NamesFull", "NearLimit", "NoAnswer", "NoKind", "NoMemory", "NoSeat", "NoServer",
     "NotAllowed", "NoVertex", "NotOpen", "NotRenewed", "OperationsRefused", "OutOfMemory", "OverLimit", "PartsFailed",
-    "PoolEmpty", "ProgramEnded", "ProgramNotFound", "RecordLimit", "SaveFault", "SessionClosed", "Uncommitted",
+    "PoolEmpty", "ProgramEnded", "ProgramNotFound", "RecordLimit", "SaveFault", "SessionClosed", "TooLarge", "Uncommitted",
 ]

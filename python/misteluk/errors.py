@@ -134,6 +134,12 @@ class KindsFull(Refused):
     advice = "A graph has at most 64 kinds, those of removed edges too"
 
 
+class TooLarge(Refused):
+    """A request is longer than a server takes. What was to be sent isn't in."""
+
+    advice = "Send or ask less at once (batch=), or have the server take longer requests (--body)"
+
+
 class PoolEmpty(Refused):
     """A batch needs as many free blocks as it has operations, and with an expiry as many more as are used. `needed` and `free`
     say how many those are."""
@@ -278,7 +284,9 @@ class Busy(StoreError):
 
 class NoServer(StoreError, ConnectionError):
     """No server answers at this address, or it went away amid an answer. What was to be fed may be fed again by the same call:
-    the server takes no batch twice."""
+    the server takes no batch twice. `is_sent` says whether the request may have come to a server."""
+
+    is_sent = True
 
 
 class NotAllowed(StoreError, PermissionError):

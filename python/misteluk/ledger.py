@@ -10,7 +10,7 @@ from typing import Any, Dict, List, NamedTuple, Optional, Sequence, Tuple
 from .engine.guard import FORKS, Guard, alone
 from .engine.operations import COMMANDS, EXPIRE, REMOVE, Operations, Row
 from .engine.protocol import Denied, Engine, Flight, Receipt
-from .errors import Busy, OperationsRefused, PoolEmpty, Refused, SessionClosed, StoreError, refusal
+from .errors import Busy, OperationsRefused, PoolEmpty, Refused, SessionClosed, StoreError, TooLarge, refusal
 from .values import records
 from .values.answers import Commit, Stat
 from .values.names import must_be_texts
@@ -96,13 +96,18 @@ class Ledger:
         """The pending operations as records in the user's terms."""
         return [f"{self.terms.told(it)}\n" for it in self.pending]
 
+    @property
+    def unanswered(self) -> int:
+        """How many of the pending operations, the first ones, are on their way, and may still be answered."""
+        books = self._books
+        is_awaited = books.flight is not None and books.of_pending and not books.flight.cut and not self.engine.has_ended
+        return books.flight.batch.size if books.flight and is_awaited else 0
+
     @alone
     def discard(self) -> int:
         """Lets the pending operations go, and gives how many they were; those that are on their way, and may still be
         answered, stay."""
-        books = self._books
-        is_awaited = books.flight is not None and books.of_pending and not books.flight.cut and not self.engine.has_ended
-        sent = books.flight.batch.size if books.flight and is_awaited else 0
+        sent = self.unanswered
         count = len(self.pending) - sent
         del self.pending[sent:sent + count]
         return count
@@ -148,15 +153,24 @@ class Ledger:
                 self._land()
             left = len(self.pending)
             while left or not self._books.untold:
-                part = self.pending[:min(batch, left)]
-                self._fly(Operations(part), collect, True)
-                left -= len(part)
+                left -= self._fly_first(min(batch, left), collect)
         except Refused as fault:
             if self._books.untold:
                 fault.applied = sum_of(self._books.untold)
                 self.taken.append(self._books.untold)
             raise
         return sum_of(self._books.untold), self._books.untold
+
+    def _fly_first(self, count: int, collect: bool) -> int:
+        """Applies so many of the pending operations, or fewer where a server takes none so long; gives how many."""
+        while True:
+            try:
+                self._fly(Operations(self.pending[:count]), collect, True)
+                return count
+            except TooLarge:
+                if count < 2:
+                    raise
+            count //= 2
 
     def _forget_taken(self) -> None:
         """Lets go what was told. (Where that is broken off, it's found gone the next time.)"""

@@ -6,7 +6,8 @@ import warnings
 from datetime import datetime
 from decimal import Decimal
 from types import TracebackType
-from typing import TYPE_CHECKING, Any, Callable, Dict, Generic, List, Literal, Optional, Type, TypeVar, Union, overload
+from typing import (TYPE_CHECKING, Any, Callable, Dict, Generic, List, Literal, Optional, Sequence, Type, TypeVar, Union,
+                    overload)
 
 from .engine.finding import Path
 from .engine.guard import put
@@ -313,8 +314,10 @@ class Store(Generic[W, T]):
         (its text says both), and else `ProgramEnded` where the program tells of a fault."""
         lost = self._end()
         if lost:
-            text = f"{len(lost)} operations were pending and are not applied (the error has them): commit or discard first"
-            raise Uncommitted(text, lost)
+            raise Uncommitted(self._told_of_lost(lost), lost)
+
+    def _told_of_lost(self, lost: Sequence[str]) -> str:
+        return f"{len(lost)} operations were pending and are not applied (the error has them): commit or discard first"
 
     def _end(self) -> List[str]:
         """Ends the engine and returns what was pending. A fork ends nothing."""
@@ -353,13 +356,13 @@ class Store(Generic[W, T]):
             self.close()
             return
         try:
-            lost = len(self._end())
+            lost = self._end()
         except StoreError as second:
             if str(second) not in str(fault):
                 warnings.warn(f"closing the store: {second}", stacklevel=2)
         else:
             if lost:
-                warnings.warn(f"{lost} operations were pending and are not applied", stacklevel=2)
+                warnings.warn(self._told_of_lost(lost).partition(" (the")[0], stacklevel=2)
 
     def __del__(self) -> None:
         if not getattr(self, "_is_closed", True) and not sys.is_finalizing() and not self.engine.is_elsewhere:

@@ -8,21 +8,22 @@ import pathlib
 import shutil
 import subprocess
 import tempfile
-from typing import Any, Dict, List, Optional
+from typing import Any, Dict, List, Optional, Sequence
 
 from pages import CHROMIUM
 from support import as_soon_as
 
 
 class Browser:
-    """A browser with one page. `see` evaluates an expression there."""
+    """A browser with one page. `see` evaluates an expression there. `options` are more of Chromium's own; without them it is as
+    people have it, who see a sandboxed frame by a process of its own."""
 
-    def __init__(self, width: int = 1280, height: int = 900) -> None:
+    def __init__(self, width: int = 1280, height: int = 900, options: Sequence[str] = ()) -> None:
         self._room = tempfile.mkdtemp()
         asked, told = os.pipe(), os.pipe()
         words = [CHROMIUM or "", "--headless", "--no-sandbox", "--disable-gpu", "--hide-scrollbars", "--disable-extensions",
-                 "--no-first-run", "--remote-debugging-pipe", "--disable-features=IsolateSandboxedIframes",
-                 f"--window-size={width},{height}", f"--user-data-dir={self._room}", "about:blank"]
+                 "--no-first-run", "--remote-debugging-pipe", f"--window-size={width},{height}", f"--user-data-dir={self._room}",
+                 *options, "about:blank"]
 
         def ends() -> None:  # (Chromium reads descriptor 3 and writes 4)
             mine = os.dup(asked[0]), os.dup(told[1])

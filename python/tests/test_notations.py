@@ -140,9 +140,9 @@ class Advice(Case):
     def test_an_amount_stands_as_its_file_has_it(self):
         """A comma stays one: 5.005 would be another number there."""
         for amount, told in (("5,005", "5,005"), ("-1.234,505", "-1234,505")):
-            self.assertIn(f"amount '{told}': a weight is a whole number of parts",
+            self.assertIn(f"amount '{told}': a weight has at most 2 decimals here",
                           self.told(f"a;b;{amount};1\n", decimal=",", weight_scale=100))
-        self.assertIn("amount '5.005': a weight is", self.told("a;b;5.005;1\n", weight_scale=100))
+        self.assertIn("amount '5.005': a weight has", self.told("a;b;5.005;1\n", weight_scale=100))
         told = self.told("a;b;5,5;1\n", decimal=",")
         self.assertIn("amount '5,5': a weight is a whole number, of", told)
         self.assertIn("weight_scale=100 (--weight-scale 100)", told)

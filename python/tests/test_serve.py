@@ -155,6 +155,25 @@ class Level(ServeCase):
 
 
 class Feeds(ServeCase):
+    def test_rows_that_are_none(self):
+        """What is told names the row, and the word of the fault once."""
+        self.serve(weight_scale=100)
+        for body, word, reason in (
+                (b"add,k,a,b,1,1\n\nadd,k,\xff,b,1,1\n", "BadRequest", "row 2: byte 0xff is no UTF-8"),
+                (b'add,k,"a\nb",b,1,1\nadd,k,"c\n\xe4",b,1,1\n', "BadRequest", "row 2: byte 0xe4 is no UTF-8"),
+                (b"add,k,a,b,970.501,1\n", "BadWeight",
+                 "row 1: amount '970.501': a weight has at most 2 decimals here (weight_scale 100)"),
+                (b"add,k,a,b,1,1\nadd,k,a,b,1,soon\n", "BadTime",
+                 "row 2: time 'soon': a time is a whole number that isn't negative, of at most 19 digits"),
+                (b"put,k,a,b,1,1\n", "BadCommand", "row 1: an operation is insert, add, remove, expire")):
+            told = self.ask("/v1/rows", "POST", body, Content_Type="text/csv")
+            self.assertEqual((told.status, told.json), (400, {"error": word, "reason": reason}))
+        for body, reason in ((b'{"rows": [["\xff"]]}', "the body is no JSON in UTF-8: byte 0xff"),
+                             (b"rows", "the body is no JSON: ")):
+            told = self.ask("/v1/rows", "POST", body, Content_Type="application/json").json
+            self.assertEqual((told["error"], told["reason"][:len(reason)]), ("BadRequest", reason))
+        self.assertEqual(self.ask("/v1/stat").json["version"], 0)
+
     def test_one_feeds(self):
         """A second one is told so, until the first one gives its seat back."""
         self.serve()

@@ -237,6 +237,41 @@ class Apart(ServeCase):
             os.kill(reading.process.pid, signal.SIGKILL)
             as_soon_as(lambda: server.feeding.state == "failed")
         self.assertIn("was cut to 8 bytes, and 16 were read of it", self.told_in(told))
+        self.assertEqual((self.feed()["error"], self.feed()["readers_killed"]), ("FeedFault", 1))
+        self.assertIn("the feed was cut to 8 bytes, and 16 were read of it", self.feed()["reason"])
+        self.assertFalse(self.rooms_of(self.feed()["reason"]))
+
+    def test_a_bad_row(self):
+        """It ends the feed, and `stat` says which line it is, and why, but not where the file is; the server lives on."""
+        path = self.file("feed.csv", "ana,bob,5,1\n")
+        server = self.serve()
+        with mock.patch("sys.stderr") as told:
+            self.follow(path)
+            as_soon_as(lambda: self.feed()["rows"] == 1)
+            self.append(path, f"ana,cat,{self.room}/x,1\nana,dan,5,1\n")
+            as_soon_as(lambda: server.feeding.state == "failed")
+        self.assertIn(f"{path}:2: BadWeight", self.told_in(told))
+        feed = self.feed()
+        self.assertEqual((feed["state"], feed["error"], feed["rows"]), ("failed", "BadRows", 1))
+        self.assertRegex(feed["reason"], "(?s)the feed: 1 of [23] rows can't be taken, and .*line 2: BadWeight: amount '..'")
+        self.assertFalse(self.rooms_of(feed["reason"]))
+        self.assertEqual(self.post("/v1/rows", {"rows": FEED}).status, 200)
+
+    def test_another_file_in_its_place(self):
+        """What comes in there isn't read, and `stat` says so; nothing is said of a file that stays, or of a pipe."""
+        path = self.file("feed.csv", "ana,bob,5,1\n")
+        self.serve()
+        self.follow(path)
+        as_soon_as(lambda: self.feed()["rows"] == 1)
+        self.assertNotIn("replaced", self.feed())
+        os.rename(path, f"{path}.1")
+        self.assertIs(self.feed()["replaced"], True)
+        self.file("feed.csv", "cat,dan,5,1\n")
+        self.assertIs(self.feed()["replaced"], True)
+        self.append(f"{path}.1", "eve,fay,5,1\n")
+        as_soon_as(lambda: self.feed()["rows"] == 2)
+        os.rename(f"{path}.1", path)
+        self.assertNotIn("replaced", self.feed())
 
     def test_some_that_are_killed_in_vain(self):
         """After three of which nothing went in the feed ends; the server goes on."""
@@ -249,7 +284,9 @@ class Apart(ServeCase):
                 as_soon_as(lambda: reading.killed == killed)
                 os.kill(reading.process.pid, signal.SIGKILL)
             as_soon_as(lambda: self.feed()["state"] == "failed")
-        self.assertEqual((self.feed()["error"], self.feed()["rows"], self.feed()["readers_killed"]), ("ReaderEnded", 1, 3))
+        self.assertEqual((self.feed()["error"], self.feed()["rows"], self.feed()["readers_killed"]), ("ReaderEnded", 1, 4))
+        self.assertEqual(self.feed()["reason"], "the process that reads the feed was ended by signal 9; 1 rows to line 1 are in, "
+                                                "and what is behind them is not")
         self.assertIn("was ended by signal 9; 1 rows to line 1 are in, and what is behind them is not", self.told_in(told))
         self.assertEqual(self.post("/v1/rows", {"rows": FEED}).status, 200)
         self.assertIsNone(parent_of(reading.process.pid))

@@ -8,7 +8,7 @@ import subprocess
 import sys
 import threading
 import unittest
-from contextlib import redirect_stderr, suppress
+from contextlib import redirect_stderr, redirect_stdout, suppress
 from typing import List
 from unittest import mock
 
@@ -197,6 +197,17 @@ class Commands(ServeCase):
         with Served(f"unix:{path}") as store:
             store.load([(f"s{it}", "t", 1, 1) for it in range(70_000)], by="set", progress=False)
             self.assertEqual(store.stat().edges, 70_000)
+
+    def test_the_blocks_that_it_begins_with(self):
+        """They are as many as the help says."""
+        path, said = str(self.room / "socket"), io.StringIO()
+        self.begin("--listen", f"unix:{path}")
+        with Served(f"unix:{path}") as store:
+            blocks = store.engine.talk.call("GET", "/v1/stat").json()["blocks"]
+        with redirect_stdout(said), self.assertRaises(SystemExit):
+            main(["serve", "--help"])
+        self.assertEqual((blocks["all"], blocks["grow"]), (262_144, True))
+        self.assertRegex(said.getvalue(), r"--blocks BLOCKS +else 262,144, and more\s+once they are needed")
 
     def test_it_keeps_no_operation(self):
         path = str(self.room / "socket")

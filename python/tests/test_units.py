@@ -30,12 +30,17 @@ class Weights(Case):
         self.assertEqual(Units().weight_to_program("12.5"), "12.5")
 
     def test_what_is_no_whole_number_of_parts(self):
-        for text, told in (("12.505", "a whole number of parts"), ("x", "a decimal number"), ("", "a decimal number"),
-                           ("nan", "a decimal number"), ("-Infinity", "a decimal number"), ("1e-30", "a whole number of parts"),
+        for text, told in (("12.505", "at most 2 decimals here"), ("x", "a decimal number"), ("", "a decimal number"),
+                           ("nan", "a decimal number"), ("-Infinity", "a decimal number"), ("1e-30", "at most 2 decimals here"),
                            ("10995116277.77", "from -10995116277.76 to 10995116277.76"), ("1e999999999", "a weight is from"),
                            ("1." + "0" * 500, "a decimal number")):
             with self.assertRaisesRegex(ValueError, told):
                 CENTS.weight_to_program(text)
+        for scale, text, told in ((10, "0.05", "a weight has at most 1 decimal here (weight_scale 10)"),
+                                  (8, "0.1", "a weight is a whole number of parts, of which one has 8 (weight_scale)")):
+            with self.assertRaises(ValueError) as fault:
+                Units(scale).weight_to_program(text)
+            self.assertEqual(str(fault.exception), told)
 
     def test_rounding(self):
         """To the nearest part; of two equally near ones to the even one, as bankers do."""
@@ -167,7 +172,7 @@ class Stores(Case):
         store, session = self.cents(), None
         for call, word, told in (
                 (lambda: store.insert("k", "a", "b", "12.505"), misteluk.BadWeight,
-                 "weight '12.505': a weight is a whole number of parts"),
+                 "weight '12.505': a weight has at most 2 decimals"),
                 (lambda: store.add("k", "a", "b", 0.001), misteluk.BadWeight, "amount '0.001'"),
                 (lambda: store.insert("k", "a", "b", 1, 5), misteluk.BadTime, "time '5': a time is a date here"),
                 (lambda: store.insert("k", "a", "b", 1, "2024-03-04T00:00:00.0000001"), misteluk.BadTime, "would be cut off"),

@@ -165,7 +165,8 @@ def add_follow(follow: argparse.ArgumentParser) -> None:
 
 
 def add_serve(parser: argparse.ArgumentParser) -> None:
-    add_feed_options(parser, blocks=f"{records.MOST_BLOCKS:,}", saved="; without one a client posts the rows", is_needed=False)
+    add_feed_options(parser, blocks=f"{serve.ROOM:,}, and more once they are needed",
+                     saved="; without one a client posts the rows", is_needed=False)
     live = parser.add_argument_group("what goes in and out, and when")
     add_pace(live)
     serve.add_options(parser)

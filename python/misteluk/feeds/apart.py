@@ -124,10 +124,11 @@ class Apart(Iterator[Applied]):
         status = self.process.wait()
         ended = f"the process that reads {self.name} {how_ended(status)}; {self.told}"
         with self._lock:
-            if self._begin is None:
-                raise ReadFault("ReaderEnded", f"{ended}, and what it had read behind them is lost")
-            if status >= 0 or self._is_stopped or self._in_vain == TRIES:
-                raise ReadFault("ReaderEnded", f"{ended}, and what is behind them is not")
+            is_killed = status < 0 and not self._is_stopped
+            if self._begin is None or not is_killed or self._in_vain == TRIES:
+                self.killed += is_killed
+                lost = "what it had read behind them is lost" if self._begin is None else "what is behind them is not"
+                raise ReadFault("ReaderEnded", f"{ended}, and {lost}")
             self._give_back()
             os.lseek(self._file, self._begin, os.SEEK_SET)
             self._start()
@@ -151,6 +152,18 @@ class Apart(Iterator[Applied]):
             raise ReadFault(getattr(fault, "word", "") or type(fault).__name__, f"{fault}; {self.told}, and {rows}") from fault
         self.place, self._in_vain = place, 0
         return Applied(commit, place.rows, place.line)
+
+    @property
+    def is_replaced(self) -> bool:
+        """Whether the path of a file has another one by now, or none: what comes in there isn't read."""
+        if self._begin is None or self._is_input or self._file < 0:
+            return False
+        try:
+            return not os.path.samestat(os.stat(self.name), os.fstat(self._file))
+        except FileNotFoundError:
+            return True
+        except OSError:  # (nobody knows)
+            return False
 
     @property
     def told(self) -> str:

@@ -21,6 +21,8 @@ MOST_BENT = 300
 MOST_WEIGHTS, MOST_KEPT_OFF = 40, 90
 # Where there are more edges, those that are kept are drawn paler.
 MOST_PLAIN = 120
+# How many edges are drawn at most: more can't be told apart, and take a browser long.
+MOST_LINES = 1_000
 # Where an edge's weight may stand, as parts of its line, and where names keep off it.
 PARTS = (0.5, 0.42, 0.58, 0.34, 0.66, 0.26, 0.74, *(it / 22 for it in range(1, 22)))
 
@@ -100,7 +102,8 @@ class Drawing:
         self.hop = it.hop
         self.edge_number = {key: at for at, key in enumerate(it.states)}
         drawn = set(self.names)
-        self.states = {key: state for key, state in it.states.items() if drawn.issuperset(key[1:])}
+        among = [key for key in it.states if drawn.issuperset(key[1:])]
+        self.states, self.among = {key: it.states[key] for key in among[:MOST_LINES]}, len(among)
         pairs = sorted({(self.number[source], self.number[target]) for _, source, target in self.states})
         self.at = place([self.hop[name] for name in self.names], pairs)
         self.radii = [self._radius(name) for name in self.names]
@@ -109,6 +112,11 @@ class Drawing:
         lines = [point for it in self.curves.values() for point in it.points] if len(self.curves) <= MOST_KEPT_OFF else []
         self.labels, taken = labels(self.at, self.radii, [short(shown(name)) for name in self.names], lines)
         self.weights = self._weights(taken) if self.has_weights else {}
+
+    @property
+    def has_all_edges(self) -> bool:
+        """Whether all edges among the vertices are drawn, of which there are `among`."""
+        return len(self.states) == self.among
 
     @property
     def unlabeled(self) -> int:

@@ -2,11 +2,12 @@
 from __future__ import annotations
 
 from collections import Counter
+from itertools import accumulate
 from typing import TYPE_CHECKING, Any, Dict, Iterable, List, Mapping, NamedTuple, Optional, Sequence, Tuple
 
 from ..values import records
 from ..values.answers import Degree, Edge
-from ..values.edges import Edges
+from ..values.edges import Edges, Told
 from ..errors import Incomplete, NoKind, NoVertex
 from ..values.names import must_be_texts
 from ..values.units import Moment
@@ -20,8 +21,8 @@ Key = Tuple[str, str, str]
 GONE, NEW, CHANGED, KEPT = STATES = ("gone", "new", "changed", "kept")
 # How many vertices and edges the tables have at most.
 MOST_VERTICES, MOST_EDGES = 1_000, 2_000
-# How many edges of one hop's vertices are asked for at most, to find those of the next hop, and how many among the farthest. A
-# run has 999,999 records in all.
+# How many edges of one hop's vertices are asked for at most, to find those of the next hop, and how many among the farthest are
+# shown. A run has 999,999 records in all.
 MOST_ASKED = 20_000
 
 
@@ -58,8 +59,8 @@ class Neighborhood(NamedTuple):
     `hop` has the least hops of each vertex, and `states` what became of each edge: those that aren't kept first, then the
     nearest, then the heaviest.
 
-    `found` counts the vertices; `names` are fewer where there were too many edges to ask for. `is_whole` says whether all were
-    looked for.
+    `found` counts the vertices; `names` are fewer where there are too many edges among the farthest. `is_whole` says whether all
+    were looked for.
     """
 
     around: str
@@ -108,8 +109,9 @@ class Looking:
         self.edges: Dict[Key, Edge[Any, Any]] = {}
         self.hops: Dict[str, int] = {}
         self.is_whole = True
-        # The vertices whose edges were all asked for.
+        # The vertices whose edges were all asked for; and of others the edges out, with the places of those that are among them.
         self._looked: Dict[str, None] = {}
+        self._among: List[Tuple[str, Edges, List[int]]] = []
 
     def _degrees(self, window: Window) -> Mapping[str, Degree[Any]]:
         try:
@@ -136,7 +138,7 @@ class Looking:
             front = [name for name in dict.fromkeys(ends) if name not in self.hops]
             self.hops.update(dict.fromkeys(front, hop))
 
-    def _keep(self, edges: Edges) -> None:
+    def _keep(self, edges: Iterable[Told]) -> None:
         for kind, source, target, edge in edges:
             self.edges[kind, source, target] = edge
 
@@ -162,12 +164,24 @@ class Looking:
         """How many edges there may be among the vertices that weren't asked for."""
         return sum(self.degrees[it].out for it in names if it in self.degrees and it not in self._looked)
 
+    def ask(self, names: Sequence[str]) -> int:
+        """Asks for the edges among the vertices that weren't asked for, and gives to how many of the first vertices those belong
+        that aren't too many."""
+        place = {name: at for at, name in enumerate(names) if name in self.degrees and name not in self._looked}
+        counts: "Counter[int]" = Counter()
+        for name in place if self.has_kind else ():
+            found = self.session.edges_out_of(name, *self.window)
+            targets = [found.names[it] for it in found.target]
+            places = [at for at, target in enumerate(targets) if target in place]
+            counts.update(max(place[name], place[targets[at]]) for at in places)
+            self._among.append((name, found, places))
+        return sum(total <= MOST_ASKED for total in accumulate(counts[at] for at in range(len(names))))
+
     def side(self, label: str, names: Sequence[str]) -> Side:
         """What is shown of this version: the edges among the names."""
-        for name in names if self.has_kind else ():
-            if name in self.degrees and name not in self._looked:
-                self._keep(self.session.edges_out_of(name, *self.window))
         shown = set(names)
+        for name, found, places in self._among:
+            self._keep(found[at] for at in places if name in shown and found.names[found.target[at]] in shown)
         edges = {key: edge for key, edge in self.edges.items() if shown.issuperset(key[1:])}
         return Side(label, {name: self.hops[name] for name in names if name in self.hops},
                     {name: self.degrees[name] for name in names if name in self.degrees}, edges)
@@ -188,6 +202,7 @@ def gather(sessions: Sequence["Session[Any, Any]"], labels: Sequence[str], aroun
     found = _ordered(looking)
     is_much = any(it.unasked(found) > MOST_ASKED for it in looking)
     near = found[:MOST_VERTICES] if is_much else found
+    near = near[:min(it.ask(near) for it in looking)]
     sides = tuple(it.side(label, near) for it, label in zip(looking, labels))
     hop = {name: min(side.hops[name] for side in sides if name in side.hops) for name in near}
     states = states_of(sides, hop)

@@ -128,11 +128,13 @@ class Page:
                 f'placeholder="Find a name" aria-label="Find a name">{large}</div>\n</header>\n')
 
     def _is_part(self) -> bool:
-        """Whether some of the vertices aren't drawn."""
-        return self.it.drawn < self.it.found
+        """Whether some of the vertices or edges aren't drawn."""
+        return self.it.drawn < self.it.found or not self.drawing.has_all_edges
 
     def _drawn(self) -> str:
-        return f"Drawn are {self.it.drawn:,} of {counted(self.it.found, 'vertex')}"
+        vertices, drawn = f"{self.it.drawn:,} of {counted(self.it.found, 'vertex')}", self.drawing
+        edges = "" if drawn.has_all_edges else f", and {len(drawn.states):,} of {counted(drawn.among, 'edge')} among these"
+        return f"Drawn are {vertices}{edges}"
 
     def _legend(self) -> str:
         """What marks mean, with how many edges have each."""
@@ -197,6 +199,9 @@ class Page:
             turns = "in turn those with an edge gone, with a new one, with one that changed and without, and "
             told.append(f"{self._drawn()}: the nearest, {turns if self.is_two else ''}of these the heaviest, by the edges that "
                         "join them to nearer ones.")
+        if not self.drawing.has_all_edges:
+            told.append(f"Of the edges {'those gone, new or changed come first, then ' if self.is_two else ''}the nearest and of "
+                        "these the heaviest are drawn.")
         if len(it.names) > MOST_VERTICES:
             told.append(f"The table has {MOST_VERTICES:,} of {counted(len(it.names), 'vertex')}.")
         if len(self.states) > MOST_EDGES:

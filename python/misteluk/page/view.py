@@ -66,9 +66,10 @@ def view(session: "Session[Any, Any]", around: str, hops: int = 2, beside: "Opti
     Of two sessions of one store the one with the earlier version stands before the other, whichever is named first; of two
     stores, which must have the same units, the first. `kind`, `since` and `until` say which edges count, as in a request.
     At most `most` vertices (300 at most) are drawn: the nearest, of these in turn one with an edge gone, with a new one, with one
-    that changed and without, and the heaviest of each. The tables have 1,000 vertices and 2,000 edges at most, and a search
-    through hubs stops at 20,000 edges; the page says where there are more. `title` stands above it, and `labels` are what the
-    versions of `session` and `beside` are called.
+    that changed and without, and the heaviest of each; and at most 1,000 edges among them, those that aren't kept first, then
+    the nearest and of these the heaviest. The tables have 1,000 vertices and 2,000 edges at most, of the edges among the
+    farthest vertices 20,000 are shown, and a search through hubs stops at 20,000 edges; the page says where there are more.
+    `title` stands above it, and `labels` are what the versions of `session` and `beside` are called.
 
     Every edge shown was asked of its version: that takes a record for each. Raises `NoVertex` where no version has the vertex.
     """

@@ -8,7 +8,8 @@ Choices:
   lock, because that waits for a batch that is being applied.
 - At most 16 versions are held, by any number of clients: clients of one version share its seat.
 - Rows of one post that are several batches are no version until all are in, so nobody sees or saves a part of them.
-- A silent client loses its hold, and only a request breaks the silence. So a notebook that was left open keeps no version.
+- A silent client loses its hold, and only a request breaks the silence. So a notebook that was left open keeps no version, unless
+  it asked for that; then a thread makes requests as long as the session is there.
 - A feed is read by a process of its own, since Python runs one thread at a time: the server only applies its batches, by calls of
   C that let other threads run. Where that is killed, another one reads a file again from its beginning, and passes over the lines
   that are in: so it needs no place that every form and encoding of a feed would have to tell.

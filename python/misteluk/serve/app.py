@@ -237,13 +237,24 @@ def _loaded(body: bytes) -> Any:
         return json.loads(body)
     except RecursionError:
         raise ValueError("the body is no JSON that has an end") from None
+    except UnicodeDecodeError as fault:
+        raise ValueError(f"the body is no JSON in UTF-8: byte {body[fault.start]:#04x}") from None
+    except ValueError as fault:
+        raise ValueError(f"the body is no JSON: {fault}") from None
 
 
 def _rows_of_csv(body: bytes) -> "List[List[str]]":
     try:
-        return [row for row in csv.reader(io.StringIO(body.decode("utf-8"), newline=""), strict=True) if row]
+        return _csv_rows(body.decode("utf-8"), True)
+    except UnicodeDecodeError as fault:
+        row = len(_csv_rows(body[:fault.start].decode("utf-8") + "?", False))
+        raise ValueError(f"row {row}: byte {body[fault.start]:#04x} is no UTF-8") from None
     except csv.Error as fault:
         raise ValueError(f"this is no CSV: {fault}") from None
+
+
+def _csv_rows(text: str, is_strict: bool) -> "List[List[str]]":
+    return [row for row in csv.reader(io.StringIO(text, newline=""), strict=is_strict) if row]
 
 
 def _rows_of_json(found: Any) -> "Sequence[Sequence[str]]":

@@ -15,7 +15,7 @@ R = TypeVar("R")
 
 class AwaitedSession(Generic[W, T]):
     """A session whose calls are awaited: all those of `Session`, with the same arguments. `session` is the one that they are of,
-    and `ask` makes a call of anything in a thread.
+    and `ask` makes a call of anything in a thread, as `await session.ask(len, session)`.
 
         async with await misteluk.connect_async("http://127.0.0.1:7700") as session:
             levels, edge = await asyncio.gather(session.levels("ana"), session.edge("transfer", "ana", "bob"))
@@ -48,7 +48,8 @@ class AwaitedSession(Generic[W, T]):
         return f"<Awaited {self.session!r}>"
 
 
-async def connect_async(url: str, *, version: Optional[int] = None, token: Optional[str] = None,
-                        timeout: float = 60.0) -> AwaitedSession[Any, Any]:
+async def connect_async(url: str, *, version: Optional[int] = None, token: Optional[str] = None, timeout: float = 60.0,
+                        keep_alive: bool = False) -> AwaitedSession[Any, Any]:
     """A session as `connect` gives it, whose calls are awaited."""
-    return AwaitedSession(await asyncio.to_thread(connect, url, version=version, token=token, timeout=timeout))
+    return AwaitedSession(await asyncio.to_thread(connect, url, version=version, token=token, timeout=timeout,
+                                                  keep_alive=keep_alive))

@@ -4,13 +4,15 @@ from __future__ import annotations
 import re
 from array import array
 from typing import Any, Callable, Dict, List, Mapping, Optional, Sequence, Tuple, Union
+from weakref import WeakValueDictionary
 
 from . import wire
+from .alive import Hold
 from .talk import Talk, part
 from ..engine.guard import Guard, alone
 from ..engine.operations import Operations
 from ..engine.protocol import Arrays, Denied, Ends, Marks, Receipt, Scope
-from ..errors import NoAnswer, NoServer, SessionClosed, StoreError
+from ..errors import NoAnswer, NoServer, NotAllowed, Refused, SessionClosed, StoreError
 from ..session import Session
 from ..store import Store
 from ..values.answers import Collected, Commit, Stat
@@ -19,6 +21,7 @@ from ..values.names import NameTable
 from ..values.units import Units
 
 _AN_ID = re.compile(rb"~~[A-Za-z0-9_-]{20}")
+UNKNOWN = "Whether the batch that was sent is in isn't known"
 
 
 class ServedVersion:
@@ -29,6 +32,7 @@ class ServedVersion:
         self.name, self._engine = str(told["session"]), engine
         self.is_held = True
         self.path = f"/v1/sessions/{part(self.name)}"
+        self._hold = Hold(self, engine.talk, self.path, engine.idle, engine.keep_alive)
         self._lists: Dict[str, List[str]] = {}
 
     @property
@@ -38,6 +42,11 @@ class ServedVersion:
     def close(self) -> None:
         self._engine.release(self)
 
+    def end(self) -> None:
+        """Notes that the server holds it no more."""
+        self.is_held = False
+        self._hold.end()
+
     def _ask(self, call: str, **given: Any) -> bytes:
         self._engine.guard.check()
         if not self.is_open:
@@ -45,7 +54,7 @@ class ServedVersion:
         try:
             return self._engine.talk.call("POST", f"{self.path}/ask", {"call": call, **given}).body
         except SessionClosed as fault:
-            self.is_held = False
+            self.end()
             raise SessionClosed(f"the server let version {self.number} go: {fault}. Open another session") from None
 
     def _columns(self, call: str, scope: Scope, **given: Any) -> "List[array[int]]":
@@ -113,8 +122,8 @@ class ServedEngine:
     records_sent, records_left, operations_kept = 0, None, None
     limits, most_blocks = Limits(), MOST_BLOCKS
 
-    def __init__(self, talk: Talk) -> None:
-        self.talk, self.is_closed = talk, False
+    def __init__(self, talk: Talk, keep_alive: bool = False) -> None:
+        self.talk, self.is_closed, self.keep_alive = talk, False, keep_alive
         self.guard = self._guard = Guard()
         try:
             told = talk.call("GET", "/v1/stat").json()
@@ -126,16 +135,19 @@ class ServedEngine:
             # (a store that grows has as many as it needs: the server says where that is too many)
             self.blocks = MOST_BLOCKS if self.grows else int(told["blocks"]["all"])
             self.units, self.idle = Units(**told["units"]).checked(), float(told["limits"]["idle"])
+            talk.most_body = int(told["limits"]["body"])
         except (KeyError, TypeError):
             raise StoreError(f"{talk.url} is no server of a store") from None
         # The texts of names that go as ids, which the store's terms share.
         self.names = NameTable()
-        self._held: Dict[int, ServedVersion] = {}
+        # (one that nobody has any more isn't held)
+        self._held: "WeakValueDictionary[int, ServedVersion]" = WeakValueDictionary()
         self._feeder, self._number = "", 0
 
     @property
     def has_ended(self) -> bool:
-        return self.is_closed
+        """Never: the store goes on without this client, and a batch that was sent may be in."""
+        return False
 
     @property
     def is_elsewhere(self) -> bool:
@@ -158,24 +170,36 @@ class ServedEngine:
 
     @alone
     def fly(self, flight: ServedFlight) -> Receipt:
-        if not self._feeder:
-            self._feeder = str(self._as_feeder("POST", "/v1/feeder")["feeder"])
-        if flight.feeder != self._feeder:
-            self._number += 1
-            flight.feeder, flight.number = self._feeder, self._number
+        run = self.talk.run
+        try:
+            if not self._feeder:
+                self._feeder = str(self._as_feeder("POST", "/v1/feeder")["feeder"])
+            if flight.feeder != self._feeder:
+                self._number += 1
+                flight.feeder, flight.number = self._feeder, self._number
+            return Receipt(Commit(**self._of_batch("POST", flight, self._body_of(flight))))
+        except (NoServer, NoAnswer) as fault:
+            if flight.feeder and (isinstance(fault, NoAnswer) or fault.is_sent):
+                raise type(fault)(f"{fault}. {UNKNOWN}: the next commit asks") from fault
+            flight.feeder = ""
+            unsent = type(fault)(f"{fault}. No batch was sent, and what is pending stays so")
+            unsent.__dict__.update(is_sent=False)
+            raise unsent from fault
+        except (Refused, NotAllowed):
+            if self.talk.run == run:  # (so it isn't in, and nobody is asked for it)
+                flight.feeder = ""
+            raise
+        except SessionClosed as fault:
+            if self.talk.run == run or not flight.feeder:
+                raise
+            # (the server before may have had it, and saved it)
+            raise SessionClosed(f"{fault}. {UNKNOWN}: look before") from None
+
+    def _body_of(self, flight: ServedFlight) -> Dict[str, Any]:
         text = flight.batch.text
         ids = {it.decode("ascii") for it in _AN_ID.findall(text)}
         texts = {it: self.names.to_user(it) for it in ids if self.names.to_user(it) != it}
-        body = {"operations": text.decode("ascii"), "texts": texts, "collect": flight.collect}
-        unknown, run = "Whether the batch that was sent is in isn't known", self.talk.run
-        try:
-            return Receipt(Commit(**self._of_batch("POST", flight, body)))
-        except (NoServer, NoAnswer) as fault:
-            raise type(fault)(f"{fault}. {unknown}: the next commit asks") from fault
-        except SessionClosed as fault:
-            if self.talk.run == run:
-                raise
-            raise SessionClosed(f"{fault}. {unknown}: look before") from None  # (the server before may have had it, and saved it)
+        return {"operations": text.decode("ascii"), "texts": texts, "collect": flight.collect}
 
     def _of_batch(self, method: str, flight: ServedFlight, body: Optional[Mapping[str, Any]] = None) -> Dict[str, Any]:
         return self._as_feeder(method, f"/v1/feeder/{part(flight.feeder)}/batches/{flight.number}", body)
@@ -193,10 +217,12 @@ class ServedEngine:
             return None
         try:
             found = self._of_batch("DELETE", flight)["receipt"]
+        except (NoServer, NoAnswer) as fault:
+            raise type(fault)(f"{fault}. {UNKNOWN}, and what is pending stays so") from fault
         except SessionClosed as fault:
             flight.feeder = ""
-            raise SessionClosed(f"{fault} and applies the batch whose answer was lost. Whether that is in isn't known: look "
-                                "before") from None
+            raise SessionClosed(f"{fault} and applies the batch whose answer was lost, unless it is discarded. Whether that is "
+                                "in isn't known: look before") from None
         flight.feeder = ""
         return None if found is None else Receipt(Commit(**found))
 
@@ -236,7 +262,7 @@ class ServedEngine:
         if self._held.get(version.slot) is version:
             del self._held[version.slot]
         if version.is_held and not self.is_closed:
-            version.is_held = False
+            version.end()
             self._left(version.path)
 
     def _left(self, path: str) -> None:
@@ -274,20 +300,41 @@ class Served(Store[Any, Any]):
             store.commit()
 
     One client feeds a store at a time: the first commit takes the seat, and raises `Busy` where another one has it; `close` gives
-    it back. Its sessions are let go where they ask nothing for as long as the server says (`--idle`): no call keeps them but a
-    question, such as `len(session)`. `token` is the server's, else that of the variable MISTELUK_TOKEN. `timeout`: for how many
-    seconds the server may be silent.
+    it back. Its sessions are let go where they ask nothing for as long as the server says (`--idle`); with `keep_alive` a thread
+    tells the server in time that they are needed still, until they are closed or forgotten. `token` is the server's, else that of
+    the variable MISTELUK_TOKEN. `timeout`: for how many seconds the server may be silent.
 
     Raises `NoServer` where none answers, and `NotAllowed` where it doesn't let this client in.
     """
 
-    def __init__(self, url: str, *, token: Optional[str] = None, timeout: float = 60.0) -> None:
+    def __init__(self, url: str, *, token: Optional[str] = None, timeout: float = 60.0, keep_alive: bool = False) -> None:
         self._is_closed = True
-        engine = ServedEngine(Talk(url, token, timeout))
+        engine = ServedEngine(Talk(url, token, timeout), keep_alive)
         begin: Callable[..., None] = super().__init__
         begin(engine=engine, weight_scale=engine.units.weight_scale, times=engine.units.times, decimals=engine.units.decimals,
               rounding=engine.units.rounding)
         self.ledger.terms.names = engine.names
+
+    def discard(self) -> int:
+        """Lets the pending operations go, and returns how many they were.
+
+        Where a batch's answer is missing, it asks the server first: what is in isn't pending any more, and the next commit counts
+        it; what isn't in is dropped with the others. Where that can't be known, it raises as `commit` does, and drops nothing:
+        `NoServer` or `NoAnswer` as long as the server doesn't answer, and `SessionClosed` once, where another server does.
+        Nobody knows then whether the batch is in, and the next `discard` drops it with the others."""
+        try:
+            if not self.is_closed:
+                self.ledger.settle()
+        except Refused:  # (so it isn't in)
+            pass
+        return super().discard()
+
+    def _told_of_lost(self, lost: Sequence[str]) -> str:
+        sent, others = self.ledger.unanswered, "; the others aren't applied"
+        if not sent:
+            return super()._told_of_lost(lost)
+        return (f"{len(lost)} operations were pending (the error has them). The first {sent} were sent, and whether they are in "
+                f"isn't known{others if len(lost) > sent else ''}")
 
     def __repr__(self) -> str:
         state = f"{self.engine.open_count} sessions open, {self.pending} pending"
@@ -302,8 +349,8 @@ class Connected(Session[Any, Any]):
         self.store.close()
 
 
-def connect(url: str, *, version: Optional[int] = None, token: Optional[str] = None,
-            timeout: float = 60.0) -> "Session[Any, Any]":
+def connect(url: str, *, version: Optional[int] = None, token: Optional[str] = None, timeout: float = 60.0,
+            keep_alive: bool = False) -> "Session[Any, Any]":
     """A session that holds the last version of a server's store, or this version, where somebody holds it. All that a session of
     a store in this process answers it answers too, and `session.store` opens others.
 
@@ -311,7 +358,7 @@ def connect(url: str, *, version: Optional[int] = None, token: Optional[str] = N
             print(session.version, session.levels("ana"))
 
     `url` is `http://HOST:PORT` or `unix:PATH`. See `Served` for the rest."""
-    store = Served(url, token=token, timeout=timeout)
+    store = Served(url, token=token, timeout=timeout, keep_alive=keep_alive)
     engine: Any = store.engine
     try:
         return Connected(store, engine.hold(None, version))

@@ -30,6 +30,7 @@ def told_fault(fault: Exception) -> Response:
     if isinstance(fault, Denied) and fault.stat is not None:
         more["stat"] = fault.stat._asdict()
     told = REASONS.get(word) or (fault.told if isinstance(fault, Refused) else str(fault))
+    told = told[len(word) + 2:] if told.startswith(f"{word}: ") else told
     return as_json(wire.fault(word, told, **more), status)
 
 

@@ -1,6 +1,7 @@
 """The one who feeds a server's store: a file that is followed, standard input, or a client that posts rows."""
 from __future__ import annotations
 
+import re
 import secrets
 import sys
 import threading
@@ -26,6 +27,8 @@ from ..values.terms import Terms
 COMMANDS = {"insert": "i", "add": "a", "remove": "r", "expire": "x"}
 # Of how many clients that fed before it is remembered what their last batch did.
 FEEDERS = 100
+# How many characters of what ended a feed are told.
+MOST_REASON = 2_000
 # Over how many seconds the feed's rate is told.
 RATED = 10.0
 
@@ -65,7 +68,7 @@ class Feeding:
     def __init__(self, board: Board, limits: ServerLimits, clock: Callable[[], float] = time.monotonic) -> None:
         self.board, self.store, self.limits, self._clock = board, board.store, limits, clock
         self.rate = Rate(clock)
-        self.state, self.fault = "open", ""
+        self.state, self.fault, self.reason = "open", "", ""
         self._lock = threading.RLock()
         self._feeder: Optional[Feeder] = None
         self._before: Deque[Feeder] = deque(maxlen=FEEDERS)
@@ -90,8 +93,8 @@ class Feeding:
                 self.board.advance()
             self.state = "ended"
         except (StoreError, ValueError, OSError) as fault:
-            # (a client is told the word alone: the rest names files of this machine)
-            self.state, self.fault = "failed", getattr(fault, "word", "") or type(fault).__name__
+            self.fault = getattr(fault, "word", "") or type(fault).__name__
+            self.state, self.reason = "failed", without_paths(str(fault), following.name)
             self.store.discard()
             self.board.advance()
             print(f"misteluk: the feed ended: {fault}", file=sys.stderr)
@@ -229,15 +232,24 @@ class Feeding:
             state = "a client feeds"
         following = self._following
         is_half, killed = (False, 0) if following is None else (following.ended_half, following.killed)
+        is_replaced = following is not None and self._is_followed and following.is_replaced
         return {"state": state, "rows": self.rate.total, "rows_a_second": round(self.rate.a_second(), 1),
                 **({"half_line": True} if is_half else {}), **({"readers_killed": killed} if killed else {}),
-                **({"error": self.fault} if self.fault else {})}
+                **({"replaced": True} if is_replaced else {}),
+                **({"error": self.fault, "reason": self.reason} if self.fault else {})}
 
     def close(self) -> None:
         """Ends the feed that is followed: what was read goes in."""
         if self._following is not None and self._thread is not None:
             self._following.stop()
             self._thread.join()
+
+
+def without_paths(text: str, name: str) -> str:
+    """What is told of a feed of this name, as a client may know it: without places of this machine."""
+    text = re.sub(rf"{re.escape(name)}:(\d+)", r"line \1", text).replace(name, "the feed")
+    text = re.sub(r"(?<![\w.,;/])(?:~|\.{1,2})?/[^\s:'\",;]+", "..", text)
+    return text if len(text) <= MOST_REASON else f"{text[:MOST_REASON]} .."
 
 
 def checked_operations(text: str) -> Operations:

@@ -26,6 +26,7 @@ class Keeper:
         if not 0 < every <= 1e6:
             raise ValueError(f"a version is saved every so many seconds, a number above 0, and not {every}")
         self.path, self.every, self.fault = path, every, ""
+        # The version that the file has, and since when it may not be the last one any more; nothing where there is no file.
         self._saved: Optional[int] = None
         self._when, self._over = time.monotonic(), threading.Event()
         self._lock = _locked(place_of(path))
@@ -42,6 +43,7 @@ class Keeper:
             store.close()
             raise ValueError(f"{self.path} has {told}, and not {units}")
         store.rebase(store.open())  # (so it keeps no operations, and its versions are counted from 0)
+        self._saved, self._when = 0, time.monotonic()
         return store
 
     def told_of_file(self) -> str:
@@ -66,8 +68,9 @@ class Keeper:
             print(f"misteluk: the version isn't saved: {fault}", file=sys.stderr)
 
     def told(self) -> Dict[str, Any]:
-        """The version that the file has, and how many seconds ago it was the last one."""
-        return {"version": self._saved, "seconds": round(time.monotonic() - self._when, 1),
+        """The version that the file has, and how many seconds ago it was the last one; `None` where there is no file yet."""
+        seconds = None if self._saved is None else round(time.monotonic() - self._when, 1)
+        return {"version": self._saved, "seconds": seconds,
                 **({"error": self.fault} if self.fault else {})}
 
     def stop(self) -> None:

@@ -3,7 +3,7 @@
     const the = (name) => document.getElementById(name);
     const number = (it) => it.toLocaleString("en");
     // The version that this page holds, and the last one that it was told of.
-    let held = null, last = 0, wait = null, limit = 60;
+    let held = null, last = 0, wait = null, keeping = null, looks = 0;
 
     const token = () => sessionStorage.getItem("token");
     const ask = async (path, method = "GET") => {
@@ -11,17 +11,22 @@
         const answer = await fetch(path, { method, headers, cache: "no-store" }).catch(() => {
             throw new Error("The server doesn't answer.");
         });
-        if (answer.status === 401) the("entry").hidden = false;
+        if (answer.status === 401) {
+            the("entry").hidden = false;
+            throw new Error(token() ? "The token is wrong: enter this server's token." : "Enter the token of this server.");
+        }
         if (!answer.ok) {
             const told = await answer.json().catch(() => ({ reason: `status ${answer.status}` }));
-            throw new Error(told.retry_after ? `${told.reason}; again in ${told.retry_after} s` : told.reason);
+            const fault = new Error(told.retry_after ? `${told.reason}; again in ${told.retry_after} s` : told.reason);
+            throw Object.assign(fault, { status: answer.status });
         }
         return answer;
     };
-    // What the last refresh met, and the user's acts: their faults stay until she acts again, whatever is refreshed meanwhile.
-    const faults = { refresh: "", acts: [] };
+    // What the last refresh met, that the held version is lost, and what the user's acts met: their faults stay until she acts
+    // again, whatever is refreshed meanwhile, and the loss until she holds another version.
+    const faults = { refresh: "", lost: "", acts: [] };
     const tell = () => {
-        const text = [...new Set([faults.refresh, ...faults.acts])].filter((it) => it !== "").join("\n");
+        const text = [...new Set([faults.refresh, faults.lost, ...faults.acts])].filter((it) => it !== "").join("\n");
         the("fault").hidden = text === "";
         if (the("fault").textContent !== text) the("fault").textContent = text;
     };
@@ -88,11 +93,12 @@
         the("vertices").textContent = number(told.vertices);
         the("version").textContent = number(told.version);
         the("rate").textContent = number(Math.round(told.feed.rows_a_second));
-        const half = told.feed.half_line ? " Its last line had no end, and may be cut." : "";
-        const fault = (told.feed.error ? `: ${told.feed.error}.` : "") + half;
+        const half = (told.feed.half_line ? " Its last line had no end, and may be cut." : "")
+            + (told.feed.replaced ? " Its file has another one in its place, which isn't read." : "");
+        const fault = (told.feed.error ? `, ${told.feed.error}: ${told.feed.reason}.` : "") + half;
         the("feed").textContent = `${states[told.feed.state] ?? ""}${fault} ${number(told.feed.rows)} rows came in.${anew}`;
-        [limit, last] = [told.limits.idle, told.version];
-        if (held !== null && !told.held.some((it) => it.version === held.version)) held = null;
+        last = told.version;
+        if (held !== null && !told.held.some((it) => it.version === held.version)) await keep();
         the("held").tBodies[0].replaceChildren(...told.held.map(row));
         choices(told.held);
         the("hold").disabled = held !== null;
@@ -101,6 +107,8 @@
     // A version that this page holds, so that later ones can be seen beside it.
     const hold = async () => {
         held = await (await ask("v1/sessions", "POST")).json();
+        faults.lost = "";
+        later();
         await look();
         the("beside").value = held.version;
     };
@@ -111,8 +119,20 @@
         await look();
     };
     const keep = async () => {
-        if (held === null) return;
-        await ask(`v1/sessions/${held.session}`, "PUT").catch(() => { held = null; });
+        const mine = held;
+        if (mine === null) return;
+        await ask(`v1/sessions/${mine.session}`, "PUT").catch((fault) => {
+            if (fault.status !== 410 || held !== mine) return;  // (one that doesn't answer now may hold it still)
+            held = null;
+            faults.lost = `Version ${number(mine.version)}, which this page held, is lost: the server began anew, or heard `
+                + `nothing from this page for ${mine.idle} s.`;
+            tell();
+            setTimeout(look);
+        });
+    };
+    const later = () => {
+        clearTimeout(keeping);
+        if (held !== null) keeping = setTimeout(async () => { await keep(); later(); }, Math.min(held.idle / 3, 20) * 1000);
     };
 
     // A vertex, and its neighborhood.
@@ -132,10 +152,17 @@
         const given = new URLSearchParams({ vertex: the("vertex").value.trim(), hops: the("hops").value });
         const beside = the("beside").value;
         if (beside !== "" && Number(beside) !== last) given.set("beside", beside);
-        const view = the("view");
-        view.hidden = true;
-        view.srcdoc = await (await ask(`v1/view?${given}`)).text();
-        view.hidden = false;
+        const mine = ++looks;
+        the("view").hidden = true;
+        the("working").hidden = false;
+        const page = await ask(`v1/view?${given}`).then((it) => it.text()).finally(() => {
+            if (mine === looks) the("working").hidden = true;
+        });
+        if (mine !== looks) return;  // (she looked at another one meanwhile)
+        // (a frame of its own for each page: one that gets its page while it is hidden stays without a height in some browsers)
+        const view = the("view").cloneNode();
+        [view.hidden, view.style.height, view.srcdoc] = [false, "", page];
+        the("view").replaceWith(view);
         the("names").replaceChildren();
     });
 
@@ -153,7 +180,5 @@
         if (height > 0 && height < 100000) the("view").style.height = `${Math.ceil(height) + 4}px`;
     });
     setInterval(look, 1000);
-    const kept = () => setTimeout(async () => { await keep(); kept(); }, Math.min(limit / 3, 20) * 1000);
-    kept();
     look();
 })();

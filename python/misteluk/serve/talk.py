@@ -1,6 +1,7 @@
 """How a client talks with a server: requests over connections that are kept, of which each thread takes one."""
 from __future__ import annotations
 
+import copy
 import json
 import os
 import socket
@@ -12,8 +13,10 @@ from urllib.parse import SplitResult, quote, urlsplit
 from . import answers
 from .limits import RUN
 from .server import UNIX
+from ..engine.conversation import has_more
 from ..engine.protocol import Denied
-from ..errors import Busy, Misread, NoAnswer, NoMemory, NoSeat, NoServer, NotAllowed, SessionClosed, StoreError, refusal
+from ..errors import (Busy, Misread, NoAnswer, NoMemory, NoSeat, NoServer, NotAllowed, SessionClosed, StoreError, TooLarge,
+                      refusal)
 from ..values.answers import Stat
 
 JSON = "application/json"
@@ -65,51 +68,62 @@ class Talk:
         # What each request says.
         self._headers = "\r\n".join([f"Host: {_host_of(parts)}", "Accept-Encoding: identity",
                                      *([f"Authorization: Bearer {token}"] if token else [])])
-        # Which run of the server this client knows.
-        self.run = ""
+        # Which run of the server this client knows, and how long a request's body may be at most, as that told.
+        self.run, self.most_body = "", 1 << 30
         self._idle: Deque[HTTPConnection] = deque()
         self._process = os.getpid()
 
     def _connection(self) -> Tuple[HTTPConnection, bool]:
-        """A connection, and whether it was used before."""
+        """A connection, and whether it was used before. One that the server closed meanwhile isn't."""
         if os.getpid() != self._process:
             self._idle, self._process = deque(), os.getpid()
-        try:
-            return self._idle.pop(), True
-        except IndexError:
-            pass
+        while self._idle:
+            try:
+                found = self._idle.pop()
+            except IndexError:  # (another thread took it)
+                break
+            if found.sock is not None and not has_more(found.sock.fileno(), 0):
+                return found, True
+            found.close()
         if self.url.startswith(UNIX):
             return OfUnix(self.url[len(UNIX):], self.timeout), False
         kind = HTTPSConnection if self._parts.scheme == "https" else HTTPConnection
         return kind(self._parts.hostname or "", self._parts.port, timeout=self.timeout), False
 
-    def ask(self, method: str, path: str, body: Optional[Mapping[str, Any]] = None) -> Told:
-        """What a request gives. A connection that the server closed meanwhile is made anew once: no call does harm that is made
+    def ask(self, method: str, path: str, body: Optional[Mapping[str, Any]] = None, was_sent: bool = False) -> Told:
+        """What a request gives. A connection that the server closes meanwhile is made anew once: no call does harm that is made
         twice."""
+        request = self._request(method, path, body)
         connection, is_old = self._connection()
         try:
-            return self._on(connection, method, path, body)
+            if connection.sock is None:
+                connection.connect()
+            was_sent = True
+            return self._on(connection, method, request)
         except (ConnectionError, HTTPException) as fault:
             connection.close()
             if not is_old:
-                raise NoServer(f"{self.url} doesn't answer: {fault or type(fault).__name__}") from fault
+                raise self._gone(fault, was_sent) from fault
             self.close()
-            return self.ask(method, path, body)
+            return self.ask(method, path, body, was_sent)
         except socket.timeout as fault:
             connection.close()
             raise NoAnswer(f"{self.url} was silent for {self.timeout:g} s") from fault
         except OSError as fault:
             connection.close()
-            raise NoServer(f"{self.url} doesn't answer: {fault}") from fault
+            raise self._gone(fault, was_sent) from fault
         except BaseException:
             connection.close()
             raise
 
-    def _on(self, connection: HTTPConnection, method: str, path: str, body: Optional[Mapping[str, Any]]) -> Told:
-        if connection.sock is None:
-            connection.connect()
+    def _gone(self, fault: Exception, was_sent: bool) -> NoServer:
+        found = NoServer(f"{self.url} doesn't answer: {fault or type(fault).__name__}")
+        found.is_sent = was_sent
+        return found
+
+    def _on(self, connection: HTTPConnection, method: str, request: bytes) -> Told:
         link: Any = connection.sock
-        link.sendall(self._request(method, path, body))
+        link.sendall(request)
         status, headers, whole, is_last = answers.read(link, method)
         if is_last:
             connection.close()
@@ -119,8 +133,10 @@ class Talk:
         return Told(status, media, whole, headers.get("retry-after", ""))
 
     def _request(self, method: str, path: str, body: Optional[Mapping[str, Any]]) -> bytes:
-        """A request, in one piece, so that the server wakes once for it."""
+        """A request, in one piece, so that the server wakes once for it. Raises `TooLarge` where it takes none so long."""
         given = b"" if body is None else json.dumps(body).encode("ascii")
+        if len(given) > self.most_body:
+            raise TooLarge(f"a request of {len(given):,} bytes, and the server takes {self.most_body:,}")
         run = f"\r\n{RUN}: {self.run}" if self.run else ""
         media = "" if body is None else f"\r\nContent-Type: {JSON}"
         # (the length is last: `direct` knows a head that comes again)
@@ -133,6 +149,12 @@ class Talk:
         if told.status >= 400:
             raise fault_of(told)
         return told
+
+    def apart(self) -> "Talk":
+        """The same with connections of its own."""
+        found = copy.copy(self)
+        found._idle = deque()
+        return found
 
     def close(self) -> None:
         while self._idle:
@@ -167,4 +189,4 @@ def fault_of(told: Told) -> Exception:
         return fault
     if told.status == 400 and word == "BadRequest":
         return ValueError(reason)
-    return refusal(word, reason) if told.status in (400, 404, 409) else StoreError(f"{word}: {reason}{again}")
+    return refusal(word, reason) if told.status in (400, 404, 409, 413) else StoreError(f"{word}: {reason}{again}")

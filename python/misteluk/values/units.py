@@ -105,7 +105,10 @@ class Units(NamedTuple):
             raise ValueError(f"a weight is from -{limit} to {limit} (2^40 parts, of which one has {self.weight_scale})")
         parts = Fraction(value) * self.weight_scale
         if parts.denominator != 1 and self.rounding is None:
-            raise ValueError(f"a weight is a whole number of parts, of which one has {self.weight_scale} (weight_scale)")
+            scale, places = self.weight_scale, len(str(self.weight_scale)) - 1
+            if scale != 10 ** places:
+                raise ValueError(f"a weight is a whole number of parts, of which one has {scale} (weight_scale)")
+            raise ValueError(f"a weight has at most {places} decimal{'s' * (places != 1)} here (weight_scale {scale})")
         return str(round(parts))  # (of a Fraction: to the nearest, or the even one of two)
 
     def time_to_program(self, text: str, *, is_end: bool = False) -> str:

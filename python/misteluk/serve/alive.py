@@ -1,0 +1,79 @@
+"""How a version that a server holds for a client is kept while the client is silent, and given back where it is forgotten."""
+from __future__ import annotations
+
+import _thread
+import os
+import queue
+import sys
+import threading
+import weakref
+from typing import Any, Callable
+
+from .talk import Talk
+from ..errors import NotAllowed, SessionClosed, StoreError
+
+# At most every how many seconds a server is told that a version is needed still, and how often within the time that it gives.
+EVERY, TIMES = 20.0, 3
+
+
+class Hold:
+    """What a client does for a version beside asking it, until `end`: with `keep_alive` a thread tells the server at intervals
+    that it is needed still. It refers to the version's owner weakly: where that is forgotten, the version is given back, and the
+    thread ends."""
+
+    def __init__(self, owner: Any, talk: Talk, path: str, idle: float, keep_alive: bool) -> None:
+        self._bell: "queue.SimpleQueue[None]" = queue.SimpleQueue()
+        talk = talk.apart()
+        self._forgotten = weakref.finalize(owner, _forgotten, self._bell, talk, path, os.getpid())
+        self._forgotten.atexit = False
+        if keep_alive:
+            given = self._bell, talk, path, min(idle / TIMES, EVERY)
+            threading.Thread(target=_keep, args=given, name=f"keeps {path}", daemon=True).start()
+
+    def end(self) -> None:
+        """The version is needed no more, and its owner sees to that by itself."""
+        self._forgotten.detach()
+        self._bell.put(None)
+
+
+def _keep(bell: "queue.SimpleQueue[None]", talk: Talk, path: str, every: float) -> None:
+    """Tells the server at intervals that the version is needed, until the bell rings or the server has let it go."""
+    is_needed = True
+    while is_needed:
+        try:
+            bell.get(timeout=every)
+            is_needed = False
+        except queue.Empty:
+            is_needed = _is_kept(talk, path)
+    talk.close()
+
+
+def _is_kept(talk: Talk, path: str) -> bool:
+    try:
+        talk.call("PUT", path)
+    except (SessionClosed, NotAllowed):
+        return False
+    except StoreError:  # (one that doesn't answer now may hold it still)
+        pass
+    return True
+
+
+def _forgotten(bell: "queue.SimpleQueue[None]", talk: Talk, path: str, process: int) -> None:
+    """Gives back a version that nobody has any more. This may come amid anything: it takes no lock and waits for nothing, and so
+    it begins a thread without `threading`, which has locks."""
+    bell.put(None)
+    if os.getpid() == process and not sys.is_finalizing():
+        give_back: Callable[..., object] = _give_back
+        try:
+            _thread.start_new_thread(give_back, (talk, path))
+        except RuntimeError:  # (there are too many: the server lets it go by itself)
+            pass
+
+
+def _give_back(talk: Talk, path: str) -> None:
+    try:
+        talk.ask("DELETE", path)
+    except Exception:  # (nobody is there to be told; the server lets it go by itself)
+        pass
+    finally:
+        talk.close()

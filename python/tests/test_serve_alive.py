@@ -1,0 +1,98 @@
+"""Versions that a server holds for a client in Python: one that is kept while the client is silent, and one that it forgets."""
+import asyncio
+import gc
+import threading
+import time
+import unittest
+import warnings
+
+from serving import ServeCase
+from support import as_soon_as
+
+from misteluk import Served, SessionClosed, connect, connect_async
+from misteluk.serve.limits import ServerLimits
+
+ROW = [["add", "k", "a", "b", 1, 1]]
+
+
+class Alive(ServeCase):
+    def held(self):
+        """By how many clients each version is held."""
+        return {it["version"]: it["clients"] for it in self.ask("/v1/stat").json["held"]}
+
+    def threads(self):
+        return [it for it in threading.enumerate() if it.name.startswith("keeps ")]
+
+    def test_a_silent_session_is_kept(self):
+        """As long as it is open, where that is asked for; else it is let go."""
+        self.fed(limits=ServerLimits(idle=1.5))
+        with connect(self.server.url, keep_alive=True) as kept, connect(self.server.url) as silent:
+            self.post("/v1/rows", {"rows": ROW})
+            time.sleep(4)
+            self.assertEqual((self.held(), len(self.threads())), ({1: 1, 2: 0}, 1))
+            self.assertRaises(SessionClosed, silent.cores)
+            self.assertEqual((kept.version, len(kept)), (1, 4))
+        as_soon_as(lambda: self.held() == {2: 0} and not self.threads())
+
+    def test_a_store_s_sessions_are_kept(self):
+        self.fed(limits=ServerLimits(idle=1.5))
+        with Served(self.server.url, keep_alive=True) as store:
+            first, second = store.open(), store.open()
+            self.post("/v1/rows", {"rows": ROW})
+            time.sleep(4)
+            self.assertEqual((len(first), len(second), len(self.threads())), (4, 4, 2))
+            first.close()
+            as_soon_as(lambda: len(self.threads()) == 1)
+        as_soon_as(lambda: self.held() == {2: 0} and not self.threads())
+
+    def test_a_session_that_is_closed(self):
+        """Its thread ends at once, and doesn't wait until it would tell the server something."""
+        self.fed(limits=ServerLimits(idle=600))
+        session = connect(self.server.url, keep_alive=True)
+        self.assertEqual((len(self.threads()), sum(self.held().values())), (1, 1))
+        session.close()
+        as_soon_as(lambda: not self.threads(), 10)
+        self.assertEqual(sum(self.held().values()), 0)
+
+    def test_one_that_is_awaited(self):
+        """Its `len` is asked by `ask`."""
+        self.fed(limits=ServerLimits(idle=1.5))
+
+        async def silent():
+            async with await connect_async(self.server.url, keep_alive=True) as session:
+                await asyncio.sleep(4)
+                return await session.ask(len, session)
+        self.assertEqual(asyncio.run(silent()), 4)
+        as_soon_as(lambda: not self.threads())
+
+    def test_one_that_the_server_lets_go(self):
+        """Then nothing keeps it, and its client is told at the next question."""
+        self.fed(limits=ServerLimits(idle=1.5))
+        with connect(self.server.url, keep_alive=True) as session:
+            self.assertEqual(len(self.threads()), 1)
+            self.server.board.let_all_go()
+            as_soon_as(lambda: not self.threads())
+            self.assertRaises(SessionClosed, session.cores)
+
+    def test_a_session_that_is_forgotten(self):
+        """The server lets its version go at once, whether it was kept or not."""
+        self.fed(limits=ServerLimits(idle=600))
+        for keep_alive in (False, True):
+            with Served(self.server.url, keep_alive=keep_alive) as store:
+                session = store.open()
+                self.assertEqual((sum(self.held().values()), store.engine.open_count), (1, 1))
+                del session
+                gc.collect()
+                as_soon_as(lambda: sum(self.held().values()) == 0 and not self.threads(), 20)
+                self.assertEqual(store.engine.open_count, 0)
+            with warnings.catch_warnings():
+                warnings.simplefilter("ignore", ResourceWarning)  # (of a store that was let go without `close`)
+                session = connect(self.server.url, keep_alive=keep_alive)
+                self.assertEqual(sum(self.held().values()), 1)
+                del session
+                gc.collect()
+                as_soon_as(lambda: sum(self.held().values()) == 0 and not self.threads(), 20)
+
+
+if __name__ == "__main__":
+    unittest.main()
