@@ -1,7 +1,7 @@
 //! A content while operations are applied to it.
 
 ghost use Rattle.std.specs.Prelude.{◌≡◌, IfOk, OnOk, IfErr};
-ghost use Rattle.graph_types.specs.Changes.{IsChange};
+ghost use Rattle.graph_types.specs.Changes.{AllowsUpTo, IsChange};
 ghost use Rattle.graph_types.specs.Graph.{graph_in, IsContentIn};
 ghost use Rattle.graph_types.specs.Step as step;
 ghost use Rattle.graph_types.specs.Valid.{IsValid};
@@ -69,6 +69,7 @@ impl Draft {
                 let change = EdgeChange::Insert {
                     weight: *weight,
                     time: *time,
+                    most: limits.weight(),
                 };
                 self.change(limits, change, kind, source, target)
             }
@@ -82,6 +83,7 @@ impl Draft {
                 let change = EdgeChange::Incr {
                     amount: *amount,
                     time: *time,
+                    most: limits.weight(),
                 };
                 self.change(limits, change, kind, source, target)
             }
@@ -118,6 +120,7 @@ impl Draft {
     ) -> Result<Outcome, PlainError>
         requires content { IsContentIn limits (shown_by self.old) }
         requires change { IsChange change }
+        requires most { AllowsUpTo limits.weight change }
         ensures outcome { IfOk result (λ o.
             o ≡ step.change_outcome change kind.now source.now target.now (graph_in limits (shown_by self.old))) }
         ensures graph { OnOk result

@@ -37,7 +37,13 @@ whole_over rows none = record {
   version = record {
     rows = bare rows none;
     within = λ k is. absurd (true≢false (sym is ∙ ap is_some (get-empty key_cmp k)));
-    small = record { names = omega arith; kinds = omega arith; count = omega arith; limits = standard_are_limits };
+    small = record {
+      names = omega arith;
+      kinds = omega arith;
+      count = omega arith;
+      limits = standard_are_limits;
+      weights = empty_weights standard_limits;
+    };
   };
 }
 
