@@ -58,6 +58,7 @@ impl Draft {
         ensures content { OnOk result (IsContentIn limits (shown_by self.new)) }
         ensures refused { IfErr result (λ e. Exceeds e (step.after op.now (graph_in limits (shown_by self.old)))) }
     {
+        let most = limits.weight();
         match op {
             NamedOp::Insert {
                 kind,
@@ -69,7 +70,7 @@ impl Draft {
                 let change = EdgeChange::Insert {
                     weight: *weight,
                     time: *time,
-                    most: limits.weight(),
+                    most,
                 };
                 self.change(limits, change, kind, source, target)
             }
@@ -83,7 +84,7 @@ impl Draft {
                 let change = EdgeChange::Incr {
                     amount: *amount,
                     time: *time,
-                    most: limits.weight(),
+                    most,
                 };
                 self.change(limits, change, kind, source, target)
             }

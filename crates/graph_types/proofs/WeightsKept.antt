@@ -112,9 +112,9 @@ weights_listed l c once has = weights_of (graph_in l c) c.edges once refl has
 pub weights_shown : (l : LimitsView) (c : Content) → All (λ e. IsWeightIn l.weight e.weight) c.edges → HasWeights (graph_in l c)
 weights_shown l c all q =
     subst (IsWithin l.weight) (sym (get_is q c.edges)) (found (find key_cmp q (map entry_of c.edges)) refl) where
-    found : (o : Option Stamp) → find key_cmp q (map entry_of c.edges) ≡ o → IsWithin l.weight o
-    found None same = tt
-    found (Some stamp) same =
-        let (x, ((k, low, at), key, is)) = find_listed q c.edges stamp same in
-        let here : IsWeightIn l.weight x.weight = subst (λ (e : Edge). IsWeightIn l.weight e.weight) at (all k x low) in
-        subst (λ (s : Stamp). IsWeightIn l.weight s.weight) is here
+      found : (o : Option Stamp) → find key_cmp q (map entry_of c.edges) ≡ o → IsWithin l.weight o
+      found None same = tt
+      found (Some stamp) same =
+          let (x, ((k, low, at), key, is)) = find_listed q c.edges stamp same in
+          let here : IsWeightIn l.weight x.weight = subst (λ (e : Edge). IsWeightIn l.weight e.weight) at (all k x low) in
+          subst (λ (s : Stamp). IsWeightIn l.weight s.weight) is here

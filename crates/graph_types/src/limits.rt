@@ -69,7 +69,7 @@ impl Limits {
     pub fn new(names: u32, kinds: u32, batches: u32) -> Result<Limits, BadLimits>
         ensures { MatchResult result
             (λ limits. (limits ≡ record { names = names; kinds = kinds; batches = batches; weight = weight_limit })
-                × AreLimits limits)
+            × AreLimits limits)
             (λ _. AreLimits (record { names = names; kinds = kinds; batches = batches; weight = weight_limit }) → ⊥) }
     {
         Limits::within(names, kinds, batches, MOST_WEIGHT)
@@ -79,7 +79,7 @@ impl Limits {
     pub fn within(names: u32, kinds: u32, batches: u32, weight: u64) -> Result<Limits, BadLimits>
         ensures { MatchResult result
             (λ limits. (limits ≡ record { names = names; kinds = kinds; batches = batches; weight = weight })
-                × AreLimits limits)
+            × AreLimits limits)
             (λ _. AreLimits (record { names = names; kinds = kinds; batches = batches; weight = weight }) → ⊥) }
     {
         let places = u64::from(names) * u64::from(kinds);

@@ -1,6 +1,6 @@
 -- What the calls that open a desk tell.
 use Rattle.std.specs.Prelude.{◌≡◌, ◌⊎◌, ◌<◌, ◌≤◌, ℕ, Option, Some}
-use Rattle.graph_types.specs.Limits.{LimitsView, AreLimits, standard_limits, standard_size}
+use Rattle.graph_types.specs.Limits.{LimitsView, AreLimits, standard_limits, standard_size, weight_limit}
 use Rattle.graph_version.specs.Versions.{content, empty_version_in}
 use Rattle.block_reclamation.specs.Status.{most_blocks}
 use Rattle.store_steps.specs.{Desks.DeskView, Opening.opened_desk}
@@ -9,9 +9,9 @@ use Rattle.store_handles.specs.declared.held.Held.{Held}
 use Rattle.misteluk_c.specs.declared.opening.DeskLimits.{DeskLimits}
 use Rattle.misteluk_c.specs.{Held.Makes, Desks.desk_in}
 
--- the limits as C has them
+-- the limits as C has them, of which none is on weights
 abbrev pub limits_of : DeskLimits → LimitsView
-limits_of limits = record { names = limits.names; kinds = limits.kinds; batches = limits.batches }
+limits_of limits = record { names = limits.names; kinds = limits.kinds; batches = limits.batches; weight = weight_limit }
 
 abbrev pub limits_told : DeskView → DeskLimits
 limits_told d =
