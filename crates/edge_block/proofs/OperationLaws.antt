@@ -215,10 +215,11 @@ one_shows : (op : NamedOp) (g : Graph) (rows : ℕ → List OpenBlock) (n : ℕ)
     × (outcome_in (range_with_len 0 n) r rows ≡ outcome_parts (parts_over op g) g)
 one_shows op g rows n w u s few =
     let parts : Parts = parts_over op g in
+    let same : ◌≡◌ {A = Resolved} (resolve_parts (names_by parts g.names) (kinds_by parts g.kinds) parts) (by_left op g) =
+    λ i. resolve_parts (names_over g.limits.weight op g.names i) (kinds_over g.limits.weight op g.kinds i) parts in
     subst (λ (r : Resolved). Shows (rows_step r rows) (after_parts parts g).edges × AreOpenRows (rows_step r rows)
     × (outcome_in (range_with_len 0 n) r rows ≡ outcome_parts parts g))
-    (λ i. resolve_parts (names_over g.limits.weight op g.names i) (kinds_over g.limits.weight op g.kinds i) parts)
-    (step_shows parts g rows n w u s few)
+    same (step_shows parts g rows n w u s few)
 
 -- a batch's operations, one after another
 pub all_shows : (ops : List NamedOp) (g : Graph) (rows : ℕ → List OpenBlock) (n : ℕ) → IsWithin g → AreOpenRows rows

@@ -7,7 +7,7 @@ use Rattle.graph_types.specs.{Graph.stamp_of, Degrees.{listed_degree, with_edge,
 use Rattle.graph_types.{specs.declared.ids.{Edge.Edge, Degree.Degree, Filter.Filter}, proofs.DegreeBounds.degree_within}
 use Rattle.graph_types.proofs.ListedDegrees.{with_shown}
 use Rattle.edge_block.specs.Slots.{IsStamp}
-use Rattle.graph_cores.{specs.Tallies.{passes, HasRoomFor, Counts}, proofs.Parts.{first_edges, All-right}}
+use Rattle.graph_cores.{specs.Tallies.{passes, HasRoomFor, Counts}, proofs.Parts.{first_edges, All-left, All-right}}
 
 -- the sum of the weights of listed edges
 abbrev weight_sum : List Edge → ℤ
@@ -50,6 +50,7 @@ countable f e table room =
       shown = All-head (λ (x : Edge). passes f x ≡ true) e []
           (All-right (λ (x : Edge). passes f x ≡ true) before (e ∷ []) are.seen);
       room = λ v d h. subst (HasRoom (nat_abs e.weight)) (sym (is.tally.at v d h))
-          (degree_within f before n firsts.kind_count v are.most_weight (nat_abs e.weight) firsts.few firsts.sums light firsts.once
-          firsts.kinds firsts.sources firsts.targets firsts.weights);
+          (degree_within f before n are.kind_count v are.most_weight (nat_abs e.weight) are.few are.sums light firsts.once
+          (All-left (λ (x : Edge). x.kind.0 < are.kind_count) before (e ∷ []) are.kinds) firsts.sources firsts.targets
+          (All-left (λ (x : Edge). IsWeightIn are.most_weight x.weight) before (e ∷ []) are.weights));
     }
