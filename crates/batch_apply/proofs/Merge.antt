@@ -47,7 +47,7 @@ module _ (workers w : ℕ) (ops : List NamedOp) (g : Graph) (layout : ℕ → Li
       let all : List Outcome = outcomes_all sources (resolved ops g) (opened layout) in
       ap (λ rs. zip (map (λ x. x.0) shard) (map told (outcomes_all sources rs (opened layout)))) same_ops
       ∙ ap (λ os. zip (map (λ x. x.0) shard) (map told os))
-      (shard_outcomes workers w ops g.names g.kinds (opened layout) sources own)
+      (shard_outcomes workers w g.limits.weight ops g.names g.kinds (opened layout) sources own)
       ∙ ap (zip (map (λ x. x.0) shard)) (map_picked told (is_in_shard workers w) (resolved ops g) all)
       ∙ placed_results (is_in_shard workers w) (resolved ops g) (map told all) 0
 
