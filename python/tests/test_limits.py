@@ -26,8 +26,9 @@ class OfLimits(unittest.TestCase):
 
     def test_walls_of_smaller_weights(self):
         """One weight for each vertex of each kind, and one more, are below 2^63."""
-        for wrong in (Limits(weight=(1 << 40) + 1), Limits(weight=0), Limits(8_388_607, weight=1 << 40), Limits(67_108_864, weight=1),
-                      Limits(67_108_863, weight=1 << 37), Limits(67_108_863, 64, weight=2_147_483_680)):
+        for wrong in (Limits(weight=(1 << 40) + 1), Limits(weight=0), Limits(8_388_607, weight=1 << 40),
+                      Limits(67_108_864, weight=1), Limits(67_108_863, weight=1 << 37),
+                      Limits(67_108_863, 64, weight=2_147_483_680)):
             self.assertRaises(ValueError, wrong.checked)
         for right in (Limits(weight=1), Limits(8_388_606, weight=1 << 40), Limits(67_108_863, weight=(1 << 37) - 1),
                       Limits(67_108_863, 64, weight=2_147_483_679)):

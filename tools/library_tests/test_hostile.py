@@ -141,8 +141,8 @@ class Hostile(unittest.TestCase):
     def test_a_small_limit_of_weights(self) -> None:
         """A weight, an amount or a sum past it changes nothing but that its names are there."""
         desk, batch = Desk(library(), 16, (9, 2, 9), 10), Batch(library())
-        for insert, target, weight in ((True, b"b", 10), (True, b"c", 11), (True, b"b", -11), (False, b"b", 1), (False, b"b", -20),
-                                       (False, b"d", -11), (False, b"b", -3), (True, b"d", -10)):
+        for insert, target, weight in ((True, b"b", 10), (True, b"c", 11), (True, b"b", -11), (False, b"b", 1),
+                                       (False, b"b", -20), (False, b"d", -11), (False, b"b", -3), (True, b"d", -10)):
             (batch.insert if insert else batch.add)(b"k", b"a", target, weight, 1)
         counts = desk.apply(batch)
         self.assertEqual((counts.inserted, counts.updated, counts.overflowed), (2, 1, 5))

@@ -13,8 +13,8 @@ class Limits(NamedTuple):
     anew. What isn't said is as large as the library has room for: 8,388,606 vertices for one kind, half as many for two, 131,071
     for 64; and 4,294,967,295 batches. With fewer batches it keeps each operation until it begins anew.
 
-    `weight` is how large a weight may be, 2^40 where it isn't said, in parts where the store has a `weight_scale`. With smaller ones
-    there may be more vertices. An operation past it, or whose sum would be, is counted as `overflowed` and changes nothing.
+    `weight` is how large a weight may be, 2^40 where it isn't said, in parts where the store has a `weight_scale`. With smaller
+    ones there may be more vertices. An operation past it, or whose sum would be, is counted as `overflowed` and changes nothing.
 
         Store(limits=Limits(vertices=100_000, kinds=4))
         Store(limits=Limits(vertices=20_000_000, kinds=4, weight=1_000_000))
