@@ -1,5 +1,5 @@
 -- What an edge bears, and what is done to it, as the program has them.
-use Rattle.std.specs.{Prelude.◌≤◌, Option.option_map, declared.option.Option.Option}
+use Rattle.std.specs.{Prelude.{ℕ, ◌≤◌}, Option.option_map, declared.option.Option.Option}
 use Rattle.graph_types.specs.{Graph.Stamp, Limits.{IsWeight, IsTime, weight_limit}, declared.changes.EdgeChange.EdgeChange}
 use Rattle.graph_types.specs.declared.changes.{EdgeChange.TheVariants.{Insert, Incr, Remove}, EdgeMarks.EdgeMarks}
 
