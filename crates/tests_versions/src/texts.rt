@@ -109,6 +109,11 @@ pub(crate) fn check_text(rt: &impl Abort, told: &str, wanted: &str, line: &str) 
     assert!(rt; is_like(told, wanted), "{told} for {wanted} by {line}");
 }
 
+/// What was told is what is wanted.
+pub(crate) fn same<T: PartialEq + Debug + Drop>(rt: &impl Abort, told: T, wanted: T) {
+    assert_eq!(rt; told, wanted);
+}
+
 /// What a line says is so.
 pub(crate) fn check_so(rt: &impl Abort, is_so: bool, line: &str) {
     assert!(rt; is_so, "{line}");

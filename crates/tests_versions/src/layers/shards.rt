@@ -4,7 +4,7 @@ ghost use Rattle.batch_shards.specs.Shards.{IsAct, AreSteps};
 ghost use Rattle.batch_apply.specs.Gathered.{IsShard};
 ghost use Rattle.graph_types.specs.Changes.{IsChange};
 
-use crate::texts::{check_text, push_item, tell_refused, write_blocks, write_outcome};
+use crate::texts::{check_text, push_item, same, tell_refused, write_blocks, write_outcome};
 use batch_shards::{Act, Place, Shard, ShardDone, Step, work_on};
 use edge_block::Block;
 use graph_types::{EdgeChange, KindId, Outcome, VertexId};
@@ -221,5 +221,5 @@ fn outcomes_go_to_their_places(rt: HostRuntime) {
     ];
     let outcomes = put(rt.alloc(), &found).expect(&rt, "memory");
     let wanted = [Outcome::Expired(3), Outcome::Absent, Outcome::Removed];
-    assert!(&rt; outcomes.as_slice() == &wanted[..]);
+    same(&rt, outcomes.as_slice(), wanted.as_slice());
 }

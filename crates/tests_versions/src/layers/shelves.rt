@@ -5,7 +5,7 @@ ghost use Rattle.graph_version.specs.Versions.{empty_version};
 ghost use Rattle.version_shelf.specs.Shelves.{ToldView, opened_shelf, IsNext, IsOfOneShelf};
 
 use super::drafts::finished;
-use crate::texts::tell_refused;
+use crate::texts::{same, tell_refused};
 use graph_types::Batch;
 use graph_version::{Version, VersionDraft};
 use std::alloc::{AllocError, Global};
@@ -113,7 +113,7 @@ fn over_a_new_shelf<R: Wait>(rt: &R, alloc: Global) -> Option<[u64; 4]> {
 // The writer confirms what readers have seen, too.
 #[test]
 fn shows_a_posted_version_to_each_reader(rt: HostRuntime) {
-    assert_eq!(rt; over_a_new_shelf(&rt, rt.alloc()), Some([0, 0, 1, 1]));
+    same(&rt, over_a_new_shelf(&rt, rt.alloc()), Some([0, 0, 1, 1]));
 }
 
 // Whether the version of one batch was posted.
@@ -163,7 +163,11 @@ fn over_a_closed_shelf<R: Wait>(rt: &R, alloc: Global) -> Option<[u64; 4]> {
 
 #[test]
 fn a_closed_shelf_shows_nothing_newer(rt: HostRuntime) {
-    assert_eq!(rt; over_a_closed_shelf(&rt, rt.alloc()), Some([1, 1, 0, 1]));
+    same(
+        &rt,
+        over_a_closed_shelf(&rt, rt.alloc()),
+        Some([1, 1, 0, 1]),
+    );
 }
 
 #[test]
@@ -177,12 +181,12 @@ fn refused_growths_leave_the_shelf(rt: HostRuntime) {
         }
     };
     let [first_before, second_before, first_after, second_after] = entered;
-    assert_eq!(rt; [first_before, second_before], [0, 0]);
+    same(&rt, [first_before, second_before], [0, 0]);
     // Who learnt of a posted version enters it, also where the growth that would show it was refused.
-    assert_eq!(rt; first_after, 1);
+    same(&rt, first_after, 1);
     if second_after == 0 {
         tell_refused(&rt);
     } else {
-        assert_eq!(rt; second_after, 1);
+        same(&rt, second_after, 1);
     }
 }

@@ -8,7 +8,7 @@ ghost use Rattle.graph_types.specs.Limits.{standard_limits};
 use super::rebased::begun_anew;
 use super::sames::{check_same, write_row};
 use super::steps::{applied, check_plain, empty};
-use crate::texts::{check_text, push_item, write_outcome};
+use crate::texts::{check_text, push_item, same, write_outcome};
 use batch_apply::{Applied, PassAll};
 use graph_types::{Content, Outcome, VertexId};
 use graph_version::Version;
@@ -49,7 +49,7 @@ fn check_told(rt: &impl Abort, alloc: Global, next: &Applied, wanted: &str, line
 // The version before a batch is as it was, with this content, and the next one begins with what it began with.
 fn check_before(rt: &impl Abort, version: &Version, before: &Content, next: &Version) {
     check_same(rt, version, before);
-    assert_eq!(rt; Some(next.number()), version.number().checked_add(1));
+    same(rt, Some(next.number()), version.number().checked_add(1));
     if version.number() == 0 {
         check_same(rt, version, next.opening());
     }

@@ -5,7 +5,7 @@ ghost use Rattle.std.specs.Prelude.{◌<◌};
 mod shared;
 
 use super::steps::planned;
-use crate::texts::{check_so, check_text, push_item, tell_refused};
+use crate::texts::{check_so, check_text, push_item, same, tell_refused};
 use batch_apply::{Plan, PlanError, law_sources_within};
 use batch_shards::{Act, Shard, Step};
 use graph_version::Version;
@@ -155,6 +155,5 @@ fn refused_plan_leaves_the_version(rt: HostRuntime) {
         OF_SHUFFLED,
         SHUFFLED,
     );
-    assert_eq!(rt; version.names().len(), 0);
-    assert_eq!(rt; version.kinds().len(), 0);
+    same(&rt, (version.names().len(), version.kinds().len()), (0, 0));
 }

@@ -2,6 +2,7 @@
 
 use super::sames::{check_same, write_row};
 use crate::blocks::fresh_blocks;
+use crate::texts::same;
 use graph_types::{Content, VertexId};
 use graph_version::Version;
 use std::alloc::{AllocError, Global};
@@ -29,6 +30,11 @@ fn rows_text(alloc: Global, version: &Version) -> Result<String, AllocError> {
     Ok(text)
 }
 
+fn check_rows(rt: &impl Abort, alloc: Global, version: &Version, wanted: &str) {
+    let rows = rows_text(alloc, version).expect(rt, "rows");
+    same(rt, rows.as_str(), wanted);
+}
+
 // Version 0 has the version's rows, and the content, with which it begins.
 fn check_zero(
     rt: &impl Abort,
@@ -37,12 +43,12 @@ fn check_zero(
     zero: &Version,
     content: &Content,
 ) {
-    assert_eq!(rt; zero.number(), 0);
-    assert_eq!(rt; zero.block_count(), version.block_count());
+    same(rt, zero.number(), 0);
+    same(rt, zero.block_count(), version.block_count());
     check_same(rt, zero, zero.opening());
     check_same(rt, zero, content);
     let held = rows_text(alloc, version).expect(rt, "rows");
-    assert_eq!(rt; rows_text(alloc, zero).expect(rt, "rows"), held);
+    check_rows(rt, alloc, zero, held.as_str());
 }
 
 /// The version 0 that begins with what a version holds.

@@ -10,6 +10,7 @@ ghost use Rattle.graph_types.specs.Limits.{standard_limits};
 
 use super::ops::batch_of;
 use crate::blocks::fresh_blocks;
+use crate::texts::same;
 use batch_apply::{Applied, Gate, Plan, PlanError, apply, plan};
 use edge_block::Block;
 use graph_model::plain_apply;
@@ -137,5 +138,5 @@ pub(super) fn check_plain(
     ensures { IsContentIn standard_limits content.new }
 {
     let outcomes = plain(alloc, content, ops).expect(rt, "the plain application");
-    assert_eq!(rt; outcomes.as_slice(), told);
+    same(rt, outcomes.as_slice(), told);
 }

@@ -6,6 +6,7 @@ ghost use Rattle.graph_types.specs.Limits.{standard_limits};
 use super::lines::stepped;
 use super::ops::write_filled;
 use super::steps::empty;
+use crate::texts::same;
 use graph_types::{Batch, Content, NamedOp};
 use graph_version::Version;
 use std::alloc::Global;
@@ -75,7 +76,7 @@ fn turned<R: Threads + Sync + Abort>(
         content,
         line(rt, alloc, number).as_str(),
     );
-    assert_eq!(rt; turns_lent(version), Some(number));
+    same(rt, turns_lent(version), Some(number));
     check_last(rt, &next, number);
     next
 }
@@ -87,5 +88,5 @@ fn shares_batches_at_the_ends_of_pieces(rt: HostRuntime) {
     for number in 0..259 {
         version = turned(&rt, rt.alloc(), &version, &mut content, number);
     }
-    assert_eq!(rt; turns_lent(&version), Some(259));
+    same(&rt, turns_lent(&version), Some(259));
 }
