@@ -4,18 +4,25 @@ use super::batches::batch_named;
 use super::checks::check_so;
 use block_reclamation::{PinCopy, SEATS};
 use desk::{Desk, JournalEntry};
+use graph_types::Batch;
 use std::alloc::Global;
 use std::process::Abort;
 use std::sync::Arc;
 
+fn to_b(rt: &impl Abort, alloc: Global) -> Arc<Batch> {
+    Arc::new(alloc, batch_named(alloc, "to b").expect(rt, "a batch")).expect(rt, "a shared one")
+}
+
+fn applies(rt: &impl Abort, alloc: Global, desk: &mut Desk) {
+    let is_accepted = desk.apply(to_b(rt, alloc)).is_ok();
+    check_so(rt, is_accepted, "accepted");
+}
+
 /// A desk with a block that a second batch replaced.
 fn desk_of_two(rt: &impl Abort, alloc: Global) -> Desk {
     let mut desk = Desk::open(alloc, 16).expect(rt, "a desk");
-    for _ in 0..2 {
-        let batch = Arc::new(alloc, batch_named(alloc, "to b").expect(rt, "a batch"));
-        desk.apply(batch.expect(rt, "a shared one"))
-            .expect(rt, "accepted");
-    }
+    applies(rt, alloc, &mut desk);
+    applies(rt, alloc, &mut desk);
     desk
 }
 

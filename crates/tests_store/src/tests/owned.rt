@@ -5,13 +5,13 @@ use super::checks::{check_so, check_told};
 use super::texts::{push_item, push_numbers, split_at, split_word};
 use super::told::{push_collected, push_done, push_journal, push_stat};
 use desk::{ApplyError, Desk, Hold, OwnedDesk};
+use graph_types::Batch;
 use std::alloc::{AllocError, Global};
 use std::process::Abort;
 use std::sync::Arc;
 
 /// A hold and a release are told by the number of the opening and that of the version.
-const PLAYS: [&str; 4] = [
-    "apply to b => 1 i
+const HOLDS: &str = "apply to b => 1 i
 hold => 0 1
 # The same number once more takes no further seat. What the second batch replaced stays until both holds are released.
 hold => 0 1
@@ -25,8 +25,9 @@ collect => 2 1 0
 release 0 1 => no version of this number is held
 # No opening has this number yet.
 release 1 2 => no version of this number is held
-journal => 3, 1 1 0, 1 1 1, 1",
-    "hold => 0 0
+journal => 3, 1 1 0, 1 1 1, 1";
+
+const MOST_HOLDS: &str = "hold => 0 0
 apply to b => 1 i
 hold => 0 1
 apply to b => 2 u
@@ -66,8 +67,9 @@ release 0 7 => released
 collect => 0 1 14
 hold => 0 16
 release 0 15 => released
-collect => 0 0 14",
-    "apply to b => 1 i
+collect => 0 0 14";
+
+const REBASES: &str = "apply to b => 1 i
 hold => 0 1
 apply to c => 2 i
 # The desk begins anew with what version 2 holds.
@@ -82,12 +84,12 @@ collect => 0 0 1
 release 1 0 => released
 collect => 1 1 0
 rebase => 2
-stat => 0 3 2 47 0 1",
-    "apply 2046 sources => 2046 blocks are needed and 48 are free
+stat => 0 3 2 47 0 1";
+
+const TOO_LARGE: &str = "apply 2046 sources => 2046 blocks are needed and 48 are free
 stat => 0 0 0 48 0 0
 journal => 0
-apply mixed => 1 iiau",
-];
+apply mixed => 1 iiau";
 
 fn tell_apply(
     alloc: Global,
@@ -153,16 +155,20 @@ pub(super) fn tell(
     }
 }
 
+fn check_line(rt: &impl Abort, alloc: Global, desk: &mut OwnedDesk, text: &mut String, line: &str) {
+    let (words, wanted) = split_at(line, " => ");
+    text.clear();
+    tell(alloc, desk, words, text).expect(rt, "a line");
+    check_told(rt, text.as_str(), wanted, line);
+}
+
 /// Plays lines; one that begins with `#` says why.
 fn check_play(rt: &impl Abort, alloc: Global, desk: &mut OwnedDesk, play: &str) {
+    let mut text = String::new(alloc);
     for line in play.lines() {
-        if line.starts_with('#') {
-            continue;
+        if !line.starts_with('#') {
+            check_line(rt, alloc, desk, &mut text, line);
         }
-        let (words, wanted) = split_at(line, " => ");
-        let mut text = String::new(alloc);
-        tell(alloc, desk, words, &mut text).expect(rt, "a line");
-        check_told(rt, text.as_str(), wanted, line);
     }
 }
 
@@ -170,25 +176,32 @@ pub(super) fn owned(alloc: Global) -> Result<OwnedDesk, AllocError> {
     Ok(OwnedDesk::over(Desk::open(alloc, 48)?))
 }
 
-#[test]
-fn plays_at_an_owned_desk(rt: HostRuntime) {
-    for play in PLAYS {
-        let mut desk = owned(rt.alloc()).expect(&rt, "a desk");
-        check_play(&rt, rt.alloc(), &mut desk, play);
-    }
+fn check_anew(rt: &impl Abort, alloc: Global, play: &str) {
+    let mut desk = owned(alloc).expect(rt, "a desk");
+    check_play(rt, alloc, &mut desk, play);
 }
 
-/// The desk with a batch more; the batch is given up once before.
+#[test]
+fn plays_at_an_owned_desk(rt: HostRuntime) {
+    check_anew(&rt, rt.alloc(), HOLDS);
+    check_anew(&rt, rt.alloc(), MOST_HOLDS);
+    check_anew(&rt, rt.alloc(), REBASES);
+    check_anew(&rt, rt.alloc(), TOO_LARGE);
+}
+
+fn mixed(rt: &impl Abort, alloc: Global) -> Arc<Batch> {
+    Arc::new(alloc, batch_named(alloc, "mixed").expect(rt, "a batch")).expect(rt, "it")
+}
+
+/// The desk with a batch more; such a batch is given up once before.
 fn begun_twice(rt: &impl Abort, alloc: Global, desk: Desk) -> Result<Desk, (Desk, ApplyError)> {
-    let batch = Arc::new(alloc, batch_named(alloc, "mixed").expect(rt, "a batch")).expect(rt, "it");
-    let again = Arc::try_clone(&batch).expect(rt, "a second one");
-    let desk = desk.begin(batch)?.cancel();
+    let desk = desk.begin(mixed(rt, alloc))?.cancel();
     check_so(
         rt,
         desk.stat().number == 0 && desk.stat().free == 16,
         "cancelled",
     );
-    let ready = desk.begin(again)?;
+    let ready = desk.begin(mixed(rt, alloc))?;
     check_so(rt, ready.version().number() == 1, "ready");
     Ok(ready.finish().0)
 }
