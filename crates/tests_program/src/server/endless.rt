@@ -76,6 +76,14 @@ fn is_fault(next: Result<Option<Command>, FeedFault>, at: u64, word: FeedWord) -
     }
 }
 
+fn is_failed(next: Result<Option<Command>, FeedFault>, at: u64) -> bool {
+    is_fault(next, at, FeedWord::Read)
+}
+
+fn is_end(next: Result<Option<Command>, FeedFault>) -> bool {
+    matches!(next, Ok(None))
+}
+
 // Behind the records up to the limit a feed without one gives those that are left.
 fn goes_on(rt: &impl Abort, feed: &mut EndlessFeed<PastLimit>) {
     for record in 1..=LIMIT {
@@ -92,19 +100,18 @@ fn a_scripts_feed_stops_at_its_limit(rt: HostRuntime) {
     for record in 1..=LIMIT {
         check_at(&rt, is_stat(feed.next()), record);
     }
-    for _ in 0..3 {
-        let is_read = is_fault(feed.next(), LIMIT + 1, FeedWord::Read);
-        check_at(&rt, is_read, LIMIT + 1);
-    }
+    check_at(&rt, is_failed(feed.next(), LIMIT + 1), LIMIT + 1);
+    check_at(&rt, is_failed(feed.next(), LIMIT + 1), LIMIT + 1);
+    check_at(&rt, is_failed(feed.next(), LIMIT + 1), LIMIT + 1);
 }
 
 #[test]
 fn an_endless_feed_ends_where_its_reader_does(rt: HostRuntime) {
     let mut feed = EndlessFeed::over(rt.alloc(), PastLimit::new(None));
     goes_on(&rt, &mut feed);
-    for _ in 0..3 {
-        check_at(&rt, matches!(feed.next(), Ok(None)), LIMIT + 3);
-    }
+    check_at(&rt, is_end(feed.next()), LIMIT + 3);
+    check_at(&rt, is_end(feed.next()), LIMIT + 3);
+    check_at(&rt, is_end(feed.next()), LIMIT + 3);
 }
 
 #[test]
@@ -112,8 +119,7 @@ fn an_endless_feed_stops_where_a_read_fails(rt: HostRuntime) {
     let reader = PastLimit::new(Some(ErrorKind::BrokenPipe));
     let mut feed = EndlessFeed::over(rt.alloc(), reader);
     goes_on(&rt, &mut feed);
-    for _ in 0..3 {
-        let is_read = is_fault(feed.next(), LIMIT + 3, FeedWord::Read);
-        check_at(&rt, is_read, LIMIT + 3);
-    }
+    check_at(&rt, is_failed(feed.next(), LIMIT + 3), LIMIT + 3);
+    check_at(&rt, is_failed(feed.next(), LIMIT + 3), LIMIT + 3);
+    check_at(&rt, is_failed(feed.next(), LIMIT + 3), LIMIT + 3);
 }

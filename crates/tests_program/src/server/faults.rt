@@ -60,11 +60,12 @@ fn fills_each_writer(
 
 #[test]
 fn writes_the_bytes_that_a_writer_takes(rt: HostRuntime) {
-    for fails in [true, false] {
-        fills_each_writer(&rt, FIRST, FIRST_TEXT, fails);
-        fills_each_writer(&rt, HELD, HELD_TEXT, fails);
-        fills_each_writer(&rt, REFUSED, REFUSED_TEXT, fails);
-    }
+    fills_each_writer(&rt, FIRST, FIRST_TEXT, true);
+    fills_each_writer(&rt, HELD, HELD_TEXT, true);
+    fills_each_writer(&rt, REFUSED, REFUSED_TEXT, true);
+    fills_each_writer(&rt, FIRST, FIRST_TEXT, false);
+    fills_each_writer(&rt, HELD, HELD_TEXT, false);
+    fills_each_writer(&rt, REFUSED, REFUSED_TEXT, false);
 }
 
 const FIRST_COUNTED: Summary = Summary {
@@ -79,22 +80,23 @@ const REFUSED_COUNTED: Summary = Summary {
     pending: 1,
 };
 
+// Into a writer that takes a byte a call.
+fn runs_by_bytes(
+    rt: &(impl Abort + AllocGlobal + Threads + Wait + Sync),
+    script: &str,
+    text: &str,
+    counted: Summary,
+) {
+    let mut writer = FakeWriter::new(text.len());
+    writer.piece = 1;
+    let script = FakeReader::whole(script);
+    runs_so(rt, script, &mut writer, Ok(counted), text);
+}
+
 #[test]
 fn writes_to_a_writer_that_takes_a_byte_a_call(rt: HostRuntime) {
-    for (script, text, counted) in [
-        (FIRST, FIRST_TEXT, FIRST_COUNTED),
-        (REFUSED, REFUSED_TEXT, REFUSED_COUNTED),
-    ] {
-        let mut writer = FakeWriter::new(text.len());
-        writer.piece = 1;
-        runs_so(
-            &rt,
-            FakeReader::whole(script),
-            &mut writer,
-            Ok(counted),
-            text,
-        );
-    }
+    runs_by_bytes(&rt, FIRST, FIRST_TEXT, FIRST_COUNTED);
+    runs_by_bytes(&rt, REFUSED, REFUSED_TEXT, REFUSED_COUNTED);
 }
 
 #[test]
@@ -154,14 +156,21 @@ fn failing(script: &str, reads: usize) -> FakeReader<'_> {
 }
 
 // Over such a reader, and a writer whose flush fails.
+fn flushes_in_vain(
+    rt: &(impl Abort + AllocGlobal + Threads + Wait + Sync),
+    reads: usize,
+    text: &str,
+) {
+    let mut writer = FakeWriter::new(usize::MAX);
+    writer.flush_fails = true;
+    let answer = Err(ServeFault::Write);
+    runs_so(rt, failing(FIRST, reads), &mut writer, answer, text);
+}
+
 #[test]
 fn tells_failed_flushes(rt: HostRuntime) {
-    for (reads, text) in [(usize::MAX, FIRST_TEXT), (0, "error 1 Read\n")] {
-        let mut writer = FakeWriter::new(usize::MAX);
-        writer.flush_fails = true;
-        let answer = Err(ServeFault::Write);
-        runs_so(&rt, failing(FIRST, reads), &mut writer, answer, text);
-    }
+    flushes_in_vain(&rt, usize::MAX, FIRST_TEXT);
+    flushes_in_vain(&rt, 0, "error 1 Read\n");
 }
 
 // Where the reader fails after so many reads, a byte each, the lines of the records whose end was read are written, and the word
