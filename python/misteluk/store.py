@@ -314,10 +314,11 @@ class Store(Generic[W, T]):
         (its text says both), and else `ProgramEnded` where the program tells of a fault."""
         lost = self._end()
         if lost:
-            raise Uncommitted(self._told_of_lost(lost), lost)
+            raise Uncommitted(f"{self._told_of_lost(lost)} (the error has them): commit or discard first", lost)
 
     def _told_of_lost(self, lost: Sequence[str]) -> str:
-        return f"{len(lost)} operations were pending and are not applied (the error has them): commit or discard first"
+        """What is known of the operations that were pending."""
+        return f"{len(lost)} operations were pending and are not applied"
 
     def _end(self) -> List[str]:
         """Ends the engine and returns what was pending. A fork ends nothing."""
@@ -362,7 +363,7 @@ class Store(Generic[W, T]):
                 warnings.warn(f"closing the store: {second}", stacklevel=2)
         else:
             if lost:
-                warnings.warn(self._told_of_lost(lost).partition(" (the")[0], stacklevel=2)
+                warnings.warn(self._told_of_lost(lost), stacklevel=2)
 
     def __del__(self) -> None:
         if not getattr(self, "_is_closed", True) and not sys.is_finalizing() and not self.engine.is_elsewhere:

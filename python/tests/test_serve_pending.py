@@ -116,6 +116,17 @@ class Pending(ServeCase):
         store.add("k", "a", "b", 5, 1)
         self.assertRaisesRegex(Uncommitted, "1 operations were pending and are not applied.*commit or discard first", store.close)
 
+    def test_an_exception_while_nobody_knows(self):
+        """The warning of a block that an exception ends says as much as `close`."""
+        server, store = self.begin(), Served(f"unix:{self.room}/socket")
+        said = "2 operations were pending.*The first 1 were sent, and whether they are in isn't known; the others aren't applied$"
+        with self.assertWarnsRegex(UserWarning, said), self.assertRaises(KeyError), store:
+            store.add("k", "a", "b", 5, 1)
+            self.unanswered(store, "applied")
+            store.add("k", "a", "c", 7, 1)
+            self.kill(server)
+            raise KeyError
+
     # A batch that is too long.
 
     def test_a_batch_that_is_too_long(self):

@@ -333,8 +333,8 @@ class Served(Store[Any, Any]):
         sent, others = self.ledger.unanswered, "; the others aren't applied"
         if not sent:
             return super()._told_of_lost(lost)
-        return (f"{len(lost)} operations were pending (the error has them). The first {sent} were sent, and whether they are in "
-                f"isn't known{others if len(lost) > sent else ''}")
+        return (f"{len(lost)} operations were pending. The first {sent} were sent, and whether they are in isn't known"
+                f"{others if len(lost) > sent else ''}")
 
     def __repr__(self) -> str:
         state = f"{self.engine.open_count} sessions open, {self.pending} pending"
