@@ -92,58 +92,38 @@ impl Clone for NamedOp {
                 target,
                 weight,
                 time,
-            } => {
-                let (kind, source, target) = copies_of(kind, source, target)?;
-                Ok(NamedOp::Insert {
-                    kind,
-                    source,
-                    target,
-                    weight: *weight,
-                    time: *time,
-                })
-            }
+            } => Ok(NamedOp::Insert {
+                kind: kind.clone()?,
+                source: source.clone()?,
+                target: target.clone()?,
+                weight: *weight,
+                time: *time,
+            }),
             NamedOp::Incr {
                 kind,
                 source,
                 target,
                 amount,
                 time,
-            } => {
-                let (kind, source, target) = copies_of(kind, source, target)?;
-                Ok(NamedOp::Incr {
-                    kind,
-                    source,
-                    target,
-                    amount: *amount,
-                    time: *time,
-                })
-            }
+            } => Ok(NamedOp::Incr {
+                kind: kind.clone()?,
+                source: source.clone()?,
+                target: target.clone()?,
+                amount: *amount,
+                time: *time,
+            }),
             NamedOp::Remove {
                 kind,
                 source,
                 target,
-            } => {
-                let (kind, source, target) = copies_of(kind, source, target)?;
-                Ok(NamedOp::Remove {
-                    kind,
-                    source,
-                    target,
-                })
-            }
+            } => Ok(NamedOp::Remove {
+                kind: kind.clone()?,
+                source: source.clone()?,
+                target: target.clone()?,
+            }),
             NamedOp::Expire { time } => Ok(NamedOp::Expire { time: *time }),
         }
     }
-}
-
-/// Copies of the names of an edge's kind and of its two ends.
-pub(crate) fn copies_of(
-    kind: &Name,
-    source: &Name,
-    target: &Name,
-) -> Result<(Name, Name, Name), AllocError>
-    ensures { IfOk result (λ copies. copies ≡ (kind.now, source.now, target.now)) }
-{
-    Ok((kind.clone()?, source.clone()?, target.clone()?))
 }
 
 /// What an operation did.

@@ -3,7 +3,6 @@
 ghost use Rattle.std.specs.Prelude.{◌≡◌};
 ghost use Rattle.graph_types.specs.declared.requests.AskError.TheVariants.{OutOfMemory};
 
-use crate::batches::copies_of;
 use crate::{Degree, List, Name};
 use std::alloc::AllocError;
 use thiserror::Error;
@@ -123,14 +122,11 @@ impl Clone for Request {
                 kind,
                 source,
                 target,
-            } => {
-                let (kind, source, target) = copies_of(kind, source, target)?;
-                Ok(Request::OneEdge {
-                    kind,
-                    source,
-                    target,
-                })
-            }
+            } => Ok(Request::OneEdge {
+                kind: kind.clone()?,
+                source: source.clone()?,
+                target: target.clone()?,
+            }),
         }
     }
 }
