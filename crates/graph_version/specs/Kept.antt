@@ -1,6 +1,6 @@
 -- What a version keeps beside its batches and rows: what it began with, two books of names, and how many edges there are.
 use Rattle.std.specs.{Prelude.{◌≡◌, ℕ, List, Bool}, Arc.arc_value, FinMap.len}
-use Rattle.graph_types.specs.{Limits.LimitsView, Graph.{Graph, graph_in}, declared.batches.NamedOp.NamedOp}
+use Rattle.graph_types.specs.{Graph.{Graph, graph_in}, declared.batches.NamedOp.NamedOp}
 use Rattle.edge_block.specs.Slots.{BlockView}
 use Rattle.vertex_names.specs.Book.{Book}
 use Rattle.graph_version.specs.{Versions.{VersionView, content, IsVersion}, declared.listed.ListedContent.ListedContent}

@@ -9,7 +9,7 @@ block_value block = arc_value {X = Block} block
 abbrev pub block_values : List (Arc Block Global) → List BlockView
 block_values blocks = map block_value blocks
 
-abbrev pub row_values : Blocks → List BlockView
-row_values Empty = []
-row_values (One block) = block_value block ∷ []
-row_values (Many blocks) = block_values (arc_value {X = Vec (Arc Block Global) Global} blocks).items
+abbrev pub row_block_values : Blocks → List BlockView
+row_block_values Empty = []
+row_block_values (One block) = block_value block ∷ []
+row_block_values (Many blocks) = block_values (arc_value {X = Vec (Arc Block Global) Global} blocks).items

@@ -3,7 +3,7 @@
 ghost use Rattle.std.specs.Prelude.{◌≡◌, [], IfOk, false};
 ghost use Rattle.std.specs.Option.{option_to_list};
 ghost use Rattle.edge_block.specs.Slots.{has_before};
-ghost use Rattle.version_pages.specs.Sharing.{block_values, row_values};
+ghost use Rattle.version_pages.specs.Sharing.{block_values, row_block_values};
 ghost use Rattle.version_pages.specs.Ages.{is_old_row};
 
 use edge_block::Block;
@@ -23,7 +23,7 @@ pub(crate) enum Blocks {
 impl Blocks {
     /// The same blocks, shared.
     fn share(&self) -> Result<Blocks, AllocError>
-        ensures { IfOk result (λ row. row_values row ≡ row_values self.now) }
+        ensures { IfOk result (λ row. row_block_values row ≡ row_block_values self.now) }
     {
         match self {
             Blocks::Empty => Ok(Blocks::Empty),
@@ -34,7 +34,7 @@ impl Blocks {
 
     /// All of them.
     fn as_slice(&self) -> &[Arc<Block>]
-        ensures { block_values result.now ≡ row_values self.now }
+        ensures { block_values result.now ≡ row_block_values self.now }
     {
         match self {
             Blocks::Empty => &[],
@@ -46,7 +46,7 @@ impl Blocks {
 
 /// These blocks, without a list where they are few.
 fn listed(alloc: Global, mut blocks: Vec<Arc<Block>>) -> Result<Blocks, AllocError>
-    ensures { IfOk result (λ row. row_values row ≡ block_values blocks.items) }
+    ensures { IfOk result (λ row. row_block_values row ≡ block_values blocks.items) }
 {
     if blocks.len() > 1 {
         return Ok(Blocks::Many(Arc::new(alloc, blocks)?));
@@ -114,14 +114,14 @@ impl Drop for Row {
 impl Model for Row {
     ghost use Rattle.std.specs.Prelude.{◌≡◌, List, false};
     ghost use Rattle.edge_block.specs.Slots.{BlockView};
-    ghost use Rattle.version_pages.specs.Sharing.{row_values};
+    ghost use Rattle.version_pages.specs.Sharing.{row_block_values};
     ghost use Rattle.version_pages.specs.Ages.{is_old_row};
 
     ghost Value = { List BlockView };
 
-    ghost view = { λ row. row_values row.blocks };
+    ghost view = { λ row. row_block_values row.blocks };
 
-    ghost invariant = { λ row. is_old_row row.since (row_values row.blocks) ≡ false };
+    ghost invariant = { λ row. is_old_row row.since (row_block_values row.blocks) ≡ false };
 }
 
 impl Clone for Row {
