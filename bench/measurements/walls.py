@@ -1,7 +1,7 @@
 """The C library's store at the greatest of its limits, and one past each: a refusal has its code and leaves counts, edges and
-batch as they were, and what the limit allows is taken and read back, each edge and degree compared with numpy. Names: 8,388,606 of
-one kind, 131,071 of 64, and few; a hub of 2^22 edges of the greatest weight; blocks, batches, operations, holds, names' bytes and
-times.
+batch as they were, and what the limit allows is taken and read back, each edge and degree compared with numpy. There are as many
+names as one kind allows, as 64 allow, and few; a hub of 2^22 edges of the greatest weight; blocks, batches, operations, holds,
+names' bytes and times.
 
     python3 -m bench run walls                      all
     python3 -m bench run walls --only hub kinds     these parts
