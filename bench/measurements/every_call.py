@@ -1,7 +1,7 @@
-"""Each call of the C library once over a store of 2^20 names and 10,000,000 insertions, of which each answer is compared with that
-of numpy, scipy and igraph over the same columns. A call that is right over a small store, and gives up or errs over a large one,
-is found here alone. It fails where an answer differs, where a refusal has another code or changes the store, and where a function
-of include/misteluk.h isn't called.
+"""Each call of the C library once over a store of 2^20 names and 10,000,000 insertions. Each answer is compared with that of numpy,
+scipy and igraph over the same columns. A call that is right over a small store, and gives up or errs over a large one, is found
+here alone. It fails where an answer differs, where a refusal has another code, and where a function of include/misteluk.h isn't
+called.
 
     python3 -m bench run every_call
     python3 -m bench run every_call --scale 12 --edges 60000                          the same over a small store, in seconds
@@ -32,7 +32,7 @@ def options(parser: argparse.ArgumentParser) -> None:
 
 class Run(Loaded):
     def ask(self) -> None:
-        """The version as it was loaded, by each view: all edges, those of a kind, and those that were touched in the second half."""
+        """The version as it was loaded, by each view: all edges, those of a kind, and those of the second half."""
         self.version, self.held = self.call.hold(self.desk)
         it, late = Asked(self.checks, self.call, self.version, self.wanted), View(0, (self.edges // 2, self.edges))
         it.sizes(self.call.stat(self.desk).version, self.names, 2)
@@ -71,7 +71,8 @@ class Run(Loaded):
 
     def change_more(self) -> None:
         """A sixteenth of all edges, at most 2^20, is removed in one batch."""
-        it, most = Changed(self.call, self.names, self.after, self.edges + 6), min(len(self.after) // 16, interface.MOST_OPERATIONS)
+        it = Changed(self.call, self.names, self.after, self.edges + 6)
+        most = min(len(self.after) // 16, interface.MOST_OPERATIONS)
         it.columns(interface.REMOVE, numpy.arange(most) * 16, interface.MOST_OPERATIONS)
         self.checks.equal("operations of the batch", self.call.length(it.batch), most)
         self.apply(it, (0, 0, most, 0, 0, 0))

@@ -93,7 +93,8 @@ def shown(value: Any) -> str:
 
 def in_own_process(shape: str, scale: int, edges: int, endless: bool) -> Figures:
     print(shape, scale, edges, file=sys.stderr)
-    words = [sys.executable, "-m", "bench", "run", "scale", "--json", shape, str(scale), str(edges), *(["--endless"] if endless else [])]
+    words = [sys.executable, "-m", "bench", "run", "scale", "--json", shape, str(scale), str(edges)]
+    words += ["--endless"] if endless else []
     done = subprocess.run(words, cwd=TOP, stdout=subprocess.PIPE, text=True)
     if done.returncode:
         sys.exit(done.returncode)
