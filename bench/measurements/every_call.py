@@ -1,7 +1,7 @@
-"""Each call of the C library once over a store of 2^20 names and 10,000,000 insertions. Each answer is compared with that of numpy,
-scipy and igraph over the same columns. A call that is right over a small store, and gives up or errs over a large one, is found
-here alone. It fails where an answer differs, where a refusal has another code, and where a function of include/misteluk.h isn't
-called.
+"""Each call of the C library once over a store of 2^20 names and 10,000,000 insertions. Each answer is compared with that of
+numpy, scipy and igraph over the same columns. A call that is right over a small store, and gives up or errs over a large one, is
+found here alone. It fails where an answer differs, where a refusal has another code, and where a function of include/misteluk.h
+isn't called.
 
     python3 -m bench run every_call
     python3 -m bench run every_call --scale 12 --edges 60000                          the same over a small store, in seconds

@@ -25,10 +25,11 @@ from misteluk.engine.interface import Code
 
 # Limits of the header: names with one kind, names whatever the kinds, names times kinds, kinds, blocks.
 NAMES, MOST_NAMES, PRODUCT, KINDS, BLOCKS = 8_388_606, 67_108_863, 8_388_606, 64, 4_293_918_719
-HUB, ROWS = 1 << 22, 1 << 20
 
 
 class Walls(SmallWalls):
+    edges, rows = 1 << 22, 1 << 20
+
     def opening(self) -> None:
         """Which limits and blocks a desk opens with."""
         for limits in ((MOST_NAMES, 0, 1), (NAMES, 1, 1), (PRODUCT // KINDS, KINDS, 1), (0, KINDS, (1 << 32) - 1)):
@@ -53,22 +54,23 @@ class Walls(SmallWalls):
         Full(self, 40, b"ef").run()
 
     def hub(self) -> None:
-        Hub(self, HUB).run()
+        Hub(self, self.edges).run()
 
     def blocks(self) -> None:
         """A row in each block: one more row, or another weight, is refused; with a block more the row is taken."""
-        names, sources = Names(ROWS + 1), numpy.arange(ROWS, dtype="u4")
-        for blocks in (ROWS, ROWS + 1):
-            it = self.opened(ROWS + 1, 1, (1 << 32) - 1, blocks)
-            self.checks.equal("rows", it.load(b"e", names, sources, numpy.roll(sources, 1)), (ROWS, 0))
-            self.checks.equal("blocks that are free", self.call.stat(it.desk).blocks_free, blocks - ROWS)
-            if blocks == ROWS:
-                it.insert(b"e", b"v0", b"v%d" % (ROWS - 1), 2)
+        rows = self.rows
+        names, sources = Names(rows + 1), numpy.arange(rows, dtype="u4")
+        for blocks in (rows, rows + 1):
+            it = self.opened(rows + 1, 1, (1 << 32) - 1, blocks)
+            self.checks.equal("rows", it.load(b"e", names, sources, numpy.roll(sources, 1)), (rows, 0))
+            self.checks.equal("blocks that are free", self.call.stat(it.desk).blocks_free, blocks - rows)
+            if blocks == rows:
+                it.insert(b"e", b"v0", b"v%d" % (rows - 1), 2)
                 it.apply_refused("another weight", Code.BLOCKS_FULL)
-                columns = one_edge(ROWS, 0)
+                columns = one_edge(rows, 0)
                 self.checks.equal("by columns", it.insert_columns(b"e", names, *columns), (Code.BLOCKS_FULL.name, 0))
-            it.insert(b"e", b"v%d" % ROWS, b"v0")
-            if blocks == ROWS:
+            it.insert(b"e", b"v%d" % rows, b"v0")
+            if blocks == rows:
                 it.apply_refused("one row more", Code.BLOCKS_FULL)
             else:
                 self.checks.equal("a row in the last block", it.apply()[1], 1)
@@ -80,12 +82,15 @@ PARTS = ["opening", "few", "names", "kinds", "hub", "blocks", "batches", "operat
 
 def options(parser: argparse.ArgumentParser) -> None:
     parser.add_argument("--only", nargs="+", choices=PARTS, default=PARTS, metavar="PART", help=f"some of {', '.join(PARTS)}")
+    parser.add_argument("--hub", type=int, default=22, metavar="POWER", help="2 to this power edges has the hub (22)")
+    parser.add_argument("--rows", type=int, default=20, metavar="POWER", help="the same of rows that fill all blocks (20)")
     parser.add_argument("--wrong", default="", metavar="FUNCTION", help="one that is not called, and said to be OK")
 
 
 def measure(words: argparse.Namespace, _: pathlib.Path) -> int:
     checks = Checks()
     walls = Walls(checks, Caller(calls.loaded(), words.wrong))
+    walls.edges, walls.rows = 1 << words.hub, 1 << words.rows
     for name in words.only:
         checks.part(name, getattr(walls, name))
     return checks.status()

@@ -15,7 +15,7 @@ config true true false
 board 3 true 0 0 5 true
 copy 5 9 5 true false true
 pins 0 7
-block 7 5 2 32 false true 31
+block 8 5 2 32 false true 31
 block true false 4 25 51 true false
 block 4 1914 27
 list 3 false 5 12 true 3

@@ -19,7 +19,7 @@ WEIGHT = 1 << 40
 def columns(kind: int, sources: Any, targets: Any, weights: Any) -> Any:
     """What a load of the kind leaves, of edges that each come once; their times are their places."""
     times = numpy.arange(len(sources), dtype="u8")
-    return numpy.full(len(sources), kind, "u4"), sources, targets, weights, times, times
+    return numpy.full(len(sources), kind, "u4"), sources, targets, weights, times, times.copy()
 
 
 class Full:
