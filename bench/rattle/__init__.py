@@ -18,7 +18,7 @@ COMPILE = """import pathlib, sys
 sys.path.insert(0, "tools")
 import programs
 made, name = pathlib.Path(sys.argv[1]), sys.argv[2]
-programs.main(lambda: programs.make(programs.Program(made, name, "src"), "compiling", programs.compiled))"""
+programs.main(lambda *_: programs.make(programs.Program(made, name, "src"), "compiling", programs.compiled))"""
 # It may wait, as a program does that shares a store; nobody judges the number here.
 ROW = "{name} may_wait=16: misteluk anyhow\n"
 
