@@ -34,11 +34,12 @@ class Walls(SmallWalls):
         """Which limits and blocks a desk opens with."""
         for limits in ((MOST_NAMES, 0, 1), (NAMES, 1, 1), (PRODUCT // KINDS, KINDS, 1), (0, KINDS, (1 << 32) - 1)):
             for blocks in (16, BLOCKS):
-                self.opened(*limits, blocks).free()
-                self.checks.equal(f"{limits} and {blocks} blocks", True, True)
+                it = self.opened(*limits, blocks)
+                self.checks.equal(f"{limits}: blocks that are free", self.call.stat(it.desk).blocks_free, blocks)
+                it.free()
         past = (MOST_NAMES + 1, 0), (MOST_NAMES, 1), (NAMES + 1, 1), (PRODUCT // KINDS + 1, KINDS), (1, KINDS + 1)
-        for limits in past:
-            self.checks.refused(f"{limits}", Code.BAD_LIMITS, self.call.opened, *limits, 1, 16)
+        for names, kinds in past:
+            self.checks.refused(f"{names} names, {kinds} kinds", Code.BAD_LIMITS, self.call.opened, names, kinds, 1, 16)
         for blocks in (15, BLOCKS + 1):
             self.checks.refused(f"{blocks} blocks", Code.BAD_BLOCKS, self.call.opened, 1, 1, 1, blocks)
         for blocks in (15, 65_537):
