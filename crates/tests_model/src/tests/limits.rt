@@ -4,27 +4,11 @@ ghost use Rattle.graph_types.specs.Graph.{IsContentIn};
 
 use super::checks::same;
 use super::graphs::{check_left, empty};
-use super::values::{LineError, batch};
+use super::values::batch;
 use graph_model::plain_apply_in;
 use graph_types::{Content, Limits};
 use std::alloc::Global;
 use std::process::Abort;
-
-const WITHIN: [(u32, u32, u32); 6] = [
-    (0, 0, 0),
-    (3, 2, 2),
-    (65_536, 64, 65_536),
-    (131_071, 64, 1),
-    (67_108_863, 0, 1),
-    (8_388_606, 1, 4_294_967_295),
-];
-
-const PAST: [(u32, u32, u32); 4] = [
-    (67_108_864, 0, 1),
-    (1, 65, 1),
-    (8_388_607, 1, 1),
-    (131_072, 64, 1),
-];
 
 // The limits of these numbers, as they tell them.
 fn told(limits: (u32, u32, u32)) -> Option<(u32, u32, u32)> {
@@ -34,14 +18,26 @@ fn told(limits: (u32, u32, u32)) -> Option<(u32, u32, u32)> {
     }
 }
 
+fn is_within(rt: &impl Abort, limits: (u32, u32, u32)) {
+    same(rt, told(limits), Some(limits));
+}
+
+fn is_past(rt: &impl Abort, limits: (u32, u32, u32)) {
+    same(rt, told(limits), None);
+}
+
 #[test]
 fn limits_keep_to_the_walls(rt: HostRuntime) {
-    for limits in WITHIN {
-        same(&rt, told(limits), Some(limits));
-    }
-    for limits in PAST {
-        same(&rt, told(limits), None);
-    }
+    is_within(&rt, (0, 0, 0));
+    is_within(&rt, (3, 2, 2));
+    is_within(&rt, (65_536, 64, 65_536));
+    is_within(&rt, (131_071, 64, 1));
+    is_within(&rt, (67_108_863, 0, 1));
+    is_within(&rt, (8_388_606, 1, 4_294_967_295));
+    is_past(&rt, (67_108_864, 0, 1));
+    is_past(&rt, (1, 65, 1));
+    is_past(&rt, (8_388_607, 1, 1));
+    is_past(&rt, (131_072, 64, 1));
     same(
         &rt,
         Limits::new(65_536, 64, 65_536).ok(),
@@ -55,47 +51,37 @@ fn check_under(
     alloc: Global,
     limits: Limits,
     content: &mut Content,
-    line: (&str, &str),
-) -> Result<(), LineError>
+    ops: &str,
+    wanted: &str,
+)
     requires { IsContentIn limits content.old }
     ensures { IsContentIn limits content.new }
 {
-    let batch = batch(alloc, line.0)?;
+    let batch = batch(alloc, ops).expect(rt, ops);
     let told = plain_apply_in(alloc, limits, content, &batch);
-    check_left(rt, alloc, &told, content, line.1)
+    check_left(rt, alloc, &told, content, wanted).expect(rt, ops);
 }
 
 // Batches under three names and two kinds: the limit on names goes before that on kinds, and a refused batch changes nothing.
-const TINY: [(&str, &str); 5] = [
-    (
-        "i,k,a,b,1,1 i,l,b,c,1,1",
-        "Inserted Inserted names a b c kinds k l edges 2",
-    ),
-    (
-        "i,k,a,c,1,1 i,k,c,d,1,1",
-        "NamesFull names a b c kinds k l edges 2",
-    ),
-    ("i,m,a,b,1,1", "KindsFull names a b c kinds k l edges 2"),
-    ("i,m,c,d,1,1", "NamesFull names a b c kinds k l edges 2"),
-    (
-        "i,k,c,a,1,1 r,m,a,d",
-        "Inserted Absent names a b c kinds k l edges 3",
-    ),
-];
-
 #[tactic(auto, using(graph_types::proofs::Empty::empty_content))]
-fn check_tiny(rt: &impl Abort, alloc: Global) -> Result<(), LineError> {
-    let Ok(limits) = Limits::new(3, 2, 2) else {
-        return Err(LineError::Wrong);
-    };
+fn check_tiny(rt: &impl Abort, alloc: Global, limits: Limits) {
     let mut content = empty(alloc);
-    for line in TINY {
-        check_under(rt, alloc, limits, &mut content, line)?;
-    }
-    Ok(())
+    let two = "i,k,a,b,1,1 i,l,b,c,1,1";
+    let left = "Inserted Inserted names a b c kinds k l edges 2";
+    check_under(rt, alloc, limits, &mut content, two, left);
+    let full = "NamesFull names a b c kinds k l edges 2";
+    let names = "i,k,a,c,1,1 i,k,c,d,1,1";
+    check_under(rt, alloc, limits, &mut content, names, full);
+    let left = "KindsFull names a b c kinds k l edges 2";
+    check_under(rt, alloc, limits, &mut content, "i,m,a,b,1,1", left);
+    check_under(rt, alloc, limits, &mut content, "i,m,c,d,1,1", full);
+    let last = "i,k,c,a,1,1 r,m,a,d";
+    let left = "Inserted Absent names a b c kinds k l edges 3";
+    check_under(rt, alloc, limits, &mut content, last, left);
 }
 
 #[test]
 fn batches_meet_tiny_limits(rt: HostRuntime) {
-    check_tiny(&rt, rt.alloc()).expect(&rt, "memory for five batches");
+    let limits = Limits::new(3, 2, 2).ok().expect(&rt, "limits");
+    check_tiny(&rt, rt.alloc(), limits);
 }
