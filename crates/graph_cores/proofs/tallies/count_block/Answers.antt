@@ -30,11 +30,11 @@ count_edge-requires-clause-target c =
     (edges_left c.next.new.self) (lent_edge c.in-Some.edge) c.in-Some.ensures.steps c.loop-edge.auto.table c.requires
     c.loop-edge.invariant.begun).target
 
-pub count_edge-requires-clause-limits : goal.count_edge-requires-clause-limits
-count_edge-requires-clause-limits c =
+pub count_edge-requires-clause-room : goal.count_edge-requires-clause-room
+count_edge-requires-clause-room c =
     (next_room c.args.view.now c.args.block.now c.args.table.now c.loop-edge.table (edges_left c.loop-edge.edge-iterator)
     (edges_left c.next.new.self) (lent_edge c.in-Some.edge) c.in-Some.ensures.steps c.loop-edge.auto.table c.requires
-    c.loop-edge.invariant.begun).limits
+    c.loop-edge.invariant.begun).room
 
 pub loop-edge-preserved : goal.loop-edge-preserved
 loop-edge-preserved c =
