@@ -3,7 +3,7 @@ use Rattle.std.proofs.Common.{◌≡◌, ℕ, ◌+◌, ◌<◌, ◌≤◌, Bool,
 use Rattle.std.proofs.Common.{replicate, map, pos, nat_abs, ◌+ℤ◌, sym, ap, ◌∙◌, arith}
 use Rattle.std.proofs.lemmas.List.{get_or-take, length-take, take_all}
 use Rattle.std.proofs.lemmas.List.{FromFn.fill_by_all, Elements.All-take}
-use Rattle.std.specs.Prelude.{filter, fold}
+use Rattle.std.specs.Prelude.{filter, fold, All}
 use Rattle.std.proofs.lemmas.Grind.{common_steps}
 use Rattle.graph_types.specs.Graph.{graph_of, key_of, entry_of, IsContent, IsEdgeWithin}
 use Rattle.graph_types.specs.{View.in_view, Answer.degree_at, Answer.degree_table}
