@@ -11,7 +11,8 @@
  * changes, whatever is applied after it. A handle begins as {0}, and holds nothing then.
  *
  * What a caller owes: each pointer leads to as much memory as the length beside it says, and is not NULL, also where the length
- * is 0; no two pointers of a call overlap; one call at a time for each handle, on any thread; a handle is not copied and used
+ * is 0; what a pointer without const leads to overlaps nothing else that the call is given (const ones may be the same, as one
+ * text for a loop's source and target); one call at a time for each handle, on any thread; a handle is not copied and used
  * twice, and not used in a forked child. Each length counts items of the array, not bytes. All else is tested inside: texts,
  * numbers, lengths, and whether a handle holds anything.
  *

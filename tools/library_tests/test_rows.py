@@ -130,6 +130,14 @@ class Rows(unittest.TestCase):
         self.assertEqual(version.cores(window), [1, 1])
         self.assertEqual(version.kind_names(), [b"k", b"m"])
 
+    def test_inputs_that_are_one_memory(self) -> None:
+        """Kind, source and target are one text at one address, as C.md allows for what a call only reads."""
+        desk, name = self.open(), b"ulm"
+        self.batch.insert(name, name, name, 7, 1)
+        self.batch.add(name, name, name, 4, 9)
+        self.assertEqual(self.commit(desk), (1, 1, 1, 0, 0, 0))
+        self.assertEqual(self.edge(self.hold(desk), "ulm", "ulm", "ulm"), (11, 1, 9))
+
     def test_a_removal_makes_no_name(self) -> None:
         desk = self.open()
         self.assertEqual(self.commit(desk, "r,k,a,b"), (1, 0, 0, 0, 1, 0))
