@@ -1,4 +1,4 @@
-"""Calls of the C library by ctypes: what `library` and `scale` share."""
+"""Calls of the C library by ctypes: what `library`, `scale`, `walls` and `every_call` share."""
 from __future__ import annotations
 
 import array
@@ -11,6 +11,14 @@ from misteluk.engine.interface import ANY_KIND, Code, Library
 
 # All times and all kinds.
 VIEW = interface.View(0, (1 << 64) - 1, ANY_KIND)
+
+
+class Refused(Exception):
+    """A code that isn't OK, where the caller goes on."""
+
+    def __init__(self, code: Code) -> None:
+        super().__init__(code.name)
+        self.code = code
 
 
 def loaded() -> Any:

@@ -65,6 +65,11 @@ def every() -> Iterator[Measurement]:
     yield Measurement("library", "How fast is the C library, compared with igraph and networkx in the same process?", 3, (),
                       ("igraph", "networkx"))
     yield Measurement("scale", "How do time and memory of the C library grow, up to a million names?", 8, ("numpy",))
+    yield Measurement("walls", "Is a store right at its greatest limits, and does it refuse what is past them?", 4, ("numpy",))
+    yield Measurement("every_call", "Is each call of the C library right over a million names and ten million edges?", 5,
+                      ("numpy", "scipy", "igraph"))
+    yield Measurement("facade", "The same of each public call of the library in Rattle: is it right over as many?", 10,
+                      ("numpy", "scipy", "igraph"))
     yield Measurement("client", "How fast is the client in Python, compared with other packages over one file?", 5, (),
                       ("igraph", "graph_tool", "scipy", "networkx", "pandas"))
     yield Measurement("analyst", "Do three whole tasks of an analyst give what pandas and networkx give, and in what time?", 2,

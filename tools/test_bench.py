@@ -26,8 +26,10 @@ from unittest import mock
 sys.dont_write_bytecode = True
 TOP = pathlib.Path(__file__).resolve().parent.parent
 sys.path[:0] = [str(TOP), str(TOP / "python")]
-from bench import measuring, needs, readme, scripts, soaking, tables  # noqa: E402
+from bench import measuring, needs, rattle, readme, scripts, soaking, tables  # noqa: E402
+from bench.calls import Code, Refused  # noqa: E402
 from bench.catalog import CATALOG, Measurement  # noqa: E402
+from bench.checks import Checks  # noqa: E402
 from bench.measurements import costs, quiet  # noqa: E402
 
 # A measurement is a module of fewer lines than these.
@@ -203,6 +205,76 @@ class Measuring(unittest.TestCase):
         for command, told in ends.items():
             self.assertEqual(quiet.run_within(["sh", "-c", command], to, 1, ""), told)
         self.assertIn("not here\n", to.read_text())
+
+
+def refuse(code: Code) -> None:
+    if code != Code.OK:
+        raise Refused(code)
+
+
+class Checking(unittest.TestCase):
+    """What compares a large store counts each difference, and ends in status 1 then."""
+
+    def setUp(self) -> None:
+        self.checks, self.said = Checks(), io.StringIO()
+        for it in (redirect_stdout(self.said), redirect_stderr(io.StringIO())):
+            it.__enter__()
+            self.addCleanup(it.__exit__, None, None, None)
+
+    def counts(self, passed: int, failed: int) -> None:
+        self.assertEqual((self.checks.passed, self.checks.failed), (passed, failed), self.said.getvalue())
+        self.assertEqual(self.checks.status(), 1 if failed else 0)
+
+    def test_equal(self) -> None:
+        for one, other in ((1, 1), ((1, [2, 3]), (1, (2, 3))), ("OK", "OK")):
+            self.checks.equal("it", one, other)
+        self.counts(3, 0)
+
+    def test_different(self) -> None:
+        pairs: List[Tuple[object, object]] = [(1, 2), ((1, [2, 3]), (1, (2, 4))), ([1], [1, 1]), ((), None), ("OK", "MEMORY")]
+        for one, other in pairs:
+            self.checks.equal("it", one, other)
+        self.counts(0, len(pairs))
+        self.assertIn("FAILED  it: 1, and not 2\n", self.said.getvalue())
+
+    @unittest.skipUnless(importlib.util.find_spec("numpy"), "numpy is not there")
+    def test_arrays(self) -> None:
+        numpy = importlib.import_module("numpy")
+        some = numpy.arange(5, dtype="u4")
+        for other in (numpy.arange(5), list(range(5))):
+            self.checks.equal("it", (7, some), (7, other))
+        self.counts(2, 0)
+        for other in (numpy.arange(4), numpy.arange(6), some[::-1], None, 0):
+            self.checks.equal("it", some, other)
+        self.counts(2, 5)
+
+    def test_refusals(self) -> None:
+        """Only the code that is wanted is right."""
+        self.checks.refused("it", Code.NO_SEAT, refuse, Code.NO_SEAT)
+        self.counts(1, 0)
+        for code in (Code.OK, Code.MEMORY):
+            self.checks.refused("it", Code.NO_SEAT, refuse, code)
+        self.counts(1, 2)
+
+    def test_parts(self) -> None:
+        """A part that compares nothing, or ends early, fails."""
+        self.checks.part("right", lambda: self.checks.equal("it", 1, 1))
+        self.counts(2, 0)
+        self.checks.part("empty", lambda: None)
+        self.counts(2, 1)
+        self.checks.part("refused", lambda: refuse(Code.MEMORY))
+        self.assertIn("MEMORY", self.said.getvalue())
+        self.assertEqual(self.checks.status(), 1)
+
+    def test_public_calls(self) -> None:
+        """The calls of the library in Rattle are read from the sources, and one that a text lacks is seen."""
+        calls = set(rattle.public_calls())
+        known = {("Store", "open", False), ("Store", "apply", True), ("", "answer", False), ("Gate", "arrive", True)}
+        self.assertLessEqual(known, calls)
+        text = "let it = Store::open(rt)?.named::<Brand>(); it.apply(rt, batch)?; answer(alloc, version)"
+        called = {it for it in known | {("Opened", "named", True), ("Desk", "open", False), ("Seat", "pin", True)}
+                  if rattle.is_called(text, *it)}
+        self.assertEqual(called, known - {("Gate", "arrive", True)} | {("Opened", "named", True)})
 
 
 class Degrees(Dict[str, int]):

@@ -1,6 +1,6 @@
 """`stinger run` next to a plain store of hash maps in Rust (bench/rust/map_store.rs), on the same scripts: a load of 917,504
-insertions, the four requests over the graph that it leaves and over a tree with 1.5 edges a block, a hub of 60,000 edges, 65,536
-empty commits, and memory.
+insertions, the four requests over the graph that it leaves, the same for a tree with 1.5 edges a block, a hub of 60,000 edges,
+65,536 empty commits, and memory.
 
 Processor time of whole processes that take turns, five times each, medians. A request's time is that of a script with fifty of
 it, less that of the script without, by fifty, and the load's is less that of a script without records: `lost` where none is left.
@@ -93,6 +93,7 @@ def everything(it: Comparison) -> None:
     it.add("load", {name: spent.processor - start[name].processor for name, spent in rmat.items()}, is_of_mean=True)
     requests(it, "rmat", "", rmat, True)
     it.add("memory", {name: peak(words, it.script("rmat")) / 2**20 for name, words in it.stores.items()}, "MB")
+    it.add("sparse load", {name: spent.processor - start[name].processor for name, spent in tree.items()})
     requests(it, "sparse", "sparse ", tree, False)
     it.add("hub", it.times(it.script("hub"), start))
     it.add("empty commits", {name: spent.processor for name, spent in it.measure(it.script("empty")).items()})

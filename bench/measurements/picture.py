@@ -13,7 +13,7 @@ from bench.measuring import stop
 
 NAMES = {"maps": "store of maps", "third": "the same shape in Rust", "stinger": "stinger run"}
 WORKS = {"bfs": "levels", "comp": "labels", "core": "core numbers", "deg": "degrees"}
-WORKS |= {f"sparse {word}": f"{name}, a tree" for word, name in WORKS.items()}
+WORKS |= {f"sparse {word}": f"{name}, a tree" for word, name in WORKS.items()} | {"sparse load": "load, a tree"}
 COLORS = {"maps": "#7f7f7f", "third": "#1f77b4", "stinger": "#d62728"}
 LEFT, RIGHT, TOP, ROW, WIDTH = 190, 24, 64, 26, 760
 Row = Tuple[str, Dict[str, float]]

@@ -4,6 +4,7 @@ edge, a version, a batch of one, each question, and a rebase.
     python3 -m bench run scale                      each shape at 2^14, 2^16, 2^18 and 2^20 names
     python3 -m bench run scale rmat 20 16000000     one shape, between 2^20 names, with so many insertions
     python3 -m bench run scale --scales 18          each shape at 2^18 names
+    python3 -m bench run scale --endless rmat 22 64000000    a store that keeps no batches, for graphs that fill the memory
 
 Shapes: `rmat` (Chakrabarti, Zhan, Faloutsos 2004: .57 .19 .19 .05), `transfers` (three edges a source, at random), `ordered`
 (four edges a source, the sources in order). Each runs in a process of its own, so that memory is its own. Memory is what is
@@ -33,6 +34,7 @@ Figures = Dict[str, Any]
 def options(parser: argparse.ArgumentParser) -> None:
     parser.add_argument("run", nargs="*", metavar="SHAPE SCALE EDGES", help=f"one run; shapes are {', '.join(SHAPES)}")
     parser.add_argument("--scales", type=int, nargs="+", default=[14, 16, 18, 20], help="powers of two of names (14 16 18 20)")
+    parser.add_argument("--endless", action="store_true", help="the store keeps no batches: it takes a fraction of the memory")
     parser.add_argument("--json", action="store_true", help="the figures of one run, in this process, as JSON")
 
 
@@ -63,10 +65,10 @@ def questions(store: Store, library: Any) -> Figures:
     return found
 
 
-def measured(shape: str, scale: int, edges: int) -> Figures:
+def measured(shape: str, scale: int, edges: int, endless: bool) -> Figures:
     columns, library = columns_of(shape, scale, edges), loaded()
     before = resident()
-    store = Store(library, scale, edges)
+    store = Store(library, scale, edges, endless)
     spent = store.load(columns)
     stat, last = store.stat(), max(1, len(spent) // 8)
     store.vertices = stat.vertices
@@ -89,9 +91,10 @@ def shown(value: Any) -> str:
     return f"{value:,}" if isinstance(value, int) else f"{value:.3g}"
 
 
-def in_own_process(shape: str, scale: int, edges: int) -> Figures:
+def in_own_process(shape: str, scale: int, edges: int, endless: bool) -> Figures:
     print(shape, scale, edges, file=sys.stderr)
     words = [sys.executable, "-m", "bench", "run", "scale", "--json", shape, str(scale), str(edges)]
+    words += ["--endless"] if endless else []
     done = subprocess.run(words, cwd=TOP, stdout=subprocess.PIPE, text=True)
     if done.returncode:
         sys.exit(done.returncode)
@@ -106,9 +109,9 @@ def measure(words: argparse.Namespace, _: pathlib.Path) -> None:
             stop(f"a run is a shape ({', '.join(SHAPES)}), a power of two of names, and a number of edges")
         runs = [(words.run[0], int(words.run[1]), int(words.run[2]))]
     if words.json:
-        print(json.dumps(measured(*runs[0])))
+        print(json.dumps(measured(*runs[0], words.endless)))
         return
-    found: List[Figures] = [in_own_process(*it) for it in runs]
+    found: List[Figures] = [in_own_process(*it, words.endless) for it in runs]
     print(f"Python {sys.version.split()[0]}; load of the machine {os.getloadavg()[0]:.1f}; processor seconds\n")
     tables.show(["", *(it["shape"] for it in found)],
                 ([name, *(shown(it[name]) for it in found)] for name in list(found[0])[1:]))

@@ -9,6 +9,7 @@ import numpy
 
 from bench.calls import VIEW, must
 from misteluk.engine import interface
+from misteluk.engine.interface import Code
 
 # How many edges a vertex has in each shape, and how many are loaded in one call.
 SHAPES = {"rmat": 16, "transfers": 3, "ordered": 4}
@@ -48,13 +49,13 @@ def at(values: Any) -> int:
 
 
 class Store:
-    """A desk that is large enough for the shape, and what is asked of it."""
+    """A desk that is large enough for the shape, and what is asked of it. An endless one keeps no batches."""
 
-    def __init__(self, library: Any, scale: int, edges: int) -> None:
+    def __init__(self, library: Any, scale: int, edges: int, endless: bool = False) -> None:
         self.library, self.names, self.vertices = library, 1 << scale, 0
         self.desk, self.version, self.hold = interface.Desk(), interface.Version(), interface.Hold()
         self.counts, self.done, self.number = interface.Counts(), c_uint64(), c_uint32()
-        limits = interface.Limits(names=self.names + 2 * SINGLE + 16, kinds=4, batches=1 << 31)
+        limits = interface.Limits(names=self.names + 2 * SINGLE + 16, kinds=1, batches=(1 << 32) - 1 if endless else 1 << 31)
         must(library.desk_new_within(limits, min(edges + (1 << 17), 1 << 31), self.desk))
 
     def load(self, columns: Tuple[Any, ...]) -> List[float]:
@@ -104,8 +105,17 @@ class Store:
         must(ask(self.version, VIEW, *words, at(found), len(found)))
 
     def edges(self) -> None:
-        """All edges, 65,536 at a time."""
-        found, source, count = [numpy.zeros(STEP, it) for it in ("u4", "u4", "u4", "i8", "u8", "u8")], c_uint32(), c_uint64()
-        words = [word for it in found for word in (at(it), STEP)]
+        """All edges, 65,536 at a time, or as many as a longer row has."""
+        room, source, count = STEP, c_uint32(), c_uint64()
         while source.value < self.vertices:
-            must(self.library.version_edges(self.version, VIEW, source, *words, count))
+            found = [numpy.zeros(room, it) for it in ("u4", "u4", "u4", "i8", "u8", "u8")]
+            room = self.edges_from(source, [word for it in found for word in (at(it), room)], count)
+
+    def edges_from(self, source: c_uint32, words: List[int], count: c_uint64) -> int:
+        """Reads on while rows fit into the columns, and tells how long the next one is."""
+        code = Code.OK
+        while code == Code.OK and source.value < self.vertices:
+            code = self.library.version_edges(self.version, VIEW, source, *words, count)
+        if code != Code.BAD_LENGTH:
+            must(code)
+        return count.value

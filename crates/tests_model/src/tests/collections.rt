@@ -6,7 +6,8 @@
 use super::checks::same;
 use super::pins::{copy_of, number};
 use super::pools::{Hand, counts, freed, granted};
-use block_reclamation::PinCopy;
+use graph_model::PinCopy;
+use std::alloc::Global;
 use std::process::Abort;
 
 /// When a retired block was first listed, and when it was left out.
@@ -114,6 +115,10 @@ fn all(rt: &impl Abort, hand: &mut Hand, lines: &str) {
     counts(rt, hand, 16, 0, 0);
 }
 
+fn all_anew(rt: &impl Abort, alloc: Global, lines: &str) {
+    all(rt, &mut Hand::new(alloc).expect(rt, "a pool"), lines);
+}
+
 /// The life of two blocks.
 const TWO: &str = "grant 2
 14 2 0
@@ -212,7 +217,11 @@ collect 18446744073709551615 => 1";
 
 #[test]
 fn frees_what_no_pin_needs(rt: HostRuntime) {
-    for lines in &[TWO, NO_PIN, PINS, SEVERAL_SEATS, ONE_SEAT, UNSETTLED, LATE] {
-        all(&rt, &mut Hand::new(rt.alloc()).expect(&rt, "a pool"), lines);
-    }
+    all_anew(&rt, rt.alloc(), TWO);
+    all_anew(&rt, rt.alloc(), NO_PIN);
+    all_anew(&rt, rt.alloc(), PINS);
+    all_anew(&rt, rt.alloc(), SEVERAL_SEATS);
+    all_anew(&rt, rt.alloc(), ONE_SEAT);
+    all_anew(&rt, rt.alloc(), UNSETTLED);
+    all_anew(&rt, rt.alloc(), LATE);
 }

@@ -186,19 +186,29 @@ fn levels(alloc: Global, name: &str, level: u32) -> Result<Reply, AllocError> {
     Ok(Reply::Levels(List::of(rows)))
 }
 
+fn push_reply(rt: &impl Abort, alloc: Global, replies: &mut Vec<Reply>, place: usize) {
+    let reply = reply_at(alloc, place).expect(rt, "a reply");
+    replies.push(reply).expect(rt, "room");
+}
+
+fn check_copy(rt: &impl Abort, reply: &Reply) {
+    same(rt, reply.clone().expect(rt, "a copy") == *reply, true);
+}
+
 fn check_replies(rt: &impl Abort, replies: &[Reply]) {
     check_distinct(rt, replies);
     for reply in replies {
-        same(rt, reply.clone().expect(rt, "a copy") == *reply, true);
+        check_copy(rt, reply);
     }
 }
 
 #[test]
 fn replies_are_copied_and_compared(rt: HostRuntime) {
     let mut replies = Vec::new(rt.alloc());
-    for place in 0..5 {
-        let reply = reply_at(rt.alloc(), place).expect(&rt, "a reply");
-        replies.push(reply).expect(&rt, "room");
-    }
+    push_reply(&rt, rt.alloc(), &mut replies, 0);
+    push_reply(&rt, rt.alloc(), &mut replies, 1);
+    push_reply(&rt, rt.alloc(), &mut replies, 2);
+    push_reply(&rt, rt.alloc(), &mut replies, 3);
+    push_reply(&rt, rt.alloc(), &mut replies, 4);
     check_replies(&rt, replies.as_slice());
 }

@@ -5,7 +5,7 @@ use super::checks::{only_refused, same, tell_refused};
 use super::graphs::content_of;
 use super::texts::is_shown;
 use super::values::{batch, request};
-use graph_types::{Batch, Content, List};
+use graph_types::{Batch, List};
 use std::alloc::{AllocError, Global};
 use std::fmt::Debug;
 use std::process::Abort;
@@ -85,19 +85,17 @@ fn refused_copies_leave_the_content(rt: HostRuntime) {
     }
 }
 
-fn are_its_names(content: Content) -> bool {
-    let (names, kinds) = content.into_names();
-    matches!((names.as_slice(), kinds.as_slice()), ([ann, bob], [knows])
-        if ann.as_str() == "ann" && bob.as_str() == "bob" && knows.as_str() == "knows")
-}
+const NAMES: &str = "(List { items: [Name { text: \"ann\" }, Name { text: \"bob\" }] }, \
+    List { items: [Name { text: \"knows\" }] })";
 
 #[test]
 fn a_content_hands_out_its_names(rt: HostRuntime) {
-    let told = match content_of(rt.alloc(), BACK_IN_TIME) {
-        Ok(content) => are_its_names(content),
-        Err(_) => false,
-    };
-    same(&rt, told, true);
+    let content = content_of(rt.alloc(), BACK_IN_TIME).expect(&rt, "a content");
+    same(
+        &rt,
+        is_shown(rt.alloc(), content.into_names(), NAMES),
+        Ok(true),
+    );
 }
 
 fn list(alloc: Global) -> Result<List<i32>, AllocError> {

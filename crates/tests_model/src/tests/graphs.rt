@@ -10,8 +10,9 @@ use super::checks::{same, tell_refused};
 use super::graph_stories::{KINDS, REFUSED_STORIES, STORIES, TOO_MANY_KINDS};
 use super::texts::check_shown;
 use super::values::{LineError, batch, request};
-use graph_model::{PlainError, plain_apply, plain_reply};
-use graph_types::{AskError, Batch, Content, List, Outcome, Reply, Request};
+use graph_model::{
+    AskError, Batch, Content, List, Outcome, PlainError, Reply, Request, plain_apply, plain_reply,
+};
 use std::alloc::Global;
 use std::process::Abort;
 
@@ -161,40 +162,36 @@ fn is_refused(rt: &impl Abort, alloc: Global, content: &mut Content, line: &str)
     ensures { IsContentIn standard_limits content.new }
 {
     let before = sizes(content);
-    let told = check_line(rt, alloc, content, line);
-    if told == Ok(()) {
-        return false;
+    match check_line(rt, alloc, content, line) {
+        Ok(()) => false,
+        Err(error) => {
+            same(rt, (line, error), (line, LineError::OutOfMemory));
+            same(rt, (line, sizes(content)), (line, before));
+            true
+        }
     }
-    same(rt, (line, told), (line, Err(LineError::OutOfMemory)));
-    same(rt, (line, sizes(content)), (line, before));
-    true
 }
 
-fn is_table_refused(rt: &impl Abort, alloc: Global, content: &mut Content, table: &str) -> bool
-    requires { IsContentIn standard_limits content.old }
-{
-    for line in table.lines() {
-        if is_refused(rt, alloc, content, line) {
+// Does what the lines of stories say, each story over an empty content, and tells whether a growth was refused.
+fn are_refused(rt: &impl Abort, alloc: Global, stories: &str) -> bool {
+    let mut content = empty(alloc);
+    for line in stories.lines() {
+        if line.is_empty() {
+            content = empty(alloc);
+        } else if is_refused(rt, alloc, &mut content, line) {
             return true;
         }
     }
     false
 }
 
-// Does what the lines of a story say, over an empty content, and tells whether a growth was refused.
-fn is_story_refused(rt: &impl Abort, alloc: Global, story: &str) -> bool {
-    is_table_refused(rt, alloc, &mut empty(alloc), story)
-}
-
-fn check_story(rt: &impl Abort, alloc: Global, story: &str) {
-    assert!(rt; !is_story_refused(rt, alloc, story));
+fn check_stories(rt: &impl Abort, alloc: Global, stories: &str) {
+    assert!(rt; !are_refused(rt, alloc, stories));
 }
 
 #[test]
 fn graphs_come_to_what_their_stories_say(rt: HostRuntime) {
-    for story in STORIES.split("\n\n") {
-        check_story(&rt, rt.alloc(), story);
-    }
+    check_stories(&rt, rt.alloc(), STORIES);
 }
 
 #[test]
@@ -202,14 +199,12 @@ fn refuses_a_kind_too_many(rt: HostRuntime) {
     let story = TOO_MANY_KINDS
         .replace(rt.alloc(), "KINDS", KINDS)
         .expect(&rt, "a story");
-    check_story(&rt, rt.alloc(), story.as_str());
+    check_stories(&rt, rt.alloc(), story.as_str());
 }
 
 #[test]
 fn refused_growth_leaves_the_content(rt: HostRuntime) {
-    for story in REFUSED_STORIES.split("\n\n") {
-        if is_story_refused(&rt, rt.alloc(), story) {
-            return tell_refused(&rt);
-        }
+    if are_refused(&rt, rt.alloc(), REFUSED_STORIES) {
+        tell_refused(&rt);
     }
 }

@@ -50,6 +50,33 @@ fn check_step(rt: &impl Abort, alloc: Global, core: &mut Core, line: &str, wante
     told.expect(rt, line);
 }
 
+fn check_seen(
+    rt: &impl Abort,
+    alloc: Global,
+    core: &Core,
+    session: usize,
+    wanted: &str,
+    place: &str,
+)
+    requires { session < length core.now.world.sessions }
+{
+    check_shown(rt, alloc, seen(core, session), wanted, place).expect(rt, place);
+}
+
+fn check_said(
+    rt: &impl Abort,
+    alloc: Global,
+    core: &Core,
+    session: usize,
+    earlier: &str,
+    wanted: &str,
+)
+    requires { session < length core.now.world.sessions }
+{
+    let reply = core.replies(session).get(number(rt, earlier) as usize);
+    check_shown(rt, alloc, reply, wanted, wanted).expect(rt, wanted);
+}
+
 // What is seen of a session, or of its replies the one behind so many earlier ones.
 fn check_look(
     rt: &impl Abort,
@@ -64,13 +91,15 @@ fn check_look(
     let (session, earlier) = place.split_once(' ').unwrap_or((place, ""));
     let session = number(rt, session) as usize;
     assert!(rt; session < sessions);
-    let told = if earlier.is_empty() {
-        check_shown(rt, alloc, seen(core, session), wanted, place)
+    if earlier.is_empty() {
+        check_seen(rt, alloc, core, session, wanted, place);
     } else {
-        let reply = core.replies(session).get(number(rt, earlier) as usize);
-        check_shown(rt, alloc, reply, wanted, place)
-    };
-    told.expect(rt, place);
+        check_said(rt, alloc, core, session, earlier, wanted);
+    }
+}
+
+fn check_copied(rt: &impl Abort, core: &Core, wanted: &str) {
+    same(rt, &core.copied(), &copy_of(rt, wanted));
 }
 
 // What a line says is so. The machine has so many sessions.
@@ -83,7 +112,7 @@ fn check_line(rt: &impl Abort, alloc: Global, core: &mut Core, sessions: usize, 
     let (verb, place) = text.split_once(' ').unwrap_or((text, ""));
     match verb {
         "said" | "seen" => check_look(rt, alloc, core, sessions, place, wanted),
-        "copied" => same(rt, &core.copied(), &copy_of(rt, wanted)),
+        "copied" => check_copied(rt, core, wanted),
         _ => check_step(rt, alloc, core, text, wanted),
     }
 }

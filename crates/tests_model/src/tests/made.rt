@@ -21,24 +21,17 @@ const INCR: &str = "Incr { kind: Name { text: \"knows\" }, source: Name { text: 
 const REMOVE: &str = "Remove { kind: Name { text: \"knows\" }, source: Name { text: \"ann\" }, \
     target: Name { text: \"bob\" } }";
 
-// Operations, and how each is shown.
-const OPERATIONS: [(OpRow, &str); 4] = [
-    (('i', "knows", "ann", -5, 10), INSERT),
-    (('a', "knows", "ann", -5, 10), INCR),
-    (('r', "knows", "ann", 0, 0), REMOVE),
-    (('x', "", "", 0, 10), "Expire { time: 10 }"),
-];
+// An operation is shown so.
+fn check_op(rt: &impl Abort, alloc: Global, row: OpRow, shown: &str) {
+    check_made(rt, alloc, op(alloc, row).expect(rt, shown), shown);
+}
 
 #[test]
 fn operations_are_made_of_texts(rt: HostRuntime) {
-    for (row, shown) in &OPERATIONS {
-        check_made(
-            &rt,
-            rt.alloc(),
-            op(rt.alloc(), *row).expect(&rt, shown),
-            shown,
-        );
-    }
+    check_op(&rt, rt.alloc(), ('i', "knows", "ann", -5, 10), INSERT);
+    check_op(&rt, rt.alloc(), ('a', "knows", "ann", -5, 10), INCR);
+    check_op(&rt, rt.alloc(), ('r', "knows", "ann", 0, 0), REMOVE);
+    check_op(&rt, rt.alloc(), ('x', "", "", 0, 10), "Expire { time: 10 }");
 }
 
 const LEVELS: &str = "Levels { source: Name { text: \"ann\" }, \
@@ -55,9 +48,6 @@ const DEGREES: &str = "Degrees { filter: NamedFilter { kind: Some(Name { text: \
 const ONE_EDGE: &str = "OneEdge { kind: Name { text: \"knows\" }, source: Name { text: \"ann\" }, \
     target: Name { text: \"bob\" } }";
 
-// How the request that is made at each place is shown.
-const SHOWN: [&str; 5] = [LEVELS, LABELS, CORES, DEGREES, ONE_EDGE];
-
 fn made_at(alloc: Global, place: usize) -> Result<Request, AllocError> {
     match place {
         0 => Request::levels(alloc, "ann", NamedFilter::all()),
@@ -68,16 +58,18 @@ fn made_at(alloc: Global, place: usize) -> Result<Request, AllocError> {
     }
 }
 
+// The request that is made at a place is shown so.
+fn check_request(rt: &impl Abort, alloc: Global, place: usize, shown: &str) {
+    check_made(rt, alloc, made_at(alloc, place).expect(rt, shown), shown);
+}
+
 #[test]
 fn requests_are_made_of_texts(rt: HostRuntime) {
-    for (place, shown) in SHOWN.iter().enumerate() {
-        check_made(
-            &rt,
-            rt.alloc(),
-            made_at(rt.alloc(), place).expect(&rt, shown),
-            shown,
-        );
-    }
+    check_request(&rt, rt.alloc(), 0, LEVELS);
+    check_request(&rt, rt.alloc(), 1, LABELS);
+    check_request(&rt, rt.alloc(), 2, CORES);
+    check_request(&rt, rt.alloc(), 3, DEGREES);
+    check_request(&rt, rt.alloc(), 4, ONE_EDGE);
 }
 
 // Whether this adds a weight of 1 at the time 2, from `ann` to `bob`.

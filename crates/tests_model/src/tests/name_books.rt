@@ -233,10 +233,11 @@ fn finds_names_of_one_part_of_the_index(rt: HostRuntime) {
 #[test]
 fn refused_names_leave_the_book(rt: HostRuntime) {
     let mut book = NameBook::new(rt.alloc(), 5);
-    let names = ["a", "b", "c", "d", "e"];
-    for number in 0..5u32 {
-        add_new(&rt, &mut book, names[number as usize], number);
-    }
+    add_new(&rt, &mut book, "a", 0);
+    add_new(&rt, &mut book, "b", 1);
+    add_new(&rt, &mut book, "c", 2);
+    add_new(&rt, &mut book, "d", 3);
+    add_new(&rt, &mut book, "e", 4);
     assert_absent(&rt, &book, "f", 5);
     same(&rt, add(&rt, &mut book, "c"), Ok(2));
     same(&rt, add(&rt, &mut book, "f"), Err(AddError::NamesFull));

@@ -10,7 +10,7 @@ use super::texts::check_shown;
 use super::values::{LineError, batch, numbers};
 use block_reclamation::BlockStatus;
 use epoch_core::{Opening, Version, blocks_at, content_with, plan_post};
-use graph_types::{Batch, Edge, Limits, List};
+use graph_types::{Batch, Content, Edge, Limits, List};
 use std::alloc::{AllocError, Global};
 use std::process::Abort;
 use std::slice::from_ref;
@@ -38,6 +38,18 @@ fn opening(alloc: Global) -> Result<Opening, LineError> {
 
 const EDGES: [Edge; 2] = [EDGE, BACK];
 
+fn check_content(
+    rt: &impl Abort,
+    alloc: Global,
+    blocks: &[usize],
+    content: &Content,
+    wanted: &str,
+) -> Result<(), AllocError> {
+    same(rt, content.edges.as_slice(), EDGES.as_slice());
+    let all = (blocks, "names", &content.names, "kinds", &content.kinds);
+    check_shown(rt, alloc, all, wanted, wanted)
+}
+
 // The blocks of the version of this number, and its content with two edges.
 fn check_version(
     rt: &impl Abort,
@@ -49,10 +61,8 @@ fn check_version(
 ) -> Result<(), LineError> {
     let edges = Vec::from_slice(alloc, &EDGES)?;
     let content = content_with(alloc, opening, versions, number, edges)?;
-    same(rt, content.edges.as_slice(), EDGES.as_slice());
     let blocks = blocks_at(opening, versions, number);
-    let all = (blocks, "names", &content.names, "kinds", &content.kinds);
-    Ok(check_shown(rt, alloc, all, wanted, wanted)?)
+    Ok(check_content(rt, alloc, blocks, &content, wanted)?)
 }
 
 fn check_versions(
@@ -141,7 +151,7 @@ fn check_text(
     post: &str,
     wanted: &str,
 ) -> Result<(), LineError> {
-    let (ops, blocks) = post.split_once('|').ok_or(LineError::Wrong)?;
+    let (ops, blocks) = post.split_once('|').expect(rt, post);
     check_ops(
         rt,
         alloc,
@@ -153,8 +163,8 @@ fn check_text(
 }
 
 fn check_row(rt: &impl Abort, alloc: Global, line: &str) -> Result<(), LineError> {
-    let (row, wanted) = line.split_once(" => ").ok_or(LineError::Wrong)?;
-    let (listed, post) = row.split_once("; ").ok_or(LineError::Wrong)?;
+    let (row, wanted) = line.split_once(" => ").expect(rt, line);
+    let (listed, post) = row.split_once("; ").expect(rt, line);
     check_text(
         rt,
         alloc,

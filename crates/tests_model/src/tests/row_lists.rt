@@ -80,16 +80,26 @@ fn check_again(rt: &impl Abort, alloc: Global, before: &Rows) {
     assert_row(rt, before, 7, 5, 1);
 }
 
+// Rows of which one source alone has a block, the one numbered 5.
+fn with_one(rt: &impl Abort, alloc: Global, source: u32) -> Rows {
+    changed(rt, alloc, &Rows::new(alloc), source, 5, 1)
+}
+
+const SOURCES: [u32; 15] = [
+    0, 7, 8, 63, 64, 65, 511, 512, 1023, 1024, 4096, 65534, 65535, 65536, 131071,
+];
+
 #[test]
 fn changes_one_row_at_the_ends_of_parts_pages_groups_and_halls(rt: HostRuntime) {
-    let none = Rows::new(rt.alloc());
-    for source in [
-        0, 7, 8, 63, 64, 65, 511, 512, 1023, 1024, 4096, 65534, 65535, 65536, 131071,
-    ] {
-        let before = changed(&rt, rt.alloc(), &none, source, 5, 1);
-        check_source(&rt, rt.alloc(), &before, source);
+    for source in &SOURCES {
+        check_source(
+            &rt,
+            rt.alloc(),
+            &with_one(&rt, rt.alloc(), *source),
+            *source,
+        );
     }
-    check_again(&rt, rt.alloc(), &changed(&rt, rt.alloc(), &none, 7, 5, 1));
+    check_again(&rt, rt.alloc(), &with_one(&rt, rt.alloc(), 7));
 }
 
 // Where a growth is refused, the rows that were shared before are as they were, and the next try changes them.
@@ -124,6 +134,26 @@ fn dated(number: u32, source: u32, recent: u64) -> Block {
 // The greatest time of an edge.
 const GREATEST: u64 = 9_223_372_036_854_775_807;
 
+fn push_shared(rt: &impl Abort, alloc: Global, blocks: &mut Vec<Arc<Block>>, block: Block) {
+    let block = Arc::new(alloc, block).expect(rt, "a block");
+    blocks.push(block).expect(rt, "room");
+}
+
+// So many blocks of a source, each with an edge of that recent time.
+fn dated_blocks(
+    rt: &impl Abort,
+    alloc: Global,
+    source: u32,
+    count: u32,
+    recent: u64,
+) -> Vec<Arc<Block>> {
+    let mut blocks = Vec::new(alloc);
+    for number in 0..count {
+        push_shared(rt, alloc, &mut blocks, dated(number, source, recent));
+    }
+    blocks
+}
+
 // The same rows, but for the row of a source, which has so many blocks with an edge of that recent time.
 fn touched(
     rt: &impl Abort,
@@ -133,14 +163,12 @@ fn touched(
     count: u32,
     recent: u64,
 ) -> Rows {
-    let mut blocks = Vec::new(alloc);
-    for number in 0..count {
-        let block = Arc::new(alloc, dated(number, source, recent)).expect(rt, "a block");
-        blocks.push(block).expect(rt, "room");
-    }
     let shared = rows.share().expect(rt, "rows");
     shared
-        .replace_row(VertexId(source), blocks)
+        .replace_row(
+            VertexId(source),
+            dated_blocks(rt, alloc, source, count, recent),
+        )
         .expect(rt, "rows")
 }
 
@@ -170,17 +198,22 @@ fn check_next(rt: &impl Abort, rows: &Rows, source: u32, recent: u64) {
     );
 }
 
+// Where so many blocks of a source alone have an edge, of one time.
+fn check_old(rt: &impl Abort, alloc: Global, source: u32, count: u32, recent: u64) {
+    let rows = touched(rt, alloc, &Rows::new(alloc), source, count, recent);
+    check_next(rt, &rows, source, recent);
+}
+
+const ENDS: [u32; 8] = [0, 63, 64, 1023, 1024, 65_535, 65_536, 140_000];
+
 #[test]
 fn finds_the_next_old_row_at_the_ends_of_pages_and_times(rt: HostRuntime) {
-    let none = Rows::new(rt.alloc());
-    for source in [0, 63, 64, 1023, 1024, 65_535, 65_536, 140_000] {
-        for recent in [0, GREATEST] {
-            let rows = touched(&rt, rt.alloc(), &none, source, 1, recent);
-            check_next(&rt, &rows, source, recent);
-        }
+    for source in &ENDS {
+        check_old(&rt, rt.alloc(), *source, 1, 0);
+        check_old(&rt, rt.alloc(), *source, 1, GREATEST);
     }
-    check_next(&rt, &touched(&rt, rt.alloc(), &none, 64, 64, 7), 64, 7);
-    check_next(&rt, &touched(&rt, rt.alloc(), &none, 64, 65, 7), 64, 7);
+    check_old(&rt, rt.alloc(), 64, 64, 7);
+    check_old(&rt, rt.alloc(), 64, 65, 7);
 }
 
 // The rows of 3 and 70 are old, the latter a long one, until that of 3 has been expired.

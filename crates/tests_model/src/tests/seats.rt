@@ -1,92 +1,97 @@
-// The board of seats.
+// The board of seats by lines of text. `pin SEAT => NUMBER` sets a pin, `settle SEAT NUMBER` settles it and `unpin SEAT` takes it
+// away; `raise VERSION => FLOOR COPY` compares the floor and the copy of the pins; `look SEAT => PIN` shows a seat's pin.
 
 use super::checks::same;
-use block_reclamation::{Board, Pin, PinCopy, SeatNo};
+use super::pins::{copy_of, number};
+use super::texts::check_shown;
+use block_reclamation::{Board, SeatNo};
+use std::alloc::Global;
 use std::process::Abort;
-use std::test::Fail;
 
-// Raising the floor to a version gives this floor.
-fn raised(rt: &impl Abort, board: &mut Board, version: u64, floor: u64) {
-    same(rt, board.raise(version).floor(), floor);
-    same(rt, board.floor(), floor);
+fn seat(rt: &impl Abort, word: &str) -> SeatNo {
+    SeatNo::new(word.parse().expect(rt, word)).expect(rt, word)
 }
 
-// A new pin of the seat has this number.
-fn pinned(rt: &impl Abort, board: &mut Board, seat: SeatNo, number: u64) {
-    same(rt, board.pin(seat), number);
+fn settles(rt: &impl Abort, board: &mut Board, words: &str) {
+    let (place, settled) = words.split_once(' ').expect(rt, words);
+    board.settle(seat(rt, place), number(rt, settled));
 }
 
-fn has_pin(rt: &impl Abort, board: &Board, seat: SeatNo, pin: Option<Pin>) {
-    same(rt, board.pin_of(seat), pin);
+// Raising the floor to a version gives this floor, and this copy.
+fn raised(rt: &impl Abort, board: &mut Board, version: &str, wanted: &str) {
+    let (floor, copy) = wanted.split_once(' ').expect(rt, wanted);
+    let told = board.raise(number(rt, version));
+    let floor = number(rt, floor);
+    same(rt, (told.floor(), board.floor()), (floor, floor));
+    same(rt, &told, &copy_of(rt, copy));
 }
+
+fn check_line(rt: &impl Abort, alloc: Global, board: &mut Board, line: &str) {
+    let (text, wanted) = line.split_once(" => ").unwrap_or((line, ""));
+    let (verb, words) = text.split_once(' ').expect(rt, line);
+    match verb {
+        "raise" => raised(rt, board, words, wanted),
+        "settle" => settles(rt, board, words),
+        "unpin" => board.unpin(seat(rt, words)),
+        "pin" => same(rt, board.pin(seat(rt, words)), number(rt, wanted)),
+        _ => {
+            let pin = board.pin_of(seat(rt, words));
+            check_shown(rt, alloc, pin, wanted, line).expect(rt, line);
+        }
+    }
+}
+
+fn check_lines(rt: &impl Abort, alloc: Global, board: &mut Board, lines: &str) {
+    for line in lines.lines() {
+        check_line(rt, alloc, board, line);
+    }
+}
+
+const TWO_PINS: &str = "pin 0 => 0
+raise 5 => 0 5 0?0
+settle 0 4
+raise 5 => 4 5 0:4
+pin 1 => 4
+unpin 0
+raise 6 => 4 6 1?4
+settle 1 6
+raise 6 => 6 6 1:6
+unpin 1
+raise 7 => 7 7";
+
+// Seat 0 has a settled pin, and seat 15 an unsettled one.
+const SETTLED_AND_NOT: &str = "raise 0 => 0 0
+pin 0 => 0
+settle 0 4
+pin 15 => 0
+raise 5 => 0 5 0:4 15?0";
+
+const ONE_PIN: &str = "settle 15 3
+look 15 => None
+raise 2 => 2 2
+pin 15 => 2
+look 15 => Pin number: 2 is_settled: false
+settle 15 1
+look 15 => Pin number: 2 is_settled: true";
 
 #[test]
-fn keeps_the_floor_below_each_pin(rt: HostRuntime) -> Result<(), Fail> {
-    let first = SeatNo::new(0).ok_or("seat 0")?;
-    let second = SeatNo::new(1).ok_or("seat 1")?;
-    let mut board = Board::new();
-    pinned(&rt, &mut board, first, 0);
-    raised(&rt, &mut board, 5, 0);
-    board.settle(first, 4);
-    raised(&rt, &mut board, 5, 4);
-    pinned(&rt, &mut board, second, 4);
-    board.unpin(first);
-    raised(&rt, &mut board, 6, 4);
-    board.settle(second, 6);
-    raised(&rt, &mut board, 6, 6);
-    board.unpin(second);
-    raised(&rt, &mut board, 7, 7);
-    same(&rt, board.floor(), 7);
-    Ok(())
+fn keeps_the_floor_below_each_pin(rt: HostRuntime) {
+    check_lines(&rt, rt.alloc(), &mut Board::new(), TWO_PINS);
+    check_lines(&rt, rt.alloc(), &mut Board::default(), SETTLED_AND_NOT);
+    check_lines(&rt, rt.alloc(), &mut Board::new(), ONE_PIN);
 }
 
-fn copied(rt: &impl Abort, board: &mut Board, last: u64, copy: PinCopy) {
-    same(rt, &board.raise(last), &copy);
-}
-
-/// Seat 0 has a settled pin, and seat 15 an unsettled one.
-#[test]
-fn copies_the_pins(rt: HostRuntime) -> Result<(), Fail> {
-    let mut board = Board::default();
-    let mut copy = PinCopy::none();
-    copied(&rt, &mut board, 0, copy);
-    let first = SeatNo::new(0).ok_or("seat 0")?;
-    pinned(&rt, &mut board, first, 0);
-    board.settle(first, 4);
-    pinned(&rt, &mut board, SeatNo::new(15).ok_or("seat 15")?, 0);
-    copy.last = 5;
-    copy.settled[0] = Some(4);
-    copy.unsettled[15] = Some(0);
-    copied(&rt, &mut board, 5, copy);
-    Ok(())
-}
-
-#[test]
-fn shows_the_pin_of_a_seat(rt: HostRuntime) -> Result<(), Fail> {
-    let seat = SeatNo::new(15).ok_or("seat 15")?;
-    same(&rt, seat.number(), 15);
-    let mut board = Board::new();
-    board.settle(seat, 3);
-    has_pin(&rt, &board, seat, None);
-    raised(&rt, &mut board, 2, 2);
-    pinned(&rt, &mut board, seat, 2);
-    let unsettled = Pin {
-        number: 2,
-        is_settled: false,
-    };
-    has_pin(&rt, &board, seat, Some(unsettled));
-    board.settle(seat, 1);
-    let settled = Pin {
-        number: 2,
-        is_settled: true,
-    };
-    has_pin(&rt, &board, seat, Some(settled));
-    Ok(())
+fn is_seat(rt: &impl Abort, number: u8, is_one: bool) {
+    match SeatNo::new(number) {
+        Some(seat) => same(rt, (seat.number(), true), (number, is_one)),
+        None => same(rt, is_one, false),
+    }
 }
 
 #[test]
 fn numbers_sixteen_seats(rt: HostRuntime) {
-    for (number, is_seat) in [(0, true), (15, true), (16, false), (255, false)] {
-        same(&rt, SeatNo::new(number).is_some(), is_seat);
-    }
+    is_seat(&rt, 0, true);
+    is_seat(&rt, 15, true);
+    is_seat(&rt, 16, false);
+    is_seat(&rt, 255, false);
 }

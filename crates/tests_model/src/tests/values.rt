@@ -4,7 +4,7 @@ ghost use Rattle.std.specs.Prelude.{IfOk};
 ghost use Rattle.feed_csv.specs.Commands.{HasValidOp};
 
 use feed_csv::{Command, Feed, FeedFault, FeedWord};
-use graph_types::{Batch, Edge, KindId, List, NamedOp, PushError, Request, VertexId};
+use graph_model::{Batch, Edge, KindId, List, NamedOp, PushError, Request, VertexId};
 use std::alloc::{AllocError, AllocFailed, Global};
 use std::num::ParseIntError;
 use std::str::FromStr;
@@ -56,17 +56,23 @@ impl From<FeedFault> for LineError {
     }
 }
 
+fn push_number(numbers: &mut Vec<usize>, word: &str) -> Result<(), LineError> {
+    Ok(numbers.push(word.parse()?)?)
+}
+
 /// Numbers with a blank between them.
 pub(super) fn numbers(alloc: Global, text: &str) -> Result<List<usize>, LineError> {
     let mut numbers = Vec::new(alloc);
     for word in text.split_whitespace() {
-        numbers.push(word.parse()?)?;
+        push_number(&mut numbers, word)?;
     }
     Ok(List::of(numbers))
 }
 
-// The next of numbers with a comma between them.
-fn next_number<N: FromStr<Err = ParseIntError>>(rest: &mut &str) -> Result<N, LineError> {
+/// The next of numbers with a comma between them.
+pub(super) fn next_number<N: FromStr<Err = ParseIntError>>(
+    rest: &mut &str,
+) -> Result<N, LineError> {
     let (word, behind) = rest.split_once(',').unwrap_or((*rest, ""));
     *rest = behind;
     Ok(word.parse()?)

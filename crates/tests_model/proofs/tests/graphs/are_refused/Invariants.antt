@@ -1,6 +1,6 @@
 use Rattle.graph_types.specs.Graph.{IsContentIn}
 use Rattle.graph_types.specs.Limits.{standard_limits}
-use Rattle.tests_model.proofs.tests.graphs.is_table_refused.Given as goal
+use Rattle.tests_model.proofs.tests.graphs.are_refused.Given as goal
 
 -- the content stays one
 abbrev pub invariant-loop-line : goal.invariant-loop-line

@@ -1,0 +1,93 @@
+"""What each call that reads a version answers, compared with a graph in columns of numpy."""
+from __future__ import annotations
+
+from ctypes import c_uint32, c_uint64
+from typing import Any
+
+import numpy
+
+from bench.checks import Checks
+from bench.stores.caller import COLUMNS, Caller, Names, View
+from bench.stores.wanted import Wanted, in_order
+from misteluk.engine import interface
+from misteluk.engine.interface import Code
+
+
+class Asked:
+    """A version with as many names as the graph, of kinds e, f and so on."""
+
+    def __init__(self, checks: Checks, call: Caller, version: Any, wanted: Wanted) -> None:
+        self.checks, self.call, self.version, self.wanted = checks, call, version, wanted
+
+    def sizes(self, number: int, names: Names, kinds: int) -> None:
+        size, edges = self.call.size(self.version), len(self.wanted)
+        self.checks.equal("sizes", (size.version, size.vertices, size.kinds, size.edges, size.name_bytes, size.kind_bytes),
+                          (number, self.wanted.names, kinds, edges, len(names.text), kinds))
+
+    def names(self, names: Names, kinds: bytes) -> None:
+        """All names, and those of the later half; the number of the first, the last and one that there isn't."""
+        count = self.wanted.names
+        for first in (0, count // 2):
+            begin = int(names.ends[first - 1]) if first else 0
+            ends = numpy.zeros(count - first, "u8")
+            text = numpy.zeros(len(names.text) - begin, "u1")
+            self.call("version_names", self.version, first, text, ends)
+            self.checks.equal(f"names from {first} on", (text.tobytes(), ends + numpy.uint64(begin)),
+                              (names.text[begin:], names.ends[first:]))
+        number = c_uint32()
+        for name in (0, count // 2, count - 1):
+            self.call("version_vertex", self.version, b"v%d" % name, number)
+            self.checks.equal(f"the number of v{name}", number.value, name)
+        self.checks.refused("no such vertex", Code.NO_VERTEX, self.call, "version_vertex", self.version, b"v%d" % count, number)
+        for place in range(len(kinds)):
+            self.call("version_kind", self.version, kinds[place:place + 1], number)
+            self.checks.equal(f"the number of kind {place}", number.value, place)
+        self.checks.refused("no such kind", Code.NO_KIND, self.call, "version_kind", self.version, b"none", number)
+        text, ends = numpy.zeros(len(kinds), "u1"), numpy.zeros(len(kinds), "u8")
+        self.call("version_kind_names", self.version, 0, text, ends)
+        self.checks.equal("kinds", (text.tobytes(), ends), (kinds, numpy.arange(1, len(kinds) + 1)))
+
+    def edges(self, seen: View = View()) -> None:
+        found = self.call.edges(self.version, seen, len(self.wanted))
+        self.checks.equal(f"edges of {seen}", in_order(found), self.wanted.seen(*seen).table)
+
+    def row(self, source: int, seen: View = View()) -> None:
+        """A source's edges, and that columns of one place less are refused, with the number told."""
+        wanted, count = Wanted(self.wanted.names, self.wanted.row(source)).seen(*seen), c_uint64()
+        found = [numpy.zeros(len(wanted), it) for it in COLUMNS]
+        short = [it[1:] for place, it in enumerate(found) if place != 1]
+        words = self.version, seen.given(), source
+        self.checks.refused("columns too short", Code.BAD_LENGTH, self.call, "version_row", *words, *short, count)
+        self.checks.equal("how many places it takes", count.value, len(wanted))
+        found[1][:] = source
+        self.call("version_row", *words, *(it for place, it in enumerate(found) if place != 1), count)
+        self.checks.equal(f"the row of {source} of {seen}", (count.value, *in_order(tuple(found))),
+                          (len(wanted), *wanted.table))
+
+    def edge(self, place: int) -> None:
+        kind, source, target, weight, first, recent = (int(it[place]) for it in self.wanted.table)
+        found = interface.Edge()
+        self.call("version_edge", self.version, kind, source, target, found)
+        self.checks.equal(f"edge {place}", (found.weight, found.first, found.recent), (weight, first, recent))
+
+    def no_edge(self, kind: int, source: int, target: int) -> None:
+        words = self.version, kind, source, target, interface.Edge()
+        self.checks.refused(f"edge {kind} {source} {target}", Code.NO_EDGE, self.call, "version_edge", *words)
+
+    def degrees(self, seen: View = View()) -> None:
+        found = tuple(numpy.zeros(self.wanted.names, it) for it in ("u4", "u4", "i8"))
+        self.call("version_degrees", self.version, seen.given(), *found)
+        self.checks.equal(f"degrees of {seen}", found, self.wanted.seen(*seen).degrees())
+
+    def table(self, name: str, wanted: Any, *given: int, seen: View = View()) -> None:
+        found = numpy.full(self.wanted.names, 7, "u4")
+        self.call(f"version_{name}", self.version, seen.given(), *given, found)
+        self.checks.equal(f"{name} of {seen}", found, wanted)
+
+    def tables(self, source: int, seen: View = View()) -> None:
+        """Degrees, levels, labels and cores of a view."""
+        graph = self.wanted.seen(*seen)
+        self.degrees(seen)
+        self.table("levels", graph.levels(source), source, seen=seen)
+        self.table("labels", graph.labels(), seen=seen)
+        self.table("cores", graph.cores(), seen=seen)

@@ -1,0 +1,129 @@
+"""Calls of the C library by their names, with arrays of numpy and with bytes in place of addresses and lengths."""
+from __future__ import annotations
+
+from ctypes import byref, c_uint32, c_uint64
+from typing import Any, List, NamedTuple, Set, Tuple
+
+import numpy
+
+from bench.calls import Refused
+from misteluk.engine import interface
+from misteluk.engine.interface import ANY_KIND, Code
+
+EVER = (0, (1 << 64) - 1)
+COLUMNS = ("u4", "u4", "u4", "i8", "u8", "u8")
+STEP = 1 << 20
+
+
+class View(NamedTuple):
+    """Which edges count: of one kind, or of any, whose recent time is in a window."""
+
+    kind: int = ANY_KIND
+    window: Tuple[int, int] = EVER
+
+    def given(self) -> Any:
+        return interface.View(*self.window, self.kind)
+
+
+def fields(told: Any) -> Tuple[int, ...]:
+    """What a struct of numbers has."""
+    return tuple(getattr(told, name) for name, _ in told._fields_)
+
+
+class Caller:
+    """Calls the library, and keeps which functions it called. A code that isn't OK raises `Refused`. The one that is called
+    `wrong` isn't called, and answers OK: a run in which that makes no difference compares nothing of that function."""
+
+    def __init__(self, library: Any, wrong: str = "") -> None:
+        self.library, self.wrong = library, wrong
+        self.called: Set[str] = set()
+
+    def __call__(self, name: str, *given: Any) -> None:
+        words: List[Any] = []
+        for it in given:
+            is_array = isinstance(it, numpy.ndarray)
+            words += [it.ctypes.data, len(it)] if is_array else [it, len(it)] if isinstance(it, bytes) else [it]
+        self.called.add(name)
+        if name == self.wrong:
+            return
+        code = getattr(self.library, name)(*words)
+        if code:
+            raise Refused(Code(code))
+
+    def interface(self) -> int:
+        self.called.add("interface")
+        return int(self.library.interface()) if self.wrong != "interface" else 0
+
+    def stat(self, desk: Any) -> Any:
+        found = interface.Stat()
+        self("desk_stat", desk, found)
+        return found
+
+    def size(self, version: Any) -> Any:
+        found = interface.Size()
+        self("version_size", version, found)
+        return found
+
+    def hold(self, desk: Any) -> Tuple[Any, Any]:
+        version, hold = interface.Version(), interface.Hold()
+        self("desk_hold", desk, version, hold)
+        return version, hold
+
+    def release(self, desk: Any, held: Tuple[Any, Any]) -> None:
+        self("desk_release", desk, held[1])
+        self("version_free", held[0])
+
+    def opened(self, names: int, kinds: int, batches: int, blocks: int) -> Any:
+        desk = interface.Desk()
+        self("desk_new_within", interface.Limits(names, kinds, batches), blocks, desk)
+        return desk
+
+    def collect(self, desk: Any) -> int:
+        freed = c_uint64()
+        self("desk_collect", desk, freed)
+        return freed.value
+
+    def apply(self, desk: Any, batch: Any) -> Tuple[int, ...]:
+        counts = interface.Counts()
+        self("desk_apply", desk, batch, counts)
+        return fields(counts)
+
+    def length(self, batch: Any) -> int:
+        length = c_uint64()
+        self("batch_length", batch, length)
+        return length.value
+
+    def edges(self, version: Any, seen: View, room: int) -> Tuple[Any, ...]:
+        """All edges of a view, as the library has them: kinds, sources, targets, weights, first and recent times."""
+        found = [numpy.zeros(max(room, 1), it) for it in COLUMNS]
+        source, count = c_uint32(), c_uint64()
+        self("version_edges", version, seen.given(), source, *found, count)
+        return tuple(it[:count.value] for it in found)
+
+    def load(self, desk: Any, kind: bytes, names: "Names", *columns: Any) -> Tuple[int, int]:
+        """Inserts all edges of a kind, with a collection after each 2^20. Returns how many were new, and how many changed."""
+        new = changed = 0
+        counts, done = interface.Counts(), c_uint64()
+        for at in range(0, len(columns[0]), STEP):
+            part = [it[at:at + STEP] for it in columns]
+            self("desk_insert_columns", desk, kind, *names.words, *part, counts, done)
+            new, changed = new + counts.inserted, changed + counts.updated
+            self.collect(desk)
+        return new, changed
+
+
+class Names:
+    """The names v0, v1, .. as a call takes a dictionary: their bytes, and where each ends."""
+
+    def __init__(self, count: int) -> None:
+        parts = (b"".join([b"v%d" % it for it in range(at, min(at + STEP, count))]) for at in range(0, count, STEP))
+        self.text = b"".join(parts)
+        numbers = numpy.arange(count, dtype="u8")
+        digits = sum((numbers >= 10 ** it).astype("u8") for it in range(1, 10))
+        self.ends = numpy.cumsum(digits + numpy.uint64(2), dtype="u8")
+        self.words = (self.text, self.ends)
+
+
+def one_name(name: bytes) -> Tuple[Any, ...]:
+    """A dictionary of one name."""
+    return name, byref(c_uint64(len(name))), 1

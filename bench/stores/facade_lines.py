@@ -1,0 +1,120 @@
+"""The lines that bench/rattle/every_call has to print, by numpy, scipy and igraph over the same graph."""
+from __future__ import annotations
+
+from typing import Any, Iterator, Tuple
+
+import numpy
+
+from bench.stores.wanted import Wanted
+from misteluk.engine.interface import NOT_REACHED
+
+# What the calls say that no graph is asked for.
+SMALL = """limits 65536 64 65536 true true true true
+config 4 1024 2 65536
+config true true false
+board 3 true 0 0 5 true
+copy 5 9 5 true false true
+pins 0 7
+block 8 5 2 32 false true 31
+block true false 4 25 51 true false
+block 4 1914 27
+list 3 false 5 12 true 3
+names true false false false true
+name true 65 ulm
+book true 0 1 true 2 1 ulm 2
+filter 3 9 true 0 18446744073709551615 true
+endless true 2 BadCommand true true
+feed true 2
+bounds true true true true 2
+batch true false true true 5 true
+full 4096 true 1044480 1048576""".splitlines()
+ODD, BATCH = numpy.uint64(0x9E37_79B9_7F4A_7C15), 1 << 20
+
+
+def u8(values: Any) -> Any:
+    """Numbers as they are when they wrap; those below nothing from the top."""
+    return numpy.asarray(values).astype("i8").view("u8")
+
+
+def insertions(scale: int, edges: int) -> Tuple[Any, ...]:
+    """Kinds, sources, targets, weights and times: a ring, and edges behind it whose ends are bits of their places, mixed."""
+    places, mask = numpy.arange(edges, dtype="u8"), numpy.uint64((1 << scale) - 1)
+    one = places * ODD
+    two = (one ^ (one >> numpy.uint64(29))) * numpy.uint64(0xBF58_476D_1CE4_E5B9)
+    bits = two ^ (two >> numpy.uint64(32))
+    ring = places <= mask
+    sources = numpy.where(ring, places, (bits >> numpy.uint64(8)) & mask).astype("u4")
+    targets = numpy.where(ring, (places + numpy.uint64(1)) & mask, (bits >> numpy.uint64(36)) & mask).astype("u4")
+    return numpy.zeros(edges, "u4"), sources, targets, (places % numpy.uint64(1_999)).astype("i8") - 999, places
+
+
+def sum_of_edges(graph: Wanted) -> int:
+    _, sources, targets, weights, firsts, recents = map(u8, graph.table)
+    places = (sources << numpy.uint64(32)) | targets
+    times = (firsts * numpy.uint64(3) + recents) | numpy.uint64(1)
+    return int(((places * ODD + weights) * times).sum(dtype="u8"))
+
+
+def sum_of_rows(vertices: Any, values: Any) -> int:
+    return int(((u8(vertices) * ODD + numpy.uint64(1)) * (u8(values) * numpy.uint64(2) + numpy.uint64(1))).sum(dtype="u8"))
+
+
+class Lines:
+    def __init__(self, scale: int, edges: int) -> None:
+        self.count, self.inserted = 1 << scale, edges
+        self.number = -(-edges // BATCH)
+        self.all = Wanted.of_insertions(self.count, *insertions(scale, edges))
+        kept = self.all.table[5] >= numpy.uint64(edges // 2)
+        first = (self.all.table[1] == 0) & (self.all.table[2] == 1)
+        self.expired, self.left = int((~kept & ~first).sum()), self.all.only(kept & ~first)
+
+    def answers(self, word: str, graph: Wanted) -> Iterator[str]:
+        every = numpy.arange(self.count)
+        levels = graph.levels(3)
+        reached = levels != NOT_REACHED
+        degrees = [u8(it) * numpy.uint64(by) for it, by in zip(graph.degrees(), (3, 5, 7))]
+        half = graph.seen(window=(self.inserted // 2, (1 << 64) - 1))
+        edge = graph.only((graph.table[1] == 2) & (graph.table[2] == 3)).table[3:]
+        marks = sum(u8(it) * numpy.uint64(by) for it, by in zip(edge, (1, 3, 5)))
+        sums = {"levels": (int(reached.sum()), sum_of_rows(every[reached], levels[reached])),
+                "labels": (self.count, sum_of_rows(every, half.labels())),
+                "cores": (self.count, sum_of_rows(every, graph.cores())),
+                "degrees": (self.count, sum_of_rows(every, sum(degrees))),
+                "edge": (1, int(marks[0]) if len(edge[0]) else (1 << 64) - 1)}
+        yield from (f"{word} {name} {rows} {it} {rows} {it}" for name, (rows, it) in sums.items())
+
+    def edges(self, graph: Wanted) -> str:
+        return f"edges {len(graph)} {sum_of_edges(graph)}"
+
+    def made(self) -> Iterator[str]:
+        """The store in parts, with all edges."""
+        new, asked = len(self.all), list(self.answers("ask", self.all))
+        yield from (f"load {new} {self.inserted - new} {self.number}", "full true true")
+        yield from (f"stat {self.number} {self.count} {new} 0 true true {self.number}", f"lent {new}")
+        yield from (*asked, f"learnt {self.number}", f"apply {self.number + 1} true {self.expired}")
+        yield from (f"confirm {self.number + 1} {self.number + 1}", f"sessions {new} {len(self.left)}")
+        yield from (f"collect {self.number} false true", self.edges(self.all), self.edges(self.left), *asked)
+        yield from (f"collect {self.number + 1} true false", f"shared {self.number + 1} {self.count} {len(self.left)} 0")
+
+    def last(self) -> Iterator[str]:
+        """The last version, and stores that open with it."""
+        even, count = self.left.only(self.left.table[1] % 2 == 0), self.count
+        late = self.inserted - self.inserted // 10
+        old = self.left.table[1][(self.left.table[5] < late) & (self.left.table[1] >= 9)]
+        size = sum(len(f"v{it}") for it in range(count))
+        yield f"rows {len(even)} {sum_of_edges(even)} true"
+        yield f"single true {int(old.min()) if len(old) else (1 << 64) - 1} true"
+        yield f"names {count} 1 false {size} true v{count - 1} {count - 1}"
+        yield f"batches {self.number + 1} true {self.number + 1} {self.inserted + 2} 2 {count + 1} 0"
+        yield from ("empty 0 true false", *self.answers("answer", self.left), "refused true", f"reopened 1 {len(self.left)}")
+        for number in (1, 0):
+            yield from self.opened(number)
+        yield "fresh 0"
+        yield from self.opened(0)
+
+    def opened(self, number: int) -> Iterator[str]:
+        yield self.edges(self.left)
+        yield f"opened {number} {self.count} 1 {len(self.left)} {self.count + 1}"
+
+    def every(self) -> Iterator[str]:
+        yield from (*SMALL, *self.made(), *self.last(), "end")
