@@ -1,7 +1,7 @@
 """Processor time of a request over a version that a session holds, in numbers and without lines: alone, and while another thread
 feeds batches of 4,096 changes to the same store. The version has 65,536 insertions of an R-MAT graph. Nine runs of five rounds
-each, in which the two take turns: medians of all, and the median, least and greatest of the runs' ratios. It runs the proved
-program of crates/example_store, which `rt run` builds.
+each, in which the two take turns: medians of all, and the median, least and greatest of the runs' ratios. The program, whose text
+is bench/rattle/beside, is compiled first, unproved, as `./stinger` compiles the sources: that takes minutes.
 """
 from __future__ import annotations
 
@@ -12,26 +12,16 @@ import statistics
 import subprocess
 from typing import Dict, List, Tuple
 
-from bench import tables
-from bench.measuring import spread, stop
-from bench.places import TOP
+from bench import rattle, tables
+from bench.measuring import spread
 
-CRATE = TOP / "crates/example_store"
 # Nanoseconds by request and by when it was asked.
 Times = Dict[Tuple[str, str], List[int]]
 
 
 def options(parser: argparse.ArgumentParser) -> None:
-    parser.add_argument("--program", metavar="FILE", help="another program than the one that `rt run` builds of example_store")
+    parser.add_argument("--program", metavar="FILE", help="the program, where it is compiled already")
     parser.add_argument("--runs", type=int, default=9, help="runs of five rounds (9)")
-
-
-def built() -> str:
-    ran = subprocess.run(["rt", "run"], cwd=CRATE, stdin=subprocess.DEVNULL, stdout=subprocess.PIPE, stderr=subprocess.STDOUT,
-                         text=True)
-    if ran.returncode:
-        stop("\n".join(ran.stdout.splitlines()[-20:]))
-    return str(CRATE / "out/example_store")
 
 
 def one_run(program: str) -> Tuple[Times, List[int]]:
@@ -48,7 +38,7 @@ def one_run(program: str) -> Tuple[Times, List[int]]:
 
 
 def measure(words: argparse.Namespace, _: pathlib.Path) -> None:
-    program = words.program or built()
+    program = words.program or rattle.compiled("beside")
     runs = [one_run(program) for _ in range(words.runs)]
     rows = []
     for request in dict.fromkeys(name for name, _ in runs[0][0]):
