@@ -196,8 +196,8 @@ class Apart(ServeCase):
             self.assertEqual((self.feed()["state"], self.feed()["readers_killed"]), ("followed", 3))
             self.assertEqual(len(children(os.getpid())), turn + 1)
 
-    def killed_at(self, text, more, **options):
-        """The edges where a reader is killed once it read a text, and what comes is read by another one; and what was said."""
+    def killed_at(self, text, more, said="", **options):
+        """Kills a reader once it read a text, and has another one read what comes, until `said` was said."""
         path = self.file("feed.csv", text)
         server = self.serve(**options.pop("store", {}))
         with mock.patch("sys.stderr") as told:
@@ -206,7 +206,7 @@ class Apart(ServeCase):
             os.kill(reading.process.pid, signal.SIGKILL)
             self.append(path, more)
             as_soon_as(lambda: reading.place.read == os.path.getsize(path) or server.feeding.state != "followed")
-        return self.told_in(told)
+            as_soon_as(lambda: said in self.told_in(told))
 
     def test_one_reads_on_amid_a_row(self):
         """The header, the sign between fields, rows of several lines and a half line are read as by the one before."""
@@ -217,9 +217,8 @@ class Apart(ServeCase):
 
     def test_one_reads_on_to_a_bad_row(self):
         """It is told as of the feed that it is in, and not as of another form that the feed might have."""
-        told = self.killed_at("a,b,1,1\nc,d,1,2\n", "e\n")
+        self.killed_at("a,b,1,1\nc,d,1,2\n", "e\n", "feed.csv:3")
         self.assertEqual((self.feed()["error"], self.feed()["rows"]), ("BadRows", 2))
-        self.assertIn("feed.csv:3", told)
 
     def test_one_reads_on_with_the_newest_time(self):
         """What is older than is kept goes out, though the newest row was read by the one before."""
@@ -236,7 +235,8 @@ class Apart(ServeCase):
             os.truncate(path, 8)
             os.kill(reading.process.pid, signal.SIGKILL)
             as_soon_as(lambda: server.feeding.state == "failed")
-        self.assertIn("was cut to 8 bytes, and 16 were read of it", self.told_in(told))
+            # (the state is there before the message is)
+            as_soon_as(lambda: "was cut to 8 bytes, and 16 were read of it" in self.told_in(told))
         self.assertEqual((self.feed()["error"], self.feed()["readers_killed"]), ("FeedFault", 1))
         self.assertIn("the feed was cut to 8 bytes, and 16 were read of it", self.feed()["reason"])
         self.assertFalse(self.rooms_of(self.feed()["reason"]))
@@ -250,7 +250,7 @@ class Apart(ServeCase):
             as_soon_as(lambda: self.feed()["rows"] == 1)
             self.append(path, f"ana,cat,{self.room}/x,1\nana,dan,5,1\n")
             as_soon_as(lambda: server.feeding.state == "failed")
-        self.assertIn(f"{path}:2: BadWeight", self.told_in(told))
+            as_soon_as(lambda: f"{path}:2: BadWeight" in self.told_in(told))
         feed = self.feed()
         self.assertEqual((feed["state"], feed["error"], feed["rows"]), ("failed", "BadRows", 1))
         self.assertRegex(feed["reason"], "(?s)the feed: 1 of [23] rows can't be taken, and .*line 2: BadWeight: amount '..'")
