@@ -54,7 +54,7 @@ def every() -> Iterator[Measurement]:
     yield Measurement("threads", "What do all processors gain for a load? With `--count`: what does each thread do?", 1,
                       (*rust, "taskset"), count)
     yield Measurement("workers", "How long does the R-MAT load take by 1, 2, 4 and the default workers, and by maps?", 1, rust)
-    yield Measurement("beside", "How much slower is a request while another thread feeds the store?", 3)
+    yield Measurement("beside", "How much slower is a request while another thread feeds the store?", 8)
     yield Measurement("hubs", "What does a batch of one, or one edge asked, cost on a row of many blocks?", 6, (), count)
     yield Measurement("reached", "What does a `bfs` cost that reaches few of many vertices?", 2, count)
     yield Measurement("expiries", "What does an expiry cost that finds nothing, half of the edges, or all?", 1)
