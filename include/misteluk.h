@@ -75,8 +75,9 @@ typedef struct { void *at; } misteluk_version;
 
 /* How many vertices and kinds the graph of a desk may have, and how many batches the desk accepts until it is rebased. A desk
  * that is opened without limits of its own has 65,536, 64 and 65,536. No limits pass these walls: 67,108,863 vertices, 64 kinds,
- * and vertices times kinds at most 8,388,606. So a sum of weights is below 2^63. A desk of UINT32_MAX batches keeps none of those
- * that it has applied, so that a stream of updates to a graph of constant size takes level memory. */
+ * and vertices times kinds at most 8,388,606, or more where weights are below 2^40. So a sum of weights is below 2^63. A desk of
+ * UINT32_MAX batches keeps none of those that it has applied, so that a stream of updates to a graph of constant size takes level
+ * memory. */
 typedef struct {
     uint32_t names, kinds, batches;
 } misteluk_limits;
@@ -166,8 +167,14 @@ uint32_t misteluk_desk_new(uint32_t blocks, misteluk_desk *out);
 /* The same under limits of one's own, which the desk keeps, also behind a rebase. A block takes memory when it is first used.
  * BAD_LIMITS, BAD_BLOCKS, HELD_ALREADY, MEMORY. */
 uint32_t misteluk_desk_new_within(const misteluk_limits *limits, uint32_t blocks, misteluk_desk *out);
+/* The same with a limit of weights, at most 2^40. Vertices times kinds, and one more, times that limit is below 2^63. An operation
+ * whose weight or amount is past it, or the sum that it would leave, is counted as overflowed: it changes nothing but that its
+ * names are there. BAD_LIMITS, BAD_BLOCKS, HELD_ALREADY, MEMORY. */
+uint32_t misteluk_desk_new_within_weight(const misteluk_limits *limits, uint64_t weight, uint32_t blocks, misteluk_desk *out);
 /* Tells the limits of a desk. NO_HANDLE. */
 uint32_t misteluk_desk_limits(misteluk_desk *desk, misteluk_limits *out);
+/* Tells how large the weights of a desk may be. NO_HANDLE. */
+uint32_t misteluk_desk_weight(misteluk_desk *desk, uint64_t *out);
 /* Ends a desk. Versions that were held answer on, until they are freed. A handle that holds nothing may be given. */
 void misteluk_desk_free(misteluk_desk desk);
 /* Applies a batch, operation after operation, and empties it. NO_HANDLE, BATCHES_FULL, NAMES_FULL, KINDS_FULL, BLOCKS_FULL in

@@ -24,6 +24,16 @@ class OfLimits(unittest.TestCase):
         for right in (Limits(), Limits(8_388_606, 1), Limits(131_071, 64), Limits(batches=1)):
             self.assertEqual(right.checked(), right)
 
+    def test_walls_of_smaller_weights(self):
+        """One weight for each vertex of each kind, and one more, are below 2^63."""
+        for wrong in (Limits(weight=(1 << 40) + 1), Limits(weight=0), Limits(8_388_607, weight=1 << 40),
+                      Limits(67_108_864, weight=1), Limits(67_108_863, weight=1 << 37),
+                      Limits(67_108_863, 64, weight=2_147_483_680)):
+            self.assertRaises(ValueError, wrong.checked)
+        for right in (Limits(weight=1), Limits(8_388_606, weight=1 << 40), Limits(67_108_863, weight=(1 << 37) - 1),
+                      Limits(67_108_863, 64, weight=2_147_483_679)):
+            self.assertEqual(right.checked(), right)
+
     def test_what_is_over(self):
         self.assertEqual(Limits().over(8_388_606, 1), [])
         self.assertEqual(Limits().over(4_194_304, 2), ["4,194,304 vertices, where the store takes 4,194,303 beside 2 kinds"])
@@ -76,6 +86,23 @@ class Room(Case):
                 store.insert("k", "a", f"b{it}")
                 self.assertEqual(store.commit().version, it + 1)
         self.assertEqual((anew.call_count, store.stat().edges), (3, 10))
+
+    def test_a_limit_of_weights(self):
+        """A weight, an amount or a sum past it changes nothing but that its names are there; also behind a copy."""
+        with mock.patch.object(library, "FIRST_BLOCKS", 16):
+            store = self.store(limits=Limits(weight=10))
+        for weight, target in ((10, "b"), (11, "c"), (-11, "b")):
+            store.insert("k", "a", target, weight)
+        store.add("k", "a", "b", 1)
+        store.add("k", "a", "b", -20)
+        told = store.commit()
+        self.assertEqual((told.inserted, told.updated, told.overflowed), (1, 0, 4))
+        self.assertEqual(self.told(store)[1:], (["a", "b", "c"], [("k", "a", "b", (10, 0, 0))]))
+        for it in range(40):
+            store.insert("k", f"s{it}", "b", 10)
+        store.insert("k", "s0", "b", 11)
+        told = store.commit()
+        self.assertEqual((told.inserted, told.overflowed, store.blocks), (40, 1, 64))
 
     def test_more_blocks(self):
         """Sessions hold what they held, numbers and versions stay, and a store that says its blocks has no more."""

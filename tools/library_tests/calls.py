@@ -192,20 +192,28 @@ class Version(Owner):
 
 
 class Desk(Owner):
-    """A desk, under limits of its own where some are given: how many names, kinds and batches."""
+    """A desk, under limits of its own where some are given: how many names, kinds and batches, and how large a weight."""
 
-    def __init__(self, library: Library, blocks: int, limits: Optional[Tuple[int, int, int]] = None) -> None:
+    def __init__(self, library: Library, blocks: int, limits: Optional[Tuple[int, int, int]] = None,
+                 weight: Optional[int] = None) -> None:
         super().__init__(library)
         self.handle = interface.Desk()
         if limits is None:
             must(library.desk_new(blocks, self.handle))
-        else:
+        elif weight is None:
             must(library.desk_new_within(interface.Limits(*limits), blocks, self.handle))
+        else:
+            must(library.desk_new_within_weight(interface.Limits(*limits), weight, blocks, self.handle))
 
     def limits(self) -> Tuple[int, ...]:
         out = interface.Limits()
         must(self.library.desk_limits(self.handle, out))
         return fields(out)
+
+    def weight(self) -> int:
+        out = c_uint64()
+        must(self.library.desk_weight(self.handle, out))
+        return out.value
 
     def free(self) -> None:
         self.library.desk_free(self.handle)

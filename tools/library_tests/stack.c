@@ -30,7 +30,9 @@ static char text[VERTICES * 6];
 static void none(void) { }
 static void desk_new(void) { code = misteluk_desk_new(65536, &desk); }
 static void desk_new_within(void) { code = misteluk_desk_new_within(&limits, 65536, &small); }
+static void desk_new_within_weight(void) { code = misteluk_desk_new_within_weight(&limits, 10, 65536, &small); }
 static void desk_limits(void) { code = misteluk_desk_limits(&desk, &limits_told); }
+static void desk_weight(void) { code = misteluk_desk_weight(&desk, &number); }
 static void batch_new(void) { code = misteluk_batch_new(&batch); }
 static void batch_insert(void) { code = misteluk_batch_insert(&batch, "k", 1, "00000", 5, "00001", 5, 1, 1); }
 static void batch_add(void) { code = misteluk_batch_add(&filled, "k", 1, "00000", 5, "00001", 5, 1, 1); }
@@ -141,7 +143,11 @@ int main(void)
     measure("desk_new", desk_new);
     measure("desk_new_within", desk_new_within);
     misteluk_desk_free(small);
+    small.at = 0;
+    measure("desk_new_within_weight", desk_new_within_weight);
+    misteluk_desk_free(small);
     measure("desk_limits", desk_limits);
+    measure("desk_weight", desk_weight);
     measure("batch_new", batch_new);
     for (int is_star = 0; is_star < 2; is_star++) {
         draw(is_star);

@@ -71,7 +71,7 @@ class Hostile(unittest.TestCase):
             it.batch_columns_within(batch, 1, *name, where, 1, *name, where, 1, *[where, 1] * 6, number),
             it.desk_apply(desk, self.batch.handle, counts), it.desk_apply(self.desk.handle, batch, counts),
             it.desk_apply(desk, batch, counts), it.desk_collect(desk, number), it.desk_stat(desk, interface.Stat()),
-            it.desk_limits(desk, interface.Limits()),
+            it.desk_limits(desk, interface.Limits()), it.desk_weight(desk, number),
             it.desk_insert_columns(desk, *name, *name, *[where, 1] * 5, counts, number),
             it.desk_hold(desk, none, interface.Hold()), it.desk_release(desk, interface.Hold()), it.desk_rebase(desk),
             it.version_clone(none, interface.Version()), it.version_size(none, interface.Size()),
@@ -92,6 +92,7 @@ class Hostile(unittest.TestCase):
         kept = [self.batch.handle.at, self.desk.handle.at, held.at, copy.handle.at]
         codes = [it.batch_new(self.batch.handle), it.desk_new(16, self.desk.handle),
                  it.desk_new_within(interface.Limits(3, 2, 2), 16, self.desk.handle),
+                 it.desk_new_within_weight(interface.Limits(3, 2, 2), 10, 16, self.desk.handle),
                  it.desk_hold(self.desk.handle, held, interface.Hold()), it.version_clone(held, copy.handle)]
         self.assertEqual(codes, [Code.HELD_ALREADY] * len(codes))
         self.assertEqual([self.batch.handle.at, self.desk.handle.at, held.at, copy.handle.at], kept)
@@ -122,6 +123,33 @@ class Hostile(unittest.TestCase):
             opened = Desk(library(), 65_537, limits)
             self.assertEqual(opened.limits(), limits)
             opened.free()
+
+    def test_limits_of_weights(self) -> None:
+        """What a sum of weights has room for: one for each vertex of each kind, and one more."""
+        desk, most = interface.Desk(), 1 << 40
+        for limits, weight in (((0, 0, 0), most + 1), ((8_388_607, 1, 1), most), ((67_108_863, 1, 1), 1 << 37),
+                               ((67_108_863, 64, 1), 2_147_483_680), ((67_108_864, 1, 1), 1), ((1, 65, 1), 1)):
+            self.refuses(Code.BAD_LIMITS, self.library.desk_new_within_weight(interface.Limits(*limits), weight, 16, desk))
+        self.refuses(Code.BAD_BLOCKS, self.library.desk_new_within_weight(interface.Limits(1, 1, 1), 1, 15, desk))
+        self.assertIsNone(desk.at)
+        for limits, weight in (((0, 0, 0), 0), ((8_388_606, 1, 1), most), ((67_108_863, 1, 1), (1 << 37) - 1),
+                               ((67_108_863, 64, 1), 2_147_483_679)):
+            opened = Desk(library(), 16, limits, weight)
+            self.assertEqual((opened.limits(), opened.weight()), (limits, weight))
+            opened.free()
+
+    def test_a_small_limit_of_weights(self) -> None:
+        """A weight, an amount or a sum past it changes nothing but that its names are there."""
+        desk, batch = Desk(library(), 16, (9, 2, 9), 10), Batch(library())
+        for insert, target, weight in ((True, b"b", 10), (True, b"c", 11), (True, b"b", -11), (False, b"b", 1),
+                                       (False, b"b", -20), (False, b"d", -11), (False, b"b", -3), (True, b"d", -10)):
+            (batch.insert if insert else batch.add)(b"k", b"a", target, weight, 1)
+        counts = desk.apply(batch)
+        self.assertEqual((counts.inserted, counts.updated, counts.overflowed), (2, 1, 5))
+        held = desk.hold()
+        self.assertEqual(held.names(), [b"a", b"b", b"c", b"d"])
+        for it in (held, batch, desk):
+            it.free()
 
     def test_texts_that_are_no_names(self) -> None:
         for bad in NO_NAMES:

@@ -10,7 +10,7 @@ import unittest
 
 from calls import TOP, Code, interface
 
-MAKERS = ("interface", "batch_new", "desk_new", "desk_new_within")
+MAKERS = ("interface", "batch_new", "desk_new", "desk_new_within", "desk_new_within_weight")
 PAGE = (TOP / "docs/C.md").read_text(encoding="utf-8")
 HEADER = (TOP / "include/misteluk.h").read_text(encoding="utf-8")
 

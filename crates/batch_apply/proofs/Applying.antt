@@ -3,10 +3,10 @@ use Rattle.std.proofs.Common.{◌≡◌, ◌≢◌, ℕ, ◌+◌, ◌<◌, ◌�
 use Rattle.std.proofs.Common.{map, flat_map, zip, count_by, replicate, refl, sym, ap, ◌∙◌, arith, subst, All, AllPairs}
 use Rattle.std.proofs.lemmas.{Bool.{ltb-true, ltb-false}, List.{length-map, FromFn.length-range_with_len, Concat.length-flat_map}}
 use Rattle.std.{proofs.lemmas.{Slice.Zip.AllZip-long, Grind.common_steps}, specs.{List.{range_with_len, AllZip}, FinMap.len}}
-use Rattle.graph_types.specs.{Graph.Graph, Limits.{AreLimits, most_operations}, Step.after_all}
+use Rattle.graph_types.specs.{Graph.{Graph, HasWeights}, Limits.{AreLimits, most_operations}, Step.after_all}
 use Rattle.graph_types.specs.{Step.outcomes, declared.batches.{NamedOp.NamedOp, Outcome.TheVariants.Absent}}
 use Rattle.graph_types.proofs.More.{left_more}
-use Rattle.graph_types.proofs.LimitsKept.{limits_after_all}
+use Rattle.graph_types.proofs.{LimitsKept.limits_after_all, WeightsKept.HasWeights-after_all}
 use Rattle.edge_block.specs.{Slots.BlockView, Rows.{OpenBlock, shape_of, row_at, IsRow}, Batches.{Resolved, resolved}}
 use Rattle.edge_block.{specs.Batches.{outcomes_all, opened, layout_after, IsWithin, IsLayoutOf}, proofs.GraphLaws.batch_layout}
 use Rattle.vertex_names.specs.Book.{Book}
@@ -117,7 +117,7 @@ module _ (v : VersionView) (ops : List NamedOp) (workers : ℕ) (positive : 0 < 
       over = range_with_len 0 (length (after_all ops g).names)
 
       laid : IsLayoutOf (layout_after ops g (layout_of v.rows)) (after_all ops g).edges
-          × (outcomes_all over (resolved ops g.names g.kinds) (opened (layout_of v.rows)) ≡ outcomes ops g)
+          × (outcomes_all over (resolved ops g) (opened (layout_of v.rows)) ≡ outcomes ops g)
           × IsWithin (after_all ops g)
       laid = batch_layout ops g (layout_of v.rows) (length (after_all ops g).names) is.within is.rows.layout (omega arith)
 
@@ -153,19 +153,20 @@ module _ (v : VersionView) (ops : List NamedOp) (workers : ℕ) (positive : 0 < 
                   );
               limits = subst (λ h. AreLimits h.limits) (sym (content_next after))
                   (rw (limits_after_all ops g) is.small.limits);
+              weights = subst HasWeights (sym (content_next after)) (HasWeights-after_all ops g is.small.weights);
             };
           }
 
       outcomes_next : written_from dones (replicate (length ops) Absent) ≡ outcomes ops g
       outcomes_next =
-          let rs : List Resolved = resolved ops g.names g.kinds in
+          let rs : List Resolved = resolved ops g in
           let rows : ℕ → List OpenBlock = opened (layout_of v.rows) in
           let lists : List (List ℕ) = map sources_in shards in
           let many : length lists ≡ workers = length-map shards sources_in ∙ AllZip-long (IsShardOf workers rs (layout_of v.rows))
           (range_with_len 0 workers) shards planned ∙ length-range_with_len 0 workers in
           outcomes_left (row_of v.rows) workers ops g (layout_of v.rows) 0 workers shards dones planned done
           (replicate (length ops) Absent)
-          ∙ ap (λ (n : ℕ). written_all workers 0 lists rs rows (replicate n Absent)) (sym (as_many_resolved ops g.names g.kinds))
+          ∙ ap (λ (n : ℕ). written_all workers 0 lists rs rows (replicate n Absent)) (sym (as_many_resolved g.limits.weight ops g.names g.kinds))
           ∙ all_written workers positive lists many rs rows
           ∙ ap (λ (xs : List ℕ). map told (outcomes_all xs rs rows)) (all_shards shards)
           ∙ ap (map told) (outcomes_over workers ops g (layout_of v.rows) positive shards planned is.within is.rows.layout

@@ -8,7 +8,7 @@ use Rattle.std.{specs.List.list_any, proofs.lemmas.Grind.common_steps}
 use Rattle.graph_types.specs.{Graph.{Graph, Key}, Step.{is_before, is_expire}, declared.batches.NamedOp.NamedOp}
 use Rattle.graph_types.specs.declared.{batches.NamedOp.TheVariants.{Insert, Incr, Remove, Expire}, changes.EdgeChange.EdgeChange}
 use Rattle.edge_block.specs.{Slots.{BlockView, Slot, edges_in, has_before}, Operations.{names_after, kinds_after}}
-use Rattle.edge_block.{specs.Batches.{Resolved, AtKey, InAll, resolved, shard_of, shard_ops}, proofs.Counts.count_more}
+use Rattle.edge_block.{specs.Batches.{Resolved, AtKey, InAll, resolved, resolved_by, shard_of, shard_ops}, proofs.Counts.count_more}
 use Rattle.graph_version.specs.Rows.{row_of, blocks_of}
 use Rattle.batch_shards.specs.{Done.{layout_by, sources_in, steps_in}, Groups.is_expiry, Spending.old_blocks, Shards.resolved_at}
 use Rattle.batch_shards.specs.{Shards.resolved_in, declared.shard.{Act.Act, Shard.Shard, Step.Step}}
@@ -89,19 +89,19 @@ module _ (workers : ℕ) where
 
 -- The greatest time of a batch without expiries
 
-one_time : (ops : List NamedOp) (names kinds : List (List ℕ)) → list_any is_expire ops ≡ false
-    → latest (resolved ops names kinds) ≡ 0
-one_time [] names kinds none = refl
-one_time (Insert kind source target weight time ∷ ops) names kinds none =
+one_time : (most : ℕ) (ops : List NamedOp) (names kinds : List (List ℕ)) → list_any is_expire ops ≡ false
+    → latest (resolved_by most ops names kinds) ≡ 0
+one_time most [] names kinds none = refl
+one_time most (Insert kind source target weight time ∷ ops) names kinds none =
     let op : NamedOp = Insert kind source target weight time in
-    ap (max 0) (one_time ops (names_after op names) (kinds_after op kinds) none)
-one_time (Incr kind source target amount time ∷ ops) names kinds none =
+    ap (max 0) (one_time most ops (names_after op names) (kinds_after op kinds) none)
+one_time most (Incr kind source target amount time ∷ ops) names kinds none =
     let op : NamedOp = Incr kind source target amount time in
-    ap (max 0) (one_time ops (names_after op names) (kinds_after op kinds) none)
-one_time (Remove kind source target ∷ ops) names kinds none =
+    ap (max 0) (one_time most ops (names_after op names) (kinds_after op kinds) none)
+one_time most (Remove kind source target ∷ ops) names kinds none =
     let op : NamedOp = Remove kind source target in
-    ap (max 0) (one_time ops (names_after op names) (kinds_after op kinds) none)
-one_time (Expire time ∷ ops) names kinds none = absurd (true≢false none)
+    ap (max 0) (one_time most ops (names_after op names) (kinds_after op kinds) none)
+one_time most (Expire time ∷ ops) names kinds none = absurd (true≢false none)
 
 -- Old blocks
 
@@ -140,7 +140,7 @@ few_old time rows xs once =
 
 module _ (workers : ℕ) (ops : List NamedOp) (g : Graph) (rows : List (List BlockView)) where
   abbrev rs : List Resolved
-  rs = resolved ops g.names g.kinds
+  rs = resolved ops g
 
   abbrev old : ℕ → ℕ
   old s = old_blocks (latest rs) (row_of rows s)
@@ -170,7 +170,7 @@ module _ (workers : ℕ) (ops : List NamedOp) (g : Graph) (rows : List (List Blo
       let all : sum_by (λ n. n) plan.needs.items ≡ in_shards workers rs 0 workers + sum_by old (flat_map sources_in shards) =
       ap (sum_by (λ n. n)) is.needs ∙ sum-map (needs_of (row_of rows)) shards ∙ sum_needs 0 workers shards is.shards in
       let edges : in_shards workers rs 0 workers ≤ length ops =
-      omega (arith, few_edges workers rs 0 workers, as_many_resolved ops g.names g.kinds) in
+      omega (arith, few_edges workers rs 0 workers, as_many_resolved g.limits.weight ops g.names g.kinds) in
       elim (list_any is_expire ops) as (λ b. list_any is_expire ops ≡ b
       → sum_by (λ n. n) plan.needs.items ≤ length ops + cond b (length (blocks_of rows)) 0) [
         | true ↦ λ t. omega (
@@ -184,7 +184,7 @@ module _ (workers : ℕ) (ops : List NamedOp) (g : Graph) (rows : List (List Blo
           arith,
           all,
           edges,
-          sum_zero old (λ s. ap (λ (n : ℕ). old_blocks n (row_of rows s)) (one_time ops g.names g.kinds t)
+          sum_zero old (λ s. ap (λ (n : ℕ). old_blocks n (row_of rows s)) (one_time g.limits.weight ops g.names g.kinds t)
               ∙ none_old (row_of rows s)) (flat_map sources_in shards),
         )
       ] refl

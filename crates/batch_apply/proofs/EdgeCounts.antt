@@ -50,8 +50,8 @@ changed_len change kind source target g = grind (arith, common_steps, at_key)
 
 pub op_len : (op : NamedOp) (g : Graph)
     → len (after op g).edges + taken_away (outcome op g) ≡ len g.edges + cond (is_inserted (outcome op g)) 1 0
-op_len (Insert kind source target weight time) g = changed_len (ToInsert weight time) kind source target g
-op_len (Incr kind source target amount time) g = changed_len (ToIncr amount time) kind source target g
+op_len (Insert kind source target weight time) g = changed_len (ToInsert weight time g.limits.weight) kind source target g
+op_len (Incr kind source target amount time) g = changed_len (ToIncr amount time g.limits.weight) kind source target g
 op_len (Remove kind source target) g = changed_len ToRemove kind source target g
 op_len (Expire time) g = omega (arith, fewer time g.edges)
 

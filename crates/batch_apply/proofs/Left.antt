@@ -102,7 +102,7 @@ module _ (before : ℕ → List BlockView) where
 
   module _ (workers : ℕ) (ops : List NamedOp) (g : Graph) (layout : ℕ → List Shape) where
     abbrev rs : List Resolved
-    rs = resolved ops g.names g.kinds
+    rs = resolved ops g
 
     pub layouts_left : (a k : ℕ) (shards : List Shard) (dones : List ShardDone)
         → AllZip (IsShardOf workers rs layout) (range_with_len a k) shards → AllZip (IsShardDone before) shards dones

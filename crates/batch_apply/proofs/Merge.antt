@@ -35,21 +35,21 @@ module _ (workers w : ℕ) (ops : List NamedOp) (g : Graph) (layout : ℕ → Li
   abbrev shard : List (ℕ × Resolved)
   shard = filter (λ p. is_in_shard workers w p.1) (placed_ops ops g)
 
-  pub same_ops : ops_of shard ≡ shard_ops workers w (resolved ops g.names g.kinds)
-  same_ops = shard_is (is_in_shard workers w) (resolved ops g.names g.kinds) 0
+  pub same_ops : ops_of shard ≡ shard_ops workers w (resolved ops g)
+  same_ops = shard_is (is_in_shard workers w) (resolved ops g) 0
 
   -- a shard's outcomes over some of its sources stand at their places of the batch's over these
   pub shard_places : (sources : List ℕ) → All (λ s. (s % workers == w) ≡ true) sources
       → zip (map (λ x. x.0) shard) (map told (outcomes_all sources (ops_of shard) (opened layout)))
       ≡ picked (λ (x : ℕ × Resolved). is_in_shard workers w x.1) (placed_ops ops g)
-      (enumerate_from 0 (map told (outcomes_all sources (resolved ops g.names g.kinds) (opened layout))))
+      (enumerate_from 0 (map told (outcomes_all sources (resolved ops g) (opened layout))))
   shard_places sources own =
-      let all : List Outcome = outcomes_all sources (resolved ops g.names g.kinds) (opened layout) in
+      let all : List Outcome = outcomes_all sources (resolved ops g) (opened layout) in
       ap (λ rs. zip (map (λ x. x.0) shard) (map told (outcomes_all sources rs (opened layout)))) same_ops
       ∙ ap (λ os. zip (map (λ x. x.0) shard) (map told os))
-      (shard_outcomes workers w ops g.names g.kinds (opened layout) sources own)
-      ∙ ap (zip (map (λ x. x.0) shard)) (map_picked told (is_in_shard workers w) (resolved ops g.names g.kinds) all)
-      ∙ placed_results (is_in_shard workers w) (resolved ops g.names g.kinds) (map told all) 0
+      (shard_outcomes workers w g.limits.weight ops g.names g.kinds (opened layout) sources own)
+      ∙ ap (zip (map (λ x. x.0) shard)) (map_picked told (is_in_shard workers w) (resolved ops g) all)
+      ∙ placed_results (is_in_shard workers w) (resolved ops g) (map told all) 0
 
 -- a row that is left as it is
 pub kept_all : (row : List Shape) → row_end (map untouched row) ≡ row

@@ -8,8 +8,8 @@ use Rattle.std.{proofs.lemmas.Map.Steps.length-le_from_distinct_below, specs.{Pr
 use Rattle.std.{specs.List.{range_with_len, AllZip}, proofs.lemmas.{List.FromFn.length-enumerate_from, Grind.common_steps}}
 use Rattle.graph_types.specs.Limits.{most_names, most_operations}
 use Rattle.graph_types.{specs.declared.batches.NamedOp.NamedOp, proofs.Counts.apart_tail}
-use Rattle.edge_block.specs.{Slots.{BlockView, has_before}, Operations.{Parts, parts_of, names_after, kinds_after}}
-use Rattle.edge_block.specs.Batches.{Resolved, resolve_parts, resolved}
+use Rattle.edge_block.specs.{Slots.{BlockView, has_before}, Operations.{Parts, parts_in, parts_of, names_after, kinds_after}}
+use Rattle.edge_block.specs.Batches.{Resolved, resolve_parts, resolved_by}
 use Rattle.graph_version.{specs.{Rows.{row_of, blocks_of}, Versions.{VersionView, IsVersion}}, proofs.BlockCounts.few_blocks}
 use Rattle.batch_shards.specs.{Done.{layout_by, sources_in}, Groups.is_expiry, Spending.{old_blocks, needed}}
 use Rattle.batch_shards.specs.{Spending.latest as latest_step, declared.shard.{Shard.Shard, Step.Step}}
@@ -120,13 +120,18 @@ one_time : (names kinds : List (List ℕ)) (op : Parts) (rs : List Resolved)
     → latest (resolve_parts names kinds op ∷ rs) ≡ max (time_in op) (latest rs)
 one_time names kinds op rs = grind (arith, common_steps)
 
+-- a limit of weights changes no time
+time_over : (most : ℕ) (op : NamedOp) → time_in (parts_in most op) ≡ time_in (parts_of op)
+time_over most h1 = grind (arith, common_steps)
+
 -- the greatest time of the expiries is told before their names are resolved
-pub same_time : (ops : List NamedOp) (names kinds : List (List ℕ)) → latest (resolved ops names kinds) ≡ expiry_time ops
-same_time [] names kinds = refl
-same_time (op ∷ ops) names kinds =
-    one_time (names_after op names) (kinds_after op kinds) (parts_of op)
-    (resolved ops (names_after op names) (kinds_after op kinds))
-    ∙ ap (max (time_in (parts_of op))) (same_time ops (names_after op names) (kinds_after op kinds))
+pub same_time : (most : ℕ) (ops : List NamedOp) (names kinds : List (List ℕ))
+    → latest (resolved_by most ops names kinds) ≡ expiry_time ops
+same_time most [] names kinds = refl
+same_time most (op ∷ ops) names kinds =
+    one_time (names_after op names) (kinds_after op kinds) (parts_in most op)
+    (resolved_by most ops (names_after op names) (kinds_after op kinds))
+    ∙ ap₂ max (time_over most op) (same_time most ops (names_after op names) (kinds_after op kinds))
 
 -- a version has no more old rows than vertices
 pub few_old_rows : (v : VersionView) → IsVersion v → (time : ℕ) (old : List OldRow) → AreOldRows time (row_of v.rows) old

@@ -3,9 +3,9 @@ use Rattle.std.proofs.Common.{◌≡◌, ℕ, List, [], ◌∷◌, ◌++◌, len
 use Rattle.std.proofs.{Common.{arith, append_assoc, ◌≤◌, drop}, lemmas.List.{Elements.{All-nil, All-cons}, length-map}}
 use Rattle.std.proofs.lemmas.{List.{map-append, append-nil, drop_all}, Grind.common_steps}
 use Rattle.graph_types.specs.{Graph.Key, declared.batches.NamedOp.NamedOp}
-use Rattle.edge_block.specs.{Operations.{Parts, parts_of, names_after, kinds_after}, Batches.{Resolved, IsPlaced}}
-use Rattle.edge_block.specs.Batches.{resolve_parts, resolved}
-use Rattle.batch_apply.specs.{declared.resolve.ResolvedOp.ResolvedOp, Plan.{shown, ends_by, key_from, with_kind}}
+use Rattle.edge_block.specs.{Operations.{Parts, parts_in, names_after, kinds_after}, Batches.{Resolved, IsPlaced}}
+use Rattle.edge_block.specs.Batches.{resolve_parts, resolved_by}
+use Rattle.batch_apply.specs.{declared.resolve.ResolvedOp.ResolvedOp, Plan.{shown, ends_by, ends_in, key_from, with_kind}}
 
 key_cases : (a b c : Bool) (k s t : ℕ)
     → key_from (cond a (Some k) None) (cond b (Some s) None) (cond c (Some t) None) ≡ cond (a && (b && c))
@@ -16,14 +16,20 @@ pub one_resolved : (names kinds : List (List ℕ)) (op : Parts)
     → with_kind kinds (ends_by names op) op ≡ resolve_parts names kinds op
 one_resolved names kinds op = grind (arith, common_steps, key_cases)
 
-pub as_many_resolved : (ops : List NamedOp) (names kinds : List (List ℕ)) → length (resolved ops names kinds) ≡ length ops
-as_many_resolved [] names kinds = refl
-as_many_resolved (op ∷ ops) names kinds = omega (arith, as_many_resolved ops (names_after op names) (kinds_after op kinds))
+-- a limit of weights changes no ends
+pub ends_over : (names : List (List ℕ)) (most : ℕ) (op : NamedOp) → ends_in names op ≡ ends_by names (parts_in most op)
+ends_over names most op = grind (arith, common_steps)
+
+pub as_many_resolved : (most : ℕ) (ops : List NamedOp) (names kinds : List (List ℕ))
+    → length (resolved_by most ops names kinds) ≡ length ops
+as_many_resolved most [] names kinds = refl
+as_many_resolved most (op ∷ ops) names kinds =
+    omega (arith, as_many_resolved most ops (names_after op names) (kinds_after op kinds))
 
 -- as many operations are resolved as there are
-pub as_many_shown : (found : List ResolvedOp) (ops : List NamedOp) (names kinds : List (List ℕ))
-    → map shown found ≡ resolved ops names kinds → length found ≡ length ops
-as_many_shown found ops names kinds are = grind (arith, common_steps, length-map, as_many_resolved)
+pub as_many_shown : (most : ℕ) (found : List ResolvedOp) (ops : List NamedOp) (names kinds : List (List ℕ))
+    → map shown found ≡ resolved_by most ops names kinds → length found ≡ length ops
+as_many_shown most found ops names kinds are = grind (arith, common_steps, length-map, as_many_resolved)
 
 placed_if : (a b c : Bool) (s : ℕ) (q k : Key) → q.source ≡ s → cond (a && (b && c)) (Some q) None ≡ Some k
     → cond b (Some s) None ≡ Some k.source
@@ -33,23 +39,26 @@ one_placed : (names kinds : List (List ℕ)) (op : Parts) → IsPlaced (resolve_
 one_placed names kinds op = grind (arith, common_steps, placed_if)
 
 -- an operation with a key is on the key's source
-pub placed_in : (rs : List Resolved) (ops : List NamedOp) (names kinds : List (List ℕ)) → rs ≡ resolved ops names kinds
-    → All IsPlaced rs
-placed_in rs [] names kinds e = subst (λ ss. All IsPlaced ss) (sym e) (All-nil IsPlaced)
-placed_in rs (op ∷ ops) names kinds e =
+pub placed_in : (most : ℕ) (rs : List Resolved) (ops : List NamedOp) (names kinds : List (List ℕ))
+    → rs ≡ resolved_by most ops names kinds → All IsPlaced rs
+placed_in most rs [] names kinds e = subst (λ ss. All IsPlaced ss) (sym e) (All-nil IsPlaced)
+placed_in most rs (op ∷ ops) names kinds e =
+    let parts : Parts = parts_in most op in
     let names' : List (List ℕ) = names_after op names in
     let kinds' : List (List ℕ) = kinds_after op kinds in
-    subst (λ ss. All IsPlaced ss) (sym e) (All-cons IsPlaced (resolve_parts names' kinds' (parts_of op)) (resolved ops names' kinds')
-    (one_placed names' kinds' (parts_of op)) (placed_in (resolved ops names' kinds') ops names' kinds' refl))
+    let rest : List Resolved = resolved_by most ops names' kinds' in
+    subst (λ ss. All IsPlaced ss) (sym e) (All-cons IsPlaced (resolve_parts names' kinds' parts) rest
+    (one_placed names' kinds' parts) (placed_in most rest ops names' kinds' refl))
 
 -- one more operation is resolved
-pub one_more : (ops rest : List NamedOp) (op : NamedOp) (found : List ResolvedOp) (r : ResolvedOp) (names kinds : List (List ℕ))
-    (all : List Resolved) → ops ≡ op ∷ rest → shown r ≡ resolve_parts (names_after op names) (kinds_after op kinds) (parts_of op)
-    → map shown found ++ resolved ops names kinds ≡ all
-    → map shown (found ++ r ∷ []) ++ resolved rest (names_after op names) (kinds_after op kinds) ≡ all
-one_more ops rest op found r names kinds all ops_are same so_far = grind (arith, common_steps, map-append, append_assoc)
+pub one_more : (most : ℕ) (ops rest : List NamedOp) (op : NamedOp) (found : List ResolvedOp) (r : ResolvedOp)
+    (names kinds : List (List ℕ)) (all : List Resolved) → ops ≡ op ∷ rest
+    → shown r ≡ resolve_parts (names_after op names) (kinds_after op kinds) (parts_in most op)
+    → map shown found ++ resolved_by most ops names kinds ≡ all
+    → map shown (found ++ r ∷ []) ++ resolved_by most rest (names_after op names) (kinds_after op kinds) ≡ all
+one_more most ops rest op found r names kinds all ops_are same so_far = grind (arith, common_steps, map-append, append_assoc)
 
 -- behind the last of them all are resolved
-pub all_resolved : (ops : List NamedOp) (k : ℕ) (found : List ResolvedOp) (ns ks : List (List ℕ)) (all : List Resolved)
-    → length ops ≤ k → map shown found ++ resolved (drop k ops) ns ks ≡ all → map shown found ≡ all
-all_resolved ops k found ns ks all past are = grind (arith, common_steps, append-nil, drop_all)
+pub all_resolved : (most : ℕ) (ops : List NamedOp) (k : ℕ) (found : List ResolvedOp) (ns ks : List (List ℕ))
+    (all : List Resolved) → length ops ≤ k → map shown found ++ resolved_by most (drop k ops) ns ks ≡ all → map shown found ≡ all
+all_resolved most ops k found ns ks all past are = grind (arith, common_steps, append-nil, drop_all)

@@ -45,15 +45,15 @@ once m (x ∷ xs) pairs =
 
 module _ (workers : ℕ) (ops : List NamedOp) (g : Graph) (layout : ℕ → List Shape) where
   abbrev rs : List Resolved
-  rs = resolved ops g.names g.kinds
+  rs = resolved ops g
 
   abbrev pub sources_all : List Shard → List ℕ
   sources_all shards = flat_map sources_in shards
 
   abbrev pub Zipped : ℕ → ℕ → List Shard → Type 0
-  Zipped a k shards = AllZip (IsShardOf workers (resolved ops g.names g.kinds) layout) (range_with_len a k) shards
+  Zipped a k shards = AllZip (IsShardOf workers (resolved ops g) layout) (range_with_len a k) shards
 
-  other_worker : (w m : ℕ) (shard : Shard) → IsShardOf workers (resolved ops g.names g.kinds) layout w shard → (m % workers ≡ w → ⊥)
+  other_worker : (w m : ℕ) (shard : Shard) → IsShardOf workers (resolved ops g) layout w shard → (m % workers ≡ w → ⊥)
       → times m (sources_in shard) ≡ 0
   other_worker w m shard is ne = no_times m (sources_in shard) (λ k d lt e. ne (ap (λ x. x % workers) (sym e) ∙ is.own k d lt))
 
@@ -93,18 +93,18 @@ module _ (workers : ℕ) (ops : List NamedOp) (g : Graph) (layout : ℕ → List
 
   -- the shard of a worker
   pick : (a k w : ℕ) (shards : List Shard) → Zipped a k shards → a ≤ w → w < a + k
-      → (shard : Shard) × (IsShardOf workers (resolved ops g.names g.kinds) layout w shard
+      → (shard : Shard) × (IsShardOf workers (resolved ops g) layout w shard
       × ((m : ℕ) → times m (sources_in shard) ≤ times m (sources_all shards)))
   pick a zero w shards z le lt = absurd (omega arith)
   pick a (suc k) w [] z le lt = absurd z
   pick a (suc k) w (s ∷ shards) z le lt =
       elim (a == w) as (λ b. a == w ≡ b → (shard : Shard)
-      × (IsShardOf workers (resolved ops g.names g.kinds) layout w shard
+      × (IsShardOf workers (resolved ops g) layout w shard
       × ((m : ℕ) → times m (sources_in shard) ≤ times m (sources_all (s ∷ shards))))) [
         | true ↦ λ t. (
           s,
           (
-            subst (λ v. IsShardOf workers (resolved ops g.names g.kinds) layout v s) (eqb-true a w t) z.0,
+            subst (λ v. IsShardOf workers (resolved ops g) layout v s) (eqb-true a w t) z.0,
             λ m. let both = count_by-append (λ x. x == m) (sources_in s) (sources_all shards) in omega arith,
           ),
         )
@@ -121,14 +121,14 @@ module _ (workers : ℕ) (ops : List NamedOp) (g : Graph) (layout : ℕ → List
       ] refl
 
   -- a source that a shard doesn't list is named by none of its operations
-  unlisted : (w m : ℕ) (shard : Shard) → IsShardOf workers (resolved ops g.names g.kinds) layout w shard
-      → times m (sources_in shard) ≡ 0 → All (KeepsOff m) (shard_ops workers w (resolved ops g.names g.kinds))
+  unlisted : (w m : ℕ) (shard : Shard) → IsShardOf workers (resolved ops g) layout w shard
+      → times m (sources_in shard) ≡ 0 → All (KeepsOff m) (shard_ops workers w (resolved ops g))
   unlisted w m shard is none =
       let steps : All (KeepsOff m) (acts (steps_in shard)) = All-map (KeepsOff m) unsourced (steps_in shard)
       (All-map (λ (r : Resolved). KeepsOff m (unsourced r)) (λ (s : Step). resolved_at (sources_in shard) s.act)
       shard.steps.items
       (λ k d lt. one (get_or shard.steps.items k d).act (is.in_range k d lt))) in
-      from_acts (shard_ops workers w (resolved ops g.names g.kinds)) (subst (λ as'. All (KeepsOff m) as') is.acts_are steps)
+      from_acts (shard_ops workers w (resolved ops g)) (subst (λ as'. All (KeepsOff m) as') is.acts_are steps)
     where
       at : (p : Option Place) → IsPlace (length (sources_in shard)) p → key_is_of m (key_at (sources_in shard) p) ≡ false
       at None h = refl
@@ -154,13 +154,13 @@ module _ (workers : ℕ) (ops : List NamedOp) (g : Graph) (layout : ℕ → List
           (from_acts rs (All-tail (KeepsOff m) (unsourced r) (acts rs) all))
 
   -- nor has its row an edge that one of the expiries takes
-  no_old : (w m : ℕ) (shard : Shard) → IsShardOf workers (resolved ops g.names g.kinds) layout w shard → m % workers ≡ w
+  no_old : (w m : ℕ) (shard : Shard) → IsShardOf workers (resolved ops g) layout w shard → m % workers ≡ w
       → times m (sources_in shard) ≡ 0 → has_old_shape (latest rs) (layout m) ≡ false
   no_old w m shard is own none = grind (arith, common_steps, false_from_ne_true, listed_times)
 
   module _ (positive : 0 < workers) (shards : List Shard) (planned : ArePlanned workers ops g layout shards) where
     abbrev left : ℕ → List OpenBlock
-    left = rows_all (resolved ops g.names g.kinds) (opened layout)
+    left = rows_all (resolved ops g) (opened layout)
 
     -- a source that no shard lists is spared by the batch
     pub spared : (m : ℕ) → times m (sources_all shards) ≡ 0 → All (Spares m (opened layout m)) rs
@@ -170,7 +170,7 @@ module _ (workers : ℕ) (ops : List NamedOp) (g : Graph) (layout : ℕ → List
         let few = s.1.1 m in
         let nowhere : times m (sources_in s.0) ≡ 0 = omega arith in
         all_spare m rs (layout m) (no_old (m % workers) m s.0 s.1.0 refl nowhere)
-        (off_all workers m rs (placed_in rs ops g.names g.kinds refl)
+        (off_all workers m rs (placed_in g.limits.weight rs ops g.names g.kinds refl)
         (unlisted (m % workers) m s.0 s.1.0 nowhere))
 
     -- it has the row that it had, with the births that it had
@@ -202,7 +202,7 @@ module _ (workers : ℕ) (ops : List NamedOp) (g : Graph) (layout : ℕ → List
       → ((shard : Shard) (done : ShardDone) → IsShardDone before shard done
       → count done ≡ sum_of (λ m. f m (rows_by before shard m)) (sources_in shard))
       → (a k : ℕ) (shards : List Shard) (dones : List ShardDone) → Zipped a k shards → AllZip (IsShardDone before) shards dones
-      → sum_by count dones ≡ sum_by (λ m. f m (rows_all (resolved ops g.names g.kinds) (opened (layout_by before)) m))
+      → sum_by count dones ≡ sum_by (λ m. f m (rows_all (resolved ops g) (opened (layout_by before)) m))
       (sources_all shards)
   together_at before f count each a zero [] [] z d = refl
   together_at before f count each a zero [] (x ∷ dones) z d = absurd d
@@ -210,7 +210,7 @@ module _ (workers : ℕ) (ops : List NamedOp) (g : Graph) (layout : ℕ → List
   together_at before f count each a (suc k) [] dones z d = absurd z
   together_at before f count each a (suc k) (s ∷ shards) [] z d = absurd d
   together_at before f count each a (suc k) (s ∷ shards) (x ∷ dones) z d =
-      let all : ℕ → ℕ = λ m. f m (rows_all (resolved ops g.names g.kinds) (opened (layout_by before)) m) in
+      let all : ℕ → ℕ = λ m. f m (rows_all (resolved ops g) (opened (layout_by before)) m) in
       sum_by-cons count x dones
       ∙ ap₂ (λ a b. a + b)
       (each s x d.0 ∙ sum_same (λ m. f m (rows_by before s m)) all (sources_in s)
@@ -235,18 +235,18 @@ batch_totals workers ops g before shards dones positive inside shows planned don
 
 module _ (workers w : ℕ) (ops : List NamedOp) (g : Graph) (layout : ℕ → List Shape) (before : ℕ → List BlockView)
     (shard : Shard) (done : ShardDone)
-    (planned : IsShardOf workers (resolved ops g.names g.kinds) layout w shard) (is : IsShardDone before shard done) where
+    (planned : IsShardOf workers (resolved ops g) layout w shard) (is : IsShardDone before shard done) where
   -- the batch's outcomes over the shard's sources
   abbrev all_outcomes : List Outcome
-  all_outcomes = outcomes_all (sources_in shard) (resolved ops g.names g.kinds) (opened (layout_by before))
+  all_outcomes = outcomes_all (sources_in shard) (resolved ops g) (opened (layout_by before))
 
   -- a shard's outcomes are the batch's at the shard's places
   pub shard_outcomes_at : done.outcomes.items
-      ≡ results (is_in_shard workers w) (resolved ops g.names g.kinds) (map told all_outcomes) 0
+      ≡ results (is_in_shard workers w) (resolved ops g) (map told all_outcomes) 0
   shard_outcomes_at =
       is.outcomes_are
       ∙ ap₂ (λ ps (os : List Outcome). zip ps (map told os)) planned.places
-      (same_outcomes (sources_in shard) (steps_in shard) (shard_ops workers w (resolved ops g.names g.kinds)) planned.acts_are
+      (same_outcomes (sources_in shard) (steps_in shard) (shard_ops workers w (resolved ops g)) planned.acts_are
       (opened (layout_by before))
       ∙ ap (λ rs. outcomes_all (sources_in shard) rs (opened (layout_by before)))
       (sym (same_ops workers w ops g (layout_by before))))
@@ -256,7 +256,7 @@ module _ (workers w : ℕ) (ops : List NamedOp) (g : Graph) (layout : ℕ → Li
   -- a shard leaves its rows as the batch does
   row_there : (k : ℕ) (d : ℕ × List BlockView) → k < length (row_values done.rows.items)
       → rows_all (steps_in shard) (opened (layout_by before)) (get_or (row_values done.rows.items) k d).0
-      ≡ rows_all (resolved ops g.names g.kinds) (opened (layout_by before)) (get_or (row_values done.rows.items) k d).0
+      ≡ rows_all (resolved ops g) (opened (layout_by before)) (get_or (row_values done.rows.items) k d).0
   row_there k d lt =
       let r : ℕ × List BlockView = get_or (row_values done.rows.items) k d in
       let long : length (map (λ (r : ℕ × List BlockView). r.0) (row_values done.rows.items))
@@ -274,6 +274,6 @@ module _ (workers w : ℕ) (ops : List NamedOp) (g : Graph) (layout : ℕ → Li
   -- a shard's rows have the births that the batch leaves
   pub shard_births_at : (f h : BlockView → ℕ) (n : ℕ) → ((b : BlockView) → is_in b.number done.left.taken.items ≡ true → h b ≡ n)
       → All (λ r. All (λ b. h b ≡ f b) (before r.0) → map h r.1
-      ≡ births_end n (rows_all (resolved ops g.names g.kinds) (opened (layout_by before)) r.0) (map f (before r.0)))
+      ≡ births_end n (rows_all (resolved ops g) (opened (layout_by before)) r.0) (map f (before r.0)))
       (row_values done.rows.items)
   shard_births_at f h n each k d lt = grind (arith, common_steps, row_there)

@@ -99,7 +99,7 @@ sum_all f (suc n) xs once below rest =
 
 -- a worker's shard leaves the rows of its sources as the batch does
 pub worker_rows : (workers w : ℕ) (ops : List NamedOp) (g : Graph) (layout : ℕ → List Shape) (shard : Shard)
-    → IsShardOf workers (resolved ops g.names g.kinds) layout w shard → (rows : ℕ → List OpenBlock) (source : ℕ)
+    → IsShardOf workers (resolved ops g) layout w shard → (rows : ℕ → List OpenBlock) (source : ℕ)
     → (source % workers == w) ≡ true
-    → rows_all (steps_in shard) rows source ≡ rows_all (resolved ops g.names g.kinds) rows source
+    → rows_all (steps_in shard) rows source ≡ rows_all (resolved ops g) rows source
 worker_rows workers w ops g layout shard is rows source own = grind (arith, common_steps, same_rows, shard_rows)

@@ -12,7 +12,7 @@ use Rattle.batch_apply.specs.declared.plans.PlanError.TheVariants.{KindsFull, Ou
 pub record IsPlan (workers : ℕ) (ops : List NamedOp) (g : Graph) (rows : ℕ → List BlockView) (plan : Plan) : Type 0 where
   pub names : plan.names ≡ vertex_book (after_all ops g)
   pub kinds : plan.kinds ≡ kind_book (after_all ops g)
-  pub shards : AllZip (IsShardOf workers (resolved ops g.names g.kinds) (layout_by rows)) (range_with_len 0 workers)
+  pub shards : AllZip (IsShardOf workers (resolved ops g) (layout_by rows)) (range_with_len 0 workers)
       plan.shards.items
   pub needs : plan.needs.items ≡ map (λ shard. needed rows (sources_in shard) shard.steps.items) plan.shards.items
 

@@ -6,7 +6,7 @@ pub use Rattle.batch_shards.specs.Groups.{told, written}
 
 -- the batch's operations, each with its place
 abbrev pub placed_ops : List NamedOp → Graph → List (ℕ × Resolved)
-placed_ops ops g = enumerate_from 0 (resolved ops g.names g.kinds)
+placed_ops ops g = enumerate_from 0 (resolved ops g)
 
 -- the operations of a shard without their places
 abbrev pub ops_of : List (ℕ × Resolved) → List Resolved

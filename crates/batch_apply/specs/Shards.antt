@@ -71,4 +71,4 @@ IsShardOf workers rs layout w shard =
 -- one shard for each worker, in order, each with the batch's operations on the worker's sources, over a version's layout
 abbrev pub ArePlanned : ℕ → List NamedOp → Graph → (ℕ → List Shape) → List Shard → Type 0
 ArePlanned workers ops g layout shards =
-    AllZip (IsShardOf workers (resolved ops g.names g.kinds) layout) (range_with_len 0 workers) shards
+    AllZip (IsShardOf workers (resolved ops g) layout) (range_with_len 0 workers) shards

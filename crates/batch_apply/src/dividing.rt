@@ -51,7 +51,7 @@ pub fn name_batch(
     requires { AreFound (content version.now).names batch.now found.now }
     ensures names { IfOk result (λ n. n.names ≡ vertex_book (after_all batch.now (content version.now))) }
     ensures kinds { IfOk result (λ n. n.kinds ≡ kind_book (after_all batch.now (content version.now))) }
-    ensures ops { let g = content version.now in IfOk result (λ n. map shown n.ops.items ≡ resolved batch.now g.names g.kinds) }
+    ensures ops { IfOk result (λ n. map shown n.ops.items ≡ resolved batch.now (content version.now)) }
     ensures few { IfOk result (λ n. length n.ops.items ≤ most_operations) }
     ensures placed { IfOk result (λ n. All IsPlaced (map shown n.ops.items)) }
     ensures changes { IfOk result (λ n. All IsInRange n.ops.items) }
@@ -61,7 +61,8 @@ pub fn name_batch(
 {
     let mut names = version.names().share()?;
     let mut kinds = version.kinds().share()?;
-    let ops = resolve_batch(alloc, &mut names, &mut kinds, batch.ops(), found)?;
+    let most = version.limits().weight();
+    let ops = resolve_batch(alloc, &mut names, &mut kinds, most, batch.ops(), found)?;
     Ok(NamedBatch { names, kinds, ops })
 }
 

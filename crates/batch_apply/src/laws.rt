@@ -45,9 +45,9 @@ pub fn law_sum_all()
 /// A worker's shard leaves the rows of its sources as the batch does.
 pub fn law_worker_rows()
     ensures { (workers w : ℕ) (ops : List NamedOp) (g : Graph) (layout : ℕ → List Shape) (shard : Shard)
-        → IsShardOf workers (resolved ops g.names g.kinds) layout w shard → (rows : ℕ → List OpenBlock) (source : ℕ)
+        → IsShardOf workers (resolved ops g) layout w shard → (rows : ℕ → List OpenBlock) (source : ℕ)
         → (source % workers == w) ≡ true
-        → rows_all (steps_in shard) rows source ≡ rows_all (resolved ops g.names g.kinds) rows source }
+        → rows_all (steps_in shard) rows source ≡ rows_all (resolved ops g) rows source }
 {}
 
 /// All workers together take and drop as many blocks as the layout rule says of the batch, for every number of workers.
@@ -66,12 +66,12 @@ pub fn law_batch_totals()
 pub fn law_shard_results()
     ensures outcomes { (workers w : ℕ) (ops : List NamedOp) (g : Graph) (layout : ℕ → List Shape) (before : ℕ → List BlockView)
         (shard : Shard) (done : ShardDone)
-        → IsShardOf workers (resolved ops g.names g.kinds) layout w shard → IsShardDone before shard done
-        → done.outcomes.items ≡ results (is_in_shard workers w) (resolved ops g.names g.kinds)
-        (map told (outcomes_all (sources_in shard) (resolved ops g.names g.kinds) (opened (layout_by before)))) 0 }
+        → IsShardOf workers (resolved ops g) layout w shard → IsShardDone before shard done
+        → done.outcomes.items ≡ results (is_in_shard workers w) (resolved ops g)
+        (map told (outcomes_all (sources_in shard) (resolved ops g) (opened (layout_by before)))) 0 }
     ensures layout { (workers w : ℕ) (ops : List NamedOp) (g : Graph) (layout : ℕ → List Shape) (before : ℕ → List BlockView)
         (shard : Shard) (done : ShardDone)
-        → IsShardOf workers (resolved ops g.names g.kinds) layout w shard → IsShardDone before shard done
+        → IsShardOf workers (resolved ops g) layout w shard → IsShardDone before shard done
         → All (λ r. map shape_of r.1 ≡ layout_after ops g (layout_by before) r.0) (row_values done.rows.items) }
 {}
 

@@ -2,8 +2,9 @@
 
 ghost use Rattle.std.specs.Prelude.{◌≡◌, ◌≤◌, ℕ, List, map, IfOk, IfErr, OnOk, All};
 ghost use Rattle.graph_types.specs.Valid.{IsValid};
-ghost use Rattle.edge_block.specs.Operations.{parts_of};
-ghost use Rattle.edge_block.specs.Batches.{resolve_parts, resolved, IsPlaced};
+ghost use Rattle.graph_types.specs.Limits.{weight_limit};
+ghost use Rattle.edge_block.specs.Operations.{parts_in};
+ghost use Rattle.edge_block.specs.Batches.{resolve_parts, resolved_by, IsPlaced};
 ghost use Rattle.batch_apply.specs.Plan.{names_all, kinds_all, shown, with_names, AreFound, Fits, IsInRange, IsSeen, IsUnplanned};
 
 use crate::finding::found_at;
@@ -15,7 +16,8 @@ use vertex_names::NameBook;
 
 /// An operation's kind with its number, by the operation resolved; none where its edge's key is not known.
 fn kind_seen<'a>(op: &'a NamedOp, resolved: ResolvedOp) -> Option<SeenKind<'a>>
-    ensures { (names kinds : List (List ℕ)) → shown resolved ≡ resolve_parts names kinds (parts_of op.now) → IsSeen kinds result }
+    ensures { (most : ℕ) (names kinds : List (List ℕ)) → shown resolved ≡ resolve_parts names kinds (parts_in most op.now)
+        → IsSeen kinds result }
 {
     let ResolvedOp::Edge(_, Some(key), _) = resolved else {
         return None;
@@ -30,8 +32,8 @@ fn kind_seen<'a>(op: &'a NamedOp, resolved: ResolvedOp) -> Option<SeenKind<'a>>
     }
 }
 
-/// A batch's operations with the numbers of their names, each by the names at its place; the books then have the names
-/// that the batch leaves, and are within their limits as they were before.
+/// A batch's operations with the numbers of their names, each by the names at its place, where weights are of at most this size;
+/// the books then have the names that the batch leaves, and are within their limits as they were before.
 ///
 /// What was found of the ends of the first operations spares looking these up. `NamesFull` comes before `KindsFull`. After
 /// an error the books have some of the batch's names.
@@ -40,14 +42,16 @@ pub fn resolve_batch(
     alloc: Global,
     names: &mut NameBook,
     kinds: &mut NameBook,
+    most: u64,
     ops: &[NamedOp],
     found_before: &[Ends],
 ) -> Result<Vec<ResolvedOp>, PlanError>
     requires limit { kinds.old.limit ≤ 64 }
     requires within { Fits names.old × Fits kinds.old }
+    requires most { most ≤ weight_limit }
     requires valid { All IsValid ops.now }
     requires found { AreFound names.old.names ops.now found_before.now }
-    ensures ops { IfOk result (λ v. map shown v.items ≡ resolved ops.now names.old.names kinds.old.names) }
+    ensures ops { IfOk result (λ v. map shown v.items ≡ resolved_by most ops.now names.old.names kinds.old.names) }
     ensures changes { IfOk result (λ v. All IsInRange v.items) }
     ensures placed { IfOk result (λ v. All IsPlaced (map shown v.items)) }
     ensures names { OnOk result (names.new ≡ with_names names.old (names_all ops.now names.old.names)) }
@@ -63,6 +67,7 @@ pub fn resolve_batch(
             names,
             kinds,
             asked,
+            most,
             &ops[k + 1..],
             found_at(found_before, k),
             seen,

@@ -7,7 +7,8 @@ ghost use Rattle.vertex_names.specs.Book.{Book};
 ghost use Rattle.graph_types.specs.declared.batches.NamedOp.{NamedOp};
 ghost use Rattle.graph_types.specs.Valid.{is_name, is_kind_name, has_names, IsValid};
 ghost use Rattle.std.specs.Option.{option_map};
-ghost use Rattle.edge_block.specs.Operations.{parts_of, names_after, kinds_after};
+ghost use Rattle.edge_block.specs.Operations.{parts_in, parts_of, names_after, kinds_after};
+ghost use Rattle.graph_types.specs.Limits.{weight_limit};
 ghost use Rattle.batch_apply.specs.Plan as plan;
 ghost use Rattle.batch_apply.specs.Plan.{known, ends_in, names_all, key_from, key_of, shown, with_names, kind_by};
 ghost use Rattle.batch_apply.specs.Plan.{Fits, IsFound, IsSeen, IsInRange, IsRefusal, IsUnplanned};
@@ -213,11 +214,12 @@ fn on_edge(ends: Ends, kind: Option<KindId>, change: EdgeChange) -> ResolvedOp
     ResolvedOp::Edge(ends.source, key_by(ends, kind), change)
 }
 
-/// An operation with these ends and this kind.
-fn resolved_op(op: &NamedOp, ends: Ends, kind: Option<KindId>) -> ResolvedOp
-    requires { IsValid op.now }
+/// An operation with these ends and this kind, where weights are of at most this size.
+fn resolved_op(op: &NamedOp, most: u64, ends: Ends, kind: Option<KindId>) -> ResolvedOp
+    requires op { IsValid op.now }
+    requires most { most ≤ weight_limit }
     ensures shown { (kinds : List (List ℕ)) → option_map (λ k. k.0) kind ≡ kind_by kinds (parts_of op.now)
-        → shown result ≡ plan.with_kind kinds ends (parts_of op.now) }
+        → shown result ≡ plan.with_kind kinds ends (parts_in most op.now) }
     ensures valid { IsInRange result }
 {
     match op {
@@ -227,6 +229,7 @@ fn resolved_op(op: &NamedOp, ends: Ends, kind: Option<KindId>) -> ResolvedOp
             EdgeChange::Insert {
                 weight: *weight,
                 time: *time,
+                most,
             },
         ),
         NamedOp::Incr { amount, time, .. } => on_edge(
@@ -235,6 +238,7 @@ fn resolved_op(op: &NamedOp, ends: Ends, kind: Option<KindId>) -> ResolvedOp
             EdgeChange::Incr {
                 amount: *amount,
                 time: *time,
+                most,
             },
         ),
         NamedOp::Remove { .. } => on_edge(ends, kind, EdgeChange::Remove),
@@ -289,14 +293,15 @@ fn kinds_refusal(error: AddError, names: &mut NameBook, behind: &[NamedOp]) -> P
     }
 }
 
-/// An operation with the numbers of its names, which are added first, where it makes any. These operations are behind it, and
-/// this was found of its ends. A kind may have been seen before.
+/// An operation with the numbers of its names, which are added first, where it makes any; weights are of at most this size. These
+/// operations are behind it, and this was found of its ends. A kind may have been seen before.
 ///
 /// After an error the books have some of the names.
 pub fn resolve_op(
     names: &mut NameBook,
     kinds: &mut NameBook,
     op: &NamedOp,
+    most: u64,
     behind: &[NamedOp],
     found: Ends,
     seen: Option<SeenKind<'_>>,
@@ -304,11 +309,12 @@ pub fn resolve_op(
     requires limit { kinds.old.limit ≤ 64 }
     requires within { Fits names.old × Fits kinds.old }
     requires op { IsValid op.now }
+    requires most { most ≤ weight_limit }
     requires behind { All IsValid behind.now }
     requires found { IsFound names.old.names op.now found }
     requires seen { IsSeen kinds.old.names seen }
     ensures op { IfOk result (λ r. shown r
-        ≡ resolve_parts (names_after op.now names.old.names) (kinds_after op.now kinds.old.names) (parts_of op.now)) }
+        ≡ resolve_parts (names_after op.now names.old.names) (kinds_after op.now kinds.old.names) (parts_in most op.now)) }
     ensures change { IfOk result IsInRange }
     ensures names { OnOk result (names.new ≡ with_names names.old (names_after op.now names.old.names)) }
     ensures kinds { OnOk result (kinds.new ≡ with_names kinds.old (kinds_after op.now kinds.old.names)) }
@@ -320,7 +326,7 @@ pub fn resolve_op(
         Err(error) => return Err(names_refusal(error)),
     };
     match op_kind(kinds, op, seen) {
-        Ok(kind) => Ok(resolved_op(op, ends, kind)),
+        Ok(kind) => Ok(resolved_op(op, most, ends, kind)),
         Err(error) => Err(kinds_refusal(error, names, behind)),
     }
 }

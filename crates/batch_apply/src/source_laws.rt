@@ -13,6 +13,6 @@ ghost use Rattle.batch_apply.specs.Shards.{IsShardOf};
 /// The sources of a batch's shards are vertices of the graph that the batch leaves.
 pub fn law_sources_within()
     ensures { (workers worker : ℕ) (ops : List NamedOp) (g : Graph) (layout : ℕ → List Shape) (shard : Shard)
-        → IsWithin g → IsLayoutOf layout g.edges → IsShardOf workers (resolved ops g.names g.kinds) layout worker shard
+        → IsWithin g → IsLayoutOf layout g.edges → IsShardOf workers (resolved ops g) layout worker shard
         → All (λ s. s < length (after_all ops g).names) (sources_in shard) }
 {}

@@ -27,7 +27,7 @@ length-outcomes_all sources [] rows = refl
 length-outcomes_all sources (r ∷ rs) rows = ap suc (length-outcomes_all sources rs (rows_step r rows))
 
 abbrev pub first_step : Step
-first_step = record { op = 0; act = Edge None (Insert (pos 0) 0) }
+first_step = record { op = 0; act = Edge None (Insert (pos 0) 0 0) }
 
 module _ (sources : List ℕ) (steps : List Step) (k : ℕ) (lt : k < length steps) where
   abbrev s : Step

@@ -118,8 +118,8 @@ module _ (steps : List Step) (reached : List ℕ) (are : AreReached steps reache
 
 -- what a change writes bears a time that isn't before this one
 abbrev pub IsFrom : ℕ → EdgeChange → Type 0
-IsFrom s (ToInsert weight time) = s ≤ time
-IsFrom s (ToIncr amount time) = s ≤ time
+IsFrom s (ToInsert weight time most) = s ≤ time
+IsFrom s (ToIncr amount time most) = s ≤ time
 IsFrom s ToRemove = Unit {0}
 
 written_from : (s : ℕ) (change : EdgeChange) (before : Option Stamp) (x : Stamp) → IsFrom s change

@@ -32,7 +32,7 @@ births_dropped (o ∷ row) births =
 
 -- the row of a source at the end of a batch, before its touched blocks without edges are left out
 abbrev pub open_row : List NamedOp → Graph → (ℕ → List Shape) → ℕ → List OpenBlock
-open_row ops g layout source = rows_all (resolved ops g.names g.kinds) (opened layout) source
+open_row ops g layout source = rows_all (resolved ops g) (opened layout) source
 
 -- the births of each source's blocks that a batch leaves, whose version is n
 abbrev pub births_after : ℕ → List NamedOp → Graph → (ℕ → List Shape) → (ℕ → List ℕ) → ℕ → List ℕ

@@ -65,12 +65,12 @@ ended_layout rows edges u s = grind (arith, common_steps, end_within, end_unique
 pub batch_layout : (ops : List NamedOp) (g : Graph) (layout : ℕ → List Shape) (n : ℕ) → IsWithin g → IsLayoutOf layout g.edges
     → length (after_all ops g).names ≤ n
     → IsLayoutOf (layout_after ops g layout) (after_all ops g).edges
-    × (outcomes_all (range_with_len 0 n) (resolved ops g.names g.kinds) (opened layout) ≡ outcomes ops g)
+    × (outcomes_all (range_with_len 0 n) (resolved ops g) (opened layout) ≡ outcomes ops g)
     × IsWithin (after_all ops g)
 batch_layout ops g layout n w l few =
     let done = all_shows ops g (opened layout) n w (λ source. opened_row (layout source) (l.distinct source))
     (λ k. opened_at (layout k.source) (k.kind, k.target) ∙ l.shows k) few in (
-      ended_layout (rows_all (resolved ops g.names g.kinds) (opened layout)) (after_all ops g).edges done.1 done.0,
+      ended_layout (rows_all (resolved ops g) (opened layout)) (after_all ops g).edges done.1 done.0,
       done.2,
       done.3,
     )

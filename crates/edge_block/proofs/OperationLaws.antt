@@ -3,26 +3,21 @@ use Rattle.std.proofs.Common.{◌≡◌, ℕ, ◌<◌, ◌==◌, List, [], ◌�
 use Rattle.std.proofs.Common.{refl, sym, ap, ◌∙◌, subst, Option, Some, None, is_some}
 use Rattle.std.proofs.lemmas.{Bool.{true≢false, false≢true, eqb-true, lt-ltb}, List.Elements.All-map, Grind.common_steps}
 use Rattle.std.specs.{List.range_with_len, Option.option_or, Ordering.eq_by_cmp}
-use Rattle.std.specs.{Cmp.Equal-is, FinMap.FinMap, FinMap.get, FinMap.get-insert, FinMap.get-remove}
+use Rattle.std.specs.{Cmp.Equal-is, FinMap.FinMap, FinMap.get}
 use Rattle.graph_types.specs.{Graph.{Graph, Key, Stamp, key_cmp}, Step.{after_all, set_at, stamp_after, outcome_at, changed}}
 use Rattle.graph_types.specs.Step.{changed_key, change_outcome, after, outcome, outcomes, with_name, names_made}
 use Rattle.graph_types.specs.{Step.{kinds_made, expired, count_before}, Answer.is_listed}
 use Rattle.graph_types.specs.declared.batches.{NamedOp.NamedOp, Outcome.Outcome}
 use Rattle.graph_types.specs.declared.{batches.Outcome.TheVariants.{Absent, Expired}, changes.EdgeChange.EdgeChange}
 use Rattle.graph_types.specs.declared.changes.EdgeChange.TheVariants.{Insert as ToInsert, Incr as ToIncr, Remove as ToRemove}
-use Rattle.edge_block.specs.Operations.{Parts, OfEdge, OfAll, parts_of, names_by, kinds_by, names_after, kinds_after}
+use Rattle.edge_block.specs.Operations.{Parts, OfEdge, OfAll, parts_in, names_by, kinds_by, names_after, kinds_after}
 use Rattle.edge_block.specs.{Slots.{NoKeyTwice, AreDistinct}, Rows.{OpenBlock, block_at, row_at, open_at, edge_at, IsRow}}
-use Rattle.edge_block.specs.{Rows.{change_row, shapes}, Batches.{Resolved, InAll, resolve_parts, resolved, key_is_of, key_step}}
+use Rattle.edge_block.specs.{Rows.{change_row, shapes}, Batches.{Resolved, InAll, resolve_parts, resolved, resolved_by, key_is_of, key_step}}
 use Rattle.edge_block.specs.Batches.{rows_step, IsWithin, rows_all, key_outcome, outcome_in, outcomes_all, IsLayoutOf}
-use Rattle.graph_types.proofs.{Keys.keys_total, Keys.exact_keys, NameLists.length-after_all-names, Expiry.get-expired}
+use Rattle.graph_types.proofs.{Keys.exact_keys, NameLists.length-after_all-names, Expiry.get-expired, WeightsKept.set_at_get}
 use Rattle.graph_types.proofs.NameLists.{any_before_end, appears-with_name, stays-with_name, named, length-names_made, length-kinds_made}
 use Rattle.edge_block.proofs.{RowLaws.{IsOpenRow, change_sets}, ListedRows.{tests, tied, count_shown}, ExpiryLaws.expire_stays}
 use Rattle.edge_block.proofs.{ExpiryLaws.{expire_open, was_there}, Changes.none_is}
-
-pub set_at_get : (m : FinMap key_cmp Stamp) (k : Key) (o : Option Stamp) (q : Key)
-    → get (set_at m k o) q ≡ cond (eq_by_cmp key_cmp q k) o (get m q)
-set_at_get m k None q = get-remove keys_total m k q
-set_at_get m k (Some v) q = get-insert keys_total m k v q
 
 -- the rows have the map's edges, and no others
 abbrev pub Shows : (ℕ → List OpenBlock) → FinMap key_cmp Stamp → Type 0
@@ -41,11 +36,22 @@ abbrev outcome_parts : Parts → Graph → Outcome
 outcome_parts (OfEdge change kind source target) g = change_outcome change kind source target g
 outcome_parts (OfAll time) g = Expired (count_before time g.edges)
 
-after_is : (op : NamedOp) (g : Graph) → after op g ≡ after_parts (parts_of op) g
+-- under the limit of the graph
+abbrev parts_over : NamedOp → Graph → Parts
+parts_over op g = parts_in g.limits.weight op
+
+after_is : (op : NamedOp) (g : Graph) → after op g ≡ after_parts (parts_over op g) g
 after_is h0 g = grind (arith, common_steps)
 
-outcome_is : (op : NamedOp) (g : Graph) → outcome op g ≡ outcome_parts (parts_of op) g
+outcome_is : (op : NamedOp) (g : Graph) → outcome op g ≡ outcome_parts (parts_over op g) g
 outcome_is h0 g = grind (arith, common_steps)
+
+-- a limit of weights changes no names
+names_over : (most : ℕ) (op : NamedOp) (names : List (List ℕ)) → names_by (parts_in most op) names ≡ names_after op names
+names_over most h0 names = grind (arith, common_steps)
+
+kinds_over : (most : ℕ) (op : NamedOp) (kinds : List (List ℕ)) → kinds_by (parts_in most op) kinds ≡ kinds_after op kinds
+kinds_over most h0 kinds = grind (arith, common_steps)
 
 never : {A : Type 0} (a : Bool) (x y : A) → y ≡ cond (a && false) x y
 never h0 x y = grind (arith, common_steps)
@@ -130,9 +136,9 @@ lies : (change : EdgeChange) (kind source target : List ℕ) (g : Graph) (before
     → is_some (stamp_after change before) ≡ true
     → let k = changed_key change kind source target g in (k.kind < length (kinds_made change kind g.kinds))
     × (k.source < length (names_made change source target g.names)) × (k.target < length (names_made change source target g.names))
-lies (ToInsert weight time) kind source target g before is =
+lies (ToInsert weight time most) kind source target g before is =
     let n = named g.names g.kinds kind source target in (n.kind, n.source, n.target)
-lies (ToIncr amount time) kind source target g before is =
+lies (ToIncr amount time most) kind source target g before is =
     let n = named g.names g.kinds kind source target in (n.kind, n.source, n.target)
 lies ToRemove kind source target g before is = absurd (false≢true is)
 
@@ -191,7 +197,7 @@ step_shows (OfAll time) g rows n w u s few =
 
 -- an operation by the names and kinds that it leaves of the graph's
 abbrev by_left : NamedOp → Graph → Resolved
-by_left op g = resolve_parts (names_after op g.names) (kinds_after op g.kinds) (parts_of op)
+by_left op g = resolve_parts (names_after op g.names) (kinds_after op g.kinds) (parts_over op g)
 
 names_left : (parts : Parts) (g : Graph) → (after_parts parts g).names ≡ names_by parts g.names
 names_left h0 g = grind (arith, common_steps)
@@ -199,25 +205,44 @@ names_left h0 g = grind (arith, common_steps)
 kinds_left : (parts : Parts) (g : Graph) → (after_parts parts g).kinds ≡ kinds_by parts g.kinds
 kinds_left h0 g = grind (arith, common_steps)
 
+limits_left : (parts : Parts) (g : Graph) → (after_parts parts g).limits ≡ g.limits
+limits_left h0 g = grind (arith, common_steps)
+
+-- the operation over a graph
+one_shows : (op : NamedOp) (g : Graph) (rows : ℕ → List OpenBlock) (n : ℕ) → IsWithin g → AreOpenRows rows → Shows rows g.edges
+    → length g.names ≤ n → let r = by_left op g in
+    Shows (rows_step r rows) (after_parts (parts_over op g) g).edges × AreOpenRows (rows_step r rows)
+    × (outcome_in (range_with_len 0 n) r rows ≡ outcome_parts (parts_over op g) g)
+one_shows op g rows n w u s few =
+    let parts : Parts = parts_over op g in
+    let same : ◌≡◌ {A = Resolved} (resolve_parts (names_by parts g.names) (kinds_by parts g.kinds) parts) (by_left op g) =
+    λ i. resolve_parts (names_over g.limits.weight op g.names i) (kinds_over g.limits.weight op g.kinds i) parts in
+    subst (λ (r : Resolved). Shows (rows_step r rows) (after_parts parts g).edges × AreOpenRows (rows_step r rows)
+    × (outcome_in (range_with_len 0 n) r rows ≡ outcome_parts parts g))
+    same (step_shows parts g rows n w u s few)
+
 -- a batch's operations, one after another
 pub all_shows : (ops : List NamedOp) (g : Graph) (rows : ℕ → List OpenBlock) (n : ℕ) → IsWithin g → AreOpenRows rows
     → Shows rows g.edges → length (after_all ops g).names ≤ n
-    → let rs = resolved ops g.names g.kinds in
+    → let rs = resolved ops g in
     Shows (rows_all rs rows) (after_all ops g).edges × AreOpenRows (rows_all rs rows)
     × (outcomes_all (range_with_len 0 n) rs rows ≡ outcomes ops g) × IsWithin (after_all ops g)
 all_shows [] g rows n w u s few = (s, u, refl, w)
 all_shows (op ∷ ops) g rows n w u s few =
     let all : List ℕ = range_with_len 0 n in
-    let parts : Parts = parts_of op in
+    let parts : Parts = parts_over op g in
     let r : Resolved = by_left op g in
     let next : Graph = after_parts parts g in
-    let rs : List Resolved = resolved ops (names_after op g.names) (kinds_after op g.kinds) in
-    let there : ◌≡◌ {A = List Resolved} (resolved ops next.names next.kinds) rs =
-    λ i. resolved ops (names_left parts g i) (kinds_left parts g i) in
+    let most : ℕ = g.limits.weight in
+    let rs : List Resolved = resolved_by most ops (names_after op g.names) (kinds_after op g.kinds) in
+    let names_are : next.names ≡ names_after op g.names = names_left parts g ∙ names_over most op g.names in
+    let kinds_are : next.kinds ≡ kinds_after op g.kinds = kinds_left parts g ∙ kinds_over most op g.kinds in
+    let there : ◌≡◌ {A = List Resolved} (resolved ops next) rs =
+    λ i. resolved_by (limits_left parts g i).weight ops (names_are i) (kinds_are i) in
     let few_here : length g.names ≤ n = omega (arith, few, length-after_all-names (op ∷ ops) g) in
     let few_next : length (after_all ops next).names ≤ n =
     subst (λ (h : Graph). length (after_all ops h).names ≤ n) (after_is op g) few in
-    let one = step_shows parts g rows n w u s few_here in
+    let one = one_shows op g rows n w u s few_here in
     let rest = all_shows ops next (rows_step r rows) n (step_within parts g w) one.1 one.0 few_next in
     subst (λ (h : Graph).
     Shows (rows_all rs (rows_step r rows)) (after_all ops h).edges × AreOpenRows (rows_all rs (rows_step r rows))

@@ -7,10 +7,10 @@ use Rattle.std.proofs.{Common.arith, lemmas.Grind.common_steps}
 use Rattle.graph_types.specs.Graph.{Key}
 use Rattle.graph_types.specs.declared.batches.NamedOp.{NamedOp}
 use Rattle.graph_types.specs.declared.batches.Outcome.TheVariants.{Expired}
-use Rattle.edge_block.specs.{Operations.{Parts, parts_of, names_after, kinds_after}, Rows.OpenBlock}
+use Rattle.edge_block.specs.{Operations.{Parts, parts_in, names_after, kinds_after}, Rows.OpenBlock}
 use Rattle.edge_block.specs.{Rows.old_in_row, Batches.{Resolved, AtKey, InAll, key_is_of, acts_on, row_step}}
 use Rattle.edge_block.specs.Batches.{key_outcome, outcome_in, rows_step, rows_all, outcomes_all, picked, together, joined}
-use Rattle.edge_block.specs.Batches.{IsPlaced, is_in_shard, shard_ops, resolve_parts, resolved}
+use Rattle.edge_block.specs.Batches.{IsPlaced, is_in_shard, shard_ops, resolve_parts, resolved_by}
 
 sum_same : (own : ℕ → Bool) (f g : ℕ → ℕ) → ((s : ℕ) → own s ≡ true → f s ≡ g s) → (xs : List ℕ)
     → All (λ s. own s ≡ true) xs → sum_by f xs ≡ sum_by g xs
@@ -84,10 +84,11 @@ source_row rs rows source = own_rows (acts_on source) (λ other. source == other
 placed : (names kinds : List (List ℕ)) (op : Parts) → IsPlaced (resolve_parts names kinds op)
 placed names kinds h2 = grind (arith, common_steps)
 
-all_placed : (ops : List NamedOp) (names kinds : List (List ℕ)) → All IsPlaced (resolved ops names kinds)
-all_placed [] names kinds = All-nil IsPlaced
-all_placed (op ∷ ops) names kinds = All-cons IsPlaced _ _ (placed (names_after op names) (kinds_after op kinds) (parts_of op))
-    (all_placed ops (names_after op names) (kinds_after op kinds))
+all_placed : (most : ℕ) (ops : List NamedOp) (names kinds : List (List ℕ)) → All IsPlaced (resolved_by most ops names kinds)
+all_placed most [] names kinds = All-nil IsPlaced
+all_placed most (op ∷ ops) names kinds =
+    All-cons IsPlaced _ _ (placed (names_after op names) (kinds_after op kinds) (parts_in most op))
+    (all_placed most ops (names_after op names) (kinds_after op kinds))
 
 abbrev own_source : ℕ → ℕ → ℕ → Bool
 own_source workers w source = source % workers == w
@@ -96,19 +97,19 @@ all_follow : (workers w : ℕ) (rs : List Resolved) → All IsPlaced rs
     → All (Follows (is_in_shard workers w) (own_source workers w)) rs
 all_follow workers w rs h = grind (arith, common_steps)
 
-module _ (workers w : ℕ) (ops : List NamedOp) (names kinds : List (List ℕ)) (rows : ℕ → List OpenBlock) where
+module _ (workers w most : ℕ) (ops : List NamedOp) (names kinds : List (List ℕ)) (rows : ℕ → List OpenBlock) where
   -- a shard alone leaves the rows of its sources as the batch leaves them
   pub shard_rows : (source : ℕ) → (source % workers == w) ≡ true
-      → rows_all (shard_ops workers w (resolved ops names kinds)) rows source ≡ rows_all (resolved ops names kinds) rows source
-  shard_rows = own_rows (is_in_shard workers w) (own_source workers w) (resolved ops names kinds)
-      (all_follow workers w _ (all_placed ops names kinds)) rows rows (λ source is. refl)
+      → rows_all (shard_ops workers w (resolved_by most ops names kinds)) rows source ≡ rows_all (resolved_by most ops names kinds) rows source
+  shard_rows = own_rows (is_in_shard workers w) (own_source workers w) (resolved_by most ops names kinds)
+      (all_follow workers w _ (all_placed most ops names kinds)) rows rows (λ source is. refl)
 
   -- a shard's outcomes are those that the batch has at the shard's operations, expiries counted over the same sources
   pub shard_outcomes : (sources : List ℕ) → All (λ s. (s % workers == w) ≡ true) sources
-      → outcomes_all sources (shard_ops workers w (resolved ops names kinds)) rows
-      ≡ picked (is_in_shard workers w) (resolved ops names kinds) (outcomes_all sources (resolved ops names kinds) rows)
-  shard_outcomes sources all = own_outcomes (is_in_shard workers w) (own_source workers w) sources all (resolved ops names kinds)
-      (all_follow workers w _ (all_placed ops names kinds)) rows rows (λ source is. refl)
+      → outcomes_all sources (shard_ops workers w (resolved_by most ops names kinds)) rows
+      ≡ picked (is_in_shard workers w) (resolved_by most ops names kinds) (outcomes_all sources (resolved_by most ops names kinds) rows)
+  shard_outcomes sources all = own_outcomes (is_in_shard workers w) (own_source workers w) sources all (resolved_by most ops names kinds)
+      (all_follow workers w _ (all_placed most ops names kinds)) rows rows (λ source is. refl)
 
 -- A change tells no count, so outcomes over two lists of sources are put together place by place
 one_together : (xs ys : List ℕ) (r : Resolved) (rows : ℕ → List OpenBlock)

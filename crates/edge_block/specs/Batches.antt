@@ -5,7 +5,7 @@ use Rattle.std.specs.declared.option.Option.TheVariants.{None, Some}
 use Rattle.graph_types.specs.{Graph.{Graph, Key, Stamp, key_cmp}, Step.{number_of, key_in, outcome_at}}
 use Rattle.graph_types.specs.declared.batches.{NamedOp.NamedOp, Outcome.{Outcome, TheVariants.{Absent, Expired}}}
 use Rattle.graph_types.specs.{declared.changes.EdgeChange.EdgeChange, Answer.is_listed}
-use Rattle.edge_block.specs.Operations.{Parts, OfEdge, OfAll, parts_of, names_after, kinds_after}
+use Rattle.edge_block.specs.Operations.{Parts, OfEdge, OfAll, parts_in, names_after, kinds_after}
 use Rattle.edge_block.specs.Rows.{Shape, OpenBlock, row_at, edge_at, untouched, change_row, expire_row, old_in_row, row_end}
 use Rattle.edge_block.specs.Rows.{taken_in, dropped_in, IsRow}
 pub use Rattle.graph_types.specs.Answer.{is_listed as is_known}
@@ -25,13 +25,17 @@ resolve_parts names kinds (OfEdge change kind source target) =
     change
 resolve_parts names kinds (OfAll time) = InAll time
 
--- a batch's operations, each by the names at its place
-abbrev pub resolved : List NamedOp → List (List ℕ) → List (List ℕ) → List Resolved
-resolved [] names kinds = []
-resolved (op ∷ ops) names kinds =
+-- a batch's operations, each by the names at its place, under this limit of weights
+abbrev pub resolved_by : ℕ → List NamedOp → List (List ℕ) → List (List ℕ) → List Resolved
+resolved_by most [] names kinds = []
+resolved_by most (op ∷ ops) names kinds =
     let names' = names_after op names in
     let kinds' = kinds_after op kinds in
-    resolve_parts names' kinds' (parts_of op) ∷ resolved ops names' kinds'
+    resolve_parts names' kinds' (parts_in most op) ∷ resolved_by most ops names' kinds'
+
+-- the same over a graph
+abbrev pub resolved : List NamedOp → Graph → List Resolved
+resolved ops g = resolved_by g.limits.weight ops g.names g.kinds
 
 -- whether the operation acts on the row of a source
 abbrev pub key_is_of : ℕ → Option Key → Bool
@@ -79,7 +83,7 @@ opened layout source = map untouched (layout source)
 
 -- the layout that a batch leaves
 abbrev pub layout_after : List NamedOp → Graph → (ℕ → List Shape) → ℕ → List Shape
-layout_after ops g layout source = row_end (rows_all (resolved ops g.names g.kinds) (opened layout) source)
+layout_after ops g layout source = row_end (rows_all (resolved ops g) (opened layout) source)
 
 abbrev pub sum_below : ℕ → (ℕ → ℕ) → ℕ
 sum_below zero f = 0
@@ -88,11 +92,11 @@ sum_below (suc n) f = f n + sum_below n f
 -- how many blocks a batch takes and drops, over n sources
 abbrev pub taken_by : List NamedOp → Graph → (ℕ → List Shape) → ℕ → ℕ
 taken_by ops g layout n =
-    sum_below n (λ source. taken_in (rows_all (resolved ops g.names g.kinds) (opened layout) source))
+    sum_below n (λ source. taken_in (rows_all (resolved ops g) (opened layout) source))
 
 abbrev pub dropped_by : List NamedOp → Graph → (ℕ → List Shape) → ℕ → ℕ
 dropped_by ops g layout n =
-    sum_below n (λ source. dropped_in (rows_all (resolved ops g.names g.kinds) (opened layout) source))
+    sum_below n (λ source. dropped_in (rows_all (resolved ops g) (opened layout) source))
 
 -- an edge's numbers are those of names and kinds
 abbrev pub IsWithin : Graph → Type 0

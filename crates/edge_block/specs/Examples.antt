@@ -9,7 +9,7 @@ abbrev pub change_at : EdgeChange → ℕ → Resolved
 change_at change target = AtKey (Some 0) (Some (record { kind = 0; source = 0; target = target })) change
 
 abbrev pub insert_at : ℕ → Resolved
-insert_at target = change_at (Insert (pos 1) 1) target
+insert_at target = change_at (Insert (pos 1) 1 1) target
 
 abbrev pub remove_at : ℕ → Resolved
 remove_at target = change_at Remove target
@@ -24,7 +24,7 @@ targets_of row = map (λ b. map (λ e. e.target) (edges_in b.slots)) row
 
 -- an insertion at time 9, where insert_at is one at time 1
 abbrev pub insert_late : ℕ → Resolved
-insert_late target = change_at (Insert (pos 1) 9) target
+insert_late target = change_at (Insert (pos 1) 9 1) target
 
 -- a row's counts at a batch's end: the edges of each block, the blocks taken, and those dropped
 pub record Leaves (row : List OpenBlock) (edges : List ℕ) (taken dropped : ℕ) : Type 0 where

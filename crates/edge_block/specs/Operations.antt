@@ -1,6 +1,6 @@
 -- An operation by its parts: what it does to its edge and the names of the edge, or the time of an expiry.
 use Rattle.std.specs.Prelude.{ℕ, List}
-use Rattle.graph_types.specs.{Step.{names_made, kinds_made}, declared.batches.NamedOp.{NamedOp, TheVariants.{Insert, Incr}}}
+use Rattle.graph_types.specs.{Limits.weight_limit, Step.{names_made, kinds_made}, declared.batches.NamedOp.{NamedOp, TheVariants.{Insert, Incr}}}
 use Rattle.graph_types.specs.declared.{batches.NamedOp.TheVariants.{Remove, Expire}, changes.EdgeChange.EdgeChange}
 use Rattle.graph_types.specs.declared.changes.EdgeChange.TheVariants.{Insert as ToInsert, Incr as ToIncr, Remove as ToRemove}
 
@@ -10,13 +10,17 @@ pub data Parts : Type 0 where
   OfEdge : (change : EdgeChange) (kind source target : List ℕ) → Parts
   OfAll : (time : ℕ) → Parts
 
-abbrev pub parts_of : NamedOp → Parts
-parts_of (Insert kind source target weight time) = OfEdge (ToInsert weight time) kind source target
-parts_of (Incr kind source target amount time) = OfEdge (ToIncr amount time) kind source target
-parts_of (Remove kind source target) = OfEdge ToRemove kind source target
-parts_of (Expire time) = OfAll time
+-- under this limit of weights and under the standard one
+abbrev pub parts_in : ℕ → NamedOp → Parts
+parts_in most (Insert kind source target weight time) = OfEdge (ToInsert weight time most) kind source target
+parts_in most (Incr kind source target amount time) = OfEdge (ToIncr amount time most) kind source target
+parts_in most (Remove kind source target) = OfEdge ToRemove kind source target
+parts_in most (Expire time) = OfAll time
 
--- the names and the kinds that the operation leaves
+abbrev pub parts_of : NamedOp → Parts
+parts_of op = parts_in weight_limit op
+
+-- the names and the kinds that the operation leaves, whatever the limit
 abbrev pub names_by : Parts → List (List ℕ) → List (List ℕ)
 names_by (OfEdge change kind source target) names = names_made change source target names
 names_by (OfAll time) names = names

@@ -10,7 +10,7 @@ ghost use Rattle.graph_types.specs.declared.batches.NamedOp.{NamedOp};
 ghost use Rattle.graph_types.specs.declared.batches.Outcome.TheVariants.{Expired};
 ghost use Rattle.edge_block.specs.Examples.{AreExamples};
 ghost use Rattle.edge_block.specs.Rows.{Shape, OpenBlock, row_end, expire_row};
-ghost use Rattle.edge_block.specs.Batches.{Resolved, IsWithin, IsLayoutOf, acts_on, layout_after, outcomes_all, resolved};
+ghost use Rattle.edge_block.specs.Batches.{Resolved, IsWithin, IsLayoutOf, acts_on, layout_after, outcomes_all, resolved, resolved_by};
 ghost use Rattle.edge_block.specs.Batches.{InAll, opened, rows_all, outcome_in};
 ghost use Rattle.edge_block.specs.Batches.{shard_ops, is_in_shard, picked, joined};
 ghost use Rattle.edge_block.specs.Listed.{edges_below, AreListedOnce};
@@ -23,7 +23,7 @@ pub fn law_batch_layout()
     ensures { (ops : List NamedOp) (g : Graph) (layout : ℕ → List Shape) (n : ℕ) → IsWithin g → IsLayoutOf layout g.edges
         → length (after_all ops g).names ≤ n
         → IsLayoutOf (layout_after ops g layout) (after_all ops g).edges
-        × (outcomes_all (range_with_len 0 n) (resolved ops g.names g.kinds) (opened layout) ≡ outcomes ops g)
+        × (outcomes_all (range_with_len 0 n) (resolved ops g) (opened layout) ≡ outcomes ops g)
         × IsWithin (after_all ops g) }
 {}
 
@@ -40,20 +40,20 @@ pub fn law_expiry_layout()
 /// A shard's operations alone leave its sources' rows as the whole batch does, for every number of workers.
 #[tactic(auto, using(crate::proofs::ShardLaws::shard_rows))]
 pub fn law_shard_rows()
-    ensures { (workers w : ℕ) (ops : List NamedOp) (names kinds : List (List ℕ)) (rows : ℕ → List OpenBlock) (source : ℕ)
+    ensures { (workers w most : ℕ) (ops : List NamedOp) (names kinds : List (List ℕ)) (rows : ℕ → List OpenBlock) (source : ℕ)
         → (source % workers == w) ≡ true
-        → rows_all (shard_ops workers w (resolved ops names kinds)) rows source
-        ≡ rows_all (resolved ops names kinds) rows source }
+        → rows_all (shard_ops workers w (resolved_by most ops names kinds)) rows source
+        ≡ rows_all (resolved_by most ops names kinds) rows source }
 {}
 
 /// A shard's outcomes are those that the batch has at the shard's operations, where expiries count the edges of the same
 /// sources, all of them the shard's.
 #[tactic(auto, using(crate::proofs::ShardLaws::shard_outcomes))]
 pub fn law_shard_outcomes()
-    ensures { (workers w : ℕ) (ops : List NamedOp) (names kinds : List (List ℕ)) (rows : ℕ → List OpenBlock) (sources : List ℕ)
+    ensures { (workers w most : ℕ) (ops : List NamedOp) (names kinds : List (List ℕ)) (rows : ℕ → List OpenBlock) (sources : List ℕ)
         → All (λ s. (s % workers == w) ≡ true) sources
-        → outcomes_all sources (shard_ops workers w (resolved ops names kinds)) rows
-        ≡ picked (is_in_shard workers w) (resolved ops names kinds) (outcomes_all sources (resolved ops names kinds) rows) }
+        → outcomes_all sources (shard_ops workers w (resolved_by most ops names kinds)) rows
+        ≡ picked (is_in_shard workers w) (resolved_by most ops names kinds) (outcomes_all sources (resolved_by most ops names kinds) rows) }
 {}
 
 /// Outcomes over the sources of two lists are those over each of them, taken together: an expiry's counts are added.

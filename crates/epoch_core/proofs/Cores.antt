@@ -4,7 +4,7 @@ use Rattle.std.{proofs.{Common.arith, lemmas.{Bool.cases_eq, List.length-replica
 use Rattle.std.specs.{Option.unwrap_or, declared.option.Option.{Option, TheVariants.{None, Some}}}
 use Rattle.graph_types.specs.Limits.{LimitsView}
 use Rattle.graph_types.specs.{declared.batches.NamedOp.NamedOp, declared.contents.Content.Content}
-use Rattle.graph_types.proofs.Empty.{empty_content as empty_is_content}
+use Rattle.graph_types.proofs.Empty.{empty_content_in}
 use Rattle.epoch_core.specs.declared.{states.{Version.Version, Opening.Opening}, step.Step.Step}
 use Rattle.epoch_core.specs.{declared.{session_states.SessionState.TheVariants.Idle, events.Event.Event}, Versions.IsContentGraph}
 use Rattle.epoch_core.specs.{Versions.graph_at, Posting.{graph_after, version_by}, Machine.{Replies, step}, Worlds.Answer}
@@ -100,7 +100,7 @@ empty_content = record { names = []; kinds = []; edges = [] }
 no_contents : (limits : LimitsView) (n : ℕ) → n ≤ 0 → IsContentGraph (graph_at (empty_opening_in limits) [] n)
 no_contents limits zero h = (
   empty_content,
-  record { content = empty_is_content; names_few = omega arith; kinds_few = omega arith },
+  empty_content_in limits,
   refl,
 )
 no_contents limits (suc n) h = absurd (omega arith)

@@ -1,8 +1,8 @@
 -- Small runs, computed.
-use Rattle.std.proofs.Common.{◌≡◌, ℕ, true, false, cond, List, [], ◌∷◌, refl, sym, ap, ◌∙◌, arith, pos, negsuc, length}
-use Rattle.std.{proofs.lemmas.Grind.common_steps, specs.Ordering.eq_by_cmp, specs.declared.option.Option.TheVariants.Some}
+use Rattle.std.proofs.Common.{◌≡◌, ℕ, true, false, cond, not, List, [], ◌∷◌, refl, sym, ap, ◌∙◌, arith, pos, negsuc, length}
+use Rattle.std.{proofs.lemmas.Grind.common_steps, specs.Ordering.eq_by_cmp, specs.declared.option.Option.TheVariants.{None, Some}}
 use Rattle.std.specs.{Prelude.ℤ, FinMap.{FinMap, get, insert, empty, get-empty, get-insert, same_map}}
-use Rattle.graph_types.specs.Limits.{standard_limits}
+use Rattle.graph_types.specs.Limits.{standard_limits, weight_limit, is_weight}
 use Rattle.graph_types.specs.{Graph.{Graph, Key, Stamp, key_cmp}, Step.{after_all, set_at, stamp_after}, declared.ids.Edge.Edge}
 use Rattle.graph_types.specs.declared.{batches.NamedOp.NamedOp, changes.EdgeChange.TheVariants.{Insert, Incr}}
 use Rattle.graph_types.proofs.Keys.{keys_total, exact_keys, once_none, once_cons, HasKeysOnce}
@@ -34,9 +34,11 @@ abbrev graph_of_edge : Stamp → Graph
 graph_of_edge s = with_edges (one_edge s)
 
 -- an edge put where there is none
-first_graph : (weight : ℤ) (time : ℕ) → left empty_opening (put_edge weight time ∷ []) ≡ graph_of_edge (stamp weight time time)
-first_graph weight time =
-    ap (λ o. with_edges (set_at nothing key (stamp_after (Insert weight time) o))) (get-empty key_cmp key)
+first_graph : (weight : ℤ) (time : ℕ) → is_weight weight ≡ true
+    → left empty_opening (put_edge weight time ∷ []) ≡ graph_of_edge (stamp weight time time)
+first_graph weight time fits =
+    ap (λ o. with_edges (set_at nothing key (stamp_after (Insert weight time weight_limit) o))) (get-empty key_cmp key)
+    ∙ ap (λ b. with_edges (set_at nothing key (cond (not b) None (Some (stamp weight time time))))) fits
 
 stands : (s : Stamp) → get (one_edge s) key ≡ Some s
 stands s = get-insert keys_total nothing key s key
@@ -54,11 +56,11 @@ put_again s t = same_map keys_total exact_keys _ _ (put_twice s t)
 -- an increment adds to the weight
 add_over : after_all (add_to_edge (negsuc 5) 1) (graph_of_edge (stamp (pos 7) 1 1)) ≡ graph_of_edge (stamp (pos 1) 1 1)
 add_over =
-    ap (λ o. with_edges (set_at (one_edge (stamp (pos 7) 1 1)) key (stamp_after (Incr (negsuc 5) 1) o)))
+    ap (λ o. with_edges (set_at (one_edge (stamp (pos 7) 1 1)) key (stamp_after (Incr (negsuc 5) 1 weight_limit) o)))
     (stands (stamp (pos 7) 1 1)) ∙ ap with_edges (put_again (stamp (pos 7) 1 1) (stamp (pos 1) 1 1))
 
 long_graph : left empty_opening long_batches ≡ graph_of_edge (stamp (pos 1) 1 1)
-long_graph = ap (after_all (add_to_edge (negsuc 5) 1)) (first_graph (pos 7) 1) ∙ add_over
+long_graph = ap (after_all (add_to_edge (negsuc 5) 1)) (first_graph (pos 7) 1 refl) ∙ add_over
 
 -- Posts that are done
 
@@ -89,7 +91,7 @@ short_rest = Pin 0 ∷ Enter 0 ∷ Ask 0 ask_edge ∷ Read 0 ∷ Reply 0 ∷ []
 
 short_holdings : of_short ≡ record { graph = left empty_opening short_batches; answered = ask_edge ∷ [] } ∷ []
 short_holdings = ap holdings_of (sees 0 short_fill (put_edge (pos 1) 1) (0 ∷ []) short_rest
-    (shows_one _ (pos 1) 1 (first_graph (pos 1) 1)))
+    (shows_one _ (pos 1) 1 (first_graph (pos 1) 1 refl)))
 
 -- The long run
 
@@ -109,14 +111,14 @@ long_holdings : of_long ≡ record { graph = left empty_opening long_batches; an
 long_holdings =
     ap holdings_of (sees 0 (start_world 2 3) [] [] (Take 1 ∷ Fill 1 (edge_of (pos 7) 1) ∷ Post (put_edge (pos 7) 1) (1 ∷ [])
     ∷ long_after) shows_none)
-    ∙ ap holdings_of (sees 0 long_fill (put_edge (pos 7) 1) (1 ∷ []) long_after (shows_one _ (pos 7) 1 (first_graph (pos 7) 1)))
+    ∙ ap holdings_of (sees 0 long_fill (put_edge (pos 7) 1) (1 ∷ []) long_after (shows_one _ (pos 7) 1 (first_graph (pos 7) 1 refl)))
     ∙ ap holdings_of (sees 0 long_more (add_to_edge (negsuc 5) 1) (2 ∷ []) long_rest (shows_one _ (pos 1) 1 long_graph))
 
 abbrev held_with : Graph → List Holding
 held_with g = record { graph = g; answered = ask_edge ∷ [] } ∷ []
 
 two_worlds_agree : of_short ≡ of_long
-two_worlds_agree = short_holdings ∙ ap held_with (first_graph (pos 1) 1 ∙ sym long_graph) ∙ sym long_holdings
+two_worlds_agree = short_holdings ∙ ap held_with (first_graph (pos 1) 1 refl ∙ sym long_graph) ∙ sym long_holdings
 
 -- the names in the graph of the first holding
 abbrev names_held : List Holding → List (List ℕ)

@@ -2,10 +2,11 @@
 use Rattle.graph_types.specs.{Step.is_within_limits, declared.contents.Content.Content}
 use Rattle.std.proofs.lemmas.Bool.{le-leb}
 use Rattle.std.proofs.Common.{true, ◌&&◌, refl, ap₂, ◌≡◌, ◌≢◌, ℕ, ◌*◌, ◌<◌, ◌≤◌, List, length, get_or, sym, ap, subst, ◌∙◌, arith}
-use Rattle.std.{specs.Prelude.AllPairs, specs.FinMap.get, proofs.lemmas.List.take_all}
+use Rattle.std.{specs.Prelude.{All, AllPairs}, specs.FinMap.get, proofs.lemmas.List.take_all}
 use Rattle.graph_types.specs.Graph.{Graph, key_of, stamp_of, map_of, graph_in, IsContent, IsContentIn, IsEdgeWithin, IsWeight, IsTime}
-use Rattle.graph_types.{specs.Limits.{LimitsView, most_names, most_kinds, most_places}, proofs.LimitsKept.limits_left_by}
-use Rattle.graph_types.{specs.declared.ids.Edge.Edge, proofs.Keys.get_is, proofs.Keys.get_listed, proofs.Keys.find_listed}
+use Rattle.graph_types.{specs.Limits.{LimitsView, IsWeightIn, SumsFit, most_names, most_kinds}, proofs.LimitsKept.limits_left_by}
+use Rattle.graph_types.{proofs.WeightsKept.{weights_of, weights_shown}}
+use Rattle.graph_types.{specs.declared.ids.Edge.Edge, proofs.Keys.{HasKeysOnce, get_is, get_listed, find_listed}}
 use Rattle.epoch_core.specs.declared.{states.Version.Version, session_states.SessionState.SessionState}
 use Rattle.epoch_core.specs.{Posting.last_content, Machine.ReadsContent, Sound.IsNamed, Sound.IsSessionSound, Sound.IsSound}
 use Rattle.epoch_core.specs.declared.session_states.SessionState.TheVariants.{Idle, Pinned, Holding, Asking}
@@ -22,6 +23,13 @@ same_within n m x e key stamp w = record {
   recent = subst IsTime (sym (ap (λ s. s.recent) stamp)) w.recent;
 }
 
+-- in another list of the same edges none has a larger weight
+weights_again : (c : Content) (es : List Edge) (most : ℕ) → HasKeysOnce es → map_of es ≡ map_of c.edges
+    → All (λ e. IsWeightIn most e.weight) c.edges → All (λ e. IsWeightIn most e.weight) es
+weights_again c es most once same within =
+    let l : LimitsView = record { names = 0; kinds = 0; batches = 0; weight = most } in
+    weights_of (graph_in l c) es once same (weights_shown l c within)
+
 -- edges that show a content's graph are a content with its names and kinds
 pub is_content : (v : Version) (es : List Edge) (g : Graph) → IsContentGraph g → v.names ≡ g.names → v.kinds ≡ g.kinds
     → AreEdgesOf es g → IsContentIn g.limits (content_with v es)
@@ -35,8 +43,6 @@ is_content v es g (c, within, same) names kinds shows =
       kinds_distinct = subst (λ xs. AllPairs ◌≢◌ xs) (sym ks) is.kinds_distinct;
       names_few = subst (λ xs. length xs ≤ most_names) (sym ns) is.names_few;
       kinds_few = subst (λ xs. length xs ≤ most_kinds) (sym ks) is.kinds_few;
-      places_few = subst (λ n. n * length v.kinds ≤ most_places) (ap length (sym ns))
-          (subst (λ m. length c.names * m ≤ most_places) (ap length (sym ks)) is.places_few);
       keys_distinct = shows.once;
       edges_within = λ k d h.
           let e : Edge = get_or es k d in
@@ -46,11 +52,16 @@ is_content v es g (c, within, same) names kinds shows =
           subst (IsEdgeWithin (length c.names) (length c.kinds)) at (is.edges_within i x low) in
           subst (λ n. IsEdgeWithin n (length v.kinds) e) (ap length (sym ns))
           (subst (λ m. IsEdgeWithin (length c.names) m e) (ap length (sym ks)) (same_within _ _ x e key (sym stamp) w));
+      most_weight = is.most_weight;
+      weights_within = weights_again c es is.most_weight shows.once map is.weights_within;
+      sums_fit = subst (λ n. SumsFit (n * length v.kinds) is.most_weight) (ap length (sym ns))
+          (subst (λ m. SumsFit (length c.names * m) is.most_weight) (ap length (sym ks)) is.sums_fit);
     } in
     record {
       content = content;
       names_few = subst (λ xs. length xs ≤ g.limits.names) (sym ns) within.names_few;
       kinds_few = subst (λ xs. length xs ≤ g.limits.kinds) (sym ks) within.kinds_few;
+      weights_few = weights_again c es g.limits.weight shows.once map within.weights_few;
     }
 
 -- the last version's content

@@ -1,13 +1,13 @@
 -- One edge more in a table of degrees.
-use Rattle.std.proofs.Common.{◌≡◌, ℕ, ◌<◌, Bool, true, cond, List, [], ◌∷◌, ◌++◌, length, map, ℤ, pos, ◌+ℤ◌, sym, subst}
+use Rattle.std.proofs.Common.{◌≡◌, ℕ, ◌<◌, Bool, true, cond, List, [], ◌∷◌, ◌++◌, length, map, ℤ, pos, nat_abs, ◌+ℤ◌, sym, subst}
 use Rattle.std.proofs.{Common.arith, lemmas.{Int.ints, List.{map-append, Sums.{sum_by_push, fold-append}}}}
 use Rattle.std.{proofs.lemmas.List.Elements.{filter-append, All-append, All-cons, All-nil, All-head}, specs.Prelude.filter}
 use Rattle.std.{specs.Prelude.{fold, All}, proofs.lemmas.Grind.common_steps}
-use Rattle.graph_types.specs.{Graph.stamp_of, Degrees.{listed_degree, with_edge, CountsEdge, IsWithinLimits}}
+use Rattle.graph_types.specs.{Graph.stamp_of, Degrees.{listed_degree, with_edge, CountsEdge, HasRoom}, Limits.IsWeightIn}
 use Rattle.graph_types.{specs.declared.ids.{Edge.Edge, Degree.Degree, Filter.Filter}, proofs.DegreeBounds.degree_within}
 use Rattle.graph_types.proofs.ListedDegrees.{with_shown}
 use Rattle.edge_block.specs.Slots.{IsStamp}
-use Rattle.graph_cores.{specs.Tallies.{passes, HasRoomFor, Counts}, proofs.Parts.{first_edges, All-right}}
+use Rattle.graph_cores.{specs.Tallies.{passes, HasRoomFor, Counts}, proofs.Parts.{first_edges, All-left, All-right}}
 
 -- the sum of the weights of listed edges
 abbrev weight_sum : List Edge → ℤ
@@ -31,7 +31,7 @@ pub record IsCountable (f : Filter) (e : Edge) (table : List Degree) : Type 0 wh
   pub source : e.source.0 < length table
   pub target : e.target.0 < length table
   pub shown : passes f e ≡ true
-  pub limits : All IsWithinLimits table
+  pub room : All (HasRoom (nat_abs e.weight)) table
 
 pub countable : (f : Filter) (e : Edge) (table : List Degree) → HasRoomFor f (e ∷ []) table → IsCountable f e table
 countable f e table room =
@@ -40,6 +40,8 @@ countable f e table room =
     let are = room.2 in
     let n = length table in
     let firsts = first_edges f n before (e ∷ []) are in
+    let light : IsWeightIn are.most_weight e.weight = All-head (λ (x : Edge). IsWeightIn are.most_weight x.weight) e []
+    (All-right (λ (x : Edge). IsWeightIn are.most_weight x.weight) before (e ∷ []) are.weights) in
     record {
       source = All-head (λ (x : Edge). x.source.0 < n) e []
           (All-right (λ (x : Edge). x.source.0 < n) before (e ∷ []) are.sources);
@@ -47,14 +49,8 @@ countable f e table room =
           (All-right (λ (x : Edge). x.target.0 < n) before (e ∷ []) are.targets);
       shown = All-head (λ (x : Edge). passes f x ≡ true) e []
           (All-right (λ (x : Edge). passes f x ≡ true) before (e ∷ []) are.seen);
-      limits = λ v d h. subst IsWithinLimits (sym (is.tally.at v d h))
-          (degree_within f before n firsts.kind_count v firsts.few firsts.once
-          (λ k x lt. record {
-            kind = firsts.kinds k x lt;
-            source = firsts.sources k x lt;
-            target = firsts.targets k x lt;
-            weight = (is.stamps k x lt).0;
-            first = (is.stamps k x lt).1;
-            recent = (is.stamps k x lt).2;
-          }));
+      room = λ v d h. subst (HasRoom (nat_abs e.weight)) (sym (is.tally.at v d h))
+          (degree_within f before n are.kind_count v are.most_weight (nat_abs e.weight) are.few are.sums light firsts.once
+          (All-left (λ (x : Edge). x.kind.0 < are.kind_count) before (e ∷ []) are.kinds) firsts.sources firsts.targets
+          (All-left (λ (x : Edge). IsWeightIn are.most_weight x.weight) before (e ∷ []) are.weights));
     }

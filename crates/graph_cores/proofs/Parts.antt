@@ -2,7 +2,7 @@
 use Rattle.std.proofs.Common.{◌≡◌, ◌≢◌, ℕ, true, ◌+◌, ◌<◌, List, [], ◌++◌, length, get_or, append_assoc, append-nil}
 use Rattle.std.proofs.{Common.{length-append, sym, ap, ◌∙◌, subst, arith}, lemmas.List.{get_or_append_left, get_or-append-add}}
 use Rattle.std.specs.Prelude.{All, AllPairs}
-use Rattle.graph_types.specs.{declared.ids.{Degree.Degree, Edge.Edge, Filter.Filter}, Graph.key_of}
+use Rattle.graph_types.specs.{declared.ids.{Degree.Degree, Edge.Edge, Filter.Filter}, Graph.key_of, Limits.IsWeightIn}
 use Rattle.graph_cores.specs.Tallies.{passes, IsCounted, AreViewEdges, HasRoomFor, Counts}
 
 module _ {X : Type 0} where
@@ -24,6 +24,9 @@ pub first_edges : (f : Filter) (n : ℕ) (xs ys : List Edge) → AreViewEdges f 
 first_edges f n xs ys are = record {
   kind_count = are.kind_count;
   few = are.few;
+  most_weight = are.most_weight;
+  weights = All-left (λ e. IsWeightIn are.most_weight e.weight) xs ys are.weights;
+  sums = are.sums;
   once = AllPairs-left (λ a b. key_of a ≢ key_of b) xs ys are.once;
   kinds = All-left (λ e. e.kind.0 < are.kind_count) xs ys are.kinds;
   sources = All-left (λ e. e.source.0 < n) xs ys are.sources;

@@ -8,7 +8,8 @@ use Rattle.std.proofs.lemmas.{List.{FromFn.fill_by_all, Kept.AllPairs-filter, Su
 use Rattle.std.specs.{Prelude.{filter, fold, count_by, All}, Option.is_some, FinMap.get, List.{Contains, range_with_len}}
 use Rattle.std.specs.List.{list_all}
 use Rattle.graph_types.specs.{Graph.{Graph, key_of}, Degrees.listed_degree, Answer.{degree_at, degree_table}}
-use Rattle.graph_types.{specs.declared.ids.{Degree.Degree, Edge.Edge, Filter.Filter}, proofs.{Keys.get_listed, LimitsKept.places_within}}
+use Rattle.graph_types.{specs.declared.ids.{Degree.Degree, Edge.Edge, Filter.Filter}, proofs.Keys.get_listed}
+use Rattle.graph_types.{specs.Limits.IsWeightIn, proofs.{LimitsKept.{places_few, sums_within}, WeightsKept.weights_of}}
 use Rattle.graph_types.proofs.{Counts.Contains-first, Arcs.contains_map, Folds.{count_entries, weight_entries}}
 use Rattle.edge_block.specs.Slots.{Slot, BlockView, is_free, edges_in, entry_in}
 use Rattle.graph_version.specs.{Rows.{row_of, blocks_of}, Versions.{VersionView, content, IsVersion, IsBlockOf}}
@@ -110,7 +111,12 @@ module _ (v : VersionView) (is : IsVersion v) where
       ap (λ m. is_some (get m (key_of (get_or es j d)))) (sym each.same) ∙ ap is_some (get_listed es each.once j d lt) in
       record {
         kind_count = length (content v).kinds;
-        few = places_within (content v).limits (length (content v).names) (length (content v).kinds) is.small.limits is.small.names
+        few = places_few (length (content v).names) (length (content v).kinds) (omega (arith, is.small.names, is.small.limits.names))
+            (omega (arith, is.small.kinds, is.small.limits.kinds));
+        most_weight = (content v).limits.weight;
+        weights = All-filter (passes f) (λ e. IsWeightIn (content v).limits.weight e.weight) es
+            (weights_of (content v) es each.once each.same is.small.weights);
+        sums = sums_within (content v).limits (length (content v).names) (length (content v).kinds) is.small.limits is.small.names
             is.small.kinds;
         once = AllPairs-filter (λ a b. key_of a ≢ key_of b) (passes f) es each.once;
         kinds = All-filter (passes f) (λ e. e.kind.0 < length (content v).kinds) es

@@ -1,6 +1,6 @@
 -- Degrees over the edges of a view in blocks, counted one after another.
 use Rattle.std.specs.Prelude.{◌≡◌, ◌≢◌, ℕ, ℤ, ◌*◌, ◌≤◌, ◌<◌, ◌++◌, List, length, filter, Bool, true, All, AllPairs}
-use Rattle.graph_types.specs.{Graph.{key_of, stamp_of, entry_of}, Limits.most_places, View.in_view, Degrees.IsTally}
+use Rattle.graph_types.specs.{Graph.{key_of, stamp_of, entry_of}, Limits.{IsWeightIn, SumsFit, most_places}, View.in_view, Degrees.IsTally}
 use Rattle.graph_types.specs.declared.ids.{Degree.Degree, Edge.Edge, Filter.Filter}
 use Rattle.edge_block.specs.Slots.{BlockView, IsStamp}
 use Rattle.graph_version.specs.Edges.{edges_in_block, edges_in_blocks}
@@ -33,10 +33,14 @@ pub record IsCounted (f : Filter) (edges : List Edge) (table : List Degree) : Ty
   pub tally : IsTally f edges (length table) table
   pub stamps : All (λ e. IsStamp (stamp_of e)) edges
 
--- edges of a view between n vertices, each key once; of as many kinds as leave few enough places
+-- edges of a view between n vertices, each key once; of as many kinds as leave few enough places, and of weights so small that
+-- sums of them fit
 pub record AreViewEdges (f : Filter) (n : ℕ) (edges : List Edge) : Type 0 where
   pub kind_count : ℕ
   pub few : n * kind_count ≤ most_places
+  pub most_weight : ℕ
+  pub weights : All (λ e. IsWeightIn most_weight e.weight) edges
+  pub sums : SumsFit (n * kind_count) most_weight
   pub once : AllPairs (λ a b. key_of a ≢ key_of b) edges
   pub kinds : All (λ e. e.kind.0 < kind_count) edges
   pub sources : All (λ e. e.source.0 < n) edges

@@ -1,9 +1,9 @@
 //! Degrees, edge by edge.
 
-ghost use Rattle.std.specs.Prelude.{◌≡◌, ◌<◌, ◌≤◌, ◌+◌, ◌+ℤ◌, ◌^◌, length, replicate, All, IfOk};
+ghost use Rattle.std.specs.Prelude.{◌≡◌, ◌<◌, ◌≤◌, ◌+◌, ◌+ℤ◌, ◌^◌, nat_abs, length, replicate, All, IfOk};
 ghost use Rattle.graph_types.specs.Answer.{degree_table};
-ghost use Rattle.graph_types.specs.Degrees.{CountsEdge, IsWithinLimits};
-ghost use Rattle.graph_types.specs.Limits.{IsWeight, most_places};
+ghost use Rattle.graph_types.specs.Degrees.{CountsEdge, HasRoom};
+ghost use Rattle.graph_types.specs.Limits.{most_places};
 ghost use Rattle.graph_version.specs.Sharing.{block_values};
 ghost use Rattle.graph_version.specs.Versions.{content};
 ghost use Rattle.graph_cores.specs.Tallies.{edge_between, shown_block, shown_edges, HasRoomFor, Counts};
@@ -25,8 +25,7 @@ const NONE: Degree = Degree {
 fn count_edge(table: &mut [Degree], source: VertexId, target: u32, weight: i64)
     requires source { source.0 < length table.old }
     requires target { target < length table.old }
-    requires weight { IsWeight weight }
-    requires limits { All IsWithinLimits table.old }
+    requires room { All (HasRoom (nat_abs weight)) table.old }
     ensures { CountsEdge (edge_between source.0 target weight) table.old table.new }
 {
     count_out(&mut table[source.0 as usize], weight);
@@ -35,8 +34,7 @@ fn count_edge(table: &mut [Degree], source: VertexId, target: u32, weight: i64)
 
 /// Counts an edge that leaves.
 fn count_out(degree: &mut Degree, weight: i64)
-    requires weight { IsWeight weight }
-    requires limits { IsWithinLimits degree.old }
+    requires { HasRoom (nat_abs weight) degree.old }
     ensures { degree.new
         ≡ record degree.old { outgoing = degree.old.outgoing + 1; out_weight = degree.old.out_weight +ℤ weight } }
 {

@@ -1,15 +1,16 @@
 -- A table of degrees, one edge after another, and what it is at the end.
 use Rattle.std.proofs.Common.{◌≡◌, ℕ, ◌+◌, ◌<◌, ◌≤◌, Bool, true, false, cond, List, [], ◌∷◌, ◌++◌, length, get_or, take}
-use Rattle.std.proofs.Common.{replicate, map, pos, ◌+ℤ◌, sym, ap, ◌∙◌, arith}
+use Rattle.std.proofs.Common.{replicate, map, pos, nat_abs, ◌+ℤ◌, sym, ap, ◌∙◌, arith}
 use Rattle.std.proofs.lemmas.List.{get_or-take, length-take, take_all}
 use Rattle.std.proofs.lemmas.List.{FromFn.fill_by_all, Elements.All-take}
-use Rattle.std.specs.Prelude.{filter, fold}
+use Rattle.std.specs.Prelude.{filter, fold, All}
 use Rattle.std.proofs.lemmas.Grind.{common_steps}
 use Rattle.graph_types.specs.Graph.{graph_of, key_of, entry_of, IsContent, IsEdgeWithin}
 use Rattle.graph_types.specs.{View.in_view, Answer.degree_at, Answer.degree_table}
-use Rattle.graph_types.specs.Degrees.{listed_degree, IsTally, CountsEdge, IsWithinLimits}
+use Rattle.graph_types.specs.Degrees.{listed_degree, IsTally, CountsEdge, HasRoom}
 use Rattle.graph_types.specs.declared.{contents.Content.Content, ids.Edge.Edge, ids.Degree.Degree, ids.Filter.Filter}
-use Rattle.graph_types.proofs.{Keys.HasKeysOnce, DegreeBounds.degree_within, ListedDegrees.{listed_at, with_shown}}
+use Rattle.graph_types.{specs.Limits.IsWeightIn, proofs.{Keys.HasKeysOnce, LimitsKept.places_few, DegreeBounds.degree_within}}
+use Rattle.graph_types.proofs.{ListedDegrees.{listed_at, with_shown}}
 
 weights_push : (p : Edge → Bool) (es : List Edge) (e : Edge)
     → fold ◌+ℤ◌ (pos 0) (map (λ x. x.weight) (filter p (es ++ e ∷ [])))
@@ -37,10 +38,13 @@ pub tally_hidden : (f : Filter) (edges : List Edge) (i n : ℕ) (x : Edge) (tabl
 tally_hidden f edges i n x table tally within hidden = grind (arith, common_steps)
 
 -- the table after the first edges of a content has room for one more
-pub tally_within : (f : Filter) (c : Content) → IsContent c → (edges : List Edge) (k : ℕ) (table : List Degree) → edges ≡ c.edges
-    → IsTally f (take k edges) (length c.names) table → (v : ℕ) (d : Degree) → v < length table
-    → IsWithinLimits (get_or table v d)
-tally_within f c is edges k table listed tally v d h =
+pub tally_within : (f : Filter) (c : Content) → IsContent c → (edges : List Edge) (k : ℕ) (e : Edge) (table : List Degree)
+    → edges ≡ c.edges → k < length edges → IsTally f (take k edges) (length c.names) table → (v : ℕ) (d : Degree)
+    → v < length table → HasRoom (nat_abs (get_or edges k e).weight) (get_or table v d)
+tally_within f c is edges k e table listed low tally v d h =
+    let n = length c.names in
+    let m = length c.kinds in
+    let weights : All (λ (x : Edge). IsWeightIn is.most_weight x.weight) edges = rw listed is.weights_within in
     let all_once : HasKeysOnce edges = rw listed is.keys_distinct in
     let once : HasKeysOnce (take k edges) = λ i j x low high.
     let short = length-take k edges in
@@ -51,7 +55,10 @@ tally_within f c is edges k table listed tally v d h =
     let within = All-take (IsEdgeWithin (length c.names) (length c.kinds)) k edges
     (rw listed is.edges_within) in
     rw (tally.at v d (omega (arith, tally.size)))
-    (degree_within f (take k edges) (length c.names) (length c.kinds) v is.places_few once within)
+    (degree_within f (take k edges) n m v is.most_weight (nat_abs (get_or edges k e).weight)
+    (places_few n m is.names_few is.kinds_few) is.sums_fit (weights k e low) once (λ j x g. (within j x g).kind)
+    (λ j x g. (within j x g).source) (λ j x g. (within j x g).target)
+    (All-take (λ (x : Edge). IsWeightIn is.most_weight x.weight) k edges weights))
 
 -- the table after all edges
 pub tally_all : (f : Filter) (c : Content) → IsContent c → (edges : List Edge) (i : ℕ) (table : List Degree) → edges ≡ c.edges

@@ -1,17 +1,19 @@
 -- A change that is applied to plain lists does to the graph that they show what its definition says.
 use Rattle.std.proofs.Common.{◌≡◌, ◌≢◌, ℕ, ◌≤◌, ◌*◌, List, [], ◌∷◌, ◌++◌, true, false, cond, not, length, get_or, All, AllPairs}
-use Rattle.std.proofs.Common.{Option, Some, None, option_map, option_to_list, IfSome, sym, ap, ◌∙◌, arith}
+use Rattle.std.proofs.Common.{Option, Some, None, option_map, option_to_list, IfSome, sym, ap, ◌∙◌, subst, arith}
 use Rattle.std.proofs.lemmas.{Bool.false≢true, List.append-nil, List.Kept.AllPairs-filter, List.Quantifiers.all_pairs_push}
 use Rattle.std.proofs.lemmas.List.Elements.{All-head, All-tail, All-filter, All-weaker, All-push, All-get_or, filter_passes}
 use Rattle.std.specs.{List.find, FinMap.get}
 use Rattle.std.proofs.lemmas.Grind.{common_steps}
-use Rattle.graph_types.specs.{Limits.{IsWeight, IsTime, LimitsView, AreLimits, most_names, most_kinds, most_places}, Graph.{Graph, Key, Stamp, key_of, stamp_of}}
+use Rattle.graph_types.specs.{Limits.{IsWeight, IsWeightIn, IsTime, LimitsView, AreLimits, SumsFit, most_names, most_kinds}, Graph.{Graph, Key, Stamp}}
+use Rattle.graph_types.specs.Graph.{key_of, stamp_of, HasWeights}
 use Rattle.graph_types.specs.Graph.{map_of, graph_of, graph_in, has_key, without, IsAt, IsEdgeWithin, IsContent, IsContentIn, content_of}
-use Rattle.graph_types.specs.{Changes.{AreMarks, option_stamp}, Step.{names_made, kinds_made, stamp_after, set_at, changed_key}}
+use Rattle.graph_types.specs.{Changes.{AllowsUpTo, AreMarks, option_stamp}, Step.{names_made, kinds_made, stamp_after, set_at, changed_key}}
 use Rattle.graph_types.specs.{Step.{changed, was_before, later}, declared.{ids.Edge.Edge, changes.EdgeChange.EdgeChange}}
 use Rattle.graph_types.specs.declared.{changes.EdgeMarks.EdgeMarks, contents.Content.Content}
 use Rattle.graph_types.proofs.NameLists.{IsNamed, IsNamed-changed_key, length-names_made, length-kinds_made, AllPairs-names_made}
-use Rattle.graph_types.proofs.{NameLists.AllPairs-kinds_made, LimitsKept.places_within, EdgeLookup.{Decides-has_key, get-map_of, map_of-put}}
+use Rattle.graph_types.proofs.{NameLists.AllPairs-kinds_made, LimitsKept.sums_within, EdgeLookup.{Decides-has_key, get-map_of, map_of-put}}
+use Rattle.graph_types.proofs.{Keys.HasKeysOnce, WeightsKept.{HasWeights-changed, weights_listed, weights_shown}}
 
 -- one change on plain lists: what stood at its key is taken away, and what is to stand there comes at the end
 pub record IsApplied (change : EdgeChange) (kind source target : List ℕ) (old new : Content) (key : Key)
@@ -99,11 +101,27 @@ named_put : (change : EdgeChange) (kind source target : List ℕ) (g : Graph) (b
 named_put change kind source target g before None is = tt
 named_put change kind source target g before (Some e) is = IsNamed-changed_key change kind source target g before (stamp_of e) is
 
+once_applied : (change : EdgeChange) (kind source target : List ℕ) (old new : Content) (key : Key) (put : Option Edge)
+    → IsApplied change kind source target old new key put → IsContent old → HasKeysOnce new.edges
+once_applied change kind source target old new key put step content =
+    rw step.edges (keys_apart key old.edges put step.at content.keys_distinct)
+
+-- where a change allows no weight past the limit, the content has none
+weights_applied : (l : LimitsView) (change : EdgeChange) (kind source target : List ℕ) (old new : Content) (key : Key)
+    (put : Option Edge) → AllowsUpTo l.weight change → IsApplied change kind source target old new key put → IsContentIn l old
+    → All (λ e. IsWeightIn l.weight e.weight) new.edges
+weights_applied l change kind source target old new key put up step is =
+    let has : HasWeights (changed change kind source target (graph_in l old)) =
+    HasWeights-changed change kind source target (graph_in l old) up (weights_shown l old is.weights_few) in
+    weights_listed l new (once_applied change kind source target old new key put step is.content)
+    (subst HasWeights (sym (graph_in-applied change kind source target old new key put step l)) has)
+
 pub IsContent-applied : (change : EdgeChange) (kind source target : List ℕ) (old new : Content) (key : Key) (put : Option Edge)
     → IsApplied change kind source target old new key put
     → IsContent old → length new.names ≤ most_names → length new.kinds ≤ most_kinds
-    → length new.names * length new.kinds ≤ most_places → IsContent new
-IsContent-applied change kind source target old new key put step content names_few kinds_few places_few =
+    → (most : ℕ) → All (λ e. IsWeightIn most e.weight) new.edges → SumsFit (length new.names * length new.kinds) most
+    → IsContent new
+IsContent-applied change kind source target old new key put step content names_few kinds_few most weights sums =
     let n = length new.names in
     let m = length new.kinds in
     let names_more : length old.names ≤ length new.names = rw step.names (length-names_made change source target old.names) in
@@ -116,23 +134,29 @@ IsContent-applied change kind source target old new key put step content names_f
       kinds_distinct = rw step.kinds (AllPairs-kinds_made change kind old.kinds content.kinds_distinct);
       names_few = names_few;
       kinds_few = kinds_few;
-      places_few = places_few;
-      keys_distinct = rw step.edges (keys_apart key old.edges put step.at content.keys_distinct);
+      keys_distinct = once_applied change kind source target old new key put step content;
       edges_within = rw step.edges
           (all_within n m key old.edges put named_here step.at
           (All-weaker (IsEdgeWithin (length old.names) (length old.kinds)) (IsEdgeWithin n m)
           (λ e. within_more _ _ _ _ e names_more kinds_more) old.edges content.edges_within));
+      most_weight = most;
+      weights_within = weights;
+      sums_fit = sums;
     }
 
 pub IsContentIn-applied : (l : LimitsView) (change : EdgeChange) (kind source target : List ℕ) (old new : Content) (key : Key)
-    (put : Option Edge) → AreLimits l → IsApplied change kind source target old new key put → IsContentIn l old
-    → length new.names ≤ l.names → length new.kinds ≤ l.kinds → IsContentIn l new
-IsContentIn-applied l change kind source target old new key put are step is names_few kinds_few = record {
-  content = IsContent-applied change kind source target old new key put step is.content (omega (arith, names_few, are.names))
-      (omega (arith, kinds_few, are.kinds)) (places_within l (length new.names) (length new.kinds) are names_few kinds_few);
-  names_few = names_few;
-  kinds_few = kinds_few;
-}
+    (put : Option Edge) → AreLimits l → AllowsUpTo l.weight change → IsApplied change kind source target old new key put
+    → IsContentIn l old → length new.names ≤ l.names → length new.kinds ≤ l.kinds → IsContentIn l new
+IsContentIn-applied l change kind source target old new key put are up step is names_few kinds_few =
+    let weights = weights_applied l change kind source target old new key put up step is in
+    record {
+      content = IsContent-applied change kind source target old new key put step is.content (omega (arith, names_few, are.names))
+          (omega (arith, kinds_few, are.kinds)) l.weight weights
+          (sums_within l (length new.names) (length new.kinds) are names_few kinds_few);
+      names_few = names_few;
+      kinds_few = kinds_few;
+      weights_few = weights;
+    }
 
 -- a content without the edges that were last touched before a time is a content
 pub IsContent-later : (time : ℕ) (c : Content) → IsContent c → IsContent (content_of c.names c.kinds (later time c.edges))
@@ -141,9 +165,11 @@ IsContent-later time c is = record {
   kinds_distinct = is.kinds_distinct;
   names_few = is.names_few;
   kinds_few = is.kinds_few;
-  places_few = is.places_few;
   keys_distinct = AllPairs-filter (λ a b. key_of a ≢ key_of b) (λ e. not (was_before time e)) c.edges is.keys_distinct;
   edges_within = All-filter (λ e. not (was_before time e)) (IsEdgeWithin (length c.names) (length c.kinds)) c.edges is.edges_within;
+  most_weight = is.most_weight;
+  weights_within = All-filter (λ e. not (was_before time e)) (λ e. IsWeightIn is.most_weight e.weight) c.edges is.weights_within;
+  sums_fit = is.sums_fit;
 }
 
 pub IsContentIn-later : (l : LimitsView) (time : ℕ) (c : Content) → IsContentIn l c
@@ -152,4 +178,5 @@ IsContentIn-later l time c is = record {
   content = IsContent-later time c is.content;
   names_few = is.names_few;
   kinds_few = is.kinds_few;
+  weights_few = All-filter (λ e. not (was_before time e)) (λ e. IsWeightIn l.weight e.weight) c.edges is.weights_few;
 }

@@ -1,7 +1,7 @@
 //! A content while operations are applied to it.
 
 ghost use Rattle.std.specs.Prelude.{◌≡◌, IfOk, OnOk, IfErr};
-ghost use Rattle.graph_types.specs.Changes.{IsChange};
+ghost use Rattle.graph_types.specs.Changes.{AllowsUpTo, IsChange};
 ghost use Rattle.graph_types.specs.Graph.{graph_in, IsContentIn};
 ghost use Rattle.graph_types.specs.Step as step;
 ghost use Rattle.graph_types.specs.Valid.{IsValid};
@@ -58,6 +58,7 @@ impl Draft {
         ensures content { OnOk result (IsContentIn limits (shown_by self.new)) }
         ensures refused { IfErr result (λ e. Exceeds e (step.after op.now (graph_in limits (shown_by self.old)))) }
     {
+        let most = limits.weight();
         match op {
             NamedOp::Insert {
                 kind,
@@ -69,6 +70,7 @@ impl Draft {
                 let change = EdgeChange::Insert {
                     weight: *weight,
                     time: *time,
+                    most,
                 };
                 self.change(limits, change, kind, source, target)
             }
@@ -82,6 +84,7 @@ impl Draft {
                 let change = EdgeChange::Incr {
                     amount: *amount,
                     time: *time,
+                    most,
                 };
                 self.change(limits, change, kind, source, target)
             }
@@ -118,6 +121,7 @@ impl Draft {
     ) -> Result<Outcome, PlainError>
         requires content { IsContentIn limits (shown_by self.old) }
         requires change { IsChange change }
+        requires most { AllowsUpTo limits.weight change }
         ensures outcome { IfOk result (λ o.
             o ≡ step.change_outcome change kind.now source.now target.now (graph_in limits (shown_by self.old))) }
         ensures graph { OnOk result

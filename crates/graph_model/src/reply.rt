@@ -1,11 +1,11 @@
 //! The answer to a request, by passes over the plain lists.
 
 ghost use Rattle.std.specs.Prelude.{◌≡◌, ◌⊎◌, ◌≤◌, ◌<◌, length, All, IfOk, OnOk, IfErr, MatchResult, None, Some, true};
-ghost use Rattle.std.specs.Prelude.{false};
+ghost use Rattle.std.specs.Prelude.{false, nat_abs};
 ghost use Rattle.graph_types.specs.Answer.{IsAnswer, is_listed, filter_refusal, resolved, degree_table, shown};
-ghost use Rattle.graph_types.specs.Degrees.{CountsEdge, IsWithinLimits, with_edge};
+ghost use Rattle.graph_types.specs.Degrees.{CountsEdge, HasRoom, with_edge};
 ghost use Rattle.graph_types.specs.Graph.{graph_of, map_of, IsContent};
-ghost use Rattle.graph_types.specs.Limits.{IsWeight, most_kinds};
+ghost use Rattle.graph_types.specs.Limits.{most_kinds};
 ghost use Rattle.graph_types.specs.Step.{number_of};
 ghost use Rattle.graph_types.specs.Changes.{stamp_in};
 ghost use Rattle.graph_model.specs.Drafts.{shown_key};
@@ -158,8 +158,7 @@ fn tally(alloc: Global, content: &Content, filter: Filter) -> Result<Vec<Degree>
 fn count_edge(table: &mut Vec<Degree>, edge: &Edge)
     requires source { edge.now.source.0 < length table.old.items }
     requires target { edge.now.target.0 < length table.old.items }
-    requires weight { IsWeight edge.now.weight }
-    requires limits { All IsWithinLimits table.old.items }
+    requires room { All (HasRoom (nat_abs edge.now.weight)) table.old.items }
     ensures { CountsEdge edge.now table.old.items table.new.items }
 {
     count_at(&mut table[edge.source.0 as usize], edge, edge.source);
@@ -170,8 +169,7 @@ fn count_edge(table: &mut Vec<Degree>, edge: &Edge)
 
 /// Counts an edge at a vertex.
 fn count_at(degree: &mut Degree, edge: &Edge, vertex: VertexId)
-    requires weight { IsWeight edge.now.weight }
-    requires limits { IsWithinLimits degree.old }
+    requires room { HasRoom (nat_abs edge.now.weight) degree.old }
     ensures { degree.new ≡ with_edge edge.now vertex.0 degree.old }
 {
     if edge.source == vertex {

@@ -1,12 +1,13 @@
 -- How many edges a vertex can have: where each key stands once, at most one for each kind and each other end,
 -- so one for each place. And how large the sum of their weights can be.
 use Rattle.std.proofs.Common.{◌≡◌, ℕ, zero, suc, ◌+◌, ◌*◌, ◌^◌, ◌<◌, ◌≤◌, Bool, true, false, cond, ◌&&◌, eqb, ltb, List, [], ◌∷◌}
-use Rattle.std.proofs.{Common.{get_or, map, ℤ, pos, ◌+ℤ◌, nat_abs, refl, sym, subst, arith}, lemmas.Int.ints, Math.Nat.mul_comm}
+use Rattle.std.proofs.{Common.{get_or, map, ℤ, pos, ◌+ℤ◌, nat_abs, refl, sym, subst, ap, ◌∙◌, arith}, lemmas.Int.ints}
+use Rattle.std.proofs.{Math.Nat.{mul_comm, suc-mul}, Math.Numerals.add-one, lemmas.Nat.mul-le}
 use Rattle.std.proofs.lemmas.List.Sums.{sum_by-cons, sum_by-le-sum_by, sum_by-le}
 use Rattle.std.{proofs.lemmas.List.Elements.All-tail, specs.Prelude.{count_by, sum_by, filter, fold, All}}
 use Rattle.std.proofs.lemmas.Grind.{common_steps}
-use Rattle.graph_types.specs.{Graph.{Key, entry_of, IsEdgeWithin}, Limits.{IsWeight, most_places}, View.{in_view, leaves, enters}}
-use Rattle.graph_types.specs.{Degrees.{listed_degree, IsWithinLimits}, declared.ids.{Edge.Edge, Filter.Filter}}
+use Rattle.graph_types.specs.{Graph.{Key, entry_of}, Limits.{IsWeightIn, SumsFit, most_places}, View.{in_view, leaves, enters}}
+use Rattle.graph_types.specs.{Degrees.{listed_degree, HasRoom}, declared.ids.{Edge.Edge, Filter.Filter}}
 use Rattle.graph_types.proofs.{Keys.HasKeysOnce, Keys.is_key_of, Keys.count_key, Folds.fold_from}
 
 step_up : (b : Bool) (c k : ℕ) → cond (b && ltb c (suc k)) 1 0 ≤ cond (b && ltb c k) 1 0 + cond (b && eqb c k) 1 0
@@ -57,13 +58,11 @@ module _ {X : Type 0} where
 -- of the edges that pass, at most one for each kind and each other end
 pub crowd_of_edges : (p : Edge → Bool) (other : Edge → ℕ) (n m : ℕ) (es : List Edge)
     → ((k v : ℕ) → count_by (λ e. (p e && eqb e.kind.0 k) && eqb (other e) v) es ≤ 1) → All (λ e. e.kind.0 < m) es
-    → All (λ e. other e < n) es → n * m ≤ most_places → count_by p es ≤ most_places
-crowd_of_edges p other n m es few kinds others places =
+    → All (λ e. other e < n) es → count_by p es ≤ n * m
+crowd_of_edges p other n m es few kinds others =
     let of_kind : (k : ℕ) → count_by (λ e. p e && eqb e.kind.0 k) es ≤ n =
     λ k. omega (arith, crowd (λ e. p e && eqb e.kind.0 k) other 1 n es (few k) others) in
-    let all : count_by p es ≤ n * m = subst (λ most. count_by p es ≤ most) (mul_comm m n)
-    (crowd p (λ e. e.kind.0) n m es of_kind kinds) in
-    omega (arith, all, places)
+    subst (λ most. count_by p es ≤ most) (mul_comm m n) (crowd p (λ e. e.kind.0) n m es of_kind kinds)
 
 pub one_where : (a b : Bool) → (a ≡ true → b ≡ true) → cond a 1 0 ≤ cond b 1 0
 one_where h0 b then = grind (arith, common_steps)
@@ -96,37 +95,53 @@ enters_once f v es once k s =
     passes_once (λ e. (enters f v (entry_of e) && eqb e.kind.0 k) && eqb e.source.0 s) _ es once (λ e passes.
     let (target, kind, source) = last_three (in_view f (entry_of e)) _ _ _ passes in has_key k s v e kind source target)
 
+-- one edge more is one weight more
+one_more : (n most : ℕ) → (n + 1) * most ≡ n * most + most
+one_more n most = ap (λ k. k * most) (add-one n) ∙ suc-mul n most
+
 abs_add : (a b : ℤ) → nat_abs (a +ℤ b) ≤ nat_abs a + nat_abs b
 abs_add a b = grind (arith, common_steps)
 
-sum_within : (p : Edge → Bool) (es : List Edge) → All (λ e. IsWeight e.weight) es
-    → nat_abs (fold ◌+ℤ◌ (pos 0) (map (λ e. e.weight) (filter p es))) ≤ count_by p es * 2 ^ 40
-sum_within p [] within = omega arith
-sum_within p (e ∷ es) within =
-    let rest = sum_within p es (All-tail (λ (x : Edge). IsWeight x.weight) e es within) in
-    let first : nat_abs e.weight ≤ 2 ^ 40 = within 0 e (omega arith) in
+sum_within : (p : Edge → Bool) (most : ℕ) (es : List Edge) → All (λ e. IsWeightIn most e.weight) es
+    → nat_abs (fold ◌+ℤ◌ (pos 0) (map (λ e. e.weight) (filter p es))) ≤ count_by p es * most
+sum_within p most [] within = omega arith
+sum_within p most (e ∷ es) within =
+    let rest = sum_within p most es (All-tail (λ (x : Edge). IsWeightIn most x.weight) e es within) in
+    let first : nat_abs e.weight ≤ most = within 0 e (omega arith) in
     let whole = sum_by-cons (λ (x : Edge). cond (p x) 1 0) e es in
     elim (p e) as (λ b. count_by p (e ∷ es) ≡ cond b 1 0 + count_by p es
     → nat_abs (fold ◌+ℤ◌ (pos 0) (map (λ (x : Edge). x.weight) (cond b (e ∷ filter p es) (filter p es)))) ≤ count_by p
-    (e ∷ es) * 2 ^ 40) [
+    (e ∷ es) * most) [
       | true ↦ λ w.
           let later : ℤ = fold ◌+ℤ◌ (pos 0) (map (λ (x : Edge). x.weight) (filter p es)) in
           let sum : fold ◌+ℤ◌ (pos 0 +ℤ e.weight) (map (λ (x : Edge). x.weight) (filter p es)) ≡ e.weight +ℤ later =
           omega (arith, ints, fold_from (pos 0 +ℤ e.weight) (map (λ (x : Edge). x.weight) (filter p es))) in
-          subst (λ z. nat_abs z ≤ count_by p (e ∷ es) * 2 ^ 40) (sym sum) (omega (arith, abs_add e.weight later))
-      | false ↦ λ w. omega arith
+          let count : count_by p (e ∷ es) ≡ count_by p es + 1 = omega arith in
+          let more : count_by p (e ∷ es) * most ≡ count_by p es * most + most =
+          ap (λ n. n * most) count ∙ one_more (count_by p es) most in
+          subst (λ z. nat_abs z ≤ count_by p (e ∷ es) * most) (sym sum) (omega (arith, abs_add e.weight later, more))
+      | false ↦ λ w.
+          let count : count_by p es ≡ count_by p (e ∷ es) = omega arith in
+          subst (λ n. nat_abs (fold ◌+ℤ◌ (pos 0) (map (λ (x : Edge). x.weight) (filter p es))) ≤ n * most) count rest
     ] whole
 
--- the degrees of a vertex over edges of a content are within the limits
-pub degree_within : (f : Filter) (es : List Edge) (n m v : ℕ) → n * m ≤ most_places → HasKeysOnce es → All (IsEdgeWithin n m) es
-    → IsWithinLimits (listed_degree f es v)
-degree_within f es n m v places once within =
-    let kinds : All (λ (e : Edge). e.kind.0 < m) es = λ k d h. (within k d h).kind in
-    let sources : All (λ (e : Edge). e.source.0 < n) es = λ k d h. (within k d h).source in
-    let targets : All (λ (e : Edge). e.target.0 < n) es = λ k d h. (within k d h).target in
-    let outgoing = crowd_of_edges (λ e. leaves f v (entry_of e)) (λ e. e.target.0) n m es (leaves_once f v es once) kinds targets
-    places in
-    let incoming = crowd_of_edges (λ e. enters f v (entry_of e)) (λ e. e.source.0) n m es (enters_once f v es once) kinds sources
-    places in
-    let weights = sum_within (λ e. leaves f v (entry_of e)) es (λ k d h. (within k d h).weight) in
-    record { outgoing = outgoing; incoming = incoming; out_weight = omega (arith, weights, outgoing) }
+-- degrees over as many edges as there are places have room for one more
+room_for : (n m most count : ℕ) → count ≤ n * m → SumsFit (n * m) most → count * most + most < 2 ^ 63
+room_for n m most count few sums =
+    let less : (count + 1) * most ≤ (n * m + 1) * most = mul-le (count + 1) most (n * m + 1) most (omega arith) (omega arith) in
+    omega (arith, less, one_more count most, sums)
+
+-- the degrees of a vertex over some edges, of which each key is listed once, have room for one edge more
+pub degree_within : (f : Filter) (es : List Edge) (n m v most weight : ℕ) → n * m ≤ most_places → SumsFit (n * m) most
+    → weight ≤ most → HasKeysOnce es → All (λ e. e.kind.0 < m) es → All (λ e. e.source.0 < n) es → All (λ e. e.target.0 < n) es
+    → All (λ e. IsWeightIn most e.weight) es → HasRoom weight (listed_degree f es v)
+degree_within f es n m v most weight places sums light once kinds sources targets weights =
+    let outgoing = crowd_of_edges (λ e. leaves f v (entry_of e)) (λ e. e.target.0) n m es (leaves_once f v es once) kinds targets in
+    let incoming = crowd_of_edges (λ e. enters f v (entry_of e)) (λ e. e.source.0) n m es (enters_once f v es once) kinds sources in
+    let sum = sum_within (λ e. leaves f v (entry_of e)) most es weights in
+    let room = room_for n m most (count_by (λ e. leaves f v (entry_of e)) es) outgoing sums in
+    record {
+      outgoing = omega (arith, outgoing, places);
+      incoming = omega (arith, incoming, places);
+      out_weight = omega (arith, sum, room, light);
+    }

@@ -19,3 +19,4 @@ pub mod Cores
 pub mod SomeTable
 pub mod OneAnswer
 pub mod LimitsKept
+pub mod WeightsKept

@@ -1,7 +1,7 @@
 -- What operations and batches do leaves the limits as they were, and no answer depends on them.
-use Rattle.std.proofs.Common.{◌≡◌, ℕ, ◌≤◌, ◌*◌, ◌∙◌, refl, arith, List, [], ◌∷◌, Some, None}
+use Rattle.std.proofs.Common.{◌≡◌, ℕ, ◌≤◌, ◌+◌, ◌*◌, ◌∙◌, refl, arith, List, [], ◌∷◌, Some, None}
 use Rattle.std.{proofs.lemmas.Nat.mul-le, specs.Prelude.{Result, Ok, Err}, specs.declared.option.Option.Option}
-use Rattle.graph_types.specs.{Graph.{Graph}, Limits.{LimitsView, AreLimits, most_places}}
+use Rattle.graph_types.specs.{Graph.{Graph}, Limits.{LimitsView, AreLimits, SumsFit, most_names, most_kinds, most_places}}
 use Rattle.graph_types.specs.{Analyses.{AreLevels, IsLevel}, Step.{after, after_all, left_by}, Answer.{IsAnswer, IsReply, refusal}}
 use Rattle.graph_types.specs.{Laws.{IsFreeOfLimits, KeepLimits}, declared.{ids.Filter.Filter, batches.NamedOp.NamedOp}}
 use Rattle.graph_types.specs.declared.batches.NamedOp.TheVariants.{Insert, Incr, Remove, Expire}
@@ -65,8 +65,19 @@ same_answer request g l (Err error) is = same_refusal request g l ∙ is
 pub free_of_limits : IsFreeOfLimits
 free_of_limits request g l answer = (same_answer request g l answer, same_answer request (record g { limits = l }) g.limits answer)
 
--- Within limits there are no more places than these have
-pub places_within : (l : LimitsView) (names kinds : ℕ) → AreLimits l → names ≤ l.names → kinds ≤ l.kinds
-    → names * kinds ≤ most_places
-places_within l names kinds are few_names few_kinds =
-    omega (arith, mul-le names kinds l.names l.kinds few_names few_kinds, are.places)
+-- Within the walls there are no more places than these have
+pub places_few : (names kinds : ℕ) → names ≤ most_names → kinds ≤ most_kinds → names * kinds ≤ most_places
+places_few names kinds few_names few_kinds = mul-le names kinds most_names most_kinds few_names few_kinds
+
+-- fewer places and smaller weights have smaller sums
+pub sums_less : (places weight more most : ℕ) → places ≤ more → weight ≤ most → SumsFit more most → SumsFit places weight
+sums_less places weight more most few light sums =
+    let less : (places + 1) * weight ≤ (more + 1) * most = mul-le (places + 1) weight (more + 1) most (omega arith) light in
+    omega (arith, less, sums)
+
+-- within limits sums fit
+pub sums_within : (l : LimitsView) (names kinds : ℕ) → AreLimits l → names ≤ l.names → kinds ≤ l.kinds
+    → SumsFit (names * kinds) l.weight
+sums_within l names kinds are few_names few_kinds =
+    sums_less (names * kinds) l.weight (l.names * l.kinds) l.weight
+    (mul-le names kinds l.names l.kinds few_names few_kinds) (omega arith) are.sums

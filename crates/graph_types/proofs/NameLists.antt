@@ -98,6 +98,6 @@ pub IsNamed-changed_key : (change : EdgeChange) (kind source target : List ℕ) 
     → Some s ≡ stamp_after change before
     → IsNamed (length (names_made change source target g.names)) (length (kinds_made change kind g.kinds))
     (changed_key change kind source target g)
-IsNamed-changed_key (ToInsert weight time) kind source target g before s is = named g.names g.kinds kind source target
-IsNamed-changed_key (ToIncr amount time) kind source target g before s is = named g.names g.kinds kind source target
+IsNamed-changed_key (ToInsert weight time most) kind source target g before s is = named g.names g.kinds kind source target
+IsNamed-changed_key (ToIncr amount time most) kind source target g before s is = named g.names g.kinds kind source target
 IsNamed-changed_key ToRemove kind source target g before s is = cc

@@ -31,9 +31,9 @@ HasNames-changed change kind source target g are has =
 
 HasNames-after : (op : NamedOp) (g : Graph) → IsValid op → HasNames g → HasNames (after op g)
 HasNames-after (Insert kind source target weight time) g valid has =
-    HasNames-changed (ToInsert weight time) kind source target g valid.names has
+    HasNames-changed (ToInsert weight time g.limits.weight) kind source target g valid.names has
 HasNames-after (Incr kind source target amount time) g valid has =
-    HasNames-changed (ToIncr amount time) kind source target g valid.names has
+    HasNames-changed (ToIncr amount time g.limits.weight) kind source target g valid.names has
 HasNames-after (Remove kind source target) g valid has = HasNames-changed ToRemove kind source target g valid.names has
 HasNames-after (Expire time) g valid has = record { names = has.names; kinds = has.kinds }
 

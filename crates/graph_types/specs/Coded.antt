@@ -15,8 +15,9 @@ abbrev pub names_code : Coded (List (List ℕ))
 names_code = coded_list (coded_list coded_ℕ)
 
 abbrev pub limits_code : Coded LimitsView
-limits_code = code_by (ℕ × (ℕ × ℕ)) (coded× coded_ℕ (coded× coded_ℕ coded_ℕ)) (λ l. (l.names, (l.kinds, l.batches)))
-    (λ p. record { names = p.0; kinds = p.1.0; batches = p.1.1 }) (λ _. refl)
+limits_code = code_by (ℕ × (ℕ × (ℕ × ℕ))) (coded× coded_ℕ (coded× coded_ℕ (coded× coded_ℕ coded_ℕ)))
+    (λ l. (l.names, (l.kinds, (l.batches, l.weight))))
+    (λ p. record { names = p.0; kinds = p.1.0; batches = p.1.1.0; weight = p.1.1.1 }) (λ _. refl)
 
 abbrev pub graph_code : Coded Graph
 graph_code = code_by (List (List ℕ) × (List (List ℕ) × (FinMap key_cmp Stamp × LimitsView)))

@@ -1,7 +1,7 @@
 -- Degrees over a plain list of edges, and a table of them.
-use Rattle.std.specs.Prelude.{◌≡◌, ℕ, ◌+◌, ◌<◌, ◌≤◌, ◌*◌, pos, nat_abs, ◌+ℤ◌, ◌==◌, cond, List, map, filter, count_by, fold}
+use Rattle.std.specs.Prelude.{◌≡◌, ℕ, ◌+◌, ◌<◌, ◌≤◌, ◌^◌, pos, nat_abs, ◌+ℤ◌, ◌==◌, cond, List, map, filter, count_by, fold}
 use Rattle.std.specs.Prelude.{length, slice_index_or}
-use Rattle.graph_types.specs.{Graph.entry_of, Limits.{most_places, weight_limit}, View.{leaves, enters}}
+use Rattle.graph_types.specs.{Graph.entry_of, Limits.most_places, View.{leaves, enters}}
 use Rattle.graph_types.specs.declared.ids.{Degree.Degree, Edge.Edge, Filter.Filter}
 
 -- the degrees of v over the listed edges that the filter lets through
@@ -30,8 +30,8 @@ pub record CountsEdge (e : Edge) (old new : List Degree) : Type 0 where
   pub size : length new ≡ length old
   pub at : (v : ℕ) (d : Degree) → v < length old → slice_index_or new v d ≡ with_edge e v (slice_index_or old v d)
 
--- degrees of at most one edge each way for each place, and the sum of as many weights
-pub record IsWithinLimits (d : Degree) : Type 0 where
+-- degrees to which an edge of a weight of this size can be added
+pub record HasRoom (weight : ℕ) (d : Degree) : Type 0 where
   pub outgoing : d.outgoing ≤ most_places
   pub incoming : d.incoming ≤ most_places
-  pub out_weight : nat_abs d.out_weight ≤ most_places * weight_limit
+  pub out_weight : nat_abs d.out_weight + weight < 2 ^ 63

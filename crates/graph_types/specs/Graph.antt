@@ -2,9 +2,10 @@
 -- STINGER's edge has a kind, a weight and two times (Ediger, McColl, Riedy, Bader; IEEE HPEC 2012); the names
 -- and their numbers, the whole-number weights and the limits are this project's own profile.
 use Rattle.std.specs.Prelude.{◌≡◌, ◌≢◌, ℕ, ◌<◌, ◌≤◌, ◌*◌, ℤ, List, map, length, All, AllPairs, Bool, not, ◌&&◌, ◌==◌, filter}
-use Rattle.std.specs.{Ordering.{nat_cmp, ordering_then}, FinMap.{FinMap, from_entries}, declared.cmp.Ordering.Ordering}
+use Rattle.std.specs.{Ordering.{nat_cmp, ordering_then}, FinMap.{FinMap, from_entries, get}, declared.cmp.Ordering.Ordering}
+use Rattle.std.specs.Prelude.{IfSome}
 pub use Rattle.graph_types.specs.Limits.{IsWeight, IsTime}
-use Rattle.graph_types.specs.Limits.{LimitsView, standard_limits, most_names, most_kinds, most_places}
+use Rattle.graph_types.specs.Limits.{LimitsView, standard_limits, most_names, most_kinds, IsWeightIn, SumsFit}
 use Rattle.graph_types.specs.declared.{ids.Edge.Edge, contents.Content.Content}
 
 -- which edge: the numbers of its kind, its source and its target
@@ -85,18 +86,26 @@ pub record IsEdgeWithin (n m : ℕ) (e : Edge) : Type 0 where
   pub first : IsTime e.first
   pub recent : IsTime e.recent
 
--- names and kinds are distinct and within the walls, and each key is listed once
+-- a graph whose weights are within its limit
+abbrev pub HasWeights : Graph → Type 0
+HasWeights g = (key : Key) → IfSome (get g.edges key) (λ stamp. IsWeightIn g.limits.weight stamp.weight)
+
+-- names and kinds are distinct and within the walls, each key is listed once, and some size that no weight passes is so small
+-- that sums of weights fit
 pub record IsContent (c : Content) : Type 0 where
   pub names_distinct : AllPairs (λ a b. a ≢ b) c.names
   pub kinds_distinct : AllPairs (λ a b. a ≢ b) c.kinds
   pub names_few : length c.names ≤ most_names
   pub kinds_few : length c.kinds ≤ most_kinds
-  pub places_few : length c.names * length c.kinds ≤ most_places
   pub keys_distinct : AllPairs (λ a b. key_of a ≢ key_of b) c.edges
   pub edges_within : All (IsEdgeWithin (length c.names) (length c.kinds)) c.edges
+  pub most_weight : ℕ
+  pub weights_within : All (λ e. IsWeightIn most_weight e.weight) c.edges
+  pub sums_fit : SumsFit (length c.names * length c.kinds) most_weight
 
 -- a content within these limits
 pub record IsContentIn (limits : LimitsView) (c : Content) : Type 0 where
   pub content : IsContent c
   pub names_few : length c.names ≤ limits.names
   pub kinds_few : length c.kinds ≤ limits.kinds
+  pub weights_few : All (λ e. IsWeightIn limits.weight e.weight) c.edges

@@ -1,7 +1,7 @@
 -- Laws about the definitions.
 use Rattle.std.specs.Prelude.{◌≡◌, ◌↔◌, ℕ, ◌+◌, List, Result, IsPermutation, IsTrue, All, true}
 use Rattle.std.specs.{declared.option.Option.TheVariants.Some, FinMap.{FinMap, get, len}}
-use Rattle.graph_types.specs.{Graph.{Graph, Key, Stamp, key_cmp, graph_in, content_of, IsContent}, Step.{after_all, left_by}}
+use Rattle.graph_types.specs.{Graph.{Graph, Key, Stamp, key_cmp, graph_in, content_of, IsContent, HasWeights}, Step.{after_all, left_by}}
 use Rattle.graph_types.specs.Step.{stamp_after, stays_from, expired, count_before, MeetsNameLimit, MeetsKindLimit}
 use Rattle.graph_types.specs.{Limits.LimitsView, Step.is_within_limits, Valid.{is_name, is_kind_name, IsBatch}, Answer.IsAnswer}
 use Rattle.graph_types.specs.declared.{batches.NamedOp.NamedOp, changes.EdgeChange.EdgeChange, contents.Content.Content}
@@ -49,6 +49,10 @@ pub record HasNames (g : Graph) : Type 0 where
 -- valid batches leave such a graph of such a graph
 abbrev pub KeepsNames : Type 0
 KeepsNames = (batches : List (List NamedOp)) (g : Graph) → All IsBatch batches → HasNames g → HasNames (left_by batches g)
+
+-- batches leave a graph whose weights are within its limit of such a graph, whatever their operations
+abbrev pub KeepsWeights : Type 0
+KeepsWeights = (batches : List (List NamedOp)) (g : Graph) → HasWeights g → HasWeights (left_by batches g)
 
 -- an edge that stays keeps the time of its first insertion
 abbrev pub KeepsFirstTime : Type 0

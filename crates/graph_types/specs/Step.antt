@@ -3,7 +3,7 @@ use Rattle.std.specs.Prelude.{ℕ, ◌+ℤ◌, List, [], ◌∷◌, ◌++◌, Bo
 use Rattle.std.specs.{Prelude.{not, ◌<◌, length, nat_le, ◌&&◌}, Option.is_some, List.{list_any, position_or_len}, FinMap.FinMap}
 use Rattle.std.specs.{FinMap.{empty, get, insert, remove, retain_keys, entries}, declared.option.Option.Option}
 use Rattle.std.specs.declared.option.Option.TheVariants.{None, Some}
-use Rattle.graph_types.specs.{Limits.{is_weight, LimitsView, standard_limits}, Graph.{Graph, Key, Stamp, key_cmp, stamp_of}}
+use Rattle.graph_types.specs.{Limits.{is_weight_in, LimitsView, standard_limits}, Graph.{Graph, Key, Stamp, key_cmp, stamp_of}}
 use Rattle.graph_types.specs.declared.{ids.Edge.Edge, batches.NamedOp.{NamedOp, TheVariants.{Insert, Incr, Remove, Expire}}}
 use Rattle.graph_types.specs.declared.batches.Outcome.{Outcome, TheVariants.{Inserted, Updated, Removed, Absent, Overflow}}
 use Rattle.graph_types.specs.declared.{batches.Outcome.TheVariants.Expired, changes.EdgeChange.EdgeChange}
@@ -19,23 +19,35 @@ number_of names name = position_or_len (bytes_eq name) names
 
 -- What a change does at one key
 
--- what stands at the key afterwards, where this stood there before
-abbrev pub stamp_after : EdgeChange → Option Stamp → Option Stamp
-stamp_after (ToInsert weight time) None = Some (record { weight = weight; first = time; recent = time })
-stamp_after (ToInsert weight time) (Some e) = Some (record e { weight = weight; recent = time })
-stamp_after (ToIncr amount time) None = Some (record { weight = amount; first = time; recent = time })
-stamp_after (ToIncr amount time) (Some e) =
-    if is_weight (e.weight +ℤ amount) then Some (record e { weight = e.weight +ℤ amount; recent = time }) else Some e
-stamp_after ToRemove before = None
+-- whether a weight, an amount or a sum would be past the most that the change allows, where this stood at the key before
+abbrev pub overflows : EdgeChange → Option Stamp → Bool
+overflows (ToInsert weight time most) before = not (is_weight_in most weight)
+overflows (ToIncr amount time most) None = not (is_weight_in most amount)
+overflows (ToIncr amount time most) (Some e) = not (is_weight_in most amount && is_weight_in most (e.weight +ℤ amount))
+overflows ToRemove before = false
 
--- the outcome, where this stood at the key before
+-- what a change that doesn't overflow leaves at the key, and its outcome
+abbrev pub stamp_put : EdgeChange → Option Stamp → Option Stamp
+stamp_put (ToInsert weight time most) None = Some (record { weight = weight; first = time; recent = time })
+stamp_put (ToInsert weight time most) (Some e) = Some (record e { weight = weight; recent = time })
+stamp_put (ToIncr amount time most) None = Some (record { weight = amount; first = time; recent = time })
+stamp_put (ToIncr amount time most) (Some e) = Some (record e { weight = e.weight +ℤ amount; recent = time })
+stamp_put ToRemove before = None
+
+abbrev pub outcome_put : EdgeChange → Option Stamp → Outcome
+outcome_put (ToInsert weight time most) None = Inserted
+outcome_put (ToInsert weight time most) (Some e) = Updated
+outcome_put (ToIncr amount time most) None = Inserted
+outcome_put (ToIncr amount time most) (Some e) = Updated
+outcome_put ToRemove None = Absent
+outcome_put ToRemove (Some e) = Removed
+
+-- what stands at the key afterwards, and the outcome: a change that overflows leaves what there was
+abbrev pub stamp_after : EdgeChange → Option Stamp → Option Stamp
+stamp_after change before = if overflows change before then before else stamp_put change before
+
 abbrev pub outcome_at : EdgeChange → Option Stamp → Outcome
-outcome_at (ToInsert weight time) None = Inserted
-outcome_at (ToInsert weight time) (Some e) = Updated
-outcome_at (ToIncr amount time) None = Inserted
-outcome_at (ToIncr amount time) (Some e) = if is_weight (e.weight +ℤ amount) then Updated else Overflow
-outcome_at ToRemove None = Absent
-outcome_at ToRemove (Some e) = Removed
+outcome_at change before = if overflows change before then Overflow else outcome_put change before
 
 -- the map with this at the key, and all else as it was
 abbrev pub set_at : FinMap key_cmp Stamp → Key → Option Stamp → FinMap key_cmp Stamp
@@ -106,16 +118,17 @@ abbrev pub is_expire : NamedOp → Bool
 is_expire (Expire time) = true
 is_expire _ = false
 
--- one operation
+-- one operation: the weights that it leaves are within the graph's limit
 abbrev pub after : NamedOp → Graph → Graph
-after (Insert kind source target weight time) g = changed (ToInsert weight time) kind source target g
-after (Incr kind source target amount time) g = changed (ToIncr amount time) kind source target g
+after (Insert kind source target weight time) g = changed (ToInsert weight time g.limits.weight) kind source target g
+after (Incr kind source target amount time) g = changed (ToIncr amount time g.limits.weight) kind source target g
 after (Remove kind source target) g = changed ToRemove kind source target g
 after (Expire time) g = record g { edges = expired time g.edges }
 
 abbrev pub outcome : NamedOp → Graph → Outcome
-outcome (Insert kind source target weight time) g = change_outcome (ToInsert weight time) kind source target g
-outcome (Incr kind source target amount time) g = change_outcome (ToIncr amount time) kind source target g
+outcome (Insert kind source target weight time) g =
+    change_outcome (ToInsert weight time g.limits.weight) kind source target g
+outcome (Incr kind source target amount time) g = change_outcome (ToIncr amount time g.limits.weight) kind source target g
 outcome (Remove kind source target) g = change_outcome ToRemove kind source target g
 outcome (Expire time) g = Expired (count_before time g.edges)
 

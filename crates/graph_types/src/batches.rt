@@ -137,7 +137,7 @@ pub enum Outcome {
     Removed,
     /// There was no edge to remove.
     Absent,
-    /// The sum would leave the range of weights: nothing changed.
+    /// The weight, the amount or the sum is past the limit of weights: nothing changed but that the names are there.
     Overflow,
     /// As many edges were last touched before a time, and are gone.
     Expired(u64),

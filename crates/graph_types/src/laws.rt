@@ -1,7 +1,7 @@
 //! Laws about the definitions, as contracts of functions that do nothing.
 
 ghost use Rattle.graph_types.specs.Laws.{HasOneAnswer, HasSomeAnswer, IsFreeOfEdgeOrder, KeepsFirstTime, KeepsNames};
-ghost use Rattle.graph_types.specs.Laws.{MeetsNoLimit, Expires, IsFreeOfLimits, KeepLimits};
+ghost use Rattle.graph_types.specs.Laws.{MeetsNoLimit, Expires, IsFreeOfLimits, KeepLimits, KeepsWeights};
 
 /// A request has one answer over a graph: contents of equal graphs give equal answers, refusals included.
 pub fn law_one_answer()
@@ -28,6 +28,12 @@ pub fn law_within_limits()
 /// What valid batches leave of a graph whose vertices and kinds are called by names is called by names again.
 pub fn law_names_stay_names()
     ensures { KeepsNames }
+{}
+
+/// What batches leave of a graph whose weights are within its limit has weights within it again, whatever the operations.
+#[tactic(auto, using(crate::proofs::WeightsKept::keeps_weights))]
+pub fn law_weights_stay_within()
+    ensures { KeepsWeights }
 {}
 
 /// An edge that is changed and stays keeps the time of its first insertion.

@@ -24,9 +24,10 @@ pub use contents::Content;
 pub use ids::{Degree, Edge, Filter, KindId, VertexId};
 pub use laws::{
     law_edge_order, law_expiry, law_first_time_stays, law_limits_in_no_answer, law_limits_stay,
-    law_names_stay_names, law_one_answer, law_some_answer, law_within_limits,
+    law_names_stay_names, law_one_answer, law_some_answer, law_weights_stay_within,
+    law_within_limits,
 };
-pub use limits::{BadLimits, Limits, STANDARD_SIZE};
+pub use limits::{BadLimits, Limits, MOST_WEIGHT, STANDARD_SIZE};
 pub use lists::List;
 pub use requests::{AskError, NamedFilter, Reply, Request};
 pub use tables::{law_one_table, law_some_table};

@@ -1,4 +1,4 @@
--- How many blocks rows have: a version at most 2 ^ 49, since each of its blocks has an edge.
+-- How many blocks rows have: a version at most 2 ^ 58, since each of its blocks has an edge.
 use Rattle.std.proofs.Common.{◌≡◌, ℕ, suc, ◌≤◌, ◌^◌, false, List, [], ◌∷◌, length, Option, Some, None, arith, All, length-append}
 use Rattle.std.{proofs.lemmas.{List.Elements.{All-head, All-tail, All-append}, Grind.common_steps}, specs.List.list_all}
 use Rattle.edge_block.specs.Slots.{Slot, BlockView, is_free, edges_in}
@@ -27,5 +27,5 @@ all_have : (rows : List (List BlockView)) → ((s : ℕ) → All HasEdges (row_o
 all_have [] each = λ k d h. absurd (omega arith)
 all_have (row ∷ rows) each = All-append HasEdges row (blocks_of rows) (each 0) (all_have rows (λ s. each (suc s)))
 
-pub few_blocks : (v : VersionView) → IsVersion v → length (blocks_of v.rows) ≤ 2 ^ 49
+pub few_blocks : (v : VersionView) → IsVersion v → length (blocks_of v.rows) ≤ 2 ^ 58
 few_blocks v is = grind (arith, common_steps, as_many_edges, all_have, count_is_total, few_total)

@@ -2,7 +2,7 @@
 use Rattle.std.proofs.Common.{◌≡◌, ◌∙◌, ℕ, List, [], Bool, refl, sym, ap, arith, true≢false}
 use Rattle.std.specs.{Option.is_some, FinMap.get-empty, FinMap.len-empty}
 use Rattle.graph_types.specs.{Graph.Graph, Graph.Stamp, Graph.key_cmp, Step.empty_graph_in, declared.batches.NamedOp.NamedOp}
-use Rattle.graph_types.specs.Limits.{LimitsView, AreLimits, standard_limits}
+use Rattle.graph_types.{specs.Limits.{LimitsView, AreLimits, standard_limits}, proofs.Empty.empty_weights}
 use Rattle.edge_block.specs.{Slots.BlockView, Rows.IsRow}
 use Rattle.vertex_names.specs.Book.{Book, empty_book}
 use Rattle.graph_version.specs.{Versions.IsVersion, Versions.{empty_version, empty_version_in}, Kept.version_of, Kept.IsSummary, Logs.keeps_batches}
@@ -18,11 +18,23 @@ is_empty_version_in limits are = record {
     numbers = λ i j d h g. absurd (omega arith);
   };
   within = λ k is. absurd (true≢false (sym is ∙ ap is_some (get-empty key_cmp k)));
-  small = record { names = omega arith; kinds = omega arith; count = omega arith; limits = are };
+  small = record {
+    names = omega arith;
+    kinds = omega arith;
+    count = omega arith;
+    limits = are;
+    weights = empty_weights limits;
+  };
 }
 
 pub standard_are_limits : AreLimits standard_limits
-standard_are_limits = record { names = omega arith; kinds = omega arith; places = omega arith; batches = omega arith }
+standard_are_limits = record {
+  names = omega arith;
+  kinds = omega arith;
+  batches = omega arith;
+  weight = omega arith;
+  sums = omega arith;
+}
 
 pub is_empty_version : IsVersion empty_version
 is_empty_version = is_empty_version_in standard_limits standard_are_limits

@@ -1,9 +1,9 @@
--- A version has fewer than 2 ^ 49 edges: at most one for each source and each place of its targets.
+-- A version has fewer than 2 ^ 58 edges: at most one for each source and each place of its targets.
 use Rattle.std.proofs.Common.{◌≡◌, ℕ, ◌*◌, ◌^◌, ◌<◌, ◌≤◌, true, cond, ◌&&◌, eqb, List, [], ◌∷◌, refl, length, get_or, sym, ap, ◌∙◌}
 use Rattle.std.proofs.{Common.{arith, All}, lemmas.{Bool.{and_parts, eqb-true}, List.Sums.{sum_by-cons, sum_by-le-sum_by}}}
 use Rattle.std.{specs.{Prelude.count_by, Option.is_some, FinMap.get}, proofs.lemmas.Grind.common_steps}
 use Rattle.graph_types.{specs.{Graph.{key_of, Key}, declared.ids.Edge.Edge}, proofs.DegreeBounds.{crowd, crowd_of_edges, one_where}}
-use Rattle.graph_types.{specs.Limits.{most_names, most_places}, proofs.LimitsKept.places_within}
+use Rattle.graph_types.{specs.Limits.{most_names, most_kinds, most_places}, proofs.LimitsKept.places_few}
 use Rattle.graph_types.proofs.Keys.{HasKeysOnce, is_key_of, is_key_of_at, count_key, get_listed, len_once}
 use Rattle.version_pages.specs.Rows.{blocks_of}
 use Rattle.graph_version.specs.{Versions.{VersionView, content, IsVersion}, Edges.edges_in_blocks, Kept.edge_total}
@@ -31,14 +31,16 @@ at_key es once k s t =
 
 few_edges : (n m : ℕ) (es : List Edge) → HasKeysOnce es → All (λ (e : Edge). e.kind.0 < m) es
     → All (λ (e : Edge). e.source.0 < n) es → All (λ (e : Edge). e.target.0 < n) es → n ≤ most_names → n * m ≤ most_places
-    → length es ≤ 2 ^ 49
+    → length es ≤ 2 ^ 58
 few_edges n m es once kinds sources targets few places =
     let from : (s : ℕ) → count_by (λ (e : Edge). true && eqb e.source.0 s) es ≤ most_places =
-    λ s. crowd_of_edges (λ (e : Edge). eqb e.source.0 s) (λ (e : Edge). e.target.0) n m es (λ k t. at_key es once k s t) kinds
-    targets places in
+    λ s.
+    let all = crowd_of_edges (λ (e : Edge). eqb e.source.0 s) (λ (e : Edge). e.target.0) n m es (λ k t. at_key es once k s t)
+    kinds targets in
+    omega (arith, all, places) in
     omega (arith, ones es, crowd (λ (e : Edge). true) (λ (e : Edge). e.source.0) most_places n es from sources, few)
 
-pub few_total : (v : VersionView) → IsVersion v → edge_total v ≤ 2 ^ 49
+pub few_total : (v : VersionView) → IsVersion v → edge_total v ≤ 2 ^ 58
 few_total v is =
     let es : List Edge = edges_in_blocks (blocks_of v.rows) in
     let each = rows_each_once (content v) v.rows is.rows in
@@ -49,6 +51,7 @@ few_total v is =
     let kinds : All (λ (e : Edge). e.kind.0 < m) es = λ j d lt. (is.within (key_of (get_or es j d)) (there j d lt)).0 in
     let sources : All (λ (e : Edge). e.source.0 < n) es = λ j d lt. (is.within (key_of (get_or es j d)) (there j d lt)).1 in
     let targets : All (λ (e : Edge). e.target.0 < n) es = λ j d lt. (is.within (key_of (get_or es j d)) (there j d lt)).2 in
-    let few = few_edges n m es each.once kinds sources targets (omega (arith, is.small.names, is.small.limits.names))
-    (places_within (content v).limits n m is.small.limits is.small.names is.small.kinds) in
+    let few_names : n ≤ most_names = omega (arith, is.small.names, is.small.limits.names) in
+    let few_kinds : m ≤ most_kinds = omega (arith, is.small.kinds, is.small.limits.kinds) in
+    let few = few_edges n m es each.once kinds sources targets few_names (places_few n m few_names few_kinds) in
     omega (arith, few, count_is_total v is)

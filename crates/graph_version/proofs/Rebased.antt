@@ -5,9 +5,9 @@ use Rattle.std.proofs.{Common.FitsSigned, lemmas.List.{append-nil, take-append-d
 use Rattle.std.proofs.lemmas.{List.{drop_more, get_or_past, Elements.{All-head, All-tail, All-cons}}, Bool.cases_lt}
 use Rattle.std.{proofs.lemmas.Bool.Decides.eqb_tells, specs.{declared.{sync.Arc.Arc, alloc.Global.Global}, FinMap.{len, get}}}
 use Rattle.std.{specs.Option.is_some, proofs.lemmas.Grind.common_steps}
-use Rattle.graph_types.specs.{Graph.{key_of, stamp_of, IsContent, IsContentIn, Graph, graph_in}, Limits.{LimitsView, IsWeight}}
+use Rattle.graph_types.specs.{Graph.{key_of, stamp_of, IsContent, IsContentIn, HasWeights, Graph, graph_in}, Limits.{LimitsView, IsWeight}}
 use Rattle.graph_types.{specs.declared.{batches.NamedOp.NamedOp, contents.Content.Content, ids.Edge.Edge}, proofs.Keys.get_listed}
-use Rattle.graph_types.{specs.Limits.AreLimits, proofs.LimitsKept.{limits_left_by, places_within}}
+use Rattle.graph_types.{specs.Limits.AreLimits, proofs.{LimitsKept.{limits_left_by, sums_within}, WeightsKept.weights_listed}}
 use Rattle.edge_block.specs.{Slots.{IsStamp, Slot, BlockView, entry_in, entries_of, edges_in}, Lending.{LentEdge, lent_of}}
 use Rattle.edge_block.specs.{declared.blocks.Block.Block, Rows.shape_of, Batches.{IsLayoutOf, IsWithin}}
 use Rattle.vertex_names.specs.Book.{Book}
@@ -185,6 +185,7 @@ is_version_zero v blocks copy g is like same = record {
     kinds = subst (λ (h : Graph). length h.kinds ≤ h.limits.kinds) (sym same) is.small.kinds;
     count = omega arith;
     limits = subst (λ (h : Graph). AreLimits h.limits) (sym same) is.small.limits;
+    weights = subst HasWeights (sym same) is.small.weights;
   };
 }
 
@@ -277,12 +278,12 @@ listed_content names kinds edges keeps v c l is apart kinds_apart stamps e same 
     let kinds_few : length c.kinds ≤ l.kinds = subst (λ (g : Graph). length g.kinds ≤ g.limits.kinds) (sym same)
     is.version.small.kinds in
     let walls : AreLimits l = subst (λ (g : Graph). AreLimits g.limits) (sym same) is.version.small.limits in
+    let weights = weights_listed l c once (subst HasWeights (sym same) is.version.small.weights) in
     let content : IsContent c = record {
       names_distinct = apart;
       kinds_distinct = kinds_apart;
       names_few = omega (arith, names_few, walls.names);
       kinds_few = omega (arith, kinds_few, walls.kinds);
-      places_few = places_within l (length c.names) (length c.kinds) walls names_few kinds_few;
       keys_distinct = once;
       edges_within = λ k d lt.
           let x = get_or c.edges k d in
@@ -297,8 +298,11 @@ listed_content names kinds edges keeps v c l is apart kinds_apart stamps e same 
             first = stamp.1;
             recent = stamp.2;
           };
+      most_weight = l.weight;
+      weights_within = weights;
+      sums_fit = sums_within l (length c.names) (length c.kinds) walls names_few kinds_few;
     } in
-    record { content = content; names_few = names_few; kinds_few = kinds_few }
+    record { content = content; names_few = names_few; kinds_few = kinds_few; weights_few = weights }
 
 -- Edges as they are lent
 

@@ -1,7 +1,7 @@
 -- A version of a graph: what it began with, its batches, and its rows of blocks.
 use Rattle.std.specs.Prelude.{◌≡◌, ◌≢◌, ℕ, ◌≤◌, List, [], map, length, All, AllPairs, Bool, false, ◌==◌}
 use Rattle.std.specs.List.{list_any, list_all}
-use Rattle.graph_types.specs.{Graph.Graph, Limits.{LimitsView, AreLimits, standard_limits}, Step.{left_by, empty_graph_in}}
+use Rattle.graph_types.specs.{Graph.{Graph, HasWeights}, Limits.{LimitsView, AreLimits, standard_limits}, Step.{left_by, empty_graph_in}}
 use Rattle.graph_types.specs.declared.batches.NamedOp.{NamedOp}
 use Rattle.edge_block.specs.{Slots.{BlockView, is_free}, Rows.{Shape, shape_of}, Batches.{IsLayoutOf, IsWithin}}
 use Rattle.version_pages.specs.Rows.{row_of, blocks_of, numbers_of}
@@ -37,6 +37,7 @@ pub record IsSmall (v : VersionView) : Type 0 where
   pub kinds : length (content v).kinds ≤ (content v).limits.kinds
   pub count : length v.batches ≤ (content v).limits.batches
   pub limits : AreLimits (content v).limits
+  pub weights : HasWeights (content v)
 
 -- what is true of every version: its rows have its content, whose edges join its vertices, and it is within the limits
 pub record IsVersion (v : VersionView) : Type 0 where

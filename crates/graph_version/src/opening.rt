@@ -25,7 +25,7 @@ pub(crate) enum Opening {
 }
 
 /// No name, no kind, no edge.
-#[tactic(auto, using(graph_types::proofs::Empty::empty_content))]
+#[tactic(auto, using(graph_types::proofs::Empty::empty_content_in))]
 fn blank(alloc: Global, limits: Limits) -> ListedContent
     ensures graph { graph_in limits result.content ≡ empty_graph_in limits }
     ensures limits { result.limits ≡ limits }

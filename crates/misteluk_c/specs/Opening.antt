@@ -1,6 +1,6 @@
 -- What the calls that open a desk tell.
 use Rattle.std.specs.Prelude.{◌≡◌, ◌⊎◌, ◌<◌, ◌≤◌, ℕ, Option, Some}
-use Rattle.graph_types.specs.Limits.{LimitsView, AreLimits, standard_limits, standard_size}
+use Rattle.graph_types.specs.Limits.{LimitsView, AreLimits, standard_limits, standard_size, weight_limit}
 use Rattle.graph_version.specs.Versions.{content, empty_version_in}
 use Rattle.block_reclamation.specs.Status.{most_blocks}
 use Rattle.store_steps.specs.{Desks.DeskView, Opening.opened_desk}
@@ -9,9 +9,13 @@ use Rattle.store_handles.specs.declared.held.Held.{Held}
 use Rattle.misteluk_c.specs.declared.opening.DeskLimits.{DeskLimits}
 use Rattle.misteluk_c.specs.{Held.Makes, Desks.desk_in}
 
--- the limits as C has them
+-- the limits as C has them, with one on weights, and where none is given for those
+abbrev pub limits_with : DeskLimits → ℕ → LimitsView
+limits_with limits weight =
+    record { names = limits.names; kinds = limits.kinds; batches = limits.batches; weight = weight }
+
 abbrev pub limits_of : DeskLimits → LimitsView
-limits_of limits = record { names = limits.names; kinds = limits.kinds; batches = limits.batches }
+limits_of limits = limits_with limits weight_limit
 
 abbrev pub limits_told : DeskView → DeskLimits
 limits_told d =
@@ -20,6 +24,9 @@ limits_told d =
       kinds = (content d.last).limits.kinds;
       batches = (content d.last).limits.batches;
     }
+
+abbrev pub weight_told : DeskView → ℕ
+weight_told d = (content d.last).limits.weight
 
 -- a desk without edges is opened, in a handle that held nothing
 abbrev pub OpensIn : LimitsView → ℕ → Option Held → Option Held → ℕ → Type 0
@@ -37,8 +44,8 @@ Opens blocks old new code =
     ⊎ RefusesBlocks standard_size blocks old new code
 
 -- under limits of its own, where these are within the walls
-abbrev pub OpensWithin : DeskLimits → ℕ → Option Held → Option Held → ℕ → Type 0
+abbrev pub OpensWithin : LimitsView → ℕ → Option Held → Option Held → ℕ → Type 0
 OpensWithin limits blocks old new code =
-    (AreLimits (limits_of limits) × (((16 ≤ blocks) × (blocks ≤ most_blocks) × OpensIn (limits_of limits) blocks old new code)
+    (AreLimits limits × (((16 ≤ blocks) × (blocks ≤ most_blocks) × OpensIn limits blocks old new code)
     ⊎ RefusesBlocks most_blocks blocks old new code))
-    ⊎ ((AreLimits (limits_of limits) → ⊥) × (code ≡ 19) × (new ≡ old))
+    ⊎ ((AreLimits limits → ⊥) × (code ≡ 19) × (new ≡ old))

@@ -7,11 +7,11 @@ ghost use Rattle.store_steps.specs.Opening.{opened_desk};
 ghost use Rattle.desk.specs.Owned.{opened_owned};
 ghost use Rattle.misteluk_c.specs.Held.{Asks, Makes};
 ghost use Rattle.misteluk_c.specs.Desks.{desk_in};
-ghost use Rattle.misteluk_c.specs.Opening.{Opens, OpensWithin, limits_told};
+ghost use Rattle.misteluk_c.specs.Opening.{Opens, OpensWithin, limits_of, limits_with, limits_told, weight_told};
 
 use crate::codes::{BAD_BLOCKS, BAD_LIMITS, HELD_ALREADY, MEMORY, NO_HANDLE, OK};
 use desk::{Desk, OwnedDesk};
-use graph_types::{Limits, STANDARD_SIZE};
+use graph_types::{Limits, MOST_WEIGHT, STANDARD_SIZE};
 use std::alloc::Global;
 use store_handles::{Handle, Held};
 
@@ -40,7 +40,7 @@ pub extern "C" fn misteluk_desk_new(alloc: Global, blocks: u32, out: &mut Handle
     open_in(alloc, Limits::standard(), blocks, out)
 }
 
-/// Opens a desk without edges, under limits of its own.
+/// Opens a desk without edges, under limits of its own. Weights are as large as they can be.
 #[unsafe(no_mangle)]
 pub extern "C" fn misteluk_desk_new_within(
     alloc: Global,
@@ -48,9 +48,30 @@ pub extern "C" fn misteluk_desk_new_within(
     blocks: u32,
     out: &mut Handle,
 ) -> u32
-    ensures { OpensWithin limits.now blocks out.old.held out.new.held result }
+    ensures { OpensWithin (limits_of limits.now) blocks out.old.held out.new.held result }
 {
-    let Ok(limits) = Limits::new(limits.names, limits.kinds, limits.batches) else {
+    open_under(alloc, limits, MOST_WEIGHT, blocks, out)
+}
+
+/// Opens a desk without edges, under limits of its own, one of which is on weights.
+#[unsafe(no_mangle)]
+pub extern "C" fn misteluk_desk_new_within_weight(
+    alloc: Global,
+    limits: &DeskLimits,
+    weight: u64,
+    blocks: u32,
+    out: &mut Handle,
+) -> u32
+    ensures { OpensWithin (limits_with limits.now weight) blocks out.old.held out.new.held result }
+{
+    open_under(alloc, limits, weight, blocks, out)
+}
+
+/// Opens a desk under limits of its own, where these are within the walls.
+fn open_under(alloc: Global, limits: &DeskLimits, weight: u64, blocks: u32, out: &mut Handle) -> u32
+    ensures { OpensWithin (limits_with limits.now weight) blocks out.old.held out.new.held result }
+{
+    let Ok(limits) = Limits::within(limits.names, limits.kinds, limits.batches, weight) else {
         return BAD_LIMITS;
     };
     if blocks < LEAST_BLOCKS || blocks > MOST_BLOCKS {
@@ -112,4 +133,31 @@ fn limits_of(desk: &Desk) -> DeskLimits
         kinds: limits.kinds(),
         batches: limits.batches(),
     }
+}
+
+/// Tells how large the weights of a desk may be.
+#[unsafe(no_mangle)]
+pub extern "C" fn misteluk_desk_weight(alloc: Global, desk: &mut Handle, out: &mut u64) -> u32
+    ensures told { Asks (desk_in desk.old.held) result (λ o. (result ≡ 0) × (out.new ≡ weight_told o.desk)) }
+    ensures same { desk.new.held ≡ desk.old.held }
+{
+    let Some(held) = desk.take(alloc) else {
+        return NO_HANDLE;
+    };
+    let code = match &*held {
+        Held::Desk(desk) => {
+            *out = weight_of(desk.desk());
+            OK
+        }
+        _ => NO_HANDLE,
+    };
+    desk.put(held);
+    code
+}
+
+fn weight_of(desk: &Desk) -> u64
+    ensures { result ≡ weight_told desk.now }
+{
+    let limits = desk.last().limits();
+    limits.weight()
 }

@@ -13,6 +13,7 @@ use crate::inserting::misteluk_desk_insert_columns;
 use crate::misteluk_interface;
 use crate::opening::{
     DeskLimits, misteluk_desk_limits, misteluk_desk_new, misteluk_desk_new_within,
+    misteluk_desk_new_within_weight, misteluk_desk_weight,
 };
 use crate::versions::{
     misteluk_version_clone, misteluk_version_cores, misteluk_version_degrees,
@@ -157,6 +158,23 @@ fn open_within(alloc: Global) -> u32 {
     sum(&codes)
 }
 
+/// The codes of a desk under a limit of weights, which ends.
+fn open_light(alloc: Global) -> u32 {
+    let mut desk = Handle::empty(alloc);
+    let mut most = 0_u64;
+    let limits = DeskLimits {
+        names: 20_000_000,
+        kinds: 2,
+        batches: 2,
+    };
+    let codes = [
+        misteluk_desk_new_within_weight(alloc, &limits, 1_000_000, 16, &mut desk),
+        misteluk_desk_weight(alloc, &mut desk, &mut most),
+    ];
+    misteluk_desk_free(alloc, desk);
+    sum(&codes)
+}
+
 /// The codes of a version's calls about names and single edges.
 fn look_up(alloc: Global, version: &mut Handle, other: &mut Handle) -> u32 {
     let mut size = VersionSize {
@@ -275,6 +293,7 @@ fn each_is_called(rt: HostRuntime) {
     let mut other = Handle::empty(alloc);
     let codes = [
         open_within(alloc),
+        open_light(alloc),
         fill(alloc, &mut batch),
         apply(alloc, &mut batch, &mut desk, &mut version),
         look_up(alloc, &mut version, &mut other),

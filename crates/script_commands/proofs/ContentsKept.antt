@@ -1,10 +1,11 @@
 -- What valid operations leave of a content is a content, where they leave no more names and kinds than the limits.
 use Rattle.std.proofs.Common.{◌≡◌, ℕ, ◌≤◌, List, [], ◌∷◌, ◌++◌, true, false, length, Option, Some, None, option_map}
-use Rattle.std.proofs.{Common.{option_to_list, IfSome, All, ℤ, refl, sym, ap, subst, arith, cond}, lemmas.Bool.Decides.nat_tests}
+use Rattle.std.proofs.{Common.{option_to_list, IfSome, All, ℤ, refl, sym, ap, subst, arith, cond, Bool, not, ◌&&◌}, lemmas.Bool.{true≢false, Decides.nat_tests}}
 use Rattle.std.{proofs.lemmas.List.Elements.{All-head, All-tail}, specs.{FinMap.get, Prelude.◌+ℤ◌}}
-use Rattle.graph_types.specs.{Limits.{IsWeight, IsTime, is_weight, is_time, LimitsView, AreLimits}, Graph.{Graph, Key, Stamp}}
+use Rattle.graph_types.specs.{Limits.{IsWeight, IsTime, is_weight, is_weight_in, is_time, LimitsView, AreLimits}, Graph.{Graph, Key, Stamp}}
 use Rattle.graph_types.specs.{Graph.{stamp_of, map_of, graph_in, without, content_of, IsAt, IsContent, IsContentIn}, Changes.AreMarks}
-use Rattle.graph_types.specs.{Changes.{IsChange, option_stamp}, Step.{names_made, kinds_made, stamp_after, changed_key, changed}}
+use Rattle.graph_types.specs.{Changes.{AllowsUpTo, IsChange, option_stamp}, Step.{names_made, kinds_made, changed_key, changed}}
+use Rattle.graph_types.{specs.Step.{overflows, stamp_put, stamp_after}, proofs.WeightsKept.weight_in}
 use Rattle.graph_types.specs.{Step.{later, after, after_all}, Valid.IsValid, declared.ids.Edge.Edge}
 use Rattle.graph_types.specs.declared.changes.EdgeChange.{EdgeChange, TheVariants.{Insert as ToInsert, Incr as ToIncr}}
 use Rattle.graph_types.specs.declared.changes.{EdgeChange.TheVariants.Remove as ToRemove, EdgeMarks.EdgeMarks}
@@ -37,19 +38,32 @@ found_in_range c key is =
 weight_fits : (w : ℤ) → is_weight w ≡ true → IsWeight w
 weight_fits w is = grind (arith, nat_tests)
 
+-- the sum is within the most that the change allows
+second_of : (a b : Bool) → not (a && b) ≡ false → b ≡ true
+second_of a true h = refl
+second_of true false h = absurd (true≢false h)
+second_of false false h = absurd (true≢false h)
+
 -- what a change leaves at a key is in range
+put_in_range : (change : EdgeChange) (before : Option Stamp) → IsChange change → overflows change before ≡ false
+    → IfSome before InRange → IfSome (stamp_put change before) InRange
+put_in_range (ToInsert weight time most) None fits within was = record { weight = fits.0; first = fits.1; recent = fits.1 }
+put_in_range (ToInsert weight time most) (Some e) fits within was = record { weight = fits.0; first = was.first; recent = fits.1 }
+put_in_range (ToIncr amount time most) None fits within was = record { weight = fits.0; first = fits.1; recent = fits.1 }
+put_in_range (ToIncr amount time most) (Some e) fits within was =
+    let sum = weight_in most (e.weight +ℤ amount) (second_of (is_weight_in most amount) _ within) in
+    let most_is = fits.2 in
+    record { weight = omega (arith, sum, most_is); first = was.first; recent = fits.1 }
+put_in_range ToRemove before fits within was = tt
+
 after_in_range : (change : EdgeChange) (before : Option Stamp) → IsChange change → IfSome before InRange
     → IfSome (stamp_after change before) InRange
-after_in_range (ToInsert weight time) None fits was = record { weight = fits.0; first = fits.1; recent = fits.1 }
-after_in_range (ToInsert weight time) (Some e) fits was = record { weight = fits.0; first = was.first; recent = fits.1 }
-after_in_range (ToIncr amount time) None fits was = record { weight = fits.0; first = fits.1; recent = fits.1 }
-after_in_range (ToIncr amount time) (Some e) fits was =
-    elim (is_weight (e.weight +ℤ amount)) as (λ b. is_weight (e.weight +ℤ amount) ≡ b
-    → IfSome (cond b (Some (record e { weight = e.weight +ℤ amount; recent = time })) (Some e)) InRange) [
-      | true ↦ λ is. record { weight = weight_fits (e.weight +ℤ amount) is; first = was.first; recent = fits.1 }
-      | false ↦ λ is. was
+after_in_range change before fits was =
+    elim (overflows change before) as (λ b. overflows change before ≡ b
+    → IfSome (cond b before (stamp_put change before)) InRange) [
+      | true ↦ λ past. was
+      | false ↦ λ within. put_in_range change before fits within was
     ] refl
-after_in_range ToRemove before fits was = tt
 
 -- an edge at a key
 abbrev edge_at : Key → Stamp → Edge
@@ -75,10 +89,10 @@ abbrev pub HasContent : LimitsView → Graph → Type 0
 HasContent l g = (c : Content) × IsContentIn l c × (graph_in l c ≡ g)
 
 content_changed : (l : LimitsView) → AreLimits l → (change : EdgeChange) (kind source target : List ℕ) (c : Content)
-    → IsContentIn l c → IsChange change → length (changed change kind source target (graph_in l c)).names ≤ l.names
+    → IsContentIn l c → IsChange change → AllowsUpTo l.weight change → length (changed change kind source target (graph_in l c)).names ≤ l.names
     → length (changed change kind source target (graph_in l c)).kinds ≤ l.kinds
     → HasContent l (changed change kind source target (graph_in l c))
-content_changed l are change kind source target c is fits names kinds =
+content_changed l are change kind source target c is fits up names kinds =
     let key : Key = changed_key change kind source target (graph_in l c) in
     let stamp : Option Stamp = stamp_after change (get (map_of c.edges) key) in
     let put : Option Edge = option_map (edge_at key) stamp in
@@ -93,7 +107,7 @@ content_changed l are change kind source target c is fits names kinds =
       edges = refl;
     } in (
       new,
-      IsContentIn-applied l change kind source target c new key put are step is names kinds,
+      IsContentIn-applied l change kind source target c new key put are up step is names kinds,
       graph_in-applied change kind source target c new key put step l,
     )
 
@@ -104,11 +118,13 @@ content_after : (l : LimitsView) → AreLimits l → (op : NamedOp) (c : Content
     → length (after op (graph_in l c)).names ≤ l.names → length (after op (graph_in l c)).kinds ≤ l.kinds
     → HasContent l (after op (graph_in l c))
 content_after l are (Insert kind source target weight time) c is valid names kinds =
-    content_changed l are (ToInsert weight time) kind source target c is (weight_fits weight valid.weight, time_fits time valid.time) names kinds
+    content_changed l are (ToInsert weight time l.weight) kind source target c is
+    (weight_fits weight valid.weight, time_fits time valid.time, are.weight) (omega arith) names kinds
 content_after l are (Incr kind source target amount time) c is valid names kinds =
-    content_changed l are (ToIncr amount time) kind source target c is (weight_fits amount valid.weight, time_fits time valid.time) names kinds
+    content_changed l are (ToIncr amount time l.weight) kind source target c is
+    (weight_fits amount valid.weight, time_fits time valid.time, are.weight) (omega arith) names kinds
 content_after l are (Remove kind source target) c is valid names kinds =
-    content_changed l are ToRemove kind source target c is tt names kinds
+    content_changed l are ToRemove kind source target c is tt tt names kinds
 content_after l are (Expire time) c is valid names kinds = (
   content_of c.names c.kinds (later time c.edges),
   IsContentIn-later l time c is,

@@ -9,8 +9,8 @@ abbrev pub AreApart : List (List ℕ) → Type 0
 AreApart names = AllPairs (λ a b. a ≢ b) names
 
 after_one : (op : NamedOp) (g : Graph) → AreApart g.names → AreApart (after op g).names
-after_one (Insert kind source target weight time) g apart = AllPairs-names_made (ToInsert weight time) source target g.names apart
-after_one (Incr kind source target amount time) g apart = AllPairs-names_made (ToIncr amount time) source target g.names apart
+after_one (Insert kind source target weight time) g apart = AllPairs-names_made (ToInsert weight time g.limits.weight) source target g.names apart
+after_one (Incr kind source target amount time) g apart = AllPairs-names_made (ToIncr amount time g.limits.weight) source target g.names apart
 after_one (Remove kind source target) g apart = AllPairs-names_made ToRemove source target g.names apart
 after_one (Expire time) g apart = apart
 

@@ -27,7 +27,7 @@ impl From<PlainError> for DriveWord {
 }
 
 /// The content without names and edges.
-#[tactic(auto, using(graph_types::proofs::Empty::empty_content))]
+#[tactic(auto, using(graph_types::proofs::Empty::empty_content_in))]
 fn empty(alloc: Global) -> Content
     ensures content { IsContentIn standard_limits result }
     ensures graph { graph_of result ≡ empty_graph }

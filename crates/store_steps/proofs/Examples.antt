@@ -59,7 +59,13 @@ blank_is_version : IsVersion blank_version
 blank_is_version = record {
   rows = is_empty_version.rows;
   within = is_empty_version.within;
-  small = record { names = omega arith; kinds = omega arith; count = omega arith; limits = is_empty_version.small.limits };
+  small = record {
+    names = omega arith;
+    kinds = omega arith;
+    count = omega arith;
+    limits = is_empty_version.small.limits;
+    weights = is_empty_version.small.weights;
+  };
 }
 
 blank_accepted : IsAccepted (opened_desk 3 empty_version) [] [] [] blank_desk

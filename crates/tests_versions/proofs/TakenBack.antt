@@ -2,7 +2,8 @@
 -- itself, and one whose one replaced row is taken back.
 use Rattle.std.proofs.Common.{◌≡◌, ◌≢◌, ◌∙◌, ℕ, All, List, [], refl, sym, ap, subst, map, arith, true≢false, inl, inr}
 use Rattle.std.{proofs.lemmas.Bool.Decides.eqb_tells, specs.{Prelude.AllPairs, Option.is_some, FinMap.get-empty}}
-use Rattle.graph_types.specs.{Graph.key_cmp, Step.empty_graph, declared.batches.NamedOp.NamedOp}
+use Rattle.graph_types.specs.{Graph.key_cmp, Limits.standard_limits, Step.empty_graph, declared.batches.NamedOp.NamedOp}
+use Rattle.graph_types.proofs.Empty.{empty_weights}
 use Rattle.edge_block.specs.{Slots.BlockView, Rows.{shape_of, row_at, IsRow}}
 use Rattle.graph_version.specs.{Rows.{row_of, numbers_of}, Versions.{IsBlockOf, AreRowsOf, empty_version}, Drafts.DraftView}
 use Rattle.graph_version.specs.Drafts.{drafted_over, with_batch, ReplacesRow, IsWhole}
@@ -37,7 +38,13 @@ whole_over rows none = record {
   version = record {
     rows = bare rows none;
     within = λ k is. absurd (true≢false (sym is ∙ ap is_some (get-empty key_cmp k)));
-    small = record { names = omega arith; kinds = omega arith; count = omega arith; limits = standard_are_limits };
+    small = record {
+      names = omega arith;
+      kinds = omega arith;
+      count = omega arith;
+      limits = standard_are_limits;
+      weights = empty_weights standard_limits;
+    };
   };
 }
 

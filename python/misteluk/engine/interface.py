@@ -136,7 +136,9 @@ FUNCTIONS: Dict[str, Tuple[Any, List[Any]]] = {
         c_void_p, c_size_t, POINTER(c_uint64)]),
     "desk_new": (c_uint32, [c_uint32, POINTER(Desk)]),
     "desk_new_within": (c_uint32, [POINTER(Limits), c_uint32, POINTER(Desk)]),
+    "desk_new_within_weight": (c_uint32, [POINTER(Limits), c_uint64, c_uint32, POINTER(Desk)]),
     "desk_limits": (c_uint32, [POINTER(Desk), POINTER(Limits)]),
+    "desk_weight": (c_uint32, [POINTER(Desk), POINTER(c_uint64)]),
     "desk_free": (None, [Desk]),
     "desk_apply": (c_uint32, [POINTER(Desk), POINTER(Batch), POINTER(Counts)]),
     "desk_insert_columns": (c_uint32, [POINTER(Desk), c_void_p, c_size_t, c_void_p, c_size_t, c_void_p, c_size_t, c_void_p,
@@ -183,7 +185,9 @@ class Library:
         int, Memory, int, Memory, int, Memory, int, Memory, int, c_uint64], int]
     desk_new: Callable[[int, Desk], int]
     desk_new_within: Callable[[Limits, int, Desk], int]
+    desk_new_within_weight: Callable[[Limits, int, int, Desk], int]
     desk_limits: Callable[[Desk, Limits], int]
+    desk_weight: Callable[[Desk, c_uint64], int]
     desk_free: Callable[[Desk], None]
     desk_apply: Callable[[Desk, Batch, Counts], int]
     desk_insert_columns: Callable[[Desk, Memory, int, Memory, int, Memory, int, Memory, int, Memory, int, Memory, int,

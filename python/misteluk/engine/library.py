@@ -24,7 +24,7 @@ from .operations import REMOVE, Operations
 from .protocol import Denied, Receipt
 from ..errors import NoSeat, StoreError
 from ..values.answers import Collected, Commit, Rebased, Renewed, Stat
-from ..values.limits import MOST_BATCHES, MOST_BLOCKS, MOST_KINDS, Limits
+from ..values.limits import MOST_BATCHES, MOST_BLOCKS, MOST_KINDS, MOST_WEIGHT, Limits
 
 # How many blocks a desk has at first, and how many times as many one that has room for more.
 FIRST_BLOCKS, MORE_BLOCKS = 65_536, 4
@@ -62,7 +62,8 @@ class LibraryEngine:
     def _new(self, version: int, blocks: int, shape: Limits) -> Opening:
         """An opening with an empty desk, of so many versions before."""
         desk = Owned(interface.Desk(), self.handles.desks)
-        check(self.library.desk_new_within(interface.Limits(*shape), blocks, desk.raw))
+        limits = interface.Limits(*shape[:3])
+        check(self.library.desk_new_within_weight(limits, shape.weight or MOST_WEIGHT, blocks, desk.raw))
         return Opening(desk, Notes(), version, Known.nothing(), blocks, shape, Tally())
 
     @property

@@ -3,16 +3,21 @@ from __future__ import annotations
 
 from typing import List, NamedTuple, Optional
 
-# What no limits pass: kinds, vertices times kinds (so that a sum of weights has room in its type), batches, and blocks.
-MOST_KINDS, MOST_PRODUCT, MOST_BATCHES, MOST_BLOCKS = 64, 8_388_606, (1 << 32) - 1, 4_293_918_719
+# What no limits pass: vertices, kinds, vertices times kinds (so that a sum of weights has room in its type), batches, and blocks.
+MOST_VERTICES, MOST_KINDS, MOST_PRODUCT, MOST_BATCHES, MOST_BLOCKS = 67_108_863, 64, 8_388_606, (1 << 32) - 1, 4_293_918_719
+MOST_WEIGHT = 1 << 40
 
 
 class Limits(NamedTuple):
     """How much a store in this process takes at most: vertices and kinds, those of removed edges too, and batches until it begins
     anew. What isn't said is as large as the library has room for: 8,388,606 vertices for one kind, half as many for two, 131,071
-    for 64, which no store passes; and 4,294,967,295 batches. With fewer batches it keeps each operation until it begins anew.
+    for 64; and 4,294,967,295 batches. With fewer batches it keeps each operation until it begins anew.
+
+    `weight` is how large a weight may be, 2^40 where it isn't said, in parts where the store has a `weight_scale`. With smaller
+    ones there may be more vertices. An operation past it, or whose sum would be, is counted as `overflowed` and changes nothing.
 
         Store(limits=Limits(vertices=100_000, kinds=4))
+        Store(limits=Limits(vertices=20_000_000, kinds=4, weight=1_000_000))
 
     A program takes 65,536 vertices, 64 kinds and 65,536 batches, and no others.
     """
@@ -20,14 +25,25 @@ class Limits(NamedTuple):
     vertices: Optional[int] = None
     kinds: Optional[int] = None
     batches: Optional[int] = None
+    weight: Optional[int] = None
+
+    @property
+    def product(self) -> int:
+        """How many vertices times kinds there may be: so many that one weight for each, and one more, are below 2^63."""
+        return MOST_PRODUCT if self.weight is None else ((1 << 63) - 1) // self.weight - 1
+
+    def most_vertices(self, kinds: int) -> int:
+        """How many vertices there may be beside so many kinds."""
+        return min(MOST_VERTICES, self.product // kinds)
 
     def checked(self) -> "Limits":
         """Itself; raises `ValueError` where there can't be such limits."""
         within("kinds", self.kinds or 1, 1, MOST_KINDS)
         within("batches", self.batches or 1, 1, MOST_BATCHES)
-        within("vertices", self.vertices or 1, 1, MOST_PRODUCT // (self.kinds or 1))
+        within("weight", self.weight or 1, 1, MOST_WEIGHT)
         if 0 in self:
             raise ValueError(f"a limit is 1 or more, and these are {self}")
+        within("vertices", self.vertices or 1, 1, self.most_vertices(self.kinds or 1))
         return self
 
     def __repr__(self) -> str:
@@ -36,9 +52,9 @@ class Limits(NamedTuple):
 
     def over(self, vertices: int, kinds: int) -> List[str]:
         """What is more than these limits take, in words; nothing where all has room."""
-        most_kinds = self.kinds or min(MOST_KINDS, MOST_PRODUCT // (self.vertices or 1))
+        most_kinds = self.kinds or min(MOST_KINDS, self.product // (self.vertices or 1))
         of_kinds = self.kinds if self.kinds else max(min(kinds, most_kinds), 1)
-        most, beside = self.vertices or MOST_PRODUCT // of_kinds, f" beside {of_kinds} kind{'s' * (of_kinds != 1)}"
+        most, beside = self.vertices or self.most_vertices(of_kinds), f" beside {of_kinds} kind{'s' * (of_kinds != 1)}"
         found = ((vertices, "vertices", most, "" if self.vertices else beside), (kinds, "kinds", most_kinds, ""))
         return [f"{count:,} {what}, where the store takes {limit:,}{more}" for count, what, limit, more in found if count > limit]
 
@@ -52,9 +68,9 @@ class Limits(NamedTuple):
     def shape(self, vertices: int, kinds: int) -> "Limits":
         """The limits for a desk of so many vertices and kinds, for which there is room: with some room to grow."""
         least = max(vertices, self.vertices or 1)
-        roomy = (it for it in (8, 16, 32, MOST_KINDS) if kinds <= it and it * least <= MOST_PRODUCT)
+        roomy = (it for it in (8, 16, 32, MOST_KINDS) if kinds <= it and it * least <= self.product)
         room = self.kinds if self.kinds else next(roomy, max(kinds, 1))
-        return Limits(self.vertices or MOST_PRODUCT // room, room, self.batches or MOST_BATCHES)
+        return Limits(self.vertices or self.most_vertices(room), room, self.batches or MOST_BATCHES, self.weight)
 
 
 # Those of a program.

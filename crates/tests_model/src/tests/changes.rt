@@ -2,9 +2,10 @@
 
 ghost use Rattle.std.specs.Prelude.{◌≡◌, IfSome};
 ghost use Rattle.graph_types.specs.Changes.{AreMarks, IsChange};
+ghost use Rattle.graph_types.specs.Limits.{weight_limit};
 
 use super::checks::same;
-use graph_types::{EdgeChange, EdgeMarks, Outcome, change_edge};
+use graph_types::{EdgeChange, EdgeMarks, MOST_WEIGHT, Outcome, change_edge};
 use std::process::Abort;
 
 /// Marks of this weight, first seen at 10 and last touched at this time.
@@ -32,18 +33,48 @@ fn assert_change(
     same(rt, change_edge(change, before), (outcome, after));
 }
 
-/// An insertion of this weight at this time.
+/// An insertion of this weight at this time, where weights are as large as they can be.
 fn to_insert(weight: i64, time: u64) -> EdgeChange
-    ensures { result ≡ EdgeChange.Insert weight time }
+    ensures { result ≡ EdgeChange.Insert weight time weight_limit }
 {
-    EdgeChange::Insert { weight, time }
+    EdgeChange::Insert {
+        weight,
+        time,
+        most: MOST_WEIGHT,
+    }
 }
 
-/// An increment by this amount at this time.
+/// An increment by this amount at this time, where weights are as large as they can be.
 fn to_incr(amount: i64, time: u64) -> EdgeChange
-    ensures { result ≡ EdgeChange.Incr amount time }
+    ensures { result ≡ EdgeChange.Incr amount time weight_limit }
 {
-    EdgeChange::Incr { amount, time }
+    EdgeChange::Incr {
+        amount,
+        time,
+        most: MOST_WEIGHT,
+    }
+}
+
+/// An insertion of this weight at the time 12, where weights are at most 10.
+fn small_insert(weight: i64) -> EdgeChange
+    ensures { result ≡ EdgeChange.Insert weight 12 10 }
+{
+    EdgeChange::Insert {
+        weight,
+        time: 12,
+        most: 10,
+    }
+}
+
+/// An increment by this amount at the time 12, where weights are at most 10.
+fn small_incr(amount: i64) -> EdgeChange
+    ensures { result ≡ EdgeChange.Incr amount 12 10 }
+{
+    EdgeChange::Incr {
+        amount,
+        time: 12,
+        most: 10,
+    }
 }
 
 #[test]
@@ -106,4 +137,36 @@ fn increments_follow_the_rule(rt: HostRuntime) {
         Outcome::Overflow,
         marks(-most, 11),
     );
+}
+
+#[test]
+fn a_small_limit_of_weights_is_kept(rt: HostRuntime) {
+    let past = Outcome::Overflow;
+    let first = Some(EdgeMarks {
+        weight: -10,
+        first: 12,
+        recent: 12,
+    });
+    assert_change(&rt, small_insert(-10), None, Outcome::Inserted, first);
+    assert_change(&rt, small_insert(11), None, past, None);
+    assert_change(&rt, small_insert(-11), None, past, None);
+    assert_change(&rt, small_insert(11), marks(5, 11), past, marks(5, 11));
+    assert_change(
+        &rt,
+        small_insert(10),
+        marks(5, 11),
+        Outcome::Updated,
+        marks(10, 12),
+    );
+    assert_change(&rt, small_incr(11), None, past, None);
+    assert_change(&rt, small_incr(-10), None, Outcome::Inserted, first);
+    assert_change(
+        &rt,
+        small_incr(3),
+        marks(7, 11),
+        Outcome::Updated,
+        marks(10, 12),
+    );
+    assert_change(&rt, small_incr(4), marks(7, 11), past, marks(7, 11));
+    assert_change(&rt, small_incr(-15), marks(7, 11), past, marks(7, 11));
 }

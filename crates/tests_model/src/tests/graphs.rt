@@ -17,7 +17,7 @@ use std::alloc::Global;
 use std::process::Abort;
 
 /// A content without names, kinds and edges.
-#[tactic(auto, using(graph_types::proofs::Empty::empty_content))]
+#[tactic(auto, using(graph_types::proofs::Empty::empty_content_in))]
 pub(super) fn empty(alloc: Global) -> Content
     ensures content { IsContentIn standard_limits result }
     ensures empty { result ≡ empty_opening.content }

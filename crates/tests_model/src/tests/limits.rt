@@ -6,7 +6,7 @@ use super::checks::same;
 use super::graphs::{check_left, empty};
 use super::values::batch;
 use graph_model::plain_apply_in;
-use graph_types::{Content, Limits};
+use graph_types::{Content, Limits, MOST_WEIGHT};
 use std::alloc::Global;
 use std::process::Abort;
 
@@ -45,6 +45,45 @@ fn limits_keep_to_the_walls(rt: HostRuntime) {
     );
 }
 
+// The limits of these numbers, of which the last is that of weights, as they tell them.
+fn told_with_weight(limits: (u32, u32, u32, u64)) -> Option<(u32, u32, u32, u64)> {
+    match Limits::within(limits.0, limits.1, limits.2, limits.3) {
+        Ok(limits) => Some((
+            limits.names(),
+            limits.kinds(),
+            limits.batches(),
+            limits.weight(),
+        )),
+        Err(_) => None,
+    }
+}
+
+fn has_room(rt: &impl Abort, limits: (u32, u32, u32, u64)) {
+    same(rt, told_with_weight(limits), Some(limits));
+}
+
+fn has_no_room(rt: &impl Abort, limits: (u32, u32, u32, u64)) {
+    same(rt, told_with_weight(limits), None);
+}
+
+// For 67,108,863 names and a kind a weight is below 2^37.
+#[test]
+fn limits_of_weights_keep_to_the_walls(rt: HostRuntime) {
+    has_room(&rt, (0, 0, 0, 0));
+    has_room(&rt, (3, 2, 2, 10));
+    has_room(&rt, (8_388_606, 1, 1, 1_099_511_627_776));
+    has_room(&rt, (8_388_607, 1, 1, 1_099_511_627_775));
+    has_room(&rt, (67_108_863, 1, 1, 137_438_953_471));
+    has_room(&rt, (67_108_863, 64, 1, 2_147_483_679));
+    has_no_room(&rt, (0, 0, 0, 1_099_511_627_777));
+    has_no_room(&rt, (8_388_607, 1, 1, 1_099_511_627_776));
+    has_no_room(&rt, (67_108_863, 1, 1, 137_438_953_472));
+    has_no_room(&rt, (67_108_863, 64, 1, 2_147_483_680));
+    has_no_room(&rt, (67_108_864, 1, 1, 1));
+    has_no_room(&rt, (1, 65, 1, 1));
+    same(&rt, Limits::standard().weight(), MOST_WEIGHT);
+}
+
 // What a batch comes to under these limits, and the content that it leaves.
 fn check_under(
     rt: &impl Abort,
@@ -63,7 +102,7 @@ fn check_under(
 }
 
 // Batches under three names and two kinds: the limit on names goes before that on kinds, and a refused batch changes nothing.
-#[tactic(auto, using(graph_types::proofs::Empty::empty_content))]
+#[tactic(auto, using(graph_types::proofs::Empty::empty_content_in))]
 fn check_tiny(rt: &impl Abort, alloc: Global, limits: Limits) {
     let mut content = empty(alloc);
     let two = "i,k,a,b,1,1 i,l,b,c,1,1";
@@ -84,4 +123,28 @@ fn check_tiny(rt: &impl Abort, alloc: Global, limits: Limits) {
 fn batches_meet_tiny_limits(rt: HostRuntime) {
     let limits = Limits::new(3, 2, 2).ok().expect(&rt, "limits");
     check_tiny(&rt, rt.alloc(), limits);
+}
+
+// Batches under weights of at most 10: a weight, an amount or a sum past that changes nothing but that its names are there.
+#[tactic(auto, using(graph_types::proofs::Empty::empty_content_in))]
+fn check_light(rt: &impl Abort, alloc: Global, limits: Limits) {
+    let mut content = empty(alloc);
+    let inserted = "i,k,a,b,10,1 i,k,b,a,11,1 i,k,c,a,-11,1";
+    let left = "Inserted Overflow Overflow names a b c kinds k edges 1";
+    check_under(rt, alloc, limits, &mut content, inserted, left);
+    let added = "a,k,a,b,-9,2 a,k,a,b,-12,3 a,k,a,b,-10,4 a,k,b,c,11,4";
+    let left = "Updated Overflow Updated Overflow names a b c kinds k edges 1";
+    check_under(rt, alloc, limits, &mut content, added, left);
+    let removed = "a,k,a,b,-2,5 i,k,a,b,11,6 r,k,a,b";
+    let left = "Overflow Overflow Removed names a b c kinds k edges 0";
+    check_under(rt, alloc, limits, &mut content, removed, left);
+    let another = "a,l,c,c,-11,7 i,l,c,c,-10,7";
+    let left = "Overflow Inserted names a b c kinds k l edges 1";
+    check_under(rt, alloc, limits, &mut content, another, left);
+}
+
+#[test]
+fn batches_meet_a_small_limit_of_weights(rt: HostRuntime) {
+    let limits = Limits::within(3, 2, 2, 10).ok().expect(&rt, "limits");
+    check_light(&rt, rt.alloc(), limits);
 }

@@ -137,6 +137,44 @@ fn meets_tiny_limits(rt: HostRuntime) {
     check_plays(&rt, rt.alloc(), TINY, false);
 }
 
+/// Under weights of at most 5: a weight or a sum past that changes nothing, and the operations behind it go on.
+const LIGHT: &str = "1 16 keeps a small limit of weights at a desk
+limits 4 2 9 5
+apply chain => 1 ii
+apply more => 2 o
+stat => 2 3 2 14 0 2
+apply tail => 3 uuio
+close => 3
+
+4 16 keeps a small limit of weights over a shared store
+limits 4 2 9 5
+share
+apply chain => 1 ii
+apply more => 2 o
+stat => 2 3 2 14 0 2
+apply tail => 3 uuio
+close => 3
+
+2 16 keeps it where it begins with a version
+limits 4 2 9 5
+begin with chain
+share
+apply more => 1 o
+apply tail => 2 uuio
+close => 2
+
+2 16 meets none of these under the standard limits
+share
+apply chain => 1 ii
+apply more => 2 u
+apply tail => 3 uuii
+close => 3";
+
+#[test]
+fn keeps_a_small_limit_of_weights(rt: HostRuntime) {
+    check_plays(&rt, rt.alloc(), LIGHT, false);
+}
+
 #[test]
 fn the_law_is_there(rt: HostRuntime) {
     law_equal_answers();

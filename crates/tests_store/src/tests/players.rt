@@ -277,13 +277,18 @@ fn check_new<R: Threads + Wait + Sync + Abort + Print>(
     Ok(())
 }
 
-/// The limits of three numbers in a text, where they are within the walls.
+/// The limits of three numbers in a text, or of four with that of weights, where they are within the walls.
 fn limits_of(text: &str) -> Option<Limits> {
     let (names, text) = split_word(text);
-    let (kinds, batches) = split_word(text);
+    let (kinds, text) = split_word(text);
+    let (batches, weight) = split_word(text);
     let names = names.parse().ok()?;
     let kinds = kinds.parse().ok()?;
-    Limits::new(names, kinds, batches.parse().ok()?).ok()
+    let batches = batches.parse().ok()?;
+    if weight.is_empty() {
+        return Limits::new(names, kinds, batches).ok();
+    }
+    Limits::within(names, kinds, batches, weight.parse().ok()?).ok()
 }
 
 /// The configuration of a play's store: under limits of its own where it has any.

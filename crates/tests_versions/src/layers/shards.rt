@@ -23,14 +23,17 @@ fn change_by(letter: char, number: i8) -> EdgeChange
         'i' => EdgeChange::Insert {
             weight: number,
             time: 1,
+            most: 1 << 40,
         },
         '+' => EdgeChange::Incr {
             amount: number,
             time: 2,
+            most: 1 << 40,
         },
         'm' => EdgeChange::Insert {
             weight: 1 << 40,
             time: 3,
+            most: 1 << 40,
         },
         _ => EdgeChange::Remove,
     }

@@ -21,7 +21,7 @@ use std::sync::Arc;
 use std::thread::Threads;
 
 /// The content without names and edges.
-#[tactic(auto, using(graph_types::proofs::Empty::empty_content))]
+#[tactic(auto, using(graph_types::proofs::Empty::empty_content_in))]
 pub(super) fn empty(alloc: Global) -> Content
     ensures { IsContentIn standard_limits result }
 {

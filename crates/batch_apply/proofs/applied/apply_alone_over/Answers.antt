@@ -17,7 +17,7 @@ pub work_alone-requires-clause-ready : goal.work_alone-requires-clause-ready
 work_alone-requires-clause-ready c = λ jobs dealt.
     let v : VersionView = c.args.version.now in
     let n : ℕ = 1 in
-    dealt_ready n (resolved (batch_value c.args.batch) (content v).names (content v).kinds) (layout_of v.rows) (row_of v.rows) 0 n
+    dealt_ready n (resolved (batch_value c.args.batch) (content v)) (layout_of v.rows) (row_of v.rows) 0 n
     c.args.plan.shards.items c.args.plan.needs.items jobs c.requires.plan.needs c.requires.plan.shards
     dealt
 

@@ -17,7 +17,7 @@ pub work-requires-clause-ready : goal.work-requires-clause-ready
 work-requires-clause-ready g c κs within = λ jobs dealt.
     let v : VersionView = c.args.version.now in
     let n : ℕ = c.requires.plan.0 in
-    dealt_ready n (resolved (batch_value c.args.batch) (content v).names (content v).kinds) (layout_of v.rows) (row_of v.rows) 0 n
+    dealt_ready n (resolved (batch_value c.args.batch) (content v)) (layout_of v.rows) (row_of v.rows) 0 n
     c.args.plan.shards.items c.args.plan.needs.items jobs c.requires.plan.2.needs c.requires.plan.2.shards
     dealt
 

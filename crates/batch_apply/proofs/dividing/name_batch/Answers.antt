@@ -1,7 +1,7 @@
 use Rattle.std.proofs.Common.{◌≤◌, length, arith, ap, sym, subst, ◌∙◌, List, All}
-use Rattle.graph_types.specs.{Graph.Graph, Valid.IsValid, declared.batches.NamedOp.NamedOp}
+use Rattle.graph_types.specs.{Graph.Graph, Limits.LimitsView, Valid.IsValid, declared.batches.NamedOp.NamedOp}
 use Rattle.vertex_names.specs.Book.{Book}
-use Rattle.edge_block.specs.Batches.{resolved}
+use Rattle.edge_block.specs.Batches.{resolved_by}
 use Rattle.graph_version.specs.{Versions.content}
 use Rattle.batch_apply.specs.{Plan.{names_all, kinds_all, with_names, Fits}, Planned.IsPlanRefusal}
 use Rattle.batch_apply.proofs.{Resolving.as_many_shown, Leaving.{names_book, kinds_book, neither_limit, plan_refused}}
@@ -26,7 +26,7 @@ resolve_batch-requires-clause-valid c =
 
 pub returns-clause-few : goal.returns-clause-few
 returns-clause-few c =
-    let many = as_many_shown c.in_ok-ops.ops.items c.ops.result.now c.in_ok-names.names.names c.in_ok-kinds.kinds.names
+    let many = as_many_shown c.weight-most.result c.in_ok-ops.ops.items c.ops.result.now c.in_ok-names.names.names c.in_ok-kinds.kinds.names
     c.in_ok-ops.ensures.ops in
     omega (arith, many, ap length c.ops.ensures.ops, c.ops.ensures.batch.few)
 
@@ -34,7 +34,8 @@ pub returns-clause-ops : goal.returns-clause-ops
 returns-clause-ops c =
     let old_names = c.in_ok-names.ensures ∙ c.names.ensures.names in
     let old_kinds = c.in_ok-kinds.ensures ∙ c.kinds.ensures in
-    c.in_ok-ops.ensures.ops ∙ (λ i. resolved (c.ops.ensures.ops i) (old_names i).names (old_kinds i).names)
+    let most = c.weight-most.ensures.number ∙ ap (λ (l : LimitsView). l.weight) c.limits.ensures.limits in
+    c.in_ok-ops.ensures.ops ∙ (λ i. resolved_by (most i) (c.ops.ensures.ops i) (old_names i).names (old_kinds i).names)
 
 pub returns-clause-names : goal.returns-clause-names
 returns-clause-names c =

@@ -1,7 +1,7 @@
 use Rattle.std.proofs.Common.{◌≡◌, ◌∙◌, ◌∷◌, ◌++◌, ◌+◌, ℕ, List, map, drop, drop-cons, add-one, rules, sym, ap, subst}
 use Rattle.std.proofs.lemmas.List.{Elements.All-push}
 use Rattle.graph_types.specs.declared.batches.NamedOp.{NamedOp}
-use Rattle.edge_block.specs.{Operations.names_after, Operations.kinds_after, Batches.resolved}
+use Rattle.edge_block.specs.{Operations.names_after, Operations.kinds_after, Batches.resolved_by}
 use Rattle.vertex_names.specs.Book.{Book}
 use Rattle.batch_apply.specs.Plan.{names_all, kinds_all, shown, AreFound, IsInRange, IsSeen}
 use Rattle.batch_apply.proofs.{Found.{all_later, rest_found}, Resolving.{one_more, placed_in, all_resolved}}
@@ -21,16 +21,16 @@ loop-k-preserved c =
     record {
       names = ap (names_all rest) more_names ∙ ap (λ l. names_all l names) (sym step) ∙ c.loop-k.invariant.names;
       kinds = ap (kinds_all rest) more_kinds ∙ ap (λ l. kinds_all l kinds) (sym step) ∙ c.loop-k.invariant.kinds;
-      found = (λ i. map shown (c.in-Ok.ensures.items i) ++ resolved rest (more_names i) (more_kinds i))
-          ∙ one_more (drop k ops) rest op c.loop-k.found.items c.in_ok-op.op names kinds
-          (resolved ops c.args.names.now.names c.args.kinds.now.names) step c.in_ok-op.ensures.op c.loop-k.invariant.found;
+      found = (λ i. map shown (c.in-Ok.ensures.items i) ++ resolved_by c.args.most rest (more_names i) (more_kinds i))
+          ∙ one_more c.args.most (drop k ops) rest op c.loop-k.found.items c.in_ok-op.op names kinds
+          (resolved_by c.args.most ops c.args.names.now.names c.args.kinds.now.names) step c.in_ok-op.ensures.op c.loop-k.invariant.found;
       changes = rw c.in-Ok.ensures.items (All-push IsInRange c.loop-k.found.items c.in_ok-op.op
           c.loop-k.invariant.changes c.in_ok-op.ensures.change);
       limit = ap (λ (b : Book). b.limit) c.in_ok-op.ensures.names ∙ c.loop-k.invariant.limit;
       few = ap (λ (b : Book). b.limit) c.in_ok-op.ensures.kinds ∙ c.loop-k.invariant.few;
       within = c.in_ok-op.ensures.within;
       seen = subst (λ l. IsSeen l c.kind_seen-seen.result) (sym more_kinds)
-          (c.kind_seen-seen.ensures (names_after op names) (kinds_after op kinds) c.in_ok-op.ensures.op);
+          (c.kind_seen-seen.ensures c.args.most (names_after op names) (kinds_after op kinds) c.in_ok-op.ensures.op);
       before = subst (λ l. AreFound l rest (drop (k + 1) c.args.found_before.now)) (sym more_names)
           (all_later names op rest (drop (k + 1) c.args.found_before.now) (rest_found names op rest c.args.found_before.now k
           (subst (λ os. AreFound names os (drop k c.args.found_before.now)) step c.loop-k.invariant.before)));
@@ -47,6 +47,6 @@ resolve_op-requires-clause-found c =
 
 pub returns-clause-placed : goal.returns-clause-placed
 returns-clause-placed c =
-    placed_in (map shown c.loop-k.found.items) c.args.ops.now c.args.names.now.names c.args.kinds.now.names
-    (all_resolved c.args.ops.now c.loop-k.k c.loop-k.found.items c.loop-k.names.names c.loop-k.kinds.names
-    (resolved c.args.ops.now c.args.names.now.names c.args.kinds.now.names) c.loop-k-test.false c.loop-k.invariant.found)
+    placed_in c.args.most (map shown c.loop-k.found.items) c.args.ops.now c.args.names.now.names c.args.kinds.now.names
+    (all_resolved c.args.most c.args.ops.now c.loop-k.k c.loop-k.found.items c.loop-k.names.names c.loop-k.kinds.names
+    (resolved_by c.args.most c.args.ops.now c.args.names.now.names c.args.kinds.now.names) c.loop-k-test.false c.loop-k.invariant.found)

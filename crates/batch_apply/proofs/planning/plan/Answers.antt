@@ -26,7 +26,8 @@ shards_for-requires-clause-few_old c =
 pub shards_for-requires-clause-old : goal.shards_for-requires-clause-old
 shards_for-requires-clause-old c = (
   row_of c.args.version.now.rows,
-  old_resolved c.args.batch.now (content c.args.version.now).names (content c.args.version.now).kinds c.as_slice.result.now
+  old_resolved (content c.args.version.now).limits.weight c.args.batch.now (content c.args.version.now).names
+      (content c.args.version.now).kinds c.as_slice.result.now
       (row_of c.args.version.now.rows) _ (ap (map shown) c.as_slice.ensures.value ∙ c.in_ok-named.ensures.ops)
       (subst (AreOldRows (expiry_time c.args.batch.now) (row_of c.args.version.now.rows)) (sym c.as_slice-2.ensures.value)
       c.in_ok-old.ensures),

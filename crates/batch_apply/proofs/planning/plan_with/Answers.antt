@@ -21,7 +21,8 @@ shards_at_once-requires-clause-few_old g c lifetimes outlive =
 pub shards_at_once-requires-clause-old : goal.shards_at_once-requires-clause-old
 shards_at_once-requires-clause-old g c lifetimes outlive = (
   row_of c.args.version.now.rows,
-  old_resolved c.args.batch.now (content c.args.version.now).names (content c.args.version.now).kinds c.as_slice.result.now
+  old_resolved (content c.args.version.now).limits.weight c.args.batch.now (content c.args.version.now).names
+      (content c.args.version.now).kinds c.as_slice.result.now
       (row_of c.args.version.now.rows) _ (ap (map shown) c.as_slice.ensures.value ∙ c.in_ok-named.ensures.ops)
       c.requires.old,
 )

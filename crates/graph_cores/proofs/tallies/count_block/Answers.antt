@@ -30,11 +30,16 @@ count_edge-requires-clause-target c =
     (edges_left c.next.new.self) (lent_edge c.in-Some.edge) c.in-Some.ensures.steps c.loop-edge.auto.table c.requires
     c.loop-edge.invariant.begun).target
 
-pub count_edge-requires-clause-limits : goal.count_edge-requires-clause-limits
-count_edge-requires-clause-limits c =
-    (next_room c.args.view.now c.args.block.now c.args.table.now c.loop-edge.table (edges_left c.loop-edge.edge-iterator)
-    (edges_left c.next.new.self) (lent_edge c.in-Some.edge) c.in-Some.ensures.steps c.loop-edge.auto.table c.requires
-    c.loop-edge.invariant.begun).limits
+pub count_edge-requires-clause-room : goal.count_edge-requires-clause-room
+count_edge-requires-clause-room c =
+    let l = lent_edge c.in-Some.edge in
+    let rest = edges_left c.next.new.self in
+    let stamps = subst (All (λ (e : LentEdge). IsStamp e.stamp)) c.in-Some.ensures.steps c.loop-edge.invariant.stamps in
+    let stamp : IsStamp l.stamp = All-head (λ (e : LentEdge). IsStamp e.stamp) l rest stamps in
+    let weight = c.in-Some.edge.weight.now in
+    rw (to_z-of_z w64 weight (weight_fits weight stamp.0))
+    (next_room c.args.view.now c.args.block.now c.args.table.now c.loop-edge.table (edges_left c.loop-edge.edge-iterator) rest l
+    c.in-Some.ensures.steps c.loop-edge.auto.table c.requires c.loop-edge.invariant.begun).room
 
 pub loop-edge-preserved : goal.loop-edge-preserved
 loop-edge-preserved c =

@@ -5,10 +5,10 @@ use Rattle.graph_model.proofs.DegreeTables.{tally_none, tally_shown, tally_hidde
 use Rattle.graph_model.proofs.reply.tally.Goals.{then-shows, else-shows}
 use Rattle.graph_model.proofs.reply.tally.Goals as goal
 
-pub count_edge-requires-clause-limits : goal.count_edge-requires-clause-limits
-count_edge-requires-clause-limits c =
-    tally_within c.args.filter c.args.content.now c.requires c.as_slice-edges.result.now c.loop-edge.edge-index
-    c.loop-edge.table.items c.as_slice-edges.ensures c.loop-edge.invariant
+pub count_edge-requires-clause-room : goal.count_edge-requires-clause-room
+count_edge-requires-clause-room c =
+    tally_within c.args.filter c.args.content.now c.requires c.as_slice-edges.result.now c.loop-edge.edge-index _
+    c.loop-edge.table.items c.as_slice-edges.ensures c.loop-edge-test.true c.loop-edge.invariant
 
 pub returns : goal.returns
 returns c =
@@ -33,9 +33,6 @@ count_edge-requires-clause-source c = (within c c.loop-edge.edge-index _ c.loop-
 
 pub count_edge-requires-clause-target : goal.count_edge-requires-clause-target
 count_edge-requires-clause-target c = (within c c.loop-edge.edge-index _ c.loop-edge-test.true).target
-
-pub count_edge-requires-clause-weight : goal.count_edge-requires-clause-weight
-count_edge-requires-clause-weight c = (within c c.loop-edge.edge-index _ c.loop-edge-test.true).weight
 
 pub loop-edge-preserved : goal.loop-edge-preserved
 loop-edge-preserved c =

@@ -1,4 +1,4 @@
-use Rattle.std.proofs.Common.{arith, pos, ◌∙◌, ap}
+use Rattle.std.proofs.Common.{arith, pos, ap}
 use Rattle.edge_block.proofs.Copies.{below_used, copied_at, copied_block, length-copied, slots_copied, columns_copied}
 use Rattle.edge_block.proofs.Copies.{times_copied}
 use Rattle.edge_block.proofs.blocks.Block.copy_from.Goals as goal

@@ -71,7 +71,7 @@ returns-clause-graph c = graph_in-applied _ _ _ _ _ _ _ _ (applied c) c.args.lim
 
 pub returns-clause-content : goal.returns-clause-content
 returns-clause-content c =
-    IsContentIn-applied _ _ _ _ _ _ _ _ _ c.names.ensures.limits (applied c) c.requires.content (omega (
+    IsContentIn-applied _ _ _ _ _ _ _ _ _ c.names.ensures.limits c.requires.most (applied c) c.requires.content (omega (
       arith,
       c.in_ok-make_names.ensures.few
           (omega (arith, c.requires.content.names_few, c.names.ensures.number)),
