@@ -1,11 +1,11 @@
 -- What is read of a version is a content.
 use Rattle.graph_types.specs.{Step.is_within_limits, declared.contents.Content.Content}
 use Rattle.std.proofs.lemmas.Bool.{le-leb}
-use Rattle.std.proofs.Common.{true, ◌&&◌, refl, ap₂, ◌≡◌, ◌≢◌, ℕ, ◌*◌, ◌<◌, ◌≤◌, List, length, get_or, sym, ap, subst, ◌∙◌, arith}
+use Rattle.std.proofs.Common.{true, ◌&&◌, refl, ap₂, ◌≡◌, ◌≢◌, ℕ, ◌*◌, ◌<◌, ◌≤◌, List, length, get_or, sym, ap, subst, ◌∙◌, arith, nat_abs}
 use Rattle.std.{specs.Prelude.{All, AllPairs}, specs.FinMap.get, proofs.lemmas.List.take_all}
 use Rattle.graph_types.specs.Graph.{Graph, key_of, stamp_of, map_of, graph_in, IsContent, IsContentIn, IsEdgeWithin, IsWeight, IsTime}
-use Rattle.graph_types.{specs.Limits.{LimitsView, IsWeightIn, SumsFit, most_names, most_kinds}, proofs.LimitsKept.limits_left_by}
-use Rattle.graph_types.{proofs.WeightsKept.{weights_of, weights_shown}}
+use Rattle.graph_types.{specs.Limits.{LimitsView, IsWeightIn, SumsFit, most_names, most_kinds}}
+use Rattle.graph_types.proofs.{LimitsKept.{limits_left_by, each_fits, most_fits}, WeightsKept.{weights_of, weights_shown}}
 use Rattle.graph_types.{specs.declared.ids.Edge.Edge, proofs.Keys.{HasKeysOnce, get_is, get_listed, find_listed}}
 use Rattle.epoch_core.specs.declared.{states.Version.Version, session_states.SessionState.SessionState}
 use Rattle.epoch_core.specs.{Posting.last_content, Machine.ReadsContent, Sound.IsNamed, Sound.IsSessionSound, Sound.IsSound}
@@ -23,12 +23,18 @@ same_within n m x e key stamp w = record {
   recent = subst IsTime (sym (ap (λ s. s.recent) stamp)) w.recent;
 }
 
--- in another list of the same edges none has a larger weight
+-- in another list of the same edges none has a larger weight, and sums fit again
 weights_again : (c : Content) (es : List Edge) (most : ℕ) → HasKeysOnce es → map_of es ≡ map_of c.edges
     → All (λ e. IsWeightIn most e.weight) c.edges → All (λ e. IsWeightIn most e.weight) es
 weights_again c es most once same within =
     let l : LimitsView = record { names = 0; kinds = 0; batches = 0; weight = most } in
     weights_of (graph_in l c) es once same (weights_shown l c within)
+
+sums_again : (c : Content) (es : List Edge) (places : ℕ) → HasKeysOnce es → map_of es ≡ map_of c.edges
+    → All (λ e. SumsFit places (nat_abs e.weight)) c.edges → All (λ e. SumsFit places (nat_abs e.weight)) es
+sums_again c es places once same fit =
+    let (most, within, sums) = most_fits places c.edges fit in
+    each_fits places most es sums (weights_again c es most once same within)
 
 -- edges that show a content's graph are a content with its names and kinds
 pub is_content : (v : Version) (es : List Edge) (g : Graph) → IsContentGraph g → v.names ≡ g.names → v.kinds ≡ g.kinds
@@ -52,10 +58,9 @@ is_content v es g (c, within, same) names kinds shows =
           subst (IsEdgeWithin (length c.names) (length c.kinds)) at (is.edges_within i x low) in
           subst (λ n. IsEdgeWithin n (length v.kinds) e) (ap length (sym ns))
           (subst (λ m. IsEdgeWithin (length c.names) m e) (ap length (sym ks)) (same_within _ _ x e key (sym stamp) w));
-      most_weight = is.most_weight;
-      weights_within = weights_again c es is.most_weight shows.once map is.weights_within;
-      sums_fit = subst (λ n. SumsFit (n * length v.kinds) is.most_weight) (ap length (sym ns))
-          (subst (λ m. SumsFit (length c.names * m) is.most_weight) (ap length (sym ks)) is.sums_fit);
+      sums_fit = subst (λ n. All (λ (e : Edge). SumsFit (n * length v.kinds) (nat_abs e.weight)) es) (ap length (sym ns))
+          (subst (λ m. All (λ (e : Edge). SumsFit (length c.names * m) (nat_abs e.weight)) es) (ap length (sym ks))
+          (sums_again c es (length c.names * length c.kinds) shows.once map is.sums_fit));
     } in
     record {
       content = content;

@@ -9,8 +9,8 @@ use Rattle.graph_types.specs.Graph.{graph_of, key_of, entry_of, IsContent, IsEdg
 use Rattle.graph_types.specs.{View.in_view, Answer.degree_at, Answer.degree_table}
 use Rattle.graph_types.specs.Degrees.{listed_degree, IsTally, CountsEdge, HasRoom}
 use Rattle.graph_types.specs.declared.{contents.Content.Content, ids.Edge.Edge, ids.Degree.Degree, ids.Filter.Filter}
-use Rattle.graph_types.{specs.Limits.IsWeightIn, proofs.{Keys.HasKeysOnce, LimitsKept.places_few, DegreeBounds.degree_within}}
-use Rattle.graph_types.proofs.{ListedDegrees.{listed_at, with_shown}}
+use Rattle.graph_types.{specs.Limits.{IsWeightIn, SumsFit}, proofs.{Keys.HasKeysOnce, LimitsKept.{places_few, most_fits}}}
+use Rattle.graph_types.proofs.{DegreeBounds.degree_within, ListedDegrees.{listed_at, with_shown}}
 
 weights_push : (p : Edge → Bool) (es : List Edge) (e : Edge)
     → fold ◌+ℤ◌ (pos 0) (map (λ x. x.weight) (filter p (es ++ e ∷ [])))
@@ -44,7 +44,8 @@ pub tally_within : (f : Filter) (c : Content) → IsContent c → (edges : List 
 tally_within f c is edges k e table listed low tally v d h =
     let n = length c.names in
     let m = length c.kinds in
-    let weights : All (λ (x : Edge). IsWeightIn is.most_weight x.weight) edges = rw listed is.weights_within in
+    let fit : All (λ (x : Edge). SumsFit (n * m) (nat_abs x.weight)) edges = rw listed is.sums_fit in
+    let (most, weights, sums) = most_fits (n * m) edges fit in
     let all_once : HasKeysOnce edges = rw listed is.keys_distinct in
     let once : HasKeysOnce (take k edges) = λ i j x low high.
     let short = length-take k edges in
@@ -55,10 +56,10 @@ tally_within f c is edges k e table listed low tally v d h =
     let within = All-take (IsEdgeWithin (length c.names) (length c.kinds)) k edges
     (rw listed is.edges_within) in
     rw (tally.at v d (omega (arith, tally.size)))
-    (degree_within f (take k edges) n m v is.most_weight (nat_abs (get_or edges k e).weight)
-    (places_few n m is.names_few is.kinds_few) is.sums_fit (weights k e low) once (λ j x g. (within j x g).kind)
+    (degree_within f (take k edges) n m v most (nat_abs (get_or edges k e).weight)
+    (places_few n m is.names_few is.kinds_few) sums (weights k e low) once (λ j x g. (within j x g).kind)
     (λ j x g. (within j x g).source) (λ j x g. (within j x g).target)
-    (All-take (λ (x : Edge). IsWeightIn is.most_weight x.weight) k edges weights))
+    (All-take (λ (x : Edge). IsWeightIn most x.weight) k edges weights))
 
 -- the table after all edges
 pub tally_all : (f : Filter) (c : Content) → IsContent c → (edges : List Edge) (i : ℕ) (table : List Degree) → edges ≡ c.edges

@@ -1,6 +1,6 @@
 -- A change that is applied to plain lists does to the graph that they show what its definition says.
 use Rattle.std.proofs.Common.{◌≡◌, ◌≢◌, ℕ, ◌≤◌, ◌*◌, List, [], ◌∷◌, ◌++◌, true, false, cond, not, length, get_or, All, AllPairs}
-use Rattle.std.proofs.Common.{Option, Some, None, option_map, option_to_list, IfSome, sym, ap, ◌∙◌, subst, arith}
+use Rattle.std.proofs.Common.{Option, Some, None, option_map, option_to_list, IfSome, sym, ap, ◌∙◌, subst, arith, nat_abs}
 use Rattle.std.proofs.lemmas.{Bool.false≢true, List.append-nil, List.Kept.AllPairs-filter, List.Quantifiers.all_pairs_push}
 use Rattle.std.proofs.lemmas.List.Elements.{All-head, All-tail, All-filter, All-weaker, All-push, All-get_or, filter_passes}
 use Rattle.std.specs.{List.find, FinMap.get}
@@ -12,7 +12,7 @@ use Rattle.graph_types.specs.{Changes.{AllowsUpTo, AreMarks, option_stamp}, Step
 use Rattle.graph_types.specs.{Step.{changed, was_before, later}, declared.{ids.Edge.Edge, changes.EdgeChange.EdgeChange}}
 use Rattle.graph_types.specs.declared.{changes.EdgeMarks.EdgeMarks, contents.Content.Content}
 use Rattle.graph_types.proofs.NameLists.{IsNamed, IsNamed-changed_key, length-names_made, length-kinds_made, AllPairs-names_made}
-use Rattle.graph_types.proofs.{NameLists.AllPairs-kinds_made, LimitsKept.sums_within, EdgeLookup.{Decides-has_key, get-map_of, map_of-put}}
+use Rattle.graph_types.proofs.{NameLists.AllPairs-kinds_made, LimitsKept.{each_fits, sums_within}, EdgeLookup.{Decides-has_key, get-map_of, map_of-put}}
 use Rattle.graph_types.proofs.{Keys.HasKeysOnce, WeightsKept.{HasWeights-changed, weights_listed, weights_shown}}
 
 -- one change on plain lists: what stood at its key is taken away, and what is to stand there comes at the end
@@ -119,9 +119,8 @@ weights_applied l change kind source target old new key put up step is =
 pub IsContent-applied : (change : EdgeChange) (kind source target : List ℕ) (old new : Content) (key : Key) (put : Option Edge)
     → IsApplied change kind source target old new key put
     → IsContent old → length new.names ≤ most_names → length new.kinds ≤ most_kinds
-    → (most : ℕ) → All (λ e. IsWeightIn most e.weight) new.edges → SumsFit (length new.names * length new.kinds) most
-    → IsContent new
-IsContent-applied change kind source target old new key put step content names_few kinds_few most weights sums =
+    → All (λ e. SumsFit (length new.names * length new.kinds) (nat_abs e.weight)) new.edges → IsContent new
+IsContent-applied change kind source target old new key put step content names_few kinds_few sums =
     let n = length new.names in
     let m = length new.kinds in
     let names_more : length old.names ≤ length new.names = rw step.names (length-names_made change source target old.names) in
@@ -139,8 +138,6 @@ IsContent-applied change kind source target old new key put step content names_f
           (all_within n m key old.edges put named_here step.at
           (All-weaker (IsEdgeWithin (length old.names) (length old.kinds)) (IsEdgeWithin n m)
           (λ e. within_more _ _ _ _ e names_more kinds_more) old.edges content.edges_within));
-      most_weight = most;
-      weights_within = weights;
       sums_fit = sums;
     }
 
@@ -151,8 +148,9 @@ IsContentIn-applied l change kind source target old new key put are up step is n
     let weights = weights_applied l change kind source target old new key put up step is in
     record {
       content = IsContent-applied change kind source target old new key put step is.content (omega (arith, names_few, are.names))
-          (omega (arith, kinds_few, are.kinds)) l.weight weights
-          (sums_within l (length new.names) (length new.kinds) are names_few kinds_few);
+          (omega (arith, kinds_few, are.kinds))
+          (each_fits (length new.names * length new.kinds) l.weight new.edges
+          (sums_within l (length new.names) (length new.kinds) are names_few kinds_few) weights);
       names_few = names_few;
       kinds_few = kinds_few;
       weights_few = weights;
@@ -167,9 +165,8 @@ IsContent-later time c is = record {
   kinds_few = is.kinds_few;
   keys_distinct = AllPairs-filter (λ a b. key_of a ≢ key_of b) (λ e. not (was_before time e)) c.edges is.keys_distinct;
   edges_within = All-filter (λ e. not (was_before time e)) (IsEdgeWithin (length c.names) (length c.kinds)) c.edges is.edges_within;
-  most_weight = is.most_weight;
-  weights_within = All-filter (λ e. not (was_before time e)) (λ e. IsWeightIn is.most_weight e.weight) c.edges is.weights_within;
-  sums_fit = is.sums_fit;
+  sums_fit = All-filter (λ e. not (was_before time e)) (λ e. SumsFit (length c.names * length c.kinds) (nat_abs e.weight)) c.edges
+      is.sums_fit;
 }
 
 pub IsContentIn-later : (l : LimitsView) (time : ℕ) (c : Content) → IsContentIn l c

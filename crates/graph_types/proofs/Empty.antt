@@ -12,9 +12,7 @@ empty_content = record {
   kinds_few = omega arith;
   keys_distinct = λ i j d h g. absurd (omega arith);
   edges_within = λ k d h. absurd (omega arith);
-  most_weight = 0;
-  weights_within = λ k d h. absurd (omega arith);
-  sums_fit = omega arith;
+  sums_fit = λ k d h. absurd (omega arith);
 }
 
 pub empty_content_in : (l : LimitsView) → IsContentIn l (record { names = []; kinds = []; edges = [] })

@@ -1,7 +1,9 @@
--- What operations and batches do leaves the limits as they were, and no answer depends on them.
-use Rattle.std.proofs.Common.{◌≡◌, ℕ, ◌≤◌, ◌+◌, ◌*◌, ◌∙◌, refl, arith, List, [], ◌∷◌, Some, None}
-use Rattle.std.{proofs.lemmas.Nat.mul-le, specs.Prelude.{Result, Ok, Err}, specs.declared.option.Option.Option}
-use Rattle.graph_types.specs.{Graph.{Graph}, Limits.{LimitsView, AreLimits, SumsFit, most_names, most_kinds, most_places}}
+-- What operations and batches do leaves the limits as they were, and no answer depends on them. Within limits sums of weights fit.
+use Rattle.std.proofs.Common.{◌≡◌, ℕ, ◌≤◌, ◌+◌, ◌*◌, ◌∙◌, refl, arith, List, [], ◌∷◌, Some, None, get_or, nat_abs, inl, inr}
+use Rattle.std.{proofs.lemmas.Nat.mul-le, specs.Prelude.{Result, Ok, Err, All}, specs.declared.option.Option.Option}
+use Rattle.std.proofs.lemmas.{Bool.cases_lt, List.Elements.{All-cons, All-tail}}
+use Rattle.graph_types.specs.{Graph.{Graph}, Limits.{LimitsView, AreLimits, most_names, most_kinds, most_places}}
+use Rattle.graph_types.specs.{Limits.{IsWeightIn, SumsFit}, declared.ids.Edge.Edge}
 use Rattle.graph_types.specs.{Analyses.{AreLevels, IsLevel}, Step.{after, after_all, left_by}, Answer.{IsAnswer, IsReply, refusal}}
 use Rattle.graph_types.specs.{Laws.{IsFreeOfLimits, KeepLimits}, declared.{ids.Filter.Filter, batches.NamedOp.NamedOp}}
 use Rattle.graph_types.specs.declared.batches.NamedOp.TheVariants.{Insert, Incr, Remove, Expire}
@@ -81,3 +83,26 @@ pub sums_within : (l : LimitsView) (names kinds : ℕ) → AreLimits l → names
 sums_within l names kinds are few_names few_kinds =
     sums_less (names * kinds) l.weight (l.names * l.kinds) l.weight
     (mul-le names kinds l.names l.kinds few_names few_kinds) (omega arith) are.sums
+
+-- where sums of weights of one size fit, those of each weight of at most this size do
+pub each_fits : (places most : ℕ) (es : List Edge) → SumsFit places most → All (λ e. IsWeightIn most e.weight) es
+    → All (λ e. SumsFit places (nat_abs e.weight)) es
+each_fits places most es sums within k d h =
+    sums_less places (nat_abs (get_or es k d).weight) places most (omega arith) (within k d h) sums
+
+-- and where those of each weight fit, those of the largest do
+pub most_fits : (places : ℕ) (es : List Edge) → All (λ e. SumsFit places (nat_abs e.weight)) es
+    → (most : ℕ) × All (λ e. IsWeightIn most e.weight) es × SumsFit places most
+most_fits places [] each = (0, (λ k d h. absurd (omega arith)), omega arith)
+most_fits places (e ∷ es) each =
+    let (most, within, sums) = most_fits places es (All-tail (λ (x : Edge). SumsFit places (nat_abs x.weight)) e es each) in
+    let size : ℕ = nat_abs e.weight in
+    let here : SumsFit places size = each 0 e (omega arith) in
+    elim (cases_lt size most) [
+      | inl light ↦ (most, All-cons (λ (x : Edge). IsWeightIn most x.weight) e es (omega arith) within, sums)
+      | inr heavy ↦ (
+          size,
+          All-cons (λ (x : Edge). IsWeightIn size x.weight) e es (omega arith) (λ k d h. omega (arith, heavy, within k d h)),
+          here,
+      )
+    ]

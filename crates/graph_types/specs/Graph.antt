@@ -3,7 +3,7 @@
 -- and their numbers, the whole-number weights and the limits are this project's own profile.
 use Rattle.std.specs.Prelude.{◌≡◌, ◌≢◌, ℕ, ◌<◌, ◌≤◌, ◌*◌, ℤ, List, map, length, All, AllPairs, Bool, not, ◌&&◌, ◌==◌, filter}
 use Rattle.std.specs.{Ordering.{nat_cmp, ordering_then}, FinMap.{FinMap, from_entries, get}, declared.cmp.Ordering.Ordering}
-use Rattle.std.specs.Prelude.{IfSome}
+use Rattle.std.specs.Prelude.{IfSome, nat_abs}
 pub use Rattle.graph_types.specs.Limits.{IsWeight, IsTime}
 use Rattle.graph_types.specs.Limits.{LimitsView, standard_limits, most_names, most_kinds, IsWeightIn, SumsFit}
 use Rattle.graph_types.specs.declared.{ids.Edge.Edge, contents.Content.Content}
@@ -90,8 +90,8 @@ pub record IsEdgeWithin (n m : ℕ) (e : Edge) : Type 0 where
 abbrev pub HasWeights : Graph → Type 0
 HasWeights g = (key : Key) → IfSome (get g.edges key) (λ stamp. IsWeightIn g.limits.weight stamp.weight)
 
--- names and kinds are distinct and within the walls, each key is listed once, and some size that no weight passes is so small
--- that sums of weights fit
+-- names and kinds are distinct and within the walls, each key is listed once, and each weight is so small that a sum of weights
+-- of its size, one for each place and one more, is below 2 ^ 63
 pub record IsContent (c : Content) : Type 0 where
   pub names_distinct : AllPairs (λ a b. a ≢ b) c.names
   pub kinds_distinct : AllPairs (λ a b. a ≢ b) c.kinds
@@ -99,9 +99,7 @@ pub record IsContent (c : Content) : Type 0 where
   pub kinds_few : length c.kinds ≤ most_kinds
   pub keys_distinct : AllPairs (λ a b. key_of a ≢ key_of b) c.edges
   pub edges_within : All (IsEdgeWithin (length c.names) (length c.kinds)) c.edges
-  pub most_weight : ℕ
-  pub weights_within : All (λ e. IsWeightIn most_weight e.weight) c.edges
-  pub sums_fit : SumsFit (length c.names * length c.kinds) most_weight
+  pub sums_fit : All (λ e. SumsFit (length c.names * length c.kinds) (nat_abs e.weight)) c.edges
 
 -- a content within these limits
 pub record IsContentIn (limits : LimitsView) (c : Content) : Type 0 where

@@ -7,7 +7,7 @@ use Rattle.std.{proofs.lemmas.Bool.Decides.eqb_tells, specs.{declared.{sync.Arc.
 use Rattle.std.{specs.Option.is_some, proofs.lemmas.Grind.common_steps}
 use Rattle.graph_types.specs.{Graph.{key_of, stamp_of, IsContent, IsContentIn, HasWeights, Graph, graph_in}, Limits.{LimitsView, IsWeight}}
 use Rattle.graph_types.{specs.declared.{batches.NamedOp.NamedOp, contents.Content.Content, ids.Edge.Edge}, proofs.Keys.get_listed}
-use Rattle.graph_types.{specs.Limits.AreLimits, proofs.{LimitsKept.{limits_left_by, sums_within}, WeightsKept.weights_listed}}
+use Rattle.graph_types.{specs.Limits.AreLimits, proofs.{LimitsKept.{limits_left_by, each_fits, sums_within}, WeightsKept.weights_listed}}
 use Rattle.edge_block.specs.{Slots.{IsStamp, Slot, BlockView, entry_in, entries_of, edges_in}, Lending.{LentEdge, lent_of}}
 use Rattle.edge_block.specs.{declared.blocks.Block.Block, Rows.shape_of, Batches.{IsLayoutOf, IsWithin}}
 use Rattle.vertex_names.specs.Book.{Book}
@@ -298,9 +298,8 @@ listed_content names kinds edges keeps v c l is apart kinds_apart stamps e same 
             first = stamp.1;
             recent = stamp.2;
           };
-      most_weight = l.weight;
-      weights_within = weights;
-      sums_fit = sums_within l (length c.names) (length c.kinds) walls names_few kinds_few;
+      sums_fit = each_fits (length c.names * length c.kinds) l.weight c.edges
+          (sums_within l (length c.names) (length c.kinds) walls names_few kinds_few) weights;
     } in
     record { content = content; names_few = names_few; kinds_few = kinds_few; weights_few = weights }
 
