@@ -48,8 +48,8 @@ class Store(Generic[W, T]):
 
     `blocks`: how many blocks hold edges, from 16 on; each has room for 32 edges of one kind and source, and takes 1 KB once it is
     used. Else the library has 65,536, and more once they are needed; a program has 16,384, and takes up to 65,536. `limits`: how
-    many vertices, kinds and batches a store in this process takes at most (see `misteluk.Limits`). `seats`: how many sessions may
-    be open at once, 1 to 16. `workers`: how many threads of the program apply a batch, 1 to 8.
+    many vertices, kinds and batches a store in this process takes at most, and how large a weight (see `misteluk.Limits`).
+    `seats`: how many sessions may be open at once, 1 to 16. `workers`: how many threads of the program apply a batch, 1 to 8.
     Any text is a name, of a vertex or a kind, but an empty one; `*` alone is no kind. See `misteluk.names`.
 
     `weight_scale`: weights are decimal numbers of so many parts, as 100 for cents; else whole numbers. It divides a power of ten.

@@ -1,6 +1,6 @@
 -- The fresh blocks that a plan's shards may take are no more than a number of 64 bits tells.
 use Rattle.std.proofs.Common.{◌≡◌, ◌≢◌, ℕ, zero, suc, ◌+◌, ◌-◌, ◌^◌, ◌<◌, ◌≤◌, ◌==◌, Bool, true, false, cond, List, [], ◌∷◌, map}
-use Rattle.std.proofs.Common.{◌||◌, eqb, get_or, length, length-append, min, max, refl, sym, ap, ap₂, ◌∙◌, arith, subst, All}
+use Rattle.std.proofs.Common.{◌||◌, eqb, get_or, length, length-append, min, max, refl, sym, ap₂, ◌∙◌, arith, subst, All}
 use Rattle.std.proofs.{Common.AllPairs, lemmas.{Bool.{true≢false, eqb-true, eqb-false, ne_eqb}, List.length-map}}
 use Rattle.std.proofs.lemmas.List.Sums.{sum_by-cons, sum_by-le, sum_by-le-sum_by, count_by-le-length, length-filter}
 use Rattle.std.proofs.lemmas.{List.Elements.{All-head, All-tail, All-map, All-weaker}, Map.Keys.IsDistinct-from_apart}

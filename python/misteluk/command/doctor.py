@@ -37,7 +37,7 @@ def limits_of(name: str) -> str:
         return (f"{records.MOST_NAMES:,} vertices, {records.MOST_KINDS} kinds, {records.MOST_BLOCKS:,} blocks; a run takes "
                 f"{records.MOST_RECORDS:,} records and {records.MOST_BATCHES:,} batches")
     told = ", ".join(f"{Limits(kinds=it).shape(0, 0).vertices:,} with {it}" for it in (2, 8, limits.MOST_KINDS))
-    return (f"{limits.MOST_PRODUCT:,} vertices with 1 kind, {told}, unless Store(limits=..) says fewer; {limits.MOST_BLOCKS:,} "
+    return (f"{limits.MOST_PRODUCT:,} vertices with 1 kind, {told}, unless Store(limits=..) says others; {limits.MOST_BLOCKS:,} "
             "blocks")
 
 

@@ -89,7 +89,7 @@ class Followed(NamedTuple):
     def __str__(self) -> str:
         done = self.commit
         counts = [(done.inserted, "inserted"), (done.updated, "updated"), (done.expired, "expired"),
-                  (done.overflowed, "amounts NOT added, since weights would leave their limits"),
+                  (done.overflowed, "amounts NOT added or set, since weights would leave their limits"),
                   (self.bad, "bad rows passed over")]
         told = ", ".join(f"{count} {word}" for count, word in counts if count) or "nothing changed"
         return f"version {done.version}: {self.rows} rows to line {self.line}, {told}; newest {self.newest}"

@@ -38,7 +38,7 @@ class Loaded(NamedTuple):
         if self.survey.bad:
             text += f"; {self.survey.bad} bad rows passed over"
         if done.overflowed:
-            text += f"; {done.overflowed} amounts NOT added, since weights would leave their limits"
+            text += f"; {done.overflowed} amounts NOT added or set, since weights would leave their limits"
         return text
 
     def __repr__(self) -> str:

@@ -25,8 +25,8 @@ ROWS_SHOWN = 10
 
 class Commit(NamedTuple):
     """What batches did: the last version's number; how many operations inserted an edge, updated one, removed one, found none
-    to remove, and left a weight as it was since it would have left its limits; how many batches they were cut into; and how
-    many edges expired."""
+    to remove, and changed nothing since a weight would have left its limits; how many batches they were cut into; and how many
+    edges expired."""
 
     version: int
     inserted: int

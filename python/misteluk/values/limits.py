@@ -3,7 +3,8 @@ from __future__ import annotations
 
 from typing import List, NamedTuple, Optional
 
-# What no limits pass: vertices, kinds, vertices times kinds (so that a sum of weights has room in its type), batches, and blocks.
+# What no limits pass: vertices, kinds, batches, blocks and weights; and with the largest weights vertices times kinds (so that a
+# sum of weights has room in its type).
 MOST_VERTICES, MOST_KINDS, MOST_PRODUCT, MOST_BATCHES, MOST_BLOCKS = 67_108_863, 64, 8_388_606, (1 << 32) - 1, 4_293_918_719
 MOST_WEIGHT = 1 << 40
 
@@ -14,7 +15,8 @@ class Limits(NamedTuple):
     for 64; and 4,294,967,295 batches. With fewer batches it keeps each operation until it begins anew.
 
     `weight` is how large a weight may be, 2^40 where it isn't said, in parts where the store has a `weight_scale`. With smaller
-    ones there may be more vertices. An operation past it, or whose sum would be, is counted as `overflowed` and changes nothing.
+    ones there may be more vertices, up to 67,108,863. An operation whose weight or amount is past it, or the sum that it would
+    leave, is counted as `overflowed`: it makes its names known and changes nothing else.
 
         Store(limits=Limits(vertices=100_000, kinds=4))
         Store(limits=Limits(vertices=20_000_000, kinds=4, weight=1_000_000))

@@ -5,7 +5,7 @@ use epoch_core::{law_collection, law_epoch, law_exact_collection, law_isolation,
 use graph_model::law_names_before_kinds;
 use graph_types::{
     law_edge_order, law_expiry, law_first_time_stays, law_names_stay_names, law_one_answer,
-    law_one_table, law_some_answer, law_some_table, law_within_limits,
+    law_one_table, law_some_answer, law_some_table, law_weights_stay_within, law_within_limits,
 };
 
 #[test]
@@ -15,6 +15,7 @@ fn laws_can_be_called() {
     law_edge_order();
     law_within_limits();
     law_names_stay_names();
+    law_weights_stay_within();
     law_first_time_stays();
     law_expiry();
     law_one_table();

@@ -36,8 +36,9 @@ struct Play<'a> {
     may_refuse: bool,
 }
 
-/// A play's text is a line of its workers, blocks and name; `limits NAMES KINDS BATCHES` where these aren't the standard ones;
-/// `begin with BATCH` where it opens with the version that the batch makes; lines at the desk; where it is shared, `share` and the lines then; and `close => NUMBER` with the lines behind the end. Without lines at
+/// A play's text is a line of its workers, blocks and name; `limits NAMES KINDS BATCHES` where these aren't the standard ones, and
+/// behind them the limit of weights where it isn't; `begin with BATCH` where it opens with the version that the batch makes; lines at
+/// the desk; where it is shared, `share` and the lines then; and `close => NUMBER` with the lines behind the end. Without lines at
 /// the desk its store opens as a user's does. A number that can't be read is one that no store opens with, or ends at.
 fn play_of(text: &str, may_refuse: bool) -> Play<'_> {
     let (head, lines) = split_at(text, "\n");
