@@ -98,6 +98,7 @@ class Run(Loaded):
                           (0, self.count, 2, len(self.after), 0))
         self.call("desk_limits", self.desk, limits)
         self.checks.equal("limits", fields(limits), (self.count + 1, 3, BATCHES))
+        self.checks.equal("the limit of weights", self.call.weight(self.desk), 1 << 40)
         again = self.call.hold(self.desk)
         Asked(self.checks, self.call, again[0], self.after).edges()
         self.call.release(self.desk, again)

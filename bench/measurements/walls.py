@@ -1,7 +1,7 @@
 """The C library's store at the greatest of its limits, and one past each: a refusal has its code and leaves counts, edges and
 batch as they were, and what the limit allows is taken and read back, each edge and degree compared with numpy. There are as many
 names as one kind allows, as 64 allow, and few; a hub of 2^22 edges of the greatest weight; blocks, batches, operations, holds,
-names' bytes and times.
+names' bytes and times. With smaller weights there are a hub of 2^24 edges, to as many names, and as many names as may be at all.
 
     python3 -m bench run walls                      all
     python3 -m bench run walls --only hub kinds     these parts
@@ -18,16 +18,14 @@ from bench import calls
 from bench.checks import Checks
 from bench.stores.caller import Caller, Names
 from bench.stores.full import Full, Hub
-from bench.stores.small_walls import SmallWalls
+from bench.stores.light import LightWalls
+from bench.stores.small_walls import BLOCKS, KINDS, MOST_NAMES, NAMES, PRODUCT
 from bench.stores.walled import one_edge
 from misteluk.engine import interface
 from misteluk.engine.interface import Code
 
-# Limits of the header: names with one kind, names whatever the kinds, names times kinds, kinds, blocks.
-NAMES, MOST_NAMES, PRODUCT, KINDS, BLOCKS = 8_388_606, 67_108_863, 8_388_606, 64, 4_293_918_719
 
-
-class Walls(SmallWalls):
+class Walls(LightWalls):
     edges, rows = 1 << 22, 1 << 20
 
     def opening(self) -> None:
@@ -78,12 +76,14 @@ class Walls(SmallWalls):
             it.free()
 
 
-PARTS = ["opening", "few", "names", "kinds", "hub", "blocks", "batches", "operations", "holds", "texts"]
+PARTS = ["opening", "weights", "few", "names", "kinds", "hub", "light", "most", "blocks", "batches", "operations", "holds",
+         "texts"]
 
 
 def options(parser: argparse.ArgumentParser) -> None:
     parser.add_argument("--only", nargs="+", choices=PARTS, default=PARTS, metavar="PART", help=f"some of {', '.join(PARTS)}")
     parser.add_argument("--hub", type=int, default=22, metavar="POWER", help="2 to this power edges has the hub (22)")
+    parser.add_argument("--light", type=int, default=24, metavar="POWER", help="the same for smaller weights, 23 to 25 (24)")
     parser.add_argument("--rows", type=int, default=20, metavar="POWER", help="the same of rows that fill all blocks (20)")
     parser.add_argument("--wrong", default="", metavar="FUNCTION", help="one that is not called, and said to be OK")
 
@@ -91,7 +91,7 @@ def options(parser: argparse.ArgumentParser) -> None:
 def measure(words: argparse.Namespace, _: pathlib.Path) -> int:
     checks = Checks()
     walls = Walls(checks, Caller(calls.loaded(), words.wrong))
-    walls.edges, walls.rows = 1 << words.hub, 1 << words.rows
+    walls.edges, walls.light_edges, walls.rows = 1 << words.hub, 1 << words.light, 1 << words.rows
     for name in words.only:
         checks.part(name, getattr(walls, name))
     return checks.status()

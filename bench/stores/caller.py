@@ -2,7 +2,7 @@
 from __future__ import annotations
 
 from ctypes import byref, c_uint32, c_uint64
-from typing import Any, List, NamedTuple, Set, Tuple
+from typing import Any, List, NamedTuple, Optional, Set, Tuple
 
 import numpy
 
@@ -73,10 +73,20 @@ class Caller:
         self("desk_release", desk, held[1])
         self("version_free", held[0])
 
-    def opened(self, names: int, kinds: int, batches: int, blocks: int) -> Any:
-        desk = interface.Desk()
-        self("desk_new_within", interface.Limits(names, kinds, batches), blocks, desk)
+    def opened(self, names: int, kinds: int, batches: int, blocks: int, weight: Optional[int] = None) -> Any:
+        """A desk under limits, one of which is on weights where that is said."""
+        desk, limits = interface.Desk(), interface.Limits(names, kinds, batches)
+        if weight is None:
+            self("desk_new_within", limits, blocks, desk)
+        else:
+            self("desk_new_within_weight", limits, weight, blocks, desk)
         return desk
+
+    def weight(self, desk: Any) -> int:
+        """How large the weights of a desk may be."""
+        most = c_uint64()
+        self("desk_weight", desk, most)
+        return most.value
 
     def collect(self, desk: Any) -> int:
         freed = c_uint64()

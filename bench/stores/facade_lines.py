@@ -10,6 +10,7 @@ from misteluk.engine.interface import NOT_REACHED
 
 # What the calls say that no graph is asked for.
 SMALL = """limits 65536 64 65536 true true true true
+weights 1099511627776 137438953471 true true
 config 4 1024 2 65536
 config true true false
 board 3 true 0 0 5 true

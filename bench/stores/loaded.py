@@ -63,6 +63,12 @@ class Loaded:
         self.call("desk_limits", small, limits)
         self.checks.equal("limits where none are chosen", fields(limits), (65_536, 64, 65_536))
         self.call("desk_free", small)
+        light = self.call.opened(self.count + 1, 3, BATCHES, 16, 999)
+        found = [self.call.weight(it) for it in (light, self.desk)]
+        self.checks.equal("limits of weights", found, [999, 1 << 40])
+        self.call("desk_limits", light, limits)
+        self.checks.equal("its other limits", fields(limits), (self.count + 1, 3, BATCHES))
+        self.call("desk_free", light)
         self.checks.equal("interface", self.call.interface(), interface.INTERFACE)
 
     def load(self) -> None:

@@ -1,12 +1,16 @@
 """Limits that a small store meets: of batches, their operations, versions held, bytes of names, and times."""
 from __future__ import annotations
 
+from typing import Optional
+
 from bench.checks import Checks
 from bench.stores.caller import Caller, Names
 from bench.stores.walled import Walled, one_edge
 from misteluk.engine import interface
 from misteluk.engine.interface import Code
 
+# Limits of the header: names with one kind, names whatever the kinds, names times kinds, kinds, blocks.
+NAMES, MOST_NAMES, PRODUCT, KINDS, BLOCKS = 8_388_606, 67_108_863, 8_388_606, 64, 4_293_918_719
 # A time is below this.
 TIME = 1 << 63
 
@@ -15,8 +19,8 @@ class SmallWalls:
     def __init__(self, checks: Checks, call: Caller) -> None:
         self.checks, self.call = checks, call
 
-    def opened(self, names: int, kinds: int, batches: int, blocks: int) -> Walled:
-        return Walled(self.checks, self.call, (names, kinds, batches), blocks)
+    def opened(self, names: int, kinds: int, batches: int, blocks: int, weight: Optional[int] = None) -> Walled:
+        return Walled(self.checks, self.call, (names, kinds, batches), blocks, weight)
 
     def batches(self) -> None:
         """As many batches as may be, and one more; after a rebase there may be as many again."""

@@ -2,7 +2,7 @@
 from __future__ import annotations
 
 from ctypes import byref, c_uint64
-from typing import Any, Tuple
+from typing import Any, Optional, Tuple
 
 import numpy
 
@@ -23,9 +23,9 @@ def one_edge(source: int, target: int, weight: int = 1) -> Tuple[Any, ...]:
 class Walled:
     """A desk under limits, and a batch."""
 
-    def __init__(self, checks: Checks, call: Caller, limits: Limits, blocks: int) -> None:
+    def __init__(self, checks: Checks, call: Caller, limits: Limits, blocks: int, weight: Optional[int] = None) -> None:
         self.checks, self.call = checks, call
-        self.desk, self.batch, self.done = call.opened(*limits, blocks), interface.Batch(), c_uint64()
+        self.desk, self.batch, self.done = call.opened(*limits, blocks, weight), interface.Batch(), c_uint64()
         call("batch_new", self.batch)
 
     def free(self) -> None:
