@@ -40,16 +40,28 @@ class OfLimits(unittest.TestCase):
         self.assertEqual(Limits().over(1, 65), ["65 kinds, where the store takes 64"])
         self.assertEqual(Limits(10, 2).over(11, 3), ["11 vertices, where the store takes 10", "3 kinds, where the store takes 2"])
         self.assertEqual(Limits(vertices=1_000_000).over(9, 9), ["9 kinds, where the store takes 8"])
+        light, most = Limits(weight=1 << 39), Limits(weight=1)
+        self.assertEqual((light.over(16_777_214, 1), light.over(8_388_607, 2), most.over(67_108_863, 64)), ([], [], []))
+        self.assertEqual(light.over(16_777_215, 1), ["16,777,215 vertices, where the store takes 16,777,214 beside 1 kind"])
+        self.assertEqual(most.over(67_108_864, 2), ["67,108,864 vertices, where the store takes 67,108,863 beside 2 kinds"])
+
+    def test_advice(self):
+        self.assertEqual(Limits(kinds=3).advice, "Make the store with more than Limits(kinds=3)")
+        smaller = "No store takes more, but vertices beside smaller weights (Limits(weight=..))"
+        self.assertEqual([it.advice for it in (Limits(), Limits(batches=9), Limits(weight=1 << 39))], [smaller] * 3)
+        self.assertEqual(Limits(weight=1).advice, "No store takes more")
 
     def test_shapes(self):
         """A desk's limits have room for what there is, and are within the walls."""
-        for said in (Limits(), Limits(vertices=1_000), Limits(kinds=3), Limits(500_000, 16)):
-            for vertices in (0, 1, 1_000, 131_071, 131_072, 1_048_575, 1_048_576, 8_388_606):
+        light = Limits(weight=1 << 39), Limits(weight=1), Limits(kinds=3, weight=1_000), Limits(16_000_000, weight=1 << 39)
+        for said in (Limits(), Limits(vertices=1_000), Limits(kinds=3), Limits(500_000, 16), *light):
+            for vertices in (0, 1, 1_000, 131_071, 131_072, 1_048_575, 1_048_576, 8_388_606, 8_388_607, 16_777_214, 67_108_863):
                 for kinds in (0, 1, 2, 3, 8, 9, 17, 33, 64):
                     if not said.over(vertices, kinds):
                         found = said.shape(vertices, kinds)
                         self.assertTrue(found.vertices >= vertices and found.kinds >= kinds, (said, vertices, kinds, found))
-                        self.assertLessEqual(found.vertices * found.kinds, limits.MOST_PRODUCT)
+                        self.assertLessEqual(found.vertices * found.kinds, said.product)
+                        self.assertEqual((found.checked(), found.weight), (found, said.weight))
 
 
 @unittest.skipUnless(ENGINE == "library", OF_LIBRARY)
@@ -189,6 +201,17 @@ class Room(Case):
             desk = interface.Desk()
             self.assertEqual(engine.library.desk_new_within(interface.Limits(*wanted), blocks, desk), code, wanted)
             engine.library.desk_free(desk)
+        for vertices, kinds, weight, code in ((67_108_863, 64, 2_147_483_679, 0), (67_108_863, 64, 2_147_483_680, 19),
+                                              (8_388_607, 1, (1 << 40) - 1, 0), (8_388_607, 1, 1 << 40, 19),
+                                              (67_108_864, 1, 1, 19), (1, 1, 1 << 40, 0), (1, 1, (1 << 40) + 1, 19)):
+            desk, wanted = interface.Desk(), interface.Limits(vertices, kinds, 1)
+            with self.subTest(vertices=vertices, kinds=kinds, weight=weight):
+                self.assertEqual(engine.library.desk_new_within_weight(wanted, weight, 16, desk), code)
+                if code:
+                    self.assertRaises(ValueError, Limits(vertices, kinds, 1, weight).checked)
+                else:
+                    self.assertEqual(Limits(vertices, kinds, 1, weight).checked()[:2], (vertices, kinds))
+            engine.library.desk_free(desk)
 
     def test_an_endless_store_lets_names_go_before(self):
         with mock.patch.object(limits, "MOST_PRODUCT", 640):
@@ -231,6 +254,17 @@ class Room(Case):
                 self.assertEqual((restored.engine.grows, restored.blocks), (False, 64))
         with Store.restore(self.room / "saved.csv", engine="program") as restored:
             self.assertEqual(restored.blocks, 32)
+
+    def test_a_store_of_smaller_weights_loses_no_edge(self):
+        """A version of larger weights isn't restored in it; a load says what wasn't set."""
+        store = self.store("insert k a b 11 1")
+        store.open().save(self.room / "saved.csv")
+        with Store.restore(self.room / "saved.csv", limits=Limits(weight=11)) as restored:
+            self.assertEqual(self.told(restored)[1:], self.told(store)[1:])
+        with self.assertRaisesRegex(misteluk.StoreError, r"2 names and 0 edges came of .*, and not \(2, 1\)"):
+            Store.restore(self.room / "saved.csv", limits=Limits(weight=10))
+        loaded = self.store(limits=Limits(weight=10)).load([("a", "b", 11, 1), ("b", "c", 10, 1)], by="set")
+        self.assertIn("1 edges inserted, 0 updated; version 1; 1 amounts NOT added or set", str(loaded))
 
     def test_more_than_a_program_takes_is_saved(self):
         """The file says so, and a store in process takes it."""

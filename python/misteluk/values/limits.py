@@ -65,7 +65,10 @@ class Limits(NamedTuple):
         """How a store may take more."""
         if self == OF_PROGRAM:
             return "A store in this process takes more (engine='library')"
-        return f"Make the store with more than {self}" if self != Limits() else "No store takes more"
+        if self.vertices or self.kinds:
+            return f"Make the store with more than {self}"
+        is_most = self.most_vertices(1) == MOST_VERTICES
+        return "No store takes more" + ("" if is_most else ", but vertices beside smaller weights (Limits(weight=..))")
 
     def shape(self, vertices: int, kinds: int) -> "Limits":
         """The limits for a desk of so many vertices and kinds, for which there is room: with some room to grow."""
