@@ -2,19 +2,19 @@
 import os
 import random
 import unittest
-from typing import Callable, List, Tuple
+from typing import Callable, List, Optional, Tuple
 
 from calls import Batch, Code, Desk, Operation, Refused, Version, fields, interface, view, whole
 from places import library
 
-INSERT, REMOVE = interface.INSERT, interface.REMOVE
+INSERT, ADD, REMOVE = interface.INSERT, interface.ADD, interface.REMOVE
 # Three names, two kinds and two batches.
 TINY = (3, 2, 2)
 
 
 class Limits(unittest.TestCase):
-    def open(self, blocks: int, limits: Tuple[int, int, int]) -> Desk:
-        desk, self.batch = Desk(library(), blocks, limits), Batch(library())
+    def open(self, blocks: int, limits: Tuple[int, int, int], weight: Optional[int] = None) -> Desk:
+        desk, self.batch = Desk(library(), blocks, limits, weight), Batch(library())
         self.addCleanup(desk.free)
         self.addCleanup(self.batch.free)
         return desk
@@ -76,6 +76,21 @@ class Limits(unittest.TestCase):
         self.assertEqual((code, done, fields(counts)), (Code.KINDS_FULL, 0, (1, 0, 0, 0, 0, 0, 0)))
         self.assertEqual(desk.insert_columns(b"k", names, [(0, 1, 7, 7)])[:2], (Code.OK, 1))
         self.assertEqual(desk.insert_columns(b"k", names, [(0, 1, 7, 7)])[:2], (Code.BATCHES_FULL, 0))
+
+    def test_a_limit_of_weights_stays(self) -> None:
+        """What is past it overflows, by columns too, also when the desk has begun anew; names become known."""
+        desk, names = self.open(64, (4, 2, 9), 10), [b"a", b"b", b"c", b"d"]
+        code, done, counts = desk.insert_columns(b"k", names, [(0, 1, 10, 1), (0, 2, 11, 2), (1, 2, -10, 3)])
+        self.assertEqual((code, done, fields(counts)), (Code.OK, 3, (1, 2, 0, 0, 0, 1, 0)))
+        past: List[Operation] = [(ADD, 0, 0, 1, 1, 4), (ADD, 0, 1, 2, -1, 4), (INSERT, 0, 3, 3, -11, 4)]
+        for number in (2, 1):
+            self.assertEqual(self.batch.append([b"k"], names, past), (Code.OK, 3))
+            self.assertEqual(fields(desk.apply(self.batch)), (number, 0, 0, 0, 0, 3, 0))
+            desk.rebase()
+            self.assertEqual((desk.limits(), desk.weight()), ((4, 2, 9), 10))
+        version = self.hold(desk)
+        self.assertEqual(version.names(), names)
+        self.assertEqual([it[:4] for it in version.edges(view(), 8)], [(0, 0, 1, 10), (0, 1, 2, -10)])
 
     def test_nothing_is_allowed(self) -> None:
         desk = self.open(16, (0, 0, 0))
