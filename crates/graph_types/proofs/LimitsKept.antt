@@ -1,4 +1,4 @@
--- What operations and batches do leaves the limits as they were, and no answer depends on them. Within limits sums of weights fit.
+-- What operations and batches do leaves the limits as they were, no answer depends on them, and within them sums of weights fit.
 use Rattle.std.proofs.Common.{◌≡◌, ℕ, ◌≤◌, ◌+◌, ◌*◌, ◌∙◌, refl, arith, List, [], ◌∷◌, Some, None, get_or, nat_abs, inl, inr}
 use Rattle.std.{proofs.lemmas.Nat.mul-le, specs.Prelude.{Result, Ok, Err, All}, specs.declared.option.Option.Option}
 use Rattle.std.proofs.lemmas.{Bool.cases_lt, List.Elements.{All-cons, All-tail}}
