@@ -101,8 +101,8 @@ most_fits places (e ∷ es) each =
     elim (cases_lt size most) [
       | inl light ↦ (most, All-cons (λ (x : Edge). IsWeightIn most x.weight) e es (omega arith) within, sums)
       | inr heavy ↦ (
-          size,
-          All-cons (λ (x : Edge). IsWeightIn size x.weight) e es (omega arith) (λ k d h. omega (arith, heavy, within k d h)),
-          here,
+        size,
+        All-cons (λ (x : Edge). IsWeightIn size x.weight) e es (omega arith) (λ k d h. omega (arith, heavy, within k d h)),
+        here,
       )
     ]
