@@ -1,5 +1,5 @@
 -- A version 0 over copies of another version's blocks.
-use Rattle.std.proofs.Common.{◌≡◌, ◌≢◌, ℕ, zero, suc, ◌+◌, ◌-◌, ◌<◌, ◌≤◌, List, [], ◌∷◌, ◌++◌, map, length, take, drop, get_or}
+use Rattle.std.proofs.Common.{◌≡◌, ◌≢◌, ℕ, zero, suc, ◌+◌, ◌*◌, ◌-◌, ◌<◌, ◌≤◌, List, [], ◌∷◌, ◌++◌, map, length, take, drop, get_or}
 use Rattle.std.proofs.Common.{refl, sym, ap, ap₂, subst, ◌∙◌, arith, inl, inr, All, AllPairs, length-append, ℤ, Bool, true, rules, w64}
 use Rattle.std.proofs.{Common.FitsSigned, lemmas.List.{append-nil, take-append-drop, take_all, drop_all, length-map, map-append}}
 use Rattle.std.proofs.lemmas.{List.{drop_more, get_or_past, Elements.{All-head, All-tail, All-cons}}, Bool.cases_lt}
