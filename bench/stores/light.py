@@ -7,15 +7,15 @@ from typing import Any, List, Tuple
 
 import numpy
 
-from bench.stores.caller import Names, View, fields
+from bench.stores.caller import STEP, View, fields
 from bench.stores.full import WEIGHT
 from bench.stores.small_walls import BLOCKS, KINDS, MOST_NAMES, NAMES, PRODUCT, SmallWalls
 from bench.stores.walled import Walled
 from misteluk.engine import interface
 from misteluk.engine.interface import Code
 
-# How many new names a batch has, how many of the last names are read back, and a limit of batches that keeps none.
-STEP, LAST, BATCHES = 1 << 18, 1_000, (1 << 32) - 1
+# How many new names a batch of these alone has, how many of the last names are read back, and a limit of batches that keeps none.
+NEW, LAST, BATCHES = 1 << 18, 1_000, (1 << 32) - 1
 
 
 def greatest_weight(names: int, kinds: int) -> int:
@@ -37,6 +37,15 @@ class Light:
     def __init__(self, walls: SmallWalls, count: int, blocks: int) -> None:
         self.checks, self.call, self.count, self.most = walls.checks, walls.call, count, greatest_weight(count, 1)
         self.it = walls.opened(count, 1, BATCHES, blocks, self.most)
+
+    def apply(self, names: Tuple[bytes, Any], sources: Any, targets: Any, weights: Any, times: Any) -> Tuple[int, ...]:
+        """What became of a batch of insertions, whose ends are places in a dictionary."""
+        done, count = c_uint64(), len(sources)
+        words: List[Any] = [b"e", byref(c_uint64(1)), 1, *names, numpy.zeros(count, "u1"), numpy.zeros(count, "u4"), sources,
+                            targets, weights, times]
+        self.call("batch_columns_within", self.it.batch, interface.MOST_OPERATIONS, *words, done)
+        self.checks.equal("operations", done.value, count)
+        return self.it.apply()[1:]
 
     def refused(self, what: str, source: bytes, target: bytes, weight: int) -> None:
         """An insertion of a name more is refused, and counts are as they were."""
@@ -70,18 +79,26 @@ class LightHub(Light):
     """A vertex with an edge to each of so many, of the greatest weight: their sum is as near to 2^63 as it can be."""
 
     def __init__(self, walls: SmallWalls, count: int) -> None:
-        super().__init__(walls, count, count // 32 + (1 << 17))
-        targets = numpy.arange(count, dtype="u4")
+        super().__init__(walls, count, count // 32 + 2 * STEP)
         self.weights, self.times = numpy.full(count, self.most, "i8"), numpy.arange(count, dtype="u8")
-        told = self.it.load(b"e", Names(count), numpy.zeros(count, "u4"), targets, self.weights)
-        self.checks.equal("edges", told, (count, 0))
 
     def run(self) -> None:
+        for first in range(0, self.count, STEP):
+            self.load(first, min(first + STEP, self.count))
         self.ask()
         self.refuse()
         self.change()
         self.ask()
         self.it.free()
+
+    def load(self, first: int, last: int) -> None:
+        """Edges to the names from one number to before another; a batch of all of these reads the long row once."""
+        (text, ends), count = dictionary(first, last), last - first
+        names = b"v0" + text, numpy.concatenate((numpy.array([2], "u8"), ends + numpy.uint64(2)))
+        targets = numpy.arange(1, count + 1, dtype="u4")
+        told = self.apply(names, numpy.zeros(count, "u4"), targets, self.weights[first:last], self.times[first:last])
+        self.checks.equal(f"edges from {first} on", told, (count, 0, 0, 0, 0, 0))
+        self.call.collect(self.it.desk)
 
     def ask(self) -> None:
         version, hold = self.call.hold(self.it.desk)
@@ -121,11 +138,11 @@ class MostNames(Light):
     """As many names as there may be. Insertions whose weights are past the limit make them known, and leave no edge."""
 
     def __init__(self, walls: SmallWalls) -> None:
-        super().__init__(walls, MOST_NAMES, 1 << 18)
+        super().__init__(walls, MOST_NAMES, NEW)
 
     def run(self) -> None:
-        for first in range(0, self.count, STEP):
-            self.add(first, min(first + STEP, self.count))
+        for first in range(0, self.count, NEW):
+            self.add(first, min(first + NEW, self.count))
         stat = self.call.stat(self.it.desk)
         self.checks.equal("counts", (stat.vertices, stat.kinds, stat.edges, stat.blocks_used), (self.count, 1, 0, 0))
         self.refuse()
@@ -136,12 +153,10 @@ class MostNames(Light):
         """Names from one number to before another, two by each insertion."""
         ends = numpy.arange(first, last, dtype="u4") - numpy.uint32(first)
         sources, targets = ends[::2].copy(), numpy.append(ends[1::2], ends[-1:])[:len(ends[::2])].copy()
-        done, count = c_uint64(), len(sources)
-        words: List[Any] = [b"e", byref(c_uint64(1)), 1, *dictionary(first, last), numpy.zeros(count, "u1"),
-                            numpy.zeros(count, "u4"), sources, targets, numpy.full(count, self.most + 1, "i8"),
-                            numpy.ones(count, "u8")]
-        self.call("batch_columns_within", self.it.batch, interface.MOST_OPERATIONS, *words, done)
-        self.checks.equal(f"operations from {first} on", (done.value, self.it.apply()[1:]), (count, (0, 0, 0, 0, count, 0)))
+        count = len(sources)
+        told = self.apply(dictionary(first, last), sources, targets, numpy.full(count, self.most + 1, "i8"),
+                          numpy.ones(count, "u8"))
+        self.checks.equal(f"insertions from {first} on", told, (0, 0, 0, 0, count, 0))
 
     def change(self) -> None:
         """An edge of the greatest weight to the last name."""
