@@ -1,7 +1,7 @@
 """The C library's store at the greatest of its limits, and one past each: a refusal has its code and leaves counts, edges and
 batch as they were, and what the limit allows is taken and read back, each edge and degree compared with numpy. There are as many
 names as one kind allows, as 64 allow, and few; a hub of 2^22 edges of the greatest weight; blocks, batches, operations, holds,
-names' bytes and times. With smaller weights there are a hub of 2^24 edges, to as many names, and as many names as may be at all.
+names' bytes and times. With smaller weights there are such a hub among 2^24 names, and as many names as may be at all.
 
     python3 -m bench run walls                      all
     python3 -m bench run walls --only hub kinds     these parts
@@ -83,7 +83,7 @@ PARTS = ["opening", "weights", "few", "names", "kinds", "hub", "light", "most", 
 def options(parser: argparse.ArgumentParser) -> None:
     parser.add_argument("--only", nargs="+", choices=PARTS, default=PARTS, metavar="PART", help=f"some of {', '.join(PARTS)}")
     parser.add_argument("--hub", type=int, default=22, metavar="POWER", help="2 to this power edges has the hub (22)")
-    parser.add_argument("--light", type=int, default=24, metavar="POWER", help="the same for smaller weights, 23 to 25 (24)")
+    parser.add_argument("--light", type=int, default=22, metavar="POWER", help="the same for smaller weights (22)")
     parser.add_argument("--rows", type=int, default=20, metavar="POWER", help="the same of rows that fill all blocks (20)")
     parser.add_argument("--wrong", default="", metavar="FUNCTION", help="one that is not called, and said to be OK")
 

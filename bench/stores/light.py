@@ -1,5 +1,5 @@
-"""Stores of smaller weights, which so may have more names: a vertex with an edge of the greatest weight to each of these, and as
-many names as there may be at all."""
+"""Stores of smaller weights, which so may have more names: a vertex with millions of edges of the greatest weight, and as many
+names as there may be at all."""
 from __future__ import annotations
 
 from ctypes import byref, c_uint32, c_uint64
@@ -14,8 +14,9 @@ from bench.stores.walled import Walled
 from misteluk.engine import interface
 from misteluk.engine.interface import Code
 
-# How many new names a batch of these alone has, how many of the last names are read back, and a limit of batches that keeps none.
-NEW, LAST, BATCHES = 1 << 18, 1_000, (1 << 32) - 1
+# The names of a hub's store; how many new ones a batch of these alone has, how many of the last are read back; and a limit of
+# batches that keeps none.
+NAMES_OF_HUB, NEW, LAST, BATCHES = 1 << 24, 1 << 18, 1_000, (1 << 32) - 1
 
 
 def greatest_weight(names: int, kinds: int) -> int:
@@ -47,6 +48,17 @@ class Light:
         self.checks.equal("operations", done.value, count)
         return self.it.apply()[1:]
 
+    def name(self, begin: int) -> None:
+        """Makes the names from this number on known, two by each insertion of a weight past the limit, which leaves no edge."""
+        for first in range(begin, self.count, NEW):
+            last = min(first + NEW, self.count)
+            ends = numpy.arange(last - first, dtype="u4")
+            sources = ends[::2].copy()
+            targets = numpy.append(ends[1::2], ends[-1:])[:len(sources)].copy()
+            told = self.apply(dictionary(first, last), sources, targets, numpy.full(len(sources), self.most + 1, "i8"),
+                              numpy.ones(len(sources), "u8"))
+            self.checks.equal(f"insertions from {first} on", told, (0, 0, 0, 0, len(sources), 0))
+
     def refused(self, what: str, source: bytes, target: bytes, weight: int) -> None:
         """An insertion of a name more is refused, and counts are as they were."""
         before = fields(self.call.stat(self.it.desk))
@@ -76,15 +88,16 @@ class Light:
 
 
 class LightHub(Light):
-    """A vertex with an edge to each of so many, of the greatest weight: their sum is as near to 2^63 as it can be."""
+    """A vertex with so many edges of the greatest weight, among more names."""
 
-    def __init__(self, walls: SmallWalls, count: int) -> None:
-        super().__init__(walls, count, count // 32 + 2 * STEP)
-        self.weights, self.times = numpy.full(count, self.most, "i8"), numpy.arange(count, dtype="u8")
+    def __init__(self, walls: SmallWalls, edges: int) -> None:
+        super().__init__(walls, NAMES_OF_HUB, edges // 32 + 2 * STEP)
+        self.edges, self.weights, self.times = edges, numpy.full(edges, self.most, "i8"), numpy.arange(edges, dtype="u8")
 
     def run(self) -> None:
-        for first in range(0, self.count, STEP):
-            self.load(first, min(first + STEP, self.count))
+        for first in range(0, self.edges, STEP):
+            self.load(first, min(first + STEP, self.edges))
+        self.name(self.edges)
         self.ask()
         self.refuse()
         self.change()
@@ -92,7 +105,7 @@ class LightHub(Light):
         self.it.free()
 
     def load(self, first: int, last: int) -> None:
-        """Edges to the names from one number to before another; a batch of all of these reads the long row once."""
+        """Edges to the names from one number to before another, in one batch."""
         (text, ends), count = dictionary(first, last), last - first
         names = b"v0" + text, numpy.concatenate((numpy.array([2], "u8"), ends + numpy.uint64(2)))
         targets = numpy.arange(1, count + 1, dtype="u4")
@@ -105,27 +118,25 @@ class LightHub(Light):
         self.last_names(version)
         found = [numpy.zeros(self.count, it) for it in ("u4", "u4", "i8")]
         self.call("version_degrees", version, View().given(), *found)
-        leaves = numpy.zeros(self.count, "i8")
-        leaves[0] = self.count
-        sums = leaves.copy()
-        sums[0] = self.weights.sum()
-        self.checks.equal("degrees", found, [leaves, numpy.ones(self.count, "i8"), sums])
+        leaves, enters, sums = (numpy.zeros(self.count, "i8") for _ in range(3))
+        leaves[0], sums[0], enters[:self.edges] = self.edges, self.weights.sum(), 1
+        self.checks.equal("degrees", found, [leaves, enters, sums])
         self.row(version)
         self.call.release(self.it.desk, (version, hold))
 
     def row(self, version: Any) -> None:
-        found, count = [numpy.zeros(self.count, it) for it in ("u4", "u4", "i8", "u8", "u8")], c_uint64()
+        found, count = [numpy.zeros(self.edges, it) for it in ("u4", "u4", "i8", "u8", "u8")], c_uint64()
         self.call("version_row", version, View().given(), 0, *found, count)
-        self.checks.equal("edges of the row", count.value, self.count)
+        self.checks.equal("edges of the row", count.value, self.edges)
         order = numpy.argsort(found[1])
-        places = numpy.arange(self.count)
+        places = numpy.arange(self.edges)
         for name, column, wanted in zip(("targets", "weights", "first times", "recent times"), found[1:],
                                         (places, self.weights, places, self.times)):
             self.checks.equal(name, column[order], wanted)
 
     def change(self) -> None:
         """What is past the limit, or would leave a sum past it, changes nothing; the limit itself is reached from both ends."""
-        late, most, it = self.count + 9, self.most, self.it
+        late, most, it = self.edges + 9, self.most, self.it
         for target, weight in ((1, most + 1), (2, -most - 1), (6, -most)):
             it.insert(b"e", b"v0", b"v%d" % target, weight, late)
         for target, amount in ((3, 1), (4, -most - 1), (5, -most), (5, -most), (5, -1)):
@@ -135,28 +146,18 @@ class LightHub(Light):
 
 
 class MostNames(Light):
-    """As many names as there may be. Insertions whose weights are past the limit make them known, and leave no edge."""
+    """As many names as there may be at all."""
 
     def __init__(self, walls: SmallWalls) -> None:
         super().__init__(walls, MOST_NAMES, NEW)
 
     def run(self) -> None:
-        for first in range(0, self.count, NEW):
-            self.add(first, min(first + NEW, self.count))
+        self.name(0)
         stat = self.call.stat(self.it.desk)
         self.checks.equal("counts", (stat.vertices, stat.kinds, stat.edges, stat.blocks_used), (self.count, 1, 0, 0))
         self.refuse()
         self.change()
         self.it.free()
-
-    def add(self, first: int, last: int) -> None:
-        """Names from one number to before another, two by each insertion."""
-        ends = numpy.arange(first, last, dtype="u4") - numpy.uint32(first)
-        sources, targets = ends[::2].copy(), numpy.append(ends[1::2], ends[-1:])[:len(ends[::2])].copy()
-        count = len(sources)
-        told = self.apply(dictionary(first, last), sources, targets, numpy.full(count, self.most + 1, "i8"),
-                          numpy.ones(count, "u8"))
-        self.checks.equal(f"insertions from {first} on", told, (0, 0, 0, 0, count, 0))
 
     def change(self) -> None:
         """An edge of the greatest weight to the last name."""
@@ -173,7 +174,7 @@ class MostNames(Light):
 class LightWalls(SmallWalls):
     """Limits of weights, and what fits next to them."""
 
-    light_edges = 1 << 24
+    light_edges = 1 << 22
 
     def weights(self) -> None:
         """How large weights may be next to so many names and kinds, and that none may be larger."""
