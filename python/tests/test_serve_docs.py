@@ -77,7 +77,7 @@ class Page(ServeCase):
                     failed, count = doctest.DocTestRunner(optionflags=doctest.ELLIPSIS).run(page, clear_globs=False)
                 self.assertEqual(failed, 0, said.getvalue())
                 known, tried = page.globs, tried + count
-        self.assertGreater(typed, 6)
+        self.assertGreater(typed, 5)
         self.assertGreater(tried, 5)
 
     def stat(self):
