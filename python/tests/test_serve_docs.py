@@ -61,7 +61,9 @@ class Page(ServeCase):
             return told
         self.shell.stdin.write(f"{command}\necho; echo that was it\n")
         self.shell.stdin.flush()
-        return "".join(iter(self.shell.stdout.readline, "that was it\n"))
+        lines = iter(self.shell.stdout.readline, "that was it\n")
+        # (A shell that does jobs also tells of one that has ended, sooner or later.)
+        return "".join(it for it in lines if not re.match(r"\[\d+\]\S? +Terminated ", it))
 
     def test_the_page(self):
         """Its blocks in their order, as a reader types them."""
@@ -77,7 +79,7 @@ class Page(ServeCase):
                     failed, count = doctest.DocTestRunner(optionflags=doctest.ELLIPSIS).run(page, clear_globs=False)
                 self.assertEqual(failed, 0, said.getvalue())
                 known, tried = page.globs, tried + count
-        self.assertGreater(typed, 6)
+        self.assertGreater(typed, 5)
         self.assertGreater(tried, 5)
 
     def stat(self):
