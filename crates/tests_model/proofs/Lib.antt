@@ -1,4 +1,0 @@
-mod Empty
-mod Held
-mod Openings
-mod Weights

@@ -1,4 +1,0 @@
-pub mod Told
-mod TakenBack
-pub mod NoRows
-mod Numbers
