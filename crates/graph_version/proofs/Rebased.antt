@@ -1,4 +1,4 @@
--- A version 0 over copies of another version's blocks.
+-- A version 0 over copies of another version's blocks, or over its very rows.
 use Rattle.std.proofs.Common.{◌≡◌, ◌≢◌, ℕ, zero, suc, ◌+◌, ◌*◌, ◌-◌, ◌<◌, ◌≤◌, List, [], ◌∷◌, ◌++◌, map, length, take, drop, get_or}
 use Rattle.std.proofs.Common.{refl, sym, ap, ap₂, subst, ◌∙◌, arith, inl, inr, All, AllPairs, length-append, ℤ, Bool, true, rules, w64}
 use Rattle.std.proofs.{Common.FitsSigned, lemmas.List.{append-nil, take-append-drop, take_all, drop_all, length-map, map-append}}
@@ -175,10 +175,11 @@ look_rows_of v blocks copy g is like same = record {
       like.copies.apart;
 }
 
-pub is_version_zero : (v : VersionView) (blocks : List BlockView) (copy : List (List BlockView)) (g : Graph) → IsVersion v
-    → LookLike v blocks copy → g ≡ content v → IsVersion (version_of g [] copy)
-is_version_zero v blocks copy g is like same = record {
-  rows = look_rows_of v blocks copy g is like same;
+-- over rows with the other version's edges
+version_over : (v : VersionView) (rows : List (List BlockView)) (g : Graph) → IsVersion v → g ≡ content v → AreRowsOf g rows
+    → IsVersion (version_of g [] rows)
+version_over v rows g is same are = record {
+  rows = are;
   within = subst IsWithin (sym same) is.within;
   small = record {
     names = subst (λ (h : Graph). length h.names ≤ h.limits.names) (sym same) is.small.names;
@@ -190,23 +191,51 @@ is_version_zero v blocks copy g is like same = record {
 }
 
 -- what the other version keeps this one keeps
+kept_over : (names kinds old_names old_kinds : Book) (v : VersionView)
+    (batches : List (List NamedOp)) (rows : List (List BlockView)) (g : Graph) (edges : ℕ) (keeps old_keeps : Bool)
+    → IsSummary old_names old_kinds edges old_keeps v → keeps ≡ keeps_batches v.opening.limits
+    → names ≡ old_names → kinds ≡ old_kinds → batches ≡ [] → g ≡ content v → AreRowsOf g rows
+    → IsSummary names kinds edges keeps (version_of g batches rows)
+kept_over names kinds old_names old_kinds v batches rows g edges keeps old_keeps is kept n k none same are =
+    subst (λ (bs : List (List NamedOp)). IsSummary names kinds edges keeps (version_of g bs rows)) (sym none) (record {
+      names_are = n ∙ is.names_are ∙ ap vertex_book (sym same);
+      kinds_are = k ∙ is.kinds_are ∙ ap kind_book (sym same);
+      edges_are = is.edges_are ∙ ap (λ (h : Graph). len h.edges) (sym same);
+      keeps_are = kept ∙ ap keeps_batches (sym (ap (λ (h : Graph). h.limits) same ∙ limits_left_by v.batches v.opening));
+      version = version_over v rows g is.version same are;
+    })
+
 pub rebased_kept : (names kinds old_names old_kinds : Book) (v : VersionView) (blocks : List BlockView)
     (batches : List (List NamedOp)) (copy : List (List BlockView)) (g : Graph) (edges : ℕ) (keeps old_keeps : Bool)
     → IsSummary old_names old_kinds edges old_keeps v → keeps ≡ keeps_batches v.opening.limits
     → names ≡ old_names → kinds ≡ old_kinds → batches ≡ [] → LookLike v blocks copy → g ≡ content v
     → IsSummary names kinds edges keeps (version_of g batches copy)
 rebased_kept names kinds old_names old_kinds v blocks batches copy g edges keeps old_keeps is kept n k none like same =
-    subst (λ (bs : List (List NamedOp)). IsSummary names kinds edges keeps (version_of g bs copy)) (sym none) (record {
-      names_are = n ∙ is.names_are ∙ ap vertex_book (sym same);
-      kinds_are = k ∙ is.kinds_are ∙ ap kind_book (sym same);
-      edges_are = is.edges_are ∙ ap (λ (h : Graph). len h.edges) (sym same);
-      keeps_are = kept ∙ ap keeps_batches (sym (ap (λ (h : Graph). h.limits) same ∙ limits_left_by v.batches v.opening));
-      version = is_version_zero v blocks copy g is.version like same;
-    })
+    kept_over names kinds old_names old_kinds v batches copy g edges keeps old_keeps is kept n k none same
+    (look_rows_of v blocks copy g is.version like same)
 
 pub rebased_is : (v : VersionView) (blocks : List BlockView) (batches : List (List NamedOp)) (copy : List (List BlockView))
     (g : Graph) → batches ≡ [] → LookLike v blocks copy → g ≡ content v → IsRebased v (version_of g batches copy)
 rebased_is v blocks batches copy g none like same = grind (arith, common_steps, look_layout)
+
+-- Over the very rows of the other version
+
+pub reopened_kept : (names kinds old_names old_kinds : Book) (v : VersionView)
+    (batches : List (List NamedOp)) (rows : List (List BlockView)) (g : Graph) (edges : ℕ) (keeps old_keeps : Bool)
+    → IsSummary old_names old_kinds edges old_keeps v → keeps ≡ keeps_batches v.opening.limits
+    → names ≡ old_names → kinds ≡ old_kinds → batches ≡ [] → rows ≡ v.rows → g ≡ content v
+    → IsSummary names kinds edges keeps (version_of g batches rows)
+reopened_kept names kinds old_names old_kinds v batches rows g edges keeps old_keeps is kept n k none very same =
+    kept_over names kinds old_names old_kinds v batches rows g edges keeps old_keeps is kept n k none same
+    (subst (AreRowsOf g) (sym very) (subst (λ (h : Graph). AreRowsOf h v.rows) (sym same) is.version.rows))
+
+pub reopened_is : (v : VersionView) (batches : List (List NamedOp)) (rows : List (List BlockView)) (g : Graph)
+    → batches ≡ [] → rows ≡ v.rows → g ≡ content v → IsRebased v (version_of g batches rows)
+reopened_is v batches rows g none very same = record {
+  opening = same;
+  batches = none;
+  rows = λ source. ap (λ (rs : List (List BlockView)). layout_of rs source) very;
+}
 
 -- Blocks copied one after another
 

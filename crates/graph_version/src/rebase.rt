@@ -42,6 +42,23 @@ impl Version {
         })
     }
 
+    /// Version 0 of a store that opens with what this version holds, as [`Version::rebased`], over the very rows and blocks of this
+    /// one. It takes memory and time by rows, 8,192 at a time, and not by blocks or edges; where batches are kept, also for the
+    /// content as plain lists.
+    pub fn reopened(&self, alloc: Global) -> Result<Version, AllocError>
+        ensures rebased { IfOk result (IsRebased self.now) }
+        ensures rows { IfOk result (λ version. version.rows ≡ self.now.rows) }
+    {
+        Ok(Version {
+            opening: self.as_opening(alloc)?,
+            names: self.names.share()?,
+            kinds: self.kinds.share()?,
+            batches: BatchLog::new(alloc, keeps_batches(self.opening.limits())),
+            rows: self.rows.share()?,
+            edges: self.edges,
+        })
+    }
+
     /// These blocks, as many as this version has and of different numbers, with what this version's blocks hold, in order of
     /// sources and rows: those of [`Version::rebased`].
     ///
