@@ -1,5 +1,5 @@
 -- What a desk keeps at its opening, and over a collection.
-use Rattle.std.proofs.Common.{◌≡◌, ℕ, zero, suc, ◌+◌, ◌≤◌, Bool, List, [], ◌∷◌, replicate, length, refl, sym, ap, arith, count_by, ◌∙◌}
+use Rattle.std.proofs.Common.{◌≡◌, ℕ, zero, suc, ◌≤◌, Bool, List, [], ◌∷◌, replicate, length, refl, sym, ap, arith, count_by, ◌∙◌}
 use Rattle.std.{proofs.lemmas.{Grind.common_steps, List.length-map}, specs.Prelude.slice_set}
 use Rattle.graph_version.specs.{Rows.blocks_of, Rows.numbers_of, Versions.VersionView, Logs.keeps_batches}
 use Rattle.block_pool.{specs.Pools.marked, proofs.Grants.length-marked}

@@ -4,11 +4,11 @@ use Rattle.std.proofs.lemmas.{Bool.{eq-eqb, eqb-true, true≢false}, Grind.commo
 use Rattle.std.proofs.lemmas.List.{get_or-set_same, get_or-set_other, get_or-replicate, length-replicate}
 use Rattle.std.proofs.Math.ListN.{length-set}
 use Rattle.std.specs.{Prelude.{slice_set}, declared.option.Option.{Option, TheVariants.{None, Some}}}
-use Rattle.block_reclamation.specs.{declared.copies.{Pin.Pin, TheConstants.SEATS}, Board.{BoardState, with_pin}, Copies.{pin_at, settled, unsettled}}
+use Rattle.block_reclamation.specs.{declared.copies.{Pin.Pin, TheConstants.SEATS}, Board.{BoardState, no_pins, with_pin}, Copies.{pin_at, settled, unsettled}}
 use Rattle.store_steps.specs.Desks.{DeskView}
 use Rattle.desk.specs.Owned.{OwnedView, IsOwned, IsCounted, IsSeatFor, count_at, held_pin, opened_owned, with_seat}
 
-pub opened_is_owned : (d : DeskView) (n : ℕ) → IsOwned (opened_owned d n)
+opened_is_owned : (d : DeskView) (n : ℕ) → IsOwned (opened_owned d n)
 opened_is_owned d n = record {
   pins = length-replicate {A = Option Pin} SEATS None;
   seats = length-replicate {A = ℕ} SEATS 0;
@@ -20,6 +20,13 @@ opened_is_owned d n = record {
   apart = λ a b number x y p q.
       let none : pin_at (replicate SEATS None) a ≡ None = get_or-replicate SEATS a None None x in cc;
 }
+
+-- and so it is with a board that was made
+pub opens_owned : (d : DeskView) (n : ℕ) (board : BoardState) → board ≡ no_pins
+    → IsOwned (record { desk = d; board = board; counts = replicate SEATS 0; opening = n })
+opens_owned d n board is =
+    subst (λ (b : BoardState). IsOwned (record { desk = d; board = b; counts = replicate SEATS 0; opening = n })) (sym is)
+    (opened_is_owned d n)
 
 -- One seat is changed
 

@@ -8,3 +8,4 @@ pub mod Openings
 pub mod Owned
 pub mod Ready
 pub mod Refusals
+pub mod Told

@@ -31,12 +31,13 @@ use crate::errors::{ApplyError, OpenError};
 use crate::journals::Journal;
 use crate::last::Last;
 use crate::ready::{Accepted, Granted, Load, Ready, grant_for};
+use crate::told_numbers::ToldNumbers;
 use crate::zero::Zero;
 use batch_apply::{Plan, apply_alone_over};
 use block_pool::Pool;
 use block_reclamation::PinCopy;
 use core::mem::replace_with;
-use graph_types::{Batch, Limits, List};
+use graph_types::{Batch, Limits};
 use graph_version::Version;
 use std::alloc::{AllocError, Global};
 use std::marker::Model;
@@ -47,7 +48,7 @@ use std::sync::Arc;
 pub(crate) struct Parts {
     pub(crate) alloc: Global,
     /// The numbers of version 0's blocks, from which the journal replays.
-    pub(crate) opened: List<u32>,
+    pub(crate) opened: ToldNumbers,
     pub(crate) last: Last,
     pub(crate) pool: Pool,
     pub(crate) journal: Journal,

@@ -20,8 +20,10 @@ mod last;
 mod moves;
 mod owned;
 mod ready;
+mod reopening;
 mod seats;
 mod told;
+mod told_numbers;
 mod zero;
 
 pub use copies::KeptCopy;

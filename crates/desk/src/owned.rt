@@ -18,7 +18,7 @@ ghost use Rattle.desk.specs.Owned.{IsSeatFor, IsSeatOf, ReleasesOnce, count_at, 
 ghost use Rattle.desk.specs.Refusals.{Refuses, IsWithin};
 
 use crate::desks::{Collected, Desk};
-use crate::errors::{ApplyError, HoldError, OpenError, ReleaseError};
+use crate::errors::{ApplyError, HoldError, ReleaseError};
 use crate::ready::Accepted;
 use crate::seats::seat_with;
 use block_reclamation::{Board, Pin, SEATS, SeatNo};
@@ -205,9 +205,13 @@ impl OwnedDesk {
         Ok(())
     }
 
-    /// Opens the desk anew over what the last version holds, with as many blocks: version 0 begins with its content and is laid out
-    /// as it, no batch is kept, and nothing is retired or held. Versions that were held answer on: they have blocks of their own
-    /// now. `AllocError` where memory was wanting, or no further opening can be counted; all is as it was then.
+    /// Opens the desk anew over what the last version holds, in the very blocks: version 0 begins with its content and is laid out
+    /// as it, no batch is kept, and nothing is retired or held. Versions that were held answer on; the desk doesn't count their
+    /// blocks any more, and a batch that uses such a block takes new memory for it. `AllocError` where memory was wanting, or no
+    /// further opening can be counted; all is as it was then.
+    ///
+    /// It takes memory and time by blocks, 4 bytes each, and not by edges; where batches are kept, also for the content as plain
+    /// lists.
     pub fn rebase(&mut self) -> Result<(), AllocError>
         ensures zero { OnOk result (IsVersionZero (length self.old.desk.pool) self.new.desk.last) }
         ensures rebased { OnOk result (IsRebased self.old.desk.last self.new.desk.last) }
@@ -215,11 +219,19 @@ impl OwnedDesk {
             ≡ opened_owned (opened_desk (length self.old.desk.pool) self.new.desk.last) (self.old.opening + 1)) }
         ensures unchanged { OnErr result (self.new ≡ self.old) }
     {
-        let Some(opening) = self.opening.checked_add(1) else {
+        let Some(next) = self.opening.checked_add(1) else {
             return Err(AllocError);
         };
-        let opened = reopened(&self.desk)?;
-        *self = OwnedDesk::opened(opened, opening);
+        self.desk.reopen()?;
+        let OwnedDesk {
+            board,
+            counts,
+            opening,
+            ..
+        } = self;
+        *board = Board::new();
+        *counts = [0; SEATS];
+        *opening = next;
         Ok(())
     }
 
@@ -269,20 +281,5 @@ fn held_pin(number: u64) -> Pin
     Pin {
         number,
         is_settled: true,
-    }
-}
-
-/// A desk over what the last version holds, with as many blocks.
-fn reopened(desk: &Desk) -> Result<Desk, AllocError>
-    ensures zero { IfOk result (λ d. IsVersionZero (length desk.now.pool) d.last) }
-    ensures rebased { IfOk result (λ d. IsRebased desk.now.last d.last) }
-    ensures desk { IfOk result (λ d. d ≡ opened_desk (length desk.now.pool) d.last) }
-{
-    desk.facts();
-    match Desk::open_over(desk.allocator(), desk.blocks(), desk.last()) {
-        Ok(desk) => Ok(desk),
-        // The last version's blocks are among the desk's.
-        Err(OpenError::PoolEmpty { .. }) => unreachable!(),
-        Err(OpenError::OutOfMemory) => Err(AllocError),
     }
 }

@@ -10,17 +10,18 @@ ghost use Rattle.desk.specs.Openings.{OpensWith};
 ghost use Rattle.desk.specs.Refusals.{block_count};
 
 use crate::moves::born_blocks;
+use crate::told_numbers::ToldNumbers;
 use block_pool::{Grant, Pool};
-use graph_types::{Limits, List};
+use graph_types::Limits;
 use graph_version::Version;
 use std::alloc::{AllocError, Global};
 use std::sync::Arc;
 
-/// Version 0 of a store with the pool that its blocks are of, and their numbers.
+/// Version 0 of a store with the pool that its blocks are of, and their numbers, which the journal replays from.
 #[derive(Drop)]
 pub(crate) struct Zero {
     pub(crate) version: Arc<Version>,
-    pub(crate) numbers: List<u32>,
+    pub(crate) numbers: ToldNumbers,
     pub(crate) pool: Pool,
 }
 
@@ -32,9 +33,10 @@ impl Zero {
         ensures opens { IfOk result (OpensWith blocks) }
         ensures version { IfOk result (λ zero. arc_value {X = Version} zero.version ≡ empty_version_in limits) }
     {
+        let version = Version::empty_within(alloc, limits);
         Ok(Zero {
-            version: Arc::new(alloc, Version::empty_within(alloc, limits))?,
-            numbers: List::of(Vec::new(alloc)),
+            numbers: ToldNumbers::of(&version),
+            version: Arc::new(alloc, version)?,
             pool: Pool::new(alloc, blocks)?,
         })
     }
@@ -57,8 +59,8 @@ impl Zero {
         let number = zero.number();
         born_blocks(&mut pool, numbers.as_slice(), number);
         Ok(Zero {
+            numbers: ToldNumbers::of(&zero),
             version: Arc::new(alloc, zero)?,
-            numbers: List::of(numbers),
             pool,
         })
     }

@@ -18,7 +18,6 @@ returns-clause-opens c =
     let z : VersionView = c.in_ok-zero.zero in
     let numbers : List ℕ = c.in-Ok.field-0.numbers.items in
     let lent : c.as_slice.result.now ≡ numbers = c.as_slice.ensures.value in
-    let listed : c.of.result ≡ numbers = c.of.ensures in
     let shown : arc_value {X = Version} c.in_ok-new.field-0 ≡ z = c.in_ok-new.ensures.ok in
     let free : AreFree (replicate c.args.blocks Free) numbers =
     subst (λ p. AreFree p numbers) c.in_ok-pool.ensures c.in-Ok.ensures.numbers.0 in
@@ -29,6 +28,6 @@ returns-clause-opens c =
     c.born_blocks.ensures ∙ ap (λ ns. marked ns (Used c.number-number.result) c.grant.new.self) lent in
     opens_with c.args.blocks _ z shown
     (zero_is c.args.blocks c.args.version.now z numbers free same c.number-number.ensures.version c.in_ok-zero.ensures.rebased)
-    (listed ∙ sym same)
+    c.of.ensures
     (zero_pool c.args.blocks z numbers c.in_ok-pool.pool c.grant.new.self c.born_blocks.new.pool c.number-number.result
     c.in_ok-pool.ensures c.in-Ok.ensures.used born c.number-number.ensures.number (ap length c.in_ok-zero.ensures.rebased.batches) same)
