@@ -7,7 +7,8 @@ use Rattle.std.{proofs.lemmas.List.Sums.{sum_by-append, count_by-le-length, sum-
 use Rattle.std.{specs.List.list_any, proofs.lemmas.Grind.common_steps}
 use Rattle.graph_types.specs.{Graph.{Graph, Key}, Step.{is_before, is_expire}, declared.batches.NamedOp.NamedOp}
 use Rattle.graph_types.specs.declared.{batches.NamedOp.TheVariants.{Insert, Incr, Remove, Expire}, changes.EdgeChange.EdgeChange}
-use Rattle.edge_block.specs.{Slots.{BlockView, Slot, edges_in, has_before}, Operations.{names_after, kinds_after}}
+use Rattle.graph_types.specs.Parts.{names_after, kinds_after}
+use Rattle.edge_block.specs.Slots.{BlockView, Slot, edges_in, has_before}
 use Rattle.edge_block.{specs.Batches.{Resolved, AtKey, InAll, resolved, resolved_by, shard_of, shard_ops}, proofs.Counts.count_more}
 use Rattle.graph_version.specs.Rows.{row_of, blocks_of}
 use Rattle.batch_shards.specs.{Done.{layout_by, sources_in, steps_in}, Groups.is_expiry, Spending.old_blocks, Shards.resolved_at}

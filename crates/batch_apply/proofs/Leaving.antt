@@ -3,7 +3,7 @@ use Rattle.std.proofs.Common.{◌≡◌, ◌∙◌, ◌+◌, ◌≤◌, ℕ, zer
 use Rattle.std.{specs.List.{range_with_len, AllZip}, proofs.lemmas.Grind.common_steps}
 use Rattle.graph_types.specs.{Graph.Graph, Step.{after, after_all}, declared.batches.NamedOp.NamedOp}
 use Rattle.graph_types.proofs.LimitsKept.{limits_after_all}
-use Rattle.edge_block.specs.Operations.{names_after, kinds_after}
+use Rattle.graph_types.specs.Parts.{names_after, kinds_after}
 use Rattle.vertex_names.specs.Book.{Book}
 use Rattle.graph_version.specs.Kept.{vertex_book, kind_book}
 use Rattle.batch_apply.specs.{Plan.{names_all, kinds_all, with_names, IsUnplanned}, Planned.{MeetsNeitherLimit, IsPlanRefusal}}

@@ -4,7 +4,7 @@ use Rattle.std.proofs.Common.{IsTrue, Option, Some, None, Result, refl, sym, ap,
 use Rattle.std.{proofs.lemmas.{Slice.Eq.bytes_eq-Decides, Grind.common_steps}, specs.{Result.{IsErrAnd, IfErr}, Str.bytes_eq}}
 use Rattle.graph_types.specs.{Step.{with_name, number_of}, Answer.is_listed, declared.batches.NamedOp.NamedOp}
 use Rattle.graph_types.proofs.NameLists.{length-with_name}
-use Rattle.edge_block.specs.Operations.{names_after, kinds_after}
+use Rattle.graph_types.specs.Parts.{names_after, kinds_after}
 use Rattle.vertex_names.specs.{Book.Book, declared.book.AddError.AddError}
 use Rattle.batch_apply.specs.{declared.resolve.Ends.Ends, Plan.{known, names_all, kinds_all, IsRefusal}}
 

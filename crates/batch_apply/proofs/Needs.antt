@@ -8,7 +8,8 @@ use Rattle.std.{proofs.lemmas.Map.Steps.length-le_from_distinct_below, specs.{Pr
 use Rattle.std.{specs.List.{range_with_len, AllZip}, proofs.lemmas.{List.FromFn.length-enumerate_from, Grind.common_steps}}
 use Rattle.graph_types.specs.Limits.{most_names, most_operations}
 use Rattle.graph_types.{specs.declared.batches.NamedOp.NamedOp, proofs.Counts.apart_tail}
-use Rattle.edge_block.specs.{Slots.{BlockView, has_before}, Operations.{Parts, parts_in, parts_of, names_after, kinds_after}}
+use Rattle.graph_types.specs.Parts.{Parts, parts_in, parts_of, names_after, kinds_after}
+use Rattle.edge_block.specs.Slots.{BlockView, has_before}
 use Rattle.edge_block.specs.Batches.{Resolved, resolve_parts, resolved_by}
 use Rattle.graph_version.{specs.{Rows.{row_of, blocks_of}, Versions.{VersionView, IsVersion}}, proofs.BlockCounts.few_blocks}
 use Rattle.batch_shards.specs.{Done.{layout_by, sources_in}, Groups.is_expiry, Spending.{old_blocks, needed}}

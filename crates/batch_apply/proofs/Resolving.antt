@@ -3,7 +3,8 @@ use Rattle.std.proofs.Common.{◌≡◌, ℕ, List, [], ◌∷◌, ◌++◌, len
 use Rattle.std.proofs.{Common.{arith, append_assoc, ◌≤◌, drop}, lemmas.List.{Elements.{All-nil, All-cons}, length-map}}
 use Rattle.std.proofs.lemmas.{List.{map-append, append-nil, drop_all}, Grind.common_steps}
 use Rattle.graph_types.specs.{Graph.Key, declared.batches.NamedOp.NamedOp}
-use Rattle.edge_block.specs.{Operations.{Parts, parts_in, names_after, kinds_after}, Batches.{Resolved, IsPlaced}}
+use Rattle.graph_types.specs.Parts.{Parts, parts_in, names_after, kinds_after}
+use Rattle.edge_block.specs.Batches.{Resolved, IsPlaced}
 use Rattle.edge_block.specs.Batches.{resolve_parts, resolved_by}
 use Rattle.batch_apply.specs.{declared.resolve.ResolvedOp.ResolvedOp, Plan.{shown, ends_by, ends_in, key_from, with_kind}}
 

@@ -3,8 +3,8 @@ use Rattle.std.proofs.Common.{◌≡◌, ◌<◌, ℕ, List, [], ◌∷◌, leng
 use Rattle.std.proofs.lemmas.{List.Elements.{All-nil, All-cons}, Grind.common_steps}
 use Rattle.graph_types.specs.{Graph.{Graph, Key}, Step.after_all, declared.batches.NamedOp.NamedOp}
 use Rattle.graph_types.proofs.NameLists.{number_of-lt}
-use Rattle.edge_block.specs.{Rows.Shape, Batches.{resolve_parts, resolved, resolved_by, IsWithin, IsLayoutOf}, Operations.{Parts, OfEdge}}
-use Rattle.edge_block.specs.Operations.{OfAll, parts_in, names_after, kinds_after}
+use Rattle.graph_types.specs.Parts.{Parts, OfEdge, OfAll, parts_in, names_after, kinds_after}
+use Rattle.edge_block.specs.{Rows.Shape, Batches.{resolve_parts, resolved, resolved_by, IsWithin, IsLayoutOf}}
 use Rattle.batch_shards.specs.{Done.sources_in, declared.shard.Shard.Shard}
 use Rattle.batch_apply.specs.{Plan.names_all, Shards.IsSourceBelow, Shards.IsShardOf, Shards.latest}
 use Rattle.batch_apply.proofs.{OldRows.old_within, Names.no_fewer_all, Leaving.names_left}

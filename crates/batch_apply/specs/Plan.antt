@@ -3,7 +3,7 @@ use Rattle.std.specs.{Prelude.{ℕ, ◌≡◌, ◌<◌, ◌≤◌, List, [], ◌
 use Rattle.std.specs.declared.option.Option.{Option, TheVariants.{None, Some}}
 use Rattle.graph_types.specs.{Graph.Key, Step.number_of, declared.batches.NamedOp.NamedOp, Changes.IsChange}
 use Rattle.vertex_names.specs.{Book.Book, declared.book.AddError.{AddError, TheVariants.{NamesFull, OutOfMemory}}}
-use Rattle.edge_block.specs.Operations.{Parts, OfEdge, OfAll, parts_of, names_after, kinds_after}
+use Rattle.graph_types.specs.Parts.{Parts, OfEdge, OfAll, parts_of, names_after, kinds_after}
 use Rattle.edge_block.specs.Batches.{Resolved, AtKey, InAll, is_known}
 use Rattle.batch_apply.specs.declared.{plans.PlanError.PlanError, resolve.{Ends.Ends, EdgeKey.EdgeKey, SeenKind.SeenKind}}
 use Rattle.batch_apply.specs.declared.resolve.ResolvedOp.{ResolvedOp, TheVariants.{Edge, Expire}}

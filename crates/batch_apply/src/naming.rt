@@ -3,7 +3,7 @@
 ghost use Rattle.std.specs.Prelude.{◌≡◌, ◌≤◌, ℕ, List, map, IfOk, IfErr, OnOk, All};
 ghost use Rattle.graph_types.specs.Valid.{IsValid};
 ghost use Rattle.graph_types.specs.Limits.{weight_limit};
-ghost use Rattle.edge_block.specs.Operations.{parts_in};
+ghost use Rattle.graph_types.specs.Parts.{parts_in};
 ghost use Rattle.edge_block.specs.Batches.{resolve_parts, resolved_by, IsPlaced};
 ghost use Rattle.batch_apply.specs.Plan.{names_all, kinds_all, shown, with_names, AreFound, Fits, IsInRange, IsSeen, IsUnplanned};
 

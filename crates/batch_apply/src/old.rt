@@ -1,7 +1,7 @@
 //! The rows of a version from which a batch's expiries may take edges.
 
 ghost use Rattle.std.specs.Prelude.{◌≡◌, IfOk};
-ghost use Rattle.edge_block.specs.Operations.{parts_of};
+ghost use Rattle.graph_types.specs.Parts.{parts_of};
 ghost use Rattle.graph_version.specs.Rows.{row_of};
 ghost use Rattle.graph_version.specs.Sharing.{block_values};
 ghost use Rattle.batch_shards.specs.Spending.{old_blocks};

@@ -7,7 +7,7 @@ ghost use Rattle.vertex_names.specs.Book.{Book};
 ghost use Rattle.graph_types.specs.declared.batches.NamedOp.{NamedOp};
 ghost use Rattle.graph_types.specs.Valid.{is_name, is_kind_name, has_names, IsValid};
 ghost use Rattle.std.specs.Option.{option_map};
-ghost use Rattle.edge_block.specs.Operations.{parts_in, parts_of, names_after, kinds_after};
+ghost use Rattle.graph_types.specs.Parts.{parts_in, parts_of, names_after, kinds_after};
 ghost use Rattle.graph_types.specs.Limits.{weight_limit};
 ghost use Rattle.batch_apply.specs.Plan as plan;
 ghost use Rattle.batch_apply.specs.Plan.{known, ends_in, names_all, key_from, key_of, shown, with_names, kind_by};

@@ -5,7 +5,7 @@ use Rattle.std.specs.declared.option.Option.TheVariants.{None, Some}
 use Rattle.graph_types.specs.{Graph.{Graph, Key, Stamp, key_cmp}, Step.{number_of, key_in, outcome_at}}
 use Rattle.graph_types.specs.declared.batches.{NamedOp.NamedOp, Outcome.{Outcome, TheVariants.{Absent, Expired}}}
 use Rattle.graph_types.specs.{declared.changes.EdgeChange.EdgeChange, Answer.is_listed}
-use Rattle.edge_block.specs.Operations.{Parts, OfEdge, OfAll, parts_in, names_after, kinds_after}
+use Rattle.graph_types.specs.Parts.{Parts, OfEdge, OfAll, parts_in, names_after, kinds_after}
 use Rattle.edge_block.specs.Rows.{Shape, OpenBlock, row_at, edge_at, untouched, change_row, expire_row, old_in_row, row_end}
 use Rattle.edge_block.specs.Rows.{taken_in, dropped_in, IsRow}
 pub use Rattle.graph_types.specs.Answer.{is_listed as is_known}

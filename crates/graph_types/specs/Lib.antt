@@ -4,6 +4,7 @@ pub mod Coded
 pub mod Valid
 pub mod Changes
 pub mod Step
+pub mod Parts
 pub mod View
 pub mod Degrees
 pub mod Analyses

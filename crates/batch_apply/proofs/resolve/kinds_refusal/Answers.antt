@@ -1,5 +1,5 @@
 use Rattle.std.proofs.Common.{◌≤◌, length, subst}
-use Rattle.edge_block.specs.Operations.{kinds_after}
+use Rattle.graph_types.specs.Parts.{kinds_after}
 use Rattle.vertex_names.specs.{Book.Book, declared.book.AddError.AddError}
 use Rattle.batch_apply.{specs.Plan.{names_all, IsRefusal}, proofs.Names.kinds_refused}
 use Rattle.batch_apply.proofs.resolve.kinds_refusal.Goals as goal

@@ -1,6 +1,6 @@
 use Rattle.std.proofs.Common.{rules, sym, ap}
 use Rattle.graph_types.specs.declared.batches.NamedOp.{NamedOp}
-use Rattle.edge_block.specs.Operations.{names_after}
+use Rattle.graph_types.specs.Parts.{names_after}
 use Rattle.batch_apply.specs.Plan.{with_names}
 use Rattle.batch_apply.proofs.resolve.op_ends.Goals as goal
 
