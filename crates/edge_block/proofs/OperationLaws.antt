@@ -5,16 +5,17 @@ use Rattle.std.proofs.lemmas.{Bool.{true≢false, false≢true, eqb-true, lt-ltb
 use Rattle.std.specs.{List.range_with_len, Option.option_or, Ordering.eq_by_cmp}
 use Rattle.std.specs.{Cmp.Equal-is, FinMap.FinMap, FinMap.get}
 use Rattle.graph_types.specs.{Graph.{Graph, Key, Stamp, key_cmp}, Step.{after_all, set_at, stamp_after, outcome_at, changed}}
-use Rattle.graph_types.specs.Step.{changed_key, change_outcome, after, outcome, outcomes, with_name, names_made}
+use Rattle.graph_types.specs.Step.{changed_key, change_outcome, outcome, outcomes, with_name, names_made}
 use Rattle.graph_types.specs.{Step.{kinds_made, expired, count_before}, Answer.is_listed}
 use Rattle.graph_types.specs.declared.batches.{NamedOp.NamedOp, Outcome.Outcome}
 use Rattle.graph_types.specs.declared.{batches.Outcome.TheVariants.{Absent, Expired}, changes.EdgeChange.EdgeChange}
 use Rattle.graph_types.specs.declared.changes.EdgeChange.TheVariants.{Insert as ToInsert, Incr as ToIncr, Remove as ToRemove}
-use Rattle.graph_types.specs.Parts.{Parts, OfEdge, OfAll, parts_in, names_by, kinds_by, names_after, kinds_after}
+use Rattle.graph_types.specs.Parts.{Parts, OfEdge, OfAll, names_by, kinds_by, names_after, kinds_after}
 use Rattle.edge_block.specs.{Slots.{NoKeyTwice, AreDistinct}, Rows.{OpenBlock, block_at, row_at, open_at, edge_at, IsRow}}
 use Rattle.edge_block.specs.{Rows.{change_row, shapes}, Batches.{Resolved, InAll, resolve_parts, resolved, resolved_by, key_is_of, key_step}}
 use Rattle.edge_block.specs.Batches.{rows_step, IsWithin, rows_all, key_outcome, outcome_in, outcomes_all, IsLayoutOf}
 use Rattle.graph_types.proofs.{Keys.exact_keys, NameLists.length-after_all-names, Expiry.get-expired, WeightsKept.set_at_get}
+use Rattle.graph_types.proofs.OperationParts.{after_parts, outcome_parts, parts_over, after_is, outcome_is, names_over, kinds_over}
 use Rattle.graph_types.proofs.NameLists.{any_before_end, appears-with_name, stays-with_name, named, length-names_made, length-kinds_made}
 use Rattle.edge_block.proofs.{RowLaws.{IsOpenRow, change_sets}, ListedRows.{tests, tied, count_shown}, ExpiryLaws.expire_stays}
 use Rattle.edge_block.proofs.{ExpiryLaws.{expire_open, was_there}, Changes.none_is}
@@ -26,32 +27,6 @@ Shows rows edges = (k : Key) → edge_at (rows k.source) (k.kind, k.target) ≡ 
 -- no row has two edges of one key
 abbrev pub AreOpenRows : (ℕ → List OpenBlock) → Type 0
 AreOpenRows rows = (source : ℕ) → IsOpenRow (rows source)
-
--- what an operation leaves, and its outcome, by its parts
-abbrev after_parts : Parts → Graph → Graph
-after_parts (OfEdge change kind source target) g = changed change kind source target g
-after_parts (OfAll time) g = record g { edges = expired time g.edges }
-
-abbrev outcome_parts : Parts → Graph → Outcome
-outcome_parts (OfEdge change kind source target) g = change_outcome change kind source target g
-outcome_parts (OfAll time) g = Expired (count_before time g.edges)
-
--- under the limit of the graph
-abbrev parts_over : NamedOp → Graph → Parts
-parts_over op g = parts_in g.limits.weight op
-
-after_is : (op : NamedOp) (g : Graph) → after op g ≡ after_parts (parts_over op g) g
-after_is h0 g = grind (arith, common_steps)
-
-outcome_is : (op : NamedOp) (g : Graph) → outcome op g ≡ outcome_parts (parts_over op g) g
-outcome_is h0 g = grind (arith, common_steps)
-
--- a limit of weights changes no names
-names_over : (most : ℕ) (op : NamedOp) (names : List (List ℕ)) → names_by (parts_in most op) names ≡ names_after op names
-names_over most h0 names = grind (arith, common_steps)
-
-kinds_over : (most : ℕ) (op : NamedOp) (kinds : List (List ℕ)) → kinds_by (parts_in most op) kinds ≡ kinds_after op kinds
-kinds_over most h0 kinds = grind (arith, common_steps)
 
 never : {A : Type 0} (a : Bool) (x y : A) → y ≡ cond (a && false) x y
 never h0 x y = grind (arith, common_steps)

@@ -12,7 +12,9 @@ ghost use Rattle.graph_types.specs.declared.batches.NamedOp.TheVariants.{Expire}
 use crate::PlainError;
 use crate::edges::{EdgeKey, clear_before, marks_at, put_at};
 use crate::names::{make_kind, make_names, number_of};
-use graph_types::{Content, Edge, EdgeChange, Limits, List, Name, NamedOp, Outcome, change_edge};
+use graph_types::{
+    Content, Edge, EdgeChange, Limits, List, Name, NamedOp, OpParts, Outcome, change_edge, parts_in,
+};
 use std::alloc::{AllocError, Global};
 
 /// A copy of a content, whose lists can grow.
@@ -58,42 +60,11 @@ impl Draft {
         ensures content { OnOk result (IsContentIn limits (shown_by self.new)) }
         ensures refused { IfErr result (λ e. Exceeds e (step.after op.now (graph_in limits (shown_by self.old)))) }
     {
-        let most = limits.weight();
-        match op {
-            NamedOp::Insert {
-                kind,
-                source,
-                target,
-                weight,
-                time,
-            } => {
-                let change = EdgeChange::Insert {
-                    weight: *weight,
-                    time: *time,
-                    most,
-                };
+        match parts_in(op, limits.weight()) {
+            OpParts::OfEdge(change, kind, source, target) => {
                 self.change(limits, change, kind, source, target)
             }
-            NamedOp::Incr {
-                kind,
-                source,
-                target,
-                amount,
-                time,
-            } => {
-                let change = EdgeChange::Incr {
-                    amount: *amount,
-                    time: *time,
-                    most,
-                };
-                self.change(limits, change, kind, source, target)
-            }
-            NamedOp::Remove {
-                kind,
-                source,
-                target,
-            } => self.change(limits, EdgeChange::Remove, kind, source, target),
-            NamedOp::Expire { time } => Ok(self.expire(limits, *time)),
+            OpParts::OfAll(time) => Ok(self.expire(limits, time)),
         }
     }
 
