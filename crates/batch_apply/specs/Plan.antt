@@ -1,9 +1,9 @@
 -- The numbers of a batch's names, each operation by the names at its place.
-use Rattle.std.specs.{Prelude.{ℕ, ◌≡◌, ◌<◌, ◌≤◌, List, [], ◌∷◌, length, if◌then◌else◌}, Option.{option_map, IfSome}}
+use Rattle.std.specs.{Prelude.{ℕ, ◌≡◌, ◌<◌, ◌≤◌, List, ◌∷◌, length, if◌then◌else◌}, Option.{option_map, IfSome}}
 use Rattle.std.specs.declared.option.Option.{Option, TheVariants.{None, Some}}
 use Rattle.graph_types.specs.{Graph.Key, Step.number_of, declared.batches.NamedOp.NamedOp, Changes.IsChange}
 use Rattle.vertex_names.specs.{Book.Book, declared.book.AddError.{AddError, TheVariants.{NamesFull, OutOfMemory}}}
-use Rattle.graph_types.specs.Parts.{Parts, OfEdge, OfAll, parts_of, names_after, kinds_after}
+use Rattle.graph_types.specs.Parts.{Parts, OfEdge, OfAll, parts_of, names_after_all, kinds_after_all}
 use Rattle.edge_block.specs.Batches.{Resolved, AtKey, InAll, is_known}
 use Rattle.batch_apply.specs.declared.{plans.PlanError.PlanError, resolve.{Ends.Ends, EdgeKey.EdgeKey, SeenKind.SeenKind}}
 use Rattle.batch_apply.specs.declared.resolve.ResolvedOp.{ResolvedOp, TheVariants.{Edge, Expire}}
@@ -39,15 +39,6 @@ kind_by kinds (OfAll time) = None
 -- a kind that was seen has its number
 abbrev pub IsSeen : List (List ℕ) → Option SeenKind → Type 0
 IsSeen kinds seen = IfSome seen (λ k. known kinds k.text.now ≡ Some k.number.0)
-
--- the names, and the kinds, after operations, one after another
-abbrev pub names_all : List NamedOp → List (List ℕ) → List (List ℕ)
-names_all [] names = names
-names_all (op ∷ ops) names = names_all ops (names_after op names)
-
-abbrev pub kinds_all : List NamedOp → List (List ℕ) → List (List ℕ)
-kinds_all [] kinds = kinds
-kinds_all (op ∷ ops) kinds = kinds_all ops (kinds_after op kinds)
 
 -- the key of three numbers, if all of them are known
 abbrev pub key_from : Option ℕ → Option ℕ → Option ℕ → Option Key
@@ -87,7 +78,7 @@ IsRefusal OutOfMemory book names = Unit {0}
 
 -- when a batch is not planned: for the names first, and for the kinds only where the names fit
 abbrev pub IsUnplanned : PlanError → List NamedOp → Book → Book → Type 0
-IsUnplanned plan.NamesFull ops names kinds = names.limit < length (names_all ops names.names)
-IsUnplanned plan.KindsFull ops names kinds = (kinds.limit < length (kinds_all ops kinds.names))
-    × (length (names_all ops names.names) ≤ names.limit)
+IsUnplanned plan.NamesFull ops names kinds = names.limit < length (names_after_all ops names.names)
+IsUnplanned plan.KindsFull ops names kinds = (kinds.limit < length (kinds_after_all ops kinds.names))
+    × (length (names_after_all ops names.names) ≤ names.limit)
 IsUnplanned plan.OutOfMemory ops names kinds = Unit {0}

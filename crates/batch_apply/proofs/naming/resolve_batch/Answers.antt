@@ -1,9 +1,10 @@
 use Rattle.std.proofs.Common.{◌≡◌, ◌∙◌, ◌∷◌, ◌++◌, ◌+◌, ℕ, List, map, drop, drop-cons, add-one, rules, sym, ap, subst}
 use Rattle.std.proofs.lemmas.List.{Elements.All-push}
 use Rattle.graph_types.specs.declared.batches.NamedOp.{NamedOp}
-use Rattle.edge_block.specs.{Operations.names_after, Operations.kinds_after, Batches.resolved_by}
+use Rattle.graph_types.specs.Parts.{names_after, kinds_after, names_after_all, kinds_after_all}
+use Rattle.edge_block.specs.Batches.{resolved_by}
 use Rattle.vertex_names.specs.Book.{Book}
-use Rattle.batch_apply.specs.Plan.{names_all, kinds_all, shown, AreFound, IsInRange, IsSeen}
+use Rattle.batch_apply.specs.Plan.{shown, AreFound, IsInRange, IsSeen}
 use Rattle.batch_apply.proofs.{Found.{all_later, rest_found}, Resolving.{one_more, placed_in, all_resolved}}
 use Rattle.batch_apply.proofs.naming.resolve_batch.Goals as goal
 
@@ -19,8 +20,8 @@ loop-k-preserved c =
     let more_names : c.resolve_op.new.names.names ≡ names_after op names = ap (λ (b : Book). b.names) c.in_ok-op.ensures.names in
     let more_kinds : c.resolve_op.new.kinds.names ≡ kinds_after op kinds = ap (λ (b : Book). b.names) c.in_ok-op.ensures.kinds in
     record {
-      names = ap (names_all rest) more_names ∙ ap (λ l. names_all l names) (sym step) ∙ c.loop-k.invariant.names;
-      kinds = ap (kinds_all rest) more_kinds ∙ ap (λ l. kinds_all l kinds) (sym step) ∙ c.loop-k.invariant.kinds;
+      names = ap (names_after_all rest) more_names ∙ ap (λ l. names_after_all l names) (sym step) ∙ c.loop-k.invariant.names;
+      kinds = ap (kinds_after_all rest) more_kinds ∙ ap (λ l. kinds_after_all l kinds) (sym step) ∙ c.loop-k.invariant.kinds;
       found = (λ i. map shown (c.in-Ok.ensures.items i) ++ resolved_by c.args.most rest (more_names i) (more_kinds i))
           ∙ one_more c.args.most (drop k ops) rest op c.loop-k.found.items c.in_ok-op.op names kinds
           (resolved_by c.args.most ops c.args.names.now.names c.args.kinds.now.names) step c.in_ok-op.ensures.op c.loop-k.invariant.found;
