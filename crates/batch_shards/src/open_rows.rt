@@ -3,7 +3,6 @@
 ghost use Rattle.std.specs.Prelude.{◌≡◌, ◌+◌, ◌++◌, ◌<◌, ◌≤◌, ℕ, List, [], IfOk, OnOk, All};
 ghost use Rattle.std.specs.Option.{option_to_list};
 ghost use Rattle.std.specs.Prelude.{vec_len, vec_capacity, length, map, count_by, ◌%◌, ◌^◌};
-ghost use Rattle.graph_types.specs.declared.batches.Outcome.TheVariants.{Expired};
 ghost use Rattle.graph_types.specs.Changes.{IsChange};
 ghost use Rattle.edge_block.specs.Rows as layout;
 ghost use Rattle.edge_block.specs.Rows.{OpenBlock, has_none, shape_of};
@@ -19,6 +18,7 @@ ghost use Rattle.batch_shards.specs.Notes.{IsNoted};
 
 use crate::groups::{Groups, edge_behind, first_edge, later_expiry};
 use crate::notes::Notes;
+use crate::outcomes::put_together;
 use crate::room::Room;
 use crate::row_blocks::RowBlock;
 use crate::rows::{Hints, apply_step, expire_blocks, least_time};
@@ -82,16 +82,6 @@ fn expire_row(row: &mut OpenRow, fresh: &mut Vec<Arc<Block>>, time: u64) -> Resu
     Ok(count)
 }
 
-/// What is told of an expiry, with what was told of it before in other rows.
-fn counted(before: Outcome, count: u64) -> Outcome
-    ensures { result ≡ told (together before (Expired count)) }
-{
-    match before {
-        Outcome::Expired(counted) => Outcome::Expired(counted.wrapping_add(count)),
-        _ => Outcome::Expired(count),
-    }
-}
-
 /// Does one operation on a row, and answers its outcome in this row and those before.
 fn do_act(
     row: &mut OpenRow,
@@ -117,7 +107,7 @@ fn do_act(
         }
         Act::Expire(time) => {
             let count = expire_row(row, fresh, time)?;
-            Ok(counted(before, count))
+            Ok(put_together(before, Outcome::Expired(count)))
         }
     }
 }

@@ -19,9 +19,9 @@ pub fn write_outcomes(outcomes: &mut Vec<Outcome>, found: Vec<(u32, Outcome)>)
     }
 }
 
-/// What is told of an operation after one more shard: an expiry's counts are added, and of all else the shard's outcome
+/// What is told of an operation after one more row or shard: an expiry's counts are added, and of all else the later outcome
 /// stands.
-fn put_together(before: Outcome, found: Outcome) -> Outcome
+pub(crate) fn put_together(before: Outcome, found: Outcome) -> Outcome
     ensures { result ≡ told (together before found) }
 {
     let Outcome::Expired(so_far) = before else {
