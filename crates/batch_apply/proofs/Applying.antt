@@ -18,7 +18,8 @@ use Rattle.batch_shards.specs.{RowBlocks.block_of, RowBlocks.blocks_of, RowBlock
 use Rattle.batch_shards.specs.{Done.Exchanges, Done.sources_in, Done.rows_by, Births.births_end, Births.births_dropped}
 use Rattle.batch_shards.specs.{Births.open_row, Births.births_after, Births.dropped_births, declared.shard.Shard.Shard}
 use Rattle.batch_shards.{specs.declared.shard.ShardDone.ShardDone, proofs.Places.count_by-append}
-use Rattle.batch_apply.{specs.Shards.IsShardOf, specs.Planned.MeetsNeitherLimit, proofs.Resolving.as_many_resolved}
+use Rattle.graph_types.specs.Refusals.{MeetsNeitherLimit}
+use Rattle.batch_apply.{specs.Shards.IsShardOf, proofs.Resolving.as_many_resolved}
 use Rattle.batch_apply.specs.{Plans.written_all, Shards.ArePlanned, declared.{applied.Applied.Applied, workers.Job.Job}}
 use Rattle.batch_apply.specs.{Applied.{IsApplied, ReplacesRows, row_among, written_from}, Gathered.{IsDealt, AreDone}}
 use Rattle.batch_apply.proofs.{Told.told_exact, Written.all_written, Written.all_sources, Placed.times, Placed.among_is}

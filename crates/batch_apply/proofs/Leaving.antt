@@ -1,13 +1,13 @@
 -- A plan's names are those that the batch rule leaves, and its refusals the batch rule's.
-use Rattle.std.proofs.Common.{◌≡◌, ◌∙◌, ◌+◌, ◌≤◌, ℕ, zero, suc, List, [], ◌∷◌, ◌++◌, length, refl, ap, subst, arith}
+use Rattle.std.proofs.Common.{◌≡◌, ◌∙◌, ◌+◌, ◌≤◌, ℕ, zero, suc, List, [], ◌∷◌, ◌++◌, length, refl, sym, ap, subst, arith}
 use Rattle.std.{specs.List.{range_with_len, AllZip}, proofs.lemmas.Grind.common_steps}
 use Rattle.graph_types.specs.{Graph.Graph, Step.after_all, declared.batches.NamedOp.NamedOp}
 use Rattle.graph_types.proofs.LimitsKept.{limits_after_all}
 use Rattle.graph_types.{specs.Parts.{names_after_all, kinds_after_all}, proofs.OperationParts.{names_of_all, kinds_of_all}}
 use Rattle.vertex_names.specs.Book.{Book}
 use Rattle.graph_version.specs.Kept.{vertex_book, kind_book}
-use Rattle.batch_apply.specs.{Plan.{with_names, IsUnplanned}, Planned.{MeetsNeitherLimit, IsPlanRefusal}}
-use Rattle.batch_apply.specs.declared.plans.PlanError.{PlanError}
+use Rattle.graph_types.specs.{Refusals.{MeetsNeitherLimit, IsLimitRefusal}, declared.refusals.ApplyError.ApplyError}
+use Rattle.batch_apply.specs.Plan.{with_names, graph_by, IsUnplanned}
 
 one_more : {A : Type 0} (R : ℕ → A → Type 0) (first n : ℕ) (xs : List A) (x : A) → AllZip R (range_with_len first n) xs
     → R (first + n) x → AllZip R (range_with_len first (suc n)) (xs ++ x ∷ [])
@@ -31,9 +31,17 @@ pub kinds_book : (ops : List NamedOp) (g : Graph) (old new : Book) → old ≡ k
 kinds_book ops g old new was is = grind (arith, common_steps, kinds_of_all, limits_after_all)
 
 -- the batch rule's refusal is that of the books of the graph's names
-pub plan_refused : (error : PlanError) (ops : List NamedOp) (g : Graph) (names kinds : Book) → names ≡ vertex_book g
-    → kinds ≡ kind_book g → IsUnplanned error ops names kinds → IsPlanRefusal error ops g
-plan_refused error ops g names kinds names_are kinds_are refused = grind (arith, common_steps, names_of_all, kinds_of_all)
+pub plan_refused : (error : ApplyError) (ops : List NamedOp) (g : Graph) (names kinds : Book) → names ≡ vertex_book g
+    → kinds ≡ kind_book g → IsUnplanned error ops names kinds → IsLimitRefusal error ops g
+plan_refused error ops g names kinds names_are kinds_are refused =
+    let by : Graph = graph_by names kinds in
+    let same_names : (after_all ops by).names ≡ (after_all ops g).names =
+    sym (names_of_all ops by) ∙ ap (λ (b : Book). names_after_all ops b.names) names_are ∙ names_of_all ops g in
+    let same_kinds : (after_all ops by).kinds ≡ (after_all ops g).kinds =
+    sym (kinds_of_all ops by) ∙ ap (λ (b : Book). kinds_after_all ops b.names) kinds_are ∙ kinds_of_all ops g in
+    let names_few : names.limit ≡ g.limits.names = ap (λ (b : Book). b.limit) names_are in
+    let kinds_few : kinds.limit ≡ g.limits.kinds = ap (λ (b : Book). b.limit) kinds_are in
+    grind (arith, common_steps, same_names, same_kinds, names_few, kinds_few)
 
 -- books within their limits are those of a batch that meets neither
 pub neither_limit : (ops : List NamedOp) (g : Graph) (names kinds : Book) → names ≡ vertex_book (after_all ops g)

@@ -4,8 +4,9 @@ use Rattle.std.proofs.Common.{IsTrue, Option, Some, None, Result, refl, sym, ap,
 use Rattle.std.{proofs.lemmas.{Slice.Eq.bytes_eq-Decides, Grind.common_steps}, specs.{Result.{IsErrAnd, IfErr}, Str.bytes_eq}}
 use Rattle.graph_types.specs.{Step.{with_name, number_of}, Answer.is_listed, declared.batches.NamedOp.NamedOp}
 use Rattle.graph_types.{specs.Parts.{names_after, kinds_after, names_after_all, kinds_after_all}, proofs.OperationParts.{no_fewer_all, no_fewer_kinds_all}}
+use Rattle.graph_types.{specs.declared.refusals.ApplyError.TheVariants.{NamesFull, KindsFull}, proofs.OperationParts.{names_of_all, kinds_of_all}}
 use Rattle.vertex_names.specs.{Book.Book, declared.book.AddError.AddError}
-use Rattle.batch_apply.specs.{declared.resolve.Ends.Ends, Plan.{known, IsRefusal}}
+use Rattle.batch_apply.specs.{declared.resolve.Ends.Ends, Plan.{known, graph_by, IsRefusal, IsUnplanned}}
 
 -- a listed name is listed among more, with its number
 listed_next : (name x : List ℕ) (names more : List (List ℕ)) (found : Bool)
@@ -70,6 +71,18 @@ refused_all error old book ops k op step same limit refused = grind (arith, comm
 pub kinds_refused : (op : NamedOp) (behind : List NamedOp) (kinds : Book) → kinds.limit < length (kinds_after op kinds.names)
     → kinds.limit < length (kinds_after_all (op ∷ behind) kinds.names)
 kinds_refused op behind kinds refused = grind (arith, common_steps, no_fewer_kinds_all)
+
+-- a refusal of a book is one of the batch, for the names, or for the kinds where the names fit
+pub unplanned_names : (ops : List NamedOp) (names kinds : Book) → names.limit < length (names_after_all ops names.names)
+    → IsUnplanned NamesFull ops names kinds
+unplanned_names ops names kinds full = omega (arith, full, ap length (names_of_all ops (graph_by names kinds)))
+
+pub unplanned_kinds : (ops : List NamedOp) (names kinds : Book) → kinds.limit < length (kinds_after_all ops kinds.names)
+    → length (names_after_all ops names.names) ≤ names.limit → IsUnplanned KindsFull ops names kinds
+unplanned_kinds ops names kinds full fit = (
+  omega (arith, full, ap length (kinds_of_all ops (graph_by names kinds))),
+  λ past. let same = ap length (names_of_all ops (graph_by names kinds)) in omega arith,
+)
 
 -- and so is one of its names
 pub names_refused : (error : AddError) (op : NamedOp) (behind : List NamedOp) (names : Book)

@@ -1,13 +1,13 @@
 -- The numbers of a batch's names, each operation by the names at its place.
 use Rattle.std.specs.{Prelude.{ℕ, ◌≡◌, ◌<◌, ◌≤◌, List, ◌∷◌, length, if◌then◌else◌}, Option.{option_map, IfSome}}
 use Rattle.std.specs.declared.option.Option.{Option, TheVariants.{None, Some}}
-use Rattle.graph_types.specs.{Graph.Key, Step.number_of, declared.batches.NamedOp.NamedOp, Changes.IsChange}
+use Rattle.graph_types.specs.{Graph.{Graph, Key}, Limits.standard_limits, Step.{number_of, empty_graph}, Changes.IsChange}
+use Rattle.graph_types.specs.{Refusals.IsLimitRefusal, declared.{batches.NamedOp.NamedOp, refusals.ApplyError.ApplyError}}
 use Rattle.vertex_names.specs.{Book.Book, declared.book.AddError.{AddError, TheVariants.{NamesFull, OutOfMemory}}}
-use Rattle.graph_types.specs.Parts.{Parts, OfEdge, OfAll, parts_of, names_after_all, kinds_after_all}
+use Rattle.graph_types.specs.Parts.{Parts, OfEdge, OfAll, parts_of}
 use Rattle.edge_block.specs.Batches.{Resolved, AtKey, InAll, is_known}
-use Rattle.batch_apply.specs.declared.{plans.PlanError.PlanError, resolve.{Ends.Ends, EdgeKey.EdgeKey, SeenKind.SeenKind}}
+use Rattle.batch_apply.specs.declared.resolve.{Ends.Ends, EdgeKey.EdgeKey, SeenKind.SeenKind}
 use Rattle.batch_apply.specs.declared.resolve.ResolvedOp.{ResolvedOp, TheVariants.{Edge, Expire}}
-use Rattle.batch_apply.specs.declared.plans.PlanError.TheVariants as plan
 
 -- a name's number, if it has appeared
 abbrev pub known : List (List ℕ) → List ℕ → Option ℕ
@@ -71,14 +71,20 @@ with_names book names = record book { names = names }
 abbrev pub Fits : Book → Type 0
 Fits book = length book.names ≤ book.limit
 
--- the refusal of names that would be more than the limit; want of memory may come at any time
+-- the refusal of names that would be more than the limit; out of memory may come at any time
 abbrev pub IsRefusal : AddError → Book → List (List ℕ) → Type 0
 IsRefusal NamesFull book names = book.limit < length names
 IsRefusal OutOfMemory book names = Unit {0}
 
--- when a batch is not planned: for the names first, and for the kinds only where the names fit
-abbrev pub IsUnplanned : PlanError → List NamedOp → Book → Book → Type 0
-IsUnplanned plan.NamesFull ops names kinds = names.limit < length (names_after_all ops names.names)
-IsUnplanned plan.KindsFull ops names kinds = (kinds.limit < length (kinds_after_all ops kinds.names))
-    × (length (names_after_all ops names.names) ≤ names.limit)
-IsUnplanned plan.OutOfMemory ops names kinds = Unit {0}
+-- the graph of which books have the names and the kinds, with their limits and no edges
+abbrev pub graph_by : Book → Book → Graph
+graph_by names kinds =
+    record empty_graph {
+      names = names.names;
+      kinds = kinds.names;
+      limits = record standard_limits { names = names.limit; kinds = kinds.limit };
+    }
+
+-- when a batch is not planned
+abbrev pub IsUnplanned : ApplyError → List NamedOp → Book → Book → Type 0
+IsUnplanned error ops names kinds = IsLimitRefusal error ops (graph_by names kinds)

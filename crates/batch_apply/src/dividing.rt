@@ -13,17 +13,16 @@ ghost use Rattle.graph_version.specs.Rows.{row_of};
 ghost use Rattle.batch_shards.specs.Done.{layout_by, sources_in};
 ghost use Rattle.batch_shards.specs.Spending.{needed};
 ghost use Rattle.batch_apply.specs.Plan.{shown, AreFound, IsInRange};
-ghost use Rattle.batch_apply.specs.Planned.{MeetsNeitherLimit, IsPlanRefusal};
+ghost use Rattle.graph_types.specs.Refusals.{MeetsNeitherLimit, IsLimitRefusal};
 ghost use Rattle.batch_apply.specs.Shards.{IsShardOf, latest};
 ghost use Rattle.batch_apply.specs.OldRows.{AreOldRows};
 
 use crate::naming::resolve_batch;
 use crate::old::OldRow;
-use crate::plans::PlanError;
 use crate::resolve::{Ends, ResolvedOp};
 use crate::shards::{Needing, shard_for};
 use batch_shards::Shard;
-use graph_types::Batch;
+use graph_types::{ApplyError, Batch};
 use graph_version::Version;
 use std::alloc::{AllocError, Global};
 use std::thread::{Threads, map_indices};
@@ -47,7 +46,7 @@ pub fn name_batch(
     version: &Version,
     batch: &Batch,
     found: &[Ends],
-) -> Result<NamedBatch, PlanError>
+) -> Result<NamedBatch, ApplyError>
     requires { AreFound (content version.now).names batch.now found.now }
     ensures names { IfOk result (λ n. n.names ≡ vertex_book (after_all batch.now (content version.now))) }
     ensures kinds { IfOk result (λ n. n.kinds ≡ kind_book (after_all batch.now (content version.now))) }
@@ -57,7 +56,7 @@ pub fn name_batch(
     ensures changes { IfOk result (λ n. All IsInRange n.ops.items) }
     ensures version { IsVersion version.now }
     ensures limits { OnOk result (MeetsNeitherLimit batch.now (content version.now)) }
-    ensures refused { IfErr result (λ error. IsPlanRefusal error batch.now (content version.now)) }
+    ensures refused { IfErr result (λ error. IsLimitRefusal error batch.now (content version.now)) }
 {
     let mut names = version.names().share()?;
     let mut kinds = version.kinds().share()?;

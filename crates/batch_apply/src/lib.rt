@@ -26,6 +26,6 @@ pub use laws::{
 };
 pub use old::{OldRow, old_rows};
 pub use planning::{plan, plan_with};
-pub use plans::{Plan, PlanError};
+pub use plans::Plan;
 pub use source_laws::law_sources_within;
 pub use workers::{Gate, Job, PassAll, do_all};

@@ -8,9 +8,8 @@ ghost use Rattle.edge_block.specs.Batches.{resolve_parts, resolved_by, IsPlaced}
 ghost use Rattle.batch_apply.specs.Plan.{shown, with_names, AreFound, Fits, IsInRange, IsSeen, IsUnplanned};
 
 use crate::finding::found_at;
-use crate::plans::PlanError;
 use crate::resolve::{Ends, ResolvedOp, SeenKind, resolve_op};
-use graph_types::{MOST_WEIGHT, NamedOp, OpParts, parts_in};
+use graph_types::{ApplyError, MOST_WEIGHT, NamedOp, OpParts, parts_in};
 use std::alloc::Global;
 use vertex_names::NameBook;
 
@@ -44,7 +43,7 @@ pub fn resolve_batch(
     most: u64,
     ops: &[NamedOp],
     found_before: &[Ends],
-) -> Result<Vec<ResolvedOp>, PlanError>
+) -> Result<Vec<ResolvedOp>, ApplyError>
     requires limit { kinds.old.limit ≤ 64 }
     requires within { Fits names.old × Fits kinds.old }
     requires most { most ≤ weight_limit }
@@ -73,7 +72,7 @@ pub fn resolve_batch(
         )?;
         seen = kind_seen(asked, op);
         let Ok(()) = found.push(op) else {
-            return Err(PlanError::OutOfMemory);
+            return Err(ApplyError::OutOfMemory);
         };
     }
     Ok(found)

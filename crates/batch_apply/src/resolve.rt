@@ -13,8 +13,7 @@ ghost use Rattle.batch_apply.specs.Plan as plan;
 ghost use Rattle.batch_apply.specs.Plan.{known, ends_in, key_from, key_of, shown, with_names, kind_by};
 ghost use Rattle.batch_apply.specs.Plan.{Fits, IsFound, IsSeen, IsInRange, IsRefusal, IsUnplanned};
 
-use crate::plans::PlanError;
-use graph_types::{EdgeChange, KindId, MOST_WEIGHT, NamedOp, OpParts, parts_in};
+use graph_types::{ApplyError, EdgeChange, KindId, MOST_WEIGHT, NamedOp, OpParts, parts_in};
 use vertex_names::{AddError, NameBook, is_same_name};
 
 /// The numbers of an operation's source and target: none where a name has not appeared.
@@ -272,13 +271,14 @@ fn resolved_op(op: &NamedOp, most: u64, ends: Ends, kind: Option<KindId>) -> Res
 }
 
 /// Why a batch isn't planned whose names are refused.
-fn names_refusal(error: AddError) -> PlanError
+#[tactic(auto, using(crate::proofs::Names::unplanned_names))]
+fn names_refusal(error: AddError) -> ApplyError
     ensures { (ops : List NamedOp) (names kinds : Book) → IsRefusal error names (names_after_all ops names.names)
         → IsUnplanned result ops names kinds }
 {
     match error {
-        AddError::NamesFull => PlanError::NamesFull,
-        AddError::OutOfMemory => PlanError::OutOfMemory,
+        AddError::NamesFull => ApplyError::NamesFull,
+        AddError::OutOfMemory => ApplyError::OutOfMemory,
     }
 }
 
@@ -303,16 +303,16 @@ fn add_names(names: &mut NameBook, ops: &[NamedOp]) -> Result<(), AddError>
 
 /// Why a batch isn't planned that is refused for an operation's kind, and has these operations behind that one: for its
 /// names, where they don't fit.
-fn kinds_refusal(error: AddError, names: &mut NameBook, behind: &[NamedOp]) -> PlanError
+fn kinds_refusal(error: AddError, names: &mut NameBook, behind: &[NamedOp]) -> ApplyError
     requires within { Fits names.old }
     requires valid { All IsValid behind.now }
     ensures { (op : NamedOp) (before kinds : Book) → names.old ≡ with_names before (names_after op before.names)
         → IsRefusal error kinds (kinds_after op kinds.names) → IsUnplanned result (op ∷ behind.now) before kinds }
 {
     match error {
-        AddError::OutOfMemory => PlanError::OutOfMemory,
+        AddError::OutOfMemory => ApplyError::OutOfMemory,
         AddError::NamesFull => match add_names(names, behind) {
-            Ok(()) => PlanError::KindsFull,
+            Ok(()) => ApplyError::KindsFull,
             Err(error) => names_refusal(error),
         },
     }
@@ -330,7 +330,7 @@ pub fn resolve_op(
     behind: &[NamedOp],
     found: Ends,
     seen: Option<SeenKind<'_>>,
-) -> Result<ResolvedOp, PlanError>
+) -> Result<ResolvedOp, ApplyError>
     requires limit { kinds.old.limit ≤ 64 }
     requires within { Fits names.old × Fits kinds.old }
     requires op { IsValid op.now }

@@ -16,7 +16,8 @@ use Rattle.store_steps.proofs.GrantedBlocks.{taken_movable, dropped_movable, unu
 use Rattle.store_steps.proofs.{GrantedBlocks.{born_movable, born_given_back}, ChangedLists.length-changed}
 use Rattle.block_pool.proofs.Grants.{length-marked}
 use Rattle.batch_apply.{specs.declared.plans.Plan.Plan, proofs.Asked.needs_within}
-use Rattle.desk.specs.declared.{entries.JournalEntry.JournalEntry, errors.ApplyError.ApplyError}
+use Rattle.graph_types.specs.declared.refusals.ApplyError.{ApplyError}
+use Rattle.desk.specs.declared.entries.JournalEntry.{JournalEntry}
 use Rattle.desk.specs.{declared.applying.Prepared.Prepared, Kept.{IsKept, desk_of, entry_of}, Applying.IsPrepared}
 use Rattle.desk.specs.{Applying.{AreUsedOnce, AreBornOnce}, Refusals.{Refuses, RefusesGrant, IsPlanned, IsWithin, asked}}
 use Rattle.desk.{specs.Refusals.block_count, proofs.UsedBlocks.used_blocks}

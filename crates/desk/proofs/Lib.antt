@@ -6,3 +6,4 @@ pub mod OwnedLaws
 pub mod UsedBlocks
 pub mod Zeros
 pub mod Readied
+pub mod Refused

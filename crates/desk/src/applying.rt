@@ -15,16 +15,16 @@ ghost use Rattle.block_reclamation.specs.declared.status.BlockStatus.TheVariants
 ghost use Rattle.desk.specs.Applying.{IsPrepared};
 ghost use Rattle.desk.specs.Refusals.{Refuses, RefusesGrant, IsPlanned, asked};
 
-use crate::errors::ApplyError;
-use batch_apply::{Applied, Plan, PlanError, Rewritten, plan};
+use batch_apply::{Applied, Plan, Rewritten, plan};
 use block_pool::{Grant, Pool};
 use edge_block::Block;
-use graph_types::{Batch, List, Outcome, VertexId};
+use graph_types::{ApplyError, Batch, List, Outcome, VertexId};
 use graph_version::Version;
 use std::alloc::{AllocError, Global};
 use std::sync::Arc;
 
 /// The plan of a batch after this version, for one worker.
+#[tactic(auto, using(crate::proofs::Refused::plan_refuses))]
 pub(crate) fn plan_next(alloc: Global, last: &Version, batch: &Batch) -> Result<Plan, ApplyError>
     ensures planned { IfOk result (IsPlanned last.now 1 batch.now) }
     ensures refused { IfErr result (λ e. (free : ℕ) → Refuses last.now free batch.now e) }
@@ -32,12 +32,7 @@ pub(crate) fn plan_next(alloc: Global, last: &Version, batch: &Batch) -> Result<
     if last.number() >= u64::from(last.limits().batches()) {
         return Err(ApplyError::BatchLimit);
     }
-    match plan(alloc, last, batch, 1) {
-        Ok(plan) => Ok(plan),
-        Err(PlanError::NamesFull) => Err(ApplyError::NamesFull),
-        Err(PlanError::KindsFull) => Err(ApplyError::KindsFull),
-        Err(PlanError::OutOfMemory) => Err(ApplyError::OutOfMemory),
-    }
+    Ok(plan(alloc, last, batch, 1)?)
 }
 
 /// How many blocks a batch asks for behind a version that uses so many.

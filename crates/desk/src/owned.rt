@@ -18,7 +18,7 @@ ghost use Rattle.desk.specs.Owned.{IsSeatFor, IsSeatOf, ReleasesOnce, count_at, 
 ghost use Rattle.desk.specs.Refusals.{Refuses, IsWithin};
 
 use crate::desks::{Collected, Desk};
-use crate::errors::{ApplyError, HoldError, OpenError, ReleaseError};
+use crate::errors::{HoldError, OpenError, ReleaseError};
 use crate::ready::Accepted;
 use crate::seats::seat_with;
 use block_reclamation::{Board, Pin, SEATS, SeatNo};

@@ -4,8 +4,9 @@ use Rattle.graph_types.specs.{Limits.{most_operations, operation_limit}, Step.ou
 use Rattle.graph_version.specs.Versions.{content}
 use Rattle.block_reclamation.specs.{Status.is_free}
 use Rattle.store_steps.specs.{Boards.raised_board, Desks.IsCollected, Steps.Accepts}
-use Rattle.desk.specs.{Owned.{OwnedView, copied}, Refusals.{Refuses, IsWithin}, declared.errors.ApplyError.ApplyError, declared.ready.Accepted.Accepted}
-use Rattle.desk.specs.declared.errors.ApplyError.TheVariants.{PoolEmpty}
+use Rattle.desk.specs.{Owned.{OwnedView, copied}, Refusals.{Refuses, IsWithin}, declared.ready.Accepted.Accepted}
+use Rattle.graph_types.specs.declared.refusals.ApplyError.{ApplyError}
+use Rattle.graph_types.specs.declared.refusals.ApplyError.TheVariants.{PoolEmpty}
 use Rattle.batch_columns.specs.Dictionaries.{Insertions, insertion_at, insertions_from, IsInserted}
 use Rattle.batch_columns.specs.declared.columns.InsertError.{InsertError}
 use Rattle.desk_columns.specs.declared.columns.Insertions.{Insertions as Lent}

@@ -9,11 +9,10 @@ ghost use Rattle.graph_model.specs.Drafts.{shown_by};
 ghost use Rattle.graph_model.specs.Refusals.{Exceeds};
 ghost use Rattle.graph_types.specs.declared.batches.NamedOp.TheVariants.{Expire};
 
-use crate::PlainError;
 use crate::edges::{EdgeKey, clear_before, marks_at, put_at};
 use crate::names::{make_kind, make_names, number_of};
 use graph_types::{
-    Content, Edge, EdgeChange, Limits, List, Name, NamedOp, OpParts, Outcome, change_edge, parts_in,
+    ApplyError, Content, Edge, EdgeChange, Limits, List, Name, NamedOp, OpParts, Outcome, change_edge, parts_in,
 };
 use std::alloc::{AllocError, Global};
 
@@ -52,7 +51,7 @@ impl Draft {
     ///
     /// `NamesFull` where it would leave more vertices than the limits allow, `KindsFull` where it would leave more kinds,
     /// and `OutOfMemory` where a growth was refused.
-    pub(crate) fn apply(&mut self, limits: Limits, op: &NamedOp) -> Result<Outcome, PlainError>
+    pub(crate) fn apply(&mut self, limits: Limits, op: &NamedOp) -> Result<Outcome, ApplyError>
         requires content { IsContentIn limits (shown_by self.old) }
         requires valid { IsValid op.now }
         ensures outcome { IfOk result (λ o. o ≡ step.outcome op.now (graph_in limits (shown_by self.old))) }
@@ -89,7 +88,7 @@ impl Draft {
         kind: &Name,
         source: &Name,
         target: &Name,
-    ) -> Result<Outcome, PlainError>
+    ) -> Result<Outcome, ApplyError>
         requires content { IsContentIn limits (shown_by self.old) }
         requires change { IsChange change }
         requires most { AllowsUpTo limits.weight change }

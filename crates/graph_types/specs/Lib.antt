@@ -2,6 +2,7 @@ pub mod Limits
 pub mod Graph
 pub mod Coded
 pub mod Valid
+pub mod Refusals
 pub mod Changes
 pub mod Step
 pub mod Parts

@@ -15,6 +15,7 @@ mod lists;
 mod operations;
 mod parts;
 mod questions;
+mod refusals;
 mod requests;
 mod tables;
 mod texts;
@@ -31,6 +32,7 @@ pub use laws::{
 pub use limits::{BadLimits, Limits, MOST_WEIGHT, STANDARD_SIZE};
 pub use lists::List;
 pub use parts::{OpParts, parts_in};
+pub use refusals::ApplyError;
 pub use requests::{AskError, NamedFilter, Reply, Request};
 pub use tables::{law_one_table, law_some_table};
 pub use texts::{Name, is_kind_name, is_kind_name_bytes, is_name, is_name_bytes};

@@ -14,9 +14,9 @@ use Rattle.graph_version.specs.{Kept.edge_total, Versions.content, Versions.layo
 use Rattle.store_steps.specs.Desks.{DeskView, IsCollected, AcceptedCounts, CollectedCounts, births_in, is_retired_by}
 use Rattle.store_steps.{specs.{Opening.opened_desk, Steps.Accepts}, proofs.StatusCounts.{accepted_counts, collected_counts}}
 use Rattle.stream_store.specs.Configs.{ConfigView}
-use Rattle.desk.specs.declared.errors.ApplyError.{ApplyError}
+use Rattle.graph_types.specs.declared.refusals.ApplyError.{ApplyError}
 use Rattle.stream_store.specs.Refusals.{Attempt, BatchRefusal, IsAdmissible, IsWithin, Refuses, attempt_on, block_count}
-use Rattle.desk.specs.declared.errors.ApplyError.TheVariants as refused
+use Rattle.graph_types.specs.declared.refusals.ApplyError.TheVariants as refused
 use Rattle.script_lines.specs.Lines.{collect_line, commit_line, stat_line}
 use Rattle.script_commands.specs.{Servers.ShowsDesk, States.{dates, dropped, floor_of, Dates, IsCommandResult, ServerState}}
 use Rattle.script_commands.specs.States.{after_collect, after_commit, attempt, batch_word, beginning, copy_of, last_version}

@@ -17,8 +17,8 @@ use Rattle.feed_csv.specs.declared.command.Command.{Command, TheVariants.{Op, Co
 use Rattle.feed_csv.specs.declared.command.{Command.TheVariants.Rebase, FeedWord.FeedWord}
 use Rattle.feed_csv.specs.declared.command.FeedWord.TheVariants as feed
 use Rattle.stream_store.specs.{Configs.ConfigView, Refusals.{Attempt, BatchRefusal, IsAdmissible}}
-use Rattle.desk.specs.declared.errors.ApplyError.{ApplyError}
-use Rattle.desk.specs.declared.errors.ApplyError.TheVariants as refused
+use Rattle.graph_types.specs.declared.refusals.ApplyError.{ApplyError}
+use Rattle.graph_types.specs.declared.refusals.ApplyError.TheVariants as refused
 use Rattle.script_lines.specs.declared.words.Word.{Word, TheVariants.{Feed, NotOpen, AlreadyOpen, BadWindow, NoKind, NoVertex}}
 use Rattle.script_lines.specs.declared.words.Word.TheVariants.{BatchFull, BatchLimit, NamesFull, KindsFull, PoolEmpty}
 use Rattle.script_lines.specs.Lines.{close_line, collect_line, commit_line, core_lines, count_different, degree_lines, edge_line}

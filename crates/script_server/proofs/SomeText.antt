@@ -15,7 +15,7 @@ use Rattle.graph_types.specs.declared.requests.{Request.Request, Reply.Reply, As
 use Rattle.script_lines.specs.{declared.words.Word.Word, declared.words.Word.TheVariants.Feed, Lines.end_line, Lines.commit_line}
 use Rattle.script_lines.specs.Lines.{open_line, collect_line}
 use Rattle.stream_store.specs.Refusals.{asked}
-use Rattle.desk.specs.declared.errors.ApplyError.TheVariants as refused
+use Rattle.graph_types.specs.declared.refusals.ApplyError.TheVariants as refused
 use Rattle.script_server.specs.Executions.{Executes, IsFullText}
 use Rattle.script_commands.specs.States.{Held, IsCommitted, IsRecordResult, IsReplied}
 use Rattle.script_commands.specs.States.{Progress, RecordResult, ServerState, Setup, after_collect, after_commit, after_item}

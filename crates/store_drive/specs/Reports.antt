@@ -1,9 +1,7 @@
 -- What a drive tells.
 use Rattle.std.specs.Prelude.{◌≡◌, ℕ, ◌*◌, ◌≤◌, List, codes}
-use Rattle.desk.specs.declared.errors.ApplyError.{ApplyError}
-use Rattle.desk.specs.declared.errors.ApplyError.TheVariants as errors
-use Rattle.graph_model.specs.declared.apply.PlainError.{PlainError}
-use Rattle.graph_model.specs.declared.apply.PlainError.TheVariants as plain
+use Rattle.graph_types.specs.declared.refusals.ApplyError.{ApplyError}
+use Rattle.graph_types.specs.declared.refusals.ApplyError.TheVariants as errors
 use Rattle.store_drive.specs.declared.reports.{DriveCounts.DriveCounts, DriveReport.DriveReport, DriveWord.DriveWord}
 use Rattle.store_drive.specs.declared.reports.DriveWord.TheVariants.{Start, Memory, BatchLimit, NamesFull, KindsFull, PoolEmpty}
 
@@ -23,12 +21,6 @@ word_of errors.NamesFull = NamesFull
 word_of errors.KindsFull = KindsFull
 word_of (errors.PoolEmpty needed free) = PoolEmpty
 word_of errors.OutOfMemory = Memory
-
--- the word of a batch that the plain application refused
-abbrev pub plain_word : PlainError → DriveWord
-plain_word plain.NamesFull = NamesFull
-plain_word plain.KindsFull = KindsFull
-plain_word plain.OutOfMemory = Memory
 
 -- one to four threads read
 pub record IsReaderCount (readers : ℕ) : Type 0 where

@@ -7,7 +7,8 @@ use Rattle.graph_version.specs.Versions.{VersionView, IsVersion}
 use Rattle.batch_apply.specs.Planned.{MeetsNeitherLimit}
 use Rattle.version_shelf.specs.Shelves.{ToldView}
 pub use Rattle.desk.specs.Owned.{copied}
-use Rattle.desk.specs.{Refusals.Refuses, declared.errors.ApplyError.ApplyError}
+use Rattle.graph_types.specs.declared.refusals.ApplyError.{ApplyError}
+use Rattle.desk.specs.Refusals.{Refuses}
 use Rattle.stream_store.specs.Seats.{SeatView}
 
 -- a version of the shelf of this book, which began with this graph

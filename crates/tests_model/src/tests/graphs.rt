@@ -11,7 +11,7 @@ use super::graph_stories::{KINDS, REFUSED_STORIES, STORIES, TOO_MANY_KINDS};
 use super::texts::check_shown;
 use super::values::{LineError, batch, request};
 use graph_model::{
-    AskError, Batch, Content, List, Outcome, PlainError, Reply, Request, plain_apply, plain_reply,
+    ApplyError, AskError, Batch, Content, List, Outcome, Reply, Request, plain_apply, plain_reply,
 };
 use std::alloc::Global;
 use std::process::Abort;
@@ -35,7 +35,7 @@ fn apply(alloc: Global, content: &mut Content, batch: &Batch) -> Result<(), Line
 {
     match plain_apply(alloc, content, batch) {
         Ok(_) => Ok(()),
-        Err(PlainError::OutOfMemory) => Err(LineError::OutOfMemory),
+        Err(ApplyError::OutOfMemory) => Err(LineError::OutOfMemory),
         Err(_) => Err(LineError::Wrong),
     }
 }
@@ -61,11 +61,11 @@ pub(super) fn content_of(alloc: Global, ops: &str) -> Result<Content, LineError>
 pub(super) fn check_left(
     rt: &impl Abort,
     alloc: Global,
-    told: &Result<Vec<Outcome>, PlainError>,
+    told: &Result<Vec<Outcome>, ApplyError>,
     content: &Content,
     wanted: &str,
 ) -> Result<(), LineError> {
-    if matches!(told, Err(PlainError::OutOfMemory)) {
+    if matches!(told, Err(ApplyError::OutOfMemory)) {
         return Err(LineError::OutOfMemory);
     }
     let (names, kinds, edges) = (&content.names, &content.kinds, content.edges.len());

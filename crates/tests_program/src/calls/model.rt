@@ -4,8 +4,8 @@ ghost use Rattle.graph_types.specs.Graph.{IsContentIn};
 ghost use Rattle.graph_types.specs.Limits.{standard_limits};
 
 use graph_model::{
-    AskError, Batch, Content, Degree, Edge, Filter, KindId, List, Name, NamedFilter, NamedOp,
-    Outcome, PinCopy, PlainError, PushError, Reply, Request, VertexId, is_kind_name, is_name,
+    ApplyError, AskError, Batch, Content, Degree, Edge, Filter, KindId, List, Name, NamedFilter,
+    NamedOp, Outcome, PinCopy, PushError, Reply, Request, VertexId, is_kind_name, is_name,
     plain_apply, plain_reply,
 };
 use std::alloc::Global;
@@ -79,7 +79,7 @@ fn degrees_of(reply: &Reply) -> Option<&[(Name, Degree)]> {
     }
 }
 
-fn applies(alloc: Global, content: &mut Content, batch: &Batch) -> Result<Vec<Outcome>, PlainError>
+fn applies(alloc: Global, content: &mut Content, batch: &Batch) -> Result<Vec<Outcome>, ApplyError>
     requires { IsContentIn standard_limits content.old }
 {
     plain_apply(alloc, content, batch)

@@ -13,13 +13,14 @@ ghost use Rattle.graph_version.specs.Rebased.{AreCopies};
 ghost use Rattle.epoch_core.specs.Opened.{IsOpening};
 ghost use Rattle.batch_apply.specs.Planned.{IsPlan};
 
-use batch_apply::{Applied, Gate, PassAll, Plan, PlanError, apply, plan};
+use batch_apply::{Applied, Gate, PassAll, Plan, apply, plan};
 use edge_block::{Block, EdgeRef};
 use epoch_core::{Core, Event, OutOfMemory, Step, law_epoch, law_isolation, run};
 use graph_cores::{cores, degrees};
 use graph_levels::{LevelError, labels, levels};
 use graph_model::{
-    AskError, Batch, Content, Degree, Edge, Filter, KindId, List, PinCopy, Reply, VertexId,
+    ApplyError, AskError, Batch, Content, Degree, Edge, Filter, KindId, List, PinCopy, Reply,
+    VertexId,
 };
 use graph_version::{Version, VersionDraft};
 use std::alloc::{AllocError, Global};
@@ -83,7 +84,7 @@ fn rebases(version: &Version, blocks: Vec<Arc<Block>>) -> (Result<Version, Alloc
     (version.rebased(blocks), version.opening())
 }
 
-fn plans(alloc: Global, version: &Version, batch: &Batch) -> Result<Plan, PlanError> {
+fn plans(alloc: Global, version: &Version, batch: &Batch) -> Result<Plan, ApplyError> {
     plan(alloc, version, batch, 8)
 }
 

@@ -6,8 +6,9 @@ mod shared;
 
 use super::steps::planned;
 use crate::texts::{check_so, check_text, push_item, tell_refused};
-use batch_apply::{Plan, PlanError, law_sources_within};
+use batch_apply::{Plan, law_sources_within};
 use batch_shards::{Act, Shard, Step};
+use graph_types::ApplyError;
 use graph_version::Version;
 use std::alloc::{AllocError, Global};
 use std::io::Print;
@@ -54,16 +55,16 @@ fn write_plan(text: &mut String, plan: &Plan) -> Result<(), AllocError> {
     Ok(())
 }
 
-fn plan_text(alloc: Global, plan: &Plan) -> Result<String, PlanError> {
+fn plan_text(alloc: Global, plan: &Plan) -> Result<String, ApplyError> {
     let mut text = String::new(alloc);
     match write_plan(&mut text, plan) {
         Ok(()) => Ok(text),
-        Err(AllocError) => Err(PlanError::OutOfMemory),
+        Err(AllocError) => Err(ApplyError::OutOfMemory),
     }
 }
 
 /// The text of the plan of operations over a version for so many workers.
-fn told(alloc: Global, version: &Version, ops: &str, workers: usize) -> Result<String, PlanError>
+fn told(alloc: Global, version: &Version, ops: &str, workers: usize) -> Result<String, ApplyError>
     requires workers { 0 < workers }
 {
     plan_text(alloc, &planned(alloc, version, ops, workers)?)
@@ -131,14 +132,14 @@ fn plans_by_source(rt: HostRuntime) {
 /// The plan has its text, or memory was refused.
 fn check_refused(
     rt: &(impl Abort + Print),
-    told: Result<String, PlanError>,
+    told: Result<String, ApplyError>,
     wanted: &str,
     ops: &str,
 ) {
     match told {
         Ok(text) => check_text(rt, text.as_str(), wanted, ops),
         Err(error) => {
-            check_so(rt, matches!(error, PlanError::OutOfMemory), ops);
+            check_so(rt, matches!(error, ApplyError::OutOfMemory), ops);
             tell_refused(rt);
         }
     }

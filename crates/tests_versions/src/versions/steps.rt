@@ -10,10 +10,10 @@ ghost use Rattle.graph_types.specs.Limits.{standard_limits};
 
 use super::ops::batch_of;
 use crate::blocks::fresh_blocks;
-use batch_apply::{Applied, Gate, Plan, PlanError, apply, plan};
+use batch_apply::{Applied, Gate, Plan, apply, plan};
 use edge_block::Block;
 use graph_model::plain_apply;
-use graph_types::{Batch, Content, List, Outcome};
+use graph_types::{ApplyError, Batch, Content, List, Outcome};
 use graph_version::Version;
 use std::alloc::Global;
 use std::process::Abort;
@@ -38,12 +38,12 @@ pub(super) fn planned(
     version: &Version,
     ops: &str,
     workers: usize,
-) -> Result<Plan, PlanError>
+) -> Result<Plan, ApplyError>
     requires workers { 0 < workers }
 {
     match batch_of(alloc, ops) {
         Some(batch) => plan(alloc, version, &batch, workers),
-        None => Err(PlanError::OutOfMemory),
+        None => Err(ApplyError::OutOfMemory),
     }
 }
 

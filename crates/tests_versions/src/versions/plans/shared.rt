@@ -5,7 +5,8 @@ ghost use Rattle.std.specs.Prelude.{◌<◌};
 use super::{BATCH, EXPIRING, OF_FOUR, OF_TWO, plan_text};
 use crate::texts::check_text;
 use crate::versions::ops::batch_of;
-use batch_apply::{PlanError, old_rows, plan_with};
+use batch_apply::{old_rows, plan_with};
+use graph_types::ApplyError;
 use graph_version::Version;
 use std::alloc::Global;
 use std::process::Abort;
@@ -17,11 +18,11 @@ fn told_by<R: Threads + Sync>(
     alloc: Global,
     ops: &str,
     workers: usize,
-) -> Result<String, PlanError>
+) -> Result<String, ApplyError>
     requires { 0 < workers }
 {
     let Some(batch) = batch_of(alloc, ops) else {
-        return Err(PlanError::OutOfMemory);
+        return Err(ApplyError::OutOfMemory);
     };
     let version = Version::empty(alloc);
     let old = old_rows(alloc, &version, &batch)?;
