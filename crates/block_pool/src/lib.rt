@@ -13,4 +13,4 @@ mod pages;
 mod pool;
 mod stacks;
 
-pub use pool::{Grant, GrantError, Pool};
+pub use pool::{Grant, Pool};

@@ -15,10 +15,10 @@ use crate::numbers::Numbers;
 use crate::pages::{Blank, Pages};
 use block_reclamation::PinCopy;
 use edge_block::Block;
+use graph_types::ApplyError;
 use std::alloc::{AllocError, Global};
 use std::marker::Model;
 use std::sync::Arc;
-use thiserror::Error;
 
 impl Blank for Option<Arc<Block>> {
     ghost use Rattle.std.specs.Prelude.{None};
@@ -71,26 +71,6 @@ pub struct Grant {
     pub blocks: Vec<Arc<Block>>,
 }
 
-/// Why nothing was granted.
-#[derive(Clone, Copy, Debug, PartialEq, Eq, Error)]
-pub enum GrantError {
-    #[error("{needed} blocks are needed and {free} are free")]
-    PoolEmpty { needed: u32, free: u32 },
-    #[error("out of memory")]
-    OutOfMemory,
-}
-
-impl From<AllocError> for GrantError {
-    ghost use Rattle.std.specs.Prelude.{◌≡◌};
-    ghost use Rattle.block_pool.specs.declared.pool.GrantError.TheVariants.{OutOfMemory};
-
-    ghost from_gives = { λ _ e. e ≡ OutOfMemory };
-
-    fn from(_error: AllocError) -> GrantError {
-        GrantError::OutOfMemory
-    }
-}
-
 impl Pool {
     /// A pool of so many blocks, 16 to 4,293,918,719, all free. It takes some 100 bytes for each 4,096 of them. What is kept of a
     /// number takes memory at a grant, and no other call takes any.
@@ -137,21 +117,39 @@ impl Pool {
     ///
     /// `PoolEmpty` exactly where fewer are free; `OutOfMemory` where a growth was refused. Either leaves each number
     /// as it was.
-    pub fn grant(&mut self, count: u32) -> Result<Grant, GrantError>
+    pub fn grant(&mut self, count: u32) -> Result<Grant, ApplyError>
         ensures numbers { IfOk result (λ g. AreFree self.old g.numbers.items × (length g.numbers.items ≡ count)) }
         ensures blocks { IfOk result (λ g. map (λ b. (arc_value {X = Block} b).number) g.blocks.items ≡ g.numbers.items) }
         ensures used { IfOk result (λ g. self.new ≡ marked g.numbers.items Granted self.old) }
-        ensures refused { IfErr result (λ e. (e ≡ GrantError.OutOfMemory)
-            ⊎ ((count_by is_free self.old < count) × (e ≡ GrantError.PoolEmpty count (count_by is_free self.old)))) }
+        ensures refused { IfErr result (λ e. (e ≡ ApplyError.OutOfMemory)
+            ⊎ ((count_by is_free self.old < count) × (e ≡ ApplyError.PoolEmpty count (count_by is_free self.old)))) }
         ensures exact { count_by is_free self.old < count
-            → result ≡ Err (GrantError.PoolEmpty count (count_by is_free self.old)) }
+            → result ≡ Err (ApplyError.PoolEmpty count (count_by is_free self.old)) }
         ensures enough { OnOk result (count ≤ count_by is_free self.old) }
         ensures unchanged { OnErr result (self.new ≡ self.old) }
     {
+        self.grant_of(count, count)
+    }
+
+    /// As [`grant`](Pool::grant), where so many blocks are asked for and as many granted, which are no more.
+    ///
+    /// `PoolEmpty` exactly where fewer are free than are asked for.
+    pub fn grant_of(&mut self, asked: u32, count: u32) -> Result<Grant, ApplyError>
+        requires { count ≤ asked }
+        ensures numbers { IfOk result (λ g. AreFree self.old g.numbers.items × (length g.numbers.items ≡ count)) }
+        ensures blocks { IfOk result (λ g. map (λ b. (arc_value {X = Block} b).number) g.blocks.items ≡ g.numbers.items) }
+        ensures used { IfOk result (λ g. self.new ≡ marked g.numbers.items Granted self.old) }
+        ensures refused { IfErr result (λ e. (e ≡ ApplyError.OutOfMemory)
+            ⊎ ((count_by is_free self.old < asked) × (e ≡ ApplyError.PoolEmpty asked (count_by is_free self.old)))) }
+        ensures exact { count_by is_free self.old < asked
+            → result ≡ Err (ApplyError.PoolEmpty asked (count_by is_free self.old)) }
+        ensures enough { OnOk result (asked ≤ count_by is_free self.old) }
+        ensures unchanged { OnErr result (self.new ≡ self.old) }
+    {
         let free = self.free();
-        if count > free {
-            return Err(GrantError::PoolEmpty {
-                needed: count,
+        if asked > free {
+            return Err(ApplyError::PoolEmpty {
+                needed: asked,
                 free,
             });
         }

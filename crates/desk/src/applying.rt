@@ -56,19 +56,8 @@ pub(crate) fn grant_blocks(pool: &mut Pool, batch: &Batch, plan: &Plan) -> Resul
     ensures refused { IfErr result (RefusesGrant (asked batch.now (count_by is_in_use pool.old)) (count_by is_free pool.old)) }
     ensures unchanged { OnErr result (pool.new ≡ pool.old) }
 {
-    let free = pool.free();
     let asked = asked_by(batch, pool.used());
-    if asked > free {
-        return Err(ApplyError::PoolEmpty {
-            needed: asked,
-            free,
-        });
-    }
-    // So many are free, and so memory alone can be wanting.
-    let Ok(grant) = pool.grant(plan.blocks_needed() as u32) else {
-        return Err(ApplyError::OutOfMemory);
-    };
-    Ok(grant)
+    Ok(pool.grant_of(asked, plan.blocks_needed() as u32)?)
 }
 
 /// The number of the version after this one.

@@ -3,9 +3,10 @@
 ghost use Rattle.std.specs.Prelude.{◌≡◌};
 
 use super::checks::{same, tell_refused};
-use block_pool::{Grant, GrantError, Pool};
+use block_pool::{Grant, Pool};
 use block_reclamation::PinCopy;
 use edge_block::Block;
+use graph_types::ApplyError;
 use std::alloc::{AllocError, Global};
 use std::io::Print;
 use std::marker::Model;
@@ -40,7 +41,7 @@ impl Hand {
     }
 
     /// Grants so many blocks, and tells the first number.
-    fn grant(&mut self, count: u32) -> Result<Option<u32>, GrantError> {
+    fn grant(&mut self, count: u32) -> Result<Option<u32>, ApplyError> {
         match self.pool.grant(count) {
             Ok(Grant { numbers, blocks }) => {
                 self.blocks = blocks;
@@ -118,7 +119,7 @@ pub(super) fn freed(rt: &impl Abort, hand: &mut Hand, copy: &PinCopy, count: u32
 }
 
 fn check_full(rt: &impl Abort, hand: &mut Hand) {
-    let refused = GrantError::PoolEmpty {
+    let refused = ApplyError::PoolEmpty {
         needed: 17,
         free: 16,
     };
@@ -209,7 +210,7 @@ fn pool_counts(rt: &impl Abort, pool: &Pool, free: u32, used: u32) {
     );
 }
 
-fn lengths(grant: Result<Grant, GrantError>) -> Result<(usize, usize), GrantError> {
+fn lengths(grant: Result<Grant, ApplyError>) -> Result<(usize, usize), ApplyError> {
     let Grant { numbers, blocks } = grant?;
     Ok((numbers.len(), blocks.len()))
 }

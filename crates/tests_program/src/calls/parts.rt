@@ -8,10 +8,10 @@ ghost use Rattle.edge_block.specs.Slots.{has_room_for};
 ghost use Rattle.edge_block.specs.declared.blocks.Block.{Block};
 ghost use Rattle.block_pool.specs.Pools.{is_in_use_at, is_used_at};
 
-use block_pool::{Grant, GrantError, Pool};
+use block_pool::{Grant, Pool};
 use edge_block::{Block, BlockIter, EdgeRef};
 use feed_csv::{Command, Feed, FeedFault};
-use graph_model::{Filter, KindId, VertexId};
+use graph_model::{ApplyError, Filter, KindId, VertexId};
 use lane_scan::{bounds, equal_columns, find_target, masked_sum, window_mask};
 use std::alloc::{AllocError, Global};
 use std::io::Read;
@@ -96,7 +96,7 @@ fn pools(alloc: Global) -> Result<Pool, AllocError> {
     Pool::new(alloc, 16)
 }
 
-fn grants(pool: &mut Pool) -> (u32, u32, u32, Result<Grant, GrantError>) {
+fn grants(pool: &mut Pool) -> (u32, u32, u32, Result<Grant, ApplyError>) {
     (pool.free(), pool.retired(), pool.used(), pool.grant(2))
 }
 
