@@ -14,7 +14,8 @@ use Rattle.graph_version.specs.Rows as rows
 use Rattle.graph_version.specs.{Rows.row_of, Versions.{VersionView, IsVersion, IsBlockOf, AreRowsOf, content, layout_of, is_in}}
 use Rattle.graph_version.specs.{Kept.{vertex_book, kind_book, edge_total}, Drafts.{DraftView, drafted_over}}
 use Rattle.graph_version.{specs.Drafts.with_batch, specs.Drafts.IsWhole, proofs.Few.few_total}
-use Rattle.batch_shards.specs.{RowBlocks.block_of, RowBlocks.blocks_of, RowBlocks.numbers_of, Groups.told, Done.IsShardDone}
+use Rattle.batch_shards.specs.{RowBlocks.{block_of, blocks_of, numbers_of}, Done.IsShardDone}
+use Rattle.graph_types.specs.Outcomes.{told}
 use Rattle.batch_shards.specs.{Done.Exchanges, Done.sources_in, Done.rows_by, Births.births_end, Births.births_dropped}
 use Rattle.batch_shards.specs.{Births.open_row, Births.births_after, Births.dropped_births, declared.shard.Shard.Shard}
 use Rattle.batch_shards.{specs.declared.shard.ShardDone.ShardDone, proofs.Places.count_by-append}

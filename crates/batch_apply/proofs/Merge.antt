@@ -5,7 +5,7 @@ use Rattle.graph_types.specs.{Graph.Graph, declared.batches.NamedOp.NamedOp, dec
 use Rattle.edge_block.specs.{Rows.{Shape, untouched, row_end}, Batches.{Resolved, resolved, is_in_shard, shard_ops, picked}}
 use Rattle.edge_block.{specs.Batches.{outcomes_all, opened}, proofs.ShardLaws.shard_outcomes}
 use Rattle.batch_apply.specs.Plans.{placed_ops, ops_of}
-use Rattle.batch_shards.specs.Groups.{told}
+use Rattle.graph_types.specs.Outcomes.{told}
 
 -- a shard of placed operations is the shard of the operations
 shard_is : (p : Resolved → Bool) (rs : List Resolved) (k : ℕ) → map (λ x. x.1) (filter (λ x. p x.1) (enumerate_from k rs))

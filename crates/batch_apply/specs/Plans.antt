@@ -2,7 +2,7 @@
 use Rattle.std.specs.{Prelude.{ℕ, ◌+◌, List, [], ◌∷◌, map, Bool}, List.enumerate_from}
 use Rattle.graph_types.specs.{Graph.Graph, declared.batches.{NamedOp.NamedOp, Outcome.Outcome}}
 use Rattle.edge_block.specs.{Rows.OpenBlock, Batches.{Resolved, resolved, is_in_shard, outcomes_all, picked}}
-pub use Rattle.batch_shards.specs.Groups.{told, written}
+pub use Rattle.graph_types.specs.Outcomes.{told, written}
 
 -- the batch's operations, each with its place
 abbrev pub placed_ops : List NamedOp → Graph → List (ℕ × Resolved)

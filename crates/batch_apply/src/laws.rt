@@ -20,7 +20,7 @@ ghost use Rattle.batch_apply.specs.Shards.{ArePlanned};
 ghost use Rattle.batch_shards.specs.Done.{IsShardDone, layout_by, sources_in, steps_in};
 ghost use Rattle.batch_shards.specs.declared.shard.Shard.{Shard};
 ghost use Rattle.batch_apply.specs.Plans.{written_all, results};
-ghost use Rattle.batch_shards.specs.Groups.{told};
+ghost use Rattle.graph_types.specs.Outcomes.{told};
 ghost use Rattle.batch_shards.specs.Spending.{needed};
 ghost use Rattle.batch_apply.specs.Examples.{two_rows, three_steps};
 ghost use Rattle.batch_shards.specs.Closing.{row_values};

@@ -7,7 +7,8 @@ use Rattle.graph_types.specs.declared.batches.Outcome.{Outcome}
 use Rattle.edge_block.specs.{Batches.{opened, rows_all, outcome_in}, declared.blocks.Block.Block, Slots.BlockView, Rows.OpenBlock}
 use Rattle.edge_block.specs.Rows.{shape_of, untouched}
 use Rattle.batch_shards.specs.{RowBlocks.{block_of, blocks_of, kept_of, opens, had_in, numbers_of, IsOf}, Closing.row_values}
-use Rattle.batch_shards.specs.{Shards.{resolved_at, resolved_in}, Spending.{needed, needed_past}, Groups.{is_past, told}}
+use Rattle.batch_shards.specs.{Shards.{resolved_at, resolved_in}, Spending.{needed, needed_past}, Groups.is_past}
+use Rattle.graph_types.specs.Outcomes.{told}
 use Rattle.batch_shards.specs.{Groups.none_told, Done.layout_by, declared.shard.Act.{Act, TheVariants.{Edge, Expire}}}
 use Rattle.batch_shards.specs.{declared.shard.{Step.Step, OpenRow.OpenRow, ShardDone.ShardDone}, Progress.AreOutcomes}
 use Rattle.batch_shards.{specs.Progress.AreRowsDone, proofs.{ShardSteps.first_step, SourceSteps.outcome_of, Expiring.count_wider}}

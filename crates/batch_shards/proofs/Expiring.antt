@@ -11,8 +11,10 @@ use Rattle.graph_types.specs.declared.{batches.Outcome.TheVariants.{Removed, Abs
 use Rattle.graph_types.proofs.DegreeBounds.{one_where}
 use Rattle.edge_block.specs.{Slots.{Slot, slots_since, has_before, old_in, edges_in, holds, at_first, BlockView}, Rows.OpenBlock}
 use Rattle.edge_block.specs.Rows.{touch, expire_block, put_edge, set_edge, edge_at, untouched, shape_of, has_edge, has_room}
-use Rattle.edge_block.specs.{Rows.{new_block, touches}, Batches.{key_step, key_outcome, together}}
-use Rattle.batch_shards.specs.{Groups.told, Spending.{is_unspent, unspent, old_blocks, time_of, latest, spends, takes}}
+use Rattle.edge_block.specs.{Rows.{new_block, touches}, Batches.{key_step, key_outcome}}
+use Rattle.graph_types.specs.Outcomes.{together}
+use Rattle.graph_types.specs.Outcomes.{told}
+use Rattle.batch_shards.specs.Spending.{is_unspent, unspent, old_blocks, time_of, latest, spends, takes}
 use Rattle.batch_shards.specs.declared.shard.{Act.{Act, TheVariants.{Edge, Expire}}, Step.Step}
 
 -- f of so many first elements

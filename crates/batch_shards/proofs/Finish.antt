@@ -7,7 +7,8 @@ use Rattle.graph_types.specs.declared.batches.Outcome.{Outcome, TheVariants.Abse
 use Rattle.edge_block.specs.{Batches.opened, Batches.outcomes_all, Rows.shape_of, Rows.row_end, Rows.taken_in, Rows.dropped_in}
 use Rattle.edge_block.specs.{declared.blocks.Block.Block, Slots.BlockView}
 use Rattle.batch_shards.specs.{RowBlocks.{block_of, blocks_of, numbers_of}, Closing.{written_here, dropped_here, closed_rows}}
-use Rattle.batch_shards.specs.{Closing.{row_values, stays_all, written_all, dropped_all, unused_all}, Groups.{is_past, told}}
+use Rattle.batch_shards.specs.{Closing.{row_values, stays_all, written_all, dropped_all, unused_all}, Groups.is_past}
+use Rattle.graph_types.specs.Outcomes.{told}
 use Rattle.batch_shards.specs.{Groups.outcome_over, Shards.{IsAct, AreSteps, resolved_at, resolved_in, sources_of, had_all}}
 use Rattle.batch_shards.specs.declared.shard.{Act.Act, Step.Step, Shard.Shard, ShardDone.ShardDone, OpenRow.OpenRow}
 use Rattle.batch_shards.specs.{Progress.{AreOutcomes, AreRowsDone}, Births.{births_end, births_dropped}, Done.IsShardDone}

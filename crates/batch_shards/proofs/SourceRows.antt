@@ -4,11 +4,13 @@ use Rattle.std.proofs.{Common.{refl, sym, subst, ap, ap₂, ◌∙◌, arith, Al
 use Rattle.std.{proofs.lemmas.List.{Sums.sum_by-append, Elements.All-push}, specs.declared.{sync.Arc.Arc, alloc.Global.Global}}
 use Rattle.std.{specs.List.sum_by, proofs.lemmas.{Bool.false≢true, Grind.common_steps}}
 use Rattle.graph_types.specs.declared.{batches.Outcome.{Outcome, TheVariants.Expired}, ids.VertexId.VertexId}
-use Rattle.edge_block.specs.{declared.blocks.Block.Block, Slots.BlockView, Batches.{outcome_in, together, rows_all, opened}}
+use Rattle.edge_block.specs.{declared.blocks.Block.Block, Slots.BlockView, Batches.{outcome_in, rows_all, opened}}
+use Rattle.graph_types.specs.Outcomes.{together}
 use Rattle.edge_block.specs.Rows.{OpenBlock, old_in_row}
 use Rattle.batch_shards.specs.{RowBlocks.{blocks_of, numbers_of, opens, had_in, own_in, HaveSame, IsOf}, Closing.row_values}
 use Rattle.batch_shards.specs.{Closing.{after_of, written_of, dropped_of, unused_of, written_all}, Shards.{key_at, resolved_at}}
-use Rattle.batch_shards.specs.{Shards.{resolved_in, own_all}, Done.layout_by, Groups.{is_past, does_act, told, outcome_over}}
+use Rattle.batch_shards.specs.{Shards.{resolved_in, own_all}, Done.layout_by, Groups.{is_past, does_act, outcome_over}}
+use Rattle.graph_types.specs.Outcomes.{told}
 use Rattle.batch_shards.specs.{Groups.{IsTold, IsSourceRow, IsOneMore}, OpenRows.{IsRowOf, KeepsOthers}, Progress.AreOutcomes}
 use Rattle.batch_shards.specs.{Progress.AreRowsDone, declared.shard.{OpenRow.OpenRow, ShardDone.ShardDone, Step.Step, Act.Act}}
 use Rattle.batch_shards.{specs.declared.shard.Act.TheVariants.{Edge, Expire}, proofs.Places.{count_by-append, one_piece}}

@@ -5,9 +5,11 @@ use Rattle.std.proofs.lemmas.Bool.{or_right, eq-eqb, eqb-true, eqb-false, ne_eqb
 use Rattle.std.proofs.lemmas.List.{get_or-set_same, get_or-set_other, Sums.{count_by_more_yes, count_by_more_no, sum_by-cons}}
 use Rattle.std.{specs.{List.sum_by, Prelude.nat_lt, declared.option.Option.TheVariants.Some}, proofs.lemmas.Grind.common_steps}
 use Rattle.graph_types.specs.declared.{batches.Outcome.{Outcome, TheVariants.Expired}, changes.EdgeChange.EdgeChange}
-use Rattle.edge_block.specs.{Rows.{OpenBlock, old_in_row}, Batches.{key_step, rows_step, rows_all, outcome_in, together}}
+use Rattle.edge_block.specs.{Rows.{OpenBlock, old_in_row}, Batches.{key_step, rows_step, rows_all, outcome_in}}
+use Rattle.graph_types.specs.Outcomes.{together}
 use Rattle.batch_shards.specs.{Shards.{IsAct, resolved_at, resolved_in}, Spending.takes, Groups.{is_at, is_past, does_act}}
-use Rattle.batch_shards.specs.Groups.{may_change, key_of, IsNext, LeadsTo, IsSourceRow, IsOneMore, IsTold, told, outcome_over}
+use Rattle.batch_shards.specs.Groups.{may_change, key_of, IsNext, LeadsTo, IsSourceRow, IsOneMore, IsTold, outcome_over}
+use Rattle.graph_types.specs.Outcomes.{told}
 use Rattle.batch_shards.specs.{Groups.{act_step, act_outcome}, declared.shard.Act.{Act, TheVariants.{Edge, Expire}}}
 use Rattle.batch_shards.{specs.declared.shard.{Place.Place, Step.Step}, proofs.ShardSteps.{further, apart, first_step}}
 use Rattle.batch_shards.proofs.{ShardSteps.all_rows_more, Expiring.told_none, Young.{young_before, young_stays}}

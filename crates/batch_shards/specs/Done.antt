@@ -4,7 +4,8 @@ use Rattle.edge_block.specs.{Slots.BlockView, Rows.{OpenBlock, Shape, shape_of, 
 use Rattle.edge_block.specs.Batches.{rows_all, outcomes_all, opened}
 use Rattle.graph_version.specs.Versions.{IsBlockOf, is_in}
 use Rattle.batch_shards.specs.{Births.{births_end, births_dropped}, RowBlocks.{blocks_of, numbers_of}, Closing.row_values}
-use Rattle.batch_shards.specs.{Shards.resolved_in, Groups.told, declared.shard.{Shard.Shard, ShardDone.ShardDone}}
+use Rattle.batch_shards.specs.{Shards.resolved_in, declared.shard.{Shard.Shard, ShardDone.ShardDone}}
+use Rattle.graph_types.specs.Outcomes.{told}
 
 -- the layout of rows
 abbrev pub layout_by : (ℕ → List BlockView) → ℕ → List Shape

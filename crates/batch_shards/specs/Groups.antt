@@ -3,9 +3,11 @@ use Rattle.std.specs.Prelude.{◌≡◌, ◌≢◌, ℕ, ◌+◌, ◌%◌, ◌^�
 use Rattle.std.specs.{Prelude.{AllPairs, Bool, true, false, not, ◌||◌}, declared.option.Option.{Option, TheVariants.{None, Some}}}
 use Rattle.graph_types.specs.{Graph.Key, declared.batches.Outcome.{Outcome, TheVariants.{Inserted, Updated, Removed, Absent}}}
 use Rattle.graph_types.specs.declared.batches.Outcome.TheVariants.{Overflow, Expired}
-use Rattle.edge_block.specs.{Rows.{OpenBlock, expire_row, old_in_row}, Batches.{outcomes_all, together, key_step, key_outcome}}
+use Rattle.edge_block.specs.{Rows.{OpenBlock, expire_row, old_in_row}, Batches.{outcomes_all, key_step, key_outcome}}
+use Rattle.graph_types.specs.Outcomes.{together}
 use Rattle.batch_shards.specs.{Shards.{AreSteps, resolved_in}, declared.shard.{Place.Place, Act.{Act, TheVariants.Edge}}}
 use Rattle.batch_shards.specs.declared.shard.{Act.TheVariants.Expire, Step.Step}
+use Rattle.graph_types.specs.Outcomes.{told}
 
 -- whether an operation is on an edge of a row
 abbrev pub is_at : ℕ → Act → Bool
@@ -67,20 +69,6 @@ pub record IsSourceRow (sources : List ℕ) (steps : List Step) (row source : �
   pub distinct : AllPairs (λ a b. a ≢ b) sources
   pub within : row < length sources
   pub source_is : slice_index sources row ≡ source
-
--- an outcome as the program tells it: it counts edges modulo 2 ^ 64
-abbrev pub told : Outcome → Outcome
-told Inserted = Inserted
-told Updated = Updated
-told Removed = Removed
-told Absent = Absent
-told Overflow = Overflow
-told (Expired count) = Expired (count % 2 ^ 64)
-
--- outcomes put together with those that stand at their places of the batch
-abbrev pub written : List (ℕ × Outcome) → List Outcome → List Outcome
-written [] xs = xs
-written (p ∷ ps) xs = written ps (set xs p.0 (told (together (get_or xs p.0 Absent) p.1)))
 
 -- the outcome of the k-th operation, where an expiry counts the edges of some of the sources
 abbrev pub outcome_over : List ℕ → List ℕ → List Step → (ℕ → List OpenBlock) → ℕ → Outcome

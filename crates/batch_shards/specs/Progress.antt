@@ -5,7 +5,8 @@ use Rattle.graph_types.specs.declared.batches.Outcome.{Outcome}
 use Rattle.edge_block.specs.{declared.blocks.Block.Block, Slots.BlockView, Batches.{rows_all, opened}}
 use Rattle.batch_shards.specs.{RowBlocks.{blocks_of, numbers_of, had_in, HaveSame}, Closing.{row_values, closed_rows}}
 use Rattle.batch_shards.specs.{Closing.{written_all, dropped_all, unused_all}, Shards.{AreOpen, AreOwn, resolved_in, sources_of}}
-use Rattle.batch_shards.specs.{Shards.{had_all, own_all}, Groups.{is_past, told, outcome_over}, Done.layout_by}
+use Rattle.batch_shards.specs.{Shards.{had_all, own_all}, Groups.{is_past, outcome_over}, Done.layout_by}
+use Rattle.graph_types.specs.Outcomes.{told}
 use Rattle.batch_shards.specs.declared.shard.{OpenRow.OpenRow, ShardDone.ShardDone, Step.Step}
 
 -- the outcomes of operations on so many first rows are those of the operation rule, each with its place in the batch; an

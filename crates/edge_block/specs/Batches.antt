@@ -127,17 +127,6 @@ is_in_shard workers w (InAll time) = true
 abbrev pub shard_ops : ℕ → ℕ → List Resolved → List Resolved
 shard_ops workers w rs = filter (is_in_shard workers w) rs
 
--- what is told of one operation over two lists of sources, taken together: an expiry's counts are added, and of all else
--- the second stands
-abbrev pub together : Outcome → Outcome → Outcome
-together (Expired a) (Expired b) = Expired (a + b)
-together other b = b
-
--- the same for each operation
-abbrev pub joined : List Outcome → List Outcome → List Outcome
-joined (x ∷ xs) (y ∷ ys) = together x y ∷ joined xs ys
-joined _ _ = []
-
 -- of results, those of the elements that pass the test
 abbrev pub picked : {A B : Type 0} → (A → Bool) → List A → List B → List B
 picked p (x ∷ xs) (y ∷ ys) = if p x then y ∷ picked p xs ys else picked p xs ys

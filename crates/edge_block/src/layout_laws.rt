@@ -12,7 +12,8 @@ ghost use Rattle.edge_block.specs.Examples.{AreExamples};
 ghost use Rattle.edge_block.specs.Rows.{Shape, OpenBlock, row_end, expire_row};
 ghost use Rattle.edge_block.specs.Batches.{Resolved, IsWithin, IsLayoutOf, acts_on, layout_after, outcomes_all, resolved, resolved_by};
 ghost use Rattle.edge_block.specs.Batches.{InAll, opened, rows_all, outcome_in};
-ghost use Rattle.edge_block.specs.Batches.{shard_ops, is_in_shard, picked, joined};
+ghost use Rattle.edge_block.specs.Batches.{shard_ops, is_in_shard, picked};
+ghost use Rattle.graph_types.specs.Outcomes.{joined};
 ghost use Rattle.edge_block.specs.Listed.{edges_below, AreListedOnce};
 
 /// A batch leaves a layout of the graph that it leaves, and the outcomes in its rows are the operation rule's, for

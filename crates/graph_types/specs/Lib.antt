@@ -13,3 +13,4 @@ pub mod Answer
 pub mod Laws
 pub mod Arcs
 pub mod Tables
+pub mod Outcomes

@@ -13,6 +13,7 @@ mod laws;
 mod limits;
 mod lists;
 mod operations;
+mod outcomes;
 mod parts;
 mod questions;
 mod refusals;
@@ -31,6 +32,7 @@ pub use laws::{
 };
 pub use limits::{BadLimits, Limits, MOST_WEIGHT, STANDARD_SIZE};
 pub use lists::List;
+pub use outcomes::{put_together, write_outcomes};
 pub use parts::{OpParts, parts_in};
 pub use refusals::ApplyError;
 pub use requests::{AskError, NamedFilter, Reply, Request};
