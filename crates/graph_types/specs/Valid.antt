@@ -3,7 +3,7 @@ use Rattle.std.specs.Prelude.{ℕ, ◌≤◌, nat_le, List, [], ◌∷◌, lengt
 use Rattle.std.specs.{List.list_all, declared.option.Option.{Option, TheVariants.{None, Some}}}
 use Rattle.graph_types.specs.{Limits.{most_operations, operation_limit, is_weight, is_time, IsTime}, Changes.{AllowsUpTo, IsChange}}
 use Rattle.graph_types.specs.{Parts.{Parts, OfEdge, OfAll, parts_of}, declared.batches.{NamedOp.NamedOp, PushError.PushError}}
-use Rattle.graph_types.specs.declared.changes.EdgeChange.EdgeChange
+use Rattle.graph_types.specs.declared.changes.EdgeChange.{EdgeChange}
 use Rattle.graph_types.specs.declared.changes.EdgeChange.TheVariants.{Insert as ToInsert, Incr as ToIncr, Remove as ToRemove}
 use Rattle.graph_types.specs.declared.batches.PushError.TheVariants.{BadName, BadWeight, BadTime, BatchFull}
 
