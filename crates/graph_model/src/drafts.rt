@@ -12,7 +12,8 @@ ghost use Rattle.graph_types.specs.declared.batches.NamedOp.TheVariants.{Expire}
 use crate::edges::{EdgeKey, clear_before, marks_at, put_at};
 use crate::names::{make_kind, make_names, number_of};
 use graph_types::{
-    ApplyError, Content, Edge, EdgeChange, Limits, List, Name, NamedOp, OpParts, Outcome, change_edge, parts_in,
+    ApplyError, Content, Edge, EdgeChange, Limits, List, Name, NamedOp, OpParts, Outcome,
+    change_edge, parts_in,
 };
 use std::alloc::{AllocError, Global};
 
@@ -51,6 +52,7 @@ impl Draft {
     ///
     /// `NamesFull` where it would leave more vertices than the limits allow, `KindsFull` where it would leave more kinds,
     /// and `OutOfMemory` where a growth was refused.
+    #[tactic(auto, using(graph_types::proofs::OperationParts::outcome_is))]
     pub(crate) fn apply(&mut self, limits: Limits, op: &NamedOp) -> Result<Outcome, ApplyError>
         requires content { IsContentIn limits (shown_by self.old) }
         requires valid { IsValid op.now }
