@@ -209,7 +209,7 @@ fn refused_work_gives_the_shard_up(rt: HostRuntime) {
 /// What outcomes found at places leave of three operations of which none has one.
 fn put(alloc: Global, found: &[(u32, Outcome)]) -> Result<Vec<Outcome>, AllocError> {
     let mut outcomes = vec![in alloc; Outcome::Absent; 3]?;
-    batch_shards::write_outcomes(&mut outcomes, Vec::from_slice(alloc, found)?);
+    graph_types::write_outcomes(&mut outcomes, Vec::from_slice(alloc, found)?);
     Ok(outcomes)
 }
 
