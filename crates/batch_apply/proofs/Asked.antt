@@ -13,7 +13,7 @@ use Rattle.edge_block.{specs.Batches.{Resolved, AtKey, InAll, resolved, resolved
 use Rattle.graph_version.specs.Rows.{row_of, blocks_of}
 use Rattle.batch_shards.specs.{Done.{layout_by, sources_in, steps_in}, Groups.is_expiry, Spending.old_blocks, Shards.resolved_at}
 use Rattle.batch_shards.specs.{Shards.resolved_in, declared.shard.{Act.Act, Shard.Shard, Step.Step}}
-use Rattle.batch_apply.specs.{Planned.IsPlan, Shards.acts, Shards.unsourced, Shards.latest, Shards.IsShardOf}
+use Rattle.batch_apply.specs.{Planned.IsPlan, Shards.acts, Shards.unsourced, Shards.latest_expiry, Shards.IsShardOf}
 use Rattle.batch_apply.{specs.declared.plans.Plan.Plan, proofs.Listing.same_latest, proofs.Resolving.as_many_resolved}
 use Rattle.batch_apply.proofs.{Together.all_once, Placed.times, Kept.sum_lists, Kept.split_rows, Dealt.needs_of}
 
@@ -91,7 +91,7 @@ module _ (workers : ℕ) where
 -- The greatest time of a batch without expiries
 
 one_time : (most : ℕ) (ops : List NamedOp) (names kinds : List (List ℕ)) → list_any is_expire ops ≡ false
-    → latest (resolved_by most ops names kinds) ≡ 0
+    → latest_expiry (resolved_by most ops names kinds) ≡ 0
 one_time most [] names kinds none = refl
 one_time most (Insert kind source target weight time ∷ ops) names kinds none =
     let op : NamedOp = Insert kind source target weight time in
@@ -144,7 +144,7 @@ module _ (workers : ℕ) (ops : List NamedOp) (g : Graph) (rows : List (List Blo
   rs = resolved ops g
 
   abbrev old : ℕ → ℕ
-  old s = old_blocks (latest rs) (row_of rows s)
+  old s = old_blocks (latest_expiry rs) (row_of rows s)
 
   shard_needs : (w : ℕ) (s : Shard) → IsShardOf workers rs (layout_by (row_of rows)) w s
       → needs_of (row_of rows) s ≡ on_edges (shard_ops workers w rs) + sum_by old (sources_in s)
@@ -178,7 +178,7 @@ module _ (workers : ℕ) (ops : List NamedOp) (g : Graph) (rows : List (List Blo
           arith,
           all,
           edges,
-          few_old (latest rs) rows (flat_map sources_in shards)
+          few_old (latest_expiry rs) rows (flat_map sources_in shards)
               (λ m. all_once workers ops g (layout_by (row_of rows)) 0 workers m shards is.shards),
         )
         | false ↦ λ t. omega (

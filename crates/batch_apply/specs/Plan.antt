@@ -52,12 +52,12 @@ with_kind kinds ends (OfEdge change kind source target) =
 with_kind kinds ends (OfAll time) = InAll time
 
 -- the key and the operation that the program's values show
-abbrev pub key_of : EdgeKey → Key
-key_of k = record { kind = k.kind.0; source = k.source; target = k.target }
+abbrev pub key_shown : EdgeKey → Key
+key_shown k = record { kind = k.kind.0; source = k.source; target = k.target }
 
-abbrev pub shown : ResolvedOp → Resolved
-shown (Edge source key change) = AtKey source (option_map key_of key) change
-shown (Expire time) = InAll time
+abbrev pub shown_op : ResolvedOp → Resolved
+shown_op (Edge source key change) = AtKey source (option_map key_shown key) change
+shown_op (Expire time) = InAll time
 
 -- an operation on an edge has a weight and a time in range
 abbrev pub IsInRange : ResolvedOp → Type 0

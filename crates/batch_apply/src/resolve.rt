@@ -10,7 +10,7 @@ ghost use Rattle.std.specs.Option.{option_map};
 ghost use Rattle.graph_types.specs.Parts.{parts_in, parts_of, names_after, kinds_after, names_after_all};
 ghost use Rattle.graph_types.specs.Limits.{weight_limit};
 ghost use Rattle.batch_apply.specs.Plan as plan;
-ghost use Rattle.batch_apply.specs.Plan.{known, ends_in, key_from, key_of, shown, with_names, kind_by};
+ghost use Rattle.batch_apply.specs.Plan.{known, ends_in, key_from, key_shown, shown_op, with_names, kind_by};
 ghost use Rattle.batch_apply.specs.Plan.{Fits, IsFound, IsSeen, IsInRange, IsRefusal, IsUnplanned};
 
 use graph_types::{ApplyError, EdgeChange, KindId, MOST_WEIGHT, NamedOp, OpParts, parts_in};
@@ -240,7 +240,7 @@ fn op_kind(
 
 /// The key of numbers of which each is known.
 fn key_by(ends: Ends, kind: Option<KindId>) -> Option<EdgeKey>
-    ensures { option_map key_of result ≡ key_from (option_map (λ k. k.0) kind) ends.source ends.target }
+    ensures { option_map key_shown result ≡ key_from (option_map (λ k. k.0) kind) ends.source ends.target }
 {
     Some(EdgeKey {
         kind: kind?,
@@ -251,7 +251,7 @@ fn key_by(ends: Ends, kind: Option<KindId>) -> Option<EdgeKey>
 
 /// An operation on the edge of these ends and this kind.
 fn on_edge(ends: Ends, kind: Option<KindId>, change: EdgeChange) -> ResolvedOp
-    ensures { shown result ≡ AtKey ends.source (key_from (option_map (λ k. k.0) kind) ends.source ends.target) change }
+    ensures { shown_op result ≡ AtKey ends.source (key_from (option_map (λ k. k.0) kind) ends.source ends.target) change }
 {
     ResolvedOp::Edge(ends.source, key_by(ends, kind), change)
 }
@@ -261,7 +261,7 @@ fn resolved_op(op: &NamedOp, most: u64, ends: Ends, kind: Option<KindId>) -> Res
     requires op { IsValid op.now }
     requires most { most ≤ weight_limit }
     ensures shown { (kinds : List (List ℕ)) → option_map (λ k. k.0) kind ≡ kind_by kinds (parts_of op.now)
-        → shown result ≡ plan.with_kind kinds ends (parts_in most op.now) }
+        → shown_op result ≡ plan.with_kind kinds ends (parts_in most op.now) }
     ensures valid { IsInRange result }
 {
     match parts_in(op, most) {
@@ -338,7 +338,7 @@ pub fn resolve_op(
     requires behind { All IsValid behind.now }
     requires found { IsFound names.old.names op.now found }
     requires seen { IsSeen kinds.old.names seen }
-    ensures op { IfOk result (λ r. shown r
+    ensures op { IfOk result (λ r. shown_op r
         ≡ resolve_parts (names_after op.now names.old.names) (kinds_after op.now kinds.old.names) (parts_in most op.now)) }
     ensures change { IfOk result IsInRange }
     ensures names { OnOk result (names.new ≡ with_names names.old (names_after op.now names.old.names)) }

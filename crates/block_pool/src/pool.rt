@@ -4,10 +4,10 @@ ghost use Rattle.std.specs.Prelude.{◌≡◌, ◌⊎◌, ◌<◌, ◌≤◌, �
 ghost use Rattle.std.specs.Prelude.{IfSome, None, true, ℕ, ◌-◌, slice_index, slice_index_or, slice_set};
 ghost use Rattle.std.specs.Arc.{arc_value};
 ghost use Rattle.edge_block.specs.declared.blocks.Block.{Block};
-ghost use Rattle.block_pool.specs.Pools.{retired, is_in_use_at, marked, changed, AreFree, is_used_at};
+ghost use Rattle.block_pool.specs.Pools.{retired, is_in_use_at, marked, changed_numbers, AreFree, is_used_at};
 ghost use Rattle.block_reclamation.specs.declared.status.BlockStatus.TheVariants.{Free, Granted, Used};
 ghost use Rattle.block_reclamation.specs.Status.{is_free, is_in_use, is_retired, is_reclaimable, most_blocks, recycled};
-ghost use Rattle.block_pool.specs.Kept.{statuses, popped, IsNumbers, IsRoomier, IsReady, HasRoomFor};
+ghost use Rattle.block_pool.specs.Kept.{statuses, popped, IsNumbers, IsRoomier, IsReadyNumber, HasRoomFor};
 ghost use Rattle.block_pool.specs.Paging.{HasRoom};
 ghost use Rattle.block_pool.specs.Pools.{AreBodies};
 
@@ -185,7 +185,7 @@ impl Pool {
     /// Retires a block whose birth was noted with the number of the version that left it out. It takes no memory.
     pub fn retire(&mut self, block: Arc<Block>, version: u64)
         requires { is_used_at self.old (arc_value {X = Block} block).number ≡ true }
-        ensures { self.new ≡ changed (retired version) ((arc_value {X = Block} block).number ∷ []) self.old }
+        ensures { self.new ≡ changed_numbers (retired version) ((arc_value {X = Block} block).number ∷ []) self.old }
     {
         let number = block.number();
         self.numbers.retire(number, version);
@@ -221,7 +221,7 @@ fn gather(
     ensures rooms { HasRoomFor (statuses numbers.old) bodies.new.rooms }
     ensures numbers { IfOk result (λ g. g.numbers.items ≡ popped numbers.old.free.items numbers.old.free_len count) }
     ensures blocks { IfOk result (λ g. map (λ b. (arc_value {X = Block} b).number) g.blocks.items ≡ g.numbers.items) }
-    ensures ready { OnOk result ((before : ℕ) → before < count → IsReady numbers.new before) }
+    ensures ready { OnOk result ((before : ℕ) → before < count → IsReadyNumber numbers.new before) }
     ensures taken { OnOk result ((before : ℕ) → before < count
         → HasRoom bodies.new.rooms (slice_index numbers.old.free.items (numbers.old.free_len - 1 - before))) }
 {

@@ -8,8 +8,8 @@ ghost use Rattle.graph_version.specs.Rows as rows;
 ghost use Rattle.graph_version.specs.Batches.{batch_value};
 ghost use Rattle.graph_version.specs.Versions.{VersionView, content};
 ghost use Rattle.batch_apply.specs.Rewritten.{IsRewritten};
-ghost use Rattle.batch_shards.specs.RowBlocks.{numbers_of};
-ghost use Rattle.block_reclamation.specs.Status.{is_listed, is_free, is_in_use, most_blocks};
+ghost use Rattle.batch_shards.specs.RowBlocks.{shared_numbers};
+ghost use Rattle.block_reclamation.specs.Status.{is_among, is_free, is_in_use, most_blocks};
 ghost use Rattle.block_pool.specs.Pools.{AreFree, marked};
 ghost use Rattle.block_reclamation.specs.declared.status.BlockStatus.TheVariants.{Granted};
 ghost use Rattle.desk.specs.Applying.{IsPrepared};
@@ -50,7 +50,7 @@ pub(crate) fn grant_blocks(pool: &mut Pool, batch: &Batch, plan: &Plan) -> Resul
     requires { sum_by (λ n. n) plan.now.needs.items ≤ asked batch.now (count_by is_in_use pool.old) }
     ensures numbers { IfOk result (λ g. AreFree pool.old g.numbers.items
         × (length g.numbers.items ≡ sum_by (λ n. n) plan.now.needs.items)) }
-    ensures blocks { IfOk result (λ g. numbers_of g.blocks.items ≡ g.numbers.items) }
+    ensures blocks { IfOk result (λ g. shared_numbers g.blocks.items ≡ g.numbers.items) }
     ensures used { IfOk result (λ g. pool.new ≡ marked g.numbers.items Granted pool.old) }
     ensures enough { OnOk result (asked batch.now (count_by is_in_use pool.old) ≤ count_by is_free pool.old) }
     ensures refused { IfErr result (RefusesGrant (asked batch.now (count_by is_in_use pool.old)) (count_by is_free pool.old)) }
@@ -83,7 +83,7 @@ pub(crate) struct Prepared {
 
 /// The numbers of blocks, in their order.
 fn numbers_in(alloc: Global, blocks: &[Arc<Block>]) -> Result<Vec<u32>, AllocError>
-    ensures { IfOk result (λ v. v.items ≡ numbers_of blocks.now) }
+    ensures { IfOk result (λ v. v.items ≡ shared_numbers blocks.now) }
 {
     let mut numbers = Vec::with_capacity(alloc, blocks.len())?;
     for block in blocks {

@@ -78,12 +78,12 @@ outcomes_all sources [] rows = []
 outcomes_all sources (r ∷ rs) rows = outcome_in sources r rows ∷ outcomes_all sources rs (rows_step r rows)
 
 -- the rows before the batch's first operation
-abbrev pub opened : (ℕ → List Shape) → ℕ → List OpenBlock
-opened layout source = map untouched (layout source)
+abbrev pub opened_rows : (ℕ → List Shape) → ℕ → List OpenBlock
+opened_rows layout source = map untouched (layout source)
 
 -- the layout that a batch leaves
 abbrev pub layout_after : List NamedOp → Graph → (ℕ → List Shape) → ℕ → List Shape
-layout_after ops g layout source = row_end (rows_all (resolved ops g) (opened layout) source)
+layout_after ops g layout source = row_end (rows_all (resolved ops g) (opened_rows layout) source)
 
 abbrev pub sum_below : ℕ → (ℕ → ℕ) → ℕ
 sum_below zero f = 0
@@ -92,15 +92,15 @@ sum_below (suc n) f = f n + sum_below n f
 -- how many blocks a batch takes and drops, over n sources
 abbrev pub taken_by : List NamedOp → Graph → (ℕ → List Shape) → ℕ → ℕ
 taken_by ops g layout n =
-    sum_below n (λ source. taken_in (rows_all (resolved ops g) (opened layout) source))
+    sum_below n (λ source. taken_in (rows_all (resolved ops g) (opened_rows layout) source))
 
 abbrev pub dropped_by : List NamedOp → Graph → (ℕ → List Shape) → ℕ → ℕ
 dropped_by ops g layout n =
-    sum_below n (λ source. dropped_in (rows_all (resolved ops g) (opened layout) source))
+    sum_below n (λ source. dropped_in (rows_all (resolved ops g) (opened_rows layout) source))
 
 -- an edge's numbers are those of names and kinds
-abbrev pub IsWithin : Graph → Type 0
-IsWithin g =
+abbrev pub HasEndsWithin : Graph → Type 0
+HasEndsWithin g =
     (k : Key) → is_some (get g.edges k) ≡ true
     → (k.kind < length g.kinds) × (k.source < length g.names) × (k.target < length g.names)
 

@@ -52,7 +52,7 @@ fn after_batch(
     batch: &Batch,
 ) -> Result<Option<Content>, AllocError>
     requires { IsContentIn limits content }
-    ensures { IfOk result (λ after. posting.IsAppliedTo limits content batch.now after) }
+    ensures { IfOk result (λ after. posting.IsContentAfter limits content batch.now after) }
 {
     match plain_apply_in(alloc, limits, &mut content, batch) {
         Ok(_) => Ok(Some(content)),

@@ -23,6 +23,6 @@ IsNamesRefusal limit error names = (error ≡ OutOfMemory) ⊎ ((error ≡ Names
 abbrev pub IsKindsRefusal : ℕ → ApplyError → List (List ℕ) → Type 0
 IsKindsRefusal limit error kinds = (error ≡ OutOfMemory) ⊎ ((error ≡ KindsFull) × (limit < length kinds))
 
-abbrev pub takes_memory : Request → Bool
-takes_memory (OneEdge kind source target) = false
-takes_memory _ = true
+abbrev pub needs_memory : Request → Bool
+needs_memory (OneEdge kind source target) = false
+needs_memory _ = true

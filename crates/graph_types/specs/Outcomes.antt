@@ -27,3 +27,8 @@ told (Expired count) = Expired (count % 2 ^ 64)
 abbrev pub written : List (ℕ × Outcome) → List Outcome → List Outcome
 written [] xs = xs
 written (p ∷ ps) xs = written ps (set xs p.0 (told (together (get_or xs p.0 Absent) p.1)))
+
+-- how many edges an outcome says that an expiry took away
+abbrev pub expired_in : Outcome → ℕ
+expired_in (Expired count) = count
+expired_in _ = 0

@@ -6,13 +6,13 @@ use Rattle.store_drive.specs.declared.reports.{DriveCounts.DriveCounts, DriveRep
 use Rattle.store_drive.specs.declared.reports.DriveWord.TheVariants.{Start, Memory, BatchLimit, NamesFull, KindsFull, PoolEmpty}
 
 -- a word as the program writes it
-abbrev pub word_text : DriveWord → List ℕ
-word_text Start = codes "Start"
-word_text Memory = codes "Memory"
-word_text BatchLimit = codes "BatchLimit"
-word_text NamesFull = codes "NamesFull"
-word_text KindsFull = codes "KindsFull"
-word_text PoolEmpty = codes "PoolEmpty"
+abbrev pub drive_word_text : DriveWord → List ℕ
+drive_word_text Start = codes "Start"
+drive_word_text Memory = codes "Memory"
+drive_word_text BatchLimit = codes "BatchLimit"
+drive_word_text NamesFull = codes "NamesFull"
+drive_word_text KindsFull = codes "KindsFull"
+drive_word_text PoolEmpty = codes "PoolEmpty"
 
 -- the word of a refused batch
 abbrev pub word_of : ApplyError → DriveWord

@@ -17,8 +17,8 @@ pub record IsOfOpening (book : Book) (opening : Graph) (x : ToldView) : Type 0 w
   pub opening_is : x.version.opening ≡ opening
 
 -- a seat of that shelf
-abbrev pub IsSeatOf : Book → Graph → SeatView → Type 0
-IsSeatOf book opening seat = IsOfOpening book opening seat.seen
+abbrev pub IsSeatOfOpening : Book → Graph → SeatView → Type 0
+IsSeatOfOpening book opening seat = IsOfOpening book opening seat.seen
 
 -- a receipt tells of a version whose batches end with this one and have its number; the outcomes are those of the operation
 -- rule over what the batches before left, at which neither limit of the batch is met, nor that of their number

@@ -5,8 +5,8 @@ use Rattle.edge_block.specs.declared.blocks.Block.{Block}
 use Rattle.block_reclamation.specs.declared.status.BlockStatus.{BlockStatus}
 use Rattle.block_pool.specs.Pools.{is_in_use_at}
 
-abbrev pub numbers_of : List (Arc Block Global) → List ℕ
-numbers_of blocks = map (λ b. (arc_value {X = Block} b).number) blocks
+abbrev pub block_numbers : List (Arc Block Global) → List ℕ
+block_numbers blocks = map (λ b. (arc_value {X = Block} b).number) blocks
 
 -- each of the numbers is used, and none stands twice
 pub record AreHeld (numbers : List ℕ) (pool : List BlockStatus) : Type 0 where

@@ -5,7 +5,7 @@ use Rattle.std.proofs.lemmas.List.{Elements.{All-head, All-tail}, FromFn.{length
 use Rattle.std.specs.{List.range_with_len, declared.sync.Arc.Arc, declared.alloc.Global.Global}
 use Rattle.edge_block.specs.declared.blocks.Block.{Block}
 use Rattle.graph_version.specs.Versions.{is_in}
-use Rattle.batch_shards.specs.RowBlocks.{block_of, numbers_of}
+use Rattle.batch_shards.specs.RowBlocks.{block_of, shared_numbers}
 
 range_next : (first n : ℕ) → range_with_len first (suc n) ≡ range_with_len first n ++ (first + n) ∷ []
 range_next first zero = ap (λ m. m ∷ []) (omega arith)
@@ -14,8 +14,8 @@ range_next first (suc n) =
 
 -- one block more, of the next number
 pub one_more_number : (first k : ℕ) (blocks : List (Arc Block Global)) (block : Arc Block Global)
-    → numbers_of blocks ≡ range_with_len first k → (block_of block).number ≡ first + k
-    → numbers_of (blocks ++ block ∷ []) ≡ range_with_len first (k + 1)
+    → shared_numbers blocks ≡ range_with_len first k → (block_of block).number ≡ first + k
+    → shared_numbers (blocks ++ block ∷ []) ≡ range_with_len first (k + 1)
 one_more_number first k blocks block so_far is =
     let next : suc k ≡ k + 1 = omega arith in
     map-append (λ (b : Arc Block Global). (block_of b).number) blocks (block ∷ [])
@@ -52,16 +52,16 @@ numbers_unlisted first n numbers all j d lt =
     not_in (get_or (range_with_len first n) j d) first numbers (omega arith) all
 
 -- so of blocks that are numbered from there on
-pub as_many : (first n : ℕ) (blocks : List (Arc Block Global)) → numbers_of blocks ≡ range_with_len first n → length blocks ≡ n
+pub as_many : (first n : ℕ) (blocks : List (Arc Block Global)) → shared_numbers blocks ≡ range_with_len first n → length blocks ≡ n
 as_many first n blocks is =
     sym (length-map blocks (λ (b : Arc Block Global). (block_of b).number)) ∙ ap length is ∙ length-range_with_len first n
 
-pub are_distinct : (first n : ℕ) (blocks : List (Arc Block Global)) → numbers_of blocks ≡ range_with_len first n
-    → AllPairs (λ a b. a ≢ b) (numbers_of blocks)
+pub are_distinct : (first n : ℕ) (blocks : List (Arc Block Global)) → shared_numbers blocks ≡ range_with_len first n
+    → AllPairs (λ a b. a ≢ b) (shared_numbers blocks)
 are_distinct first n blocks is = subst (λ ns. AllPairs (λ a b. a ≢ b) ns) (sym is) (numbers_distinct first n)
 
 pub are_unlisted : (first n : ℕ) (blocks : List (Arc Block Global)) (numbers : List ℕ)
-    → All (λ m. m < first) numbers → numbers_of blocks ≡ range_with_len first n
-    → All (λ m. is_in m numbers ≡ false) (numbers_of blocks)
+    → All (λ m. m < first) numbers → shared_numbers blocks ≡ range_with_len first n
+    → All (λ m. is_in m numbers ≡ false) (shared_numbers blocks)
 are_unlisted first n blocks numbers below is =
     subst (λ ns. All (λ m. is_in m numbers ≡ false) ns) (sym is) (numbers_unlisted first n numbers below)

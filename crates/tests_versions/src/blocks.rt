@@ -3,7 +3,7 @@
 ghost use Rattle.std.specs.Prelude.{◌≡◌, ◌≢◌, ◌<◌, ◌≤◌, ◌^◌, length, false, IfOk, IfSome, All, AllPairs};
 ghost use Rattle.std.specs.List.{range_with_len};
 ghost use Rattle.graph_version.specs.Rows as rows;
-ghost use Rattle.batch_shards.specs.RowBlocks.{numbers_of};
+ghost use Rattle.batch_shards.specs.RowBlocks.{shared_numbers};
 ghost use Rattle.graph_version.specs.Versions.{is_in};
 
 use edge_block::Block;
@@ -27,7 +27,7 @@ fn past_blocks(version: &Version) -> Option<u32>
 /// So many empty blocks, numbered from the first.
 fn blank_from(alloc: Global, first: u32, count: usize) -> Result<Vec<Arc<Block>>, AllocError>
     requires count { count ≤ 4096 }
-    ensures { IfOk result (λ v. numbers_of v.items ≡ range_with_len first count) }
+    ensures { IfOk result (λ v. shared_numbers v.items ≡ range_with_len first count) }
 {
     let mut blocks = Vec::with_capacity(alloc, count)?;
     for k in 0..count {
@@ -48,9 +48,9 @@ pub(crate) fn fresh_blocks(
 ) -> Option<Vec<Arc<Block>>>
     requires count { count ≤ 4096 }
     ensures many { IfSome result (λ v. length v.items ≡ count) }
-    ensures distinct { IfSome result (λ v. AllPairs ◌≢◌ (numbers_of v.items)) }
+    ensures distinct { IfSome result (λ v. AllPairs ◌≢◌ (shared_numbers v.items)) }
     ensures unlisted { IfSome result (λ v.
-        All (λ n. is_in n (rows.numbers_of (rows.blocks_of version.now.rows)) ≡ false) (numbers_of v.items)) }
+        All (λ n. is_in n (rows.numbers_of (rows.blocks_of version.now.rows)) ≡ false) (shared_numbers v.items)) }
 {
     let Some(first) = past_blocks(version) else {
         return None;

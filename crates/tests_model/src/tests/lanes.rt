@@ -1,7 +1,7 @@
 // Scans over columns, also against slow ones on inputs as if drawn by lot.
 
 ghost use Rattle.std.specs.Prelude.{◌≡◌, ◌≤◌, length, All};
-ghost use Rattle.lane_scan.specs.Masks.{IsWeight, selected};
+ghost use Rattle.lane_scan.specs.Masks.{IsLaneWeight, selected};
 
 use super::checks::same;
 use lane_scan::{bounds, equal_columns, find_target, masked_sum, widened, window_mask};
@@ -53,7 +53,7 @@ fn window_has_both_its_ends(rt: HostRuntime) {
 
 fn sums(rt: &impl Abort, weights: &[i64], mask: u32, wanted: i64)
     requires few { length weights.now ≤ 32 }
-    requires counted_are_weights { All IsWeight (selected mask weights.now) }
+    requires counted_are_weights { All IsLaneWeight (selected mask weights.now) }
 {
     same(rt, masked_sum(weights, mask), wanted);
 }

@@ -23,13 +23,13 @@ pub(super) struct Hand {
 impl Model for Hand {
     ghost use Rattle.std.specs.Prelude.{List};
     ghost use Rattle.block_reclamation.specs.declared.status.BlockStatus.{BlockStatus};
-    ghost use Rattle.tests_model.specs.Held.{numbers_of, AreHeld};
+    ghost use Rattle.tests_model.specs.Held.{block_numbers, AreHeld};
 
     ghost Value = { List BlockStatus };
 
     ghost view = { λ h. h.pool };
 
-    ghost invariant = { λ h. AreHeld (numbers_of h.blocks.items) h.pool };
+    ghost invariant = { λ h. AreHeld (block_numbers h.blocks.items) h.pool };
 }
 
 impl Hand {

@@ -3,7 +3,7 @@
 ghost use Rattle.std.specs.Prelude.{◌≡◌, ◌≢◌, ◌<◌, ◌≤◌, length, false, IfSome, All, AllPairs};
 ghost use Rattle.std.specs.List.{sum_by};
 ghost use Rattle.graph_version.specs.Rows as rows;
-ghost use Rattle.batch_shards.specs.RowBlocks.{numbers_of};
+ghost use Rattle.batch_shards.specs.RowBlocks.{shared_numbers};
 ghost use Rattle.graph_version.specs.Versions.{content, is_in};
 ghost use Rattle.graph_types.specs.Graph.{IsContentIn};
 ghost use Rattle.graph_types.specs.Limits.{standard_limits};
@@ -50,9 +50,9 @@ pub(super) fn planned(
 // Fresh blocks for a plan; nothing where it asks for more than 4,096.
 fn blocks_for(alloc: Global, version: &Version, plan: &Plan) -> Option<Vec<Arc<Block>>>
     ensures many { IfSome result (λ v. sum_by (λ n. n) plan.now.needs.items ≤ length v.items) }
-    ensures distinct { IfSome result (λ v. AllPairs ◌≢◌ (numbers_of v.items)) }
+    ensures distinct { IfSome result (λ v. AllPairs ◌≢◌ (shared_numbers v.items)) }
     ensures unlisted { IfSome result (λ v.
-        All (λ n. is_in n (rows.numbers_of (rows.blocks_of version.now.rows)) ≡ false) (numbers_of v.items)) }
+        All (λ n. is_in n (rows.numbers_of (rows.blocks_of version.now.rows)) ≡ false) (shared_numbers v.items)) }
 {
     let count = plan.blocks_needed();
     if count > 4096 {

@@ -8,7 +8,7 @@ use Rattle.graph_types.specs.declared.ids.VertexId.{VertexId}
 use Rattle.edge_block.specs.Slots.{BlockView}
 use Rattle.batch_shards.specs.Closing.{row_values}
 use Rattle.batch_apply.proofs.Others.{among_others}
-use Rattle.batch_shards.specs.RowBlocks.{blocks_of, numbers_of}
+use Rattle.batch_shards.specs.RowBlocks.{shared_blocks, shared_numbers}
 use Rattle.batch_apply.specs.Applied.{is_inserted, taken_away, IsApplied, ReplacesRows}
 use Rattle.batch_apply.{specs.{declared.applied.Applied.Applied, Gathered.IsWorked}, proofs.EdgeCounts.len_after_all}
 use Rattle.batch_apply.proofs.{Left.rows_left, Applying.{next_made, draft_is, draft_among}}
@@ -54,7 +54,7 @@ made c numbers w =
           (version ∙ ap (λ (d : DraftView). d.version)
           (draft_is v ops c.args.names c.args.kinds (rows_left a.dones) d1 d2 d3 e1 e2 e3))
           (ap (λ l. l.items) outcomes ∙ a.outcomes_are) (ap (λ l. l.items) taken ∙ a.taken_are)
-          (ap (λ l. blocks_of l.items) dropped ∙ a.dropped_are) (ap (λ l. numbers_of l.items) unused ∙ a.unused_are),
+          (ap (λ l. shared_blocks l.items) dropped ∙ a.dropped_are) (ap (λ l. shared_numbers l.items) unused ∙ a.unused_are),
     )
 
 pub finish_counted-requires-clause-whole : goal.finish_counted-requires-clause-whole

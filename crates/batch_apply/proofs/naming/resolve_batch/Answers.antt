@@ -4,7 +4,7 @@ use Rattle.graph_types.specs.declared.batches.NamedOp.{NamedOp}
 use Rattle.graph_types.specs.Parts.{names_after, kinds_after, names_after_all, kinds_after_all}
 use Rattle.edge_block.specs.Batches.{resolved_by}
 use Rattle.vertex_names.specs.Book.{Book}
-use Rattle.batch_apply.specs.Plan.{shown, AreFound, IsInRange, IsSeen}
+use Rattle.batch_apply.specs.Plan.{shown_op, AreFound, IsInRange, IsSeen}
 use Rattle.batch_apply.proofs.{Found.{all_later, rest_found}, Resolving.{one_more, placed_in, all_resolved}}
 use Rattle.batch_apply.proofs.naming.resolve_batch.Goals as goal
 
@@ -22,7 +22,7 @@ loop-k-preserved c =
     record {
       names = ap (names_after_all rest) more_names ∙ ap (λ l. names_after_all l names) (sym step) ∙ c.loop-k.invariant.names;
       kinds = ap (kinds_after_all rest) more_kinds ∙ ap (λ l. kinds_after_all l kinds) (sym step) ∙ c.loop-k.invariant.kinds;
-      found = (λ i. map shown (c.in-Ok.ensures.items i) ++ resolved_by c.args.most rest (more_names i) (more_kinds i))
+      found = (λ i. map shown_op (c.in-Ok.ensures.items i) ++ resolved_by c.args.most rest (more_names i) (more_kinds i))
           ∙ one_more c.args.most (drop k ops) rest op c.loop-k.found.items c.in_ok-op.op names kinds
           (resolved_by c.args.most ops c.args.names.now.names c.args.kinds.now.names) step c.in_ok-op.ensures.op c.loop-k.invariant.found;
       changes = rw c.in-Ok.ensures.items (All-push IsInRange c.loop-k.found.items c.in_ok-op.op
@@ -48,6 +48,6 @@ resolve_op-requires-clause-found c =
 
 pub returns-clause-placed : goal.returns-clause-placed
 returns-clause-placed c =
-    placed_in c.args.most (map shown c.loop-k.found.items) c.args.ops.now c.args.names.now.names c.args.kinds.now.names
+    placed_in c.args.most (map shown_op c.loop-k.found.items) c.args.ops.now c.args.names.now.names c.args.kinds.now.names
     (all_resolved c.args.most c.args.ops.now c.loop-k.k c.loop-k.found.items c.loop-k.names.names c.loop-k.kinds.names
     (resolved_by c.args.most c.args.ops.now c.args.names.now.names c.args.kinds.now.names) c.loop-k-test.false c.loop-k.invariant.found)

@@ -1,6 +1,6 @@
 use Rattle.std.{proofs.Common.{◌≡◌, ℕ, List, [], ◌∷◌, set, refl, true, sym, ap, subst, ◌∙◌, rules}, specs.Arc.arc_value}
 use Rattle.edge_block.specs.declared.blocks.Block.{Block}
-use Rattle.block_pool.specs.Pools.{changed, retired, is_used_at}
+use Rattle.block_pool.specs.Pools.{changed_numbers, retired, is_used_at}
 use Rattle.block_reclamation.specs.declared.status.BlockStatus.{BlockStatus, TheVariants.Used}
 use Rattle.tests_model.proofs.Held.{rest_held, first_used, born_here, retired_at}
 use Rattle.tests_model.proofs.tests.pools.Hand.retire.Goals as goal
@@ -25,7 +25,7 @@ pub invariant_of-self : goal.invariant_of-self
 invariant_of-self c =
     let n : ℕ = (arc_value {X = Block} c.remove-block.result).number in
     let moved = c.retire.ensures
-    ∙ ap (changed (retired c.args.version) (n ∷ []))
+    ∙ ap (changed_numbers (retired c.args.version) (n ∷ []))
     (born_at c.self.inside.pool c.born.new.self _ n c.args.birth _ _ c.born.ensures c.number.ensures c.deref.ensures refl) in
     rest_held c.self.inside.blocks.items c.remove-block.new.self.items c.remove-block.result n _ c.self.inside.pool
     c.retire.new.self c.remove-block.ensures.value refl c.remove-block.ensures.items
