@@ -8,7 +8,8 @@ use Rattle.graph_types.specs.{Step.outcomes, declared.batches.{NamedOp.NamedOp, 
 use Rattle.graph_types.proofs.More.{left_more}
 use Rattle.graph_types.proofs.{LimitsKept.limits_after_all, WeightsKept.HasWeights-after_all}
 use Rattle.edge_block.specs.{Slots.BlockView, Rows.{OpenBlock, shape_of, row_at, IsRow}, Batches.{Resolved, resolved}}
-use Rattle.edge_block.{specs.Batches.{outcomes_all, opened_rows, layout_after, HasEndsWithin, IsLayoutOf}, proofs.GraphLaws.batch_layout}
+use Rattle.edge_block.specs.Batches.{outcomes_all, opened_rows, layout_after, HasEndsWithin, IsLayoutOf}
+use Rattle.edge_block.proofs.GraphLaws.{batch_layout}
 use Rattle.vertex_names.specs.Book.{Book}
 use Rattle.graph_version.specs.Rows as rows
 use Rattle.graph_version.specs.{Rows.row_of, Versions.{VersionView, IsVersion, IsBlockOf, AreRowsOf, content, layout_of, is_in}}
@@ -23,13 +24,15 @@ use Rattle.graph_types.specs.Refusals.{MeetsNeitherLimit}
 use Rattle.batch_apply.{specs.Shards.IsShardOf, proofs.Resolving.as_many_resolved}
 use Rattle.batch_apply.specs.{Plans.written_all, Shards.ArePlanned, declared.{applied.Applied.Applied, workers.Job.Job}}
 use Rattle.batch_apply.specs.{Applied.{IsApplied, ReplacesRows, row_among, written_from}, Gathered.{IsDealt, AreShardsDone}}
-use Rattle.batch_apply.proofs.{Told.told_exact, Written.all_written, Written.all_sources, Placed.times, Placed.among_is}
+use Rattle.batch_apply.proofs.{Told.told_exact, Written.{all_written, all_sources}, Placed.among_is}
+use Rattle.edge_block.proofs.Placed.{times}
 use Rattle.batch_apply.proofs.Together.{all_once, all_within, once, quiet_layout, batch_totals, outcomes_over, quiet_row}
 use Rattle.batch_apply.proofs.{Together.births_sum, Together.together_at, Numbers.numbers_once, Kept.pairs, Kept.exchanged_all}
 use Rattle.batch_apply.proofs.Left.{outcomes_left, sum_each, rows_left, taken_left, dropped_left, unused_left}
 use Rattle.batch_apply.proofs.Left.{fresh_all, sources_left, blocks_left, exchanged_left, handed_left, layouts_left, births_left}
 use Rattle.batch_apply.proofs.Dealt.{shards_in, needs_of, dealt_planned, done_in, fresh_in}
-use Rattle.batch_apply.proofs.BirthCounts.{map_same, untouched_births, untouched_dropped, count_births, count_pieces, count_lists}
+use Rattle.batch_shards.proofs.BirthCounts.{map_same, untouched_births, untouched_dropped, count_births, count_pieces}
+use Rattle.batch_shards.proofs.BirthCounts.{count_lists}
 
 all_shards : (shards : List Shard) → all_sources (map sources_in shards) ≡ flat_map sources_in shards
 all_shards [] = refl

@@ -9,13 +9,15 @@ use Rattle.graph_types.specs.{Graph.{Graph, Key}, Step.{is_before, is_expire}, d
 use Rattle.graph_types.specs.declared.{batches.NamedOp.TheVariants.{Insert, Incr, Remove, Expire}, changes.EdgeChange.EdgeChange}
 use Rattle.graph_types.specs.Parts.{names_after, kinds_after}
 use Rattle.edge_block.specs.Slots.{BlockView, Slot, edges_in, has_before}
-use Rattle.edge_block.{specs.Batches.{Resolved, AtKey, InAll, resolved, resolved_by, shard_of, shard_ops}, proofs.Counts.count_more}
+use Rattle.edge_block.specs.Batches.{Resolved, AtKey, InAll, resolved, resolved_by, shard_of, shard_ops}
+use Rattle.edge_block.proofs.Counts.{count_more}
 use Rattle.graph_version.specs.Rows.{row_of, blocks_of}
 use Rattle.batch_shards.specs.{Done.{layout_by, sources_in, steps_in}, Groups.is_expiry, Spending.old_blocks, Shards.resolved_at}
 use Rattle.batch_shards.specs.{Shards.resolved_in, declared.shard.{Act.Act, Shard.Shard, Step.Step}}
 use Rattle.batch_apply.specs.{Planned.IsPlan, Shards.acts, Shards.unsourced, Shards.latest_expiry, Shards.IsShardOf}
 use Rattle.batch_apply.{specs.declared.plans.Plan.Plan, proofs.Listing.same_latest, proofs.Resolving.as_many_resolved}
-use Rattle.batch_apply.proofs.{Together.all_once, Placed.times, Kept.sum_lists, Kept.split_rows, Dealt.needs_of}
+use Rattle.batch_apply.proofs.{Together.all_once, Kept.{sum_lists, split_rows}, Dealt.needs_of}
+use Rattle.edge_block.proofs.Placed.{times}
 
 -- Operations on edges, each of which is in one shard
 

@@ -3,7 +3,8 @@ use Rattle.std.proofs.Common.{◌≡◌, ℕ, zero, suc, ◌+◌, ◌<◌, List,
 use Rattle.std.proofs.{Common.{ap, ◌∙◌, arith, All}, lemmas.List.{length-map, Sums.sum_by-cons, Elements.{All-nil, All-cons}}}
 use Rattle.std.{specs.List.{sum_by, range_with_len, AllZip}, proofs.lemmas.Grind.common_steps}
 use Rattle.edge_block.specs.{Slots.BlockView, Rows.Shape, Batches.Resolved}
-use Rattle.batch_shards.specs.{RowBlocks.shared_numbers, Done.{IsShardDone, sources_in}, Spending.needed, declared.shard.Shard.Shard}
+use Rattle.batch_shards.specs.{RowBlocks.shared_numbers, Done.{IsShardDone, sources_in}, Spending.needed}
+use Rattle.batch_shards.specs.declared.shard.Shard.{Shard}
 use Rattle.batch_shards.specs.declared.shard.ShardDone.{ShardDone}
 use Rattle.batch_apply.specs.{Shards.IsShardOf, Gathered.{IsDealt, IsShard, AreShardsDone}, declared.workers.Job.Job}
 

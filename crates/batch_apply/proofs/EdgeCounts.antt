@@ -10,32 +10,7 @@ use Rattle.graph_types.specs.declared.{batches.NamedOp.TheVariants.{Insert, Incr
 use Rattle.graph_types.specs.declared.changes.EdgeChange.TheVariants.{Insert as ToInsert, Incr as ToIncr, Remove as ToRemove}
 use Rattle.graph_types.proofs.{Keys.keys_total, Expiry.fewer}
 use Rattle.batch_apply.specs.Applied.{is_inserted, taken_away}
-
--- how many edges there are with a stamp at a key
-inserted_len : (edges : FinMap key_cmp Stamp) (key : Key) (stamp : Stamp) (before : Option Stamp) → get edges key ≡ before
-    → len (insert edges key stamp) ≡ cond (is_some before) (len edges) (len edges + 1)
-inserted_len edges key stamp before at =
-    len-insert keys_total edges key stamp ∙ ap (λ (b : Option Stamp). cond (is_some b) (len edges) (len edges + 1)) at
-
-some_there : (edges : FinMap key_cmp Stamp) (key : Key) (stamp : Stamp) → get edges key ≡ Some stamp → 0 < len edges
-some_there edges key stamp at =
-    elim (len edges) as (λ n. len edges ≡ n → 0 < n) [
-      | zero ↦ λ none. absurd (true≢false (ap is_some (sym at)
-          ∙ ap (λ (m : FinMap key_cmp Stamp). is_some (get m key)) (empty_of_len edges none)
-          ∙ ap is_some (get-empty key_cmp key)))
-      | suc n ↦ λ same. omega arith
-    ] refl
-
-removed_len : (edges : FinMap key_cmp Stamp) (key : Key) (before : Option Stamp) → get edges key ≡ before
-    → len (remove edges key) + cond (is_some before) 1 0 ≡ len edges
-removed_len edges key None at =
-    omega (arith, len-remove keys_total edges key ∙ ap (λ (b : Option Stamp). cond (is_some b) (len edges - 1) (len edges)) at)
-removed_len edges key (Some e) at =
-    omega (
-      arith,
-      len-remove keys_total edges key ∙ ap (λ (b : Option Stamp). cond (is_some b) (len edges - 1) (len edges)) at,
-      some_there edges key e at,
-    )
+use Rattle.graph_types.proofs.EdgeCounts.{inserted_len, removed_len}
 
 -- what a change does at one key
 at_key : (change : EdgeChange) (edges : FinMap key_cmp Stamp) (key : Key) (before : Option Stamp) → get edges key ≡ before

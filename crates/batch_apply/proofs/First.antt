@@ -1,6 +1,7 @@
 -- What a worker's shard begins with.
 use Rattle.std.proofs.Common.{◌≡◌, ◌≢◌, ℕ, suc, ◌+◌, ◌<◌, ◌≤◌, ◌%◌, ◌==◌, ◌||◌, Bool, true, false, cond, List, [], ◌∷◌, ◌++◌}
-use Rattle.std.proofs.Common.{length, length-append, map, take, drop, get_or, refl, sym, ap, subst, ◌∙◌, arith, All, AllPairs, nat_eq}
+use Rattle.std.proofs.Common.{length, length-append, map, take, drop, get_or, refl, sym, ap, subst, ◌∙◌, arith, All, AllPairs}
+use Rattle.std.proofs.Common.{nat_eq}
 use Rattle.std.proofs.Common.{Option, Some, None}
 use Rattle.std.proofs.lemmas.{Bool.{true≢false, eq-eqb, eqb-true}, Grind.{common_steps, flat_map-append}}
 use Rattle.std.proofs.lemmas.List.{append-nil, append_assoc, map-append, take_more, drop_more, get_or-append-add}
@@ -10,10 +11,13 @@ use Rattle.std.specs.{List.{list_any, sum_by, Sorted.IsStrictlyIncreasing}, Prel
 use Rattle.graph_types.specs.Graph.{Key}
 use Rattle.edge_block.specs.Batches.{Resolved, AtKey, InAll, is_in_shard, shard_ops, sum_below, IsPlaced}
 use Rattle.batch_shards.specs.{Shards.IsAct, declared.shard.Step.Step}
-use Rattle.batch_apply.specs.{Plan.shown_op, OldRows.{old_sources, own_rows}, FirstSources.{AreFirst, AreNext, asked_sources, asked_source}}
+use Rattle.batch_apply.specs.{Plan.shown_op, OldRows.{old_sources, own_rows}, FirstSources.{AreFirst, AreNext, asked_sources}}
+use Rattle.batch_apply.specs.FirstSources.{asked_source}
 use Rattle.batch_apply.specs.{Shards.{AreShardSteps, IsSourceBelow}, declared.old.OldRow.OldRow}
 use Rattle.batch_apply.specs.declared.{own_sources.Places.Places, resolve.ResolvedOp.ResolvedOp}
-use Rattle.batch_apply.proofs.{Growth.{key_in, own_key}, Placed.{times, listed_times}, Totals.sum_all, Kept.sum_same}
+use Rattle.batch_apply.proofs.{Growth.{key_in, own_key}, Kept.sum_same}
+use Rattle.edge_block.proofs.Totals.{sum_all}
+use Rattle.edge_block.proofs.Placed.{times, listed_times}
 use Rattle.batch_apply.proofs.{Together.once, Asked.below_sum}
 use Rattle.batch_apply.proofs.Listing.{is_listed, listed_blocks, not_listed, own_distinct, own_listed, own_sources, own_among}
 

@@ -6,7 +6,9 @@ use Rattle.std.proofs.lemmas.Grind.{common_steps}
 use Rattle.edge_block.{specs.{Slots.BlockView, Batches.sum_below}, proofs.Counts.count_more}
 use Rattle.graph_version.specs.Rows.{row_of, blocks_of}
 use Rattle.batch_shards.{specs.Done.Exchanges, proofs.Places.count_by-append}
-use Rattle.batch_apply.{specs.Applied.row_among, proofs.{Totals.sum_all, Placed.{times, sources_of, among_none, among_all}}}
+use Rattle.batch_apply.{specs.Applied.row_among, proofs.Placed.{among_none, among_all}}
+use Rattle.edge_block.proofs.Totals.{sum_all}
+use Rattle.edge_block.proofs.Placed.{times, sources_of}
 
 -- Sums below a number
 

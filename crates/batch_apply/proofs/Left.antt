@@ -6,13 +6,14 @@ use Rattle.std.specs.List.{range_with_len, AllZip}
 use Rattle.graph_types.specs.{Graph.Graph, declared.batches.NamedOp.NamedOp, declared.batches.Outcome.Outcome}
 use Rattle.edge_block.specs.{Slots.BlockView, Rows.{Shape, shape_of}, Batches.{Resolved, resolved, opened_rows, layout_after}}
 use Rattle.edge_block.specs.Batches.{rows_all}
-use Rattle.batch_shards.specs.{RowBlocks.shared_blocks, RowBlocks.shared_numbers, Closing.row_values, Births.births_end, Done.IsShardDone}
+use Rattle.batch_shards.specs.{RowBlocks.{shared_blocks, shared_numbers}, Closing.row_values, Births.births_end, Done.IsShardDone}
 use Rattle.batch_shards.specs.{Done.Exchanges, Done.sources_in, declared.shard.Shard.Shard, declared.shard.ShardDone.ShardDone}
 use Rattle.batch_shards.proofs.Places.{count_by-append}
 use Rattle.graph_version.specs.Versions.{IsBlockOf, is_in}
 use Rattle.batch_apply.specs.{Shards.IsShardOf, Plans.{written, written_all}, Applied.written_from}
-use Rattle.batch_apply.proofs.{Together.shard_outcomes_at, Together.shard_layout_at, Together.shard_births_at, Placed.sources_of}
-use Rattle.batch_apply.proofs.{BirthCounts.in_left, BirthCounts.in_right}
+use Rattle.batch_apply.proofs.Together.{shard_outcomes_at, shard_layout_at, shard_births_at}
+use Rattle.edge_block.proofs.Placed.{sources_of}
+use Rattle.graph_version.proofs.BirthCounts.{in_left, in_right}
 
 -- What shards leave, one after another
 

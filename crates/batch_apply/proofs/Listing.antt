@@ -10,7 +10,7 @@ use Rattle.std.{specs.List.sum_by, proofs.lemmas.Grind.common_steps}
 use Rattle.edge_block.specs.{Slots.{BlockView, has_before}, Rows.shape_of, Batches.{Resolved, AtKey, InAll, shard_ops}}
 use Rattle.batch_shards.specs.{Shards.{resolved_at, resolved_in}, Spending.{act_time, old_blocks, latest as latest_step}}
 use Rattle.batch_shards.specs.declared.shard.{Act.Act, Step.Step}
-use Rattle.batch_apply.specs.{Shards.acts, Shards.has_old_shape, Shards.latest_expiry, Shards.AreShardSteps, declared.old.OldRow.OldRow}
+use Rattle.batch_apply.specs.{Shards.{acts, has_old_shape, latest_expiry, AreShardSteps}, declared.old.OldRow.OldRow}
 use Rattle.batch_apply.specs.OldRows.{AreOldRows, old_sources, own_rows, blocks_in}
 
 -- whether a source's row is one of these, and its old blocks, none where it isn't

@@ -4,9 +4,10 @@ use Rattle.std.proofs.lemmas.{Bool.eqb-true, Bool.true≢false, List.Elements.Al
 use Rattle.std.{proofs.Common.refl, proofs.Common.ap, proofs.Common.arith, specs.List.list_any}
 use Rattle.edge_block.{specs.Slots.BlockView, proofs.Counts.count_more}
 use Rattle.graph_version.specs.Rows as rows
-use Rattle.batch_shards.{specs.Done.Exchanges, proofs.Places.count_map}
+use Rattle.batch_shards.specs.Done.{Exchanges}
+use Rattle.edge_block.proofs.Places.{count_map}
 use Rattle.graph_version.specs.Versions.{is_in}
-use Rattle.batch_apply.proofs.Placed.{times}
+use Rattle.edge_block.proofs.Placed.{times}
 
 -- Numbers
 

@@ -1,6 +1,8 @@
 -- Where a source stands: among few that are looked through, or where the next place says.
-use Rattle.std.proofs.Common.{◌≡◌, ◌<◌, ◌+◌, ◌++◌, ℕ, suc, cond, true, Bool, List, [], ◌∷◌, length, get_or, refl, sym, ap, ◌∙◌, arith, nat_eq, Some, None}
-use Rattle.std.proofs.lemmas.{Bool.{eqb-true, eq-eqb}, Map.Keys.any_passes_from_place, List.{map-append, Quantifiers.position-Some}, Option.slice_get-get_or}
+use Rattle.std.proofs.Common.{◌≡◌, ◌<◌, ◌+◌, ◌++◌, ℕ, suc, cond, true, Bool, List, [], ◌∷◌, length, get_or, refl, sym, ap, ◌∙◌}
+use Rattle.std.proofs.Common.{arith, nat_eq, Some, None}
+use Rattle.std.proofs.lemmas.{Bool.{eqb-true, eq-eqb}, Map.Keys.any_passes_from_place, List.map-append}
+use Rattle.std.proofs.lemmas.{List.Quantifiers.position-Some, Option.slice_get-get_or}
 use Rattle.std.{proofs.lemmas.Option.slice_get-map, specs.{Prelude.{nat_lt, position, slice_get}, List.list_any}}
 use Rattle.std.{specs.{List.position_or_len, Option.option_map}, proofs.lemmas.Grind.common_steps}
 use Rattle.graph_types.specs.declared.ids.VertexId.{VertexId}

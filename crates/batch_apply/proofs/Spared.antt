@@ -10,7 +10,9 @@ use Rattle.edge_block.specs.{Slots.{Slot, edges_in, has_before, old_in, slots_si
 use Rattle.edge_block.specs.{Rows.{expire_row, old_in_row}, Batches.{Resolved, AtKey, InAll, IsPlaced, key_is_of, is_in_shard}}
 use Rattle.edge_block.specs.Batches.{shard_ops, sum_below, rows_step, rows_all, key_outcome, outcomes_all}
 use Rattle.edge_block.proofs.Counts.{count_more}
-use Rattle.batch_apply.{specs.Shards.{latest_expiry, has_old_shape}, proofs.{Placed.times, Totals.sum_all}}
+use Rattle.batch_apply.specs.Shards.{latest_expiry, has_old_shape}
+use Rattle.edge_block.proofs.Totals.{sum_all}
+use Rattle.edge_block.proofs.Placed.{times}
 
 -- the operation leaves a source's row as it is, and takes no edge of it
 abbrev pub Spares : ℕ → List OpenBlock → Resolved → Type 0

@@ -8,16 +8,21 @@ use Rattle.std.proofs.lemmas.Grind.{common_steps}
 use Rattle.graph_types.specs.{Graph.Graph, Step.after_all, declared.batches.NamedOp.NamedOp, declared.batches.Outcome.Outcome}
 use Rattle.edge_block.specs.{Rows.{Shape, OpenBlock, untouched, taken_in, dropped_in, shape_of, row_end}, Batches.Resolved}
 use Rattle.edge_block.specs.Batches.{AtKey, InAll, resolved, is_in_shard, shard_ops, rows_all, opened_rows, key_is_of, taken_by}
-use Rattle.edge_block.specs.{Batches.{dropped_by, outcomes_all, layout_after, sum_below, HasEndsWithin, IsLayoutOf}, Slots.BlockView}
+use Rattle.edge_block.specs.Batches.{dropped_by, outcomes_all, layout_after, sum_below, HasEndsWithin, IsLayoutOf}
+use Rattle.edge_block.specs.Slots.{BlockView}
 use Rattle.batch_shards.specs.{Births.births_end, Shards.{IsAct, IsPlace, key_at, resolved_at}, declared.shard.Act.Act}
 use Rattle.batch_shards.specs.declared.shard.{Act.TheVariants.{Edge, Expire}, Shard.Shard, Step.Step, ShardDone.ShardDone}
 use Rattle.batch_shards.specs.{declared.shard.Place.Place, Done.{IsShardDone, sources_in, steps_in, rows_by, layout_by, sum_of}}
 use Rattle.batch_shards.{specs.Closing.row_values, proofs.Places.count_by-append}
 use Rattle.graph_version.specs.Versions.{is_in}
-use Rattle.batch_apply.specs.{Shards.{acts, unsourced, latest_expiry, has_old_shape, IsShardOf, ArePlanned}, Plans.{results, told}}
-use Rattle.batch_apply.proofs.{Spared.{Spares, KeepsOff, rows_spared, over_all, all_spare, off_all}, Totals.sum_all}
-use Rattle.batch_apply.proofs.{Totals.{worker_rows, none_taken, none_dropped, same_outcomes}, Kept.{some_times, sum_same}}
-use Rattle.batch_apply.proofs.{Placed.{times, listed_times}, Merge.{same_ops, shard_places, kept_all}, Resolving.placed_in}
+use Rattle.batch_apply.specs.{Shards.{acts, unsourced, latest_expiry, has_old_shape, IsShardOf, ArePlanned}, Plans.results}
+use Rattle.batch_apply.specs.Plans.{told}
+use Rattle.batch_apply.proofs.Spared.{Spares, KeepsOff, rows_spared, over_all, all_spare, off_all}
+use Rattle.edge_block.proofs.Totals.{sum_all}
+use Rattle.batch_apply.proofs.{Totals.{worker_rows, same_outcomes}, Kept.{some_times, sum_same}}
+use Rattle.edge_block.proofs.Totals.{none_taken, none_dropped}
+use Rattle.edge_block.proofs.Placed.{times, listed_times}
+use Rattle.batch_apply.proofs.{Merge.{same_ops, shard_places, kept_all}, Resolving.placed_in}
 use Rattle.batch_apply.proofs.Sources.{sources_within}
 use Rattle.edge_block.proofs.Counts.{count_more}
 

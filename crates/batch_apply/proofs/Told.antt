@@ -8,15 +8,7 @@ use Rattle.graph_types.specs.declared.{batches.Outcome.{Outcome, TheVariants.Exp
 use Rattle.graph_types.specs.declared.changes.EdgeChange.TheVariants.{Remove as ToRemove}
 use Rattle.graph_types.specs.Outcomes.{told}
 use Rattle.batch_apply.{specs.Applied.is_inserted, proofs.EdgeCounts.op_len}
-
-change_told : (change : EdgeChange) (before : Option Stamp) → told (outcome_at change before) ≡ outcome_at change before
-change_told change before = grind (arith, common_steps)
-
-one_told : (op : NamedOp) (g : Graph) → len g.edges < 2 ^ 64 → told (outcome op g) ≡ outcome op g
-one_told (Insert kind source target weight time) g few = grind (arith, common_steps, change_told)
-one_told (Incr kind source target amount time) g few = grind (arith, common_steps, change_told)
-one_told (Remove kind source target) g few = change_told ToRemove (get g.edges (changed_key ToRemove kind source target g))
-one_told (Expire time) g few = ap (λ (n : ℕ). Expired n) (mod-eq_of_lt (omega (arith, few, fewer time g.edges)))
+use Rattle.graph_types.proofs.Told.{one_told}
 
 at_most_one : (b : Bool) → cond b 1 0 ≤ 1
 at_most_one b = grind (arith, common_steps)

@@ -1,9 +1,11 @@
 -- One operation more of columns.
-use Rattle.std.proofs.Common.{◌≡◌, ◌≤◌, ℕ, zero, suc, ◌+◌, ◌-◌, List, [], ◌∷◌, ◌++◌, length, Option, Some, None, refl, sym, ap, ◌∙◌, arith}
+use Rattle.std.proofs.Common.{◌≡◌, ◌≤◌, ℕ, zero, suc, ◌+◌, ◌-◌, List, [], ◌∷◌, ◌++◌, length, Option, Some, None, refl, sym, ap}
+use Rattle.std.proofs.Common.{◌∙◌, arith}
 use Rattle.std.proofs.Common.{length-append, append_assoc}
 use Rattle.std.specs.Prelude.{Ok}
 use Rattle.graph_types.specs.declared.batches.NamedOp.{NamedOp}
-use Rattle.batch_columns.specs.{Dictionaries.{joined_operations, in_order, IsInserted}, Operations.{OperationTable, operation_at, operations_from}}
+use Rattle.batch_columns.specs.{Dictionaries.{joined_operations, in_order, IsInserted}, Operations.{OperationTable, operation_at}}
+use Rattle.batch_columns.specs.Operations.{operations_from}
 
 -- the parts of a list that is joined
 pub joined_parts : (op : Option NamedOp) (rest : Option (List NamedOp)) (all : List NamedOp) → joined_operations op rest ≡ Some all

@@ -6,6 +6,7 @@ use Rattle.batch_shards.specs.{RowBlocks.{block_of, had_here, had_in, own_here, 
 use Rattle.batch_shards.specs.Closing.{written_here, dropped_here, unused_here, after_of, stays_of, written_of, dropped_of}
 use Rattle.batch_shards.specs.{Closing.{unused_of, stays_all, written_blocks, dropped_all, unused_all}, Shards.{had_all, own_all}}
 use Rattle.batch_shards.specs.declared.{row_blocks.RowBlock.RowBlock, shard.OpenRow.OpenRow}
+use Rattle.edge_block.proofs.Balances.{one_before, one_after, one_number}
 
 -- what balances in each element balances in the whole list
 pub balance : {X A : Type 0} (p : A → Bool) (a b c d : X → List A)
@@ -30,15 +31,6 @@ adds_up : {X A : Type 0} (p : A → Bool) (a b c : X → List A)
 adds_up p a b c each [] = refl
 adds_up p a b c each (x ∷ xs) = grind (arith, common_steps, adds_up p a b c each xs)
 
--- one block: it stays or is dropped, and what stays or is written is there after
-one_before : (t : Bool) (b : BlockView) (o : List BlockView) (p : BlockView → Bool)
-    → count_by p (cond t [] (b ∷ [])) + count_by p (cond t o []) ≡ count_by p (cond t o (b ∷ []))
-one_before t b o p = grind (arith, common_steps)
-
-one_after : (t n : Bool) (b : BlockView) (p : BlockView → Bool)
-    → count_by p (cond t [] (b ∷ [])) + count_by p (cond (t && not n) (b ∷ []) []) ≡ count_by p (cond (t && n) [] (b ∷ []))
-one_after t n b p = grind (arith, common_steps)
-
 row_before : (p : BlockView → Bool) (row : List RowBlock) → count_by p (stays_of row) + count_by p (dropped_of row)
     ≡ count_by p (had_in row)
 row_before p row = adds_up p stays_here dropped_here had_here
@@ -58,12 +50,6 @@ pub all_after : (work : List OpenRow) (p : BlockView → Bool) → count_by p (s
     ≡ count_by p (flat_map (λ r. after_of r.blocks.items) work)
 all_after work p = adds_up p (λ (r : OpenRow). stays_of r.blocks.items) (λ (r : OpenRow). written_of r.blocks.items)
     (λ (r : OpenRow). after_of r.blocks.items) (λ r. row_after p r.blocks.items) work
-
--- one block: each number is kept or handed back
-one_number : (t n : Bool) (b : BlockView) (q : ℕ → Bool)
-    → count_by q (map (λ b. b.number) (cond (t && not n) (b ∷ []) [])) + count_by q (cond (t && n) (b.number ∷ []) [])
-    ≡ count_by q (cond t (b.number ∷ []) []) + count_by q []
-one_number t n b q = grind (arith, common_steps)
 
 row_numbers : (q : ℕ → Bool) (row : List RowBlock)
     → count_by q (map (λ b. b.number) (written_of row)) + count_by q (unused_of row) ≡ count_by q (own_in row)

@@ -4,14 +4,17 @@ use Rattle.std.proofs.{Common.All, lemmas.{Bool.{false≢true, le-ltb}, List.{ge
 use Rattle.std.{proofs.lemmas.List.Elements.All-nil, specs.declared.{alloc.Global.Global, option.Option.TheVariants.{None, Some}}}
 use Rattle.std.{specs.declared.sync.Arc.Arc, proofs.lemmas.Grind.common_steps}
 use Rattle.graph_types.specs.declared.batches.Outcome.{Outcome}
-use Rattle.edge_block.specs.{Batches.{opened_rows, rows_all, outcome_in}, declared.blocks.Block.Block, Slots.BlockView, Rows.OpenBlock}
+use Rattle.edge_block.specs.{Batches.{opened_rows, rows_all, outcome_in}, declared.blocks.Block.Block, Slots.BlockView}
+use Rattle.edge_block.specs.Rows.{OpenBlock}
 use Rattle.edge_block.specs.Rows.{shape_of, untouched}
-use Rattle.batch_shards.specs.{RowBlocks.{block_of, shared_blocks, kept_of, opens, had_in, shared_numbers, IsOf}, Closing.row_values}
+use Rattle.batch_shards.specs.RowBlocks.{block_of, shared_blocks, kept_of, opens, had_in, shared_numbers, IsOf}
+use Rattle.batch_shards.specs.Closing.{row_values}
 use Rattle.batch_shards.specs.{Shards.{resolved_at, resolved_in}, Spending.{needed, needed_past}, Groups.is_past}
 use Rattle.graph_types.specs.Outcomes.{told}
 use Rattle.batch_shards.specs.{Groups.none_told, Done.layout_by, declared.shard.Act.{Act, TheVariants.{Edge, Expire}}}
 use Rattle.batch_shards.specs.{declared.shard.{Step.Step, OpenRow.OpenRow, ShardDone.ShardDone}, Progress.AreOutcomes}
-use Rattle.batch_shards.{specs.Progress.AreRowsDone, proofs.{ShardSteps.first_step, SourceSteps.outcome_of, Expiring.count_wider}}
+use Rattle.batch_shards.{specs.Progress.AreRowsDone, proofs.{ShardSteps.first_step, SourceSteps.outcome_of}}
+use Rattle.graph_types.proofs.Expiring.{count_wider}
 use Rattle.graph_version.specs.Versions.{IsBlockOf}
 
 -- the row that is opened

@@ -6,7 +6,9 @@ use Rattle.std.proofs.lemmas.{List.Sums.{sum_by_more, sum_by-set}, Grind.common_
 use Rattle.edge_block.specs.{Slots.{slots_since, has_before, old_in, holds}, Rows.{OpenBlock, touch, expire_block, expire_row}}
 use Rattle.batch_shards.specs.{RowBlocks.{block_of, open_of, opens, IsOf}, Notes.IsNoted, Spending.{is_unspent, unspent}}
 use Rattle.batch_shards.{specs.declared.{notes.Notes.Notes, row_blocks.RowBlock.RowBlock}, proofs.Expiring.map_first}
-use Rattle.batch_shards.proofs.Expiring.{map_first_more, map_first_there, mod_more, count_there, expired_owes, holds_since}
+use Rattle.batch_shards.proofs.Expiring.{map_first_more, map_first_there, count_there, expired_owes}
+use Rattle.edge_block.proofs.Expiring.{holds_since}
+use Rattle.graph_types.proofs.Expiring.{mod_more}
 
 module _ (row : List RowBlock) (k : ℕ) (h : RowBlock) (lt : k < length row) (is : h ≡ get_or row k h) where
   pub open_there : get_or (opens row) k (open_of h) ≡ open_of h

@@ -4,9 +4,10 @@ use Rattle.std.proofs.{Common.{count_by, zip, refl, sym, ap, ap₂, ◌∙◌, a
 use Rattle.std.{proofs.lemmas.List.{length-map, take_all}, specs.declared.{sync.Arc.Arc, alloc.Global.Global}}
 use Rattle.std.proofs.lemmas.Grind.{common_steps}
 use Rattle.graph_types.specs.declared.batches.Outcome.{Outcome, TheVariants.Absent}
-use Rattle.edge_block.specs.{Batches.opened_rows, Batches.outcomes_all, Rows.shape_of, Rows.row_end, Rows.taken_in, Rows.dropped_in}
+use Rattle.edge_block.specs.{Batches.{opened_rows, outcomes_all}, Rows.{shape_of, row_end, taken_in, dropped_in}}
 use Rattle.edge_block.specs.{declared.blocks.Block.Block, Slots.BlockView}
-use Rattle.batch_shards.specs.{RowBlocks.{block_of, shared_blocks, shared_numbers}, Closing.{written_here, dropped_here, closed_rows}}
+use Rattle.batch_shards.specs.{RowBlocks.{block_of, shared_blocks, shared_numbers}, Closing.{written_here, dropped_here}}
+use Rattle.batch_shards.specs.Closing.{closed_rows}
 use Rattle.batch_shards.specs.{Closing.{row_values, stays_all, written_blocks, dropped_all, unused_all}, Groups.is_past}
 use Rattle.graph_types.specs.Outcomes.{told}
 use Rattle.batch_shards.specs.{Groups.outcome_over, Shards.{IsAct, AreSteps, resolved_at, resolved_in, sources_of, had_all}}

@@ -12,7 +12,8 @@ use Rattle.edge_block.specs.Rows.{edge_at, touch, touches, put_edge, set_edge, n
 use Rattle.edge_block.specs.declared.blocks.Block.{Block}
 use Rattle.batch_shards.specs.{RowBlocks.{block_of, open_of, opens, had_here, own_here, set_slot, IsChanged}, OpenRows.KeepsHere}
 use Rattle.batch_shards.specs.{OpenRows.KeepsIn, declared.row_blocks.RowBlock.RowBlock}
-use Rattle.batch_shards.proofs.Places.{list_any-map, none_passes, one_passes, first_changed, first_has, count_by-set, flat_map-set}
+use Rattle.batch_shards.proofs.Places.{list_any-map, none_passes, count_by-set, flat_map-set}
+use Rattle.edge_block.proofs.Places.{one_passes, first_changed, first_has}
 
 -- an edge in a slot has a weight and times in range
 pub stamped_at : (slots : List (Option Slot)) (target : ℕ) (s : Stamp) → All IsSlot slots → stamp_at slots target ≡ Some s

@@ -7,14 +7,18 @@ use Rattle.graph_types.specs.declared.{batches.Outcome.{Outcome, TheVariants.Exp
 use Rattle.edge_block.specs.{declared.blocks.Block.Block, Slots.BlockView, Batches.{outcome_in, rows_all, opened_rows}}
 use Rattle.graph_types.specs.Outcomes.{together}
 use Rattle.edge_block.specs.Rows.{OpenBlock, old_in_row}
-use Rattle.batch_shards.specs.{RowBlocks.{shared_blocks, shared_numbers, opens, had_in, own_in, HaveSame, IsOf}, Closing.row_values}
-use Rattle.batch_shards.specs.{Closing.{after_of, written_of, dropped_of, unused_of, written_blocks}, Shards.{key_at, resolved_at}}
+use Rattle.batch_shards.specs.RowBlocks.{shared_blocks, shared_numbers, opens, had_in, own_in, HaveSame, IsOf}
+use Rattle.batch_shards.specs.Closing.{row_values}
+use Rattle.batch_shards.specs.{Closing.{after_of, written_of, dropped_of, unused_of, written_blocks}, Shards.key_at}
+use Rattle.batch_shards.specs.Shards.{resolved_at}
 use Rattle.batch_shards.specs.{Shards.{resolved_in, own_all}, Done.layout_by, Groups.{is_past, does_act, outcome_over}}
 use Rattle.graph_types.specs.Outcomes.{told}
 use Rattle.batch_shards.specs.{Groups.{IsTold, IsSourceRow, IsOneMore}, OpenRows.{IsRowOf, KeepsOthers}, Progress.AreOutcomes}
 use Rattle.batch_shards.specs.{Progress.AreRowsDone, declared.shard.{OpenRow.OpenRow, ShardDone.ShardDone, Step.Step, Act.Act}}
 use Rattle.batch_shards.{specs.declared.shard.Act.TheVariants.{Edge, Expire}, proofs.Places.{count_by-append, one_piece}}
-use Rattle.batch_shards.proofs.{ShardSteps.first_step, SourceSteps.{outcome_of, past_here}, Expiring.{edge_stands, told_more}}
+use Rattle.batch_shards.proofs.{ShardSteps.first_step, SourceSteps.{outcome_of, past_here}}
+use Rattle.edge_block.proofs.Expiring.{edge_stands}
+use Rattle.graph_types.proofs.Expiring.{told_more}
 
 module _ (rows : ℕ → List BlockView) (sources : List ℕ) (steps : List Step) where
   -- the outcome of an operation with one more row

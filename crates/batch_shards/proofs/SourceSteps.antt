@@ -8,11 +8,13 @@ use Rattle.graph_types.specs.declared.{batches.Outcome.{Outcome, TheVariants.Exp
 use Rattle.edge_block.specs.{Rows.{OpenBlock, old_in_row}, Batches.{key_step, rows_step, rows_all, outcome_in}}
 use Rattle.graph_types.specs.Outcomes.{together}
 use Rattle.batch_shards.specs.{Shards.{IsAct, resolved_at, resolved_in}, Spending.takes, Groups.{is_on_row, is_past, does_act}}
-use Rattle.batch_shards.specs.Groups.{may_change, key_placed, IsNextStep, LeadsToStep, IsSourceRow, IsOneMore, IsTold, outcome_over}
+use Rattle.batch_shards.specs.Groups.{may_change, key_placed, IsNextStep, LeadsToStep, IsSourceRow, IsOneMore, IsTold}
+use Rattle.batch_shards.specs.Groups.{outcome_over}
 use Rattle.graph_types.specs.Outcomes.{told}
 use Rattle.batch_shards.specs.{Groups.{act_step, act_outcome}, declared.shard.Act.{Act, TheVariants.{Edge, Expire}}}
 use Rattle.batch_shards.{specs.declared.shard.{Place.Place, Step.Step}, proofs.ShardSteps.{further, apart, first_step}}
-use Rattle.batch_shards.proofs.{ShardSteps.all_rows_more, Expiring.told_none, Young.{young_before, young_stays}}
+use Rattle.batch_shards.proofs.{ShardSteps.all_rows_more, Young.{young_before, young_stays}}
+use Rattle.graph_types.proofs.Expiring.{told_none}
 
 -- the outcome of an operation is that of the rows which those before it leave
 pub outcome_of : (counted sources : List ℕ) (steps : List Step) (k : ℕ) (rows : ℕ → List OpenBlock) → k < length steps

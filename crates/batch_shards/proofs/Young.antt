@@ -1,15 +1,20 @@
 -- Rows without an edge from before a time, and the times that expiries have reached.
-use Rattle.std.proofs.Common.{◌≡◌, ℕ, replicate, zero, suc, ◌+◌, ◌<◌, ◌≤◌, Bool, true, false, cond, ◌||◌, List, [], ◌∷◌, ◌++◌, map, length}
+use Rattle.std.proofs.Common.{◌≡◌, ℕ, replicate, zero, suc, ◌+◌, ◌<◌, ◌≤◌, Bool, true, false, cond, ◌||◌, List, [], ◌∷◌, ◌++◌}
+use Rattle.std.proofs.Common.{map, length}
 use Rattle.std.proofs.{Common.{get_or, take, count_by, refl, ap, ap₂, ◌∙◌, arith, All, max}, lemmas.Bool.{le-ltb, ltb-true}}
 use Rattle.std.proofs.lemmas.{Bool.{ltb-false, false≢true}, List.{take_more, get_or_append_left, get_or_push, Elements.All-head}}
-use Rattle.std.{proofs.lemmas.List.{Elements.All-tail, Sums.{sum_by-cons, sum_by-le-sum_by, sum_by_more, sum_by-append}}, specs.List.list_any}
+use Rattle.std.proofs.lemmas.List.{Elements.All-tail, Sums.{sum_by-cons, sum_by-le-sum_by, sum_by_more, sum_by-append}}
+use Rattle.std.specs.List.{list_any}
 use Rattle.std.{specs.declared.option.Option.{Option, TheVariants.{None, Some}}, proofs.lemmas.Grind.common_steps}
 use Rattle.graph_types.specs.{Graph.Stamp, Step.{is_before, stamp_after, outcome_at}, declared.changes.EdgeChange.EdgeChange}
 use Rattle.graph_types.specs.declared.changes.EdgeChange.TheVariants.{Insert as ToInsert, Incr as ToIncr, Remove as ToRemove}
 use Rattle.edge_block.specs.Slots.{Slot, edges_in, old_in, slots_since, at_first, put_slot, take_slot, holds, is_free_slot}
-use Rattle.edge_block.specs.Rows.{OpenBlock, has_old, touch, touches, expire_row, old_in_row, has_edge, has_room, new_block, edge_at, set_edge, change_row}
-use Rattle.batch_shards.specs.{Groups.{is_expiry, is_later, IsNextStep, LeadsToStep}, Spending.{latest, act_time, AreTimesReached}}
-use Rattle.batch_shards.{specs.declared.shard.{Act.Act, Step.Step}, proofs.{ShardSteps.first_step, Expiring.{older, count_wider}}}
+use Rattle.edge_block.specs.Rows.{OpenBlock, has_old, touch, touches, expire_row, old_in_row, has_edge, has_room, new_block}
+use Rattle.edge_block.specs.Rows.{edge_at, set_edge, change_row}
+use Rattle.batch_shards.specs.{Groups.{is_expiry, is_later, IsNextStep, LeadsToStep}, Spending.{latest, act_time}}
+use Rattle.batch_shards.specs.Spending.{AreTimesReached}
+use Rattle.batch_shards.{specs.declared.shard.{Act.Act, Step.Step}, proofs.ShardSteps.first_step}
+use Rattle.graph_types.proofs.Expiring.{older, count_wider}
 
 -- what is old at a time is old at each later one
 pub slots_before : (s t : ℕ) (slots : List (Option Slot)) → s ≤ t → old_in t slots ≡ 0 → old_in s slots ≡ 0

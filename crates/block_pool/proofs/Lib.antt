@@ -1,8 +1,16 @@
 pub mod Tallies
 pub mod Grants
 pub mod Stacking
-pub mod Needs
 pub mod StatusReads
 pub mod Links
 pub mod Paging
 pub mod Rooms
+pub mod DeskLaws
+pub mod Rebasing
+pub mod Collections
+pub mod UsedBlocks
+pub mod Zeros
+pub mod CollectedDesk
+pub mod OneNumber
+pub mod RetiredCounts
+pub mod StatusCounts

@@ -8,7 +8,8 @@ use Rattle.block_reclamation.specs.declared.status.BlockStatus.{BlockStatus, The
 use Rattle.block_reclamation.specs.Status.{is_free}
 use Rattle.std.specs.{Prelude.{None, IfSome}, Arc.arc_value}
 use Rattle.edge_block.specs.declared.blocks.Block.{Block}
-use Rattle.block_pool.specs.{declared.numbers.Numbers.Numbers, Chains.Stacks, Paging.{Paged, HasRoom, by_place}, Pools.{marked, AreBodies}}
+use Rattle.block_pool.specs.{declared.numbers.Numbers.Numbers, Chains.Stacks, Paging.{Paged, HasRoom, by_place}, Pools.marked}
+use Rattle.block_pool.specs.Pools.{AreBodies}
 use Rattle.block_pool.specs.Kept.{IsNumbers, AreRoomy, IsReadyNumber, IsRoomier, HasRooms, HasRoomFor, status_of, Lists}
 use Rattle.block_pool.proofs.{Tallies.free_more, Paging.{length-by_place, at_place}}
 

@@ -9,8 +9,10 @@ use Rattle.std.proofs.lemmas.Grind.{common_steps}
 use Rattle.block_reclamation.specs.declared.{copies.{PinCopy.PinCopy, TheConstants.SEATS}, status.BlockStatus.BlockStatus}
 use Rattle.block_reclamation.specs.{declared.status.BlockStatus.TheVariants.{Free, Granted}, Status.{is_among, is_retired}}
 use Rattle.block_reclamation.specs.Status.{is_reclaimable}
-use Rattle.block_pool.specs.{Chains.{Stacks, stack_of, below_top, AreAbsent}, declared.numbers.{Numbers.Numbers, TheConstants.{LOOSE, LATE}}}
-use Rattle.block_pool.specs.Kept.{IsNumbers, AreRoomy, statuses, status_of, tally, AreNeeded, HasPins, IsSorted, FitsWitness, top_of, put_on, taken_off, moved}
+use Rattle.block_pool.specs.{Chains.{Stacks, stack_of, below_top, AreAbsent}, declared.numbers.Numbers.Numbers}
+use Rattle.block_pool.specs.declared.numbers.TheConstants.{LOOSE, LATE}
+use Rattle.block_pool.specs.Kept.{IsNumbers, AreRoomy, statuses, status_of, tally, AreNeeded, HasPins, IsSorted, FitsWitness}
+use Rattle.block_pool.specs.Kept.{top_of, put_on, taken_off, moved}
 use Rattle.block_pool.proofs.Tallies.{count_true, count_lt, same_number, tally_at, tally_has_one, tally_true}
 use Rattle.block_pool.proofs.{Tallies.tally_here, Tallies.past_retired, Tallies.none_retired, Grants.tally_once}
 use Rattle.edge_block.proofs.Counts.{count_more}

@@ -1,6 +1,7 @@
 -- The least of a number and of pins; and what a copy needs.
 use Rattle.std.proofs.Common.{◌≡◌, ℕ, zero, suc, ◌<◌, ◌≤◌, ◌⊎◌, inl, inr, min, Bool, true, false, ◌||◌, List, [], ◌∷◌, get_or}
-use Rattle.std.proofs.{Common.{Option, Some, None, refl, sym, ap, ◌∙◌, arith, ltb}, lemmas.Bool.{cases_lt, or_left, or_right, Decides.nat_tests}}
+use Rattle.std.proofs.{Common.{Option, Some, None, refl, sym, ap, ◌∙◌, arith, ltb}, lemmas.Bool.{cases_lt, or_left, or_right}}
+use Rattle.std.proofs.lemmas.Bool.Decides.{nat_tests}
 use Rattle.std.specs.List.{list_any}
 use Rattle.block_reclamation.specs.declared.copies.PinCopy.{PinCopy}
 use Rattle.block_reclamation.specs.Copies.{lesser, least_of, reach_of, is_between, is_pin_before, needs}

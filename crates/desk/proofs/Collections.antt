@@ -1,5 +1,6 @@
 -- What a desk keeps at its opening, and over a collection.
-use Rattle.std.proofs.Common.{◌≡◌, ℕ, zero, suc, ◌+◌, ◌≤◌, Bool, List, [], ◌∷◌, replicate, length, refl, sym, ap, arith, count_by, ◌∙◌}
+use Rattle.std.proofs.Common.{◌≡◌, ℕ, zero, suc, ◌+◌, ◌≤◌, Bool, List, [], ◌∷◌, replicate, length, refl, sym, ap, arith, count_by}
+use Rattle.std.proofs.Common.{◌∙◌}
 use Rattle.std.{proofs.lemmas.{Grind.common_steps, List.length-map}, specs.Prelude.slice_set}
 use Rattle.graph_version.specs.{Rows.blocks_of, Rows.numbers_of, Versions.VersionView, Logs.keeps_batches}
 use Rattle.block_pool.{specs.Pools.marked, proofs.Grants.length-marked}
@@ -9,32 +10,13 @@ use Rattle.store_steps.{specs.Opening.IsVersionZero, specs.Opening.opened_desk, 
 use Rattle.store_steps.proofs.{OpeningShown.opened_is_desk, CollectedDesk.{desk_collected, is_collected, collected_is_desk}}
 use Rattle.desk.specs.Kept.{IsKeptDesk}
 use Rattle.edge_block.proofs.Counts.{count_more}
+use Rattle.block_reclamation.proofs.Collections.{none_retired, long_replicate}
+use Rattle.block_pool.proofs.Collections.{marked_unretired}
 
 -- what is kept holds of equal values too
 pub kept_same : (d e : DeskView) (keeps others : Bool) (room more : ℕ) → IsKeptDesk d keeps room → e ≡ d → others ≡ keeps → room ≤ more
     → IsKeptDesk e others more
 kept_same d e keeps others room more kept same alike grows = grind (arith, common_steps)
-
--- no block is retired at an opening
-none_retired : (n : ℕ) → count_by is_retired (replicate n Free) ≡ 0
-none_retired n = grind (arith, common_steps)
-
-set_unretired : (xs : List BlockStatus) (n : ℕ) → count_by is_retired xs ≡ 0 → count_by is_retired (slice_set xs n (Used 0)) ≡ 0
-set_unretired [] n none = none
-set_unretired (s ∷ xs) zero none =
-    let a = count_more is_retired s xs in let b = count_more is_retired (Used 0) xs in omega arith
-set_unretired (s ∷ xs) (suc n) none =
-    let a = count_more is_retired s xs in
-    let b = count_more is_retired s (slice_set xs n (Used 0)) in
-    let rest = set_unretired xs n (omega arith) in
-    omega arith
-
-marked_unretired : (ns : List ℕ) (xs : List BlockStatus) → count_by is_retired xs ≡ 0 → count_by is_retired (marked ns (Used 0) xs) ≡ 0
-marked_unretired [] xs none = none
-marked_unretired (n ∷ ns) xs none = marked_unretired ns (slice_set xs n (Used 0)) (set_unretired xs n none)
-
-long_replicate : (n : ℕ) → length (replicate n Free) ≡ n
-long_replicate n = grind (arith, common_steps)
 
 -- an opened desk
 pub opened_kept : (blocks : ℕ) (v : VersionView) → IsVersionZero blocks v → 16 ≤ blocks → IsKeptDesk (opened_desk blocks v) (keeps_batches v.opening.limits) 0

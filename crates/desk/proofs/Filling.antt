@@ -1,5 +1,6 @@
 -- Pins that are put in their places one after the other.
-use Rattle.std.proofs.Common.{◌≡◌, ℕ, zero, suc, ◌+◌, ◌-◌, ◌<◌, ◌++◌, Bool, false, List, [], ◌∷◌, length, take, replicate, set, get_or}
+use Rattle.std.proofs.Common.{◌≡◌, ℕ, zero, suc, ◌+◌, ◌-◌, ◌<◌, ◌++◌, Bool, false, List, [], ◌∷◌, length, take, replicate, set}
+use Rattle.std.proofs.Common.{get_or}
 use Rattle.std.proofs.{Common.{refl, ap, ◌∙◌, arith}, lemmas.Grind.common_steps}
 use Rattle.std.specs.declared.option.Option.{Option, TheVariants.{None, Some}}
 use Rattle.std.specs.Prelude.{is_some, unwrap_or}

@@ -1,5 +1,6 @@
 -- A batch handed over: what the desk's call does with what was made of it.
-use Rattle.std.proofs.Common.{◌≡◌, ℕ, ◌+◌, ◌≤◌, Bool, true, false, List, [], ◌∷◌, ◌++◌, length, map, refl, sym, ap, subst, ◌∙◌, arith}
+use Rattle.std.proofs.Common.{◌≡◌, ℕ, ◌+◌, ◌≤◌, Bool, true, false, List, [], ◌∷◌, ◌++◌, length, map, refl, sym, ap, subst, ◌∙◌}
+use Rattle.std.proofs.Common.{arith}
 use Rattle.std.proofs.{Common.{count_by, vec_len}, lemmas.{Grind.common_steps, List.length-map}}
 use Rattle.std.specs.{declared.{sync.Arc.Arc, alloc.Global.Global}, Prelude.All, List.sum_by, Arc.arc_value}
 use Rattle.graph_types.specs.{Graph.Graph, declared.batches.NamedOp.NamedOp}
@@ -9,7 +10,8 @@ use Rattle.graph_version.specs.{declared.versions.Version.Version, Versions.Vers
 use Rattle.block_reclamation.specs.{Status.{is_among, is_free, is_retired, is_in_use}, declared.status.BlockStatus.BlockStatus}
 use Rattle.block_reclamation.specs.declared.status.BlockStatus.TheVariants.{Free, Granted, Used}
 use Rattle.block_pool.specs.Pools.{retired, marked, changed_numbers, AreFree}
-use Rattle.store_steps.{specs.{Journal.Entry, Desks.{DeskView, IsDesk, FollowsLayout}, Steps.Accepts}, proofs.BatchLaws.accepted_steps}
+use Rattle.store_steps.specs.{Journal.Entry, Desks.{DeskView, IsDesk, FollowsLayout}, Steps.Accepts}
+use Rattle.store_steps.proofs.BatchLaws.{accepted_steps}
 use Rattle.store_steps.proofs.Applications.{Application, next_desk, born_pool, retired_pool, moves_left}
 use Rattle.store_steps.proofs.{Accepting.{made_accepted, made_desk}, RetiredCounts.retired_room, GrantedBlocks.taken_granted}
 use Rattle.store_steps.proofs.GrantedBlocks.{taken_movable, dropped_movable, unused_movable, granted_movable, given_back}

@@ -7,17 +7,14 @@ use Rattle.batch_shards.specs.RowBlocks.{block_of, shared_numbers}
 use Rattle.block_reclamation.specs.Status.{is_among, is_in_use, is_used, is_at}
 use Rattle.block_reclamation.specs.declared.status.BlockStatus.{BlockStatus, TheVariants.Granted}
 use Rattle.block_pool.specs.Pools.{marked, changed_numbers, retired, is_in_use_at, is_used_at}
-use Rattle.epoch_core.{specs.Blocks.all_differ, proofs.Lists.all_listed}
-use Rattle.store_steps.proofs.{NumberLists.all_by, ChangedLists.{marked_at, changed_at, same_list}, Counting.times}
-use Rattle.store_steps.proofs.{Counting.{is_some_times, in_times, once_at_most, apart_if}, BlockMoves.{AreMovable, moving}}
+use Rattle.epoch_core.specs.Blocks.{all_differ}
+use Rattle.block_reclamation.proofs.Lists.{all_listed}
+use Rattle.block_reclamation.proofs.NumberLists.{all_by}
+use Rattle.store_steps.proofs.{ChangedLists.{marked_at, changed_at, same_list}, Counting.times}
+use Rattle.store_steps.proofs.{Counting.{is_some_times, in_times, once_at_most, apart_if}, BlockMoves.moving}
+use Rattle.epoch_core.proofs.BlockMoves.{AreMovable}
 use Rattle.desk.specs.Applying.{AreOnce, AreUsedOnce, AreBornOnce}
-
--- a list with its last number first has each number as often
-turned_times : (m n : ℕ) (ns : List ℕ) → times m (ns ++ n ∷ []) ≡ times m (n ∷ ns)
-turned_times m n ns = grind (arith, common_steps)
-
-turned_in : (m n : ℕ) (ns : List ℕ) → is_among m (ns ++ n ∷ []) ≡ is_among m (n ∷ ns)
-turned_in m n ns = in_times m (ns ++ n ∷ []) ∙ ap is_some_times (turned_times m n ns) ∙ sym (in_times m (n ∷ ns))
+use Rattle.store_steps.proofs.Moving.{turned_times, turned_in, turned_marks, turned_changes}
 
 turned : (test : BlockStatus → Bool) (n : ℕ) (ns : List ℕ) (pool : List BlockStatus) → AreOnce test (ns ++ n ∷ []) pool
     → AreMovable test (n ∷ ns) pool
@@ -27,19 +24,6 @@ turned test n ns pool once = record {
   apart = apart_if (n ∷ ns)
       (λ m. subst (λ k. k ≤ 1) (turned_times m n ns) (once_at_most m (ns ++ n ∷ []) once.apart));
 }
-
-turned_marks : (n : ℕ) (ns : List ℕ) (s : BlockStatus) (pool : List BlockStatus) → marked ns s (set pool n s) ≡ marked (ns ++ n ∷ []) s pool
-turned_marks n ns s pool = same_list _ _ (λ m.
-    marked_at (n ∷ ns) s pool m
-    ∙ ap (λ t. if t then option_map (λ _. s) (slice_get pool m) else slice_get pool m) (sym (turned_in m n ns))
-    ∙ sym (marked_at (ns ++ n ∷ []) s pool m))
-
-turned_changes : (f : BlockStatus → BlockStatus) (n : ℕ) (ns : List ℕ) (pool : List BlockStatus) → all_differ (ns ++ n ∷ []) ≡ true
-    → all_differ (n ∷ ns) ≡ true → changed_numbers f (n ∷ ns) pool ≡ changed_numbers f (ns ++ n ∷ []) pool
-turned_changes f n ns pool apart first = same_list _ _ (λ m.
-    changed_at f (n ∷ ns) pool m first
-    ∙ ap (λ t. if t then option_map f (slice_get pool m) else slice_get pool m) (sym (turned_in m n ns))
-    ∙ sym (changed_at f (ns ++ n ∷ []) pool m apart))
 
 -- what stays to be moved, and what the pool will be
 pub record IsMoving (numbers : List ℕ) (s : BlockStatus) (pool end : List BlockStatus) : Type 0 where

@@ -1,10 +1,12 @@
 -- A desk's owner: what is held stays counted, each number at one seat.
-use Rattle.std.proofs.Common.{◌≡◌, ℕ, zero, suc, ◌<◌, ◌≤◌, ◌==◌, true, false, List, [], ◌∷◌, length, replicate, inl, inr, refl, sym, ap, subst, ◌∙◌, arith}
+use Rattle.std.proofs.Common.{◌≡◌, ℕ, zero, suc, ◌<◌, ◌≤◌, ◌==◌, true, false, List, [], ◌∷◌, length, replicate, inl, inr, refl}
+use Rattle.std.proofs.Common.{sym, ap, subst, ◌∙◌, arith}
 use Rattle.std.proofs.lemmas.{Bool.{eq-eqb, eqb-true, true≢false}, Grind.common_steps}
 use Rattle.std.proofs.lemmas.List.{get_or-set_same, get_or-set_other, get_or-replicate, length-replicate}
 use Rattle.std.proofs.Math.ListN.{length-set}
 use Rattle.std.specs.{Prelude.{slice_set}, declared.option.Option.{Option, TheVariants.{None, Some}}}
-use Rattle.block_reclamation.specs.{declared.copies.{Pin.Pin, TheConstants.SEATS}, Board.{BoardState, with_pin}, Copies.{pin_at, settled, unsettled}}
+use Rattle.block_reclamation.specs.{declared.copies.{Pin.Pin, TheConstants.SEATS}, Board.{BoardState, with_pin}, Copies.pin_at}
+use Rattle.block_reclamation.specs.Copies.{settled, unsettled}
 use Rattle.store_steps.specs.Desks.{DeskView}
 use Rattle.desk.specs.Owned.{OwnedView, IsOwned, IsHoldCounted, IsSeatFor, count_at, held_pin, opened_owned, with_hold}
 

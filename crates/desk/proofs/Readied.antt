@@ -7,7 +7,8 @@ use Rattle.batch_apply.specs.{Planned.IsPlan, declared.plans.Plan.Plan}
 use Rattle.block_reclamation.specs.{Status.is_retired, declared.status.BlockStatus.{BlockStatus, TheVariants.{Free, Granted}}}
 use Rattle.block_pool.specs.Pools.{marked, AreFree}
 use Rattle.store_steps.{specs.Desks.DeskView, proofs.GrantedBlocks.given_back}
-use Rattle.desk.specs.{Applying.IsPrepared, Kept.{IsKeptDesk, desk_in}, Journals.JournalView, declared.{applying.Prepared.Prepared, desks.Parts.Parts}}
+use Rattle.desk.specs.{Applying.IsPrepared, Kept.{IsKeptDesk, desk_in}, Journals.JournalView, declared.applying.Prepared.Prepared}
+use Rattle.desk.specs.declared.desks.Parts.{Parts}
 use Rattle.desk.specs.Ready.{IsGranted, IsReady, old_of, ops_of}
 use Rattle.desk.proofs.{Handing.Handing, Collections.kept_same}
 

@@ -9,6 +9,7 @@ use Rattle.block_reclamation.specs.declared.status.BlockStatus.TheVariants.{Free
 use Rattle.block_pool.specs.Pools.{is_free_at, marked, AreFree}
 use Rattle.store_steps.{specs.Opening.{IsVersionZero, opened_desk}, proofs.ChangedLists.{marked_at, same_list}}
 use Rattle.desk.specs.{Openings.OpensWith, declared.zero.Zero.Zero}
+use Rattle.block_pool.proofs.Zeros.{free_below}
 
 -- what is marked twice is as it was marked last
 twice_marked : (t : Bool) (p : Option BlockStatus) (x y : BlockStatus)
@@ -20,15 +21,6 @@ pub marked_over : (ns : List ℕ) (x y : BlockStatus) (pool : List BlockStatus) 
 marked_over ns x y pool = same_list _ _ (λ m.
     marked_at ns y (marked ns x pool) m ∙ ap (λ p. if is_among m ns then option_map (λ _. y) p else p) (marked_at ns x pool m)
     ∙ twice_marked (is_among m ns) (slice_get pool m) x y ∙ sym (marked_at ns y pool m))
-
--- a number that is free in a pool of so many is below that
-below : (blocks n : ℕ) → is_free_at (replicate blocks Free) n ≡ true → n < blocks
-below zero n free = cc
-below (suc blocks) zero free = omega arith
-below (suc blocks) (suc n) free = let rest = below blocks n free in omega arith
-
-free_below : (blocks : ℕ) (numbers : List ℕ) → AreFree (replicate blocks Free) numbers → All (λ n. n < blocks) numbers
-free_below blocks numbers free = λ k d h. below blocks (get_or numbers k d) (free.free k d h)
 
 pub zero_is : (blocks : ℕ) (v z : VersionView) (numbers : List ℕ) → AreFree (replicate blocks Free) numbers
     → numbers_of (blocks_of z.rows) ≡ numbers → IsVersion z → IsRebased v z → IsVersionZero blocks z

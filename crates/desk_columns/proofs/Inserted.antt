@@ -1,12 +1,14 @@
 -- A batch with one insertion more, and a refusal of a part as one of the whole.
-use Rattle.std.proofs.Common.{◌≡◌, ℕ, ◌+◌, ◌<◌, suc, List, length, count_by, Option, Some, true, refl, sym, ap, subst, inl, inr, ◌∙◌, add-one}
+use Rattle.std.proofs.Common.{◌≡◌, ℕ, ◌+◌, ◌<◌, suc, List, length, count_by, Option, Some, true, refl, sym, ap, subst, inl, inr}
+use Rattle.std.proofs.Common.{◌∙◌, add-one}
 use Rattle.std.specs.Prelude.{Result, Ok, Err}
 use Rattle.graph_types.specs.{Limits.most_operations, declared.batches.NamedOp.NamedOp}
 use Rattle.block_reclamation.specs.Status.{is_free}
 use Rattle.desk.specs.{Owned.OwnedView, Refusals.Refuses}
 use Rattle.graph_types.specs.declared.refusals.ApplyError.{ApplyError}
 use Rattle.desk.specs.declared.ready.Accepted.{Accepted}
-use Rattle.graph_types.specs.declared.refusals.ApplyError.TheVariants.{BatchLimit, NamesFull, KindsFull, PoolEmpty, OutOfMemory as ApplyOutOfMemory}
+use Rattle.graph_types.specs.declared.refusals.ApplyError.TheVariants.{BatchLimit, NamesFull, KindsFull, PoolEmpty}
+use Rattle.graph_types.specs.declared.refusals.ApplyError.TheVariants.OutOfMemory as ApplyOutOfMemory
 use Rattle.batch_columns.specs.Dictionaries.{in_order, Insertions, IsInserted}
 use Rattle.batch_columns.proofs.OneMore.{one_more, inserted_op, one_longer}
 use Rattle.desk_counts.specs.{declared.counts.Counts.Counts, Counted.with_outcomes}

@@ -5,7 +5,8 @@ use Rattle.std.proofs.lemmas.{Bool.cases_lt, Grind.common_steps}
 use Rattle.std.specs.{Prelude.slice_index, declared.option.Option.{Option, TheVariants.{None, Some}}}
 use Rattle.lane_scan.specs.Masks.{InMask, selected}
 use Rattle.edge_block.specs.{Slots.Slot, Slots.BlockView, Slots.edge_slot, Columns.slots_of, Columns.AreColumns, Columns.AreTimes}
-use Rattle.edge_block.proofs.{Places.{length-slots_of, slot_live, slot_dead, lives_or_not}, Times.selected_agree}
+use Rattle.edge_block.proofs.Places.{length-slots_of, slot_live, slot_dead, lives_or_not}
+use Rattle.lane_scan.proofs.Times.{selected_agree}
 
 -- a live place is below the end of the places that are used
 pub below_used : (live n k : ℕ) → ((place : ℕ) → n ≤ place → InMask live place → ⊥) → InMask live k → k < n

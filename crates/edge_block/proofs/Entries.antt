@@ -6,9 +6,11 @@ use Rattle.std.specs.{Prelude.◌||◌, Prelude.Contains, List.list_any, Option.
 use Rattle.std.specs.declared.option.Option.{Option, TheVariants.None, TheVariants.Some}
 use Rattle.std.proofs.lemmas.Grind.{common_steps}
 use Rattle.graph_types.{specs.Graph.{Key, Stamp}, proofs.{Arcs.contains_map, Counts.{Contains-cons, Contains-cons_cases}}}
-use Rattle.edge_block.specs.Slots.{Slot, BlockView, at_first, stamp_in_slot, stamp_at, holds, is_free_slot, has_room_for, AreDistinct}
+use Rattle.edge_block.specs.Slots.{Slot, BlockView, at_first, stamp_in_slot, stamp_at, holds, is_free_slot, has_room_for}
+use Rattle.edge_block.specs.Slots.{AreDistinct}
 use Rattle.edge_block.specs.{Slots.put_slot, Slots.take_slot, Slots.edges_in, Slots.entry_in, Slots.entries_of, Laws.StandsIn}
-use Rattle.edge_block.proofs.{Firsts.at_first-none, Changes.{set_first, set_unique, Fits, Puts, fits_key, fits_room, any_key, none_is}}
+use Rattle.edge_block.proofs.{Firsts.at_first-none, Changes.{set_first, set_unique, Fits, Puts, fits_key, fits_room, any_key}}
+use Rattle.edge_block.proofs.Changes.{none_is}
 
 twice : {A : Type 0} (b : Bool) (x y z : A) → cond b x (cond b y z) ≡ cond b x z
 twice h0 x y z = grind (arith, common_steps)

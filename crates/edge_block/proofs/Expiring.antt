@@ -1,13 +1,18 @@
 -- What taking an old edge leaves of the old ones.
 use Rattle.std.proofs.Common.{◌≡◌, ℕ, ◌+◌, ◌-◌, ◌≤◌, ◌==◌, ◌&&◌, ◌||◌, List, [], ◌∷◌, Bool, true, false, cond, map, filter}
 use Rattle.std.proofs.{Common.{length, refl, sym, ap, ◌∙◌, arith, Option, Some, None, is_some}, lemmas.Bool.{false≢true, eq-eqb}}
-use Rattle.std.proofs.lemmas.{Bool.Decides.nat_tests, Option.same_Some, List.{Sums.sum_by-cons, Folds.{list_any_at, list_any_none}}}
+use Rattle.std.proofs.lemmas.{Bool.Decides.nat_tests, Option.same_Some, List.{Sums.sum_by-cons, Folds.list_any_at}}
+use Rattle.std.proofs.lemmas.List.Folds.{list_any_none}
 use Rattle.std.specs.{Option.option_or, Prelude.nat_le, Prelude.nat_lt, List.list_any}
 use Rattle.std.proofs.lemmas.Grind.{common_steps}
 use Rattle.lane_scan.specs.Masks.{IsLeastOf}
 use Rattle.graph_types.specs.{Graph.Key, Graph.Stamp, Step.is_before, View.in_view, declared.ids.Filter.Filter}
 use Rattle.edge_block.specs.Slots.{Slot, stamp_at, take_slot, edges_in, AreDistinct, BlockView, entry_in, slots_since, old_in}
 use Rattle.edge_block.specs.{Slots.{has_before, entries_of}, Lending.{LentEdge, lent_of}}
+use Rattle.std.specs.declared.option.Option.{Option, TheVariants.{None, Some}}
+use Rattle.graph_types.specs.{declared.{changes.EdgeChange.EdgeChange, batches.Outcome.Outcome}, Outcomes.together}
+use Rattle.edge_block.specs.{Slots.holds, Rows.OpenBlock, Batches.key_outcome}
+use Rattle.graph_types.proofs.Expiring.{older, last_stands, not_counted}
 
 module _ (time : ℕ) where
   abbrev old : Slot → Bool
@@ -185,3 +190,51 @@ pub bare_tells : (time : ℕ) (slots : List (Option Slot)) → map (λ e. e.stam
 bare_tells time slots bare =
     ap (list_any (λ value. nat_lt value time)) (sym bare)
     ∙ any_mapped (λ value. nat_lt value time) (λ (e : Slot). e.stamp.recent) (edges_in slots)
+
+pub old_later : (s t : ℕ) (slots : List (Option Slot)) → s ≤ t → has_before s slots ≡ true → has_before t slots ≡ true
+old_later s t [] le e = e
+old_later s t (None ∷ slots) le e = old_later s t slots le e
+old_later s t (Some x ∷ slots) le e =
+    elim (is_before s x.stamp) as (λ b. is_before s x.stamp ≡ b → (b || has_before s slots) ≡ true
+    → (is_before t x.stamp || has_before t slots) ≡ true) [
+      | true ↦ λ here _. ap (λ b. b || has_before t slots) (older s t x.stamp le here)
+      | false ↦ λ _ rest. Rattle.std.proofs.lemmas.Bool.or_right (is_before t x.stamp) (has_before t slots)
+          (old_later s t slots le rest)
+    ] refl e
+
+-- a block with no edge of before a time has none in count, either
+pub none_old : (time : ℕ) (slots : List (Option Slot)) → has_before time slots ≡ false → old_in time slots ≡ 0
+none_old time [] e = refl
+none_old time (None ∷ slots) e = none_old time slots e
+none_old time (Some x ∷ slots) e =
+    elim (is_before time x.stamp) as (λ b. is_before time x.stamp ≡ b → (b || has_before time slots) ≡ false
+    → old_in time (Some x ∷ slots) ≡ 0) [
+      | true ↦ λ _ rest. absurd (false≢true (sym rest))
+      | false ↦ λ here rest.
+          let a = sum_by-cons (λ (e : Slot). cond (is_before time e.stamp) 1 0) x (edges_in slots) in
+          let b = none_old time slots rest in
+          let c : (let n : ℕ = cond (is_before time x.stamp) 1 0 in n) ≡ 0 = ap (λ t. let n : ℕ = cond t 1 0 in n) here in
+          omega arith
+    ] refl e
+
+-- an expiry adds no target
+pub holds_since : (time target : ℕ) (slots : List (Option Slot)) → list_any (holds target) (slots_since time slots) ≡ true
+    → list_any (holds target) slots ≡ true
+holds_since time target [] e = e
+holds_since time target (None ∷ slots) e = holds_since time target slots e
+holds_since time target (Some x ∷ slots) e =
+    elim (is_before time x.stamp) as (λ b. (holds target (cond b None (Some x))
+    || list_any (holds target) (slots_since time slots)) ≡ true
+    → (holds target (Some x) || list_any (holds target) slots) ≡ true) [
+      | true ↦ λ rest. Rattle.std.proofs.lemmas.Bool.or_right (holds target (Some x)) (list_any (holds target) slots)
+          (holds_since time target slots rest)
+      | false ↦ λ both. either (holds target (Some x)) (list_any (holds target) (slots_since time slots))
+          (list_any (holds target) slots) (holds_since time target slots) both
+    ] e where
+      either : (a b c : Bool) → (b ≡ true → c ≡ true) → (a || b) ≡ true → (a || c) ≡ true
+      either true b c h e = e
+      either false b c h e = h e
+
+pub edge_stands : (x : Outcome) (change : EdgeChange) (key : Option Key) (rows : ℕ → List OpenBlock)
+    → together x (key_outcome change key rows) ≡ key_outcome change key rows
+edge_stands x change key rows = grind (arith, common_steps, last_stands, not_counted)

@@ -1,7 +1,8 @@
 -- The first element of a list that passes a test.
 use Rattle.std.proofs.Common.{◌≡◌, ℕ, zero, suc, ◌<◌, Bool, true, false, cond, List, [], ◌∷◌, length, get_or, set, refl, sym, ap}
 use Rattle.std.proofs.{Common.{◌∙◌, arith}, lemmas.{Bool.{or_parts, true≢false}, List.Elements.{All-cons, All-head, All-tail}}}
-use Rattle.std.specs.{Prelude.All, List.list_any, Option.{is_some, option_or}, declared.option.Option.{Option, TheVariants.{None, Some}}}
+use Rattle.std.specs.{Prelude.All, List.list_any, Option.{is_some, option_or}, declared.option.Option.{Option, TheVariants.None}}
+use Rattle.std.specs.declared.option.Option.TheVariants.{Some}
 use Rattle.std.proofs.lemmas.Grind.{common_steps}
 use Rattle.edge_block.specs.Slots.{first_some, at_first}
 pub use Rattle.std.proofs.lemmas.List.Folds.{list_any_at}

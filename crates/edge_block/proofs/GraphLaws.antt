@@ -6,9 +6,11 @@ use Rattle.std.specs.{List.list_all, List.range_with_len, Option.option_or, FinM
 use Rattle.std.proofs.{Common.arith, lemmas.Grind.common_steps}
 use Rattle.graph_types.specs.{Graph.{Graph, Key, Stamp, key_cmp}, Step.{after_all, outcomes, expired, count_before}}
 use Rattle.graph_types.specs.declared.batches.{NamedOp.NamedOp, Outcome.TheVariants.Expired}
-use Rattle.edge_block.specs.{Slots.{Slot, NoKeyTwice, stamp_at, is_free_slot, AreDistinct}, Rows.{Shape, OpenBlock, block_at, row_at}}
+use Rattle.edge_block.specs.{Slots.{Slot, NoKeyTwice, stamp_at, is_free_slot, AreDistinct}, Rows.{Shape, OpenBlock, block_at}}
+use Rattle.edge_block.specs.Rows.{row_at}
 use Rattle.edge_block.specs.Rows.{open_at, edge_at, IsRow, is_kept, row_end, shapes, untouched, expire_row}
-use Rattle.edge_block.specs.Batches.{InAll, resolved, rows_step, HasEndsWithin, rows_all, outcome_in, outcomes_all, IsLayoutOf, opened_rows}
+use Rattle.edge_block.specs.Batches.{InAll, resolved, rows_step, HasEndsWithin, rows_all, outcome_in, outcomes_all, IsLayoutOf}
+use Rattle.edge_block.specs.Batches.{opened_rows}
 use Rattle.edge_block.specs.Batches.{layout_after}
 use Rattle.edge_block.proofs.{RowLaws.IsOpenRow, OperationLaws.{Shows, AreOpenRows, expiry_shows, all_shows}}
 

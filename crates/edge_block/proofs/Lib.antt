@@ -20,3 +20,13 @@ pub mod ListedRows
 pub mod OperationLaws
 pub mod GraphLaws
 pub mod ShardLaws
+pub mod Lent
+pub mod Closings
+pub mod Edges
+pub mod NumberLists
+pub mod Blocks
+pub mod Placed
+pub mod Totals
+pub mod Written
+pub mod Balances
+pub mod BlockCounts

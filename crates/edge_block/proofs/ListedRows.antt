@@ -9,9 +9,11 @@ use Rattle.std.proofs.lemmas.Grind.{common_steps}
 use Rattle.graph_types.specs.{Graph.{Key, Stamp, key_cmp, key_of, stamp_of, map_of}, Step.{is_before, was_before, count_before}}
 use Rattle.graph_types.{specs.declared.ids.Edge.Edge, proofs.Keys.{keys_total, exact_keys, is_key_of, is_key_of_at, HasKeysOnce}}
 use Rattle.graph_types.proofs.{Keys.{once_none, once_cons, get_cons}, Expiry.count_before-map_of}
-use Rattle.edge_block.specs.{Slots.{Slot, stamp_in_slot, stamp_at, edges_in, old_in, AreDistinct, NoKeyTwice}, Rows.{Shape, OpenBlock}}
+use Rattle.edge_block.specs.{Slots.{Slot, stamp_in_slot, stamp_at, edges_in, old_in, AreDistinct, NoKeyTwice}, Rows.Shape}
+use Rattle.edge_block.specs.Rows.{OpenBlock}
 use Rattle.edge_block.specs.{Rows.{block_at, row_at, row_entries, shapes, old_in_row, IsRow}, Batches.IsLayoutOf}
-use Rattle.edge_block.{specs.Listed.{edge_from, edges_in_row, edges_in_rows, edges_below, AreListedOnce}, proofs.{Changes.or_none, Firsts.none_by_test}}
+use Rattle.edge_block.{specs.Listed.{edge_from, edges_in_row, edges_in_rows, edges_below, AreListedOnce}, proofs.Changes.or_none}
+use Rattle.edge_block.proofs.Firsts.{none_by_test}
 
 -- Tests of keys
 

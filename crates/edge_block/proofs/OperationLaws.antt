@@ -12,11 +12,14 @@ use Rattle.graph_types.specs.declared.{batches.Outcome.TheVariants.{Absent, Expi
 use Rattle.graph_types.specs.declared.changes.EdgeChange.TheVariants.{Insert as ToInsert, Incr as ToIncr, Remove as ToRemove}
 use Rattle.graph_types.specs.Parts.{Parts, OfEdge, OfAll, names_by, kinds_by, names_after, kinds_after}
 use Rattle.edge_block.specs.{Slots.{NoKeyTwice, AreDistinct}, Rows.{OpenBlock, block_at, row_at, open_at, edge_at, IsRow}}
-use Rattle.edge_block.specs.{Rows.{change_row, shapes}, Batches.{Resolved, InAll, resolve_parts, resolved, resolved_by, key_is_of, key_step}}
+use Rattle.edge_block.specs.{Rows.{change_row, shapes}, Batches.{Resolved, InAll, resolve_parts, resolved, resolved_by}}
+use Rattle.edge_block.specs.Batches.{key_is_of, key_step}
 use Rattle.edge_block.specs.Batches.{rows_step, HasEndsWithin, rows_all, key_outcome, outcome_in, outcomes_all, IsLayoutOf}
 use Rattle.graph_types.proofs.{Keys.exact_keys, NameLists.length-after_all-names, Expiry.get-expired, WeightsKept.set_at_get}
-use Rattle.graph_types.proofs.OperationParts.{after_parts, outcome_parts, parts_over, after_is, outcome_is, names_over, kinds_over}
-use Rattle.graph_types.proofs.NameLists.{any_before_end, appears-with_name, stays-with_name, named, length-names_made, length-kinds_made}
+use Rattle.graph_types.proofs.OperationParts.{after_parts, outcome_parts, parts_over, after_is, outcome_is, names_over}
+use Rattle.graph_types.proofs.OperationParts.{kinds_over}
+use Rattle.graph_types.proofs.NameLists.{any_before_end, appears-with_name, stays-with_name, named, length-names_made}
+use Rattle.graph_types.proofs.NameLists.{length-kinds_made}
 use Rattle.edge_block.proofs.{RowLaws.{IsOpenRow, change_sets}, ListedRows.{tests, tied, count_shown}, ExpiryLaws.expire_stays}
 use Rattle.edge_block.proofs.{ExpiryLaws.{expire_open, was_there}, Changes.none_is}
 

@@ -1,6 +1,7 @@
 -- The slots that columns make, place by place.
 use Rattle.std.proofs.Common.{◌≡◌, ◌≢◌, ◌⊎◌, ℕ, ◌+◌, ◌-◌, ◌*◌, ◌%◌, ◌^◌, ◌<◌, ◌≤◌, ℤ, pos, true, false, not, List, length, get_or}
-use Rattle.std.proofs.{Common.{replicate, set, sym, ap, ◌∙◌, inl, inr, arith}, lemmas.Bool.{eq-eqb, ne_eqb, cases_eq, cases_lt, true≢false}}
+use Rattle.std.proofs.{Common.{replicate, set, sym, ap, ◌∙◌, inl, inr, arith}, lemmas.Bool.{eq-eqb, ne_eqb, cases_eq, cases_lt}}
+use Rattle.std.proofs.lemmas.Bool.{true≢false}
 use Rattle.std.proofs.lemmas.List.{ext_get_or, length-set, get_or-set_same, get_or-set_other, get_or-replicate, get_or_past}
 use Rattle.std.proofs.lemmas.List.{FromFn.{length-map-range_with_len, get_or-map-range_with_len}, Elements.All-from_get_or}
 use Rattle.std.proofs.lemmas.{List.Folds.{list_any_none, list_any_at}, Nat.Bits.{bit_at_set_same, bit_at_set_other}}
@@ -9,9 +10,15 @@ use Rattle.std.specs.{Prelude.◌==◌, List.list_any, Int.{bit_at, w32, bit_not
 use Rattle.std.specs.{Int.RustNames.bit_and, declared.option.Option.{Option, TheVariants.{None, Some}}}
 use Rattle.std.proofs.lemmas.Grind.{common_steps}
 use Rattle.lane_scan.specs.Masks.{InMask, IsPlaceOf}
-use Rattle.edge_block.specs.Slots.{Slot, edge_slot, at_first, holds, is_free_slot, stamp_in_slot, put_slot, take_slot, has_room_for}
+use Rattle.edge_block.specs.Slots.{Slot, edge_slot, at_first, holds, is_free_slot, stamp_in_slot, put_slot, take_slot}
+use Rattle.edge_block.specs.Slots.{has_room_for}
 use Rattle.edge_block.specs.{Slots.stamp_at, Columns.slots_of, Columns.slot_from, Columns.column_slot}
 use Rattle.edge_block.proofs.{Firsts.at_first-set, Firsts.first_some_at, Firsts.none_by_test, SlotLaws.target_of_edge}
+use Rattle.std.proofs.{Common.{zero, suc, Bool, cond, [], ◌∷◌, map, count_by, refl}, lemmas.{Bool.false≢true, List.map-set}}
+use Rattle.std.proofs.lemmas.List.{get_or-map, length-map, Quantifiers.position-Some}
+use Rattle.std.specs.{List.position, Option.{is_some, option_or}}
+use Rattle.edge_block.specs.Slots.{first_some}
+use Rattle.edge_block.proofs.{Firsts.list_any_at, Changes.none_is, Counts.count_more}
 
 pub length-slots_of : (live : ℕ) (ts : List ℕ) (ws : List ℤ) (fs rs : List ℕ) → length (slots_of live ts ws fs rs) ≡ 32
 unfolding slots_of
@@ -240,3 +247,43 @@ found_at live ts ws fs rs target i e lt at least is =
 pub not_free_at : (live : ℕ) (ts : List ℕ) (ws : List ℤ) (fs rs : List ℕ) (i : ℕ) → i < 32 → InMask live i
     → is_free_slot (get_or (slots_of live ts ws fs rs) i None) ≡ false
 not_free_at live ts ws fs rs i few lives = rw (slot_live live ts ws fs rs i None few lives)
+
+pub one_passes : {A : Type 0} (p : A → Bool) (xs : List A) (i : ℕ) (d : A) → position p xs ≡ Some i → list_any p xs ≡ true
+one_passes p xs i d h = let at = position-Some p xs i d h in list_any_at p xs i d at.0 at.1
+
+-- the first one that passes is changed
+pub first_changed : {A B : Type 0} (f : A → B) (q : B → Bool) (g : B → B) (xs : List A) (i : ℕ) (y d : A)
+    → position (λ x. q (f x)) xs ≡ Some i
+    → f y ≡ g (f (get_or xs i d)) → at_first q g (map f xs) ≡ map f (set xs i y)
+first_changed f q g xs i y d h e =
+    let at = position-Some (λ x. q (f x)) xs i d h in
+    let same : (k : ℕ) → k < length xs → get_or (map f xs) k (f d) ≡ f (get_or xs k d) = λ k lt. get_or-map f xs k d (f d) lt in
+    let long : length (map f xs) ≡ length xs = length-map xs f in
+    at_first-set q g (map f xs) i (f d) (omega (arith, at.0)) (ap q (same i at.0) ∙ at.1)
+    (λ k below. ap q (same k (omega (arith, at.0))) ∙ at.2 k below)
+    ∙ ap (set (map f xs) i) (ap g (same i at.0) ∙ sym e)
+    ∙ sym (map-set f xs i y)
+
+-- what the first element has that has something
+pub first_has : {A B : Type 0} (f : A → Option B) (xs : List A) (i : ℕ) (d : A) → position (λ x. is_some (f x)) xs ≡ Some i
+    → first_some f xs ≡ f (get_or xs i d)
+first_has f xs i d h =
+    let at = position-Some (λ x. is_some (f x)) xs i d h in
+    go f xs i d at.0 at.1 at.2
+  where
+    some : {B : Type 0} (a b : Option B) → is_some a ≡ true → option_or a b ≡ a
+    some None b h = absurd (false≢true h)
+    some (Some x) b h = refl
+
+    go : {A B : Type 0} (f : A → Option B) (xs : List A) (i : ℕ) (d : A) → i < length xs → is_some (f (get_or xs i d)) ≡ true
+        → ((k : ℕ) → k < i → is_some (f (get_or xs k d)) ≡ false) → first_some f xs ≡ f (get_or xs i d)
+    go f [] i d lt is before = absurd (omega arith)
+    go f (x ∷ xs) zero d lt is before = some (f x) (first_some f xs) is
+    go f (x ∷ xs) (suc i) d lt is before =
+        ap (λ o. option_or o (first_some f xs)) (none_is (f x) (before 0 (omega arith)))
+        ∙ go f xs i d (omega arith) is (λ k below. before (suc k) (omega arith))
+
+pub count_map : {A B : Type 0} (q : B → Bool) (f : A → B) (xs : List A) → count_by q (map f xs) ≡ count_by (λ x. q (f x)) xs
+count_map q f [] = refl
+count_map q f (x ∷ xs) = count_more q (f x) (map f xs) ∙ ap (λ k. cond (q (f x)) 1 0 + k) (count_map q f xs)
+    ∙ sym (count_more (λ x. q (f x)) x xs)

@@ -6,11 +6,13 @@ use Rattle.std.specs.List.{list_any}
 use Rattle.std.proofs.{Common.arith, lemmas.Grind.common_steps}
 use Rattle.graph_types.specs.{Graph.Stamp, Step.stamp_after, Step.outcome_at}
 use Rattle.graph_types.specs.declared.changes.EdgeChange.{EdgeChange}
-use Rattle.edge_block.specs.Slots.{Slot, at_first, stamp_in_slot, stamp_at, holds, is_free_slot, AreDistinct, NoKeyTwice, put_slot}
+use Rattle.edge_block.specs.Slots.{Slot, at_first, stamp_in_slot, stamp_at, holds, is_free_slot, AreDistinct, NoKeyTwice}
+use Rattle.edge_block.specs.Slots.{put_slot}
 use Rattle.edge_block.specs.{Slots.take_slot, Rows.{OpenBlock, open_at, edge_at, has_edge, has_room, touch, new_block, put_edge}}
 use Rattle.edge_block.{specs.Rows.{set_edge, touches, change_row}, proofs.Changes.{set_first, set_unique}}
 use Rattle.edge_block.proofs.Changes.{set_last, unique_last, Fits, Puts, fits_key, fits_room, any_key, none_is}
-use Rattle.edge_block.proofs.{Entries.{stamp_at-put_slot, stamp_at-take_slot, AreDistinct-put_slot, AreDistinct-take_slot}, KeptColumns.distinct_none}
+use Rattle.edge_block.proofs.Entries.{stamp_at-put_slot, stamp_at-take_slot, AreDistinct-put_slot, AreDistinct-take_slot}
+use Rattle.edge_block.proofs.KeptColumns.{distinct_none}
 use Rattle.edge_block.proofs.Firsts.{All-at_first, at_first-none}
 
 abbrev pub same_place : ℕ × ℕ → ℕ × ℕ → Bool

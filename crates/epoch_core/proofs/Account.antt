@@ -9,7 +9,8 @@ use Rattle.graph_types.specs.{Graph.Graph, declared.ids.Edge.Edge, declared.requ
 use Rattle.epoch_core.specs.declared.{states.{Version.Version, Opening.Opening}, session_states.SessionState.SessionState}
 use Rattle.epoch_core.specs.declared.events.Event.{Event, TheVariants.{Reply, Release, Take, Fill, Post, Floor, Recycle, Pin}}
 use Rattle.epoch_core.specs.{declared.events.Event.TheVariants.{Enter, Settle, Ask, Read}, Versions.graph_at, Posting.can_post}
-use Rattle.epoch_core.specs.{Posting.version_by, Blocks.{changed_at, filled_heap, status_taken, reclaimed}, Worlds.{session_of, start}}
+use Rattle.epoch_core.specs.{Posting.version_by, Blocks.{changed_at, filled_heap, status_taken, reclaimed}, Worlds.session_of}
+use Rattle.epoch_core.specs.Worlds.{start}
 use Rattle.epoch_core.specs.Worlds.{Answer, IsStart, MachineState, World, held_in, last_graph, last_number, replies_of}
 use Rattle.epoch_core.specs.{Posts.posted, Runs.{Runs, is_done, next_world}, Sound.{IsSessionSound, IsSound}, Machine.with_status}
 use Rattle.epoch_core.specs.Machine.{Answers, Question, move, question_in, question_of, to_ask, to_enter, to_pin, to_read}

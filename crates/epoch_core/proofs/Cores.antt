@@ -8,10 +8,12 @@ use Rattle.graph_types.proofs.Empty.{empty_content_in}
 use Rattle.epoch_core.specs.declared.{states.{Version.Version, Opening.Opening}, step.Step.Step}
 use Rattle.epoch_core.specs.{declared.{session_states.SessionState.TheVariants.Idle, events.Event.Event}, Versions.IsContentGraph}
 use Rattle.epoch_core.specs.{Versions.graph_at, Posting.{graph_after, version_by}, Machine.{Replies, step}, Worlds.Answer}
-use Rattle.epoch_core.specs.{Worlds.{HasContents, MachineState, World, empty_opening_in, start_in}, Runs.{AllReplies, Runs, Steps}}
+use Rattle.epoch_core.specs.{Worlds.{HasContents, MachineState, World, empty_opening_in, start_in}, Runs.{AllReplies, Runs}}
+use Rattle.epoch_core.specs.Runs.{Steps}
 use Rattle.epoch_core.specs.{Runs.{count_of, done_in, is_done, next_world, run}, Sound.{IsCore, IsSound}, Blocks.Stepped}
 use Rattle.epoch_core.proofs.{Sizes.size_next, Changes.{graph_before, graph_next, length_next}, Steps.{sound_next, sound_start}}
 use Rattle.epoch_core.proofs.{Steps.start_is_start, Answering.{Adds, asked, adds}}
+use Rattle.graph_types.proofs.Cores.{empty_content}
 
 -- a step leads to what next_world, and says whether the event is done
 stepped_to : (o : Option World) (outcome : Step) (old new : World) → Stepped o outcome old new → new ≡ unwrap_or o old
@@ -92,10 +94,6 @@ count_more old mid new es e outcome runs steps =
 pub capped_more : (old new before after more bound : ℕ) → old ≡ min before bound → after ≡ before + more → new
     ≡ min (old + more) bound → new ≡ min after bound
 capped_more old new before after more bound e f g = omega arith
-
--- the content without names, kinds and edges
-abbrev empty_content : Content
-empty_content = record { names = []; kinds = []; edges = [] }
 
 no_contents : (limits : LimitsView) (n : ℕ) → n ≤ 0 → IsContentGraph (graph_at (empty_opening_in limits) [] n)
 no_contents limits zero h = (

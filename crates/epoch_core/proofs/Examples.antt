@@ -12,20 +12,10 @@ use Rattle.epoch_core.specs.{Worlds.{empty_opening, start_world}, Runs.run, Hold
 use Rattle.epoch_core.specs.Examples.{AreExamples, name_a, name_b, kind_k, one_insertion, add_to_edge, example_edge, ask_edge}
 use Rattle.epoch_core.specs.Examples.{short_batches, long_batches, of_short, of_long}
 use Rattle.epoch_core.{specs.Posts.posted, specs.Versions.left, proofs.Edges.Decides-edges}
+use Rattle.epoch_core.specs.declared.session_states.SessionState.TheVariants.{Pinned, Holding}
+use Rattle.graph_types.proofs.Examples.{key, stamp, nothing, one_edge, stands, put_again, once_one}
 
 -- The graph of one edge, and what batches make of it
-
-abbrev key : Key
-key = record { kind = 0; source = 0; target = 1 }
-
-abbrev stamp : ℤ → ℕ → ℕ → Stamp
-stamp weight first recent = record { weight = weight; first = first; recent = recent }
-
-abbrev nothing : FinMap key_cmp Stamp
-nothing = empty
-
-abbrev one_edge : Stamp → FinMap key_cmp Stamp
-one_edge s = insert nothing key s
 
 abbrev with_edges : FinMap key_cmp Stamp → Graph
 with_edges edges = record { names = name_a ∷ name_b ∷ []; kinds = kind_k ∷ []; edges = edges; limits = standard_limits }
@@ -40,19 +30,6 @@ first_graph weight time fits =
     ap (λ o. with_edges (set_at nothing key (stamp_after (Insert weight time weight_limit) o))) (get-empty key_cmp key)
     ∙ ap (λ b. with_edges (set_at nothing key (cond (not b) None (Some (stamp weight time time))))) fits
 
-stands : (s : Stamp) → get (one_edge s) key ≡ Some s
-stands s = get-insert keys_total nothing key s key
-
-put_twice : (s t : Stamp) (q : Key) → get (insert (one_edge s) key t) q ≡ get (one_edge t) q
-put_twice s t q =
-    get-insert keys_total (one_edge s) key t q ∙ ap (cond (eq_by_cmp key_cmp q key) (Some t))
-    (get-insert keys_total nothing key s q)
-    ∙ elim (eq_by_cmp key_cmp q key) as (λ b. cond b (Some t) (cond b (Some s) (get nothing q))
-    ≡ cond b (Some t) (get nothing q)) [ true ↦ refl | false ↦ refl ] ∙ sym (get-insert keys_total empty key t q)
-
-put_again : (s t : Stamp) → insert (one_edge s) key t ≡ one_edge t
-put_again s t = same_map keys_total exact_keys _ _ (put_twice s t)
-
 -- an increment adds to the weight
 add_over : after_all (add_to_edge (negsuc 5) 1) (graph_of_edge (stamp (pos 7) 1 1)) ≡ graph_of_edge (stamp (pos 1) 1 1)
 add_over =
@@ -63,9 +40,6 @@ long_graph : left empty_opening long_batches ≡ graph_of_edge (stamp (pos 1) 1 
 long_graph = ap (after_all (add_to_edge (negsuc 5) 1)) (first_graph (pos 7) 1 refl) ∙ add_over
 
 -- Posts that are done
-
-once_one : (e : Edge) → HasKeysOnce (e ∷ [])
-once_one e = once_cons e [] (λ k d h. absurd (omega arith)) once_none
 
 shows_one : (g : Graph) (weight : ℤ) (time : ℕ) → g ≡ graph_of_edge (stamp weight time time)
     → are_edges_of g (example_edge weight time) ≡ true
@@ -138,3 +112,12 @@ are_examples = record {
   other_graph = λ agree. other_names (sym short_holdings ∙ agree);
   blocks = refl;
 }
+
+-- the opening has no edges
+pub no_edges_shown : are_edges_of (left empty_opening []) [] ≡ true
+no_edges_shown = (Decides-edges (left empty_opening []) []).1 (record { once = once_none; same = refl })
+
+-- seat 1 has entered, and seat 0 is pinned
+abbrev pub before_post : World
+before_post = record (start_world 2 3) {
+  sessions = Pinned 0 ∷ Holding (record { pin = 0; settled = true; version = 0 }) ∷ [];

@@ -3,13 +3,16 @@ use Rattle.std.proofs.Common.{◌≡◌, ◌⊎◌, inl, inr, ℕ, zero, suc, �
 use Rattle.std.proofs.{Common.{arith, ltb}, lemmas.{Grind.common_steps, Bool.cases_lt, Bool.Decides.nat_tests}}
 use Rattle.std.specs.{Prelude.slice_get, declared.option.Option.{Option, TheVariants.{Some}}}
 use Rattle.block_reclamation.specs.declared.{status.BlockStatus.{BlockStatus, TheVariants.Retired}}
-use Rattle.block_reclamation.specs.{Status.{is_at, is_among, is_retired, is_used}, Copies.{needs, settled_number, unsettled_number}}
+use Rattle.block_reclamation.specs.{Status.{is_at, is_among, is_retired, is_used}, Copies.{needs, settled_number}}
+use Rattle.block_reclamation.specs.Copies.{unsettled_number}
 use Rattle.epoch_core.specs.declared.session_states.{Hold.Hold, SessionState.SessionState}
 use Rattle.epoch_core.specs.Worlds.{World, held_in, last_blocks, last_number, present_copy, seat_pin, session_of, settled_in}
-use Rattle.epoch_core.specs.{Worlds.unsettled_in, Versions.blocks_at, Runs.run, Collections.{has_settled, HaveSettled, collecting}}
+use Rattle.epoch_core.specs.{Worlds.unsettled_in, Versions.blocks_at, Runs.run, Collections.{has_settled, HaveSettled}}
+use Rattle.epoch_core.specs.Collections.{collecting}
 use Rattle.epoch_core.specs.Collections.{IsHeldBlock, IsListedFromPin, IsPinned, LeavesWhatIsHeld, LeavesWhatMayBeHeld}
 use Rattle.epoch_core.specs.Sound.{IsDatedAt, IsHeld, IsKeptAt, IsListedAt, IsListedBetween, IsSessionSound, IsSound}
 use Rattle.epoch_core.proofs.{Collected.{IsRetiredAt, leaves_what_pins_need, pinned, pin_needs, retired_by}, Posted.below}
+use Rattle.block_reclamation.proofs.HeldBlocks.{RetiredThen, retired_then, not_used}
 
 -- a session that has settled, or has no pin, has no unsettled one
 none_unsettled : (session : SessionState) (pin : ℕ) → has_settled session ≡ true → unsettled_in session ≡ Some pin → ⊥
@@ -137,15 +140,6 @@ needs_what_is_listed w b birth retirement sound at = record {
   needed = λ is. pin_needs w birth retirement (pin_of w b birth retirement sound at is);
 }
 
--- a block is retired with some dates
-pub record RetiredThen (o : Option BlockStatus) : Type 0 where
-  pub birth : ℕ
-  pub retirement : ℕ
-  pub is : o ≡ Some (Retired birth retirement)
-
-pub retired_then : (o : Option BlockStatus) → is_at is_retired o ≡ true → RetiredThen o
-retired_then o is = grind (arith, common_steps)
-
 pub leaves_what_may_be_held : (w : World) → IsSound w → LeavesWhatMayBeHeld w
 leaves_what_may_be_held w sound blocks all b = (
   λ still.
@@ -162,9 +156,6 @@ leaves_what_may_be_held w sound blocks all b = (
 pub held_alone : (w : World) (b : ℕ) → HaveSettled w → IsHeldBlock w b ⊎ IsListedFromPin w b → IsHeldBlock w b
 held_alone w b told (inl h) = h
 held_alone w b told (inr f) = absurd (none_unsettled (session_of w f.session) f.pin (told f.session) f.is_pin)
-
-not_used : (o : Option BlockStatus) → is_at is_retired o ≡ true → is_at is_used o ≡ false
-not_used o is = grind (arith, common_steps)
 
 kept_retired : (n : ℕ) (o : Option BlockStatus) → IsKeptAt n o → is_at is_used o ≡ false → is_at is_retired o ≡ true
 kept_retired n o kept unused = grind (arith, common_steps)

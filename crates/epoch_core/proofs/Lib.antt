@@ -18,3 +18,14 @@ pub mod Examples
 pub mod OpenedStart
 pub mod Lists
 pub mod Edges
+pub mod SessionLines
+pub mod BlockMoves
+pub mod BoardSteps
+pub mod Collecting
+pub mod Entering
+pub mod Filling
+pub mod Held
+pub mod Histories
+pub mod NumberLists
+pub mod Reached
+pub mod Stages

@@ -7,8 +7,10 @@ use Rattle.std.specs.{Prelude.slice_get, List.flat_map, declared.option.Option.T
 use Rattle.epoch_core.{proofs.PostRule.differ_head, proofs.Lists.set_same, proofs.Lists.set_else, specs.Sound.IsCore}
 use Rattle.epoch_core.specs.{Versions.AreEdgesOf, Versions.edges_at, declared.session_states.SessionState.TheVariants.Idle}
 use Rattle.epoch_core.specs.Opened.{BlockLists, numbers_in, heap_with, status_with, opened_state_in, IsOpeningIn}
-use Rattle.epoch_core.{specs.Worlds.IsStart, specs.Worlds.HasContents, proofs.Steps.sound_start, proofs.Steps.free_at}
-use Rattle.graph_types.{proofs.Counts.apart_tail, specs.{Graph.graph_in, Limits.LimitsView, declared.{ids.Edge.Edge, contents.Content.Content}}}
+use Rattle.epoch_core.{specs.Worlds.{IsStart, HasContents}, proofs.Steps.sound_start}
+use Rattle.block_reclamation.proofs.Steps.{free_at}
+use Rattle.graph_types.{proofs.Counts.apart_tail, specs.{Graph.graph_in, Limits.LimitsView, declared.ids.Edge.Edge}}
+use Rattle.graph_types.specs.declared.contents.Content.{Content}
 use Rattle.block_reclamation.specs.{declared.status.BlockStatus.{BlockStatus, TheVariants.{Free, Used}}, Status.is_among}
 
 length-heap_with : (lists : BlockLists) (heap : List (List Edge)) → length (heap_with lists heap) ≡ length heap

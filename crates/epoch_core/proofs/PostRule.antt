@@ -6,9 +6,11 @@ use Rattle.std.specs.Prelude.{slice_get, if◌then◌else◌, is_some, All, AllP
 use Rattle.std.specs.declared.option.Option.{Option, TheVariants.None, TheVariants.Some}
 use Rattle.graph_types.{proofs.Counts.apart_tail, specs.Step.{MeetsNameLimit, MeetsKindLimit}}
 use Rattle.graph_types.{specs.declared.batches.NamedOp.NamedOp, proofs.LimitsKept.limits_after_all}
-use Rattle.epoch_core.specs.{Blocks.all_differ, declared.events.Event.TheVariants.Post, Worlds.{World, last_blocks, last_graph, last_number}}
+use Rattle.epoch_core.specs.{Blocks.all_differ, declared.events.Event.TheVariants.Post, Worlds.{World, last_blocks, last_graph}}
+use Rattle.epoch_core.specs.Worlds.{last_number}
 use Rattle.epoch_core.specs.{Runs.is_done, Posting.{all_listable, can_post, graph_after, is_listable}, Versions.edges_of}
-use Rattle.epoch_core.{specs.Posts.{MayPost, posted}, proofs.{Lists.{and_left, and_right, neither}, Edges.Decides-edges}}
+use Rattle.epoch_core.{specs.Posts.{MayPost, posted}, proofs.{Lists.neither, Edges.Decides-edges}}
+use Rattle.block_reclamation.proofs.Lists.{and_left, and_right}
 use Rattle.block_reclamation.specs.declared.status.BlockStatus.{BlockStatus, TheVariants.Granted}
 use Rattle.block_reclamation.specs.Status.{is_at, is_granted, is_among}
 

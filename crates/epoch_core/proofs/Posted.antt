@@ -1,6 +1,8 @@
 -- Each event keeps what is sound: a batch is posted.
-use Rattle.std.proofs.Common.{◌≡◌, ◌≢◌, ◌||◌, add-one, ltb, ℕ, suc, ◌+◌, ◌<◌, ◌≤◌, Bool, true, false, inl, inr, List, [], ◌∷◌, ◌++◌}
-use Rattle.std.{proofs.{Common.{length, refl, sym, ap, subst, ◌∙◌, arith}, lemmas.{Grind.common_steps, Bool.cases_eq}}, specs.Prelude.slice_get}
+use Rattle.std.proofs.Common.{◌≡◌, ◌≢◌, ◌||◌, add-one, ltb, ℕ, suc, ◌+◌, ◌<◌, ◌≤◌, Bool, true, false, inl, inr, List, [], ◌∷◌}
+use Rattle.std.proofs.Common.{◌++◌}
+use Rattle.std.proofs.{Common.{length, refl, sym, ap, subst, ◌∙◌, arith}, lemmas.{Grind.common_steps, Bool.cases_eq}}
+use Rattle.std.specs.Prelude.{slice_get}
 use Rattle.std.proofs.lemmas.Bool.Decides.{nat_tests}
 use Rattle.std.specs.{Prelude.AllPairs, declared.option.Option.{Option, TheVariants.{None, Some}}, Option.option_map}
 use Rattle.graph_types.specs.declared.batches.NamedOp.{NamedOp}
@@ -10,8 +12,10 @@ use Rattle.epoch_core.specs.{Posts.{MayPost, posted}, Sound.{IsDatedAt, IsKeptAt
 use Rattle.epoch_core.specs.{Sound.{IsListedAsDated, IsListedAt, IsListedBetween}, Versions.blocks_at}
 use Rattle.epoch_core.{specs.Posting.{can_post, graph_after, is_listable, version_by}, proofs.PostRule.Decides-post}
 use Rattle.epoch_core.proofs.{PostRule.listable_of, Keeping.{Carries, carry}, Lists.{get_enumerated, length_enumerated}}
-use Rattle.epoch_core.proofs.{Lists.all_listed, Changes.{length_next, version_before, graph_before, version_next, graph_next}}
-use Rattle.block_reclamation.specs.{declared.status.BlockStatus.BlockStatus, Status.{is_at, is_granted, is_among, is_used, IsDated}}
+use Rattle.block_reclamation.proofs.Lists.{all_listed}
+use Rattle.epoch_core.proofs.Changes.{length_next, version_before, graph_before, version_next, graph_next}
+use Rattle.block_reclamation.specs.{declared.status.BlockStatus.BlockStatus, Status.{is_at, is_granted, is_among, is_used}}
+use Rattle.block_reclamation.specs.Status.{IsDated}
 use Rattle.block_reclamation.specs.declared.status.BlockStatus.TheVariants.{Free, Granted, Used, Retired}
 
 -- the status of each block afterwards

@@ -3,8 +3,10 @@ use Rattle.std.proofs.{Common.{◌≡◌, ℕ, List, refl, sym, ap, subst, true}
 use Rattle.std.specs.{Prelude.{IfOk, OnOk, OnErr, IsTrue, MatchOption, slice_get}, Option.{option_map, option_and_then}}
 use Rattle.std.specs.declared.{option.Option.{Option, TheVariants.{None, Some}}, result.Result.{Result, TheVariants.{Ok, Err}}}
 use Rattle.epoch_core.specs.{Blocks.Stepped, Blocks.changed_at, Worlds.MachineState, Worlds.World, Runs.Steps}
-use Rattle.epoch_core.specs.declared.{step.Step.Step, events.Event.{Event, TheVariants.Reply}, session_states.SessionState.SessionState}
-use Rattle.epoch_core.specs.Machine.{IsAnswered, Replies, move, question_in, step, takes_memory, to_reply, with_sessions, with_status}
+use Rattle.epoch_core.specs.declared.{step.Step.Step, events.Event.{Event, TheVariants.Reply}}
+use Rattle.epoch_core.specs.declared.session_states.SessionState.{SessionState}
+use Rattle.epoch_core.specs.Machine.{IsAnswered, Replies, move, question_in, step, takes_memory, to_reply, with_sessions}
+use Rattle.epoch_core.specs.Machine.{with_status}
 use Rattle.epoch_core.specs.declared.states.Version.{Version}
 use Rattle.epoch_core.specs.Worlds.{Answer}
 use Rattle.block_reclamation.specs.declared.status.BlockStatus.{BlockStatus}

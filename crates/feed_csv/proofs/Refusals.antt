@@ -6,12 +6,15 @@ use Rattle.graph_types.specs.{Limits.is_time, Limits.is_weight, Valid.{IsValid, 
 use Rattle.graph_types.specs.declared.batches.NamedOp.{NamedOp, TheVariants.{Insert, Incr}}
 use Rattle.graph_types.specs.declared.requests.{NamedFilter.NamedFilter, Request.{Request, TheVariants.{Labels, Cores, Degrees}}}
 use Rattle.feed_csv.specs.declared.command.Command.TheVariants.{Commit, OpenSlot, CloseSlot, Stat, Collect, Rebase}
-use Rattle.feed_csv.specs.Commands.{HasValidOp, RefusesItem, bare_command, edge_command, edge_fields, edge_of, expire_of, filter_at}
+use Rattle.feed_csv.specs.Commands.{HasValidOp, RefusesItem, bare_command, edge_command, edge_fields, edge_of, expire_of}
+use Rattle.feed_csv.specs.Commands.{filter_at}
 use Rattle.feed_csv.specs.Commands.{filter_command, filter_fields, item_of, levels_of, names_at, remove_of, slot_command}
 use Rattle.feed_csv.specs.Fields.{◌>>=◌, any_kind_at}
 use Rattle.feed_csv.specs.{Fields.{field, kind_at, name_at, of_length, required, slot_at, time_at, weight_at}, Number.at_most}
-use Rattle.feed_csv.specs.{Number.{has_minus, number_in_text, slot_of, time_of, weight_of}, Records.Row, Script.{FaultStepIn, NextStepIn}}
-use Rattle.feed_csv.specs.{Script.{Script, TakesRowIn}, declared.command.{Command.Command, FeedFault.FeedFault, FeedWord.FeedWord}}
+use Rattle.feed_csv.specs.{Number.{has_minus, number_in_text, slot_of, time_of, weight_of}, Records.Row, Script.FaultStepIn}
+use Rattle.feed_csv.specs.Script.{NextStepIn}
+use Rattle.feed_csv.specs.{Script.{Script, TakesRowIn}, declared.command.{Command.Command, FeedFault.FeedFault}}
+use Rattle.feed_csv.specs.declared.command.FeedWord.{FeedWord}
 use Rattle.feed_csv.specs.declared.command.FeedWord.TheVariants.{Read, BadCommand, BadFields, BadName, BadWeight, BadTime}
 use Rattle.feed_csv.specs.declared.command.FeedWord.TheVariants.{BadSlot, Memory}
 

@@ -7,21 +7,7 @@ use Rattle.edge_block.specs.Slots.{Slot, BlockView, edges_in, entry_in, entries_
 use Rattle.edge_block.specs.{Lending.LentEdge, Lending.lent_of, declared.blocks.Block.Block}
 use Rattle.graph_version.specs.{Sharing.{block_value, block_values}, Edges.edge_from}
 use Rattle.graph_cores.specs.Tallies.{passes, shown_block, shown_edges}
-
--- a lent edge with its source, and several of one source
-abbrev pub edge_lent : ℕ → LentEdge → Edge
-edge_lent source l =
-    record {
-      kind = record { 0 = l.kind };
-      source = record { 0 = source };
-      target = record { 0 = l.target };
-      weight = l.stamp.weight;
-      first = l.stamp.first;
-      recent = l.stamp.recent;
-    }
-
-abbrev pub edges_lent : ℕ → List LentEdge → List Edge
-edges_lent source ls = map (edge_lent source) ls
+use Rattle.edge_block.proofs.Blocks.{edges_lent}
 
 lent_slots : (f : Filter) (b : BlockView) (es : List Slot)
     → edges_lent b.source (map lent_of (filter (in_view f) (map (entry_in b) es)))

@@ -8,14 +8,7 @@ use Rattle.graph_types.{specs.declared.ids.{Edge.Edge, Degree.Degree, Filter.Fil
 use Rattle.graph_types.proofs.ListedDegrees.{with_shown}
 use Rattle.edge_block.specs.Slots.{IsStamp}
 use Rattle.graph_cores.{specs.Tallies.{passes, HasTallyRoom, Counts}, proofs.Parts.{first_edges, All-left, All-right}}
-
--- the sum of the weights of listed edges
-abbrev weight_sum : List Edge → ℤ
-weight_sum es = fold ◌+ℤ◌ (pos 0) (map (λ e. e.weight) es)
-
-weights_push : (p : Edge → Bool) (es : List Edge) (e : Edge)
-    → weight_sum (filter p (es ++ e ∷ [])) ≡ weight_sum (filter p es) +ℤ cond (p e) e.weight (pos 0)
-weights_push p es e = grind (arith, common_steps, filter-append, map-append, fold-append, ints)
+use Rattle.graph_types.proofs.Counting.{weights_push}
 
 listed_push : (f : Filter) (es : List Edge) (e : Edge) (v : ℕ) → passes f e ≡ true
     → listed_degree f (es ++ e ∷ []) v ≡ with_edge e v (listed_degree f es v)

@@ -5,25 +5,9 @@ use Rattle.std.proofs.lemmas.List.{get_or-set_other, length-set, Elements.{All-w
 use Rattle.std.{proofs.lemmas.List.Elements.Contains-append_left, specs.{Prelude.{◌==◌, All, sum}, List.Contains}}
 use Rattle.std.proofs.lemmas.Grind.{common_steps}
 use Rattle.graph_types.specs.Arcs.{at}
-use Rattle.graph_cores.{specs.Peel.lowered, proofs.Times.times}
-
-abbrev less : List ℕ → ℕ → List ℕ
-less ds w = set ds w (at ds w - 1)
-
-abbrev pushed : ℕ → List ℕ → List ℕ → ℕ → List ℕ
-pushed k ds st w = cond (at ds w == k + 1) (st ++ w ∷ []) st
-
-less_at : (ds : List ℕ) (w x : ℕ) → w < length ds → w ≡ x → at (less ds w) x ≡ at ds x - 1
-less_at ds w x lt e = grind (arith, common_steps, get_or-set_same)
-
-less_other : (ds : List ℕ) (w x : ℕ) → (w ≡ x → ⊥) → at (less ds w) x ≡ at ds x
-less_other ds w x ne = get_or-set_other ds w x (at ds w - 1) 0 (λ e. ne (sym e))
-
-less_low : (ds : List ℕ) (w x : ℕ) → w < length ds → at (less ds w) x ≤ at ds x
-less_low ds w x lt = grind (arith, common_steps, cases_eq, less_at, less_other)
-
-rest_within : (ds : List ℕ) (w : ℕ) (ws : List ℕ) → All (λ x. x < length ds) (w ∷ ws) → All (λ x. x < length (less ds w)) ws
-rest_within ds w ws h = λ i d l. let a = h (suc i) d (omega arith) in let long = length-set ds w (at ds w - 1) in omega arith
+use Rattle.graph_cores.specs.Peel.{lowered}
+use Rattle.graph_types.proofs.Times.{times}
+use Rattle.graph_types.proofs.Lowered.{less, pushed, less_at, less_other, rest_within, pushed_low}
 
 pub lowered_at : (k : ℕ) (ws ds st : List ℕ) (x : ℕ) → All (λ w. w < length ds) ws
     → at (lowered k ws ds st).0 x ≡ at ds x - times x ws
@@ -61,11 +45,6 @@ lowered_pushes k (w ∷ ws) ds st x h many few =
           let a = less_other ds w x ne in
           lowered_pushes k ws (less ds w) (pushed k ds st w) x within (omega arith) few
     ]
-
-pushed_low : (b : Bool) (k : ℕ) (ds st : List ℕ) (w : ℕ) → w < length ds → (at ds w == k + 1) ≡ b → All (λ y. at ds y ≤ k) st
-    → All (λ y. at (less ds w) y ≤ k) (cond b (st ++ w ∷ []) st)
-pushed_low true k ds st w lt e low = grind (arith, common_steps, All-push, All-weaker, less_low, Decides-eqb, less_at)
-pushed_low false k ds st w lt e low = grind (arith, common_steps, All-weaker, less_low)
 
 pub lowered_low : (k : ℕ) (ws ds st : List ℕ) → All (λ w. w < length ds) ws → All (λ y. at ds y ≤ k) st
     → All (λ y. at (lowered k ws ds st).0 y ≤ k) (lowered k ws ds st).1

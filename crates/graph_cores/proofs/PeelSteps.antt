@@ -12,7 +12,8 @@ use Rattle.graph_types.specs.{Graph.Graph, Analyses.{IsTable, Joins, IsCoreNumbe
 use Rattle.graph_types.{specs.declared.ids.Filter.Filter, proofs.Counts.{Contains-cons_cases, Contains-nil, Contains-cons}}
 use Rattle.graph_types.proofs.Counts.{count_yes, contains_filter, filter_contains, passing_length}
 use Rattle.graph_cores.specs.Peel.{is_alive, lowered, IsPeeling, IsBetween, is_low, is_high}
-use Rattle.graph_cores.proofs.Times.{times, has_times, times_has, apart_times, count_taken}
+use Rattle.graph_types.proofs.Times.{times, has_times, times_has, apart_times}
+use Rattle.graph_cores.proofs.Times.{count_taken}
 use Rattle.graph_cores.proofs.Lowered.{lowered_at, lowered_keeps, lowered_pushes, lowered_low}
 
 -- what is left was left before

@@ -9,7 +9,8 @@ use Rattle.graph_types.specs.{Graph.Graph, Analyses.{LeadsTo, Walk, IsLevel, IsT
 use Rattle.graph_types.{specs.declared.ids.VertexId.VertexId, proofs.Counts.{Contains-cons_cases, Contains-nil}}
 use Rattle.graph_levels.specs.Search.{is_unreached, level_of, HasLevel, IsReachedWithin, IsSearch}
 use Rattle.graph_levels.specs.Reached.{met, stands_in, level_table, vertices_of}
-use Rattle.graph_levels.proofs.Tables.{asked, front_long, length-table, levelled, table_push, vertices_push}
+use Rattle.graph_levels.proofs.Tables.{asked, length-table, levelled, table_push, vertices_push}
+use Rattle.graph_types.proofs.Tables.{front_long}
 
 none_of : (o : Option ℕ) → is_unreached o ≡ true → o ≡ None
 none_of o h = grind (arith, common_steps)

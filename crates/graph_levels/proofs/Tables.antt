@@ -14,15 +14,9 @@ use Rattle.std.specs.{List.{IsDistinct, list_any, Sorted.{IsNonDecreasing, IsNon
 use Rattle.std.proofs.lemmas.Grind.{common_steps}
 use Rattle.graph_types.proofs.{Counts.{Contains-cons, Contains-cons_cases, Contains-first}, Arcs.contains_map}
 use Rattle.graph_types.specs.declared.ids.VertexId.{VertexId}
-use Rattle.graph_levels.specs.{Search.{is_unreached, level_of}, Reached.{AreRows, met, rows_from, stands_in, level_table, vertices_of}}
-
--- a table with the levels of rows, one after another
-abbrev pub filled : List (Option ℕ) → List (VertexId × ℕ) → List (Option ℕ)
-filled levels rows = fold (λ table row. set table row.0.0 (Some row.1)) levels rows
-
-length-filled : (rows : List (VertexId × ℕ)) (levels : List (Option ℕ)) → length (filled levels rows) ≡ length levels
-length-filled [] levels = refl
-length-filled (row ∷ rows) levels = grind (arith, common_steps, length-filled rows (set levels row.0.0 (Some row.1)))
+use Rattle.graph_levels.specs.{Search.{is_unreached, level_of}, Reached.{AreRows, met, rows_from, stands_in, level_table}}
+use Rattle.graph_levels.specs.Reached.{vertices_of}
+use Rattle.graph_types.proofs.Tables.{filled, length-filled, front_of}
 
 pub length-table : (n : ℕ) (rows : List (VertexId × ℕ)) → length (level_table n rows) ≡ n
 length-table n rows = length-filled rows (replicate n None) ∙ length-replicate n None
@@ -98,19 +92,12 @@ met_rows n d (v ∷ ts) rows in' are =
         within = subst (All (λ w. w < n)) (sym vertices) (All-push (λ w. w < n) (vertices_of rows) v are.within (in' 0 0 (omega arith)));
       })
 
--- rows that begin with others, and those behind them
-front_of : (old rows more : List (VertexId × ℕ)) → rows ≡ old ++ more → rows ≡ old ++ drop (length old) rows
-front_of old rows more is = is ∙ ap (λ xs. old ++ xs) (sym (ap (drop (length old)) is ∙ drop-append_seam old more))
-
 pub front_more : (d : ℕ) (ts : List ℕ) (old rows : List (VertexId × ℕ)) → rows ≡ old ++ drop (length old) rows
     → met d ts rows ≡ old ++ drop (length old) (met d ts rows)
 front_more d ts old rows front =
     let more = met_more d ts rows in
     front_of old (met d ts rows) (drop (length old) rows ++ more.0)
     (more.1 ∙ ap (λ xs. xs ++ more.0) front ∙ append_assoc old (drop (length old) rows) more.0)
-
-pub front_long : (old rows : List (VertexId × ℕ)) → rows ≡ old ++ drop (length old) rows → length old ≤ length rows
-front_long old rows front = grind (arith, common_steps, length-append)
 
 -- behind the last row there is none
 pub none_left : (k : ℕ) (rows : List (VertexId × ℕ)) → length rows ≤ k → vertices_of (drop k rows) ≡ []

@@ -5,7 +5,7 @@ use Rattle.std.proofs.lemmas.{List.Elements.filter_map-append, Option.slice_get-
 use Rattle.std.specs.{Prelude.{All, zip, Ok, position, bytes_eq}, List.filter_map, Option.option_to_list}
 use Rattle.graph_types.specs.{Graph.Graph, Graph.graph_of, Analyses.AreLevels, Analyses.AreLabels, Analyses.AreCoreNumbers}
 use Rattle.graph_types.specs.Answer.{IsAnswer, first_refusal, filter_refusal, resolved_filter, reached}
-use Rattle.graph_types.specs.{Answer.names_of_vertices, Answer.level_row, declared.ids.Filter.Filter, declared.contents.Content.Content}
+use Rattle.graph_types.specs.{Answer.{names_of_vertices, level_row}, declared.{ids.Filter.Filter, contents.Content.Content}}
 use Rattle.graph_types.specs.declared.requests.{NamedFilter.NamedFilter, AskError.AskError, AskError.TheVariants.NoVertex}
 use Rattle.graph_types.specs.declared.requests.Request.TheVariants.{Levels as AskLevels, Labels as AskLabels, Cores as AskCores}
 use Rattle.graph_types.specs.declared.requests.Reply.TheVariants.{Levels, Labels, Cores}

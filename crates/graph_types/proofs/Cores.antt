@@ -13,6 +13,7 @@ use Rattle.graph_types.specs.{Graph.Graph, Analyses.{Joins, HasNeighbors, IsCore
 use Rattle.graph_types.specs.{Arcs.{AreNeighbors, support, AreUpper}, declared.ids.Filter.Filter}
 use Rattle.graph_types.proofs.Counts.{Contains-first, Contains-cons, passing_length}
 use Rattle.graph_types.proofs.{Counts.filter_contains, Counts.contains_filter, Settling.sum_falls}
+use Rattle.graph_types.specs.declared.contents.Content.{Content}
 
 same_le : (k : ℕ) → nat_le k k ≡ true
 same_le k = grind (arith, nat_tests)
@@ -208,3 +209,7 @@ module _ (f : Filter) (g : Graph) (n : ℕ) (arcs : List (ℕ × ℕ)) (joins : 
 
   pub cores_by_arcs : (r : List ℕ) × IsTable n (IsCoreNumber f g) r
   cores_by_arcs = some_cores f g n (neighbors_by arcs n) are_neighbors end_within
+
+-- the content without names, kinds and edges
+abbrev pub empty_content : Content
+empty_content = record { names = []; kinds = []; edges = [] }

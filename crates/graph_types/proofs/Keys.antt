@@ -1,6 +1,7 @@
 -- Keys in order, and lists of edges that list each key once.
 use Rattle.std.proofs.Common.{◌≡◌, ◌≢◌, ℕ, zero, suc, ◌+◌, ◌<◌, ◌≤◌, Bool, true, false, cond, List, [], ◌∷◌, length, get_or, map}
-use Rattle.std.proofs.{Common.{refl, sym, ap, ◌∙◌, arith, inl, inr}, lemmas.Cmp.{then_total, on_total, nat_cmp_total, tied_itself}}
+use Rattle.std.proofs.{Common.{refl, sym, ap, ◌∙◌, arith, inl, inr}, lemmas.Cmp.{then_total, on_total, nat_cmp_total}}
+use Rattle.std.proofs.lemmas.Cmp.{tied_itself}
 use Rattle.std.proofs.lemmas.List.{Sums.{sum_by-cons, get_or-le-sum_by}, Sorted.{Contains-permutation, sum_by-IsPermutation}}
 use Rattle.std.proofs.lemmas.{Bool.cases_Bool, List.{Kept.AllPairs-cons, Sorted.IsPermutation-sym}, Grind.common_steps}
 use Rattle.std.specs.{Prelude.{count_by, is_some, AllPairs, All, Contains, IsPermutation}, declared.cmp.Ordering.Ordering}

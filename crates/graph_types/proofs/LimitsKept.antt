@@ -4,10 +4,12 @@ use Rattle.std.{proofs.lemmas.Nat.mul-le, specs.Prelude.{Result, Ok, Err, All}, 
 use Rattle.std.proofs.lemmas.{Bool.cases_lt, List.Elements.{All-cons, All-tail}}
 use Rattle.graph_types.specs.{Graph.{Graph}, Limits.{LimitsView, AreLimits, most_names, most_kinds, most_places}}
 use Rattle.graph_types.specs.{Limits.{IsWeightIn, SumsFit}, declared.ids.Edge.Edge}
-use Rattle.graph_types.specs.{Analyses.{AreLevels, IsLevel}, Step.{after, after_all, left_by}, Answer.{IsAnswer, IsReply, refusal}}
+use Rattle.graph_types.specs.{Analyses.{AreLevels, IsLevel}, Step.{after, after_all, left_by}, Answer.{IsAnswer, IsReply}}
+use Rattle.graph_types.specs.Answer.{refusal}
 use Rattle.graph_types.specs.{Laws.{IsFreeOfLimits, KeepLimits}, declared.{ids.Filter.Filter, batches.NamedOp.NamedOp}}
 use Rattle.graph_types.specs.declared.batches.NamedOp.TheVariants.{Insert, Incr, Remove, Expire}
-use Rattle.graph_types.specs.declared.requests.{Request.{Request, TheVariants.Levels as AskLevels}, Reply.Reply, AskError.AskError}
+use Rattle.graph_types.specs.declared.requests.{Request.{Request, TheVariants.Levels as AskLevels}, Reply.Reply}
+use Rattle.graph_types.specs.declared.requests.AskError.{AskError}
 use Rattle.graph_types.specs.declared.requests.Request.TheVariants.{Labels as AskLabels, Cores as AskCores, Degrees as AskDegrees}
 use Rattle.graph_types.specs.declared.requests.Request.TheVariants.{OneEdge as AskOneEdge}
 

@@ -1,6 +1,7 @@
 -- Lists of names in order of first appearance, as operations make them.
 use Rattle.std.proofs.Common.{◌≡◌, ◌≢◌, ℕ, ◌+◌, ◌<◌, ◌≤◌, List, [], ◌∷◌, ◌++◌, true, false, cond, not, ◌||◌, length, get_or}
-use Rattle.std.proofs.{Common.{Bool, ltb, AllPairs, bytes_eq, Option, Some, suc, refl, sym, ◌∙◌, arith}, lemmas.Bool.{false≢true, ltb-true, Decides.nat_tests}}
+use Rattle.std.proofs.{Common.{Bool, ltb, AllPairs, bytes_eq, Option, Some, suc, refl, sym, ◌∙◌, arith}, lemmas.Bool.false≢true}
+use Rattle.std.proofs.lemmas.Bool.{ltb-true, Decides.nat_tests}
 use Rattle.std.proofs.lemmas.{Slice.Eq.bytes_eq-Decides, List.Folds.{list_any-append, list_any_at}}
 use Rattle.std.{proofs.lemmas.List.Quantifiers.all_pairs_push, specs.List.{list_any, position_or_len}}
 use Rattle.std.proofs.lemmas.Grind.{common_steps}

@@ -3,8 +3,10 @@ use Rattle.std.proofs.Common.{◌≡◌, Some, None, Bool, true, not, refl, sym,
 use Rattle.std.specs.{Prelude.Result, Prelude.Ok, Prelude.Err, Prelude.zip, Prelude.nat_lt, Option.option_map, FinMap.get}
 use Rattle.std.proofs.lemmas.Grind.{common_steps}
 use Rattle.graph_types.specs.{Graph.{Graph, graph_in, IsContent}, Step.{key_in, number_of}, Answer.{IsAnswer, IsReply, refusal}}
-use Rattle.graph_types.specs.Answer.{first_refusal, resolved_filter, degree_table, shown_stamp, reached, names_of_vertices, is_listed, is_kind_listed}
-use Rattle.graph_types.specs.{Limits.LimitsView, declared.{contents.Content.Content, requests.Request.{Request, TheVariants.Levels as AskLevels}}}
+use Rattle.graph_types.specs.Answer.{first_refusal, resolved_filter, degree_table, shown_stamp, reached, names_of_vertices}
+use Rattle.graph_types.specs.Answer.{is_listed, is_kind_listed}
+use Rattle.graph_types.specs.{Limits.LimitsView, declared.{contents.Content.Content, requests.Request.Request}}
+use Rattle.graph_types.specs.declared.requests.Request.TheVariants.Levels as AskLevels
 use Rattle.graph_types.specs.declared.requests.Request.TheVariants.{Labels as AskLabels, Cores as AskCores, Degrees as AskDegrees}
 use Rattle.graph_types.specs.declared.requests.{Request.TheVariants.OneEdge as AskOneEdge, Reply.{Reply, TheVariants.Levels}}
 use Rattle.graph_types.specs.declared.requests.{Reply.TheVariants.{Labels, Cores, Degrees, OneEdge}, AskError.AskError}

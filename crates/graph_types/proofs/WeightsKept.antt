@@ -1,10 +1,14 @@
 -- What operations and batches leave of a graph whose weights are within its limit has weights within it again.
-use Rattle.std.proofs.Common.{◌≡◌, ℕ, ◌≤◌, ℤ, ◌+ℤ◌, nat_abs, true, false, cond, not, ◌&&◌, List, [], ◌∷◌, get_or, sym, ap, ◌∙◌, subst, refl, arith, map}
+use Rattle.std.proofs.Common.{◌≡◌, ℕ, ◌≤◌, ℤ, ◌+ℤ◌, nat_abs, true, false, cond, not, ◌&&◌, List, [], ◌∷◌, get_or, sym, ap, ◌∙◌}
+use Rattle.std.proofs.Common.{subst, refl, arith, map}
 use Rattle.std.proofs.{Common.{Option, Some, None}, lemmas.Bool.{leb-true, and_parts}}
 use Rattle.std.specs.{Prelude.{All, IfSome}, Ordering.eq_by_cmp, FinMap.{FinMap, find, get, get-insert, get-remove}}
-use Rattle.graph_types.specs.{Graph.{Graph, Key, Stamp, key_cmp, key_of, entry_of, map_of, graph_in, HasWeights}, Limits.{IsWeightIn, is_weight_in, LimitsView}}
-use Rattle.graph_types.specs.{Step.{stamp_put, stamp_after, changed_key, changed, set_at, is_before, stays_from, after, after_all, left_by}}
-use Rattle.graph_types.specs.{Changes.AllowsUpTo, Laws.KeepsWeights, declared.{batches.NamedOp.NamedOp, changes.EdgeChange.EdgeChange, contents.Content.Content, ids.Edge.Edge}}
+use Rattle.graph_types.specs.Graph.{Graph, Key, Stamp, key_cmp, key_of, entry_of, map_of, graph_in, HasWeights}
+use Rattle.graph_types.specs.Limits.{IsWeightIn, is_weight_in, LimitsView}
+use Rattle.graph_types.specs.Step.{stamp_put, stamp_after, changed_key, changed, set_at, is_before, stays_from, after, after_all}
+use Rattle.graph_types.specs.Step.{left_by}
+use Rattle.graph_types.specs.{Changes.AllowsUpTo, Laws.KeepsWeights, declared.batches.NamedOp.NamedOp}
+use Rattle.graph_types.specs.declared.{changes.EdgeChange.EdgeChange, contents.Content.Content, ids.Edge.Edge}
 use Rattle.graph_types.specs.declared.batches.NamedOp.TheVariants.{Insert, Incr, Remove, Expire}
 use Rattle.graph_types.specs.declared.changes.EdgeChange.TheVariants.{Insert as ToInsert, Incr as ToIncr, Remove as ToRemove}
 use Rattle.graph_types.proofs.{Keys.{keys_total, HasKeysOnce, get_is, get_listed, find_listed}, Expiry.get-expired}

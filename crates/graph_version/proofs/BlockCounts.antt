@@ -5,14 +5,7 @@ use Rattle.edge_block.specs.Slots.{Slot, BlockView, is_free_slot, edges_in}
 use Rattle.version_pages.specs.Rows.{row_of, blocks_of}
 use Rattle.graph_version.specs.{Versions.VersionView, Versions.IsVersion, Edges.edges_in_block, Edges.edges_in_blocks}
 use Rattle.graph_version.proofs.{Few.count_is_total, Few.few_total, Totals.count_one}
-
-some_edges : (slots : List (Option Slot)) → list_all is_free_slot slots ≡ false → 1 ≤ length (edges_in slots)
-some_edges [] is = cc
-some_edges (None ∷ slots) is = some_edges slots is
-some_edges (Some e ∷ slots) is = omega arith
-
-abbrev HasEdges : BlockView → Type 0
-HasEdges b = list_all is_free_slot b.slots ≡ false
+use Rattle.edge_block.proofs.BlockCounts.{some_edges, HasEdges}
 
 as_many_edges : (bs : List BlockView) → All HasEdges bs → length bs ≤ length (edges_in_blocks bs)
 as_many_edges [] all = omega arith

@@ -6,7 +6,8 @@ use Rattle.edge_block.specs.Slots.{BlockView}
 use Rattle.vertex_names.specs.Book.{Book}
 use Rattle.version_pages.specs.Rows.{row_of, Replaces}
 use Rattle.graph_version.specs.Drafts.{row_values, row_among}
-use Rattle.graph_version.{specs.{Kept.{version_of, edge_total, IsSummary}, Logs.keeps_batches, Drafts.{DraftView, IsWhole}}, proofs.Few.few_total}
+use Rattle.graph_version.specs.{Kept.{version_of, edge_total, IsSummary}, Logs.keeps_batches, Drafts.{DraftView, IsWhole}}
+use Rattle.graph_version.proofs.Few.{few_total}
 
 -- the draft of these parts
 abbrev pub draft_of : Book → Book → Graph → List (List NamedOp) → List (List BlockView) → DraftView

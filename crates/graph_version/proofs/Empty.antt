@@ -5,7 +5,9 @@ use Rattle.graph_types.specs.{Graph.Graph, Graph.Stamp, Graph.key_cmp, Step.empt
 use Rattle.graph_types.{specs.Limits.{LimitsView, AreLimits, standard_limits}, proofs.Empty.empty_weights}
 use Rattle.edge_block.specs.{Slots.BlockView, Rows.IsRow}
 use Rattle.vertex_names.specs.Book.{Book, empty_book}
-use Rattle.graph_version.specs.{Versions.IsVersion, Versions.{empty_version, empty_version_in}, Kept.version_of, Kept.IsSummary, Logs.keeps_batches}
+use Rattle.graph_version.specs.{Versions.{IsVersion, empty_version, empty_version_in}, Kept.{version_of, IsSummary}}
+use Rattle.graph_version.specs.Logs.{keeps_batches}
+use Rattle.graph_types.proofs.Empty.{standard_are_limits}
 
 pub no_row : IsRow []
 no_row = record { within = λ k d h. absurd (omega arith); between = tt }
@@ -27,13 +29,6 @@ is_empty_version_in limits are = record {
   };
 }
 
-pub standard_are_limits : AreLimits standard_limits
-standard_are_limits = record {
-  names = omega arith;
-  kinds = omega arith;
-  batches = omega arith;
-  weight = omega arith;
-  sums = omega arith;
 }
 
 pub is_empty_version : IsVersion empty_version

@@ -4,10 +4,11 @@ pub mod Looks
 pub mod Totals
 pub mod Few
 pub mod Drafting
-pub mod Lent
 pub mod BlockCounts
 pub mod Rebased
 pub mod Arcs
-pub mod Members
 pub mod Rows
 pub mod Targets
+pub mod Examples
+pub mod Filling
+pub mod BirthCounts

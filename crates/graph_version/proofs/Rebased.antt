@@ -1,22 +1,29 @@
 -- A version 0 over copies of another version's blocks.
-use Rattle.std.proofs.Common.{◌≡◌, ◌≢◌, ℕ, zero, suc, ◌+◌, ◌*◌, ◌-◌, ◌<◌, ◌≤◌, List, [], ◌∷◌, ◌++◌, map, length, take, drop, get_or}
-use Rattle.std.proofs.Common.{refl, sym, ap, ap₂, subst, ◌∙◌, arith, inl, inr, All, AllPairs, length-append, ℤ, Bool, true, rules, w64}
+use Rattle.std.proofs.Common.{◌≡◌, ◌≢◌, ℕ, zero, suc, ◌+◌, ◌*◌, ◌-◌, ◌<◌, ◌≤◌, List, [], ◌∷◌, ◌++◌, map, length, take, drop}
+use Rattle.std.proofs.Common.{get_or}
+use Rattle.std.proofs.Common.{refl, sym, ap, ap₂, subst, ◌∙◌, arith, inl, inr, All, AllPairs, length-append, ℤ, Bool, true, rules}
+use Rattle.std.proofs.Common.{w64}
 use Rattle.std.proofs.{Common.FitsSigned, lemmas.List.{append-nil, take-append-drop, take_all, drop_all, length-map, map-append}}
 use Rattle.std.proofs.lemmas.{List.{drop_more, get_or_past, Elements.{All-head, All-tail, All-cons}}, Bool.cases_lt}
 use Rattle.std.{proofs.lemmas.Bool.Decides.eqb_tells, specs.{declared.{sync.Arc.Arc, alloc.Global.Global}, FinMap.{len, get}}}
 use Rattle.std.{specs.Option.is_some, proofs.lemmas.Grind.common_steps}
-use Rattle.graph_types.specs.{Graph.{key_of, stamp_of, IsContent, IsContentIn, HasWeights, Graph, graph_in}, Limits.{LimitsView, IsWeight}}
+use Rattle.graph_types.specs.{Graph.{key_of, stamp_of, IsContent, IsContentIn, HasWeights, Graph, graph_in}, Limits.LimitsView}
+use Rattle.graph_types.specs.Limits.{IsWeight}
 use Rattle.graph_types.{specs.declared.{batches.NamedOp.NamedOp, contents.Content.Content, ids.Edge.Edge}, proofs.Keys.get_listed}
-use Rattle.graph_types.{specs.Limits.AreLimits, proofs.{LimitsKept.{limits_left_by, each_fits, sums_within}, WeightsKept.weights_listed}}
+use Rattle.graph_types.{specs.Limits.AreLimits, proofs.LimitsKept.{limits_left_by, each_fits, sums_within}}
+use Rattle.graph_types.proofs.WeightsKept.{weights_listed}
 use Rattle.edge_block.specs.{Slots.{IsStamp, Slot, BlockView, entry_in, entries_of, edges_in}, Lending.{LentEdge, lent_of}}
 use Rattle.edge_block.specs.{declared.blocks.Block.Block, Rows.shape_of, Batches.{IsLayoutOf, HasEndsWithin}}
 use Rattle.vertex_names.specs.Book.{Book}
 use Rattle.version_pages.specs.{Rows.{row_of, blocks_of, numbers_of, Replaces}, Sharing.{block_value, block_values}}
 use Rattle.graph_version.specs.{Versions.{VersionView, IsBlockOf, AreRowsOf, IsVersion, content, layout_of}, Edges.edge_from}
-use Rattle.graph_version.specs.{Edges.{edges_in_block, edges_in_blocks}, Kept.{vertex_book, kind_book, version_of, IsSummary}, Logs.keeps_batches}
+use Rattle.graph_version.specs.{Edges.{edges_in_block, edges_in_blocks}, Kept.{vertex_book, kind_book, version_of, IsSummary}}
+use Rattle.graph_version.specs.Logs.{keeps_batches}
 use Rattle.graph_version.specs.LentEdges.{lent_as_edge}
 use Rattle.graph_version.specs.Rebased.{AreCopies, IsRebased, rows_like, unnumbered}
-use Rattle.graph_version.proofs.{Shown.rows_each_once, Totals.same_blocks, Totals.at_source, Totals.elsewhere}
+use Rattle.graph_version.proofs.{Shown.rows_each_once, Totals.same_blocks}
+use Rattle.edge_block.proofs.Totals.{at_source, elsewhere}
+use Rattle.version_pages.proofs.Rebased.{numbers_mapped}
 
 -- Lists cut in two
 
@@ -235,28 +242,16 @@ pub copied_same : (held old new : List (Arc Block Global)) (k : ℕ) → AreCopi
     → length held ≡ length old → map unnumbered (block_values new) ≡ map unnumbered (block_values held)
 copied_same held old new k copied all many = grind (arith, common_steps, same_by_place)
 
-numbers_mapped : (bs : List (Arc Block Global)) → numbers_of (block_values bs)
-    ≡ map (λ (b : Arc Block Global). (block_value b).number) bs
-numbers_mapped [] = refl
-numbers_mapped (b ∷ bs) = ap (λ ns. (block_value b).number ∷ ns) (numbers_mapped bs)
-
 pub all_copied : (rows : List (List BlockView)) (held old new : List (Arc Block Global))
     → map unnumbered (block_values new) ≡ map unnumbered (block_values held)
     → numbers_of (block_values new) ≡ numbers_of (block_values old) → block_values held ≡ blocks_of rows
     → AllPairs ◌≢◌ (map (λ (b : Arc Block Global). (block_value b).number) old) → AreCopies rows (block_values new)
 all_copied rows held old new same numbers held_are apart = grind (arith, common_steps, numbers_mapped)
 
-pub mapped_numbers : (old new : List (Arc Block Global)) → numbers_of (block_values new) ≡ numbers_of (block_values old)
-    → numbers_of (block_values new) ≡ map (λ (b : Arc Block Global). (block_value b).number) old
-mapped_numbers old new numbers = numbers ∙ numbers_mapped old
-
 -- a list written over, whole
 pub written : {A : Type 0} (old new : List A) (len : ℕ) → len ≡ length old → length new ≡ length old
     → take len (new ++ drop (length new) old) ≡ new
 written old new len is long = grind (arith, common_steps, drop_all, append-nil, take_all)
-
-pub numbers_long : (a b : List (Arc Block Global)) → numbers_of (block_values a) ≡ numbers_of (block_values b) → length a ≡ length b
-numbers_long a b same = grind (arith, common_steps, length-map)
 
 -- the content's lists
 pub same_content : (names kinds : Book) (edges : ℕ) (keeps : Bool) (v : VersionView) (c : Content) (l : LimitsView)

@@ -7,8 +7,12 @@ use Rattle.graph_types.proofs.{Counts.{contains_filter, filter_contains}, Keys.{
 use Rattle.edge_block.specs.Slots.{BlockView, edges_in, entry_in, entries_of}
 use Rattle.version_pages.specs.Rows.{row_of, blocks_of}
 use Rattle.graph_version.specs.{Versions.{AreRowsOf, IsBlockOf}, Edges.{edge_from, edges_in_block, edges_in_blocks}, Shown.shown}
-use Rattle.graph_version.{specs.Shown.{shown_in, targets_of}, proofs.{Shown.rows_each_once, Members.contains_flat}}
-use Rattle.graph_version.proofs.Members.{flat_contains, in_rows, row_with}
+use Rattle.graph_version.{specs.Shown.{shown_in, targets_of}, proofs.Shown.rows_each_once}
+use Rattle.version_pages.proofs.Members.{contains_flat}
+use Rattle.version_pages.proofs.Members.{flat_contains, in_rows, row_with}
+use Rattle.std.specs.Prelude.{List, []}
+use Rattle.graph_types.specs.{Step.empty_graph, declared.batches.NamedOp.NamedOp}
+use Rattle.graph_version.specs.Versions.{VersionView}
 
 -- the entries of a block are of its source
 pub of_source : (b : BlockView) (e : Key × Stamp) → Contains (entries_of b) e → e.0.source ≡ b.source
@@ -72,3 +76,6 @@ module _ (g : Graph) (rows : List (List BlockView)) (is : AreRowsOf g rows) (f :
   pub row_targets : (source target : ℕ) → Contains
       (targets_of (shown_in f (row_of rows source))) target ↔ LeadsTo f g source target
   row_targets source target = (shown_leads source target, leads_shown source target)
+
+abbrev pub of_batches : List (List NamedOp) → VersionView
+of_batches batches = record { opening = empty_graph; batches = batches; rows = [] }

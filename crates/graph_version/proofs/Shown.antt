@@ -8,6 +8,7 @@ use Rattle.edge_block.specs.{Slots.{BlockView, edges_in}, Rows.{Shape, shape_of,
 use Rattle.edge_block.{specs.Listed.{edges_in_row, edges_in_rows}, proofs.ListedRows.{listed_once, slot_entry}}
 use Rattle.version_pages.specs.Rows.{row_of, blocks_of}
 use Rattle.graph_version.specs.{Versions.{layout_of, AreRowsOf}, Edges.{edges_in_block, edges_in_blocks, AreEachOnce}}
+use Rattle.version_pages.proofs.Shown.{row_past}
 
 -- a row's blocks list what its shapes do
 row_listed : (source : ℕ) (row : List BlockView) → All (λ b. b.source ≡ source) row
@@ -34,11 +35,6 @@ rows_listed layout first (row ∷ rows) same of =
   where
     next : (i : ℕ) → first + 1 + i ≡ first + suc i
     next i = omega arith
-
-row_past : (rows : List (List BlockView)) (i : ℕ) → length rows ≤ i → row_of rows i ≡ []
-row_past [] i past = refl
-row_past (row ∷ rows) zero past = absurd (omega arith)
-row_past (row ∷ rows) (suc i) past = row_past rows i (omega arith)
 
 -- the blocks of rows that are tied to a graph by look-up have each of its edges once, and no others
 pub rows_each_once : (g : Graph) (rows : List (List BlockView)) → AreRowsOf g rows

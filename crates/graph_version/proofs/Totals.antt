@@ -20,13 +20,6 @@ same_blocks (row ∷ a) [] same = ap (λ r. r ++ blocks_of a) (same 0) ∙ same_
 same_blocks (row ∷ a) (next ∷ b) same = ap (λ r. r ++ blocks_of a) (same 0)
     ∙ ap (λ l. next ++ l) (same_blocks a b (λ s. same (suc s)))
 
--- where a row took the place of a source's row
-pub at_source : (source s : ℕ) (row rest : List BlockView) → s ≡ source → (if s == source then row else rest) ≡ row
-at_source source s row rest same = elim (eqb_tells s source) [ inl e ↦ rw e.0 refl | inr e ↦ absurd (e.1 same) ]
-
-pub elsewhere : (source s : ℕ) (row rest : List BlockView) → s ≢ source → (if s == source then row else rest) ≡ rest
-elsewhere source s row rest apart = elim (eqb_tells s source) [ inl e ↦ absurd (apart e.1) | inr e ↦ rw e.0 refl ]
-
 pub count_one : (b : BlockView) → length (edges_in_block b) ≡ length (edges_in b.slots)
 count_one b = length-map (entries_of b) edge_from ∙ length-map (edges_in b.slots) (entry_in b)
 

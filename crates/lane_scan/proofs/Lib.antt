@@ -2,3 +2,5 @@ pub mod Selected
 pub mod Windows
 pub mod UsedParts
 pub mod Lanes
+pub mod Times
+pub mod Views

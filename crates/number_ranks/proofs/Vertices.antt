@@ -1,14 +1,14 @@
 -- The numbers of vertices, one after another.
-use Rattle.std.proofs.Common.{◌≡◌, ◌<◌, ◌+◌, ◌++◌, ◌-◌, ◌==◌, ℕ, List, [], ◌∷◌, length, get_or, refl, sym, ap, ◌∙◌, arith, true, false, not, Bool}
-use Rattle.std.proofs.lemmas.{List.{length-map, get_or-map, map-append}, Bool.{true≢false, eqb-true}, Option.{slice_get-map, slice_get-get_or}}
+use Rattle.std.proofs.Common.{◌≡◌, ◌<◌, ◌+◌, ◌++◌, ◌-◌, ◌==◌, ℕ, List, [], ◌∷◌, length, get_or, refl, sym, ap, ◌∙◌, arith, true}
+use Rattle.std.proofs.Common.{false, not, Bool}
+use Rattle.std.proofs.lemmas.{List.{length-map, get_or-map, map-append}, Bool.{true≢false, eqb-true}, Option.slice_get-map}
+use Rattle.std.proofs.lemmas.Option.{slice_get-get_or}
 use Rattle.std.proofs.lemmas.List.{get_or_append_left, get_or-append-add}
 use Rattle.std.specs.{Prelude.slice_get, Option.{option_map, option_eq}, declared.option.Option.Option}
 use Rattle.std.specs.declared.option.Option.TheVariants.{None, Some}
 use Rattle.graph_types.specs.declared.ids.VertexId.{VertexId}
 use Rattle.number_ranks.specs.Sorting.{ranked_numbers}
-
-abbrev pub number_of : VertexId → ℕ
-number_of v = v.0
+use Rattle.graph_types.proofs.Vertices.{number_of}
 
 pub as_many : (xs : List VertexId) → length (ranked_numbers xs) ≡ length xs
 as_many xs = length-map xs number_of
@@ -35,13 +35,3 @@ stays xs v k lt =
 pub new_last : (xs : List VertexId) (v : VertexId) → slice_get (ranked_numbers (xs ++ v ∷ [])) (length xs) ≡ Some v.0
 new_last [] v = refl
 new_last (x ∷ xs) v = new_last xs v
-
--- what an option has that is equal to a number
-pub is_equal : (eq : VertexId → VertexId → Bool) → ((a b : VertexId) → eq a b ≡ (a.0 == b.0)) → (o : Option VertexId) (n : ℕ)
-    → not (option_eq eq o (Some (record { 0 = n }))) ≡ false → option_map number_of o ≡ Some n
-is_equal eq is None n even = absurd (true≢false even)
-is_equal eq is (Some v) n even = ap (λ k. Some k) (eqb-true v.0 n (sym (is v (record { 0 = n })) ∙ holds (eq v (record { 0 = n })) even))
-  where
-    holds : (b : Bool) → not b ≡ false → b ≡ true
-    holds true e = refl
-    holds false e = absurd (true≢false e)

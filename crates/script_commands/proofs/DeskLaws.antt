@@ -18,49 +18,15 @@ use Rattle.graph_types.specs.declared.refusals.ApplyError.{ApplyError}
 use Rattle.stream_store.specs.Refusals.{Attempt, BatchRefusal, IsAdmissible, IsWithin, Refuses, attempt_on, block_count}
 use Rattle.graph_types.specs.declared.refusals.ApplyError.TheVariants as refused
 use Rattle.script_lines.specs.Lines.{collect_line, commit_line, stat_line}
-use Rattle.script_commands.specs.{Servers.ShowsDesk, States.{dates, blocks_dropped, floor_in, Dates, IsCommandResult, ServerState}}
+use Rattle.script_commands.specs.{Servers.ShowsDesk, States.{dates, blocks_dropped, floor_in, Dates, IsCommandResult}}
+use Rattle.script_commands.specs.States.{ServerState}
 use Rattle.script_commands.specs.States.{after_collect, after_commit, attempt, batch_word, beginning, copy_in, last_version}
 use Rattle.script_commands.specs.States.{left_by_pending, recycled_blocks, set_up, blocks_taken, used}
+use Rattle.block_reclamation.proofs.DeskLaws.{parts_one, length-replicate}
+use Rattle.block_pool.proofs.DeskLaws.{same_counts, parts, none_counted, all_counted}
+use Rattle.store_steps.proofs.DeskLaws.{retired_any, past_any, batches_after}
 
 -- Counts
-
-same_counts : (p q : BlockStatus → Bool) → ((s : BlockStatus) → p s ≡ q s) → (pool : List BlockStatus) → count_by p pool ≡ count_by q pool
-same_counts p q same [] = refl
-same_counts p q same (s ∷ pool) =
-    let a = count_more p s pool in
-    let b = count_more q s pool in
-    let one : (let n : ℕ = cond (p s) 1 0 in n) ≡ cond (q s) 1 0 = ap (λ t. cond t 1 0) (same s) in
-    let rest = same_counts p q same pool in
-    omega arith
-
-retired_any : (s : BlockStatus) → is_retired s ≡ is_retired_by (λ birth retirement. true) s
-retired_any Free = refl
-retired_any Granted = refl
-retired_any (Used birth) = refl
-retired_any (Retired birth retirement) = refl
-
-past_any : (copy : PinCopy) (s : BlockStatus) → is_reclaimable copy s ≡ is_retired_by (λ birth retirement. not (needs copy birth retirement)) s
-past_any copy Free = refl
-past_any copy Granted = refl
-past_any copy (Used birth) = refl
-past_any copy (Retired birth retirement) = refl
-
--- each block is free, retired or used
-parts_one : (s : BlockStatus) → (let n : ℕ = cond (is_free s) 1 0 in n) + cond (is_retired s) 1 0 + cond (is_in_use s) 1 0 ≡ 1
-parts_one Free = refl
-parts_one Granted = refl
-parts_one (Used birth) = refl
-parts_one (Retired birth retirement) = refl
-
-pub parts : (pool : List BlockStatus) → count_by is_free pool + count_by is_retired pool + count_by is_in_use pool ≡ length pool
-parts [] = refl
-parts (s ∷ pool) =
-    let a = count_more is_free s pool in
-    let b = count_more is_retired s pool in
-    let c = count_more is_in_use s pool in
-    let one = parts_one s in
-    let rest = parts pool in
-    omega arith
 
 count_filter : {X : Type 0} (p q : X → Bool) (xs : List X) → count_by (λ x. p x && q x) xs ≡ count_by q (filter p xs)
 count_filter p q [] = refl
@@ -91,23 +57,6 @@ all_used d s shows =
     omega (arith, whole, gone, shows.free, shows.blocks)
 
 -- The opening
-
-pub none_counted : (p : BlockStatus → Bool) → p Free ≡ false → (n : ℕ) → count_by p (replicate n Free) ≡ 0
-none_counted p none zero = refl
-none_counted p none (suc n) =
-    let more = count_more p Free (replicate n Free) in
-    let here : (let k : ℕ = cond (p Free) 1 0 in k) ≡ 0 = ap (λ t. cond t 1 0) none in
-    let rest = none_counted p none n in
-    omega arith
-
-all_counted : (n : ℕ) → count_by is_free (replicate n Free) ≡ n
-all_counted zero = refl
-all_counted (suc n) =
-    let more = count_more is_free Free (replicate n Free) in let rest = all_counted n in omega arith
-
-pub length-replicate : (n : ℕ) → length (replicate n Free) ≡ n
-length-replicate zero = refl
-length-replicate (suc n) = ap suc (length-replicate n)
 
 pub shows_opened : (d : DeskView) (config : ConfigView) → d ≡ opened_desk config.blocks (empty_version_in config.limits)
     → ShowsDesk d (beginning (set_up config)).state
@@ -159,18 +108,6 @@ dated_counts : (q : ℕ → ℕ → Bool) (retired : List Dates) (births : List 
 dated_counts q retired births n =
     count_by-append (λ (x : Dates). q x.birth x.retirement) retired (map (λ birth. dates birth n) births)
     ∙ ap (λ k. count_by (λ (x : Dates). q x.birth x.retirement) retired + k) (dated q births n)
-
-pub batches_after : (d e : DeskView) (ops : List NamedOp) → Accepts d ops e → e.last.batches ≡ d.last.batches ++ ops ∷ []
-batches_after d e ops accepts = ap (λ l. l.batches) accepts.accepted.ledger
-
-pub opening_after : (d e : DeskView) (ops : List NamedOp) → Accepts d ops e → e.last.opening ≡ d.last.opening
-opening_after d e ops accepts = accepts.accepted.opening
-
-pub blocks_after : (d e : DeskView) (ops : List NamedOp) → Accepts d ops e → length e.pool ≡ length d.pool
-blocks_after d e ops accepts =
-    let counts : AcceptedCounts d accepts.taken accepts.dropped e =
-    accepted_counts d e ops accepts.taken accepts.dropped accepts.accepted in
-    counts.blocks
 
 pub commit_done : (s : ServerState) (d e : DeskView) (ops : List NamedOp) (number : ℕ) (results : List Outcome) (lines : List ℕ)
     → ShowsDesk d s → ops ≡ s.pending → count_by is_in_use d.pool ≡ block_count d.last

@@ -1,14 +1,11 @@
 pub mod SlotLaws
 pub mod DeskLaws
-pub mod NamesApart
 pub mod Commands
-pub mod Edges
-pub mod OwnLabels
 pub mod Replies
 pub mod Asking
 pub mod HeldBlocks
 pub mod Rebasing
-pub mod ContentsKept
-pub mod Moving
 pub mod MachineMoves
 pub mod MachineStarts
+pub mod OneText
+pub mod SessionLines

@@ -1,6 +1,8 @@
 -- Each command of a server is a list of the machine's events.
-use Rattle.std.proofs.Common.{◌≡◌, ℕ, zero, suc, ◌-◌, List, [], ◌∷◌, ◌++◌, length, map, take, get_or, set, replicate, refl, sym, ap}
-use Rattle.std.proofs.{Common.{subst, ◌∙◌}, lemmas.{Option.{get_or_from_slice_get, slice_get-map}, List.{length-map, map-set, take-map}}}
+use Rattle.std.proofs.Common.{◌≡◌, ℕ, zero, suc, ◌-◌, List, [], ◌∷◌, ◌++◌, length, map, take, get_or, set, replicate, refl, sym}
+use Rattle.std.proofs.Common.{ap}
+use Rattle.std.proofs.{Common.{subst, ◌∙◌}, lemmas.{Option.{get_or_from_slice_get, slice_get-map}, List.{length-map, map-set}}}
+use Rattle.std.proofs.lemmas.List.{take-map}
 use Rattle.std.specs.{Option.option_map, Prelude.{true, Option, None, Some, Result, Ok, Err, slice_get}}
 use Rattle.block_reclamation.specs.{declared.copies.{PinCopy.PinCopy, TheConstants.SEATS}}
 use Rattle.block_reclamation.specs.Copies.{copy_of, floor_of, pin_at}
@@ -19,9 +21,11 @@ use Rattle.store_steps.specs.Steps.{Accepts, IsTaken, TakesAt, past_numbers, pos
 use Rattle.store_steps.proofs.{BoardSteps.shows_floored, BoardSteps.shows_sessions, Reached.same_count}
 use Rattle.store_steps.proofs.Questions.{question_done, question_replies, silent_posting, silent_recycling, then_done}
 use Rattle.stream_store.specs.{Kept.DeskState, Seats.{SessionView, held_graph, held_version}}
-use Rattle.script_commands.specs.Machine.{AddsReplies, AreEventsOf, ContinuesMachine, IsReplyTo, ShowsMachine, asking, held_at, session_for}
+use Rattle.script_commands.specs.Machine.{AddsReplies, AreEventsOf, ContinuesMachine, IsReplyTo, ShowsMachine, asking, held_at}
+use Rattle.script_commands.specs.Machine.{session_for}
 use Rattle.script_commands.specs.{Servers.{IsServer, pending_of}, Slots.{IsPinnedBySlots, held_by, held_slots, held_of}}
-use Rattle.script_commands.specs.States.{Held, IsReplied, RecordResult, ServerState, answer_result, holding, pins_of, version, version_in}
+use Rattle.script_commands.specs.States.{Held, IsReplied, RecordResult, ServerState, answer_result, holding, pins_of, version}
+use Rattle.script_commands.specs.States.{version_in}
 use Rattle.script_commands.specs.declared.{server.Server.Server, slots.Slots.Slots}
 use Rattle.script_commands.proofs.{Asking.{asked_there, held_earlier}, Commands.held_there, Replies.{replied_err, replied_ok}}
 use Rattle.graph_types.specs.declared.requests.AskError.{AskError}
@@ -30,7 +34,7 @@ use Rattle.version_answers.specs.{Numbered.{IsNumberedAnswer, named}, declared.n
 use Rattle.script_lines.specs.Lines.{shown_lines}
 use Rattle.std.specs.Prelude.{◌≢◌, ◌⊎◌}
 use Rattle.script_commands.specs.States.{ask_word}
-use Rattle.script_commands.proofs.Moving.{closing_done, opening_done, silent_closing, silent_opening}
+use Rattle.store_steps.proofs.Moving.{closing_done, opening_done, silent_closing, silent_opening}
 
 -- The pins
 

@@ -9,7 +9,8 @@ use Rattle.block_reclamation.specs.declared.status.BlockStatus.TheVariants.{Free
 use Rattle.epoch_core.specs.declared.session_states.SessionState.{TheVariants.Idle}
 use Rattle.epoch_core.specs.{Versions.{graph_at, graph_of_opening}, Worlds.{MachineState, World, start_world_in}}
 use Rattle.epoch_core.proofs.Steps.{start_is_start}
-use Rattle.store_steps.specs.{Desks.DeskView, Opening.{IsVersionZero, OpensAsMachine, opened_desk, opened_start}, Shown.ShowsWorld}
+use Rattle.store_steps.specs.{Desks.DeskView, Opening.{IsVersionZero, OpensAsMachine, opened_desk, opened_start}}
+use Rattle.store_steps.specs.Shown.{ShowsWorld}
 use Rattle.store_steps.proofs.OpeningShown.{opens_as_machine}
 use Rattle.stream_store.specs.{Configs.ConfigView, Seats.{SessionView, held_version}}
 use Rattle.script_commands.specs.Machine.{Restarts, ShowsMachine, StartsMachine, held_at, session_for}

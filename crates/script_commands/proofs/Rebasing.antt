@@ -12,50 +12,16 @@ use Rattle.graph_version.specs.Rows.{blocks_of, numbers_of, row_of}
 use Rattle.script_lines.specs.Lines.{rebase_line}
 use Rattle.store_steps.specs.{Desks.DeskView, Desks.IsDesk, Desks.birth_at, Desks.is_retired_by, Opening.opened_desk}
 use Rattle.stream_store.specs.Refusals.{block_count}
-use Rattle.script_commands.proofs.{DeskLaws.length-replicate, DeskLaws.none_counted, DeskLaws.parts, HeldBlocks.blocks_counted}
+use Rattle.block_reclamation.proofs.DeskLaws.{length-replicate}
+use Rattle.block_pool.proofs.DeskLaws.{none_counted, parts}
+use Rattle.script_commands.proofs.HeldBlocks.{blocks_counted}
 use Rattle.script_commands.specs.{Servers.ShowsDesk, Slots.held_of}
-use Rattle.script_commands.specs.States.{IsCommandResult, ServerState, after_rebase, version, version_in, held_block_count as held_blocks}
+use Rattle.script_commands.specs.States.{IsCommandResult, ServerState, after_rebase, version, version_in}
+use Rattle.script_commands.specs.States.held_block_count as held_blocks
+use Rattle.block_pool.proofs.Rebasing.{marked_none}
+use Rattle.store_steps.proofs.Rebasing.{first_opened, births_first}
 
 -- The pool
-
--- no block was born with a later version than 0
-abbrev AreFirst : List BlockStatus → Type 0
-AreFirst pool = (k : ℕ) → birth_at pool k ≡ 0
-
-set_first : (pool : List BlockStatus) (n k : ℕ) → AreFirst pool → birth_at (set pool n (Used 0)) k ≡ 0
-set_first [] n k first = refl
-set_first (s ∷ pool) zero zero first = refl
-set_first (s ∷ pool) zero (suc k) first = first (suc k)
-set_first (s ∷ pool) (suc n) zero first = first 0
-set_first (s ∷ pool) (suc n) (suc k) first = set_first pool n k (λ m. first (suc m))
-
-marked_first : (ns : List ℕ) (pool : List BlockStatus) → AreFirst pool → AreFirst (marked ns (Used 0) pool)
-marked_first [] pool first = first
-marked_first (n ∷ ns) pool first = marked_first ns (set pool n (Used 0)) (λ k. set_first pool n k first)
-
-free_first : (n : ℕ) → AreFirst (replicate n Free)
-free_first zero k = refl
-free_first (suc n) zero = refl
-free_first (suc n) (suc k) = free_first n k
-
-set_none : (p : BlockStatus → Bool) (s : BlockStatus) → p s ≡ false → (pool : List BlockStatus) (n : ℕ) → count_by p pool ≡ 0
-    → count_by p (set pool n s) ≡ 0
-set_none p s fails [] n none = none
-set_none p s fails (t ∷ pool) zero none =
-    let a = count_more p t pool in
-    let b = count_more p s pool in
-    let here : (let k : ℕ = cond (p s) 1 0 in k) ≡ 0 = ap (λ t. cond t 1 0) fails in
-    omega arith
-set_none p s fails (t ∷ pool) (suc n) none =
-    let a = count_more p t pool in
-    let b = count_more p t (set pool n s) in
-    let rest = set_none p s fails pool n (omega arith) in
-    omega arith
-
-marked_none : (p : BlockStatus → Bool) (s : BlockStatus) → p s ≡ false → (ns : List ℕ) (pool : List BlockStatus) → count_by p pool ≡ 0
-    → count_by p (marked ns s pool) ≡ 0
-marked_none p s fails [] pool none = none
-marked_none p s fails (n ∷ ns) pool none = marked_none p s fails ns (set pool n s) (set_none p s fails pool n none)
 
 -- a test that neither a free nor a used block passes counts nothing at an opening
 none_opened : (p : BlockStatus → Bool) → p Free ≡ false → p (Used 0) ≡ false → (blocks : ℕ) (d : DeskView)
@@ -64,20 +30,10 @@ none_opened p free used blocks d opened =
     ap (λ (e : DeskView). count_by p e.pool) opened
     ∙ marked_none p (Used 0) used (numbers_of (blocks_of d.last.rows)) (replicate blocks Free) (none_counted p free blocks)
 
-first_opened : (blocks : ℕ) (d : DeskView) → d ≡ opened_desk blocks d.last → AreFirst d.pool
-first_opened blocks d opened k =
-    ap (λ (e : DeskView). birth_at e.pool k) opened
-    ∙ marked_first (numbers_of (blocks_of d.last.rows)) (replicate blocks Free) (free_first blocks) k
-
 pub length_opened : (blocks : ℕ) (d : DeskView) → d ≡ opened_desk blocks d.last → length d.pool ≡ blocks
 length_opened blocks d opened =
     ap (λ (e : DeskView). length e.pool) opened
     ∙ (length-marked (numbers_of (blocks_of d.last.rows)) (Used 0) (replicate blocks Free) ∙ length-replicate blocks)
-
-births_first : (row : List BlockView) (pool : List BlockStatus) → AreFirst pool
-    → map (λ b. birth_at pool b.number) row ≡ map (λ (b : Shape). 0) (map shape_of row)
-births_first [] pool first = refl
-births_first (b ∷ row) pool first = ap₂ (λ n ns. n ∷ ns) (first b.number) (births_first row pool first)
 
 -- The state
 

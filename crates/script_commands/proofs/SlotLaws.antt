@@ -1,7 +1,8 @@
 -- Slots that stay slots: as sessions are acquired and released, batches come, and the floor rises.
 use Rattle.std.proofs.Common.{◌≡◌, ◌≢◌, ℕ, zero, suc, ◌+◌, ◌<◌, ◌≤◌, ◌==◌, max, true, false, List, [], ◌∷◌, ◌++◌, length, map}
 use Rattle.std.proofs.Common.{take, get_or, set, replicate, append-nil, refl, sym, ap, ap₂, subst, ◌∙◌, arith, inl, inr, ◌-◌}
-use Rattle.std.proofs.lemmas.{Bool.{eq-eqb, eqb-true, true≢false}, List.{get_or-set_same, get_or-set_other, set-set, set-get_or, length-map, map-set}}
+use Rattle.std.proofs.lemmas.{Bool.{eq-eqb, eqb-true, true≢false}, List.{get_or-set_same, get_or-set_other, set-set, set-get_or}}
+use Rattle.std.proofs.lemmas.List.{length-map, map-set}
 use Rattle.std.proofs.lemmas.List.{take-append-le, length-append, nil_from_length, get_or-map, FromFn.get_or-range_with_len}
 use Rattle.std.proofs.{lemmas.Option.{get_or_from_slice_get, slice_get_read, slice_get_within}, Math.ListN.length-set}
 use Rattle.std.{proofs.Math.{Seq.take-length, Nat.max-eq_right}, specs.Prelude.{◌⊎◌, Option, None, Some, IfSome, slice_get}}
@@ -12,7 +13,9 @@ use Rattle.graph_version.specs.Versions.{IsVersion, VersionView}
 use Rattle.block_reclamation.specs.{Board.{BoardState, no_pins, with_pin}, Copies.{copy_of, pin_at}, declared.copies.Pin.Pin}
 use Rattle.block_reclamation.specs.declared.copies.TheConstants.{SEATS}
 use Rattle.stream_store.specs.Seats.{SeatView, SessionView, held_version, session_lent, seat_of}
-use Rattle.script_commands.specs.{Slots.{AreSlots, IsEarlier, IsPinnedBySlots, IsScriptSlot, held_by, held_of}, States.{holding, pins_of}}
+use Rattle.script_commands.specs.{Slots.{AreSlots, IsEarlier, IsPinnedBySlots, IsScriptSlot, held_by, held_of}, States.holding}
+use Rattle.script_commands.specs.States.{pins_of}
+use Rattle.stream_store.proofs.SlotLaws.{numbered, some_seat}
 
 same_or_not : (a b : ℕ) → (a ≡ b) ⊎ (a ≢ b)
 same_or_not a b = elim (a == b) as (λ t. (a == b) ≡ t → (a ≡ b) ⊎ (a ≢ b)) [
@@ -21,18 +24,6 @@ same_or_not a b = elim (a == b) as (λ t. (a == b) ≡ t → (a ≡ b) ⊎ (a �
 ] refl
 
 -- At first
-
-numbered : (seats : List SeatView) (n : ℕ) → map (λ (s : SeatView). s.number) seats ≡ range_with_len 0 n
-    → (slot : ℕ) (d : SeatView)
-    → slot < length seats → length seats ≤ n → (get_or seats slot d).number ≡ slot
-numbered seats n same slot d below few =
-    sym (get_or-map (λ (s : SeatView). s.number) seats slot d d.number below)
-    ∙ (ap (λ numbers. get_or numbers slot d.number) same ∙ (get_or-range_with_len 0 n slot d.number (omega arith)
-    ∙ (let plain : 0 + slot ≡ slot = omega arith in plain)))
-
-some_seat : (seats : List SeatView) (slot : ℕ) → slot < length seats → SeatView
-some_seat [] slot below = absurd (omega arith)
-some_seat (seat ∷ seats) slot below = seat
 
 free_slot : (last : VersionView) (slot : ℕ) (seat : Option SeatView) (session : Option SessionView) (s : SeatView) → seat ≡ Some s
     → session ≡ None → s.number ≡ slot → IsScriptSlot last slot seat session

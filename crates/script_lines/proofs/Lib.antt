@@ -1,2 +1,3 @@
 pub mod TableRows
 pub mod Parts
+pub mod OwnLabels

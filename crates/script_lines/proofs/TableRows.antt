@@ -4,10 +4,11 @@ use Rattle.std.proofs.Common.{◌≡◌, ◌≢◌, ℕ, ◌+◌, ◌<◌, ◌�
 use Rattle.std.proofs.Common.{get_or, map, append_assoc, append-nil, bytes_eq, arith, refl, sym, ap, subst, ◌∙◌, inl, inr}
 use Rattle.std.proofs.{Common.length-append, lemmas.Slice.Eq.bytes_eq-Decides, Math.Nat.eq-or-lt_of_le}
 use Rattle.std.proofs.lemmas.{Bool.cases_lt, Bool.false≢true, Bool.Decides.eqb_tells, Grind.flat_map-append}
-use Rattle.std.proofs.lemmas.List.{map_more, get_or_default, get_or_past, Elements.All-get_or, Sums.fold-append, Sums.sum_by-append}
+use Rattle.std.proofs.lemmas.List.{map_more, get_or_default, get_or_past, Elements.All-get_or, Sums.{fold-append, sum_by-append}}
 use Rattle.std.specs.Prelude.{IsTrue, Option, None, Some, sum_by, count_by, zip, ◌==◌, is_some}
 use Rattle.std.specs.{List.flat_map, List.filter_map, Option.option_to_list}
-use Rattle.graph_types.specs.{Answer.{level_row, names_of_vertices}, Valid.is_name, declared.ids.{Degree.Degree, VertexId.VertexId}}
+use Rattle.graph_types.specs.{Answer.{level_row, names_of_vertices}, Valid.is_name, declared.ids.Degree.Degree}
+use Rattle.graph_types.specs.declared.ids.VertexId.{VertexId}
 use Rattle.graph_levels.specs.Reached.{vertex_numbers}
 use Rattle.vertex_names.specs.Book.{Book, IsBook}
 use Rattle.version_answers.proofs.NamedRows.{label_at, length-labels, level_rows_more, next_row, rows_all}

@@ -11,8 +11,10 @@ use Rattle.script_commands.specs.States.{Held, IsRecordResult, IsReplied, Progre
 use Rattle.script_commands.specs.States.{after_record, beginning, last_held, version, version_in}
 use Rattle.script_server.specs.{Executions.Executes, Sessions.{AreToldAlike, IsToldAt, OthersChangeNothing, StaysOpen, Tells}}
 use Rattle.script_server.specs.Sessions.{asked_in, asked_of, closes_slot, observed_in, request_to, requests_to}
-use Rattle.script_server.proofs.SessionLines.{Stands, Turn, both_told, none_replicated, stands_committed, stands_else, turn}
-use Rattle.script_server.proofs.SessionLines.{told_unlimited, was_free}
+use Rattle.script_commands.proofs.SessionLines.{Stands, none_replicated, stands_committed, stands_else}
+use Rattle.script_server.proofs.SessionLines.{Turn, both_told, turn}
+use Rattle.script_server.proofs.SessionLines.{told_unlimited}
+use Rattle.script_commands.proofs.SessionLines.{was_free}
 
 stays : (slot : ℕ) (item : Result Command FeedWord) (s : ServerState) (outcome : RecordResult) (g : Graph)
     → closes_slot slot item ≡ false → Stands slot s (Some g) → IsRecordResult item s outcome

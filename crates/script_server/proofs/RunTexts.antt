@@ -2,7 +2,7 @@
 use Rattle.std.proofs.Common.{◌≡◌, ℕ, ◌+◌, ◌<◌, List, [], ◌∷◌, ◌++◌, length, append_assoc, append-nil, arith, refl, sym, ◌∙◌, ap}
 use Rattle.std.{proofs.Common.{subst, inl, inr}, specs.Prelude.{false, Option, None, Some, Result, Ok, Err, IfErr, IfOk, IfSome}}
 use Rattle.std.specs.{Prelude.{OnErr, OnOk, option_map}, Io.KnownBytes.Appends}
-use Rattle.feed_csv.specs.{Commands.item_of, Records.IsOver, Records.Row, Records.TakesRecord, Records.record_limit, Records.records_of}
+use Rattle.feed_csv.specs.{Commands.item_of, Records.{IsOver, Row, TakesRecord, record_limit, records_of}}
 use Rattle.feed_csv.specs.{Script.MeetsEnd, Script.Script, Script.TakesRow}
 use Rattle.feed_csv.specs.declared.command.FeedWord.TheVariants as feed_word
 use Rattle.script_server.specs.declared.script.{Run.Run, ServeFault.{ServeFault, TheVariants.{Read, Memory, Start, Write}}}
@@ -14,7 +14,8 @@ use Rattle.script_commands.specs.States.{beginning, printed}
 use Rattle.script_commands.specs.Servers.{pending_of}
 use Rattle.script_server.specs.{Texts.{IsTextToFault, IsText, IsTextToRebase, IsIntendedText}, Writes.{AppendsPart, AppendsSome}}
 use Rattle.script_server.proofs.Writing.{appends_nothing, appends_then, part_then}
-use Rattle.script_server.proofs.RunSoFar.{Reaches, few_given, leaves-append, run-append}
+use Rattle.script_server.proofs.RunSoFar.{Reaches, few_given, run-append}
+use Rattle.feed_csv.proofs.RunSoFar.{leaves-append}
 use Rattle.script_lines.specs.{declared.words.Word.{Word, TheVariants.Feed}, Lines.{end_line, error_line}}
 use Rattle.script_lines.specs.declared.words.Word.TheVariants as told
 

@@ -5,10 +5,12 @@ use Rattle.std.specs.{List.AllZip, Prelude.Some}
 use Rattle.feed_csv.specs.{Commands.item_of, Records.Row}
 use Rattle.epoch_core.specs.{Runs.{AllReplies, Runs, run}, declared.events.Event.Event}
 use Rattle.epoch_core.specs.Worlds.{Answer, IsStart, MachineState, replies_of}
-use Rattle.store_steps.{specs.Steps.all_done, proofs.{Histories.done_is_run, Questions.both_reply, Reached.run_more}}
+use Rattle.store_steps.{specs.Steps.all_done, proofs.{Histories.done_is_run, Questions.both_reply}}
+use Rattle.epoch_core.proofs.Reached.{run_more}
 use Rattle.script_commands.specs.declared.server.Server.{Server}
 use Rattle.script_commands.specs.States.{IsRecordResult, Progress, RecordResult, Reopens, after_record, answer_result, printed}
-use Rattle.script_server.specs.Segments.{AreSegments, Does, DoesAll, IsSegment, IsShown, Prints, Segment, Stand, question_to, stand}
+use Rattle.script_server.specs.Segments.{AreSegments, Does, DoesAll, IsSegment, IsShown, Prints, Segment, Stand, question_to}
+use Rattle.script_server.specs.Segments.{stand}
 use Rattle.script_server.proofs.SegmentSteps.{Answered}
 
 -- Runs of the machine, one after another

@@ -1,15 +1,18 @@
 -- What one record does to a segment: which answers it prints, and whether it goes on with the store or opens one anew.
 use Rattle.std.proofs.Common.{◌≡◌, ℕ, zero, suc, ◌+◌, ◌<◌, ◌==◌, Bool, true, false, List, [], ◌∷◌, ◌++◌, length}
 use Rattle.std.proofs.Common.{append-nil, arith, get_or, refl, sym, ap, subst, ◌∙◌, inl, inr}
-use Rattle.std.proofs.lemmas.{Bool.{eqb-true, eqb-false}, List.{get_or-set_other, get_or-set_same, length-map, length-replicate, length-set}}
+use Rattle.std.proofs.lemmas.{Bool.{eqb-true, eqb-false}, List.{get_or-set_other, get_or-set_same, length-map, length-replicate}}
+use Rattle.std.proofs.lemmas.List.{length-set}
 use Rattle.std.specs.{List.AllZip, Prelude.{◌⊎◌, ◌≢◌, None, Some, Option, Result, Ok, Err, if◌then◌else◌, slice_get}}
 use Rattle.feed_csv.specs.declared.{command.Command.Command, command.FeedWord.FeedWord}
 use Rattle.feed_csv.specs.declared.command.Command.TheVariants.{Op, Commit, OpenSlot, CloseSlot, Query, Collect, Stat, Rebase}
 use Rattle.graph_types.specs.declared.requests.Request.{Request}
 use Rattle.epoch_core.specs.{Machine.Question, Versions.graph_at, Worlds.{Answer, IsStart, MachineState, World}}
 use Rattle.script_lines.specs.declared.words.Word.{Word}
-use Rattle.script_commands.specs.Machine.{AddsReplies, ContinuesMachine, IsReplyTo, Moves, Restarts, ShowsMachine, held_at, session_for}
-use Rattle.script_commands.specs.{Servers.{ShowsServer, result_of}, Slots.held_slots, declared.server.{Server.Server, Response.Response}}
+use Rattle.script_commands.specs.Machine.{AddsReplies, ContinuesMachine, IsReplyTo, Moves, Restarts, ShowsMachine, held_at}
+use Rattle.script_commands.specs.Machine.{session_for}
+use Rattle.script_commands.specs.{Servers.{ShowsServer, result_of}, Slots.held_slots, declared.server.Server.Server}
+use Rattle.script_commands.specs.declared.server.Response.{Response}
 use Rattle.script_commands.specs.declared.server.Response.TheVariants.{Lines, Refused}
 use Rattle.script_commands.specs.States.{Held, IsRecordResult, RecordResult, Reopens, ServerState, after_item, answer_result}
 use Rattle.script_commands.specs.States.{rebase_result, rebased, version, version_in}

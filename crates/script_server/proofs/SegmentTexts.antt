@@ -7,7 +7,8 @@ use Rattle.feed_csv.specs.declared.command.{Command.Command, FeedWord.FeedWord}
 use Rattle.feed_csv.specs.declared.command.FeedWord.TheVariants as feed_word
 use Rattle.epoch_core.specs.{Runs.{AllReplies, Runs}, Worlds.{IsStart, MachineState, replies_of}, declared.events.Event.Event}
 use Rattle.store_steps.specs.Steps.{all_done}
-use Rattle.script_commands.specs.{Machine.{ContinuesMachine, ShowsMachine}, Servers.{IsServer, ShowsServer, pending_of, result_of}}
+use Rattle.script_commands.specs.{Machine.{ContinuesMachine, ShowsMachine}, Servers.{IsServer, ShowsServer, pending_of}}
+use Rattle.script_commands.specs.Servers.{result_of}
 use Rattle.script_commands.specs.declared.server.{Response.Response, Server.Server}
 use Rattle.script_commands.specs.States.{IsRecordResult, Progress, RecordResult, Reopens, Setup, after_item, after_record}
 use Rattle.script_commands.specs.States.{beginning, printed}
@@ -15,7 +16,8 @@ use Rattle.script_lines.specs.{Lines.{end_line, error_line}, declared.words.Word
 use Rattle.script_lines.specs.declared.words.Word.TheVariants as line_word
 use Rattle.script_server.specs.declared.script.{Run.Run, ServeFault.{ServeFault, TheVariants.{Read, Memory, Start, Write}}}
 use Rattle.script_server.specs.{declared.script.Summary.Summary, Writes.AppendsSome}
-use Rattle.script_server.specs.Runs.{IsFresh, IsReadyRun, IsStartup, IsTurn, MovesRecord, ShowsRun, ShowsStart, is_write, records_done}
+use Rattle.script_server.specs.Runs.{IsFresh, IsReadyRun, IsStartup, IsTurn, MovesRecord, ShowsRun, ShowsStart, is_write}
+use Rattle.script_server.specs.Runs.{records_done}
 use Rattle.script_server.specs.Segments.{AreEventsOfRecord, AreSegments, Does, IsMachineText, IsSegment, IsShown, Segment}
 use Rattle.script_server.specs.Segments.{question_to, stand}
 use Rattle.script_server.proofs.{RunSoFar.{Reaches, reaches_more, reaches_nothing}, RunTexts.{Finishes, done_ended, done_none}}

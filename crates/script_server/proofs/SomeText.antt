@@ -20,8 +20,10 @@ use Rattle.script_server.specs.Executions.{Executes, IsFullText}
 use Rattle.script_commands.specs.States.{Held, IsCommitted, IsRecordResult, IsReplied}
 use Rattle.script_commands.specs.States.{Progress, RecordResult, ServerState, Setup, after_collect, after_commit, after_item}
 use Rattle.script_commands.specs.States.{after_record, answer_result, batch_word, beginning, close_result, floor_in, last_version}
-use Rattle.script_commands.specs.States.{lines_unless, op_refusal, open_refusal, printed, rebase_result, rebased, recycled_blocks, used}
-use Rattle.script_commands.{specs.States.{version, version_in}, proofs.ContentsKept.{HasContent, content_after_all}}
+use Rattle.script_commands.specs.States.{lines_unless, op_refusal, open_refusal, printed, rebase_result, rebased, recycled_blocks}
+use Rattle.script_commands.specs.States.{used}
+use Rattle.script_commands.specs.States.{version, version_in}
+use Rattle.graph_types.proofs.ContentsKept.{HasContent, content_after_all}
 
 -- each version that the batches of a state leave is that of a content, and what is pending is valid
 record IsSound (l : LimitsView) (s : ServerState) : Type 0 where

@@ -7,7 +7,8 @@ use Rattle.clap.specs.Walk.{Names, Rule, Text, Walk, idle, nothing_held, subcomm
 use Rattle.clap.specs.declared.error.kind.ErrorKind.TheVariants.{DisplayHelp, InvalidSubcommand, MissingRequiredArgument}
 use Rattle.clap.specs.declared.error.kind.ErrorKind.TheVariants.{MissingSubcommand, UnknownArgument}
 use Rattle.clap.proofs.OnLiterals.{clap_on_literals}
-use Rattle.stinger_server.specs.Program.{Asked, Drive, Help, RunView, Serve, Usage, Version, asked_with, asked_by, asked_of_command}
+use Rattle.stinger_server.specs.Program.{Asked, Drive, Help, RunView, Serve, Usage, Version, asked_with, asked_by}
+use Rattle.stinger_server.specs.Program.{asked_of_command}
 use Rattle.stinger_server.specs.Program.{asked_of_subcommand, asks_for_help, begins_with_option, default_run, help_words}
 use Rattle.stinger_server.specs.Program.{is_drive_option, is_option, is_version, plainly_asked, plainly_asked_of_command}
 use Rattle.stinger_server.specs.Program.{plainly_asked_of_drive, plainly_asked_of_run, program, without_help}

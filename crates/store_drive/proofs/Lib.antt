@@ -1,4 +1,3 @@
-mod Agreeing
 mod Places
 mod Pushed
 mod Right

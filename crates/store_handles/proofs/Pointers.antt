@@ -1,5 +1,6 @@
 -- What a handle's pointer tells of what it holds: it is null where it holds nothing.
-use Rattle.std.proofs.Common.{◌≡◌, ◌↔◌, ℕ, ◌<◌, ◌^◌, List, [], ◌∷◌, Option, Some, None, IsSome, Bool, true, false, T, refl, sym, ap, subst, lit<}
+use Rattle.std.proofs.Common.{◌≡◌, ◌↔◌, ℕ, ◌<◌, ◌^◌, List, [], ◌∷◌, Option, Some, None, IsSome, Bool, true, false, T, refl, sym}
+use Rattle.std.proofs.Common.{ap, subst, lit<}
 use mir.Raw.{raw as bare}
 use mir.Syntax.{ty_ptr, ptr_eq}
 use mir.Val.{Val, vbool, vnull, vstruct, vcons, vnil, op2_val, has_ty, WT}

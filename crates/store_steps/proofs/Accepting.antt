@@ -10,7 +10,9 @@ use Rattle.block_reclamation.specs.{Status.is_among, Status.is_used, Status.is_a
 use Rattle.epoch_core.specs.Blocks.{all_differ}
 use Rattle.store_steps.specs.Journal.{Entry, Ledger, opened_ledger, is_legal, after_entry, entered, replay}
 use Rattle.store_steps.specs.Desks.{IsDesk, IsAccepted, FollowsBirths, birth_at, last_numbers, ledger_of}
-use Rattle.store_steps.proofs.{NumberLists.all_by, NumberLists.number_in, ChangedLists.length-changed, OneNumber.number_after}
+use Rattle.block_reclamation.proofs.NumberLists.{all_by}
+use Rattle.store_steps.proofs.{NumberLists.number_in, ChangedLists.length-changed}
+use Rattle.block_pool.proofs.OneNumber.{number_after}
 use Rattle.store_steps.proofs.Counting.{is_some_times, in_times, apart_if, same_block, counted, listed}
 use Rattle.store_steps.proofs.Births.{birth_in, birth_from, birth_taken, birth_stays, births_of, number_of_row, row_listed}
 use Rattle.store_steps.proofs.Applications.{Application, number_in_desk, dropped_numbers, next_desk, entry_in, after_times}

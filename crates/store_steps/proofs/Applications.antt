@@ -7,11 +7,15 @@ use Rattle.graph_version.specs.{Rows.blocks_of, Rows.numbers_of, Versions.Versio
 use Rattle.block_reclamation.specs.{Status.is_among, declared.status.BlockStatus.BlockStatus}
 use Rattle.block_reclamation.specs.declared.status.BlockStatus.TheVariants.{Free, Granted, Used}
 use Rattle.block_pool.specs.Pools.{retired, is_free_at, marked, changed_numbers, AreFree, is_used_at}
-use Rattle.epoch_core.{specs.Blocks.all_differ, proofs.Lists.all_listed}
+use Rattle.epoch_core.specs.Blocks.{all_differ}
+use Rattle.block_reclamation.proofs.Lists.{all_listed}
 use Rattle.store_steps.specs.{Journal.{Entry, Applied, exchanged}, Desks.{DeskView, IsDesk, IsAppliedTo, desk_after}}
-use Rattle.store_steps.{specs.Desks.last_numbers, proofs.{NumberLists.{all_from, differ_from}, ChangedLists.marked_at}}
+use Rattle.store_steps.{specs.Desks.last_numbers, proofs.{NumberLists.all_from, ChangedLists.marked_at}}
+use Rattle.epoch_core.proofs.NumberLists.{differ_from}
 use Rattle.store_steps.proofs.{ChangedLists.{changed_at, same_list}, Counting.{times, is_some_times, in_times, times_numbers}}
-use Rattle.store_steps.proofs.{Counting.{once_at_most, apart_if}, OneNumber.{marked_if, number_after, OneNumber, one_number}}
+use Rattle.store_steps.proofs.{Counting.{once_at_most, apart_if}, OneNumber.{OneNumber, one_number}}
+use Rattle.block_pool.proofs.OneNumber.{number_after}
+use Rattle.block_reclamation.proofs.OneNumber.{marked_if}
 
 -- a batch that was applied to a desk
 pub record Application : Type 0 where

@@ -6,7 +6,7 @@ use Rattle.edge_block.specs.Slots.{BlockView}
 use Rattle.graph_version.specs.{Rows.numbers_of, Versions.VersionView}
 use Rattle.block_reclamation.specs.{Status.is_among, declared.status.BlockStatus.TheVariants.{Free, Granted, Used}}
 use Rattle.block_pool.specs.Pools.{retired, is_free_at, marked, changed_numbers, is_used_at}
-use Rattle.epoch_core.proofs.Lists.{all_listed}
+use Rattle.block_reclamation.proofs.Lists.{all_listed}
 use Rattle.store_steps.specs.Journal.{Entry, Applied, Ledger, is_legal, after_entry, entered}
 use Rattle.store_steps.specs.Desks.{DeskView, IsDesk, IsAppliedTo, IsAccepted, desk_after}
 use Rattle.store_steps.{specs.Steps.Takes, specs.Steps.posting, proofs.Applications.Application, proofs.Applications.moves_left}

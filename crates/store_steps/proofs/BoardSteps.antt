@@ -10,6 +10,7 @@ use Rattle.epoch_core.specs.Worlds.{World, session_of, seat_pin, seat_pins, pin_
 use Rattle.epoch_core.proofs.Moves.{Moved, moved, floored, seated_at, session_after, session_else}
 use Rattle.store_steps.specs.{Desks.DeskView, Shown.ShowsWorld}
 use Rattle.store_steps.specs.Boards.{RaisesAsMachine, ShowsBoard, PinsAsMachine, SettlesAsMachine, UnpinsAsMachine}
+use Rattle.epoch_core.proofs.BoardSteps.{pin_next, settle_next, pin_settled}
 
 -- a desk shows no session, no floor and no copy
 shows_beside : (d : DeskView) (w : World) (floor : ℕ) (copy : PinCopy) (sessions : List SessionState) → ShowsWorld d w
@@ -32,9 +33,6 @@ moves : (b : BoardState) (w : World) (s : ℕ) (change : SessionState
 moves b w s change after pin board low shows m says =
     grind (arith, common_steps, cases_eq, session_after, get_or-set_same, session_else, get_or-set_other, shows_sessions)
 
-pin_next : (floor : ℕ) (session next : SessionState) → to_pin floor session ≡ Some next → seat_pin next ≡ Some (unsettled floor)
-pin_next floor session next is = grind (arith, common_steps)
-
 pub pins_as_machine : PinsAsMachine
 pins_as_machine b w s board low shows after is =
     moves b w s (to_pin w.floor) after (Some (unsettled b.floor)) board low shows (moved w s (to_pin w.floor) after is)
@@ -42,16 +40,6 @@ pins_as_machine b w s board low shows after is =
 
 pub unpins_as_machine : UnpinsAsMachine
 unpins_as_machine b w s board low shows after is = grind (arith, common_steps)
-
--- what a settle that is done leaves
-settle_next : (session next : SessionState) (n : ℕ) → held_in session ≡ Some n → to_settle session ≡ Some next
-    → seat_pin next ≡ Some (record { number = n; is_settled = true })
-settle_next session next n held is = grind (arith, common_steps)
-
--- what the board makes of the pin of a session that holds n
-pin_settled : (session : SessionState) (n : ℕ) → held_in session ≡ Some n → ((pin : ℕ) → pin_in session ≡ Some pin → pin ≤ n)
-    → option_map (settled n) (seat_pin session) ≡ Some (record { number = n; is_settled = true })
-pin_settled session n held below = grind (arith, common_steps)
 
 pub settles_as_machine : SettlesAsMachine
 settles_as_machine b w s n board low shows held below after is =

@@ -6,7 +6,8 @@ use Rattle.std.specs.declared.option.Option.{Option, TheVariants.None, TheVarian
 use Rattle.block_reclamation.specs.{Status.is_among, declared.status.BlockStatus.{BlockStatus, TheVariants.Granted}}
 use Rattle.block_pool.specs.Pools.{marked, changed_numbers}
 use Rattle.epoch_core.specs.Blocks.{all_differ}
-use Rattle.store_steps.proofs.NumberLists.{apart_test, differ_head, differ_tail}
+use Rattle.block_reclamation.proofs.NumberLists.{apart_test}
+use Rattle.epoch_core.proofs.NumberLists.{differ_head, differ_tail}
 
 suc_test : (m n : ℕ) → (suc m == suc n) ≡ (m == n)
 suc_test m n = grind (arith, common_steps)

@@ -9,24 +9,11 @@ use Rattle.block_reclamation.specs.declared.status.BlockStatus.{BlockStatus, The
 use Rattle.epoch_core.specs.{Blocks.put_if_some, Blocks.all_differ, Blocks.reclaimed, declared.events.Event.TheVariants.Recycle}
 use Rattle.epoch_core.{specs.Worlds.World, specs.Machine.step, specs.Machine.with_status, proofs.Lists.set_else}
 use Rattle.store_steps.specs.{Desks.{DeskView, IsCollected}, Shown.ShowsWorld, Steps.{all_done, past_numbers, recycling, TakesAt}}
-use Rattle.store_steps.proofs.NumberLists.{apart_test, differ_head, differ_tail}
+use Rattle.block_reclamation.proofs.NumberLists.{apart_test}
+use Rattle.epoch_core.proofs.NumberLists.{differ_head, differ_tail}
 use Rattle.store_steps.proofs.{Filling.step_then, ChangedLists.marked_at, ChangedLists.same_list}
-
--- whether the machine recycles a block by the copy
-abbrev goes : PinCopy → Option BlockStatus → Bool
-goes copy o = is_some (option_and_then (reclaimed copy) o)
-
--- what goes is free then
-goes_free : (copy : PinCopy) (o : Option BlockStatus) → goes copy o ≡ true → option_and_then (reclaimed copy) o ≡ Some Free
-goes_free copy o is = grind (arith, common_steps)
-
-recycle_done : (w : World) (n : ℕ) → goes w.copy (slice_get w.status n) ≡ true
-    → step w (Recycle n) ≡ Some (with_status w (set w.status n Free))
-recycle_done w n is = ap (λ o. option_map (with_status w) (put_if_some w.status n o)) (goes_free w.copy (slice_get w.status n) is)
-
--- what doesn't go isn't recycled
-recycle_skipped : (w : World) (n : ℕ) → goes w.copy (slice_get w.status n) ≡ false → step w (Recycle n) ≡ None
-recycle_skipped w n is = grind (arith, common_steps)
+use Rattle.block_reclamation.proofs.Collecting.{past_from, in_cond}
+use Rattle.epoch_core.proofs.Collecting.{goes, recycle_done, recycle_skipped, goes_is, none_goes}
 
 -- Recycle of different blocks that go
 recycles : (ns : List ℕ) (w : World) → ((n : ℕ) → is_among n ns ≡ true → goes w.copy (slice_get w.status n) ≡ true)
@@ -42,14 +29,6 @@ recycles (n ∷ ns) w go apart =
     (differ_tail n ns apart)
 
 -- The numbers that the copy frees
-
-abbrev past_from : PinCopy → ℕ → List BlockStatus → List ℕ
-past_from copy k pool = map (λ p. p.0) (filter (λ p. is_reclaimable copy p.1) (enumerate_from k pool))
-
-in_cond : (t : Bool) (k n : ℕ) (rest : List (ℕ × BlockStatus)) (s : BlockStatus)
-    → is_among n (map (λ p. p.0) (if t then (k, s) ∷ rest else rest))
-    ≡ (if t then (k == n) || is_among n (map (λ p. p.0) rest) else is_among n (map (λ p. p.0) rest))
-in_cond t k n rest s = grind (arith, common_steps)
 
 skip : (t u r : Bool) → u ≡ false → (if t then u || r else r) ≡ r
 skip t u r e = grind (arith, common_steps)
@@ -86,15 +65,6 @@ past_apart copy k (s ∷ pool) =
     ]
 
 -- One number
-
--- exactly what the copy frees goes
-goes_is : (copy : PinCopy) (o : Option BlockStatus) → goes copy o ≡ is_at (is_reclaimable copy) o
-goes_is copy o = grind (arith, common_steps)
-
--- nothing goes any more
-none_goes : (copy : PinCopy) (o : Option BlockStatus)
-    → goes copy (if is_at (is_reclaimable copy) o then option_map (λ _. Free) o else o) ≡ false
-none_goes copy o = grind (arith, common_steps)
 
 -- the world after a collection
 abbrev collected_world : PinCopy → DeskView → World → World

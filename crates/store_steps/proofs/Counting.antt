@@ -8,7 +8,7 @@ use Rattle.epoch_core.specs.{Blocks.all_differ, Posting.same_stamp}
 use Rattle.edge_block.{specs.Slots.{BlockView, Slot}, proofs.Counts.count_more}
 use Rattle.graph_version.specs.Rows.{numbers_of}
 use Rattle.block_reclamation.specs.Status.{is_among}
-use Rattle.store_steps.proofs.NumberLists.{differ_head, differ_tail}
+use Rattle.epoch_core.proofs.NumberLists.{differ_head, differ_tail}
 
 -- how often a number stands in a list
 abbrev pub times : ℕ → List ℕ → ℕ

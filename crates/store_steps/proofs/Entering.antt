@@ -11,48 +11,17 @@ use Rattle.epoch_core.specs.declared.session_states.SessionState.TheVariants.{Id
 use Rattle.epoch_core.specs.{Worlds.{World, MachineState, IsStart, session_of, last_number}, Machine.to_enter}
 use Rattle.store_steps.specs.{Reached.{IsReached, world_by}, Merges.{Call, Enters}}
 use Rattle.store_steps.proofs.{SeatCalls.entry_of, Reached.{stays_reached, same_count}}
-use Rattle.store_steps.proofs.Stages.{Seated, seated, within, Stands, IsSeat, Stage, last_of, session_at, IsStage, Onward}
+use Rattle.store_steps.proofs.Stages.{Seated, seated, Stands, IsSeat, Stage, last_of, session_at, IsStage, Onward}
+use Rattle.epoch_core.proofs.Stages.{within}
+use Rattle.epoch_core.proofs.Entering.{idle_not, holding_not, asking_not, pinned_not_idle}
 
 -- States and numbers that differ
-
-pub idle_not : (pin : ℕ) → Idle ≡ Pinned pin → ⊥
-idle_not pin e = cc
-
-pub holding_not : (hold : Hold) (pin : ℕ) → Holding hold ≡ Pinned pin → ⊥
-holding_not hold pin e = cc
-
-pub asking_not : (hold : Hold) (inquiry : Inquiry) (pin : ℕ) → Asking hold inquiry ≡ Pinned pin → ⊥
-asking_not hold inquiry pin e = cc
-
-pub holding_not_idle : (hold : Hold) → Holding hold ≡ Idle → ⊥
-holding_not_idle hold e = cc
-
-pub pinned_not_idle : (pin : ℕ) → Pinned pin ≡ Idle → ⊥
-pinned_not_idle pin e = cc
 
 pub none_not : (n : ℕ) → None ≡ Some n → ⊥
 none_not n e = cc
 
 pub some_same : (m n : ℕ) → Some m ≡ Some n → m ≡ n
 some_same m n e = cc
-
-pub idle_unpinned : (pin : SeatPin) → None ≡ Some pin → ⊥
-idle_unpinned pin e = cc
-
--- a pin's number
-abbrev pub number_of : Option SeatPin → ℕ
-number_of None = 0
-number_of (Some pin) = pin.number
-
--- whether a pin is settled
-abbrev pub told : Option SeatPin → Bool
-told None = false
-told (Some pin) = pin.is_settled
-
-pub settled_above : (n floor : ℕ) (pin : Option SeatPin) → IfSome pin (λ p. floor ≤ p.number)
-    → IfSome (option_map (settled n) pin) (λ p. floor ≤ p.number)
-settled_above n floor None above = tt
-settled_above n floor (Some pin) above = omega (arith, above)
 
 -- An entry
 

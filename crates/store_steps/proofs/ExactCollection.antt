@@ -5,8 +5,10 @@ use Rattle.std.specs.{Prelude.slice_get, Option.option_map, declared.option.Opti
 use Rattle.block_reclamation.specs.declared.{status.BlockStatus.{BlockStatus, TheVariants.Retired}, copies.PinCopy.PinCopy}
 use Rattle.block_reclamation.specs.{Status.{is_at, is_among, is_retired, recycled}, Copies.{copy_of, needs}}
 use Rattle.epoch_core.specs.{Sound.IsSound, Collections.{HaveSettled, IsHeldBlock}, Worlds.{World, last_blocks, present_copy}}
-use Rattle.epoch_core.proofs.{Steps.always_sound, Sizes.size_run, HeldBlocks.{RetiredThen, held_alone, held_is_retired}}
-use Rattle.epoch_core.proofs.HeldBlocks.{NeedsWhatIsListed, needs_what_is_listed, retired_then, unlisted}
+use Rattle.epoch_core.proofs.{Steps.always_sound, Sizes.size_run, HeldBlocks.{held_alone, held_is_retired}}
+use Rattle.block_reclamation.proofs.HeldBlocks.{RetiredThen}
+use Rattle.epoch_core.proofs.HeldBlocks.{NeedsWhatIsListed, needs_what_is_listed, unlisted}
+use Rattle.block_reclamation.proofs.HeldBlocks.{retired_then}
 use Rattle.graph_version.specs.Rows.{blocks_of, numbers_of}
 use Rattle.store_steps.specs.{Desks.last_numbers, Reached.{raised_store, world_by}, Held.CollectionIsExact}
 use Rattle.store_steps.proofs.{Reached.same_count, BoardSteps.copies_same}

@@ -5,7 +5,8 @@ use Rattle.std.specs.Prelude.{filter, ◌==◌, All, slice_get, Option, Some, No
 use Rattle.graph_types.specs.{declared.batches.NamedOp.NamedOp, Limits.standard_limits}
 use Rattle.graph_types.proofs.Keys.{once_none}
 use Rattle.graph_version.specs.{Edges.edges_in_block, Versions.{VersionView, IsVersion, empty_version}}
-use Rattle.graph_version.proofs.Empty.{is_empty_version, standard_are_limits}
+use Rattle.graph_version.proofs.Empty.{is_empty_version}
+use Rattle.graph_types.proofs.Empty.{standard_are_limits}
 use Rattle.block_reclamation.specs.{Copies.{pin_at, unsettled}, declared.copies.Pin.Pin as SeatPin, Board.{no_pins, with_pin}}
 use Rattle.block_reclamation.specs.Status.{is_at, is_granted}
 use Rattle.epoch_core.specs.Worlds.{seat_pin, start_world, session_of, World, empty_opening}
@@ -19,6 +20,8 @@ use Rattle.store_steps.specs.Examples.{blank_desk, crossed_copy, crossed_desk, c
 use Rattle.store_steps.specs.Examples.{world_of_edge, board_of_two, world_of_two}
 use Rattle.store_steps.specs.Merges.{AreLocked, EntersInOrder, Raises, is_of}
 use Rattle.store_steps.proofs.{BatchLaws.accepted_steps, OpeningShown.opens_blank}
+use Rattle.graph_version.proofs.Examples.{blank_is_version}
+use Rattle.epoch_core.proofs.Examples.{no_edges_shown, before_post}
 
 edges_shown : All (λ b. edges_at world_of_edge.heap b.number ≡ edges_in_block b) (block_one ∷ [])
 edges_shown = grind (arith, common_steps)
@@ -40,32 +43,10 @@ posts : (w : World) (batch : List NamedOp) (blocks : List ℕ) (rest : List Even
     → all_done (Post batch blocks ∷ rest) w ≡ all_done rest (posted w batch blocks)
 posts w batch blocks rest can = grind (arith, common_steps)
 
--- the opening has no edges
-no_edges_shown : are_edges_of (left empty_opening []) [] ≡ true
-no_edges_shown = (Decides-edges (left empty_opening []) []).1 (record { once = once_none; same = refl })
-
--- seat 1 has entered, and seat 0 is pinned
-abbrev before_post : World
-before_post = record (start_world 2 3) {
-  sessions = Pinned 0 ∷ Holding (record { pin = 0; settled = true; version = 0 }) ∷ [];
 }
 
 -- The batch without operations
 
-abbrev blank_version : VersionView
-blank_version = record empty_version { batches = [] ∷ [] }
-
-blank_is_version : IsVersion blank_version
-blank_is_version = record {
-  rows = is_empty_version.rows;
-  within = is_empty_version.within;
-  small = record {
-    names = omega arith;
-    kinds = omega arith;
-    count = omega arith;
-    limits = is_empty_version.small.limits;
-    weights = is_empty_version.small.weights;
-  };
 }
 
 blank_accepted : IsAccepted (opened_desk 3 empty_version) [] [] [] blank_desk

@@ -9,15 +9,14 @@ use Rattle.edge_block.specs.Slots.{BlockView}
 use Rattle.graph_version.specs.{Rows.numbers_of, Edges.edges_in_block, Edges.edges_in_blocks}
 use Rattle.block_reclamation.specs.{Status.is_among, declared.status.BlockStatus.{BlockStatus, TheVariants.{Free, Granted}}}
 use Rattle.block_pool.specs.Pools.{marked}
-use Rattle.epoch_core.specs.{declared.events.Event.{Event, TheVariants.{Take, Fill}}, Blocks.{status_taken, put_if_some, all_differ}}
+use Rattle.epoch_core.specs.{declared.events.Event.{Event, TheVariants.{Take, Fill}}, Blocks.{status_taken, put_if_some}}
+use Rattle.epoch_core.specs.Blocks.{all_differ}
 use Rattle.epoch_core.specs.{Machine.{step, with_status, with_heap}, Versions.{edges_at, edges_of}, Worlds.World}
 use Rattle.epoch_core.proofs.Lists.{set_same, set_else}
-use Rattle.store_steps.{specs.Steps.all_done, specs.Steps.filling, proofs.NumberLists.differ_head, proofs.NumberLists.differ_tail}
-
--- the heap with the edges of these blocks at their numbers
-abbrev pub heap_with : List BlockView → List (List Edge) → List (List Edge)
-heap_with [] heap = heap
-heap_with (b ∷ bs) heap = heap_with bs (set heap b.number (edges_in_block b))
+use Rattle.store_steps.specs.Steps.{all_done, filling}
+use Rattle.epoch_core.proofs.NumberLists.{differ_head, differ_tail}
+use Rattle.graph_version.proofs.Filling.{heap_with}
+use Rattle.epoch_core.proofs.Filling.{take_done, fill_done}
 
 -- the world in which these blocks are granted and filled
 abbrev pub filled_world : World → List BlockView → World
@@ -25,13 +24,6 @@ filled_world w bs = record w { status = marked (numbers_of bs) Granted w.status;
 
 pub step_then : (e : Event) (es : List Event) (w next : World) → step w e ≡ Some next → all_done (e ∷ es) w ≡ all_done es next
 step_then e es w next is = ap (option_and_then (all_done es)) is
-
-take_done : (w : World) (n : ℕ) → slice_get w.status n ≡ Some Free → step w (Take n) ≡ Some (with_status w (set w.status n Granted))
-take_done w n is = ap (λ o. option_map (with_status w) (put_if_some w.status n (option_and_then status_taken o))) is
-
-fill_done : (w : World) (n : ℕ) (edges : List Edge) → slice_get w.status n ≡ Some Granted
-    → step w (Fill n edges) ≡ Some (with_heap w (set w.heap n edges))
-fill_done w n edges is = grind (arith, common_steps)
 
 -- the blocks of these numbers are all in this state
 abbrev pub AllAre : BlockStatus → List BlockStatus → List BlockView → Type 0
@@ -62,11 +54,6 @@ fills_done (b ∷ bs) rest w free apart =
     (still w.status Free Granted b bs (differ_head b.number (numbers_of bs) apart) (All-tail (λ y. slice_get w.status y.number
     ≡ Some Free) b bs free))
     (differ_tail b.number (numbers_of bs) apart)
-
-pub length-heap_with : (bs : List BlockView) (heap : List (List Edge)) → length (heap_with bs heap) ≡ length heap
-length-heap_with [] heap = refl
-length-heap_with (b ∷ bs) heap = length-heap_with bs (set heap b.number (edges_in_block b))
-    ∙ length-set heap b.number (edges_in_block b)
 
 -- other blocks keep their edges
 pub heap_else : (bs : List BlockView) (heap : List (List Edge)) (n : ℕ) → is_among n (numbers_of bs) ≡ false

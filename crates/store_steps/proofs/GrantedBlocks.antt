@@ -5,9 +5,13 @@ use Rattle.std.specs.{Prelude.slice_get, Prelude.if◌then◌else◌, declared.o
 use Rattle.block_reclamation.specs.Status.{is_among, is_free, is_in_use, is_used, is_at}
 use Rattle.block_reclamation.specs.declared.status.BlockStatus.{BlockStatus, TheVariants.{Free, Granted, Used}}
 use Rattle.block_pool.specs.Pools.{retired, is_free_at, marked, AreFree, is_in_use_at, is_used_at}
-use Rattle.store_steps.{specs.Desks.{DeskView, IsDesk, last_numbers}, proofs.NumberLists.{all_by, differ_from}}
-use Rattle.store_steps.proofs.{OneNumber.{marked_if, not_both}, ChangedLists.{marked_at, changed_at, same_list}}
-use Rattle.store_steps.proofs.{BlockMoves.AreMovable, Counting.{times, is_some_times, in_times, apart_if, listed}}
+use Rattle.store_steps.specs.Desks.{DeskView, IsDesk, last_numbers}
+use Rattle.epoch_core.proofs.NumberLists.{differ_from}
+use Rattle.block_reclamation.proofs.NumberLists.{all_by}
+use Rattle.block_reclamation.proofs.OneNumber.{marked_if, not_both}
+use Rattle.store_steps.proofs.ChangedLists.{marked_at, changed_at, same_list}
+use Rattle.epoch_core.proofs.BlockMoves.{AreMovable}
+use Rattle.store_steps.proofs.Counting.{times, is_some_times, in_times, apart_if, listed}
 use Rattle.store_steps.proofs.Applications.{Application, number_in_desk, dropped_numbers, handed_once, granted_free, in_numbers}
 use Rattle.store_steps.proofs.Applications.{some_either, dropped_differ, dropped_born, granted_pool, born_pool, retired_pool}
 

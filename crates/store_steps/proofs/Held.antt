@@ -6,18 +6,11 @@ use Rattle.block_reclamation.specs.declared.{status.BlockStatus.{BlockStatus, Th
 use Rattle.block_reclamation.specs.Status.{is_free, is_reclaimable, is_at, is_among}
 use Rattle.epoch_core.specs.{declared.session_states.{Hold.Hold, SessionState.SessionState}, Sound.{IsSound, IsSessionSound}}
 use Rattle.epoch_core.specs.{Sound.{IsHeld, IsCovered, IsKeptAt}, Versions.{AreEdgesOf, graph_of_opening, blocks_at, edges_of}}
-use Rattle.epoch_core.{specs.{Versions.graph_at, Worlds.{World, session_of, held_in}}, proofs.{Steps.always_sound, HeldBlocks.Holder, HeldBlocks.holder_of}}
+use Rattle.epoch_core.{specs.{Versions.graph_at, Worlds.{World, session_of, held_in}}, proofs.Steps.always_sound}
+use Rattle.epoch_core.proofs.HeldBlocks.{Holder, holder_of}
 use Rattle.store_steps.specs.{Desks.DeskView, Shown.ShowsWorld, Reached.world_by, Held.IsSnapshot}
 use Rattle.store_steps.{specs.Held.HeldIsSnapshot, proofs.Reached.same_count}
-
--- a block that is kept for the holders of a version is neither free nor freed by a copy that covers it
-not_free : (n : ℕ) (s : Option BlockStatus) → IsKeptAt n s → is_at is_free s ≡ false
-not_free n s kept = grind (arith, common_steps)
-
-not_reclaimable : (n : ℕ) (copy : PinCopy) (s : Option BlockStatus) → IsKeptAt n s → IsCovered copy n
-    → is_at (is_reclaimable copy) s ≡ false
-not_reclaimable n copy (Some (Retired birth retirement)) kept covered = ap not (covered birth retirement kept.0 kept.1)
-not_reclaimable n copy _ kept covered = refl
+use Rattle.epoch_core.proofs.Held.{not_free, not_reclaimable}
 
 -- the graph of the machine's version is what the desk's first batches leave
 graph_first : (d : DeskView) (w : World) (n : ℕ) → ShowsWorld d w → graph_at w.opening w.versions n

@@ -10,6 +10,7 @@ use Rattle.epoch_core.proofs.Moves.{Moved, moved, session_after, session_else}
 use Rattle.block_reclamation.specs.Board.{BoardState}
 use Rattle.store_steps.specs.{Desks.DeskView, Shown.ShowsWorld, Boards.ShowsBoard, Steps.all_done}
 use Rattle.store_steps.{specs.Histories.DoneIsRun, specs.Histories.ReadersAreUnseen, proofs.BoardSteps.shows_sessions}
+use Rattle.epoch_core.proofs.Histories.{keeps_enter, keeps_ask, keeps_reply, keeps_reading}
 
 pub done_is_run : DoneIsRun
 done_is_run [] w after is = cc
@@ -37,21 +38,6 @@ unseen d b w after s change m keeps shown shows = (
   },
   ap (λ v. v.copy) m.result,
 )
-
-keeps_enter : (last : ℕ) (session next : SessionState) → to_enter last session ≡ Some next → seat_pin next ≡ seat_pin session
-keeps_enter last session next is = grind (arith, common_steps)
-
-keeps_ask : (request : Request) (session next : SessionState) → to_ask request session ≡ Some next
-    → seat_pin next ≡ seat_pin session
-keeps_ask request session next is = grind (arith, common_steps)
-
-keeps_reply : (o : Opening) (versions : List Version) (session next : SessionState) → to_reply o versions session ≡ Some next
-    → seat_pin next ≡ seat_pin session
-keeps_reply o versions session next is = grind (arith, common_steps)
-
-keeps_reading : (w : World) (session next : SessionState) → to_read w.opening w.heap w.versions session ≡ Some next
-    → seat_pin next ≡ seat_pin session
-keeps_reading w session next is = grind (arith, common_steps)
 
 pub readers_are_unseen : ReadersAreUnseen
 readers_are_unseen = record {

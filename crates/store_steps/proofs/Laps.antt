@@ -8,7 +8,8 @@ use Rattle.epoch_core.specs.declared.session_states.SessionState.TheVariants.{Id
 use Rattle.epoch_core.specs.Worlds.{World, MachineState, IsStart, seat_pin}
 use Rattle.store_steps.specs.Merges.{Call, Applies, Collects, Raises, Pins, Enters, Settles, Unpins, Asks}
 use Rattle.store_steps.proofs.{SeatCalls.IsWaiting, Stages.{Stands, Stage, last_of, session_at, IsStage, Onward, onward_both}}
-use Rattle.store_steps.proofs.Entering.{idle_unpinned, Awaits, Entered, enter_if}
+use Rattle.block_reclamation.proofs.Entering.{idle_unpinned}
+use Rattle.store_steps.proofs.Entering.{Awaits, Entered, enter_if}
 use Rattle.store_steps.proofs.{Seating.{at_calls, pinning, settling, unpinning}, Questioning.questioning}
 
 -- The seat's calls, one after another

@@ -33,3 +33,7 @@ pub mod Questioning
 pub mod Laps
 pub mod Waits
 pub mod Merges
+pub mod Moving
+pub mod DeskLaws
+pub mod Rebasing
+pub mod UsedBlocks

@@ -21,9 +21,11 @@ use Rattle.store_steps.specs.Merges.{Asks, desk_by, next_replies, Call, Applies,
 use Rattle.store_steps.specs.Merges.{Unpins, is_desks, is_of, is_raise, next_store, AreDeskCalls, events_of, AreDone, AreRun}
 use Rattle.store_steps.specs.Merges.{LocksAreOneRun, Holds, AreBoardCalls, IsOneRun, board_by}
 use Rattle.store_steps.proofs.Questions.{AreSilent, silent_posting, silent_recycling}
-use Rattle.store_steps.proofs.SeatCalls.{CopiesPin, ready_next, seat_calls, raises_of, pin_beyond}
+use Rattle.block_reclamation.proofs.SeatCalls.{CopiesPin, pin_beyond}
+use Rattle.store_steps.proofs.SeatCalls.{ready_next, seat_calls, raises_of}
 use Rattle.store_steps.proofs.Stages.{Stage, Stands, IsSeat, IsStage, IsOrdered, last_of, session_at}
-use Rattle.store_steps.proofs.{Laps.{IsStuck, Lapped, lap}, Reached.{stays_reached, run_more, taken_reached, run_next}}
+use Rattle.store_steps.proofs.{Laps.{IsStuck, Lapped, lap}, Reached.{stays_reached, taken_reached}}
+use Rattle.epoch_core.proofs.Reached.{run_more, run_next}
 use Rattle.store_steps.proofs.{Histories.done_is_run, OpeningShown.no_pin, Collecting.collected_takes, BoardSteps.same_elements}
 use Rattle.store_steps.proofs.SameBoards.{MakesCopies, makes_copies, boards_same, desk_left, board_left}
 use Rattle.store_steps.proofs.Waits.{seat_later, raise_next, none_left, stands_behind, seat_beyond}

@@ -7,10 +7,9 @@ use Rattle.edge_block.specs.Slots.{BlockView}
 use Rattle.graph_version.specs.Rows.{numbers_of}
 use Rattle.block_reclamation.specs.Status.{is_among}
 use Rattle.epoch_core.specs.Blocks.{all_differ}
-
--- the test of two numbers that differ
-pub apart_test : (m n : ℕ) → m ≢ n → (m == n) ≡ false
-apart_test m n ne = grind (arith, common_steps)
+use Rattle.block_reclamation.proofs.NumberLists.{not_in}
+use Rattle.edge_block.proofs.NumberLists.{picked}
+use Rattle.epoch_core.proofs.NumberLists.{differ_head, differ_tail}
 
 pub same_bool : (a b : Bool) → (a ≡ true → b ≡ true) → (b ≡ true → a ≡ true) → a ≡ b
 same_bool a b f g = grind (arith, common_steps)
@@ -19,38 +18,7 @@ pub all_from : {A : Type 0} (p : A → Bool) (xs : List A) → All (λ x. p x �
 all_from p [] all = refl
 all_from p (x ∷ xs) all = rw (All-head (λ y. p y ≡ true) x xs all) (all_from p xs (All-tail (λ y. p y ≡ true) x xs all))
 
--- a test that holds of whatever is listed
-pub all_by : (p : ℕ → Bool) (ns : List ℕ) → ((m : ℕ) → is_among m ns ≡ true → p m ≡ true) → list_all p ns ≡ true
-all_by p [] each = refl
-all_by p (n ∷ ns) each =
-    let here : (n == n) ≡ true = eq-eqb n n refl in
-    let first : p n ≡ true = each n (rw here refl) in
-    rw first (all_by p ns (λ m is. each m (or_right (n == m) (is_among m ns) is)))
-
 -- Numbers that differ
-
-not_in : (n : ℕ) (ns : List ℕ) → ((k : ℕ) → k < length ns → n ≢ get_or ns k 0) → is_among n ns ≡ false
-not_in n [] apart = refl
-not_in n (m ∷ ns) apart =
-    let rest : is_among n ns ≡ false = not_in n ns (λ k h. apart (suc k) (omega arith)) in
-    let here : (m == n) ≡ false = apart_test m n (λ e. apart 0 (omega arith) (sym e)) in
-    rw (here, rest) refl
-
-apart_head : (n : ℕ) (ns : List ℕ) → AllPairs ◌≢◌ (n ∷ ns) → (k : ℕ) → k < length ns → n ≢ get_or ns k 0
-apart_head n ns apart k h = apart 0 (suc k) 0 (omega arith) (omega arith)
-
-pub differ_from : (ns : List ℕ) → AllPairs ◌≢◌ ns → all_differ ns ≡ true
-differ_from [] apart = refl
-differ_from (n ∷ ns) apart =
-    let none : is_among n ns ≡ false = not_in n ns (apart_head n ns apart) in
-    rw none (differ_from ns (apart_tail n ns apart))
-
--- the first of different numbers is none of the rest
-pub differ_head : (n : ℕ) (ns : List ℕ) → all_differ (n ∷ ns) ≡ true → is_among n ns ≡ false
-differ_head n ns is = grind (arith, common_steps)
-
-pub differ_tail : (n : ℕ) (ns : List ℕ) → all_differ (n ∷ ns) ≡ true → all_differ ns ≡ true
-differ_tail n ns is = grind (arith, common_steps)
 
 -- Blocks
 
@@ -69,9 +37,6 @@ numbers_all p (b ∷ bs) all = rw (All-head (λ x. p x.number ≡ true) b bs all
     (numbers_all p bs (All-tail (λ x. p x.number ≡ true) b bs all))
 
 -- Blocks that are picked by number
-
-abbrev pub picked : (ℕ → Bool) → List BlockView → List BlockView
-picked p bs = filter (λ b. p b.number) bs
 
 in_cond : (t : Bool) (b : BlockView) (bs : List BlockView) (n : ℕ)
     → is_among n (numbers_of (if t then b ∷ bs else bs)) ≡ (if t then (b.number == n) || is_among n (numbers_of bs) else is_among n
@@ -118,12 +83,3 @@ picked_apart p (b ∷ bs) is = elim (p b.number) as (λ t. all_differ (numbers_o
           (picked_apart p bs (differ_tail b.number (numbers_of bs) is))
       | false ↦ picked_apart p bs (differ_tail b.number (numbers_of bs) is)
     ]
-
--- each block picked passes
-pub picked_all : (p : ℕ → Bool) (bs : List BlockView) → All (λ b. p b.number ≡ true) (picked p bs)
-picked_all p [] = λ k d h. absurd (omega arith)
-picked_all p (b ∷ bs) = elim (p b.number) as (λ t. p b.number ≡ t
-    → All (λ x. p x.number ≡ true) (if t then b ∷ picked p bs else picked p bs)) [
-      | true ↦ λ e. All-cons (λ x. p x.number ≡ true) b (picked p bs) e (picked_all p bs)
-      | false ↦ λ e. picked_all p bs
-    ] refl

@@ -5,33 +5,14 @@ use Rattle.block_pool.specs.Pools.{retired}
 use Rattle.block_reclamation.specs.{declared.status.BlockStatus.BlockStatus, Status.is_free, Status.is_used, Status.is_at}
 use Rattle.block_reclamation.specs.declared.status.BlockStatus.TheVariants.{Free, Granted, Used}
 use Rattle.store_steps.proofs.Counting.{is_some_times}
-
--- granted, then some born with version n, then some of the last version's retired by it, then some given back
-abbrev pub marked_if : BlockStatus → Bool → Option BlockStatus → Option BlockStatus
-marked_if status t p = if t then option_map (λ _. status) p else p
-
--- taken by version n, and then dropped by it
-abbrev pub number_after : ℕ → Option BlockStatus → Bool → Bool → Option BlockStatus
-number_after n p t d = if d then option_map (retired n) (marked_if (Used n) t p) else marked_if (Used n) t p
-
-abbrev pub number_moved : ℕ → Option BlockStatus → Bool → Bool → Bool → Bool → Option BlockStatus
-number_moved n p g t d u = marked_if Free u (number_after n (marked_if Granted g p) t d)
+use Rattle.block_reclamation.proofs.OneNumber.{marked_if}
+use Rattle.block_pool.proofs.OneNumber.{number_after, number_moved}
 
 pub record OneNumber (n : ℕ) (p : Option BlockStatus) (kept dropped taken unused : ℕ) : Type 0 where
   pub moved :
       number_moved n p (is_some_times (taken + unused)) (is_some_times taken) (is_some_times dropped) (is_some_times unused)
       ≡ number_after n p (is_some_times taken) (is_some_times dropped)
   pub born : is_at is_used (number_after n p (is_some_times taken) (is_some_times dropped)) ≡ is_some_times (kept + taken)
-
-pub free_is : (p : Option BlockStatus) → is_at is_free p ≡ true → p ≡ Some Free
-free_is p e = grind (arith, common_steps)
-
-pub born_is : (p : Option BlockStatus) → is_at is_used p ≡ true → (birth : ℕ) × (p ≡ Some (Used birth))
-born_is p e = grind (arith, common_steps)
-
--- no number is both
-pub not_both : (p : Option BlockStatus) → is_at is_free p ≡ true → is_at is_used p ≡ true → ⊥
-not_both p e f = grind (arith, common_steps)
 
 pub one_number : (n : ℕ) (p : Option BlockStatus) (kept dropped taken unused : ℕ) → kept + dropped ≤ 1 → taken + unused ≤ 1
     → is_at is_used p ≡ is_some_times (kept + dropped) → (is_some_times (taken + unused) ≡ true → is_at is_free p ≡ true)

@@ -4,7 +4,7 @@ use Rattle.std.specs.{declared.option.Option.Option, Option.option_map}
 use Rattle.block_reclamation.specs.declared.status.BlockStatus.{BlockStatus, TheVariants.Granted}
 use Rattle.block_reclamation.specs.Status.{is_free, is_used, is_at}
 use Rattle.epoch_core.specs.Blocks.{after_post}
-use Rattle.store_steps.proofs.OneNumber.{number_after}
+use Rattle.block_pool.proofs.OneNumber.{number_after}
 
 -- what Take, and the Post of version n, make of a status
 abbrev pub status_by : ℕ → Bool → Option BlockStatus → Bool → Option BlockStatus

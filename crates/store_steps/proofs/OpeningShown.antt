@@ -5,7 +5,8 @@ use Rattle.std.proofs.lemmas.{List.Elements.{All-head, All-tail, All-cons}, Grin
 use Rattle.std.specs.{Option.option_map, Prelude.{map, slice_get, slice_set, if◌then◌else◌}, List.flat_map}
 use Rattle.std.specs.declared.option.Option.TheVariants.{None, Some}
 use Rattle.block_pool.{proofs.Grants.length-marked, specs.Pools.marked, specs.Pools.is_used_at}
-use Rattle.graph_types.specs.{Graph.graph_in, Graph.content_of, Graph.IsContentIn, Limits.{LimitsView, AreLimits}, declared.contents.Content.Content}
+use Rattle.graph_types.specs.{Graph.{graph_in, content_of, IsContentIn}, Limits.{LimitsView, AreLimits}}
+use Rattle.graph_types.specs.declared.contents.Content.{Content}
 use Rattle.graph_types.specs.{Step.left_by, declared.ids.Edge.Edge}
 use Rattle.edge_block.specs.Slots.{BlockView}
 use Rattle.graph_version.specs.{Rows.{blocks_of, numbers_of}, Edges.{edges_in_block, edges_in_blocks}, Versions.VersionView}
@@ -14,8 +15,10 @@ use Rattle.block_reclamation.specs.{Status.is_among, Status.is_used, Status.is_a
 use Rattle.block_reclamation.specs.declared.status.BlockStatus.{BlockStatus, TheVariants.Free, TheVariants.Used}
 use Rattle.epoch_core.specs.{Versions.{AreEdgesOf, edges_at, edges_of}, Worlds.{seat_pin, IsStart}}
 use Rattle.epoch_core.specs.{declared.session_states.SessionState.TheVariants.Idle, Opened.{BlockLists, numbers_in, heap_with}}
-use Rattle.epoch_core.{specs.Opened.{status_with, IsOpeningIn}, proofs.Steps.{all_idle, free_at}}
-use Rattle.store_steps.{specs.Desks.IsDesk, specs.Shown.ShowsWorld, proofs.NumberLists.differ_from, proofs.ChangedLists.marked_at}
+use Rattle.epoch_core.{specs.Opened.{status_with, IsOpeningIn}, proofs.Steps.all_idle}
+use Rattle.block_reclamation.proofs.Steps.{free_at}
+use Rattle.store_steps.{specs.{Desks.IsDesk, Shown.ShowsWorld}, proofs.ChangedLists.marked_at}
+use Rattle.epoch_core.proofs.NumberLists.{differ_from}
 use Rattle.store_steps.specs.Opening.{opened_desk, opened_start, lists_of, IsVersionZero, OpensAsMachine, OpensBlank}
 use Rattle.store_steps.proofs.Filling as filling
 

@@ -16,15 +16,22 @@ use Rattle.block_reclamation.specs.declared.status.BlockStatus.{BlockStatus, The
 use Rattle.epoch_core.specs.{declared.{states.Version.Version, events.Event.TheVariants.Post}, Blocks.{all_differ, after_post}}
 use Rattle.epoch_core.specs.{Posts.posted, Worlds.{World, last_blocks}, Versions.{AreEdgesOf, edges_at, edges_of}}
 use Rattle.epoch_core.specs.Versions.{batches_at, graph_at, graph_of_opening}
-use Rattle.epoch_core.{specs.Posting.{is_listable, version_by, can_post, graph_after, are_edges_of}, proofs.Lists.all_listed}
+use Rattle.epoch_core.specs.Posting.{is_listable, version_by, can_post, graph_after, are_edges_of}
+use Rattle.block_reclamation.proofs.Lists.{all_listed}
 use Rattle.epoch_core.proofs.{Lists.length_enumerated, Edges.Decides-edges, Changes.{version_next, batches_all}, Posted.status_at}
 use Rattle.store_steps.specs.{Journal.{Applied, Ledger, is_legal}, Shown.ShowsWorld, Desks.{DeskView, IsDesk, IsAccepted}}
 use Rattle.store_steps.specs.{Desks.{last_numbers, ledger_of}, Steps.{fresh_in, posting, Takes}}
-use Rattle.store_steps.proofs.NumberLists.{same_bool, differ_from, number_in, numbers_all, picked, in_picked, picked_in}
-use Rattle.store_steps.proofs.{NumberLists.picked_apart, NumberLists.picked_all, OneNumber.number_after, OneNumber.free_is, Filling.edges_from}
+use Rattle.store_steps.proofs.NumberLists.{same_bool, number_in, numbers_all, in_picked, picked_in}
+use Rattle.epoch_core.proofs.NumberLists.{differ_from}
+use Rattle.edge_block.proofs.NumberLists.{picked}
+use Rattle.store_steps.proofs.{NumberLists.picked_apart, Filling.edges_from}
+use Rattle.block_pool.proofs.OneNumber.{number_after}
+use Rattle.edge_block.proofs.NumberLists.{picked_all}
+use Rattle.block_reclamation.proofs.OneNumber.{free_is}
 use Rattle.store_steps.proofs.{ChangedLists.marked_at, ChangedLists.same_list, Applications.exchanged_at}
 use Rattle.store_steps.proofs.OneStatus.{status_by, same_after, born_mark}
-use Rattle.store_steps.proofs.Filling.{filled_world, fills_done, step_then, AllAre, length-heap_with, heap_else, heap_here}
+use Rattle.store_steps.proofs.Filling.{filled_world, fills_done, step_then, AllAre, heap_else, heap_here}
+use Rattle.graph_version.proofs.Filling.{length-heap_with}
 
 -- what a legal batch asks of the pool
 pub record IsLegalBatch (pool : List BlockStatus) (taken dropped : List ℕ) : Type 0 where

@@ -18,11 +18,15 @@ use Rattle.store_steps.specs.Reached.{world_by}
 use Rattle.store_steps.specs.Merges.{Call, Applies, Collects, Raises, Pins, Enters, Settles, Unpins, Asks, AreDeskCalls}
 use Rattle.store_steps.specs.Merges.{desk_by, graph_of_version, is_raise, is_of}
 use Rattle.store_steps.specs.{Desks.DeskView, Shown.ShowsWorld, Steps.all_done, Boards.ShowsBoard}
-use Rattle.store_steps.proofs.{SeatCalls.ready_next, Reached.{same_count, run_more}, Histories.done_is_run}
+use Rattle.store_steps.proofs.{SeatCalls.ready_next, Reached.same_count, Histories.done_is_run}
+use Rattle.epoch_core.proofs.Reached.{run_more}
 use Rattle.store_steps.proofs.Questions.{question_done, question_replies}
-use Rattle.store_steps.proofs.Stages.{with_calls, calls_else, within, Stands, IsSeat, Stage, last_of, IsStage, Onward}
+use Rattle.store_steps.proofs.Stages.{with_calls, calls_else, Stands, IsSeat, Stage, last_of, IsStage, Onward}
+use Rattle.epoch_core.proofs.Stages.{within}
 use Rattle.store_steps.proofs.Stages.{calls_here}
-use Rattle.store_steps.proofs.{Entering.{holding_not_idle, idle_unpinned, number_of, told}, Seating.at_calls}
+use Rattle.epoch_core.proofs.Entering.{holding_not_idle}
+use Rattle.store_steps.proofs.Seating.{at_calls}
+use Rattle.block_reclamation.proofs.Entering.{idle_unpinned, number_of, told}
 
 -- a later desk of the same opening, with more batches
 record IsGrown (old new : VersionView) : Type 0 where

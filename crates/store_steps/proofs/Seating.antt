@@ -13,10 +13,15 @@ use Rattle.epoch_core.specs.Worlds.{World, MachineState, IsStart, seat_pin, sess
 use Rattle.epoch_core.specs.Machine.{to_pin, to_settle, to_release, settled_at}
 use Rattle.epoch_core.proofs.Sizes.{size_run}
 use Rattle.store_steps.specs.{Reached.{IsReached, with_seat, world_by}, Merges.{Call, Pins, Settles, Unpins}}
-use Rattle.store_steps.proofs.{SeatCalls.{ready_next, entry_after, seat_low}, Reached.{stays_reached, idle_if}}
-use Rattle.store_steps.proofs.Stages.{Seated, seated, within, Stands, IsSeat, Stage, last_of, session_at, IsStage, Onward}
+use Rattle.store_steps.proofs.{SeatCalls.{ready_next, entry_after}, Reached.stays_reached}
+use Rattle.epoch_core.proofs.Reached.{idle_if}
+use Rattle.block_reclamation.proofs.SeatCalls.{seat_low}
+use Rattle.store_steps.proofs.Stages.{Seated, seated, Stands, IsSeat, Stage, last_of, session_at, IsStage, Onward}
+use Rattle.epoch_core.proofs.Stages.{within}
 use Rattle.store_steps.proofs.Stages.{calls_here, after_call, seat_call}
-use Rattle.store_steps.proofs.Entering.{holding_not_idle, some_same, idle_unpinned, told, settled_above}
+use Rattle.epoch_core.proofs.Entering.{holding_not_idle}
+use Rattle.store_steps.proofs.Entering.{some_same}
+use Rattle.block_reclamation.proofs.Entering.{idle_unpinned, told, settled_above}
 
 -- a session that isn't idle lets go
 releases : (last : ℕ) (cs : List Call) (session : SessionState) → (session ≡ Idle → ⊥) → Stands last cs session

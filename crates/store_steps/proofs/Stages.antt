@@ -15,7 +15,8 @@ use Rattle.epoch_core.proofs.Moves.{session_after, session_else}
 use Rattle.store_steps.specs.{Steps.all_done, Reached.{Store, IsReached, with_seat, world_by}}
 use Rattle.store_steps.specs.Merges.{desk_by, next_replies, Call, is_desks, is_of, is_raise, next_store, AreDeskCalls}
 use Rattle.store_steps.specs.Merges.{EntersInOrder, events_of, Holds, AreDone, AreRun}
-use Rattle.store_steps.proofs.{SeatCalls.{AreSeatCalls, IsReady, entry_of}, Reached.run_next, SameBoards.MakesCopies}
+use Rattle.store_steps.proofs.{SeatCalls.{AreSeatCalls, IsReady, entry_of}, SameBoards.MakesCopies}
+use Rattle.epoch_core.proofs.Reached.{run_next}
 
 -- One event of a session's that is done
 
@@ -45,17 +46,6 @@ seated start events e seat change session next moves low is becomes =
       here = ap (λ v. session_of v seat) (sym there) ∙ session_after w seat session next found;
       others = λ t differ. ap (λ v. session_of v t) (sym there) ∙ session_else w seat t next differ;
     }
-
-beyond : (xs : List SessionState) (s : ℕ) → length xs ≤ s → get_or xs s Idle ≡ Idle
-beyond xs s high = grind (arith, common_steps)
-
--- a session that isn't idle is one
-pub within : (w : World) (seat : ℕ) → (session_of w seat ≡ Idle → ⊥) → seat < length w.sessions
-within w seat busy =
-    elim (cases_lt seat (length w.sessions)) [
-      | inl low ↦ low
-      | inr high ↦ absurd (busy (beyond w.sessions seat high))
-    ]
 
 -- What is known on the way
 

@@ -1,5 +1,5 @@
 -- How many blocks are free, and how many retired, after a batch and after a collection.
-use Rattle.batch_shards.proofs.Places.{count_map}
+use Rattle.edge_block.proofs.Places.{count_map}
 use Rattle.std.proofs.Common.{◌≡◌, ◌≢◌, ℕ, ◌+◌, ◌==◌, Bool, true, false, cond, ◌||◌, List, [], ◌∷◌, length, get_or, map, set}
 use Rattle.std.proofs.{Common.{count_by, refl, sym, ap, ◌∙◌, arith, ◌&&◌}, lemmas.Bool.{eq-eqb, true≢false, or_right}}
 use Rattle.std.proofs.lemmas.{Option.{slice_get_within, get_or_from_slice_get}, Grind.common_steps, List.length-map}
@@ -10,16 +10,18 @@ use Rattle.graph_types.specs.declared.batches.NamedOp.{NamedOp}
 use Rattle.block_reclamation.specs.Status.{is_among, is_free, is_retired, is_reclaimable, recycled}
 use Rattle.block_reclamation.specs.{declared.{copies.PinCopy.PinCopy, status.BlockStatus.BlockStatus}, Copies.needs}
 use Rattle.block_reclamation.specs.declared.status.BlockStatus.TheVariants.{Free, Granted, Used}
-use Rattle.epoch_core.{specs.Blocks.all_differ, proofs.Lists.set_else, proofs.Lists.all_listed}
+use Rattle.epoch_core.{specs.Blocks.all_differ, proofs.Lists.set_else}
+use Rattle.block_reclamation.proofs.Lists.{all_listed}
 use Rattle.store_steps.specs.Desks.{DeskView, IsAccepted, IsCollected, AcceptedCounts, CollectedCounts, is_retired_by, birth_of}
-use Rattle.store_steps.{specs.Desks.{birth_at, ledger_of}, proofs.NumberLists.{differ_head, differ_tail}}
-use Rattle.store_steps.proofs.{CollectedDesk.past_and_left, ChangedLists.{marked_at, length-changed}, Posting.IsLegalBatch}
-use Rattle.store_steps.proofs.{Posting.legal_batch, OneNumber.{free_is, born_is, not_both}}
+use Rattle.store_steps.specs.Desks.{birth_at, ledger_of}
+use Rattle.epoch_core.proofs.NumberLists.{differ_head, differ_tail}
+use Rattle.block_pool.proofs.CollectedDesk.{past_and_left}
+use Rattle.store_steps.proofs.{ChangedLists.{marked_at, length-changed}, Posting.IsLegalBatch}
+use Rattle.store_steps.proofs.Posting.{legal_batch}
+use Rattle.block_reclamation.proofs.OneNumber.{free_is, born_is, not_both}
 use Rattle.edge_block.proofs.Counts.{count_more}
-
--- each of these numbers has this status
-abbrev AllAre : (ℕ → BlockStatus) → List BlockStatus → List ℕ → Type 0
-AllAre of pool ns = (m : ℕ) → is_among m ns ≡ true → slice_get pool m ≡ Some (of m)
+use Rattle.block_reclamation.proofs.StatusCounts.{AllAre, free_one}
+use Rattle.block_pool.proofs.StatusCounts.{marked_changed, free_more}
 
 -- different numbers change their status: what passes a test afterwards is counted in place of what passed it before
 counts_changed : (p : BlockStatus → Bool) (change : BlockStatus → BlockStatus) (of : ℕ → BlockStatus) (ns : List ℕ)
@@ -42,10 +44,6 @@ counts_changed p change of (n ∷ ns) pool apart are =
       ap (λ s. cond {A = ℕ} (p s) 1 0) same,
       ap (λ s. cond {A = ℕ} (p (change s)) 1 0) same,
     )
-
-marked_changed : (ns : List ℕ) (s : BlockStatus) (pool : List BlockStatus) → marked ns s pool ≡ changed_numbers (λ _. s) ns pool
-marked_changed [] s pool = refl
-marked_changed (n ∷ ns) s pool = marked_changed ns s (set pool n s)
 
 count_none : (ns : List ℕ) → count_by (λ _. false) ns ≡ 0
 count_none [] = refl
@@ -121,20 +119,6 @@ accepted_counts old new ops taken dropped accepted =
 
 -- A collection
 
-free_one : (copy : PinCopy) (s : BlockStatus) → cond {A = ℕ} (is_free (recycled copy s)) 1 0
-    ≡ cond (is_free s) 1 0 + cond (is_reclaimable copy s) 1 0
-free_one copy s = grind (arith, common_steps)
-
-free_more : (copy : PinCopy) (pool : List BlockStatus) → count_by is_free (map (recycled copy) pool)
-    ≡ count_by is_free pool + count_by (is_reclaimable copy) pool
-free_more copy [] = omega arith
-free_more copy (s ∷ pool) = omega (
-  arith,
-  count_more is_free (recycled copy s) (map (recycled copy) pool),
-  count_more is_free s pool,
-  count_more (is_reclaimable copy) s pool,
-  free_one copy s,
-  free_more copy pool,
 )
 
 needed_all : (q : ℕ → ℕ → Bool) (copy : PinCopy) (pool : List BlockStatus) → count_by (is_retired_by q) (map (recycled copy) pool)

@@ -6,9 +6,7 @@ use Rattle.graph_types.specs.{Step.empty_graph, declared.batches.NamedOp.NamedOp
 use Rattle.graph_version.specs.Versions.{VersionView, empty_version}
 use Rattle.epoch_core.specs.Examples.{short_batches}
 use Rattle.stream_store.specs.Seats.{SessionView, held_graph}
-
-abbrev pub of_batches : List (List NamedOp) → VersionView
-of_batches batches = record { opening = empty_graph; batches = batches; rows = [] }
+use Rattle.graph_version.proofs.Rows.{of_batches}
 
 abbrev pub lent_one : Book → SessionView
 lent_one book = record {

@@ -7,9 +7,7 @@ use Rattle.graph_types.specs.Graph.{Graph}
 use Rattle.graph_version.specs.Versions.{VersionView}
 use Rattle.version_shelf.specs.Shelves.{ToldView}
 use Rattle.stream_store.specs.{Seats.{SeatView, HasSeen}, Stores.IsSeatOfOpening}
-
-abbrev IsNew : Book → VersionView → ToldView → Type 0
-IsNew book version x = x ≡ record { book = book; version = version }
+use Rattle.version_shelf.proofs.Seated.{IsNew}
 
 each : (book : Book) (version : VersionView) (seats : List SeatView)
     → All (IsNew book version) (map (λ (s : SeatView). s.seen) seats) → All (HasSeen book version) seats
@@ -47,11 +45,6 @@ numbers_more seats more s items next same =
     ap (map (λ (t : SeatView). t.number)) items ∙ map-append (λ (t : SeatView). t.number) seats (s ∷ [])
     ∙ ap (λ (ks : List ℕ). ks ++ s.number ∷ []) same ∙ ap (λ (k : ℕ). range_with_len 0 (length seats) ++ k ∷ []) place
     ∙ sym (range_more 0 (length seats)) ∙ ap (range_with_len 0) one
-
--- the first reader taken off a list
-pub first_off : (xs ys : List ToldView) (x : ToldView) → 0 < length xs → x ≡ slice_index_or xs 0 x → ys ≡ take 0 xs
-    ++ drop (0 + 1) xs → xs ≡ x ∷ ys
-first_off xs ys x some first rest = grind (arith, common_steps)
 
 -- the seat of the first reader is added to the seats
 pub seen_more : (seats more : List SeatView) (s : SeatView) (x : ToldView) (xs ys readers : List ToldView) → more ≡ seats ++ s

@@ -3,7 +3,8 @@ use Rattle.std.proofs.Common.{◌≡◌, ◌≢◌, ℕ, zero, suc, ◌<◌, Lis
 use Rattle.std.proofs.{Common.refl, Common.sym, Common.ap, Common.subst, Common.◌∙◌, Common.arith, lemmas.List.length-set}
 use Rattle.std.specs.{Prelude.slice_get, declared.sync.Arc.Arc, declared.alloc.Global.Global, Arc.arc_value}
 use Rattle.edge_block.specs.declared.blocks.Block.{Block}
-use Rattle.block_pool.{specs.Pools.{marked, AreFree, is_in_use_at, is_used_at, changed_numbers, retired}, proofs.Tallies.within_pool}
+use Rattle.block_pool.specs.Pools.{marked, AreFree, is_in_use_at, is_used_at, changed_numbers, retired}
+use Rattle.block_pool.proofs.Tallies.{within_pool}
 use Rattle.block_reclamation.specs.{declared.status.BlockStatus.{BlockStatus, TheVariants.{Granted, Used}}, Status.is_free}
 use Rattle.block_reclamation.specs.Status.{is_in_use, is_at}
 use Rattle.tests_model.specs.Held.{block_numbers, AreHeld}

@@ -7,7 +7,9 @@ use Rattle.graph_types.proofs.Empty.{empty_weights}
 use Rattle.edge_block.specs.{Slots.BlockView, Rows.{shape_of, row_at, IsRow}}
 use Rattle.graph_version.specs.{Rows.{row_of, numbers_of}, Versions.{IsBlockOf, AreRowsOf, empty_version}, Drafts.DraftView}
 use Rattle.graph_version.specs.Drafts.{drafted_over, with_batch, ReplacesRow, IsWhole}
-use Rattle.graph_version.proofs.{Totals.same_blocks, Totals.at_source, Totals.elsewhere, Empty.{no_row, standard_are_limits}}
+use Rattle.graph_version.proofs.{Totals.same_blocks, Empty.no_row}
+use Rattle.edge_block.proofs.Totals.{at_source, elsewhere}
+use Rattle.graph_types.proofs.Empty.{standard_are_limits}
 
 no_block : (s : ℕ) → All (IsBlockOf s) []
 no_block s k d h = absurd (omega arith)

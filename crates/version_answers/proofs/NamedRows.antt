@@ -4,7 +4,8 @@ use Rattle.std.proofs.Common.{drop-cons, add-one, Option, Some, None, refl, sym,
 use Rattle.std.proofs.lemmas.List.{take_more, take_all, get_or-map, length-map, get_or_default, Elements.filter_map-append}
 use Rattle.std.proofs.lemmas.{Option.unwrap_or-slice_get, Slice.Zip.length-zip, Slice.Zip.get_or-zip}
 use Rattle.std.specs.{Prelude.zip, List.filter_map, List.slice_get, Option.option_to_list, Option.unwrap_or}
-use Rattle.graph_types.specs.{Answer.{names_of_vertices, level_row, reached, IsReply}, declared.ids.{VertexId.VertexId, Filter.Filter}}
+use Rattle.graph_types.specs.{Answer.{names_of_vertices, level_row, reached, IsReply}, declared.ids.VertexId.VertexId}
+use Rattle.graph_types.specs.declared.ids.Filter.{Filter}
 use Rattle.graph_types.{specs.{declared.requests.Request.Request, Analyses.AreLevels, Graph.Graph}, proofs.More.kept_row}
 use Rattle.graph_levels.specs.{Reached.AreReached, Reached.rows_from, Reached.vertex_numbers}
 use Rattle.graph_types.specs.declared.requests.Reply.TheVariants as replies

@@ -9,7 +9,8 @@ use Rattle.edge_block.specs.{Slots.BlockView, Lending.LentEdge, declared.blocks.
 use Rattle.version_pages.specs.Rows.{row_of, blocks_of}
 use Rattle.graph_version.specs.{Sharing.{block_value, block_values}, Versions.{VersionView, IsVersion}}
 use Rattle.graph_version.proofs.BlockCounts.{few_blocks}
-use Rattle.version_columns.specs.Rows.{Columns, with_lent_edge, with_edges, with_values, block_edges, lent_edges_of, row_edges, lent_rows_from, sources_from, edge_columns}
+use Rattle.version_columns.specs.Rows.{Columns, with_lent_edge, with_edges, with_values, block_edges, lent_edges_of, row_edges}
+use Rattle.version_columns.specs.Rows.{lent_rows_from, sources_from, edge_columns}
 
 -- edges behind others, and values
 pub with_edges-append : (at : ℕ) (xs ys : List LentEdge) (c : Columns)

@@ -5,6 +5,8 @@ use Rattle.std.specs.declared.{sync.Arc.Arc, alloc.Global.Global}
 use Rattle.edge_block.specs.Slots.{BlockView}
 use Rattle.version_pages.specs.{declared.row_hall.Hall.Hall, RowHalls.{AreHalls, in_hall, in_halls}, Differences.SameRows}
 use Rattle.list_pieces.proofs.{Full.long, Padded.cut_at}
+use Rattle.std.proofs.Common.{zero, suc, ◌∷◌, refl}
+use Rattle.version_pages.specs.Rows.{row_of}
 
 pub same_len : (len : ℕ) (halls : List (Arc Hall Global)) (rows : List (List BlockView)) → take len (in_halls halls) ≡ rows
     → AreHalls halls → len ≤ length halls * 65536 → length rows ≡ len
@@ -21,3 +23,8 @@ shown_same len halls rows same is are le =
     let blank : (s : ℕ) → len ≤ s → get_or (in_halls halls) s [] ≡ [] =
     λ s past. same s ∙ get_or-eq_default rows [] (let end : length rows ≤ s = omega (arith, is, past) in end) in
     ext_get_or [] (take len (in_halls halls)) rows (cut ∙ sym is) (λ s lt. cut_at len (in_halls halls) [] blank s ∙ same s)
+
+pub row_past : (rows : List (List BlockView)) (i : ℕ) → length rows ≤ i → row_of rows i ≡ []
+row_past [] i past = refl
+row_past (row ∷ rows) zero past = absurd (omega arith)
+row_past (row ∷ rows) (suc i) past = row_past rows i (omega arith)

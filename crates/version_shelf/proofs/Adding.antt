@@ -1,6 +1,7 @@
 -- The steps of the history keep its rule.
 use Rattle.graph_types.specs.declared.batches.NamedOp.{NamedOp}
-use Rattle.std.proofs.Common.{◌≡◌, ℕ, suc, ◌+◌, ◌<◌, ◌≤◌, ◌==◌, Bool, true, false, List, [], ◌∷◌, ◌++◌, length, set, refl, ap, ap₂, sym}
+use Rattle.std.proofs.Common.{◌≡◌, ℕ, suc, ◌+◌, ◌<◌, ◌≤◌, ◌==◌, Bool, true, false, List, [], ◌∷◌, ◌++◌, length, set, refl, ap}
+use Rattle.std.proofs.Common.{ap₂, sym}
 use Rattle.std.proofs.Common.{subst, ◌∙◌, arith, inl, length-append, None}
 use Rattle.std.proofs.lemmas.{List.append-nil, Bool.eqb-true, Bool.true≢false}
 use mathlib.Core.List.{IsPrefix}

@@ -4,3 +4,4 @@ pub mod Adding
 pub mod Steps
 pub mod Openings
 pub mod Showing
+pub mod Seated

@@ -1,5 +1,6 @@
 -- Rights to add a batch, used up and left.
-use Rattle.std.proofs.Common.{◌≡◌, ℕ, zero, suc, ◌+◌, ◌<◌, ◌≤◌, true, false, List, [], ◌∷◌, ◌++◌, length, replicate, set, refl, ap}
+use Rattle.std.proofs.Common.{◌≡◌, ℕ, zero, suc, ◌+◌, ◌<◌, ◌≤◌, true, false, List, [], ◌∷◌, ◌++◌, length, replicate, set, refl}
+use Rattle.std.proofs.Common.{ap}
 use Rattle.std.proofs.{Common.arith, lemmas.Bool.true≢false}
 use Rattle.logbook.specs.Pages.{Cell, cell}
 use Rattle.version_shelf.specs.Histories.{rights, cells_of}

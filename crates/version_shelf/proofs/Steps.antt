@@ -1,7 +1,8 @@
 -- The steps of the shelf keep its rule.
 use Rattle.graph_types.specs.declared.batches.NamedOp.{NamedOp}
 use Rattle.std.proofs.Common.{◌≡◌, ℕ, ◌≢◌, ◌⊎◌, Bool, true, false, MatchBool, List, [], ◌∷◌, ◌++◌, set, refl, sym, ap, subst, ◌∙◌}
-use Rattle.std.{proofs.{Common.{⊎_elim, Option, Some, None, IfSome, IfOk, Result, Ok, Err}, lemmas.Option.same_Some}, specs.{Result.result_ok, Prelude.IsSome}}
+use Rattle.std.proofs.{Common.{⊎_elim, Option, Some, None, IfSome, IfOk, Result, Ok, Err}, lemmas.Option.same_Some}
+use Rattle.std.specs.{Result.result_ok, Prelude.IsSome}
 use Rattle.std.proofs.lemmas.Bool.{false≢true}
 use mathlib.Core.Option.{some}
 use mathlib.Core.List.{IsPrefix}

@@ -8,19 +8,16 @@ use Rattle.std.proofs.lemmas.Option.{same_Some, none-some, slice_get_within, get
 use Rattle.std.specs.{Option.SomeIff, Option.IfSome, Option.IfNone, List.slice_get, Str.bytes_eq}
 use Rattle.graph_types.specs.{Step.number_of, Answer.is_listed, Valid.is_name}
 use Rattle.vertex_names.specs.{Index.text_hash, Index.found_at, Index.Stands, Index.IsIndexed, Book.Book, Book.IsBook}
+use Rattle.std.proofs.lemmas.Grind.{common_steps}
+use Rattle.graph_types.specs.{declared.batches.NamedOp.NamedOp, Parts.{kinds_after, kinds_after_all}}
+use Rattle.graph_types.proofs.OperationParts.{no_fewer_kinds_all}
+use Rattle.graph_types.proofs.Names.{differs, at_number, listed_at}
 
 -- a name that the book as it is shown doesn't list
 pub not_listed : (book shown : Book) (name : List ℕ) → book ≡ shown → ¬ IsTrue (is_listed shown.names name)
     → is_listed book.names name ≡ false
 not_listed book shown name same new = false_from_ne_true _
     (subst (λ (b : Book). ¬ IsTrue (is_listed b.names name)) (sym same) new)
-
--- a name that is not listed differs from each that is
-differs : (names : List (List ℕ)) (name : List ℕ) → is_listed names name ≡ false → (k : ℕ) (d : List ℕ) → k < length names
-    → get_or names k d ≢ name
-differs names name new k d in_range same =
-    true≢false (sym (list_any_at (bytes_eq name) names k d in_range ((bytes_eq-Decides name (get_or names k d)).1 (sym same)))
-    ∙ new)
 
 -- a new name within the limit leaves a book
 pub IsBook-pushed : (limit : ℕ) (names : List (List ℕ)) (name : List ℕ) → IsTrue (is_name name) → is_listed names name ≡ false
@@ -32,40 +29,6 @@ IsBook-pushed limit names name named new room is_book = record {
   distinct = all_pairs_push (λ a b. a ≢ b) names name is_book.distinct (differs names name new);
   named = All-push (λ n. IsTrue (is_name n)) names name is_book.named named;
 }
-
--- a listed name stands at its number
-at_next : (name x : List ℕ) (names : List (List ℕ)) (found : Bool) → found ≡ bytes_eq name x
-    → (IsTrue (is_listed names name) → slice_get names (number_of names name) ≡ Some name)
-    → IsTrue (found || is_listed names name) → slice_get (x ∷ names) (cond (not found) (1 + number_of names name) 0) ≡ Some name
-at_next name x names true is rest listed = ap Some (sym ((bytes_eq-Decides name x).0 (sym is)))
-at_next name x names false is rest listed =
-    let further : 1 + number_of names name ≡ suc (number_of names name) = omega arith in
-    ap (λ n. slice_get (x ∷ names) n) further ∙ rest listed
-
-pub at_number : (names : List (List ℕ)) (name : List ℕ) → IsTrue (is_listed names name)
-    → slice_get names (number_of names name) ≡ Some name
-at_number [] name listed = absurd (true≢false (sym listed))
-at_number (x ∷ names) name listed = at_next name x names (bytes_eq name x) refl (at_number names name) listed
-
--- a name stands once
-once : (names : List (List ℕ)) (i j : ℕ) (name : List ℕ) → AllPairs (λ a b. a ≢ b) names → slice_get names i ≡ Some name
-    → slice_get names j ≡ Some name → ¬ (i < j)
-once names i j name distinct at_i at_j lt =
-    distinct i j [] lt (slice_get_within names j name at_j)
-    (get_or_from_slice_get names i name [] at_i ∙ sym (get_or_from_slice_get names j name [] at_j))
-
--- what stands at a place is listed, and the place is its number
-pub listed_at : (names : List (List ℕ)) (j : ℕ) (name : List ℕ) → AllPairs (λ a b. a ≢ b) names → slice_get names j ≡ Some name
-    → IsTrue (is_listed names name) × (j ≡ number_of names name)
-listed_at names j name distinct at =
-    let lt = slice_get_within names j name at in
-    let same : name ≡ get_or names j [] = sym (get_or_from_slice_get names j name [] at) in
-    let listed : IsTrue (is_listed names name) =
-    list_any_at (bytes_eq name) names j [] lt ((bytes_eq-Decides name (get_or names j [])).1 same) in
-    let there = at_number names name listed in
-    let below = once names j (number_of names name) name distinct at there in
-    let above = once names (number_of names name) j name distinct there at in
-    (listed, omega (arith, below, above))
 
 -- a listed name's number stands at its hash
 stands : (names : List (List ℕ)) (shelves : List (List (List (ℕ × List (ℕ × ℕ))))) (others : List ℕ) (name : List ℕ)
@@ -134,3 +97,8 @@ IsIndexed-pushed names shelves others name indexed new i lt =
           subst (λ (n : ℕ). Stands shelves others (text_hash (get_or (names ++ name ∷ []) i [])) n) (sym last)
           (subst (λ (n : List ℕ). Stands shelves others (text_hash n) (length names)) (sym here) new)
     ]
+
+-- a refusal of one operation's kind is one of it and those behind it
+pub kinds_refused : (op : NamedOp) (behind : List NamedOp) (kinds : Book) → kinds.limit < length (kinds_after op kinds.names)
+    → kinds.limit < length (kinds_after_all (op ∷ behind) kinds.names)
+kinds_refused op behind kinds refused = grind (arith, common_steps, no_fewer_kinds_all)

@@ -4,7 +4,8 @@ use Rattle.std.{proofs.lemmas.List.map-append, specs.{declared.alloc.AllocError.
 use Rattle.std.proofs.lemmas.Iterator.{Adapters.YieldsList-from_vec, Consumers.YieldsList-turn}
 use Rattle.edge_block.specs.Slots.{BlockView}
 use Rattle.batch_shards.specs.{Done.layout_by, Done.sources_in, Spending.needed, declared.shard.Shard.Shard}
-use Rattle.batch_apply.specs.{Plan.shown_op, Shards.{IsShardOf, latest_expiry}, OldRows.AreOldRows, declared.shards.Needing.Needing}
+use Rattle.batch_apply.specs.{Plan.shown_op, Shards.{IsShardOf, latest_expiry}, OldRows.AreOldRows}
+use Rattle.batch_apply.specs.declared.shards.Needing.{Needing}
 use Rattle.batch_apply.proofs.Leaving.{one_more_shard}
 use Rattle.batch_apply.proofs.dividing.shards_at_once.Goals as goal
 

@@ -4,7 +4,8 @@ use Rattle.std.{proofs.lemmas.List.length-map, specs.{List.list_any, Prelude.sli
 use Rattle.std.specs.declared.option.Option.TheVariants.{Some}
 use Rattle.graph_types.specs.declared.ids.VertexId.{VertexId}
 use Rattle.edge_block.specs.Batches.{Resolved, shard_ops}
-use Rattle.batch_apply.specs.{Plan.shown_op, OldRows.{old_sources, own_rows}, Shards.source_numbers, FirstSources.{AreFirst, asked_sources}}
+use Rattle.batch_apply.specs.{Plan.shown_op, OldRows.{old_sources, own_rows}, Shards.source_numbers, FirstSources.AreFirst}
+use Rattle.batch_apply.specs.FirstSources.{asked_sources}
 use Rattle.batch_apply.specs.declared.{old.OldRow.OldRow, resolve.ResolvedOp.ResolvedOp}
 use Rattle.batch_apply.proofs.{First.{old_first, ranked_first, ranked_next, few_asked}, Listing.own_few}
 use Rattle.batch_apply.proofs.own_sources.first_sources.Goals as goal

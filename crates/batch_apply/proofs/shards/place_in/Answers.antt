@@ -1,4 +1,5 @@
-use Rattle.std.proofs.Common.{◌≡◌, ◌≤◌, ◌+◌, ◌++◌, ◌∷◌, [], ℕ, List, true, false, cond, length, length-append, nat_eq, ap, sym, subst, ◌∙◌}
+use Rattle.std.proofs.Common.{◌≡◌, ◌≤◌, ◌+◌, ◌++◌, ◌∷◌, [], ℕ, List, true, false, cond, length, length-append, nat_eq, ap, sym}
+use Rattle.std.proofs.Common.{subst, ◌∙◌}
 use Rattle.std.proofs.{Common.arith, lemmas.{List.length-map, Option.{get_or_from_slice_get, slice_get_within}}}
 use Rattle.std.specs.{List.list_any, Option.option_map, declared.option.Option.{Option, TheVariants.Some}}
 use Rattle.graph_types.specs.{Graph.Key, declared.ids.VertexId.VertexId}

@@ -1,4 +1,5 @@
-use Rattle.std.proofs.Common.{◌≡◌, ◌+◌, ◌-◌, ◌^◌, ◌<◌, true, false, ℕ, List, [], ◌∷◌, ◌++◌, length, map, get_or, take, drop, min, cond}
+use Rattle.std.proofs.Common.{◌≡◌, ◌+◌, ◌-◌, ◌^◌, ◌<◌, true, false, ℕ, List, [], ◌∷◌, ◌++◌, length, map, get_or, take, drop, min}
+use Rattle.std.proofs.Common.{cond}
 use Rattle.std.proofs.{Common.{ap, sym, subst, ◌∙◌, arith}, lemmas.List.{length-map, length-take-le, take_all, take_more}}
 use Rattle.std.{proofs.lemmas.List.{get_or-map, Sums.sum_by_push}, specs.Prelude.{pos, count_by, not, Bool, IfSome}}
 use Rattle.std.specs.{List.sum_by, declared.option.Option.TheVariants.None}
@@ -7,7 +8,7 @@ use Rattle.graph_types.specs.declared.changes.EdgeChange.TheVariants.{Insert}
 use Rattle.edge_block.specs.Batches.{Resolved, IsPlaced, is_in_shard, shard_ops}
 use Rattle.batch_shards.specs.{Done.layout_by, Groups.is_expiry, Spending.old_blocks, Spending.latest as latest_step}
 use Rattle.batch_shards.specs.declared.shard.{Act.Act, Step.Step}
-use Rattle.batch_apply.specs.{Plan.shown_op, Shards.AreShardSteps, Shards.has_old_shape, Shards.latest_expiry, Shards.source_numbers}
+use Rattle.batch_apply.specs.{Plan.shown_op, Shards.{AreShardSteps, has_old_shape, latest_expiry, source_numbers}}
 use Rattle.batch_apply.specs.{OldRows.{own_rows, blocks_in, old_sources}, FirstSources.{AreNext, asked_sources}}
 use Rattle.batch_apply.specs.declared.{old.OldRow.OldRow, resolve.ResolvedOp.ResolvedOp, resolve.ResolvedOp.TheVariants.Edge}
 use Rattle.batch_apply.proofs.{Growth.{passed, added, same_sum}, Listing.{sum_agrees, is_listed, listed_blocks}}

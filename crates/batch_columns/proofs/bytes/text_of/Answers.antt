@@ -1,4 +1,4 @@
-use Rattle.batch_columns.proofs.NameTexts.{no_text_no_name}
+use Rattle.graph_types.proofs.NameTexts.{no_text_no_name}
 use Rattle.batch_columns.proofs.bytes.text_of.Goals as goal
 
 pub returns-in-Err-clause-refused : goal.returns-in-Err-clause-refused

@@ -1,6 +1,7 @@
 use Rattle.std.proofs.Common.{◌≡◌, ◌-◌, ◌+◌, ◌<◌, ℕ, List, Some, None, get_or, length, sym, ap, ◌∙◌, subst, arith, rules, set}
 use Rattle.std.proofs.{Math.ListN.length-set, lemmas.Grind.get_or_default_zero}
-use Rattle.batch_shards.specs.{Groups.{is_on_row, AreStepGroups}, declared.shard.{Act.TheVariants.{Edge, Expire}, Place.Place, Step.Step}}
+use Rattle.batch_shards.specs.{Groups.{is_on_row, AreStepGroups}, declared.shard.{Act.TheVariants.{Edge, Expire}, Place.Place}}
+use Rattle.batch_shards.specs.declared.shard.Step.{Step}
 use Rattle.batch_shards.proofs.{ShardSteps.first_step, Upcoming.groups_more, Upcoming.groups_pass}
 use Rattle.batch_shards.proofs.groups.groups_of.Goals as goal
 

@@ -5,8 +5,10 @@ use Rattle.batch_shards.proofs.{Expiring.not_later, Expiring.spends_least, Shard
 use Rattle.batch_shards.proofs.SourceSteps.{next_from, stepped, outcome_here, left_alone, left_told, skipped_count, at_row, wrote}
 use Rattle.batch_shards.{proofs.SourceSteps.beside, specs.Groups.act_step}
 use Rattle.graph_types.specs.Outcomes.{told}
-use Rattle.batch_shards.specs.Groups.{act_outcome, is_on_row, is_expiry, is_later, does_act, may_change, IsNextStep, LeadsToStep, IsSourceRow}
-use Rattle.batch_shards.specs.{Groups.IsOneMore, OpenRows.IsRowOf, RowBlocks.opens, Shards.resolved_in, Spending.latest, declared.shard.Act.Act}
+use Rattle.batch_shards.specs.Groups.{act_outcome, is_on_row, is_expiry, is_later, does_act, may_change, IsNextStep, LeadsToStep}
+use Rattle.batch_shards.specs.Groups.{IsSourceRow}
+use Rattle.batch_shards.specs.{Groups.IsOneMore, OpenRows.IsRowOf, RowBlocks.opens, Shards.resolved_in, Spending.latest}
+use Rattle.batch_shards.specs.declared.shard.Act.{Act}
 use Rattle.edge_block.specs.{Batches.rows_all, Rows.{OpenBlock, old_in_row}}
 use Rattle.graph_types.specs.Outcomes.{together}
 use Rattle.batch_shards.proofs.open_rows.do_steps.Goals as goal

@@ -1,4 +1,4 @@
-use Rattle.batch_shards.proofs.Closings.{bare_is}
+use Rattle.edge_block.proofs.Closings.{bare_is}
 use Rattle.batch_shards.proofs.open_rows.is_bare.Goals as goal
 
 pub returns : goal.returns

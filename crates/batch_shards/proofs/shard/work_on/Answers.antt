@@ -2,7 +2,8 @@ use Rattle.std.proofs.Common.{◌≡◌, ◌≤◌, ◌+◌, ◌⊎◌, inl, inr
 use Rattle.std.{proofs.lemmas.List.{length-map, map-append}, specs.declared.{sync.Arc.Arc, alloc.Global.Global}}
 use Rattle.edge_block.specs.{Slots.BlockView, declared.blocks.Block.Block}
 use Rattle.graph_version.specs.Rows.{row_of}
-use Rattle.batch_shards.specs.{RowBlocks.block_of, RowBlocks.shared_numbers, Shards.AreSteps, Done.sources_in, Done.AreBlockRows, Progress.AreRowsDone}
+use Rattle.batch_shards.specs.{RowBlocks.{block_of, shared_numbers}, Shards.AreSteps, Done.{sources_in, AreBlockRows}}
+use Rattle.batch_shards.specs.Progress.{AreRowsDone}
 use Rattle.batch_shards.specs.{Spending.needed_past, Spending.IsGrouped, declared.shard.Step.Step, Groups.none_told}
 use Rattle.batch_shards.proofs.{Beginnings.few_past, Beginnings.none_yet, Closed.read_edges, Finish.finish}
 use Rattle.graph_types.specs.declared.{ids.VertexId.VertexId, batches.Outcome.Outcome}

@@ -1,9 +1,12 @@
-use Rattle.std.proofs.Common.{◌≡◌, ◌∙◌, ◌-◌, ◌<◌, ◌≤◌, ◌++◌, ◌∷◌, [], inl, inr, ℕ, List, None, Option, get_or, set, length, map, sym, ap, subst, arith}
-use Rattle.std.{proofs.lemmas.{Bool.cases_eq, List.map-append}, specs.{Arc.arc_value, declared.sync.Arc.Arc, declared.alloc.Global.Global}}
+use Rattle.std.proofs.Common.{◌≡◌, ◌∙◌, ◌-◌, ◌<◌, ◌≤◌, ◌++◌, ◌∷◌, [], inl, inr, ℕ, List, None, Option, get_or, set, length, map}
+use Rattle.std.proofs.Common.{sym, ap, subst, arith}
+use Rattle.std.{proofs.lemmas.{Bool.cases_eq, List.map-append}, specs.{Arc.arc_value, declared.sync.Arc.Arc}}
+use Rattle.std.specs.declared.alloc.Global.{Global}
 use Rattle.std.proofs.lemmas.Grind.{common_steps}
 use Rattle.edge_block.specs.declared.blocks.Block.{Block}
 use Rattle.block_reclamation.specs.Status.{is_free}
-use Rattle.block_pool.specs.{declared.numbers.Numbers.Numbers, Kept.{IsNumbers, IsRoomier, IsReadyNumber, statuses, popped}, Pools.AreBodies, Paging.HasRoom}
+use Rattle.block_pool.specs.{declared.numbers.Numbers.Numbers, Kept.{IsNumbers, IsRoomier, IsReadyNumber, statuses, popped}}
+use Rattle.block_pool.specs.{Pools.AreBodies, Paging.HasRoom}
 use Rattle.block_pool.proofs.{Grants.popped_last, Tallies.listed_at, Rooms.{roomier_same, roomier_again}}
 use Rattle.block_pool.proofs.pool.gather.Goals as goal
 

@@ -1,7 +1,8 @@
-use Rattle.std.{proofs.Common.◌≡◌, proofs.Common.◌-◌, proofs.Common.◌<◌, proofs.Common.ℕ, proofs.Common.map, proofs.Common.length, specs.Arc.arc_value}
+use Rattle.std.{proofs.Common.{◌≡◌, ◌-◌, ◌<◌, ℕ, map, length}, specs.Arc.arc_value}
 use Rattle.std.specs.Prelude.{slice_index}
 use Rattle.edge_block.specs.declared.blocks.Block.{Block}
-use Rattle.block_pool.specs.{Kept.{statuses, popped, IsNumbers, IsRoomier, IsReadyNumber, HasRoomFor}, Pools.AreBodies, Paging.HasRoom}
+use Rattle.block_pool.specs.{Kept.{statuses, popped, IsNumbers, IsRoomier, IsReadyNumber, HasRoomFor}, Pools.AreBodies}
+use Rattle.block_pool.specs.Paging.{HasRoom}
 use Rattle.block_pool.proofs.pool.gather.Given as goal
 
 abbrev pub invariant-loop-i : goal.invariant-loop-i

@@ -3,7 +3,8 @@ use Rattle.desk.specs.Owned.{OwnedView}
 use Rattle.desk_counts.specs.declared.counts.Counts.{Counts}
 use Rattle.desk_columns.specs.Feeding.{TakesFeed}
 use Rattle.desk_columns.proofs.columns.insert_next.Goals as goal
-use Rattle.desk_columns.proofs.columns.insert_next.Goals.{then-not-is_small+then-whole-part+in-Err, then-not-is_small+else-whole-part, else-not-is_small}
+use Rattle.desk_columns.proofs.columns.insert_next.Goals.{then-not-is_small+then-whole-part+in-Err}
+use Rattle.desk_columns.proofs.columns.insert_next.Goals.{then-not-is_small+else-whole-part, else-not-is_small}
 
 pub returns-clause-taken : goal.returns-clause-taken
 returns-clause-taken c =

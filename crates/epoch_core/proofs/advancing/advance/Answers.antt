@@ -1,6 +1,6 @@
 use Rattle.std.{proofs.Common.{◌≡◌, List, length, refl, sym, ap, subst, ◌∙◌, arith}, specs.Prelude.{IfOk, slice_index_or}}
 use Rattle.graph_types.specs.declared.ids.Edge.{Edge}
-use Rattle.epoch_core.specs.{Blocks.Stepped, Blocks.changed_at, Blocks.status_taken, Blocks.reclaimed, Worlds.MachineState, Runs.Steps}
+use Rattle.epoch_core.specs.{Blocks.{Stepped, changed_at, status_taken, reclaimed}, Worlds.MachineState, Runs.Steps}
 use Rattle.epoch_core.specs.{Cores.state_of, declared.events.Event.{TheVariants.Fill, TheVariants.Post}}
 use Rattle.epoch_core.specs.declared.{states.Version.Version, session_states.SessionState.TheVariants.Idle}
 use Rattle.epoch_core.specs.Machine.{ReadsContent, to_ask, to_enter, to_pin, to_read, to_release, to_settle}

@@ -4,7 +4,8 @@ use Rattle.graph_types.specs.{Graph.{IsContentIn, graph_in}, declared.ids.Edge.E
 use Rattle.epoch_core.specs.declared.{states.{Version.Version, Opening.Opening}, step.Step.TheVariants.{Done, Skipped}}
 use Rattle.epoch_core.specs.{declared.events.Event.TheVariants.Post, Worlds.{HasContents, World}, Blocks.Stepped}
 use Rattle.epoch_core.specs.{Posting.{IsPlanOf, graph_after, last_content, version_by}, Cores.state_of, Machine.step}
-use Rattle.epoch_core.{specs.{Posts.posted, Versions.{IsContentGraph, graph_at}}, proofs.{Read.{last_is_content, last_graph_is}, Cores.contents_posted}}
+use Rattle.epoch_core.{specs.{Posts.posted, Versions.{IsContentGraph, graph_at}}, proofs.Read.{last_is_content, last_graph_is}}
+use Rattle.epoch_core.proofs.Cores.{contents_posted}
 use Rattle.block_reclamation.specs.declared.status.BlockStatus.{BlockStatus}
 use Rattle.epoch_core.proofs.advancing.post.Goals as goal
 

@@ -1,4 +1,5 @@
-use Rattle.std.proofs.Common.{◌≡◌, ◌+◌, ◌<◌, ◌++◌, ◌∷◌, [], ℕ, List, Bool, cond, take, length, get_or, append_assoc, arith, ap, sym, ◌∙◌}
+use Rattle.std.proofs.Common.{◌≡◌, ◌+◌, ◌<◌, ◌++◌, ◌∷◌, [], ℕ, List, Bool, cond, take, length, get_or, append_assoc, arith, ap}
+use Rattle.std.proofs.Common.{sym, ◌∙◌}
 use Rattle.std.proofs.Common.{◌&&◌, true, false, suc}
 use Rattle.std.proofs.lemmas.{Bool.{le-leb, lt-leb}, List.{append-nil, take_all, Elements.filter_more}}
 use Rattle.std.specs.{Prelude.{filter, nat_le, nat_lt}, declared.{vec.Vec.Vec, alloc.Global.Global}}

@@ -1,7 +1,8 @@
 use Rattle.std.proofs.{Common.◌∙◌, Common.ap, Common.subst, Common.sym, Common.arith, Common.w64, lemmas.Int.to_z-of_z}
 use Rattle.std.{proofs.lemmas.List.Elements.All-head, proofs.lemmas.List.Elements.All-tail, specs.Prelude.All}
 use Rattle.edge_block.specs.{Slots.IsStamp, Lending.LentEdge, Lending.lent_edge, Lending.edges_left}
-use Rattle.graph_cores.{specs.Tallies.shown_block, proofs.Blocks.edges_lent, proofs.Blocks.lent_block}
+use Rattle.graph_cores.{specs.Tallies.shown_block, proofs.Blocks.lent_block}
+use Rattle.edge_block.proofs.Blocks.{edges_lent}
 use Rattle.graph_version.proofs.Rebased.{weight_fits}
 use Rattle.graph_cores.proofs.{Parts.begun_start, Parts.begun_end, Turns.next_room, Turns.next_begun}
 use Rattle.graph_cores.proofs.tallies.count_block.Goals as goal

@@ -1,4 +1,5 @@
-use Rattle.std.{proofs.Common.{◌≡◌, ◌<◌, ◌+◌, ◌++◌, ◌∙◌, [], arith, length, drop, ap, sym, get_or, ℕ, subst}, specs.{Prelude.All, List.Contains}}
+use Rattle.std.{proofs.Common.{◌≡◌, ◌<◌, ◌+◌, ◌++◌, ◌∙◌, [], arith, length, drop, ap, sym, get_or, ℕ, subst}, specs.Prelude.All}
+use Rattle.std.specs.List.{Contains}
 use Rattle.std.{proofs.lemmas.List.{append-nil, drop_all, length-append}}
 use Rattle.graph_levels.specs.{Reached.{level_table, vertices_of}, Search.IsSearch}
 use Rattle.graph_types.specs.{Analyses.LeadsTo, declared.ids.VertexId.VertexId}

@@ -1,5 +1,7 @@
-use Rattle.std.proofs.Common.{◌≡◌, ◌↔◌, ◌+◌, ◌++◌, ◌∷◌, ◌∙◌, [], List, ℕ, Bool, true, false, cond, drop, get_or, refl, sym, ap, subst, arith}
-use Rattle.std.{proofs.lemmas.{Bool.false≢true, List.{at_drop_all, at_drop_more}}, specs.{Prelude.IsTrue, declared.{vec.Vec.Vec, alloc.Global.Global}}}
+use Rattle.std.proofs.Common.{◌≡◌, ◌↔◌, ◌+◌, ◌++◌, ◌∷◌, ◌∙◌, [], List, ℕ, Bool, true, false, cond, drop, get_or, refl, sym, ap}
+use Rattle.std.proofs.Common.{subst, arith}
+use Rattle.std.{proofs.lemmas.{Bool.false≢true, List.{at_drop_all, at_drop_more}}, specs.{Prelude.IsTrue, declared.vec.Vec.Vec}}
+use Rattle.std.specs.declared.alloc.Global.{Global}
 use Rattle.graph_types.specs.declared.ids.VertexId.{VertexId}
 use Rattle.graph_levels.{specs.Reached.{AreVertexMarks, IsMarked, met, stands_in}, proofs.Marking.marks_more}
 use Rattle.graph_levels.proofs.distances.visit.Goals as goal

@@ -1,5 +1,6 @@
 use Rattle.std.proofs.Common.{◌≡◌, drop, length}
-use Rattle.graph_levels.{specs.Reached.level_table, proofs.Tables.filled}
+use Rattle.graph_levels.specs.Reached.{level_table}
+use Rattle.graph_types.proofs.Tables.{filled}
 use Rattle.graph_levels.proofs.found.table.Given as goal
 
 abbrev pub invariant-loop-row : goal.invariant-loop-row

@@ -1,5 +1,5 @@
 use Rattle.std.proofs.Common.{arith}
-use Rattle.graph_model.proofs.Rounds.{round_start, round_kept, round_lowered}
+use Rattle.graph_types.proofs.Rounds.{round_start, round_kept, round_lowered}
 use Rattle.graph_model.proofs.cores.lower_once.Goals.{then-supports-vertex, else-supports-vertex}
 use Rattle.graph_model.proofs.cores.lower_once.Goals as goal
 

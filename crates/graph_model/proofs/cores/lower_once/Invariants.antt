@@ -1,4 +1,4 @@
-use Rattle.graph_model.proofs.Rounds.{IsRound}
+use Rattle.graph_types.proofs.Rounds.{IsRound}
 use Rattle.graph_model.proofs.cores.lower_once.Given as goal
 
 abbrev pub invariant-loop-vertex : goal.invariant-loop-vertex

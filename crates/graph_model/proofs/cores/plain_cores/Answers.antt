@@ -4,7 +4,8 @@ use Rattle.std.specs.{Prelude.All, Prelude.count_by, Prelude.replicate, declared
 use Rattle.graph_types.specs.Limits.{most_names}
 use Rattle.graph_types.specs.{Graph.graph_of, Analyses.AreCoreNumbers, Arcs.at, Arcs.AreUpper}
 use Rattle.graph_model.{specs.Links.supports, proofs.Links.joined_within, proofs.Links.first_upper}
-use Rattle.graph_model.proofs.{Links.more_upper, Links.cores_done, Links.cores_few, cores.plain_cores.Goals.{After-lower_once, After-deref-3}}
+use Rattle.graph_model.proofs.{Links.{more_upper, cores_done, cores_few}, cores.plain_cores.Goals.After-lower_once}
+use Rattle.graph_model.proofs.cores.plain_cores.Goals.{After-deref-3}
 use Rattle.graph_model.proofs.cores.plain_cores.Goals as goal
 
 pub rounds-init : goal.rounds-init

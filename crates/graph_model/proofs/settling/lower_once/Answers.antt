@@ -1,5 +1,5 @@
 use Rattle.std.proofs.Common.{ℕ, arith}
-use Rattle.graph_model.proofs.Rounds.{arc_round_kept, arc_round_lowered, arc_round_closed}
+use Rattle.graph_types.proofs.Rounds.{arc_round_kept, arc_round_lowered, arc_round_closed}
 use Rattle.graph_model.proofs.settling.lower_once.Goals.{then-number-numbers, else-number-numbers}
 use Rattle.graph_model.proofs.settling.lower_once.Goals as goal
 

@@ -1,4 +1,4 @@
-use Rattle.graph_model.proofs.Rounds.{IsArcRound}
+use Rattle.graph_types.proofs.Rounds.{IsArcRound}
 use Rattle.graph_model.proofs.settling.lower_once.Given as goal
 
 abbrev pub invariant-loop-arc : goal.invariant-loop-arc

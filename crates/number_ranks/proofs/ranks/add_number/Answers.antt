@@ -1,7 +1,8 @@
 use Rattle.std.proofs.Common.{◌≡◌, ◌-◌, ℕ, List, length, arith, ap, sym, refl, ◌∙◌, Some}
 use Rattle.std.{proofs.lemmas.Option.slice_get-map, specs.{Prelude.slice_get, Option.option_map}}
 use Rattle.graph_types.specs.declared.ids.VertexId.{VertexId}
-use Rattle.number_ranks.{specs.Sorting.ranked_numbers, proofs.Vertices.{number_of, stays, new_last, is_equal}}
+use Rattle.number_ranks.{specs.Sorting.ranked_numbers, proofs.Vertices.{stays, new_last}}
+use Rattle.graph_types.proofs.Vertices.{number_of, is_equal}
 use Rattle.number_ranks.proofs.ranks.add_number.Goals as goal
 
 pub returns-in_ok-push-clause-kept : goal.returns-in_ok-push-clause-kept

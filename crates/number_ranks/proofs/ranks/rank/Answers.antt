@@ -1,7 +1,8 @@
 use Rattle.std.proofs.Common.{◌≡◌, ◌≢◌, ◌<◌, ◌-◌, ◌==◌, ℕ, Bool, List, length, get_or, set, Some, nat_eq, true, false, arith, ap}
 use Rattle.std.proofs.Common.{sym, refl, subst, ◌∙◌, inl, inr}
 use Rattle.std.proofs.lemmas.{Bool.{eqb-true, eqb-false, eq-eqb}, Map.Keys.any_passes_from_place}
-use Rattle.std.proofs.lemmas.List.{length-set, get_or-set_same, get_or-set_other, get_or_default, Folds.{list_any_at, Any-from_list_any}}
+use Rattle.std.proofs.lemmas.List.{length-set, get_or-set_same, get_or-set_other, get_or_default, Folds.list_any_at}
+use Rattle.std.proofs.lemmas.List.Folds.{Any-from_list_any}
 use Rattle.std.proofs.lemmas.Option.{slice_get_within, get_or_from_slice_get, slice_get-get_or}
 use Rattle.std.specs.{Prelude.slice_get, List.list_any}
 use Rattle.number_ranks.specs.{Sorting.{ranked_numbers, entry_at}, declared.counting.Entry.Entry}

@@ -1,4 +1,4 @@
-use Rattle.version_columns.proofs.NameTexts.{no_text_not_listed}
+use Rattle.graph_types.proofs.NameTexts.{no_text_not_listed}
 use Rattle.version_columns.proofs.lookups.number_in.Goals as goal
 
 pub returns-in-Err : goal.returns-in-Err

@@ -1,5 +1,6 @@
 use Rattle.std.proofs.Common.{◌≡◌, ◌∙◌, ◌<◌, ℕ, List, length, refl, sym, ap, nat_eq}
-use Rattle.std.{proofs.lemmas.Result.{on_ok_weaker, on_err_weaker}, specs.{Map.lookup, declared.{sync.Arc.Arc, alloc.Global.Global}}}
+use Rattle.std.{proofs.lemmas.Result.{on_ok_weaker, on_err_weaker}, specs.{Map.lookup, declared.sync.Arc.Arc}}
+use Rattle.std.specs.declared.alloc.Global.{Global}
 use Rattle.vertex_names.specs.{declared.piece.Piece.Piece, Order.firsts, Order.last_place}
 use Rattle.vertex_names.proofs.{Parts.{with_number, with_number-other}, Splits.{set_lows, set_changed}}
 use Rattle.vertex_names.proofs.part.put_at.Goals as goal

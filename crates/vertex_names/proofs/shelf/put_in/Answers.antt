@@ -1,4 +1,5 @@
-use Rattle.std.proofs.Common.{◌≡◌, ◌≢◌, ◌∙◌, ℕ, List, ap, inl, inr, get_or, rules, ◌<◌, ◌%◌, ◌/◌, [], length, arith, Option, refl, sym}
+use Rattle.std.proofs.Common.{◌≡◌, ◌≢◌, ◌∙◌, ℕ, List, ap, inl, inr, get_or, rules, ◌<◌, ◌%◌, ◌/◌, [], length, arith, Option, refl}
+use Rattle.std.proofs.Common.{sym}
 use Rattle.std.proofs.{Common.{map, set}, Math.Seq.map-set_same, lemmas.Result.{IfErr-at_err, on_ok_weaker, on_err_weaker}}
 use Rattle.std.specs.{Arc.arc_value, Result.IsOk, declared.sync.Arc.Arc, declared.alloc.Global.Global}
 use Rattle.vertex_names.specs.{declared.part.Part.Part, Order.found_in, Shelves.found_on}

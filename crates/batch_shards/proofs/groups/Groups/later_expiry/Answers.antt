@@ -1,7 +1,8 @@
 use Rattle.std.proofs.Common.{ℕ, List, length, sym, ap, ◌∙◌, subst, arith, rules, leb, leb-true}
 use Rattle.std.proofs.lemmas.List.Sorted.{IsPartitionPoint-from_clause, IsPartitionedBy-leb, IsNonDecreasingBy-from_default}
 use Rattle.std.proofs.lemmas.Grind.{get_or_default_zero}
-use Rattle.batch_shards.{specs.{Groups.{is_expiry, IsNextStep}, Spending.AreTimesReached}, proofs.Young.{reached_rises, leads_later}}
+use Rattle.batch_shards.{specs.{Groups.{is_expiry, IsNextStep}, Spending.AreTimesReached}, proofs.Young.reached_rises}
+use Rattle.batch_shards.proofs.Young.{leads_later}
 use Rattle.batch_shards.proofs.groups.Groups.later_expiry.Goals as goal
 
 pub returns : goal.returns

@@ -2,7 +2,7 @@ use Rattle.std.proofs.Common.{◌∙◌, ap, set, sym, subst, refl, take, arith}
 use Rattle.std.proofs.{Math.ListN.length-set, lemmas.{List.take_more_set, Bool.true≢false}}
 use Rattle.block_reclamation.specs.{declared.status.BlockStatus.TheVariants.Free, Status.{is_free, is_retired}}
 use Rattle.block_pool.specs.{Kept.{statuses, Lists}, Paging.Paged}
-use Rattle.block_pool.proofs.{Tallies.lists_more, Tallies.used_at, Tallies.count_kept, Grants.free_places, Stacking.sorted_set, Rooms.roomy_set}
+use Rattle.block_pool.proofs.{Tallies.{lists_more, used_at, count_kept}, Grants.free_places, Stacking.sorted_set, Rooms.roomy_set}
 use Rattle.block_pool.proofs.numbers.Numbers.give_back.Goals as goal
 
 pub set-requires : goal.set-requires

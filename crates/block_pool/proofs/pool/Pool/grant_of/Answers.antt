@@ -1,5 +1,6 @@
 use Rattle.std.proofs.Common.{◌≡◌, ℕ, List, ◌∙◌, ◌≤◌, length, sym, ap, ap₂, subst, count_by, arith}
-use Rattle.block_pool.specs.{declared.numbers.Numbers.Numbers, Pools.{AreFree, AreBodies, marked}, Kept.{statuses, popped, IsRoomier}, Paging.HasRoom}
+use Rattle.block_pool.specs.{declared.numbers.Numbers.Numbers, Pools.{AreFree, AreBodies, marked}, Kept.{statuses, popped}}
+use Rattle.block_pool.specs.{Kept.IsRoomier, Paging.HasRoom}
 use Rattle.block_reclamation.specs.{declared.status.BlockStatus.TheVariants.Granted, Status.is_free}
 use Rattle.block_pool.proofs.{Grants.{free_listed, popped_free, popped_at, length-popped, length-marked}, Rooms.room_for_marked}
 use Rattle.block_pool.proofs.pool.Pool.grant_of.Goals as goal

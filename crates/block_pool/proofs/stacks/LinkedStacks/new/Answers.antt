@@ -1,5 +1,5 @@
 use Rattle.std.proofs.Common.{◌∙◌, length, map, sym, ap, subst, arith}
-use Rattle.block_pool.{specs.Chains.{chain_of, AreStacksWithin}, proofs.Links.{map_empty, empty_within}, proofs.Paging.length-by_place}
+use Rattle.block_pool.{specs.Chains.{chain_of, AreStacksWithin}, proofs.{Links.{map_empty, empty_within}, Paging.length-by_place}}
 use Rattle.block_pool.proofs.stacks.LinkedStacks.new.Goals as goal
 
 pub invariant_of-result : goal.invariant_of-result

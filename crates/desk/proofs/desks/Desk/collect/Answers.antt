@@ -2,8 +2,10 @@ use Rattle.std.proofs.Common.{◌≡◌, ℕ, ◌≤◌, length, sym, ap, subst,
 use Rattle.std.{proofs.lemmas.Grind.common_steps, specs.Arc.arc_value}
 use Rattle.graph_version.specs.declared.versions.Version.{Version}
 use Rattle.block_reclamation.specs.Status.{is_reclaimable, is_retired}
-use Rattle.store_steps.{specs.{Desks.{DeskView, IsCollected, births_in}, Steps.{TakesAt, recycling}}, proofs.Collecting.collected_takes}
-use Rattle.store_steps.proofs.CollectedDesk.{past_and_left, is_collected, births_collected, desk_collected}
+use Rattle.store_steps.specs.{Desks.{DeskView, IsCollected, births_in}, Steps.{TakesAt, recycling}}
+use Rattle.store_steps.proofs.Collecting.{collected_takes}
+use Rattle.block_pool.proofs.CollectedDesk.{past_and_left}
+use Rattle.store_steps.proofs.CollectedDesk.{is_collected, births_collected, desk_collected}
 use Rattle.desk.{specs.{Kept.{IsKeptDesk, desk_in, desk_of}, declared.desks.Parts.Parts}, proofs.Collections.collection_kept}
 use Rattle.desk.proofs.desks.Desk.collect.Goals.{After-recycle-recycled, After-enter_collection}
 use Rattle.desk.proofs.desks.Desk.collect.Goals as goal

@@ -1,5 +1,6 @@
 use Rattle.std.proofs.Common.{◌∙◌, sym, ap, length}
-use Rattle.edge_block.proofs.{KeptColumns.block_of_columns, Places.length-slots_of, Ranges.lent_in_range, Views.lent_within, Views.lent_none, Views.lent_few}
+use Rattle.edge_block.proofs.{KeptColumns.block_of_columns, Places.length-slots_of, Ranges.lent_in_range, Views.lent_within}
+use Rattle.edge_block.proofs.Views.{lent_none, lent_few}
 use Rattle.edge_block.proofs.blocks.Block.places_of.Goals as goal
 
 pub returns-then-takes-clause-lends : goal.returns-then-takes-clause-lends

@@ -2,7 +2,8 @@ use Rattle.std.proofs.{Common.{◌≡◌, [], ap, map, arith, refl, length}, lem
 use Rattle.std.specs.Int.{w32, RustNames.bit_and}
 use Rattle.lane_scan.specs.Masks.{selected}
 use Rattle.edge_block.specs.{Slots.edge_slot, Slots.edges_in, Lending.lent_in}
-use Rattle.edge_block.proofs.{Places.not_free_at, Views.{edges_none, edges_next, due_lives, due_fits, lent_next}}
+use Rattle.edge_block.proofs.{Places.not_free_at, Views.{edges_none, edges_next, due_fits, lent_next}}
+use Rattle.lane_scan.proofs.Views.{due_lives}
 use Rattle.edge_block.proofs.blocks.BlockIterIterator.next.Goals as goal
 
 pub returns-then-due-eq0-clause-steps : goal.returns-then-due-eq0-clause-steps

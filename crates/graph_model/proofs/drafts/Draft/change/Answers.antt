@@ -3,8 +3,9 @@ use Rattle.std.{proofs.Common.{◌≡◌, ◌≤◌, ◌∙◌, ℕ, List, lengt
 use Rattle.std.proofs.lemmas.Grind.{common_steps}
 use Rattle.graph_types.specs.{Graph.{graph_in, map_of}, Step.{number_of, changed_key}, Changes.option_stamp}
 use Rattle.graph_types.proofs.NameNumbers.{number_at_most}
-use Rattle.graph_model.{specs.Drafts.{shown_by, shown_key, edge_with}, proofs.OneOperation.{IsApplied, AreMarks-found}}
-use Rattle.graph_model.proofs.OneOperation.{graph_in-applied, IsContentIn-applied}
+use Rattle.graph_model.specs.Drafts.{shown_by, shown_key, edge_with}
+use Rattle.graph_types.proofs.OneOperation.{IsApplied, AreMarks-found}
+use Rattle.graph_types.proofs.OneOperation.{graph_in-applied, IsContentIn-applied}
 use Rattle.graph_model.proofs.drafts.Draft.change.Goals as goal
 
 at_most : (read names : List (List ℕ)) (name : List ℕ) (number : ℕ) → number ≡ number_of read name → read ≡ names

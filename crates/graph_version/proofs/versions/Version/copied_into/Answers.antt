@@ -2,7 +2,8 @@ use Rattle.std.{proofs.Common.{◌≡◌, ◌∙◌, List, map, sym, ap, subst, 
 use Rattle.edge_block.specs.declared.blocks.Block.{Block}
 use Rattle.version_pages.specs.{Rows.blocks_of, Rows.numbers_of, Sharing.block_values}
 use Rattle.graph_version.specs.{Versions.VersionView, Rebased.AreCopies, Rebased.unnumbered}
-use Rattle.graph_version.proofs.Rebased.{written, numbers_long, mapped_numbers, all_copied}
+use Rattle.graph_version.proofs.Rebased.{written, all_copied}
+use Rattle.version_pages.proofs.Rebased.{numbers_long, mapped_numbers}
 use Rattle.graph_version.proofs.versions.Version.copied_into.Goals as goal
 
 pub returns : goal.returns

@@ -8,7 +8,8 @@ use base.Fml.{ftrue, flft}
 use base.Fraction.{full_share}
 use base.Logic.{guard_i}
 use types.Logic.{sem}
-use types.Kit.{‵, raw, given, ◌⊛◌, ◌$◌, ◌∵◌, !, qed, done, move, keep, use1, split, join, fsplit, fsplit3, fjoin, feq_i, learn, rewrite, suffices, frame, group}
+use types.Kit.{‵, raw, given, ◌⊛◌, ◌$◌, ◌∵◌, !, qed, done, move, keep, use1, split, join, fsplit, fsplit3, fjoin, feq_i, learn}
+use types.Kit.{rewrite, suffices, frame, group}
 use types.Part.{whole, sub, look_in}
 use types.Run.{enter, of_opd, lit, bin, load, stop, fld, returns}
 use types.ByLocal.{alloc_all, pass_all, free_all, look_at, get, through, sets, is}

@@ -15,7 +15,8 @@ use base.Logic.{SProp, ent, sep, id⊢}
 use base.Fml.{ftrue, fsep, flft}
 use contract.BorrowLft.{◌⊑◌}
 use prog.Wp.{WpFn}
-use types.Kit.{Item, ‵, raw, ◌⊛◌, some, later, at_ret, ◌$◌, ◌∵◌, !, qed, by, move, drop, use1, split, split3, join, fsplit, fjoin, feq_i, pick, suffices, await, done}
+use types.Kit.{Item, ‵, raw, ◌⊛◌, some, later, at_ret, ◌$◌, ◌∵◌, !, qed, by, move, drop, use1, split, split3, join, fsplit, fjoin}
+use types.Kit.{feq_i, pick, suffices, await, done}
 use types.Part.{whole, sub}
 use types.Run.{enter, of_opd, stop, fld, no_more, and_then, first, blocks, exec, returns}
 use types.ByLocal.{alloc_all, pass_all, free_all, look_at, get, get_in, sets, lands_last, env}

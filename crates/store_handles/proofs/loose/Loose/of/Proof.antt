@@ -13,7 +13,8 @@ use mir.Val.{Val}
 use base.Logic.{SProp, ent, sep, id⊢}
 use base.Fml.{ftrue, fsep, flft}
 use prog.Wp.{WpFn}
-use types.Kit.{Item, ‵, raw, ◌⊛◌, some, later, ◌$◌, ◌∵◌, !, qed, move, drop, use1, split, split3, join, fjoin, pick, rewrite, suffices, await, done}
+use types.Kit.{Item, ‵, raw, ◌⊛◌, some, later, ◌$◌, ◌∵◌, !, qed, move, drop, use1, split, split3, join, fjoin, pick, rewrite}
+use types.Kit.{suffices, await, done}
 use types.Part.{whole, sub, agg}
 use types.Run.{enter, of_opd, stop, fld, no_more, and_then, returns}
 use types.ByLocal.{alloc_all, pass_all, free_all, look_at, get, get_in, sets, lands_as}

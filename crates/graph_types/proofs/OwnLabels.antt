@@ -1,12 +1,11 @@
 -- As many vertices are their own label as there are different labels.
 use Rattle.std.proofs.Common.{◌≡◌, ◌≢◌, ℕ, ◌+◌, ◌<◌, ◌≤◌, zero, suc, List, [], ◌∷◌, ◌++◌, Bool, true, false, cond, ◌||◌, length}
-use Rattle.std.proofs.Common.{map, get_or, bytes_eq, fold, zip, count_by, arith, refl, sym, ◌∙◌, ap, inl, inr}
-use Rattle.std.proofs.lemmas.{Bool.{cases_lt, false≢true}, Option.slice_get-get_or, Slice.Eq.bytes_eq-Decides, List.length-append}
-use Rattle.std.proofs.{lemmas.List.{Folds.list_any-append, Sums.sum_by-cons}, Math.Nat.eq-or-lt_of_le}
-use Rattle.std.specs.{Prelude.◌⊎◌, Prelude.AllPairs, List.list_any, List.range_with_len}
-use Rattle.graph_types.specs.{Analyses.{AreLabels, IsLabel, Joins}, Answer.names_of_vertices, Graph.Graph, Step.with_name}
-use Rattle.graph_types.{specs.declared.ids.Filter.Filter, proofs.{NameLists.{appears-with_name, stays-with_name}, Walks.joined}}
-use Rattle.script_lines.specs.Lines.{count_different}
+use Rattle.std.proofs.{Common.{map, bytes_eq, fold, count_by, arith, refl, sym, ◌∙◌, ap, inl, inr}, lemmas.Bool.false≢true}
+use Rattle.std.proofs.lemmas.{Slice.Eq.bytes_eq-Decides, List.{length-append, Folds.list_any-append, Sums.sum_by-cons}}
+use Rattle.std.proofs.Math.Nat.{eq-or-lt_of_le}
+use Rattle.std.specs.{Prelude.◌⊎◌, List.{list_any, range_with_len}}
+use Rattle.graph_types.specs.{Analyses.{IsLabel, Joins}, Graph.Graph, Step.with_name, declared.ids.Filter.Filter}
+use Rattle.graph_types.proofs.{NameLists.{appears-with_name, stays-with_name}, Walks.joined}
 
 -- every label is that of itself, and no vertex has a greater one; vertices have different names
 record AreOwn (total : ℕ) (label : ℕ → ℕ) (name : ℕ → List ℕ) : Type 0 where
@@ -20,7 +19,7 @@ record Seen (label : ℕ → ℕ) (name : ℕ → List ℕ) (v : ℕ) (seen : Li
   each : (w : ℕ) → w < v → list_any (bytes_eq (name (label w))) seen ≡ true
 
 -- a name that is listed behind an addition stood there before, or is the one that was added
-with_name-listed : (names : List (List ℕ)) (name n : List ℕ) → list_any (bytes_eq n) (with_name names name) ≡ true
+pub with_name-listed : (names : List (List ℕ)) (name n : List ℕ) → list_any (bytes_eq n) (with_name names name) ≡ true
     → (list_any (bytes_eq n) names ≡ true) ⊎ (n ≡ name)
 with_name-listed names name n listed = go (list_any (bytes_eq name) names) refl listed
   where
@@ -35,7 +34,7 @@ with_name-listed names name n listed = go (list_any (bytes_eq name) names) refl 
     go false is h = split (list_any (bytes_eq n) names) (bytes_eq n name) refl
         (sym (list_any-append (bytes_eq n) names (name ∷ [])) ∙ h)
 
-seen_more : (label : ℕ → ℕ) (name : ℕ → List ℕ) (v : ℕ) (seen : List (List ℕ)) → Seen label name v seen
+pub seen_more : (label : ℕ → ℕ) (name : ℕ → List ℕ) (v : ℕ) (seen : List (List ℕ)) → Seen label name v seen
     → Seen label name (v + 1) (with_name seen (name (label v)))
 seen_more label name v seen before = record {
   from = λ n listed. elim (with_name-listed seen (name (label v)) n listed) [
@@ -46,12 +45,9 @@ seen_more label name v seen before = record {
     | inl same ↦ rw same (appears-with_name seen (name (label v)))
     | inr less ↦ stays-with_name seen (name (label v)) (name (label w)) (before.each w less)
   ];
-} where
-  at_most : (w : ℕ) → w < v + 1 → w ≤ v
-  at_most w below = omega arith
 
 -- a label that wasn't seen is that of its own vertex
-grown : (total : ℕ) (label : ℕ → ℕ) (name : ℕ → List ℕ) (v : ℕ) (seen : List (List ℕ)) → AreOwn total label name → v < total
+pub grown : (total : ℕ) (label : ℕ → ℕ) (name : ℕ → List ℕ) (v : ℕ) (seen : List (List ℕ)) → AreOwn total label name → v < total
     → Seen label name v seen
     → length (with_name seen (name (label v))) ≡ length seen + cond (bytes_eq (name v) (name (label v))) 1 0
 grown total label name v seen are within before =
@@ -91,13 +87,13 @@ grown total label name v seen are within before =
     go false other true listed = omega arith
     go false other false listed = absurd (never (is_lower other) listed)
 
-abbrev row : (ℕ → ℕ) → (ℕ → List ℕ) → ℕ → List ℕ × List ℕ
+abbrev pub row : (ℕ → ℕ) → (ℕ → List ℕ) → ℕ → List ℕ × List ℕ
 row label name v = (name v, name (label v))
 
-one_more : (all old new own more both : ℕ) → new ≡ old + own → all ≡ new + more → both ≡ own + more → all ≡ old + both
+pub one_more : (all old new own more both : ℕ) → new ≡ old + own → all ≡ new + more → both ≡ own + more → all ≡ old + both
 one_more all old new own more both first rest sums = omega arith
 
-counted : (total : ℕ) (label : ℕ → ℕ) (name : ℕ → List ℕ) → AreOwn total label name → (v n : ℕ) (seen : List (List ℕ))
+pub counted : (total : ℕ) (label : ℕ → ℕ) (name : ℕ → List ℕ) → AreOwn total label name → (v n : ℕ) (seen : List (List ℕ))
     → v + n ≤ total → Seen label name v seen
     → length (fold with_name seen (map (λ entry. entry.1) (map (row label name) (range_with_len v n))))
     ≡ length seen + count_by (λ entry. bytes_eq entry.0 entry.1) (map (row label name) (range_with_len v n))
@@ -110,74 +106,10 @@ counted total label name are v (suc n) seen within before =
     (map (row label name) (range_with_len (v + 1) n)) in
     one_more _ _ _ _ _ _ first rest sums
 
--- the rows of the vertices from one on, in number order
-rows_from : (label : ℕ → ℕ) (name : ℕ → List ℕ) (v : ℕ) (names : List (List ℕ)) (labels : List ℕ) → length labels ≡ length names
-    → ((k j : ℕ) → j ≡ v + k → k < length names → get_or names k [] ≡ name j)
-    → ((k j : ℕ) → j ≡ v + k → k < length names → get_or labels k 0 ≡ label j)
-    → zip names (map name labels) ≡ map (row label name) (range_with_len v (length names))
-rows_from label name v [] labels long are label_is = refl
-rows_from label name v (n ∷ names) [] long are label_is = absurd (omega (arith, long))
-rows_from label name v (n ∷ names) (l ∷ labels) long are label_is =
-    let first : n ≡ name v = are 0 v (omega arith) (omega arith) in
-    let second : l ≡ label v = label_is 0 v (omega arith) (omega arith) in
-    let rest : zip names (map name labels) ≡ map (row label name) (range_with_len (v + 1) (length names)) =
-    rows_from label name (v + 1) names labels (omega (arith, long))
-    (λ k j is below. are (suc k) j (omega arith) (omega arith))
-    (λ k j is below. label_is (suc k) j (omega arith) (omega arith)) in
-    ap (λ xs. (n, name l) ∷ xs) rest ∙ ap (λ x. (x, name l) ∷ map (row label name) (range_with_len (v + 1) (length names))) first
-    ∙ ap (λ u. (name v, name u) ∷ map (row label name) (range_with_len (v + 1) (length names))) second
-
 -- the label of a label is that label
-own_label : (f : Filter) (g : Graph) (v u w : ℕ) → IsLabel f g v u → IsLabel f g u w → w ≡ u
+pub own_label : (f : Filter) (g : Graph) (v u w : ℕ) → IsLabel f g v u → IsLabel f g u w → w ≡ u
 own_label f g v u w of_v of_u =
     let through = joined (Joins f g) of_u.0.0 of_v.0.0 w u v of_u.0.1 of_v.0.1 in
     let above = of_v.1 w through in
     let below = of_u.1 u (0, refl) in
     omega (arith, above, below)
-
--- of the labels of all vertices, as many are different as vertices are their own label
-pub own_labels : (f : Filter) (g : Graph) (labels : List ℕ) → AllPairs (λ a b. a ≢ b) g.names → AreLabels f g labels
-    → count_by (λ entry. bytes_eq entry.0 entry.1) (zip g.names (names_of_vertices g.names labels))
-    ≡ count_different (map (λ entry. entry.1) (zip g.names (names_of_vertices g.names labels)))
-own_labels f g labels distinct table =
-    rw (rows_from label name 0 g.names labels table.one_each (λ k j is below. ap name (place k j is))
-    (λ k j is below. ap label (place k j is)))
-    (nothing_before _ _ (counted (length g.names) label name are 0 (length g.names) [] (omega arith) none))
-  where
-    nothing_before : (a b : ℕ) → a ≡ 0 + b → b ≡ a
-    nothing_before a b same = omega arith
-
-    place : (k j : ℕ) → j ≡ 0 + k → k ≡ j
-    place k j is = omega arith
-
-    label : ℕ → ℕ
-    label v = get_or labels v 0
-
-    name : ℕ → List ℕ
-    name v = get_or g.names v []
-
-    is_label : (v : ℕ) → v < length g.names → IsLabel f g v (label v)
-    is_label v within = table.each v (label v) (slice_get-get_or labels v 0 (omega (arith, table.one_each)))
-
-    most : (v : ℕ) → v < length g.names → label v ≤ v
-    most v within = (is_label v within).1 v (0, refl)
-
-    apart : (a b : ℕ) → a < length g.names → b < length g.names → name a ≡ name b → a ≡ b
-    apart a b a_within b_within same = elim (cases_lt a b) [
-      | inl less ↦ absurd (distinct a b [] less b_within same)
-      | inr least ↦ elim (cases_lt b a) [
-        | inl less ↦ absurd (distinct b a [] less a_within (sym same))
-        | inr other ↦ omega arith
-      ]
-    ]
-
-    are : AreOwn (length g.names) label name
-    are = record {
-      different = apart;
-      least = most;
-      own = λ v within. own_label f g v (label v) (label (label v)) (is_label v within)
-          (is_label (label v) (let below = most v within in omega arith));
-    }
-
-    none : Seen label name 0 []
-    none = record { from = λ n listed. absurd (false≢true listed); each = λ w below. absurd (omega arith) }

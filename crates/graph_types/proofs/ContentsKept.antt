@@ -1,51 +1,52 @@
 -- What valid operations leave of a content is a content, where they leave no more names and kinds than the limits.
 use Rattle.std.proofs.Common.{◌≡◌, ℕ, ◌≤◌, List, [], ◌∷◌, ◌++◌, true, false, length, Option, Some, None, option_map}
-use Rattle.std.proofs.{Common.{option_to_list, IfSome, All, ℤ, refl, sym, ap, subst, arith, cond, Bool, not, ◌&&◌}, lemmas.Bool.{true≢false, Decides.nat_tests}}
-use Rattle.std.{proofs.lemmas.List.Elements.{All-head, All-tail}, specs.{FinMap.get, Prelude.◌+ℤ◌}}
-use Rattle.graph_types.specs.{Limits.{IsWeight, IsTime, is_weight, is_weight_in, is_time, LimitsView, AreLimits}, Graph.{Graph, Key, Stamp}}
-use Rattle.graph_types.specs.{Graph.{stamp_of, map_of, graph_in, without, content_of, IsAt, IsContent, IsContentIn}, Changes.AreMarks}
-use Rattle.graph_types.specs.{Changes.{AllowsUpTo, IsChange, option_stamp}, Step.{names_made, kinds_made, changed_key, changed}}
-use Rattle.graph_types.{specs.Step.{overflows, stamp_put, stamp_after}, proofs.WeightsKept.weight_in}
-use Rattle.graph_types.specs.{Step.{later, after, after_all}, Valid.IsValid, declared.ids.Edge.Edge}
-use Rattle.graph_types.specs.declared.changes.EdgeChange.{EdgeChange, TheVariants.{Insert as ToInsert, Incr as ToIncr}}
-use Rattle.graph_types.specs.declared.changes.{EdgeChange.TheVariants.Remove as ToRemove, EdgeMarks.EdgeMarks}
+use Rattle.std.proofs.Common.{option_to_list, IfSome, All, ℤ, refl, sym, ap, subst, arith, cond, Bool, not, ◌&&◌}
+use Rattle.std.proofs.lemmas.{Bool.{true≢false, Decides.nat_tests}, List.Elements.{All-head, All-tail}}
+use Rattle.std.specs.{FinMap.get, Prelude.◌+ℤ◌}
+use Rattle.graph_types.specs.{Limits.{IsWeight, IsTime, is_weight, is_weight_in, is_time, LimitsView, AreLimits}, Graph.Graph}
+use Rattle.graph_types.specs.Graph.{Key, Stamp, stamp_of, map_of, graph_in, without, content_of, IsAt, IsContent, IsContentIn}
+use Rattle.graph_types.specs.{Changes.{AreMarks, AllowsUpTo, IsChange, option_stamp}, Step.{names_made, kinds_made, changed_key}}
+use Rattle.graph_types.specs.{Step.{changed, overflows, stamp_put, stamp_after, later, after, after_all}, Valid.IsValid}
+use Rattle.graph_types.specs.declared.{ids.Edge.Edge, changes.EdgeChange.{EdgeChange, TheVariants.Insert as ToInsert}}
+use Rattle.graph_types.specs.declared.changes.{EdgeChange.TheVariants.{Incr as ToIncr, Remove as ToRemove}, EdgeMarks.EdgeMarks}
 use Rattle.graph_types.specs.declared.batches.NamedOp.{NamedOp, TheVariants.{Insert, Incr, Remove, Expire}}
 use Rattle.graph_types.specs.declared.contents.Content.{Content}
-use Rattle.graph_types.proofs.{Expiry.map_of-later, NameLists.length-after_all-names, NameLists.length-after_all-kinds}
-use Rattle.graph_model.proofs.OneOperation.{AreMarks-found, IsApplied, IsContentIn-applied, IsContentIn-later, graph_in-applied}
+use Rattle.graph_types.proofs.{WeightsKept.weight_in, Expiry.map_of-later, NameLists.length-after_all-names}
+use Rattle.graph_types.proofs.{NameLists.length-after_all-kinds, OneOperation.{AreMarks-found, IsApplied, IsContentIn-applied}}
+use Rattle.graph_types.proofs.OneOperation.{IsContentIn-later, graph_in-applied}
 
 -- the marks that a stamp shows
-abbrev marks_of : Stamp → EdgeMarks
+abbrev pub marks_of : Stamp → EdgeMarks
 marks_of s = record { weight = s.weight; first = s.first; recent = s.recent }
 
-same_stamp : (o : Option Stamp) → option_stamp (option_map marks_of o) ≡ o
+pub same_stamp : (o : Option Stamp) → option_stamp (option_map marks_of o) ≡ o
 same_stamp None = refl
 same_stamp (Some s) = refl
 
 -- a stamp of a weight and times in range
-abbrev InRange : Stamp → Type 0
+abbrev pub InRange : Stamp → Type 0
 InRange s = AreMarks (marks_of s)
 
-stamps_in_range : (o : Option Stamp) → IfSome (option_map marks_of o) AreMarks → IfSome o InRange
+pub stamps_in_range : (o : Option Stamp) → IfSome (option_map marks_of o) AreMarks → IfSome o InRange
 stamps_in_range None are = tt
 stamps_in_range (Some s) are = are
 
-found_in_range : (c : Content) (key : Key) → IsContent c → IfSome (get (map_of c.edges) key) InRange
+pub found_in_range : (c : Content) (key : Key) → IsContent c → IfSome (get (map_of c.edges) key) InRange
 found_in_range c key is =
     stamps_in_range (get (map_of c.edges) key)
     (AreMarks-found c key (option_map marks_of (get (map_of c.edges) key)) is (same_stamp (get (map_of c.edges) key)))
 
-weight_fits : (w : ℤ) → is_weight w ≡ true → IsWeight w
+pub weight_fits : (w : ℤ) → is_weight w ≡ true → IsWeight w
 weight_fits w is = grind (arith, nat_tests)
 
 -- the sum is within the most that the change allows
-second_of : (a b : Bool) → not (a && b) ≡ false → b ≡ true
+pub second_of : (a b : Bool) → not (a && b) ≡ false → b ≡ true
 second_of a true h = refl
 second_of true false h = absurd (true≢false h)
 second_of false false h = absurd (true≢false h)
 
 -- what a change leaves at a key is in range
-put_in_range : (change : EdgeChange) (before : Option Stamp) → IsChange change → overflows change before ≡ false
+pub put_in_range : (change : EdgeChange) (before : Option Stamp) → IsChange change → overflows change before ≡ false
     → IfSome before InRange → IfSome (stamp_put change before) InRange
 put_in_range (ToInsert weight time most) None fits within was = record { weight = fits.0; first = fits.1; recent = fits.1 }
 put_in_range (ToInsert weight time most) (Some e) fits within was = record { weight = fits.0; first = was.first; recent = fits.1 }
@@ -56,7 +57,7 @@ put_in_range (ToIncr amount time most) (Some e) fits within was =
     record { weight = omega (arith, sum, most_is); first = was.first; recent = fits.1 }
 put_in_range ToRemove before fits within was = tt
 
-after_in_range : (change : EdgeChange) (before : Option Stamp) → IsChange change → IfSome before InRange
+pub after_in_range : (change : EdgeChange) (before : Option Stamp) → IsChange change → IfSome before InRange
     → IfSome (stamp_after change before) InRange
 after_in_range change before fits was =
     elim (overflows change before) as (λ b. overflows change before ≡ b
@@ -66,7 +67,7 @@ after_in_range change before fits was =
     ] refl
 
 -- an edge at a key
-abbrev edge_at : Key → Stamp → Edge
+abbrev pub edge_at : Key → Stamp → Edge
 edge_at key s = record {
   kind = record { 0 = key.kind };
   source = record { 0 = key.source };
@@ -74,13 +75,12 @@ edge_at key s = record {
   weight = s.weight;
   first = s.first;
   recent = s.recent;
-}
 
-stamps_put : (key : Key) (o : Option Stamp) → option_map stamp_of (option_map (edge_at key) o) ≡ o
+pub stamps_put : (key : Key) (o : Option Stamp) → option_map stamp_of (option_map (edge_at key) o) ≡ o
 stamps_put key None = refl
 stamps_put key (Some s) = refl
 
-put_there : (key : Key) (o : Option Stamp) → IfSome o InRange → IfSome (option_map (edge_at key) o) (IsAt key)
+pub put_there : (key : Key) (o : Option Stamp) → IfSome o InRange → IfSome (option_map (edge_at key) o) (IsAt key)
 put_there key None are = tt
 put_there key (Some s) are = record { key_is = refl; weight = are.weight; first = are.first; recent = are.recent }
 
@@ -88,7 +88,7 @@ put_there key (Some s) are = record { key_is = refl; weight = are.weight; first 
 abbrev pub HasContent : LimitsView → Graph → Type 0
 HasContent l g = (c : Content) × IsContentIn l c × (graph_in l c ≡ g)
 
-content_changed : (l : LimitsView) → AreLimits l → (change : EdgeChange) (kind source target : List ℕ) (c : Content)
+pub content_changed : (l : LimitsView) → AreLimits l → (change : EdgeChange) (kind source target : List ℕ) (c : Content)
     → IsContentIn l c → IsChange change → AllowsUpTo l.weight change → length (changed change kind source target (graph_in l c)).names ≤ l.names
     → length (changed change kind source target (graph_in l c)).kinds ≤ l.kinds
     → HasContent l (changed change kind source target (graph_in l c))
@@ -111,10 +111,10 @@ content_changed l are change kind source target c is fits up names kinds =
       graph_in-applied change kind source target c new key put step l,
     )
 
-time_fits : (time : ℕ) → is_time time ≡ true → IsTime time
+pub time_fits : (time : ℕ) → is_time time ≡ true → IsTime time
 time_fits time is = grind (arith, nat_tests)
 
-content_after : (l : LimitsView) → AreLimits l → (op : NamedOp) (c : Content) → IsContentIn l c → IsValid op
+pub content_after : (l : LimitsView) → AreLimits l → (op : NamedOp) (c : Content) → IsContentIn l c → IsValid op
     → length (after op (graph_in l c)).names ≤ l.names → length (after op (graph_in l c)).kinds ≤ l.kinds
     → HasContent l (after op (graph_in l c))
 content_after l are (Insert kind source target weight time) c is valid names kinds =
@@ -130,7 +130,6 @@ content_after l are (Expire time) c is valid names kinds = (
   IsContentIn-later l time c is,
   ap (λ edges. let g : Graph = record { names = c.names; kinds = c.kinds; edges = edges; limits = l } in g)
       (map_of-later time c.edges is.content.keys_distinct),
-)
 
 pub content_after_all : (l : LimitsView) → AreLimits l → (ops : List NamedOp) (c : Content) → IsContentIn l c → All IsValid ops
     → length (after_all ops (graph_in l c)).names ≤ l.names → length (after_all ops (graph_in l c)).kinds ≤ l.kinds

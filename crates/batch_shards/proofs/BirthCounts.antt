@@ -10,14 +10,6 @@ use Rattle.graph_version.specs.Versions.{is_in}
 
 -- Births
 
-pub in_left : (m : ℕ) (xs ys : List ℕ) → is_in m xs ≡ true → is_in m (xs ++ ys) ≡ true
-in_left m [] ys is = cc
-in_left m (x ∷ xs) ys is = grind (arith, common_steps)
-
-pub in_right : (m : ℕ) (xs ys : List ℕ) → is_in m ys ≡ true → is_in m (xs ++ ys) ≡ true
-in_right m [] ys is = is
-in_right m (x ∷ xs) ys is = grind (arith, common_steps, in_right m xs ys is)
-
 pub map_same : (h f : BlockView → ℕ) (bs : List BlockView) → All (λ b. h b ≡ f b) bs → map h bs ≡ map f bs
 map_same h f [] same = refl
 map_same h f (b ∷ bs) same = ap₂ (λ x xs. x ∷ xs) (All-head (λ b. h b ≡ f b) b bs same)

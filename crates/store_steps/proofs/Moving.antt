@@ -8,6 +8,12 @@ use Rattle.epoch_core.specs.{Worlds.{World, last_number}, Machine.{step, to_ente
 use Rattle.epoch_core.proofs.Lists.{set_same}
 use Rattle.store_steps.specs.Steps.{all_done}
 use Rattle.store_steps.proofs.Questions.{AreSilent, changed_to, then_done}
+use Rattle.std.proofs.{Common.{◌++◌, sym, arith}, lemmas.Grind.common_steps}
+use Rattle.std.specs.{Prelude.if◌then◌else◌, Option.option_map}
+use Rattle.block_reclamation.specs.{Status.is_among, declared.status.BlockStatus.BlockStatus}
+use Rattle.block_pool.specs.Pools.{marked, changed_numbers}
+use Rattle.epoch_core.specs.Blocks.{all_differ}
+use Rattle.store_steps.proofs.{ChangedLists.{marked_at, changed_at, same_list}, Counting.{times, is_some_times, in_times}}
 
 -- a session that is idle takes hold of the last version, and tells its number
 pub opening_done : (w : World) (s : ℕ) → slice_get w.sessions s ≡ Some Idle
@@ -42,3 +48,23 @@ closing_done w s hold found =
 
 pub silent_closing : (s : ℕ) → AreSilent (Release s ∷ [])
 silent_closing s w replies = (replies, refl, refl)
+
+-- a list with its last number first has each number as often
+pub turned_times : (m n : ℕ) (ns : List ℕ) → times m (ns ++ n ∷ []) ≡ times m (n ∷ ns)
+turned_times m n ns = grind (arith, common_steps)
+
+pub turned_in : (m n : ℕ) (ns : List ℕ) → is_among m (ns ++ n ∷ []) ≡ is_among m (n ∷ ns)
+turned_in m n ns = in_times m (ns ++ n ∷ []) ∙ ap is_some_times (turned_times m n ns) ∙ sym (in_times m (n ∷ ns))
+
+pub turned_marks : (n : ℕ) (ns : List ℕ) (s : BlockStatus) (pool : List BlockStatus) → marked ns s (set pool n s) ≡ marked (ns ++ n ∷ []) s pool
+turned_marks n ns s pool = same_list _ _ (λ m.
+    marked_at (n ∷ ns) s pool m
+    ∙ ap (λ t. if t then option_map (λ _. s) (slice_get pool m) else slice_get pool m) (sym (turned_in m n ns))
+    ∙ sym (marked_at (ns ++ n ∷ []) s pool m))
+
+pub turned_changes : (f : BlockStatus → BlockStatus) (n : ℕ) (ns : List ℕ) (pool : List BlockStatus) → all_differ (ns ++ n ∷ []) ≡ true
+    → all_differ (n ∷ ns) ≡ true → changed_numbers f (n ∷ ns) pool ≡ changed_numbers f (ns ++ n ∷ []) pool
+turned_changes f n ns pool apart first = same_list _ _ (λ m.
+    changed_at f (n ∷ ns) pool m first
+    ∙ ap (λ t. if t then option_map f (slice_get pool m) else slice_get pool m) (sym (turned_in m n ns))
+    ∙ sym (changed_at f (ns ++ n ∷ []) pool m apart))

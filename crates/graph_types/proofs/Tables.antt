@@ -8,6 +8,10 @@ use Rattle.graph_types.specs.{Graph.{graph_of, IsContent}, Analyses.{AreLevels, 
 use Rattle.graph_types.specs.{Arcs.{IsLowered, IsClosed, level_start, level_below}, declared.contents.Content.Content}
 use Rattle.graph_types.{specs.declared.ids.Filter.Filter, proofs.Arcs.{arc_leads, leads_arc, arcs_within, arc_joins, joins_arc}}
 use Rattle.graph_types.proofs.{Arcs.two_way_within, Settling.{level_start_long, settled_levels, settled_labels}}
+use Rattle.std.proofs.{Common.{◌+◌, refl, sym, ap, ◌∙◌, [], ◌∷◌, ◌++◌, drop, set, Option, Some}, lemmas.List.length-append}
+use Rattle.std.proofs.Math.Seq.{drop-append_seam}
+use Rattle.std.specs.Prelude.{fold}
+use Rattle.graph_types.specs.declared.ids.VertexId.{VertexId}
 
 module _ (f : Filter) (c : Content) (is : IsContent c) where
   pub levels_within : (source : ℕ) (arcs : List (ℕ × ℕ)) (first : List ℕ) → arcs ≡ arcs_of f c.edges
@@ -40,3 +44,18 @@ module _ (f : Filter) (c : Content) (is : IsContent c) where
   labels_done arcs first numbers same start l closed =
       settled_labels f (graph_of c) (two_way (arcs_of f c.edges)) (length c.names) numbers (joins_arc f c is) (arc_joins f c is)
       (rw start at (rw same at l)) (rw same at closed)
+
+-- a table with the levels of rows, one after another
+abbrev pub filled : List (Option ℕ) → List (VertexId × ℕ) → List (Option ℕ)
+filled levels rows = fold (λ table row. set table row.0.0 (Some row.1)) levels rows
+
+pub length-filled : (rows : List (VertexId × ℕ)) (levels : List (Option ℕ)) → length (filled levels rows) ≡ length levels
+length-filled [] levels = refl
+length-filled (row ∷ rows) levels = grind (arith, common_steps, length-filled rows (set levels row.0.0 (Some row.1)))
+
+-- rows that begin with others, and those behind them
+pub front_of : (old rows more : List (VertexId × ℕ)) → rows ≡ old ++ more → rows ≡ old ++ drop (length old) rows
+front_of old rows more is = is ∙ ap (λ xs. old ++ xs) (sym (ap (drop (length old)) is ∙ drop-append_seam old more))
+
+pub front_long : (old rows : List (VertexId × ℕ)) → rows ≡ old ++ drop (length old) rows → length old ≤ length rows
+front_long old rows front = grind (arith, common_steps, length-append)

@@ -3,6 +3,9 @@ use Rattle.std.proofs.Common.{◌≡◌, ℕ, zero, suc, ◌<◌, List, [], ◌�
 use Rattle.std.proofs.lemmas.{Bool.{and_parts, Decides.nat_tests}, Str.IsUtf8-from_ascii}
 use Rattle.std.specs.{List.list_all, Str.{IsAscii, IsUtf8}}
 use Rattle.graph_types.specs.Valid.{is_name, is_printable}
+use Rattle.std.proofs.{Common.{◌≤◌, length, subst, sym}, lemmas.{List.Folds.list_any_none, Slice.Eq.bytes_eq-Decides}}
+use Rattle.std.specs.Prelude.{All, IsTrue, bytes_eq}
+use Rattle.graph_types.specs.Answer.{is_listed}
 
 below_128 : (byte : ℕ) → is_printable byte ≡ true → byte < 128
 below_128 byte printable = grind (arith, nat_tests)
@@ -24,3 +27,22 @@ name_text bytes name = IsUtf8-from_ascii bytes (printable_ascii bytes (and_parts
 -- bytes that are no text are no name
 pub no_text_no_name : (bytes : List ℕ) → (IsUtf8 bytes → ⊥) → is_name bytes ≡ false
 no_text_no_name bytes none = never_true (is_name bytes) (λ name. none (name_text bytes name))
+
+pub name_short : (bytes : List ℕ) → is_name bytes ≡ true → length bytes ≤ 64
+name_short bytes name = grind (arith, nat_tests, and_parts)
+
+pub true_or_false : (b : Bool) → b ≡ true → b ≡ false → ⊥
+true_or_false true h k = cc
+true_or_false false h k = cc
+
+pub unlike : (bytes name : List ℕ) → (IsUtf8 bytes → ⊥) → is_name name ≡ true → bytes_eq bytes name ≡ false
+unlike bytes name none is =
+    never_true (bytes_eq bytes name) (λ same. none (subst IsUtf8 (sym ((bytes_eq-Decides bytes name).0 same)) (name_text name is)))
+
+-- bytes that are no text are listed among no names
+pub no_text_not_listed : (names : List (List ℕ)) (bytes : List ℕ) → All (λ name. IsTrue (is_name name)) names → (IsUtf8 bytes → ⊥)
+    → IsTrue (is_listed names bytes) → ⊥
+no_text_not_listed names bytes named none listed =
+    let differs : All (λ name. bytes_eq bytes name ≡ false) names =
+    λ k d within. unlike bytes (get_or names k d) none (named k d within) in
+    true_or_false (is_listed names bytes) listed (list_any_none (bytes_eq bytes) names differs)

@@ -5,14 +5,18 @@ use Rattle.std.proofs.lemmas.{Bool.false≢true, List.append-nil, List.Kept.AllP
 use Rattle.std.proofs.lemmas.List.Elements.{All-head, All-tail, All-filter, All-weaker, All-push, All-get_or, filter_passes}
 use Rattle.std.specs.{List.find, FinMap.get}
 use Rattle.std.proofs.lemmas.Grind.{common_steps}
-use Rattle.graph_types.specs.{Limits.{IsWeight, IsWeightIn, IsTime, LimitsView, AreLimits, SumsFit, most_names, most_kinds}, Graph.{Graph, Key, Stamp}}
+use Rattle.graph_types.specs.Limits.{IsWeight, IsWeightIn, IsTime, LimitsView, AreLimits, SumsFit, most_names, most_kinds}
+use Rattle.graph_types.specs.Graph.{Graph, Key, Stamp}
 use Rattle.graph_types.specs.Graph.{key_of, stamp_of, HasWeights}
-use Rattle.graph_types.specs.Graph.{map_of, graph_of, graph_in, has_key, without, IsAt, IsEdgeWithin, IsContent, IsContentIn, content_of}
-use Rattle.graph_types.specs.{Changes.{AllowsUpTo, AreMarks, option_stamp}, Step.{names_made, kinds_made, stamp_after, set_at, changed_key}}
+use Rattle.graph_types.specs.Graph.{map_of, graph_of, graph_in, has_key, without, IsAt, IsEdgeWithin, IsContent, IsContentIn}
+use Rattle.graph_types.specs.Graph.{content_of}
+use Rattle.graph_types.specs.{Changes.{AllowsUpTo, AreMarks, option_stamp}, Step.{names_made, kinds_made, stamp_after, set_at}}
+use Rattle.graph_types.specs.Step.{changed_key}
 use Rattle.graph_types.specs.{Step.{changed, was_before, later}, declared.{ids.Edge.Edge, changes.EdgeChange.EdgeChange}}
 use Rattle.graph_types.specs.declared.{changes.EdgeMarks.EdgeMarks, contents.Content.Content}
 use Rattle.graph_types.proofs.NameLists.{IsNamed, IsNamed-changed_key, length-names_made, length-kinds_made, AllPairs-names_made}
-use Rattle.graph_types.proofs.{NameLists.AllPairs-kinds_made, LimitsKept.{each_fits, sums_within}, EdgeLookup.{Decides-has_key, get-map_of, map_of-put}}
+use Rattle.graph_types.proofs.{NameLists.AllPairs-kinds_made, LimitsKept.{each_fits, sums_within}, EdgeLookup.Decides-has_key}
+use Rattle.graph_types.proofs.EdgeLookup.{get-map_of, map_of-put}
 use Rattle.graph_types.proofs.{Keys.HasKeysOnce, WeightsKept.{HasWeights-changed, weights_listed, weights_shown}}
 
 -- one change on plain lists: what stood at its key is taken away, and what is to stand there comes at the end
