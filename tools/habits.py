@@ -155,7 +155,13 @@ def rows_in(text):
 
 
 def rows():
-    return rows_in((TOP / "crates.txt").read_text(encoding="utf-8"))
+    return [row for it in (TOP, TOP / "tests") for row in rows_in((it / "crates.txt").read_text(encoding="utf-8"))]
+
+
+def folder_of(crate):
+    """Returns a crate's folder: crates of tests have their own."""
+    folders = (TOP / "crates" / crate, TOP / "tests/crates" / crate)
+    return next((it for it in folders if it.is_dir()), folders[0])
 
 
 def crates():
@@ -174,7 +180,7 @@ def unnamed_crates():
     for name in listed:
         if name not in own and f"`{name}`" not in page:
             yield f"docs/ARCHITECTURE.md doesn't name {name}"
-    for folder in sorted((TOP / "crates").iterdir()):
+    for folder in sorted([*(TOP / "crates").iterdir(), *(TOP / "tests/crates").iterdir()]):
         if folder.name not in listed and any(folder.glob("src/*.rt")):
             yield f"crates.txt doesn't list {folder.name}"
 
@@ -195,7 +201,7 @@ def named_by(crate):
     """Returns what may be crates that a crate's sources, specs and proofs name: what stands before a path."""
     found = set()
     for part in ("src", "specs", "proofs"):
-        for path in (TOP / "crates" / crate / part).rglob("*"):
+        for path in (folder_of(crate) / part).rglob("*"):
             if path.suffix in (".rt", ".antt"):
                 code = re.sub(r"^\s*(?://|--).*$", "", path.read_text(encoding="utf-8"), flags=re.M)
                 found |= set(re.findall(r"\bRattle\.(\w+)", code))
@@ -268,7 +274,7 @@ def coined_words(page):
 
 def rooms():
     """Returns the crates' READMEs."""
-    return sorted((TOP / "crates").glob("*/README.md"))
+    return sorted([*(TOP / "crates").glob("*/README.md"), *(TOP / "tests/crates").glob("*/README.md")])
 
 
 def long_rooms():
