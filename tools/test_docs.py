@@ -91,6 +91,7 @@ impl Clone for SmallBox {{
 
 /// Whether it is small.
 pub fn is_small(size: u32) -> bool
+    requires {{ sizes.bounded size 10 }}
     ensures {{ IsTrue result ↔ IsSmall size }}
 {{
     size < 10
@@ -224,6 +225,20 @@ class Trees(Tree):
         self.assertIn("-- a size is small", page.texts["low.Sizes.IsSmall"])
         self.assertNotIn("abbrev pub bounded", page.texts["low.Sizes.IsSmall"])
 
+    def test_a_definition_lists_the_calls_whose_clauses_cite_it(self) -> None:
+        """Those that cite it themselves, not through another definition, nor by a type's model; once, in the page's order."""
+        page = Reader(self.page())
+        self.assertTrue(page.texts["low.Sizes.IsSmall"].endswith("ensures oflow::is_small, low::SmallBox::new"))
+        self.assertTrue(page.texts["low.Sizes.bounded"].endswith("requires oflow::is_small"))
+        self.assertTrue(page.texts["low.Sizes.twice"].endswith("ensures oflow::SmallBox::new"))
+        self.assertNotIn(" of", page.texts["low.Sizes.size_of"].replace("size_of", ""))
+        self.assertLessEqual({"#low.is_small", "#low.SmallBox::new"}, page.links)
+
+    def test_a_call_that_cites_by_both_words_is_in_both_lists(self) -> None:
+        self.write("crates/low/src/boxes.rt", BOXES.replace("sizes.bounded size 10", "IsSmall size × IsSmall size"))
+        shown = Reader(self.page()).texts["low.Sizes.IsSmall"]
+        self.assertTrue(shown.endswith("requires oflow::is_smallensures oflow::is_small, low::SmallBox::new"), shown)
+
     def test_hostile_texts_are_texts(self) -> None:
         page = self.page()
         read = Reader(page)
@@ -306,6 +321,7 @@ DEEDS = """<script>
     seen.all = visible().length;
     seen.one = type("WHETHER small");
     seen.clause = type("few size");
+    seen.name = type("low::is_small");
     seen.none = type("absent");
     seen.section = document.getElementById("low").hidden;
     location.hash = "#low.Sizes.bounded";
@@ -338,6 +354,8 @@ class Browsers(Tree):
         # (six items of `low`, and the four definitions that they cite)
         self.assertEqual(seen["one"], [["low.is_small"], "1 of 10"])
         self.assertEqual(seen["clause"], [["low.SmallBox::new"], "1 of 10"])
+        # (which two definitions list)
+        self.assertEqual(seen["name"], [[], "0 of 10"])
         self.assertEqual((seen["none"], seen["section"]), ([[], "0 of 10"], True))
         self.assertEqual((seen["all"], seen["cleared"]), (10, ["", 10]))
         self.assertTrue(seen["opened"])

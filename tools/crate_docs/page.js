@@ -2,9 +2,15 @@
 // The search: an item is shown if it has each word that was typed. A crate without such an item isn't shown.
 const search = document.getElementById("search");
 const count = document.getElementById("count");
-const items = Array.from(document.querySelectorAll(".item"), (node) => ({node, text: node.textContent.toLowerCase()}));
+const items = Array.from(document.querySelectorAll(".item"), (node) => ({node, text: said(node)}));
 const groups = Array.from(document.querySelectorAll("section"), (node) => ({node, items: node.querySelectorAll(".item")}));
 const heads = document.querySelectorAll(".head");
+
+// An item's own words: the calls that a definition lists are items themselves.
+function said(node) {
+    const own = Array.from(node.children).filter((part) => !part.matches(".citing"));
+    return own.map((part) => part.textContent).join(" ").toLowerCase();
+}
 
 function show() {
     const words = search.value.toLowerCase().split(/\s+/).filter(Boolean);

@@ -8,20 +8,23 @@ from typing import Dict, Iterable, Iterator, List, Optional, Set
 from crate_docs.definitions import Definition, anchors_of
 from crate_docs.docstrings import rendered
 from crate_docs.imports import Names, parts
-from crate_docs.sources import Call, Crate, Kind
+from crate_docs.sources import WORDS, Call, Crate, Kind
 
 HERE = pathlib.Path(__file__).resolve().parent
 POLICY = "default-src 'none'; style-src 'unsafe-inline'; script-src 'unsafe-inline'; img-src data:"
 
 
 class Page:
-    """What is written of some crates. A definition stands on the page once if something shown cites it."""
+    """What is written of some crates. A definition stands on the page once if something shown cites it, above the calls whose
+    clauses do so themselves."""
 
     def __init__(self, crates: List[Crate], definitions: Dict[str, Definition]) -> None:
         self.crates = crates
         self.definitions = definitions
         self.types = {f"{crate.name}.{kind}" for crate in crates for kind in crate.kinds}
         self.cited: Set[str] = set()
+        # The anchors of the calls that cite a definition, in the page's order, by its anchor and the word of their clauses.
+        self.citing: Dict[str, Dict[str, Dict[str, None]]] = {}
         self._open: List[str] = []
 
     def text(self) -> str:
@@ -60,6 +63,14 @@ class Page:
             found.append(f'<a href="#{anchor}">{said}</a>' if anchor and anchor != own else said)
         return "".join(found)
 
+    def note_citing(self, anchor: str, call: Call) -> None:
+        """Notes what the clauses of the call with this anchor cite."""
+        for clause in call.clauses:
+            for part in parts(clause.text, call.names):
+                cited = self.target(part.path)
+                if cited:
+                    self.citing.setdefault(cited, {}).setdefault(clause.word, {})[anchor] = None
+
     def section(self, crate: Crate) -> str:
         found = [f'<section id="{crate.name}"><h2>{crate.name}</h2><div class="head">{rendered(crate.doc)}</div>']
         for below, names in crate.handed_on.items():
@@ -81,10 +92,12 @@ class Page:
     def call(self, crate: Crate, call: Call, of: str) -> str:
         around = "" if of == "free" else f"{of}::"
         by = f", {html.escape(call.of)}" if call.of else ""
+        anchor = f"{crate.name}.{around}{call.name}"
+        self.note_citing(anchor, call)
         clauses = "".join(
             f"<dt>{it.word} {html.escape(it.name)}</dt><dd><pre><code>{self.linked(it.text, call.names)}</code></pre></dd>"
             for it in call.clauses)
-        return (f'<article class="item call {"free" if of == "free" else ""}" id="{crate.name}.{around}{call.name}">'
+        return (f'<article class="item call {"free" if of == "free" else ""}" id="{anchor}">'
                 f"<h3>{around}{call.name} <small>{crate.name}, {call.place}{by}</small></h3>{rendered(call.doc)}"
                 f"<pre><code>{html.escape(call.head)}</code></pre><dl>{clauses}</dl></article>")
 
@@ -99,7 +112,18 @@ class Page:
     def definition(self, it: Definition) -> str:
         return (f'<details class="item" id="{it.anchor}"><summary><code>{html.escape(it.name)}</code> '
                 f'<span class="note">{it.crate}, specs/{it.module}.antt</span></summary>'
-                f"<pre><code>{self.linked(it.text, it.names, it.anchor)}</code></pre></details>")
+                f"<pre><code>{self.linked(it.text, it.names, it.anchor)}</code></pre>{self.citing_calls(it.anchor)}</details>")
+
+    def citing_calls(self, anchor: str) -> str:
+        """Returns the list of the calls whose clauses cite a definition, by the clauses' word; "" if there is none."""
+        found = self.citing.get(anchor, {})
+        rows = "".join(f"<dt>{word} of</dt><dd>{', '.join(map(link, found[word]))}</dd>" for word in WORDS if word in found)
+        return f'<dl class="citing">{rows}</dl>' if rows else ""
+
+
+def link(call: str) -> str:
+    """Returns a link to the call with this anchor, by the path that a caller writes."""
+    return f'<a href="#{call}"><code>{call.replace(".", "::", 1)}</code></a>'
 
 
 def in_order(known: Iterable[str], written: Dict[str, str]) -> "List[tuple[str, str]]":

@@ -11,6 +11,8 @@ from typing import Dict, Iterator, List, NamedTuple, Tuple
 
 from crate_docs.imports import Names, names_of
 
+# What a clause begins with.
+WORDS = ("requires", "ensures", "ensures*")
 CLAUSE = re.compile(r"\s*(requires|ensures\*?)\s")
 NAMED = re.compile(r"(requires|ensures\*?)\s+(?:([a-z_]\w*)\s+)?(\{.*\})(?:\s+by\s+\{.*\})?;?", re.S)
 HEAD = re.compile(r"(?:pub(?:\([a-z]+\))? )?(?:unsafe )?(?:extern \"C\" )?(fn|struct|enum|const|trait|type|impl)\b")
