@@ -5,8 +5,8 @@ import re
 import sys
 
 TOP = pathlib.Path(__file__).resolve().parent.parent
-# What takes a file, for zsh; bash offers files wherever no word fits.
-FILES = {"file", "script", "output", "program"}
+# What takes a file, for zsh and fish; bash offers files wherever no word fits.
+FILES = {"file", "script", "output", "program", "save", "edges", "token_file"}
 
 
 def roff(text):
@@ -174,10 +174,68 @@ def zsh(parser, version):
                       options="\n".join(lines))
 
 
+FISH = """# Completion for fish: source it, or put it where fish looks (share/fish/vendor_completions.d/{name}.fish).
+# Whether this command is the first word: without a command, whether there is none yet.
+function __{name}_is
+    set -l words (commandline -opc)
+    test "$words[2]" = "$argv[1]"
+end
+complete -c {name} -f
+{lines}
+"""
+
+
+def fish_quoted(text):
+    return "'" + text.replace("\\", "\\\\").replace("'", "\\'") + "'"
+
+
+def fish_line(name, command, *offered, text="", more=""):
+    """What is offered behind a command, or in its place where it is "", if `more` holds too."""
+    is_there = f"__{name}_is {command}".rstrip() + (f"; and {more}" if more else "")
+    told = [f"-d {fish_quoted(text)}"] if text else []
+    return " ".join([f"complete -c {name} -n {fish_quoted(is_there)}", *offered, *told])
+
+
+def fish_names(names):
+    """An option's names as fish's complete takes them."""
+    return " ".join(f"-l {it[2:]}" if it.startswith("--") else f"-s {it[1:]}" for it in names)
+
+
+def fish_value(action):
+    """What fish offers for an option's value: words, files, or nothing."""
+    if action.nargs == 0:
+        return []
+    words = " ".join(offered_for(action))
+    return [f"-x -a '{words}'" if words else "-r -F" if action.dest in FILES else "-x"]
+
+
+def fish_places(name, command, it):
+    """A place that has choices is the first behind its command, and files come after it."""
+    before = ""
+    for action in places(it):
+        words = " ".join(offered_for(action))
+        if words:
+            yield fish_line(name, command, f"-a '{words}'", more="test (count (commandline -opc)) = 2")
+            before = "test (count (commandline -opc)) -gt 2"
+        elif action.dest in FILES:
+            yield fish_line(name, command, "-F", more=before)
+
+
+def fish(parser, version):
+    name, commands = parser.prog, subcommands(parser)
+    lines = [fish_line(name, "", f"-a {command}", text=text) for command, (_, text) in commands.items()]
+    for command, it in {"": parser, **{command: it for command, (it, _) in commands.items()}}.items():
+        lines += fish_places(name, command, it) if command else ()
+        lines += (fish_line(name, command, fish_names(one.option_strings), *fish_value(one), text=told(one))
+                  for one in options(it))
+    return FISH.format(name=name, lines="\n".join(lines))
+
+
 def pages():
     """Each file, by its place below share/."""
     parser, version = client()
     name = parser.prog
     return {f"man/man1/{name}.1": manual(parser, version),
             f"bash-completion/completions/{name}": bash(parser, version),
-            f"zsh/site-functions/_{name}": zsh(parser, version)}
+            f"zsh/site-functions/_{name}": zsh(parser, version),
+            f"fish/vendor_completions.d/{name}.fish": fish(parser, version)}

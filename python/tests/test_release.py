@@ -5,6 +5,7 @@ import hashlib
 import os
 import pathlib
 import re
+import shlex
 import shutil
 import subprocess
 import sys
@@ -55,7 +56,7 @@ class Pages(Case):
         self.assertNotIn("warning", told)
 
     def test_a_page_of_the_client_that_differs_is_told(self):
-        """An option of another name: each of the three pages has options."""
+        """An option of another name: each of the four pages has options."""
         shutil.copytree(TOP / "python/misteluk", self.room / "python/misteluk")
         shutil.copytree(TOP / "share", self.room / "share")
         (self.room / "tools").mkdir()
@@ -66,7 +67,8 @@ class Pages(Case):
         module = self.room / "python/misteluk/command/options.py"
         module.write_text(module.read_text().replace('add_argument("--title"', 'add_argument("--heading"'))
         told = [f"share/{it} isn't what the program says of itself: tools/help-pages writes it\n"
-                for it in ("man/man1/misteluk.1", "bash-completion/completions/misteluk", "zsh/site-functions/_misteluk")]
+                for it in ("man/man1/misteluk.1", "bash-completion/completions/misteluk", "zsh/site-functions/_misteluk",
+                           "fish/vendor_completions.d/misteluk.fish")]
         done = run(*words)
         self.assertEqual((done.returncode, done.stdout), (1, "".join(told)))
 
@@ -117,6 +119,41 @@ class Pages(Case):
             self.skipTest("zsh is not there")
         for it in ("_stinger", "_misteluk"):
             self.assertEqual(run("zsh", "-n", TOP / "share/zsh/site-functions" / it).stdout, "")
+
+    def fish_offers(self, wanted: str, line: str) -> None:
+        """What fish offers at the end of a line, in a folder that has one file."""
+        (self.room / "pairs.csv").touch()
+        script = f"source {TOP}/share/fish/vendor_completions.d/{line.split()[0]}.fish; complete -C {shlex.quote(line)}"
+        told = run("fish", "--no-config", "-c", script, cwd=self.room, env={**os.environ, "HOME": str(self.room)}).stdout
+        self.assertEqual(" ".join(it.partition("\t")[0] for it in told.splitlines()), wanted, line)
+
+    @unittest.skipUnless(shutil.which("fish"), "fish is not there")
+    def test_completion_for_fish(self):
+        self.fish_offers("drive help run", "stinger ")
+        self.fish_offers("--help --version", "stinger --")
+        self.fish_offers("--blocks", "stinger run --b")
+        self.fish_offers("16 16384 65536", "stinger run --blocks ")
+        self.fish_offers("1 2 3 4 5 6 7 8", "stinger run --seats 4 --workers ")
+        self.fish_offers("run", "stinger help r")
+        self.fish_offers("", "stinger run ")
+
+    @unittest.skipUnless(shutil.which("fish"), "fish is not there")
+    def test_completion_of_the_client_for_fish(self):
+        """Files are offered where a file is taken, and nowhere else. An option is one of the first word's command."""
+        self.fish_offers("doctor fleet follow lint load picture restore serve", "misteluk ")
+        self.fish_offers("--help --version", "misteluk --")
+        self.fish_offers("--dry-run", "misteluk load file.csv --dr")
+        self.fish_offers("components cores degrees edge edges into levels neighbors out_of path within",
+                         "misteluk load file.csv --ask ")
+        self.fish_offers("compare components", "misteluk picture comp")
+        self.fish_offers("--seats", "misteluk lint --s")
+        self.fish_offers("pairs.csv", "misteluk load p")
+        self.fish_offers("", "misteluk picture pairs")
+        self.fish_offers("pairs.csv", "misteluk picture degrees pa")
+        self.fish_offers("pairs.csv", "misteluk load pairs.csv --save p")
+        self.fish_offers("", "misteluk load pairs.csv --weight p")
+        self.fish_offers("--engine", "misteluk doctor --e")
+        self.fish_offers("", "misteluk doctor lint --s")
 
 
 @functools.lru_cache(maxsize=None)
