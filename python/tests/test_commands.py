@@ -3,6 +3,7 @@ import argparse
 import fcntl
 import gzip
 import io
+import json
 import os
 import shutil
 import subprocess
@@ -255,6 +256,35 @@ class Commands(CommandCase):
         status, out, _ = self.run_it("lint", self.file("s.csv", "commit\nfly\n"))
         self.assertEqual((status, out.splitlines()[-1].endswith("s.csv: 1 record is refused")), (1, True))
         self.assertEqual(self.run_it("lint", self.file("s.csv", "commit\n"))[0], 0)
+
+    def test_the_doctor(self):
+        """In lines or as JSON: both tell the same. (Which engine the tests run over, a variable says.)"""
+        status, out, err = self.run_it("doctor", "--engine", ENGINE, "--json")
+        found = json.loads(out)
+        self.assertEqual((status, err, out.count("\n"), found["works"]), (0, "", 1, True))
+        self.assertEqual((found["misteluk"], found["engine"], found["since"]), (misteluk.__version__, ENGINE, "it was said"))
+        self.assertEqual(found["variables"]["MISTELUK_ENGINE"], ENGINE)
+        self.assertEqual((found["store"]["seats"], found["limits"]["operations"], "fault" in found), (2, 4_096, False))
+        self.assertEqual(found["program"]["path"], find_program())
+        self.assertIs(found["program"]["proved"], True if found["program"]["made"].startswith("proved") else None)
+        told = self.run_it("doctor")[1]
+        for it in (f"engine: {ENGINE}, since it was said\n", f"program: {find_program()}; {found['program']['made']}\n",
+                   f"a store of {found['store']['blocks']} blocks and 2 seats answers\n", "; batches of 4,096\n"):
+            self.assertIn(it, told)
+
+    def test_the_doctor_tells_what_is_missing(self):
+        """An installer reads the reason, and the status."""
+        status, out, err = self.run_it("doctor", "--program", "none", "--json")
+        found, fault = json.loads(out), "none is no program that can be run"
+        self.assertEqual((status, err, found["works"]), (1, "", False))
+        self.assertEqual((found["program"], found["fault"]), ({"fault": fault}, f"no store can be made: {fault}"))
+        status, out, _ = self.run_it("doctor", "--engine", "library", "--program", "none", "--json")
+        found = json.loads(out)
+        self.assertEqual((status, found["fault"], "engine" in found), (1, "a program is named, and engine='library' runs none",
+                                                                       False))
+        for words in (("--program", "none"), ("--engine", "library", "--program", "none")):
+            status, out, _ = self.run_it("doctor", *words)
+            self.assertEqual((status, out.splitlines()[-1]), (1, json.loads(self.run_it("doctor", *words, "--json")[1])["fault"]))
 
     def test_interactive(self):
         words = ("load", self.file("p.csv", PAIRS), *OF_PAIRS, "--add", "--interactive")

@@ -5,6 +5,7 @@ import argparse
 import code
 import csv
 import io
+import json
 import sys
 import warnings
 from contextlib import contextmanager
@@ -176,9 +177,12 @@ def run_serve(words: argparse.Namespace) -> int:
 
 
 def run_doctor(words: argparse.Namespace) -> int:
-    told, is_well = doctor.look(words.engine, words.program)
-    print(*told, sep="\n")
-    return 0 if is_well else 1
+    found = doctor.look(words.engine, words.program)
+    if words.json:
+        print(json.dumps(found, ensure_ascii=False))
+    else:
+        print(*doctor.lines(found), sep="\n")
+    return 0 if found["works"] else 1
 
 
 def run_lint(words: argparse.Namespace) -> int:

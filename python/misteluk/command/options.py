@@ -213,6 +213,7 @@ def make_parser() -> argparse.ArgumentParser:
     add_serve(commands.add_parser("serve", help="serve a live graph over HTTP: one feed, and many who ask; Ctrl-C ends it"))
     add_lint(commands.add_parser("lint", help="tell each refused record of a script, with its line, field and reason"))
     look = commands.add_parser("doctor", help="tell which engine runs, where it is, whether it was proved, and its limits")
+    look.add_argument("--json", action="store_true", help="tell it as a line of JSON")
     add_engine(look)
     add_program_alone(look)
     add_picture(commands.add_parser("picture", help="draw a picture of a file's graph (needs matplotlib, but for around)"))

@@ -182,6 +182,7 @@ complete -c misteluk -n '__misteluk_is lint' -l seats -x -d 'how many sessions t
 complete -c misteluk -n '__misteluk_is lint' -l blocks -x -d 'the run\'s blocks (16,384)'
 complete -c misteluk -n '__misteluk_is lint' -l program -r -F -d 'the program to run in place of the library; which one --engine program runs, MISTELUK_PROGRAM says, or else the repository or the path'
 complete -c misteluk -n '__misteluk_is doctor' -s h -l help -d 'show this help message and exit'
+complete -c misteluk -n '__misteluk_is doctor' -l json -d 'tell it as a line of JSON'
 complete -c misteluk -n '__misteluk_is doctor' -l engine -x -a 'library program' -d 'the store in this process, or a program in one of its own; else MISTELUK_ENGINE, or the library where it can be loaded (`misteluk doctor`)'
 complete -c misteluk -n '__misteluk_is doctor' -l program -r -F -d 'the program to run in place of the library; which one --engine program runs, MISTELUK_PROGRAM says, or else the repository or the path'
 complete -c misteluk -n '__misteluk_is picture; and test (count (commandline -opc)) = 2' -a 'degrees components cores edge compare around'
