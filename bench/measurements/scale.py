@@ -68,8 +68,7 @@ def questions(store: Store, library: Any) -> Figures:
 def measured(shape: str, scale: int, edges: int, endless: bool) -> Figures:
     columns, library = columns_of(shape, scale, edges), loaded()
     before = resident()
-    store = Store(library, scale, edges, endless)
-    spent = store.load(columns)
+    spent = (store := Store(library, scale, edges, endless)).load(columns)
     stat, last = store.stat(), max(1, len(spent) // 8)
     store.vertices = stat.vertices
     found: Figures = {"shape": shape, "names": stat.vertices, "edges": stat.edges,
@@ -83,8 +82,7 @@ def measured(shape: str, scale: int, edges: int, endless: bool) -> Figures:
         found[name] = seconds(lambda: store.commits(*words)) / SINGLE * 1e6
     found |= questions(store, library)
     held = resident()
-    # From here the kernel counts the peak anew.
-    pathlib.Path("/proc/self/clear_refs").write_text("5")
+    pathlib.Path("/proc/self/clear_refs").write_text("5")  # From here the kernel counts the peak anew.
     found["rebase s"] = seconds(lambda: must(library.desk_rebase(store.desk)))
     found["rebase peak"] = resident("VmHWM") / held
     found["after rebase"] = resident() / held
