@@ -1,5 +1,5 @@
 """What the store takes in a caller's process as the graph grows, by ctypes over libmisteluk.so: time an operation, memory an
-edge, a version, a batch of one, each question, and a rebase.
+edge, a version, a batch of one (the median of 200), each question, and a rebase.
 
     python3 -m bench run scale                      each shape at 2^14, 2^16, 2^18 and 2^20 names
     python3 -m bench run scale rmat 20 16000000     one shape, between 2^20 names, with so many insertions
@@ -17,6 +17,7 @@ import argparse
 import json
 import os
 import pathlib
+import statistics
 import subprocess
 import sys
 from ctypes import c_uint32
@@ -75,11 +76,10 @@ def measured(shape: str, scale: int, edges: int, endless: bool) -> Figures:
                       "us an operation": sum(spent) / edges * 1e6,
                       "last eighth": sum(spent[-last:]) / (min(STEP, edges) * last) * 1e6,
                       "bytes an edge": (resident() - before) / stat.edges}
-    # A batch behind a large one also brings the second table of rows up to that one, which is a part of the load.
-    store.commits("", "", 2)
+    store.commits("", "", 2)  # The first brings the second table of rows up to the load's last batch.
     found["hold us"] = seconds(lambda: holds(store)) / SINGLE * 1e6
     for name, words in (("empty commit us", ("", "")), ("known names us", ("v%d", "v1%d")), ("new names us", ("s%d", "t%d"))):
-        found[name] = seconds(lambda: store.commits(*words)) / SINGLE * 1e6
+        found[name] = statistics.median(store.commits(*words)) * 1e6
     found |= questions(store, library)
     held = resident()
     pathlib.Path("/proc/self/clear_refs").write_text("5")  # From here the kernel counts the peak anew.

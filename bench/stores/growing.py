@@ -56,7 +56,9 @@ class Store:
         self.desk, self.version, self.hold = interface.Desk(), interface.Version(), interface.Hold()
         self.counts, self.done, self.number = interface.Counts(), c_uint64(), c_uint32()
         limits = interface.Limits(names=self.names + 2 * SINGLE + 16, kinds=1, batches=(1 << 32) - 1 if endless else 1 << 31)
-        must(library.desk_new_within(limits, min(edges + (1 << 17), 1 << 31), self.desk))
+        # As large as weights may be: with more names than 2^23 less than the most that there is.
+        weight = min(1 << 40, ((1 << 63) - 1) // (limits.names + 1))
+        must(library.desk_new_within_weight(limits, weight, min(edges + (1 << 17), 1 << 31), self.desk))
 
     def load(self, columns: Tuple[Any, ...]) -> List[float]:
         """Seconds of the processor for each step, after which retired blocks are freed."""
@@ -85,16 +87,20 @@ class Store:
         self.library.version_free(self.version)
         self.version = interface.Version()
 
-    def commits(self, source: str, target: str, count: int = SINGLE) -> None:
-        """Batches of one edge, or of none where there is no name. `%d` in a name is the batch's number."""
-        batch = interface.Batch()
+    def commits(self, source: str, target: str, count: int = SINGLE) -> List[float]:
+        """Seconds of the processor for each of some batches of one edge, or of none where there is no name. `%d` in a name is the
+        batch's number."""
+        batch, spent = interface.Batch(), []
         must(self.library.batch_new(batch))
         for it in range(count):
             if source:
                 tail, head = (word.replace("%d", str(it)).encode() for word in (source, target))
                 must(self.library.batch_insert(batch, b"e", 1, tail, len(tail), head, len(head), it, it))
+            begun = time.process_time()
             must(self.library.desk_apply(self.desk, batch, self.counts))
+            spent.append(time.process_time() - begun)
         self.library.batch_free(batch)
+        return spent
 
     def degrees(self) -> None:
         found = [numpy.zeros(self.vertices, it) for it in ("u4", "u4", "i8")]
