@@ -6,11 +6,13 @@ import threading
 import unittest
 from unittest import mock
 
-from serving import ServeCase
+from serving import HAS_PACKAGES, ServeCase
 
 from misteluk import connect
-from misteluk.serve import answers, direct
 from misteluk.serve.limits import RUN, ServerLimits
+
+if HAS_PACKAGES:
+    from misteluk.serve import answers, direct
 
 ASKED = {"call": "found", "ends": [["transfer", "ana", "funnel"]]}
 ANSWER = b"[[980, 1, 1]]"
