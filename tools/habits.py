@@ -18,6 +18,7 @@
 - docs/LIBRARY.md shows each program that stands on `misteluk`: its row of crates.txt, and each of its files as it is, or a link
   to it.
 - No definition, and no lemma with its name and type, stands twice in `specs/` and `proofs/`.
+- The name of a definition of `specs/` stands in one crate, unless `statements.SEVERAL` says why in several.
 - A wrong body names files of its crate, and has pairs of an old line, which stands in its file once, and a new one.
 - README.md, CONTRIBUTING.md, CHANGELOG.md, docs/ and python/README.md have together at most 160,000 bytes: a page that gets
   longer has another get shorter.
@@ -370,6 +371,7 @@ def main():
         "READMEs of crates": [*long_rooms(), *readmes.stale(TOP)],
         "programs over the library": [*unshown_programs(), *unnamed_exports()],
         "statements": list(statements.told_twice(TOP)),
+        "names of several crates": list(statements.in_several(TOP)),
         "wrong bodies": [it for path in edits for it in lost_edits(path)],
         "bytes of pages": list(too_many_bytes(plain_pages(known))),
         "subjects": list(long_subjects()),

@@ -9,6 +9,8 @@ from typing import Callable, Dict, FrozenSet, Iterator, List, Set, Tuple
 
 ITEM = re.compile(r"(?P<words>(?:(?:pub|abbrev|unfoldable) )*)(?P<kind>(?:record|data) )?(?P<name>[^\s:]+) ")
 APART = ("--", "use ", "pub use ", "mod ", "pub mod ", "infix", "unfolding ")
+# Names that stand in several crates' specs, and why.
+SEVERAL = {"AreExamples": "each crate's record of what its examples come to"}
 BOUND = re.compile(r"[({]([^(){}:]+) :")
 WORD = re.compile(r"[^\s(){},;.]+")
 
@@ -118,3 +120,14 @@ def told_twice(top: pathlib.Path) -> Iterator[str]:
         twice[name] += places
     for name, places in twice.items():
         yield f"{name} stands in {' and in '.join(places)}"
+
+
+def in_several(top: pathlib.Path) -> Iterator[str]:
+    """Yields each name of definitions in the specs of several crates, but for those of SEVERAL."""
+    found: Dict[str, Set[str]] = collections.defaultdict(set)
+    for path in sorted(top.glob("crates/*/specs/**/*.antt")):
+        for _, name, _ in statements(path.read_text(encoding="utf-8").splitlines(), True):
+            found[name].add(path.relative_to(top).parts[1])
+    for name, crates in sorted(found.items()):
+        if len(crates) > 1 and name not in SEVERAL:
+            yield f"{name} is defined in the specs of {' and of '.join(sorted(crates))}"

@@ -8,19 +8,21 @@ use Rattle.graph_types.specs.{Step.outcomes, declared.batches.{NamedOp.NamedOp, 
 use Rattle.graph_types.proofs.More.{left_more}
 use Rattle.graph_types.proofs.{LimitsKept.limits_after_all, WeightsKept.HasWeights-after_all}
 use Rattle.edge_block.specs.{Slots.BlockView, Rows.{OpenBlock, shape_of, row_at, IsRow}, Batches.{Resolved, resolved}}
-use Rattle.edge_block.{specs.Batches.{outcomes_all, opened, layout_after, IsWithin, IsLayoutOf}, proofs.GraphLaws.batch_layout}
+use Rattle.edge_block.{specs.Batches.{outcomes_all, opened_rows, layout_after, HasEndsWithin, IsLayoutOf}, proofs.GraphLaws.batch_layout}
 use Rattle.vertex_names.specs.Book.{Book}
 use Rattle.graph_version.specs.Rows as rows
 use Rattle.graph_version.specs.{Rows.row_of, Versions.{VersionView, IsVersion, IsBlockOf, AreRowsOf, content, layout_of, is_in}}
 use Rattle.graph_version.specs.{Kept.{vertex_book, kind_book, edge_total}, Drafts.{DraftView, drafted_over}}
 use Rattle.graph_version.{specs.Drafts.with_batch, specs.Drafts.IsWhole, proofs.Few.few_total}
-use Rattle.batch_shards.specs.{RowBlocks.block_of, RowBlocks.blocks_of, RowBlocks.numbers_of, Groups.told, Done.IsShardDone}
+use Rattle.batch_shards.specs.{RowBlocks.{block_of, shared_blocks, shared_numbers}, Done.IsShardDone}
+use Rattle.graph_types.specs.Outcomes.{told}
 use Rattle.batch_shards.specs.{Done.Exchanges, Done.sources_in, Done.rows_by, Births.births_end, Births.births_dropped}
 use Rattle.batch_shards.specs.{Births.open_row, Births.births_after, Births.dropped_births, declared.shard.Shard.Shard}
 use Rattle.batch_shards.{specs.declared.shard.ShardDone.ShardDone, proofs.Places.count_by-append}
-use Rattle.batch_apply.{specs.Shards.IsShardOf, specs.Planned.MeetsNeitherLimit, proofs.Resolving.as_many_resolved}
+use Rattle.graph_types.specs.Refusals.{MeetsNeitherLimit}
+use Rattle.batch_apply.{specs.Shards.IsShardOf, proofs.Resolving.as_many_resolved}
 use Rattle.batch_apply.specs.{Plans.written_all, Shards.ArePlanned, declared.{applied.Applied.Applied, workers.Job.Job}}
-use Rattle.batch_apply.specs.{Applied.{IsApplied, ReplacesRows, row_among, written_from}, Gathered.{IsDealt, AreDone}}
+use Rattle.batch_apply.specs.{Applied.{IsApplied, ReplacesRows, row_among, written_from}, Gathered.{IsDealt, AreShardsDone}}
 use Rattle.batch_apply.proofs.{Told.told_exact, Written.all_written, Written.all_sources, Placed.times, Placed.among_is}
 use Rattle.batch_apply.proofs.Together.{all_once, all_within, once, quiet_layout, batch_totals, outcomes_over, quiet_row}
 use Rattle.batch_apply.proofs.{Together.births_sum, Together.together_at, Numbers.numbers_once, Kept.pairs, Kept.exchanged_all}
@@ -80,9 +82,9 @@ module _ (v : VersionView) (ops : List NamedOp) (workers : ℕ) (positive : 0 < 
     pub dropped_next : (f : BlockView → ℕ) (q : ℕ → Bool) → count_by q (map f (dropped_left dones))
         ≡ count_by q (dropped_births ops g (layout_of v.rows) (λ s. map f (row_of v.rows s)) (length (after_all ops g).names))
     dropped_next f q =
-        count_pieces q f (λ (d : ShardDone). blocks_of d.left.dropped.items) dones
+        count_pieces q f (λ (d : ShardDone). shared_blocks d.left.dropped.items) dones
         ∙ together_at workers ops g (layout_of v.rows) (row_of v.rows) (λ s row. count_by q (births_dropped row (map f (row_of v.rows s))))
-        (λ d. count_by q (map f (blocks_of d.left.dropped.items)))
+        (λ d. count_by q (map f (shared_blocks d.left.dropped.items)))
         (λ s x is. ap (count_by q) (is.dropped_births f)
         ∙ count_lists q (λ source. births_dropped (rows_by (row_of v.rows) s source) (map f (row_of v.rows source)))
         (sources_in s)) 0 workers shards dones planned done
@@ -117,8 +119,8 @@ module _ (v : VersionView) (ops : List NamedOp) (workers : ℕ) (positive : 0 < 
       over = range_with_len 0 (length (after_all ops g).names)
 
       laid : IsLayoutOf (layout_after ops g (layout_of v.rows)) (after_all ops g).edges
-          × (outcomes_all over (resolved ops g) (opened (layout_of v.rows)) ≡ outcomes ops g)
-          × IsWithin (after_all ops g)
+          × (outcomes_all over (resolved ops g) (opened_rows (layout_of v.rows)) ≡ outcomes ops g)
+          × HasEndsWithin (after_all ops g)
       laid = batch_layout ops g (layout_of v.rows) (length (after_all ops g).names) is.within is.rows.layout (omega arith)
 
       numbers_next : AllPairs (λ a b. a ≢ b) (rows.numbers_of (rows.blocks_of after))
@@ -140,7 +142,7 @@ module _ (v : VersionView) (ops : List NamedOp) (workers : ℕ) (positive : 0 < 
               blocks = blocks_next;
               numbers = numbers_next;
             });
-            within = subst IsWithin (sym (content_next after)) laid.2;
+            within = subst HasEndsWithin (sym (content_next after)) laid.2;
             small = record {
               names = subst (λ h. length h.names ≤ h.limits.names) (sym (content_next after))
                   (rw (limits_after_all ops g) (no_more g.limits.names (length (after_all ops g).names) limits.0));
@@ -160,7 +162,7 @@ module _ (v : VersionView) (ops : List NamedOp) (workers : ℕ) (positive : 0 < 
       outcomes_next : written_from dones (replicate (length ops) Absent) ≡ outcomes ops g
       outcomes_next =
           let rs : List Resolved = resolved ops g in
-          let rows : ℕ → List OpenBlock = opened (layout_of v.rows) in
+          let rows : ℕ → List OpenBlock = opened_rows (layout_of v.rows) in
           let lists : List (List ℕ) = map sources_in shards in
           let many : length lists ≡ workers = length-map shards sources_in ∙ AllZip-long (IsShardOf workers rs (layout_of v.rows))
           (range_with_len 0 workers) shards planned ∙ length-range_with_len 0 workers in
@@ -175,7 +177,7 @@ module _ (v : VersionView) (ops : List NamedOp) (workers : ℕ) (positive : 0 < 
 
       -- what apply answers
       pub applied : (a : Applied) → a.version ≡ next after → a.outcomes.items ≡ written_from dones (replicate (length ops) Absent)
-          → a.taken.items ≡ taken_left dones → blocks_of a.dropped.items ≡ dropped_left dones → numbers_of a.unused.items ≡ rest
+          → a.taken.items ≡ taken_left dones → shared_blocks a.dropped.items ≡ dropped_left dones → shared_numbers a.unused.items ≡ rest
           ++ unused_left dones
           → IsApplied v ops numbers a
       applied a ver out taken dropped unused =
@@ -188,8 +190,8 @@ module _ (v : VersionView) (ops : List NamedOp) (workers : ℕ) (positive : 0 < 
             outcomes_are = out ∙ outcomes_next;
             exchanged =
                 subst (λ (w : VersionView). Exchanges (rows.blocks_of v.rows) (rows.blocks_of w.rows) a.taken.items
-                (blocks_of a.dropped.items)) (sym ver)
-                (subst (λ ts. Exchanges (rows.blocks_of v.rows) (rows.blocks_of after) ts (blocks_of a.dropped.items)) (sym taken)
+                (shared_blocks a.dropped.items)) (sym ver)
+                (subst (λ ts. Exchanges (rows.blocks_of v.rows) (rows.blocks_of after) ts (shared_blocks a.dropped.items)) (sym taken)
                 (subst (λ ds. Exchanges (rows.blocks_of v.rows) (rows.blocks_of after) (taken_left dones) ds) (sym dropped)
                 exchanged_next));
             handed = λ q.
@@ -207,8 +209,8 @@ module _ (v : VersionView) (ops : List NamedOp) (workers : ℕ) (positive : 0 < 
             taken_are = ap length taken ∙ length-flat_map (λ (d : ShardDone). d.left.taken.items) dones ∙ totals.0;
             dropped_are =
                 sym (length-map a.dropped.items block_of) ∙ ap length dropped
-                ∙ length-flat_map (λ (d : ShardDone). blocks_of d.left.dropped.items) dones
-                ∙ sum_each (λ (d : ShardDone). length (blocks_of d.left.dropped.items))
+                ∙ length-flat_map (λ (d : ShardDone). shared_blocks d.left.dropped.items) dones
+                ∙ sum_each (λ (d : ShardDone). length (shared_blocks d.left.dropped.items))
                 (λ (d : ShardDone). length d.left.dropped.items) (λ d. length-map d.left.dropped.items block_of) dones
                 ∙ totals.1;
           }
@@ -218,8 +220,8 @@ module _ (v : VersionView) (ops : List NamedOp) (workers : ℕ) (shards : List S
     (dones : List ShardDone) (numbers rest : List ℕ)
     (positive : 0 < workers) (is : IsVersion v) (planned : ArePlanned workers ops (content v) (layout_of v.rows) shards)
     (needs_are : needs ≡ map (needs_of (row_of v.rows)) shards) (dealt : AllZip IsDealt (zip shards needs) jobs)
-    (done : AreDone (row_of v.rows) jobs dones)
-    (handed : (q : ℕ → Bool) → count_by q (flat_map (λ j. numbers_of j.shard.fresh.items) jobs) + count_by q rest
+    (done : AreShardsDone (row_of v.rows) jobs dones)
+    (handed : (q : ℕ → Bool) → count_by q (flat_map (λ j. shared_numbers j.shard.fresh.items) jobs) + count_by q rest
     ≡ count_by q numbers)
     (distinct : AllPairs (λ a b. a ≢ b) numbers)
     (unlisted : All (λ n. is_in n (rows.numbers_of (rows.blocks_of v.rows)) ≡ false) numbers)
@@ -239,7 +241,7 @@ module _ (v : VersionView) (ops : List NamedOp) (workers : ℕ) (shards : List S
       × (written_from dones (replicate (length ops) Absent) ≡ outcomes ops (content v))
       × ((a : Applied) → a.version ≡ record { opening = v.opening; batches = v.batches ++ ops ∷ []; rows = after }
       → a.outcomes.items ≡ written_from dones (replicate (length ops) Absent) → a.taken.items ≡ taken_left dones
-      → blocks_of a.dropped.items ≡ dropped_left dones → numbers_of a.unused.items ≡ rest ++ unused_left dones
+      → shared_blocks a.dropped.items ≡ dropped_left dones → shared_numbers a.unused.items ≡ rest ++ unused_left dones
       → IsApplied v ops numbers a)
   next_made =
       let each = done_in (row_of v.rows) jobs dones done in (

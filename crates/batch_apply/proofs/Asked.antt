@@ -7,12 +7,13 @@ use Rattle.std.{proofs.lemmas.List.Sums.{sum_by-append, count_by-le-length, sum-
 use Rattle.std.{specs.List.list_any, proofs.lemmas.Grind.common_steps}
 use Rattle.graph_types.specs.{Graph.{Graph, Key}, Step.{is_before, is_expire}, declared.batches.NamedOp.NamedOp}
 use Rattle.graph_types.specs.declared.{batches.NamedOp.TheVariants.{Insert, Incr, Remove, Expire}, changes.EdgeChange.EdgeChange}
-use Rattle.edge_block.specs.{Slots.{BlockView, Slot, edges_in, has_before}, Operations.{names_after, kinds_after}}
+use Rattle.graph_types.specs.Parts.{names_after, kinds_after}
+use Rattle.edge_block.specs.Slots.{BlockView, Slot, edges_in, has_before}
 use Rattle.edge_block.{specs.Batches.{Resolved, AtKey, InAll, resolved, resolved_by, shard_of, shard_ops}, proofs.Counts.count_more}
 use Rattle.graph_version.specs.Rows.{row_of, blocks_of}
 use Rattle.batch_shards.specs.{Done.{layout_by, sources_in, steps_in}, Groups.is_expiry, Spending.old_blocks, Shards.resolved_at}
 use Rattle.batch_shards.specs.{Shards.resolved_in, declared.shard.{Act.Act, Shard.Shard, Step.Step}}
-use Rattle.batch_apply.specs.{Planned.IsPlan, Shards.acts, Shards.unsourced, Shards.latest, Shards.IsShardOf}
+use Rattle.batch_apply.specs.{Planned.IsPlan, Shards.acts, Shards.unsourced, Shards.latest_expiry, Shards.IsShardOf}
 use Rattle.batch_apply.{specs.declared.plans.Plan.Plan, proofs.Listing.same_latest, proofs.Resolving.as_many_resolved}
 use Rattle.batch_apply.proofs.{Together.all_once, Placed.times, Kept.sum_lists, Kept.split_rows, Dealt.needs_of}
 
@@ -90,7 +91,7 @@ module _ (workers : ℕ) where
 -- The greatest time of a batch without expiries
 
 one_time : (most : ℕ) (ops : List NamedOp) (names kinds : List (List ℕ)) → list_any is_expire ops ≡ false
-    → latest (resolved_by most ops names kinds) ≡ 0
+    → latest_expiry (resolved_by most ops names kinds) ≡ 0
 one_time most [] names kinds none = refl
 one_time most (Insert kind source target weight time ∷ ops) names kinds none =
     let op : NamedOp = Insert kind source target weight time in
@@ -143,7 +144,7 @@ module _ (workers : ℕ) (ops : List NamedOp) (g : Graph) (rows : List (List Blo
   rs = resolved ops g
 
   abbrev old : ℕ → ℕ
-  old s = old_blocks (latest rs) (row_of rows s)
+  old s = old_blocks (latest_expiry rs) (row_of rows s)
 
   shard_needs : (w : ℕ) (s : Shard) → IsShardOf workers rs (layout_by (row_of rows)) w s
       → needs_of (row_of rows) s ≡ on_edges (shard_ops workers w rs) + sum_by old (sources_in s)
@@ -177,7 +178,7 @@ module _ (workers : ℕ) (ops : List NamedOp) (g : Graph) (rows : List (List Blo
           arith,
           all,
           edges,
-          few_old (latest rs) rows (flat_map sources_in shards)
+          few_old (latest_expiry rs) rows (flat_map sources_in shards)
               (λ m. all_once workers ops g (layout_by (row_of rows)) 0 workers m shards is.shards),
         )
         | false ↦ λ t. omega (

@@ -3,9 +3,9 @@ use Rattle.std.proofs.Common.{◌≡◌, ℕ, zero, suc, ◌+◌, ◌<◌, List,
 use Rattle.std.proofs.{Common.{ap, ◌∙◌, arith, All}, lemmas.List.{length-map, Sums.sum_by-cons, Elements.{All-nil, All-cons}}}
 use Rattle.std.{specs.List.{sum_by, range_with_len, AllZip}, proofs.lemmas.Grind.common_steps}
 use Rattle.edge_block.specs.{Slots.BlockView, Rows.Shape, Batches.Resolved}
-use Rattle.batch_shards.specs.{RowBlocks.numbers_of, Done.{IsShardDone, sources_in}, Spending.needed, declared.shard.Shard.Shard}
+use Rattle.batch_shards.specs.{RowBlocks.shared_numbers, Done.{IsShardDone, sources_in}, Spending.needed, declared.shard.Shard.Shard}
 use Rattle.batch_shards.specs.declared.shard.ShardDone.{ShardDone}
-use Rattle.batch_apply.specs.{Shards.IsShardOf, Gathered.{IsDealt, IsShard, AreDone}, declared.workers.Job.Job}
+use Rattle.batch_apply.specs.{Shards.IsShardOf, Gathered.{IsDealt, IsShard, AreShardsDone}, declared.workers.Job.Job}
 
 -- Numbers of blocks that are dealt one after another
 
@@ -84,14 +84,14 @@ module _ (workers : ℕ) (rs : List Resolved) (layout : ℕ → List Shape) wher
         → All (λ j. IsShard rows j.shard) jobs
     dealt_ready a k shards needs jobs e z d = grind (arith, common_steps, ready_each)
 
-pub done_in : (rows : ℕ → List BlockView) (jobs : List Job) (dones : List ShardDone) → AreDone rows jobs dones
+pub done_in : (rows : ℕ → List BlockView) (jobs : List Job) (dones : List ShardDone) → AreShardsDone rows jobs dones
     → AllZip (IsShardDone rows) (shards_in jobs) dones
 done_in rows [] [] z = tt
 done_in rows [] (d ∷ dones) z = absurd z
 done_in rows (j ∷ jobs) [] z = absurd z
 done_in rows (j ∷ jobs) (d ∷ dones) z = (z.0, done_in rows jobs dones z.1)
 
-pub fresh_in : (jobs : List Job) → flat_map (λ (j : Job). numbers_of j.shard.fresh.items) jobs
-    ≡ flat_map (λ (s : Shard). numbers_of s.fresh.items) (shards_in jobs)
+pub fresh_in : (jobs : List Job) → flat_map (λ (j : Job). shared_numbers j.shard.fresh.items) jobs
+    ≡ flat_map (λ (s : Shard). shared_numbers s.fresh.items) (shards_in jobs)
 fresh_in [] = refl
-fresh_in (j ∷ jobs) = ap (λ rest. numbers_of j.shard.fresh.items ++ rest) (fresh_in jobs)
+fresh_in (j ∷ jobs) = ap (λ rest. shared_numbers j.shard.fresh.items ++ rest) (fresh_in jobs)

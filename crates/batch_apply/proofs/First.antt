@@ -10,7 +10,7 @@ use Rattle.std.specs.{List.{list_any, sum_by, Sorted.IsStrictlyIncreasing}, Prel
 use Rattle.graph_types.specs.Graph.{Key}
 use Rattle.edge_block.specs.Batches.{Resolved, AtKey, InAll, is_in_shard, shard_ops, sum_below, IsPlaced}
 use Rattle.batch_shards.specs.{Shards.IsAct, declared.shard.Step.Step}
-use Rattle.batch_apply.specs.{Plan.shown, OldRows.{old_sources, own_rows}, FirstSources.{AreFirst, AreNext, asked, asked_by}}
+use Rattle.batch_apply.specs.{Plan.shown_op, OldRows.{old_sources, own_rows}, FirstSources.{AreFirst, AreNext, asked_sources, asked_source}}
 use Rattle.batch_apply.specs.{Shards.{AreShardSteps, IsSourceBelow}, declared.old.OldRow.OldRow}
 use Rattle.batch_apply.specs.declared.{own_sources.Places.Places, resolve.ResolvedOp.ResolvedOp}
 use Rattle.batch_apply.proofs.{Growth.{key_in, own_key}, Placed.{times, listed_times}, Totals.sum_all, Kept.sum_same}
@@ -19,47 +19,47 @@ use Rattle.batch_apply.proofs.Listing.{is_listed, listed_blocks, not_listed, own
 
 -- what is asked by one operation more: of the worker's, or of another
 more_asked : (workers w : ℕ) (ops : List ResolvedOp) (i : ℕ) (d : ResolvedOp) (b : Bool) → i < length ops
-    → is_in_shard workers w (shown (get_or ops i d)) ≡ b
-    → asked (shard_ops workers w (map shown (take (i + 1) ops)))
-    ≡ asked (shard_ops workers w (map shown (take i ops))) ++ asked (cond b (shown (get_or ops i d) ∷ []) [])
+    → is_in_shard workers w (shown_op (get_or ops i d)) ≡ b
+    → asked_sources (shard_ops workers w (map shown_op (take (i + 1) ops)))
+    ≡ asked_sources (shard_ops workers w (map shown_op (take i ops))) ++ asked_sources (cond b (shown_op (get_or ops i d) ∷ []) [])
 more_asked workers w ops i d b lt is =
     let op : ResolvedOp = get_or ops i d in
-    let rs : List Resolved = map shown (take i ops) in
-    ap (λ (l : List ResolvedOp). asked (shard_ops workers w (map shown l))) (take_more ops i d lt)
-    ∙ ap (λ (l : List Resolved). asked (shard_ops workers w l)) (map-append shown (take i ops) (op ∷ []))
-    ∙ ap asked (filter-append (is_in_shard workers w) rs (shown op ∷ []))
-    ∙ flat_map-append asked_by (shard_ops workers w rs) (shard_ops workers w (shown op ∷ []))
-    ∙ ap (λ c. asked (shard_ops workers w rs) ++ asked (cond c (shown op ∷ []) [])) is
+    let rs : List Resolved = map shown_op (take i ops) in
+    ap (λ (l : List ResolvedOp). asked_sources (shard_ops workers w (map shown_op l))) (take_more ops i d lt)
+    ∙ ap (λ (l : List Resolved). asked_sources (shard_ops workers w l)) (map-append shown_op (take i ops) (op ∷ []))
+    ∙ ap asked_sources (filter-append (is_in_shard workers w) rs (shown_op op ∷ []))
+    ∙ flat_map-append asked_source (shard_ops workers w rs) (shard_ops workers w (shown_op op ∷ []))
+    ∙ ap (λ c. asked_sources (shard_ops workers w rs) ++ asked_sources (cond c (shown_op op ∷ []) [])) is
 
 pub one_asked : (workers w : ℕ) (ops : List ResolvedOp) (i : ℕ) (d : ResolvedOp) (first : List ℕ) → i < length ops
-    → is_in_shard workers w (shown (get_or ops i d)) ≡ true
-    → (first ++ asked (shard_ops workers w (map shown (take i ops)))) ++ asked_by (shown (get_or ops i d))
-    ≡ first ++ asked (shard_ops workers w (map shown (take (i + 1) ops)))
+    → is_in_shard workers w (shown_op (get_or ops i d)) ≡ true
+    → (first ++ asked_sources (shard_ops workers w (map shown_op (take i ops)))) ++ asked_source (shown_op (get_or ops i d))
+    ≡ first ++ asked_sources (shard_ops workers w (map shown_op (take (i + 1) ops)))
 one_asked workers w ops i d first lt mine =
-    let so_far : List ℕ = asked (shard_ops workers w (map shown (take i ops))) in
-    let next : List ℕ = asked_by (shown (get_or ops i d)) in
+    let so_far : List ℕ = asked_sources (shard_ops workers w (map shown_op (take i ops))) in
+    let next : List ℕ = asked_source (shown_op (get_or ops i d)) in
     append_assoc first so_far next ∙ ap (λ (l : List ℕ). first ++ l)
     (ap (λ (l : List ℕ). so_far ++ l) (sym (append-nil next)) ∙ sym (more_asked workers w ops i d true lt mine))
 
 pub none_asked : (workers w : ℕ) (ops : List ResolvedOp) (i : ℕ) (d : ResolvedOp) → i < length ops
-    → is_in_shard workers w (shown (get_or ops i d)) ≡ false
-    → asked (shard_ops workers w (map shown (take (i + 1) ops))) ≡ asked (shard_ops workers w (map shown (take i ops)))
+    → is_in_shard workers w (shown_op (get_or ops i d)) ≡ false
+    → asked_sources (shard_ops workers w (map shown_op (take (i + 1) ops))) ≡ asked_sources (shard_ops workers w (map shown_op (take i ops)))
 none_asked workers w ops i d lt other =
-    more_asked workers w ops i d false lt other ∙ append-nil (asked (shard_ops workers w (map shown (take i ops))))
+    more_asked workers w ops i d false lt other ∙ append-nil (asked_sources (shard_ops workers w (map shown_op (take i ops))))
 
-asked_own : (workers w : ℕ) (rs : List Resolved) → All IsPlaced rs → All (λ s. s % workers ≡ w) (asked (shard_ops workers w rs))
+asked_own : (workers w : ℕ) (rs : List Resolved) → All IsPlaced rs → All (λ s. s % workers ≡ w) (asked_sources (shard_ops workers w rs))
 asked_own workers w [] placed = All-nil (λ s. s % workers ≡ w)
 asked_own workers w (r ∷ rs) placed =
     let IsOwn : ℕ → Type 0 = λ s. s % workers ≡ w in
-    let rest : All IsOwn (asked (shard_ops workers w rs)) = asked_own workers w rs (All-tail IsPlaced r rs placed) in
+    let rest : All IsOwn (asked_sources (shard_ops workers w rs)) = asked_own workers w rs (All-tail IsPlaced r rs placed) in
     elim (is_in_shard workers w r) as (λ b. is_in_shard workers w r ≡ b
-    → All IsOwn (asked (cond b (r ∷ shard_ops workers w rs) (shard_ops workers w rs)))) [
-      | true ↦ λ mine. All-append IsOwn (asked_by r) (asked (shard_ops workers w rs))
+    → All IsOwn (asked_sources (cond b (r ∷ shard_ops workers w rs) (shard_ops workers w rs)))) [
+      | true ↦ λ mine. All-append IsOwn (asked_source r) (asked_sources (shard_ops workers w rs))
           (one r (own_key workers w r (All-head IsPlaced r rs placed) mine)) rest
       | false ↦ λ _. rest
     ] refl
   where
-    one : (r : Resolved) → ((k : Key) → key_in r ≡ Some k → k.source % workers ≡ w) → All (λ s. s % workers ≡ w) (asked_by r)
+    one : (r : Resolved) → ((k : Key) → key_in r ≡ Some k → k.source % workers ≡ w) → All (λ s. s % workers ≡ w) (asked_source r)
     one (AtKey source None change) own = All-nil (λ s. s % workers ≡ w)
     one (AtKey source (Some k) change) own = All-cons (λ s. s % workers ≡ w) k.source [] (own k refl) (All-nil (λ s. s % workers ≡ w))
     one (InAll time) own = All-nil (λ s. s % workers ≡ w)
@@ -79,28 +79,28 @@ or_right true b e = refl
 or_right false b e = e
 
 -- what the worker's operations ask for is asked for
-asked_from : (workers w : ℕ) (rs : List Resolved) (s : ℕ) → list_any (nat_eq s) (asked (shard_ops workers w rs)) ≡ true
-    → list_any (nat_eq s) (asked rs) ≡ true
+asked_from : (workers w : ℕ) (rs : List Resolved) (s : ℕ) → list_any (nat_eq s) (asked_sources (shard_ops workers w rs)) ≡ true
+    → list_any (nat_eq s) (asked_sources rs) ≡ true
 asked_from workers w [] s listed = listed
 asked_from workers w (r ∷ rs) s listed =
-    list_any-append (nat_eq s) (asked_by r) (asked rs)
+    list_any-append (nat_eq s) (asked_source r) (asked_sources rs)
     ∙ elim (is_in_shard workers w r) as (λ b.
-    list_any (nat_eq s) (asked (cond b (r ∷ shard_ops workers w rs) (shard_ops workers w rs))) ≡ true
-    → (list_any (nat_eq s) (asked_by r) || list_any (nat_eq s) (asked rs)) ≡ true) [
-      | true ↦ λ here. either (list_any (nat_eq s) (asked_by r)) (list_any (nat_eq s) (asked (shard_ops workers w rs)))
-          (list_any (nat_eq s) (asked_by r)) (list_any (nat_eq s) (asked rs)) (λ t. t) (asked_from workers w rs s)
-          (sym (list_any-append (nat_eq s) (asked_by r) (asked (shard_ops workers w rs))) ∙ here)
-      | false ↦ λ rest. or_right (list_any (nat_eq s) (asked_by r)) (list_any (nat_eq s) (asked rs))
+    list_any (nat_eq s) (asked_sources (cond b (r ∷ shard_ops workers w rs) (shard_ops workers w rs))) ≡ true
+    → (list_any (nat_eq s) (asked_source r) || list_any (nat_eq s) (asked_sources rs)) ≡ true) [
+      | true ↦ λ here. either (list_any (nat_eq s) (asked_source r)) (list_any (nat_eq s) (asked_sources (shard_ops workers w rs)))
+          (list_any (nat_eq s) (asked_source r)) (list_any (nat_eq s) (asked_sources rs)) (λ t. t) (asked_from workers w rs s)
+          (sym (list_any-append (nat_eq s) (asked_source r) (asked_sources (shard_ops workers w rs))) ∙ here)
+      | false ↦ λ rest. or_right (list_any (nat_eq s) (asked_source r)) (list_any (nat_eq s) (asked_sources rs))
           (asked_from workers w rs s rest)
     ] listed
 
 -- no source that is asked for is greater than those of the operations
-asked_below : (n : ℕ) (rs : List Resolved) → All (IsSourceBelow n) rs → All (λ s. s < n) (asked rs)
+asked_below : (n : ℕ) (rs : List Resolved) → All (IsSourceBelow n) rs → All (λ s. s < n) (asked_sources rs)
 asked_below n [] all = All-nil (λ s. s < n)
-asked_below n (r ∷ rs) all = All-append (λ s. s < n) (asked_by r) (asked rs)
+asked_below n (r ∷ rs) all = All-append (λ s. s < n) (asked_source r) (asked_sources rs)
     (one r (All-head (IsSourceBelow n) r rs all)) (asked_below n rs (All-tail (IsSourceBelow n) r rs all))
   where
-    one : (r : Resolved) → IsSourceBelow n r → All (λ s. s < n) (asked_by r)
+    one : (r : Resolved) → IsSourceBelow n r → All (λ s. s < n) (asked_source r)
     one (AtKey source None change) below = All-nil (λ s. s < n)
     one (AtKey source (Some k) change) below = All-cons (λ s. s < n) k.source [] (below k refl) (All-nil (λ s. s < n))
     one (InAll time) below = All-nil (λ s. s < n)
@@ -111,7 +111,7 @@ pub old_first : (workers w : ℕ) (rs : List Resolved) (old : List OldRow) → A
 old_first workers w rs old pairs = record {
   distinct = own_distinct workers w old pairs;
   own = own_sources workers w old;
-  from = λ s listed. ap (λ b. b || list_any (nat_eq s) (asked rs)) (own_among workers w old s listed);
+  from = λ s listed. ap (λ b. b || list_any (nat_eq s) (asked_sources rs)) (own_among workers w old s listed);
   old_rows = λ s mine listed. own_listed workers w old s mine listed;
 }
 
@@ -119,11 +119,11 @@ old_first workers w rs old pairs = record {
 pub ranked_first : (workers w : ℕ) (rs : List Resolved) (old : List OldRow) (xs : List ℕ) → All IsPlaced rs
     → IsStrictlyIncreasing xs
     → ((n : ℕ) → list_any (nat_eq n) xs
-    ≡ list_any (nat_eq n) (old_sources (own_rows workers w old) ++ asked (shard_ops workers w rs)))
+    ≡ list_any (nat_eq n) (old_sources (own_rows workers w old) ++ asked_sources (shard_ops workers w rs)))
     → AreFirst workers w rs old xs
 ranked_first workers w rs old xs placed rising same =
     let own : List ℕ = old_sources (own_rows workers w old) in
-    let more : List ℕ = asked (shard_ops workers w rs) in
+    let more : List ℕ = asked_sources (shard_ops workers w rs) in
     let all : All (λ s. s % workers ≡ w) (own ++ more) = All-append (λ s. s % workers ≡ w) own more
     (own_sources workers w old) (asked_own workers w rs placed) in
     record {
@@ -131,7 +131,7 @@ ranked_first workers w rs old xs placed rising same =
       own = λ k d lt. let s : ℕ = get_or xs k d in listed_is (λ s. s % workers ≡ w) (own ++ more) all s
           (sym (same s) ∙ list_any_at (nat_eq s) xs k d lt (eq-eqb s s refl));
       from = λ s listed. either (list_any (nat_eq s) own) (list_any (nat_eq s) more) (is_listed old s)
-          (list_any (nat_eq s) (asked rs)) (own_among workers w old s) (asked_from workers w rs s)
+          (list_any (nat_eq s) (asked_sources rs)) (own_among workers w old s) (asked_from workers w rs s)
           (sym (list_any-append (nat_eq s) own more) ∙ sym (same s) ∙ listed);
       old_rows = λ s mine listed. same s ∙ list_any-append (nat_eq s) own more
           ∙ ap (λ b. b || list_any (nat_eq s) more) (own_listed workers w old s mine listed);
@@ -224,9 +224,9 @@ module _ (workers w : ℕ) (rs : List Resolved) (old : List OldRow) where
         → (b || list_any (nat_eq s) first) ≡ true → s < n) [
           | true ↦ λ listed _. below s listed
           | false ↦ λ other here. elim (is_listed old s) as (λ b. is_listed old s ≡ b
-              → (b || list_any (nat_eq s) (asked rs)) ≡ true → s < n) [
+              → (b || list_any (nat_eq s) (asked_sources rs)) ≡ true → s < n) [
                 | true ↦ λ listed _. below s listed
-                | false ↦ λ _ listed. listed_is (λ s. s < n) (asked rs) (asked_below n rs all) s listed
+                | false ↦ λ _ listed. listed_is (λ s. s < n) (asked_sources rs) (asked_below n rs all) s listed
               ] refl (are.from s here)
         ] refl known);
     old_rows = λ s mine listed. is.old_rows s mine (ap (λ b. b || list_any (nat_eq s) first) listed);
@@ -235,37 +235,37 @@ module _ (workers w : ℕ) (rs : List Resolved) (old : List OldRow) where
 -- what is still asked for, with an operation of the worker's, or of another
 pub next_own : (workers w : ℕ) (rs : List Resolved) (i : ℕ) (d r : Resolved) → i < length rs → get_or rs i d ≡ r
     → is_in_shard workers w r ≡ true
-    → asked (shard_ops workers w (drop i rs)) ≡ asked_by r ++ asked (shard_ops workers w (drop (i + 1) rs))
+    → asked_sources (shard_ops workers w (drop i rs)) ≡ asked_source r ++ asked_sources (shard_ops workers w (drop (i + 1) rs))
 next_own workers w rs i d r lt at mine =
-    ap (λ (l : List Resolved). asked (shard_ops workers w l)) (drop_more rs i d lt ∙ ap (λ x. x ∷ drop (i + 1) rs) at)
-    ∙ ap (λ b. asked (cond b (r ∷ shard_ops workers w (drop (i + 1) rs)) (shard_ops workers w (drop (i + 1) rs)))) mine
+    ap (λ (l : List Resolved). asked_sources (shard_ops workers w l)) (drop_more rs i d lt ∙ ap (λ x. x ∷ drop (i + 1) rs) at)
+    ∙ ap (λ b. asked_sources (cond b (r ∷ shard_ops workers w (drop (i + 1) rs)) (shard_ops workers w (drop (i + 1) rs)))) mine
 
 pub next_other : (workers w : ℕ) (rs : List Resolved) (i : ℕ) (d r : Resolved) → i < length rs → get_or rs i d ≡ r
     → is_in_shard workers w r ≡ false
-    → asked (shard_ops workers w (drop i rs)) ≡ asked (shard_ops workers w (drop (i + 1) rs))
+    → asked_sources (shard_ops workers w (drop i rs)) ≡ asked_sources (shard_ops workers w (drop (i + 1) rs))
 next_other workers w rs i d r lt at other =
-    ap (λ (l : List Resolved). asked (shard_ops workers w l)) (drop_more rs i d lt ∙ ap (λ x. x ∷ drop (i + 1) rs) at)
-    ∙ ap (λ b. asked (cond b (r ∷ shard_ops workers w (drop (i + 1) rs)) (shard_ops workers w (drop (i + 1) rs)))) other
+    ap (λ (l : List Resolved). asked_sources (shard_ops workers w l)) (drop_more rs i d lt ∙ ap (λ x. x ∷ drop (i + 1) rs) at)
+    ∙ ap (λ b. asked_sources (cond b (r ∷ shard_ops workers w (drop (i + 1) rs)) (shard_ops workers w (drop (i + 1) rs)))) other
 
 pub next_given : (workers w : ℕ) (rs : List Resolved) (i : ℕ) (d r : Resolved) → i < length rs → get_or rs i d ≡ r
     → is_in_shard workers w r ≡ true → (sources : List ℕ) (places : Option Places)
-    → IfSome places (AreNext sources (asked (shard_ops workers w (drop i rs))))
-    → IfSome places (AreNext sources (asked_by r ++ asked (shard_ops workers w (drop (i + 1) rs))))
+    → IfSome places (AreNext sources (asked_sources (shard_ops workers w (drop i rs))))
+    → IfSome places (AreNext sources (asked_source r ++ asked_sources (shard_ops workers w (drop (i + 1) rs))))
 next_given workers w rs i d r lt at mine sources places are =
     subst (λ (l : List ℕ). IfSome places (AreNext sources l)) (next_own workers w rs i d r lt at mine) are
 
 -- no more is asked for than there are operations
-pub few_asked : (workers w : ℕ) (rs : List Resolved) → length (asked (shard_ops workers w rs)) ≤ length rs
+pub few_asked : (workers w : ℕ) (rs : List Resolved) → length (asked_sources (shard_ops workers w rs)) ≤ length rs
 few_asked workers w [] = omega arith
 few_asked workers w (r ∷ rs) =
     let rest = few_asked workers w rs in
     elim (is_in_shard workers w r) as (λ b.
-    length (asked (cond b (r ∷ shard_ops workers w rs) (shard_ops workers w rs))) ≤ suc (length rs)) [
-      | true ↦ omega (arith, length-append (asked_by r) (asked (shard_ops workers w rs)), one r, rest)
+    length (asked_sources (cond b (r ∷ shard_ops workers w rs) (shard_ops workers w rs))) ≤ suc (length rs)) [
+      | true ↦ omega (arith, length-append (asked_source r) (asked_sources (shard_ops workers w rs)), one r, rest)
       | false ↦ omega (arith, rest)
     ]
   where
-    one : (r : Resolved) → length (asked_by r) ≤ 1
+    one : (r : Resolved) → length (asked_source r) ≤ 1
     one (AtKey source None change) = omega arith
     one (AtKey source (Some k) change) = omega arith
     one (InAll time) = omega arith

@@ -3,7 +3,7 @@ use Rattle.std.proofs.Common.{◌≡◌, ◌∙◌, ℕ, ◌+◌, Bool, true, fa
 use Rattle.std.proofs.Common.{sym, ap, Option, Some, None, subst}
 use Rattle.std.{specs.Option.IfSome, proofs.lemmas.Option.IfSome_then}
 use Rattle.graph_types.specs.{Step.{with_name, makes_names, number_of}, Answer.is_listed, declared.batches.NamedOp.NamedOp}
-use Rattle.edge_block.specs.Operations.{Parts, OfEdge, OfAll, parts_of, names_by, names_after}
+use Rattle.graph_types.specs.Parts.{Parts, OfEdge, OfAll, parts_of, names_by, names_after}
 use Rattle.batch_apply.specs.{declared.resolve.Ends.Ends, Plan.{known, ends_by, ends_in, IsFound, AreFound}}
 use Rattle.std.proofs.lemmas.List.{drop-drop}
 use Rattle.batch_apply.proofs.Names.{kept, known_listed}

@@ -1,28 +1,13 @@
 -- A plan's names are those that the batch rule leaves, and its refusals the batch rule's.
-use Rattle.std.proofs.Common.{◌≡◌, ◌∙◌, ◌+◌, ◌≤◌, ℕ, zero, suc, List, [], ◌∷◌, ◌++◌, length, refl, ap, subst, arith}
+use Rattle.std.proofs.Common.{◌≡◌, ◌∙◌, ◌+◌, ◌≤◌, ℕ, zero, suc, List, [], ◌∷◌, ◌++◌, length, refl, sym, ap, subst, arith}
 use Rattle.std.{specs.List.{range_with_len, AllZip}, proofs.lemmas.Grind.common_steps}
-use Rattle.graph_types.specs.{Graph.Graph, Step.{after, after_all}, declared.batches.NamedOp.NamedOp}
+use Rattle.graph_types.specs.{Graph.Graph, Step.after_all, declared.batches.NamedOp.NamedOp}
 use Rattle.graph_types.proofs.LimitsKept.{limits_after_all}
-use Rattle.edge_block.specs.Operations.{names_after, kinds_after}
+use Rattle.graph_types.{specs.Parts.{names_after_all, kinds_after_all}, proofs.OperationParts.{names_of_all, kinds_of_all}}
 use Rattle.vertex_names.specs.Book.{Book}
 use Rattle.graph_version.specs.Kept.{vertex_book, kind_book}
-use Rattle.batch_apply.specs.{Plan.{names_all, kinds_all, with_names, IsUnplanned}, Planned.{MeetsNeitherLimit, IsPlanRefusal}}
-use Rattle.batch_apply.specs.declared.plans.PlanError.{PlanError}
-
-one_names : (op : NamedOp) (g : Graph) → names_after op g.names ≡ (after op g).names
-one_names op g = grind (arith, common_steps)
-
-one_kinds : (op : NamedOp) (g : Graph) → kinds_after op g.kinds ≡ (after op g).kinds
-one_kinds op g = grind (arith, common_steps)
-
--- the names that operations leave are those of the graph that they leave
-pub names_left : (ops : List NamedOp) (g : Graph) → names_all ops g.names ≡ (after_all ops g).names
-names_left [] g = refl
-names_left (op ∷ ops) g = ap (names_all ops) (one_names op g) ∙ names_left ops (after op g)
-
-pub kinds_left : (ops : List NamedOp) (g : Graph) → kinds_all ops g.kinds ≡ (after_all ops g).kinds
-kinds_left [] g = refl
-kinds_left (op ∷ ops) g = ap (kinds_all ops) (one_kinds op g) ∙ kinds_left ops (after op g)
+use Rattle.graph_types.specs.{Refusals.{MeetsNeitherLimit, IsLimitRefusal}, declared.refusals.ApplyError.ApplyError}
+use Rattle.batch_apply.specs.Plan.{with_names, graph_by, IsUnplanned}
 
 one_more : {A : Type 0} (R : ℕ → A → Type 0) (first n : ℕ) (xs : List A) (x : A) → AllZip R (range_with_len first n) xs
     → R (first + n) x → AllZip R (range_with_len first (suc n)) (xs ++ x ∷ [])
@@ -38,17 +23,40 @@ pub one_more_shard : {A : Type 0} (R : ℕ → A → Type 0) (n : ℕ) (xs : Lis
 one_more_shard R n xs x so_far is = grind (arith, common_steps, one_more)
 
 pub names_book : (ops : List NamedOp) (g : Graph) (old new : Book) → old ≡ vertex_book g
-    → new ≡ with_names old (names_all ops old.names) → new ≡ vertex_book (after_all ops g)
-names_book ops g old new was is = grind (arith, common_steps, names_left, limits_after_all)
+    → new ≡ with_names old (names_after_all ops old.names) → new ≡ vertex_book (after_all ops g)
+names_book ops g old new was is = grind (arith, common_steps, names_of_all, limits_after_all)
 
 pub kinds_book : (ops : List NamedOp) (g : Graph) (old new : Book) → old ≡ kind_book g
-    → new ≡ with_names old (kinds_all ops old.names) → new ≡ kind_book (after_all ops g)
-kinds_book ops g old new was is = grind (arith, common_steps, kinds_left, limits_after_all)
+    → new ≡ with_names old (kinds_after_all ops old.names) → new ≡ kind_book (after_all ops g)
+kinds_book ops g old new was is = grind (arith, common_steps, kinds_of_all, limits_after_all)
 
 -- the batch rule's refusal is that of the books of the graph's names
-pub plan_refused : (error : PlanError) (ops : List NamedOp) (g : Graph) (names kinds : Book) → names ≡ vertex_book g
-    → kinds ≡ kind_book g → IsUnplanned error ops names kinds → IsPlanRefusal error ops g
-plan_refused error ops g names kinds names_are kinds_are refused = grind (arith, common_steps, names_left, kinds_left)
+pub plan_refused : (error : ApplyError) (ops : List NamedOp) (g : Graph) (names kinds : Book) → names ≡ vertex_book g
+    → kinds ≡ kind_book g → IsUnplanned error ops names kinds → IsLimitRefusal error ops g
+plan_refused error ops g names kinds names_are kinds_are refused =
+    let by : Graph = graph_by names kinds in
+    let same_names : (after_all ops by).names ≡ (after_all ops g).names =
+    sym (names_of_all ops by) ∙ ap (λ (b : Book). names_after_all ops b.names) names_are ∙ names_of_all ops g in
+    let same_kinds : (after_all ops by).kinds ≡ (after_all ops g).kinds =
+    sym (kinds_of_all ops by) ∙ ap (λ (b : Book). kinds_after_all ops b.names) kinds_are ∙ kinds_of_all ops g in
+    let names_few : names.limit ≡ g.limits.names = ap (λ (b : Book). b.limit) names_are in
+    let kinds_few : kinds.limit ≡ g.limits.kinds = ap (λ (b : Book). b.limit) kinds_are in
+    grind (arith, common_steps, same_names, same_kinds, names_few, kinds_few)
+
+-- and it is that of the books that some of the operations leave, and of the others
+pub unplanned_all : (error : ApplyError) (ops rest : List NamedOp) (names kinds more_names more_kinds : Book)
+    → names_after_all rest more_names.names ≡ names_after_all ops names.names
+    → kinds_after_all rest more_kinds.names ≡ kinds_after_all ops kinds.names
+    → more_names.limit ≡ names.limit → more_kinds.limit ≡ kinds.limit
+    → IsUnplanned error rest more_names more_kinds → IsUnplanned error ops names kinds
+unplanned_all error ops rest names kinds more_names more_kinds left_names left_kinds names_few kinds_few refused =
+    let later : Graph = graph_by more_names more_kinds in
+    let first : Graph = graph_by names kinds in
+    let same_names : (after_all rest later).names ≡ (after_all ops first).names =
+    sym (names_of_all rest later) ∙ left_names ∙ names_of_all ops first in
+    let same_kinds : (after_all rest later).kinds ≡ (after_all ops first).kinds =
+    sym (kinds_of_all rest later) ∙ left_kinds ∙ kinds_of_all ops first in
+    grind (arith, common_steps, same_names, same_kinds, names_few, kinds_few)
 
 -- books within their limits are those of a batch that meets neither
 pub neither_limit : (ops : List NamedOp) (g : Graph) (names kinds : Book) → names ≡ vertex_book (after_all ops g)

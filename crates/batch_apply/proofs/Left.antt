@@ -4,9 +4,9 @@ use Rattle.std.proofs.{Common.{sym, ap, ap₂, ◌∙◌, arith}, lemmas.List.{m
 use Rattle.std.{proofs.lemmas.{List.Elements.All-append, Grind.{flat_map-append, common_steps}}, specs.List.sum_by}
 use Rattle.std.specs.List.{range_with_len, AllZip}
 use Rattle.graph_types.specs.{Graph.Graph, declared.batches.NamedOp.NamedOp, declared.batches.Outcome.Outcome}
-use Rattle.edge_block.specs.{Slots.BlockView, Rows.{Shape, shape_of}, Batches.{Resolved, resolved, opened, layout_after}}
+use Rattle.edge_block.specs.{Slots.BlockView, Rows.{Shape, shape_of}, Batches.{Resolved, resolved, opened_rows, layout_after}}
 use Rattle.edge_block.specs.Batches.{rows_all}
-use Rattle.batch_shards.specs.{RowBlocks.blocks_of, RowBlocks.numbers_of, Closing.row_values, Births.births_end, Done.IsShardDone}
+use Rattle.batch_shards.specs.{RowBlocks.shared_blocks, RowBlocks.shared_numbers, Closing.row_values, Births.births_end, Done.IsShardDone}
 use Rattle.batch_shards.specs.{Done.Exchanges, Done.sources_in, declared.shard.Shard.Shard, declared.shard.ShardDone.ShardDone}
 use Rattle.batch_shards.proofs.Places.{count_by-append}
 use Rattle.graph_version.specs.Versions.{IsBlockOf, is_in}
@@ -27,13 +27,13 @@ abbrev pub taken_left : List ShardDone → List ℕ
 taken_left dones = flat_map (λ d. d.left.taken.items) dones
 
 abbrev pub dropped_left : List ShardDone → List BlockView
-dropped_left dones = flat_map (λ d. blocks_of d.left.dropped.items) dones
+dropped_left dones = flat_map (λ d. shared_blocks d.left.dropped.items) dones
 
 abbrev pub unused_left : List ShardDone → List ℕ
-unused_left dones = flat_map (λ d. numbers_of d.left.unused.items) dones
+unused_left dones = flat_map (λ d. shared_numbers d.left.unused.items) dones
 
 abbrev pub fresh_all : List Shard → List ℕ
-fresh_all shards = flat_map (λ s. numbers_of s.fresh.items) shards
+fresh_all shards = flat_map (λ s. shared_numbers s.fresh.items) shards
 
 nothing_exchanged : Exchanges [] [] [] []
 nothing_exchanged = record { kept = []; fresh = []; taken_are = refl; before_are = λ p. refl; after_are = λ p. refl }
@@ -90,7 +90,7 @@ module _ (before : ℕ → List BlockView) where
       (sym (flat_map-append (λ (r : ℕ × List BlockView). r.1) (row_values d.rows.items) (rows_left dones)))
       (both_exchanged (flat_map before (sources_in s)) (flat_map (λ r. r.1) (row_values d.rows.items))
       (flat_map before (flat_map sources_in shards)) (flat_map (λ r. r.1) (rows_left dones))
-      d.left.taken.items (taken_left dones) (blocks_of d.left.dropped.items) (dropped_left dones) z.0.exchanged
+      d.left.taken.items (taken_left dones) (shared_blocks d.left.dropped.items) (dropped_left dones) z.0.exchanged
       (exchanged_left shards dones z.1)))
 
   pub handed_left : (shards : List Shard) (dones : List ShardDone) → AllZip (IsShardDone before) shards dones
@@ -121,7 +121,7 @@ module _ (before : ℕ → List BlockView) where
         → ((b : BlockView) → is_in b.number (taken_left dones) ≡ true → h b ≡ n)
         → AllZip (IsShardOf workers rs layout) (range_with_len a k) shards → AllZip (IsShardDone before) shards dones
         → All (λ r. All (λ b. h b ≡ f b) (before r.0) → map h r.1
-        ≡ births_end n (rows_all rs (opened (λ s. map shape_of (before s))) r.0) (map f (before r.0))) (rows_left dones)
+        ≡ births_end n (rows_all rs (opened_rows (λ s. map shape_of (before s))) r.0) (map f (before r.0))) (rows_left dones)
     births_left f h n a zero [] [] each p z = grind (arith, common_steps, All-nil)
     births_left f h n a k [] (d ∷ dones) each p z = absurd z
     births_left f h n a zero (s ∷ shards) dones each p z = absurd p
@@ -129,7 +129,7 @@ module _ (before : ℕ → List BlockView) where
     births_left f h n a k (s ∷ shards) [] each p z = absurd z
     births_left f h n a (suc k) (s ∷ shards) (d ∷ dones) each p z =
         All-append (λ (r : ℕ × List BlockView). All (λ b. h b ≡ f b) (before r.0) → map h r.1
-        ≡ births_end n (rows_all rs (opened (λ s. map shape_of (before s))) r.0) (map f (before r.0)))
+        ≡ births_end n (rows_all rs (opened_rows (λ s. map shape_of (before s))) r.0) (map f (before r.0)))
         (row_values d.rows.items) (rows_left dones)
         (shard_births_at workers a ops g layout before s d p.0 z.0 f h n
         (λ b is. each b (in_left b.number d.left.taken.items (taken_left dones) is)))
@@ -139,7 +139,7 @@ module _ (before : ℕ → List BlockView) where
     pub outcomes_left : (a k : ℕ) (shards : List Shard) (dones : List ShardDone)
         → AllZip (IsShardOf workers rs layout) (range_with_len a k) shards → AllZip (IsShardDone before) shards dones
         → (xs : List Outcome) → written_from dones xs
-        ≡ written_all workers a (map sources_in shards) rs (opened (λ s. map shape_of (before s))) xs
+        ≡ written_all workers a (map sources_in shards) rs (opened_rows (λ s. map shape_of (before s))) xs
     outcomes_left a zero [] [] p z xs = refl
     outcomes_left a k [] (d ∷ dones) p z xs = absurd z
     outcomes_left a zero (s ∷ shards) dones p z xs = absurd p

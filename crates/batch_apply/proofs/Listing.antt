@@ -8,9 +8,9 @@ use Rattle.std.proofs.lemmas.List.{Sums.{sum_by_push, length-filter, count_by-le
 use Rattle.std.{proofs.lemmas.List.Elements.{All-map, All-filter, All-weaker, filter_more, filter_passes}, specs.List.list_any}
 use Rattle.std.{specs.List.sum_by, proofs.lemmas.Grind.common_steps}
 use Rattle.edge_block.specs.{Slots.{BlockView, has_before}, Rows.shape_of, Batches.{Resolved, AtKey, InAll, shard_ops}}
-use Rattle.batch_shards.specs.{Shards.{resolved_at, resolved_in}, Spending.{time_of, old_blocks, latest as latest_step}}
+use Rattle.batch_shards.specs.{Shards.{resolved_at, resolved_in}, Spending.{act_time, old_blocks, latest as latest_step}}
 use Rattle.batch_shards.specs.declared.shard.{Act.Act, Step.Step}
-use Rattle.batch_apply.specs.{Shards.acts, Shards.has_old_shape, Shards.latest, Shards.AreShardSteps, declared.old.OldRow.OldRow}
+use Rattle.batch_apply.specs.{Shards.acts, Shards.has_old_shape, Shards.latest_expiry, Shards.AreShardSteps, declared.old.OldRow.OldRow}
 use Rattle.batch_apply.specs.OldRows.{AreOldRows, old_sources, own_rows, blocks_in}
 
 -- whether a source's row is one of these, and its old blocks, none where it isn't
@@ -114,29 +114,29 @@ pub one_row : (workers w : ℕ) (old : List OldRow) (i : ℕ) (d : OldRow) → i
     → blocks_in (own_rows workers w (take (i + 1) old)) ≡ blocks_in (own_rows workers w (take i old)) + (get_or old i d).blocks
 one_row workers w old i d lt is = grind (arith, common_steps, own_more, sum_by_push)
 
-latest_acts : (rs : List Resolved) → latest (acts rs) ≡ latest rs
+latest_acts : (rs : List Resolved) → latest_expiry (acts rs) ≡ latest_expiry rs
 latest_acts [] = refl
 latest_acts (AtKey source key change ∷ rs) = ap (max 0) (latest_acts rs)
 latest_acts (InAll time ∷ rs) = ap (max time) (latest_acts rs)
 
-one_act : (sources : List ℕ) (act : Act) (rest : List Resolved) (n : ℕ) → latest rest ≡ n
-    → latest (resolved_at sources act ∷ rest) ≡ max (time_of act) n
+one_act : (sources : List ℕ) (act : Act) (rest : List Resolved) (n : ℕ) → latest_expiry rest ≡ n
+    → latest_expiry (resolved_at sources act ∷ rest) ≡ max (act_time act) n
 one_act sources act rest n same = grind (arith, common_steps)
 
-latest_in : (sources : List ℕ) (steps : List Step) → latest (resolved_in sources steps) ≡ latest_step steps
+latest_in : (sources : List ℕ) (steps : List Step) → latest_expiry (resolved_in sources steps) ≡ latest_step steps
 latest_in sources [] = refl
 latest_in sources (s ∷ steps) =
     one_act sources s.act (resolved_in sources steps) (latest_step steps) (latest_in sources steps)
 
-latest_own : (workers w : ℕ) (rs : List Resolved) → latest (shard_ops workers w rs) ≡ latest rs
+latest_own : (workers w : ℕ) (rs : List Resolved) → latest_expiry (shard_ops workers w rs) ≡ latest_expiry rs
 latest_own workers w [] = refl
 latest_own workers w (AtKey source key change ∷ rs) = grind (arith, common_steps, latest_own workers w rs)
 latest_own workers w (InAll time ∷ rs) = ap (max time) (latest_own workers w rs)
 
 pub same_latest : (workers w : ℕ) (rs : List Resolved) (is_old : ℕ → Bool) (sources : List ℕ) (steps : List Step)
-    → AreShardSteps workers rs w is_old sources steps → latest_step steps ≡ latest rs
+    → AreShardSteps workers rs w is_old sources steps → latest_step steps ≡ latest_expiry rs
 same_latest workers w rs is_old sources steps is =
-    sym (latest_in sources steps) ∙ sym (latest_acts (resolved_in sources steps)) ∙ ap latest is.acts_are
+    sym (latest_in sources steps) ∙ sym (latest_acts (resolved_in sources steps)) ∙ ap latest_expiry is.acts_are
     ∙ latest_acts (shard_ops workers w rs) ∙ latest_own workers w rs
 
 -- what holds for a test of rows holds for one that agrees

@@ -3,10 +3,10 @@ use Rattle.std.proofs.Common.{drop, ◌≡◌, ℕ, ◌+◌, ◌<◌, ◌≤◌,
 use Rattle.std.proofs.Common.{IsTrue, Option, Some, None, Result, refl, sym, ap, arith, true≢false, if◌then◌else◌}
 use Rattle.std.{proofs.lemmas.{Slice.Eq.bytes_eq-Decides, Grind.common_steps}, specs.{Result.{IsErrAnd, IfErr}, Str.bytes_eq}}
 use Rattle.graph_types.specs.{Step.{with_name, number_of}, Answer.is_listed, declared.batches.NamedOp.NamedOp}
-use Rattle.graph_types.proofs.NameLists.{length-with_name}
-use Rattle.edge_block.specs.Operations.{names_after, kinds_after}
+use Rattle.graph_types.{specs.Parts.{names_after, kinds_after, names_after_all, kinds_after_all}, proofs.OperationParts.{no_fewer_all, no_fewer_kinds_all}}
+use Rattle.graph_types.{specs.declared.refusals.ApplyError.TheVariants.{NamesFull, KindsFull}, proofs.OperationParts.{names_of_all, kinds_of_all}}
 use Rattle.vertex_names.specs.{Book.Book, declared.book.AddError.AddError}
-use Rattle.batch_apply.specs.{declared.resolve.Ends.Ends, Plan.{known, names_all, kinds_all, IsRefusal}}
+use Rattle.batch_apply.specs.{declared.resolve.Ends.Ends, Plan.{known, graph_by, IsRefusal, IsUnplanned}}
 
 -- a listed name is listed among more, with its number
 listed_next : (name x : List ℕ) (names more : List (List ℕ)) (found : Bool)
@@ -61,34 +61,32 @@ pub target_known : (names : List (List ℕ)) (target : List ℕ)
     → Some (number_of (with_name names target) target) ≡ known (with_name names target) target
 target_known names target = known_listed (with_name names target) target (entered names target)
 
-no_fewer_after : (op : NamedOp) (names : List (List ℕ)) → length names ≤ length (names_after op names)
-no_fewer_after op names = grind (arith, common_steps, length-with_name)
-
-pub no_fewer_all : (ops : List NamedOp) (names : List (List ℕ)) → length names ≤ length (names_all ops names)
-no_fewer_all [] names = omega arith
-no_fewer_all (op ∷ ops) names = let a = no_fewer_after op names in let b = no_fewer_all ops (names_after op names) in omega arith
-
 -- a refusal of one operation is one of them all
 pub refused_all : (error : AddError) (old book : Book) (ops : List NamedOp) (k : ℕ) (op : NamedOp) → drop k ops ≡ op
-    ∷ drop (k + 1) ops → names_all (drop k ops) book.names ≡ names_all ops old.names → book.limit ≡ old.limit
-    → IsRefusal error book (names_after op book.names) → IsRefusal error old (names_all ops old.names)
+    ∷ drop (k + 1) ops → names_after_all (drop k ops) book.names ≡ names_after_all ops old.names → book.limit ≡ old.limit
+    → IsRefusal error book (names_after op book.names) → IsRefusal error old (names_after_all ops old.names)
 refused_all error old book ops k op step same limit refused = grind (arith, common_steps, no_fewer_all)
-
-no_fewer_kinds : (op : NamedOp) (kinds : List (List ℕ)) → length kinds ≤ length (kinds_after op kinds)
-no_fewer_kinds op kinds = grind (arith, common_steps, length-with_name)
-
-pub no_fewer_kinds_all : (ops : List NamedOp) (kinds : List (List ℕ)) → length kinds ≤ length (kinds_all ops kinds)
-no_fewer_kinds_all [] kinds = omega arith
-no_fewer_kinds_all (op ∷ ops) kinds = omega (arith, no_fewer_kinds op kinds, no_fewer_kinds_all ops (kinds_after op kinds))
 
 -- a refusal of one operation's kind is one of it and those behind it
 pub kinds_refused : (op : NamedOp) (behind : List NamedOp) (kinds : Book) → kinds.limit < length (kinds_after op kinds.names)
-    → kinds.limit < length (kinds_all (op ∷ behind) kinds.names)
+    → kinds.limit < length (kinds_after_all (op ∷ behind) kinds.names)
 kinds_refused op behind kinds refused = grind (arith, common_steps, no_fewer_kinds_all)
+
+-- a refusal of a book is one of the batch, for the names, or for the kinds where the names fit
+pub unplanned_names : (ops : List NamedOp) (names kinds : Book) → names.limit < length (names_after_all ops names.names)
+    → IsUnplanned NamesFull ops names kinds
+unplanned_names ops names kinds full = omega (arith, full, ap length (names_of_all ops (graph_by names kinds)))
+
+pub unplanned_kinds : (ops : List NamedOp) (names kinds : Book) → kinds.limit < length (kinds_after_all ops kinds.names)
+    → length (names_after_all ops names.names) ≤ names.limit → IsUnplanned KindsFull ops names kinds
+unplanned_kinds ops names kinds full fit = (
+  omega (arith, full, ap length (kinds_of_all ops (graph_by names kinds))),
+  λ past. let same = ap length (names_of_all ops (graph_by names kinds)) in omega arith,
+)
 
 -- and so is one of its names
 pub names_refused : (error : AddError) (op : NamedOp) (behind : List NamedOp) (names : Book)
-    → IsRefusal error names (names_after op names.names) → IsRefusal error names (names_all (op ∷ behind) names.names)
+    → IsRefusal error names (names_after op names.names) → IsRefusal error names (names_after_all (op ∷ behind) names.names)
 names_refused error op behind names refused = grind (arith, common_steps, no_fewer_all)
 
 -- an error that was passed on

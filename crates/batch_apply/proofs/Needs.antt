@@ -8,12 +8,13 @@ use Rattle.std.{proofs.lemmas.Map.Steps.length-le_from_distinct_below, specs.{Pr
 use Rattle.std.{specs.List.{range_with_len, AllZip}, proofs.lemmas.{List.FromFn.length-enumerate_from, Grind.common_steps}}
 use Rattle.graph_types.specs.Limits.{most_names, most_operations}
 use Rattle.graph_types.{specs.declared.batches.NamedOp.NamedOp, proofs.Counts.apart_tail}
-use Rattle.edge_block.specs.{Slots.{BlockView, has_before}, Operations.{Parts, parts_in, parts_of, names_after, kinds_after}}
+use Rattle.graph_types.specs.Parts.{Parts, parts_in, parts_of, names_after, kinds_after}
+use Rattle.edge_block.specs.Slots.{BlockView, has_before}
 use Rattle.edge_block.specs.Batches.{Resolved, resolve_parts, resolved_by}
 use Rattle.graph_version.{specs.{Rows.{row_of, blocks_of}, Versions.{VersionView, IsVersion}}, proofs.BlockCounts.few_blocks}
 use Rattle.batch_shards.specs.{Done.{layout_by, sources_in}, Groups.is_expiry, Spending.{old_blocks, needed}}
 use Rattle.batch_shards.specs.{Spending.latest as latest_step, declared.shard.{Shard.Shard, Step.Step}}
-use Rattle.batch_apply.specs.{Shards.{AreShardSteps, IsShardOf, latest}, declared.old.OldRow.OldRow, OldRows.AreOldRows}
+use Rattle.batch_apply.specs.{Shards.{AreShardSteps, IsShardOf, latest_expiry}, declared.old.OldRow.OldRow, OldRows.AreOldRows}
 use Rattle.batch_apply.{specs.OldRows.{old_sources, time_in, expiry_time}, proofs.{OldRows.old_is_within, Listing.pairs_head}}
 
 sum_add : (f g : ℕ → ℕ) (xs : List ℕ) → sum_by (λ x. f x + g x) xs ≡ sum_by f xs + sum_by g xs
@@ -117,7 +118,7 @@ listed_all P (x ∷ xs) q all listed =
     ] refl listed
 
 one_time : (names kinds : List (List ℕ)) (op : Parts) (rs : List Resolved)
-    → latest (resolve_parts names kinds op ∷ rs) ≡ max (time_in op) (latest rs)
+    → latest_expiry (resolve_parts names kinds op ∷ rs) ≡ max (time_in op) (latest_expiry rs)
 one_time names kinds op rs = grind (arith, common_steps)
 
 -- a limit of weights changes no time
@@ -126,7 +127,7 @@ time_over most h1 = grind (arith, common_steps)
 
 -- the greatest time of the expiries is told before their names are resolved
 pub same_time : (most : ℕ) (ops : List NamedOp) (names kinds : List (List ℕ))
-    → latest (resolved_by most ops names kinds) ≡ expiry_time ops
+    → latest_expiry (resolved_by most ops names kinds) ≡ expiry_time ops
 same_time most [] names kinds = refl
 same_time most (op ∷ ops) names kinds =
     one_time (names_after op names) (kinds_after op kinds) (parts_in most op)

@@ -7,7 +7,7 @@ use Rattle.std.{proofs.lemmas.List.Elements.{All-push, All-weaker}, specs.{List.
 use Rattle.std.{specs.FinMap.get, proofs.lemmas.Grind.common_steps}
 use Rattle.graph_types.specs.Graph.{Graph, Key, Stamp}
 use Rattle.edge_block.specs.Slots.{BlockView, Slot, has_before, stamp_at}
-use Rattle.edge_block.specs.{Rows.Shape, Rows.shape_of, Rows.block_at, Rows.row_at, Batches.IsWithin, Batches.IsLayoutOf}
+use Rattle.edge_block.specs.{Rows.Shape, Rows.shape_of, Rows.block_at, Rows.row_at, Batches.HasEndsWithin, Batches.IsLayoutOf}
 use Rattle.graph_version.specs.{Rows.row_of, Versions.{VersionView, content, layout_of, IsVersion}}
 use Rattle.graph_version.specs.Ages as ages
 use Rattle.batch_shards.specs.Spending.{old_blocks}
@@ -47,7 +47,7 @@ no_block time (b ∷ row) none =
     (no_block time row (λ kind target. (both kind target).1))
 
 -- a source that no edge has has a row without edges
-pub old_within : (g : Graph) (layout : ℕ → List Shape) (time s : ℕ) → IsWithin g → IsLayoutOf layout g.edges
+pub old_within : (g : Graph) (layout : ℕ → List Shape) (time s : ℕ) → HasEndsWithin g → IsLayoutOf layout g.edges
     → has_old_shape time (layout s) ≡ true → s < length g.names
 old_within g layout time s within shows old =
     elim (ltb s (length g.names)) as (λ b. ltb s (length g.names) ≡ b → s < length g.names) [

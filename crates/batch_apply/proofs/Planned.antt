@@ -5,33 +5,33 @@ use Rattle.graph_types.specs.{Limits.most_operations, Step.after_all, declared.b
 use Rattle.edge_block.specs.{Slots.BlockView, Batches.{Resolved, resolved, resolved_by}}
 use Rattle.graph_version.specs.{Rows.row_of, Kept.{vertex_book, kind_book}, Versions.{VersionView, content, IsVersion}}
 use Rattle.batch_shards.specs.{Done.{layout_by, sources_in}, Spending.needed}
-use Rattle.batch_apply.specs.{Plan.shown, Shards.{IsShardOf, latest}, OldRows.{AreOldRows, expiry_time}, Planned.IsPlan}
+use Rattle.batch_apply.specs.{Plan.shown_op, Shards.{IsShardOf, latest_expiry}, OldRows.{AreOldRows, expiry_time}, Planned.IsPlan}
 use Rattle.batch_apply.specs.declared.{plans.Plan.Plan, old.OldRow.OldRow, resolve.ResolvedOp.ResolvedOp}
 use Rattle.batch_apply.proofs.Needs.{same_time, exact_needs}
 
 -- the rows from which the operations may take edges are those by the batch's greatest time
 pub old_resolved : (most : ℕ) (ops : List NamedOp) (names kinds : List (List ℕ)) (found : List ResolvedOp) (rows : ℕ → List BlockView)
-    (old : List OldRow) → map shown found ≡ resolved_by most ops names kinds → AreOldRows (expiry_time ops) rows old
-    → AreOldRows (latest (map shown found)) rows old
+    (old : List OldRow) → map shown_op found ≡ resolved_by most ops names kinds → AreOldRows (expiry_time ops) rows old
+    → AreOldRows (latest_expiry (map shown_op found)) rows old
 old_resolved most ops names kinds found rows old is are =
-    subst (λ (t : ℕ). AreOldRows t rows old) (sym (ap latest is ∙ same_time most ops names kinds)) are
+    subst (λ (t : ℕ). AreOldRows t rows old) (sym (ap latest_expiry is ∙ same_time most ops names kinds)) are
 
 pub planned : (v : VersionView) → IsVersion v → (workers : ℕ) (ops : List NamedOp) (found : List ResolvedOp) (old : List OldRow)
     (plan : Plan) → plan.names ≡ vertex_book (after_all ops (content v))
     → plan.kinds ≡ kind_book (after_all ops (content v))
-    → map shown found ≡ resolved ops (content v) → length found ≤ most_operations
+    → map shown_op found ≡ resolved ops (content v) → length found ≤ most_operations
     → AreOldRows (expiry_time ops) (row_of v.rows) old
-    → ((rows : ℕ → List BlockView) → AreOldRows (latest (map shown found)) rows old
-    → AllZip (IsShardOf workers (map shown found) (layout_by rows)) (range_with_len 0 workers) plan.shards.items)
-    → ((rows : ℕ → List BlockView) → AreOldRows (latest (map shown found)) rows old
+    → ((rows : ℕ → List BlockView) → AreOldRows (latest_expiry (map shown_op found)) rows old
+    → AllZip (IsShardOf workers (map shown_op found) (layout_by rows)) (range_with_len 0 workers) plan.shards.items)
+    → ((rows : ℕ → List BlockView) → AreOldRows (latest_expiry (map shown_op found)) rows old
     → plan.needs.items ≡ map (λ shard. min (needed rows (sources_in shard) shard.steps.items) (2 ^ 64 - 1)) plan.shards.items)
     → IsPlan workers ops (content v) (row_of v.rows) plan
 planned v is workers ops found old plan names kinds ops_are few are shards needs =
-    let rs : List Resolved = map shown found in
+    let rs : List Resolved = map shown_op found in
     let g = content v in
     let old_are = old_resolved g.limits.weight ops g.names g.kinds found (row_of v.rows) old ops_are are in
     let zip = shards (row_of v.rows) old_are in
-    let few_rs : length rs ≤ most_operations = omega (arith, few, length-map found shown) in
+    let few_rs : length rs ≤ most_operations = omega (arith, few, length-map found shown_op) in
     record {
       names = names;
       kinds = kinds;

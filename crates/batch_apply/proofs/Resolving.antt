@@ -3,9 +3,10 @@ use Rattle.std.proofs.Common.{◌≡◌, ℕ, List, [], ◌∷◌, ◌++◌, len
 use Rattle.std.proofs.{Common.{arith, append_assoc, ◌≤◌, drop}, lemmas.List.{Elements.{All-nil, All-cons}, length-map}}
 use Rattle.std.proofs.lemmas.{List.{map-append, append-nil, drop_all}, Grind.common_steps}
 use Rattle.graph_types.specs.{Graph.Key, declared.batches.NamedOp.NamedOp}
-use Rattle.edge_block.specs.{Operations.{Parts, parts_in, names_after, kinds_after}, Batches.{Resolved, IsPlaced}}
+use Rattle.graph_types.specs.Parts.{Parts, parts_in, names_after, kinds_after}
+use Rattle.edge_block.specs.Batches.{Resolved, IsPlaced}
 use Rattle.edge_block.specs.Batches.{resolve_parts, resolved_by}
-use Rattle.batch_apply.specs.{declared.resolve.ResolvedOp.ResolvedOp, Plan.{shown, ends_by, ends_in, key_from, with_kind}}
+use Rattle.batch_apply.specs.{declared.resolve.ResolvedOp.ResolvedOp, Plan.{shown_op, ends_by, ends_in, key_from, with_kind}}
 
 key_cases : (a b c : Bool) (k s t : ℕ)
     → key_from (cond a (Some k) None) (cond b (Some s) None) (cond c (Some t) None) ≡ cond (a && (b && c))
@@ -28,7 +29,7 @@ as_many_resolved most (op ∷ ops) names kinds =
 
 -- as many operations are resolved as there are
 pub as_many_shown : (most : ℕ) (found : List ResolvedOp) (ops : List NamedOp) (names kinds : List (List ℕ))
-    → map shown found ≡ resolved_by most ops names kinds → length found ≡ length ops
+    → map shown_op found ≡ resolved_by most ops names kinds → length found ≡ length ops
 as_many_shown most found ops names kinds are = grind (arith, common_steps, length-map, as_many_resolved)
 
 placed_if : (a b c : Bool) (s : ℕ) (q k : Key) → q.source ≡ s → cond (a && (b && c)) (Some q) None ≡ Some k
@@ -53,12 +54,12 @@ placed_in most rs (op ∷ ops) names kinds e =
 -- one more operation is resolved
 pub one_more : (most : ℕ) (ops rest : List NamedOp) (op : NamedOp) (found : List ResolvedOp) (r : ResolvedOp)
     (names kinds : List (List ℕ)) (all : List Resolved) → ops ≡ op ∷ rest
-    → shown r ≡ resolve_parts (names_after op names) (kinds_after op kinds) (parts_in most op)
-    → map shown found ++ resolved_by most ops names kinds ≡ all
-    → map shown (found ++ r ∷ []) ++ resolved_by most rest (names_after op names) (kinds_after op kinds) ≡ all
+    → shown_op r ≡ resolve_parts (names_after op names) (kinds_after op kinds) (parts_in most op)
+    → map shown_op found ++ resolved_by most ops names kinds ≡ all
+    → map shown_op (found ++ r ∷ []) ++ resolved_by most rest (names_after op names) (kinds_after op kinds) ≡ all
 one_more most ops rest op found r names kinds all ops_are same so_far = grind (arith, common_steps, map-append, append_assoc)
 
 -- behind the last of them all are resolved
 pub all_resolved : (most : ℕ) (ops : List NamedOp) (k : ℕ) (found : List ResolvedOp) (ns ks : List (List ℕ))
-    (all : List Resolved) → length ops ≤ k → map shown found ++ resolved_by most (drop k ops) ns ks ≡ all → map shown found ≡ all
+    (all : List Resolved) → length ops ≤ k → map shown_op found ++ resolved_by most (drop k ops) ns ks ≡ all → map shown_op found ≡ all
 all_resolved most ops k found ns ks all past are = grind (arith, common_steps, append-nil, drop_all)

@@ -2,12 +2,11 @@
 use Rattle.std.proofs.Common.{◌≡◌, ◌<◌, ℕ, List, [], ◌∷◌, length, ◌≤◌, Bool, true, cond, ◌&&◌, ap, subst, All, Some, None, arith}
 use Rattle.std.proofs.lemmas.{List.Elements.{All-nil, All-cons}, Grind.common_steps}
 use Rattle.graph_types.specs.{Graph.{Graph, Key}, Step.after_all, declared.batches.NamedOp.NamedOp}
-use Rattle.graph_types.proofs.NameLists.{number_of-lt}
-use Rattle.edge_block.specs.{Rows.Shape, Batches.{resolve_parts, resolved, resolved_by, IsWithin, IsLayoutOf}, Operations.{Parts, OfEdge}}
-use Rattle.edge_block.specs.Operations.{OfAll, parts_in, names_after, kinds_after}
+use Rattle.graph_types.proofs.{NameLists.number_of-lt, OperationParts.{no_fewer_all, names_of_all}}
+use Rattle.graph_types.specs.Parts.{Parts, OfEdge, OfAll, parts_in, names_after, kinds_after, names_after_all}
+use Rattle.edge_block.specs.{Rows.Shape, Batches.{resolve_parts, resolved, resolved_by, HasEndsWithin, IsLayoutOf}}
 use Rattle.batch_shards.specs.{Done.sources_in, declared.shard.Shard.Shard}
-use Rattle.batch_apply.specs.{Plan.names_all, Shards.IsSourceBelow, Shards.IsShardOf, Shards.latest}
-use Rattle.batch_apply.proofs.{OldRows.old_within, Names.no_fewer_all, Leaving.names_left}
+use Rattle.batch_apply.{specs.Shards.{IsSourceBelow, IsShardOf, latest_expiry}, proofs.OldRows.old_within}
 
 below_if : (a b c : Bool) (q k : Key) (n : ℕ) → cond (a && (b && c)) (Some q) None ≡ Some k → (b ≡ true → q.source < n)
     → k.source < n
@@ -19,22 +18,22 @@ one_below names kinds (OfEdge change kind source target) n few = grind (arith, c
 one_below names kinds (OfAll time) n few = tt
 
 all_below : (most : ℕ) (ops : List NamedOp) (names kinds : List (List ℕ))
-    → All (IsSourceBelow (length (names_all ops names))) (resolved_by most ops names kinds)
+    → All (IsSourceBelow (length (names_after_all ops names))) (resolved_by most ops names kinds)
 all_below most [] names kinds = All-nil (IsSourceBelow (length names))
 all_below most (op ∷ ops) names kinds =
-    let n : ℕ = length (names_all ops (names_after op names)) in
+    let n : ℕ = length (names_after_all ops (names_after op names)) in
     All-cons (IsSourceBelow n) (resolve_parts (names_after op names) (kinds_after op kinds) (parts_in most op))
     (resolved_by most ops (names_after op names) (kinds_after op kinds))
     (one_below (names_after op names) (kinds_after op kinds) (parts_in most op) n (no_fewer_all ops (names_after op names)))
     (all_below most ops (names_after op names) (kinds_after op kinds))
 
 pub sources_within : (workers worker : ℕ) (ops : List NamedOp) (g : Graph) (layout : ℕ → List Shape) (shard : Shard)
-    → IsWithin g → IsLayoutOf layout g.edges → IsShardOf workers (resolved ops g) layout worker shard
+    → HasEndsWithin g → IsLayoutOf layout g.edges → IsShardOf workers (resolved ops g) layout worker shard
     → All (λ s. s < length (after_all ops g).names) (sources_in shard)
 sources_within workers worker ops g layout shard within shows is =
     let more = no_fewer_all ops g.names in
-    let left : length (names_all ops g.names) ≡ length (after_all ops g).names = ap length (names_left ops g) in
+    let left : length (names_after_all ops g.names) ≡ length (after_all ops g).names = ap length (names_of_all ops g) in
     is.within (length (after_all ops g).names) (subst (λ ns. All (IsSourceBelow (length ns)) (resolved ops g))
-    (names_left ops g) (all_below g.limits.weight ops g.names g.kinds))
-    (λ s old. let lt = old_within g layout (latest (resolved ops g)) s within shows old in omega
+    (names_of_all ops g) (all_below g.limits.weight ops g.names g.kinds))
+    (λ s old. let lt = old_within g layout (latest_expiry (resolved ops g)) s within shows old in omega
     (arith, lt, more, left))

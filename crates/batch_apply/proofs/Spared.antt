@@ -10,7 +10,7 @@ use Rattle.edge_block.specs.{Slots.{Slot, edges_in, has_before, old_in, slots_si
 use Rattle.edge_block.specs.{Rows.{expire_row, old_in_row}, Batches.{Resolved, AtKey, InAll, IsPlaced, key_is_of, is_in_shard}}
 use Rattle.edge_block.specs.Batches.{shard_ops, sum_below, rows_step, rows_all, key_outcome, outcomes_all}
 use Rattle.edge_block.proofs.Counts.{count_more}
-use Rattle.batch_apply.{specs.Shards.{latest, has_old_shape}, proofs.{Placed.times, Totals.sum_all}}
+use Rattle.batch_apply.{specs.Shards.{latest_expiry, has_old_shape}, proofs.{Placed.times, Totals.sum_all}}
 
 -- the operation leaves a source's row as it is, and takes no edge of it
 abbrev pub Spares : ℕ → List OpenBlock → Resolved → Type 0
@@ -75,12 +75,12 @@ higher a b le r h = grind (arith, common_steps)
 all_higher : (a b : ℕ) → a ≤ b → (rs : List Resolved) → All (IsUpTo a) rs → All (IsUpTo b) rs
 all_higher a b le rs all k d lt = higher a b le (get_or rs k d) (all k d lt)
 
-up_to : (rs : List Resolved) → All (IsUpTo (latest rs)) rs
+up_to : (rs : List Resolved) → All (IsUpTo (latest_expiry rs)) rs
 up_to [] = All-nil (IsUpTo 0)
-up_to (AtKey of key change ∷ rs) = All-cons (IsUpTo (max 0 (latest rs))) (AtKey of key change) rs tt
-    (all_higher (latest rs) (max 0 (latest rs)) (le-max_right 0 (latest rs)) rs (up_to rs))
-up_to (InAll time ∷ rs) = All-cons (IsUpTo (max time (latest rs))) (InAll time) rs (le-max_left time (latest rs))
-    (all_higher (latest rs) (max time (latest rs)) (le-max_right time (latest rs)) rs (up_to rs))
+up_to (AtKey of key change ∷ rs) = All-cons (IsUpTo (max 0 (latest_expiry rs))) (AtKey of key change) rs tt
+    (all_higher (latest_expiry rs) (max 0 (latest_expiry rs)) (le-max_right 0 (latest_expiry rs)) rs (up_to rs))
+up_to (InAll time ∷ rs) = All-cons (IsUpTo (max time (latest_expiry rs))) (InAll time) rs (le-max_left time (latest_expiry rs))
+    (all_higher (latest_expiry rs) (max time (latest_expiry rs)) (le-max_right time (latest_expiry rs)) rs (up_to rs))
 
 none_since : (most time : ℕ) → time ≤ most → (es : List Slot) → list_any (λ e. is_before most e.stamp) es ≡ false
     → (list_any (λ e. is_before time e.stamp) es ≡ false) × (count_by (λ e. is_before time e.stamp) es ≡ 0)
@@ -116,9 +116,9 @@ spares : (m : ℕ) (most : ℕ) (row : List Shape) → has_old_shape most row �
     → Spares m (map untouched row) r
 spares m most row none r off le = grind (arith, common_steps, row_since)
 
-pub all_spare : (m : ℕ) (rs : List Resolved) (row : List Shape) → has_old_shape (latest rs) row ≡ false → All (KeepsOff m) rs
+pub all_spare : (m : ℕ) (rs : List Resolved) (row : List Shape) → has_old_shape (latest_expiry rs) row ≡ false → All (KeepsOff m) rs
     → All (Spares m (map untouched row)) rs
-all_spare m rs row none off k d lt = spares m (latest rs) row none (get_or rs k d) (off k d lt) (up_to rs k d lt)
+all_spare m rs row none off k d lt = spares m (latest_expiry rs) row none (get_or rs k d) (off k d lt) (up_to rs k d lt)
 
 -- what a source's own shard keeps off, the batch does
 module _ (workers m : ℕ) where

@@ -7,14 +7,14 @@ use Rattle.std.{proofs.lemmas.List.Elements.{All-cons, All-nil, All-append, All-
 use Rattle.std.proofs.lemmas.Grind.{common_steps}
 use Rattle.graph_types.specs.{Graph.Graph, Step.after_all, declared.batches.NamedOp.NamedOp, declared.batches.Outcome.Outcome}
 use Rattle.edge_block.specs.{Rows.{Shape, OpenBlock, untouched, taken_in, dropped_in, shape_of, row_end}, Batches.Resolved}
-use Rattle.edge_block.specs.Batches.{AtKey, InAll, resolved, is_in_shard, shard_ops, rows_all, opened, key_is_of, taken_by}
-use Rattle.edge_block.specs.{Batches.{dropped_by, outcomes_all, layout_after, sum_below, IsWithin, IsLayoutOf}, Slots.BlockView}
+use Rattle.edge_block.specs.Batches.{AtKey, InAll, resolved, is_in_shard, shard_ops, rows_all, opened_rows, key_is_of, taken_by}
+use Rattle.edge_block.specs.{Batches.{dropped_by, outcomes_all, layout_after, sum_below, HasEndsWithin, IsLayoutOf}, Slots.BlockView}
 use Rattle.batch_shards.specs.{Births.births_end, Shards.{IsAct, IsPlace, key_at, resolved_at}, declared.shard.Act.Act}
 use Rattle.batch_shards.specs.declared.shard.{Act.TheVariants.{Edge, Expire}, Shard.Shard, Step.Step, ShardDone.ShardDone}
 use Rattle.batch_shards.specs.{declared.shard.Place.Place, Done.{IsShardDone, sources_in, steps_in, rows_by, layout_by, sum_of}}
 use Rattle.batch_shards.{specs.Closing.row_values, proofs.Places.count_by-append}
 use Rattle.graph_version.specs.Versions.{is_in}
-use Rattle.batch_apply.specs.{Shards.{acts, unsourced, latest, has_old_shape, IsShardOf, ArePlanned}, Plans.{results, told}}
+use Rattle.batch_apply.specs.{Shards.{acts, unsourced, latest_expiry, has_old_shape, IsShardOf, ArePlanned}, Plans.{results, told}}
 use Rattle.batch_apply.proofs.{Spared.{Spares, KeepsOff, rows_spared, over_all, all_spare, off_all}, Totals.sum_all}
 use Rattle.batch_apply.proofs.{Totals.{worker_rows, none_taken, none_dropped, same_outcomes}, Kept.{some_times, sum_same}}
 use Rattle.batch_apply.proofs.{Placed.{times, listed_times}, Merge.{same_ops, shard_places, kept_all}, Resolving.placed_in}
@@ -83,7 +83,7 @@ module _ (workers : ℕ) (ops : List NamedOp) (g : Graph) (layout : ℕ → List
   abbrev n : ℕ
   n = length (after_all ops g).names
 
-  pub all_within : IsWithin g → IsLayoutOf layout g.edges → (a k : ℕ) (shards : List Shard) → Zipped a k shards
+  pub all_within : HasEndsWithin g → IsLayoutOf layout g.edges → (a k : ℕ) (shards : List Shard) → Zipped a k shards
       → All (λ s. s < n) (sources_all shards)
   all_within inside shows a zero [] z = All-nil (λ s. s < n)
   all_within inside shows a zero (s ∷ shards) z = absurd z
@@ -155,15 +155,15 @@ module _ (workers : ℕ) (ops : List NamedOp) (g : Graph) (layout : ℕ → List
 
   -- nor has its row an edge that one of the expiries takes
   no_old : (w m : ℕ) (shard : Shard) → IsShardOf workers (resolved ops g) layout w shard → m % workers ≡ w
-      → times m (sources_in shard) ≡ 0 → has_old_shape (latest rs) (layout m) ≡ false
+      → times m (sources_in shard) ≡ 0 → has_old_shape (latest_expiry rs) (layout m) ≡ false
   no_old w m shard is own none = grind (arith, common_steps, false_from_ne_true, listed_times)
 
   module _ (positive : 0 < workers) (shards : List Shard) (planned : ArePlanned workers ops g layout shards) where
     abbrev left : ℕ → List OpenBlock
-    left = rows_all (resolved ops g) (opened layout)
+    left = rows_all (resolved ops g) (opened_rows layout)
 
     -- a source that no shard lists is spared by the batch
-    pub spared : (m : ℕ) → times m (sources_all shards) ≡ 0 → All (Spares m (opened layout m)) rs
+    pub spared : (m : ℕ) → times m (sources_all shards) ≡ 0 → All (Spares m (opened_rows layout m)) rs
     spared m none =
         let lt = mod-lt m positive in
         let s = pick 0 workers (m % workers) shards planned (omega arith) (omega arith) in
@@ -175,12 +175,12 @@ module _ (workers : ℕ) (ops : List NamedOp) (g : Graph) (layout : ℕ → List
 
     -- it has the row that it had, with the births that it had
     pub quiet_row : (m : ℕ) → times m (sources_all shards) ≡ 0 → left m ≡ map untouched (layout m)
-    quiet_row m none = rows_spared m rs (opened layout) (spared m none)
+    quiet_row m none = rows_spared m rs (opened_rows layout) (spared m none)
 
     pub quiet_layout : (m : ℕ) → times m (sources_all shards) ≡ 0 → layout_after ops g layout m ≡ layout m
     quiet_layout m none = ap row_end (quiet_row m none) ∙ kept_all (layout m)
 
-    module _ (inside : IsWithin g) (shows : IsLayoutOf layout g.edges) where
+    module _ (inside : HasEndsWithin g) (shows : IsLayoutOf layout g.edges) where
       pub births_sum : (f : ℕ → List OpenBlock → ℕ) → ((m : ℕ) → f m (map untouched (layout m)) ≡ 0)
           → sum_by (λ m. f m (left m)) (sources_all shards) ≡ sum_below n (λ m. f m (left m))
       births_sum f none = sum_all (λ m. f m (left m)) n (sources_all shards) (λ m. all_once 0 workers m shards planned)
@@ -193,16 +193,16 @@ module _ (workers : ℕ) (ops : List NamedOp) (g : Graph) (layout : ℕ → List
       dropped_sum = births_sum (λ m. dropped_in) (λ m. none_dropped (layout m))
 
       -- outcomes over the sources of all shards are those over all sources
-      pub outcomes_over : outcomes_all (sources_all shards) rs (opened layout) ≡ outcomes_all (range_with_len 0 n) rs (opened layout)
+      pub outcomes_over : outcomes_all (sources_all shards) rs (opened_rows layout) ≡ outcomes_all (range_with_len 0 n) rs (opened_rows layout)
       outcomes_over = over_all n (sources_all shards) (λ m. all_once 0 workers m shards planned)
-          (all_within inside shows 0 workers shards planned) rs (opened layout) spared
+          (all_within inside shows 0 workers shards planned) rs (opened_rows layout) spared
 
   -- what the shards' results take together
   pub together_at : (before : ℕ → List BlockView) (f : ℕ → List OpenBlock → ℕ) (count : ShardDone → ℕ)
       → ((shard : Shard) (done : ShardDone) → IsShardDone before shard done
       → count done ≡ sum_of (λ m. f m (rows_by before shard m)) (sources_in shard))
       → (a k : ℕ) (shards : List Shard) (dones : List ShardDone) → Zipped a k shards → AllZip (IsShardDone before) shards dones
-      → sum_by count dones ≡ sum_by (λ m. f m (rows_all (resolved ops g) (opened (layout_by before)) m))
+      → sum_by count dones ≡ sum_by (λ m. f m (rows_all (resolved ops g) (opened_rows (layout_by before)) m))
       (sources_all shards)
   together_at before f count each a zero [] [] z d = refl
   together_at before f count each a zero [] (x ∷ dones) z d = absurd d
@@ -210,11 +210,11 @@ module _ (workers : ℕ) (ops : List NamedOp) (g : Graph) (layout : ℕ → List
   together_at before f count each a (suc k) [] dones z d = absurd z
   together_at before f count each a (suc k) (s ∷ shards) [] z d = absurd d
   together_at before f count each a (suc k) (s ∷ shards) (x ∷ dones) z d =
-      let all : ℕ → ℕ = λ m. f m (rows_all (resolved ops g) (opened (layout_by before)) m) in
+      let all : ℕ → ℕ = λ m. f m (rows_all (resolved ops g) (opened_rows (layout_by before)) m) in
       sum_by-cons count x dones
       ∙ ap₂ (λ a b. a + b)
       (each s x d.0 ∙ sum_same (λ m. f m (rows_by before s m)) all (sources_in s)
-      (λ i e lt. ap (f (get_or (sources_in s) i e)) (worker_rows workers a ops g layout s z.0 (opened (layout_by before))
+      (λ i e lt. ap (f (get_or (sources_in s) i e)) (worker_rows workers a ops g layout s z.0 (opened_rows (layout_by before))
       (get_or (sources_in s) i e) (ap (λ b. b == a) (z.0.own i e lt) ∙ eq-eqb a a refl))))
       (together_at before f count each (a + 1) k shards dones z.1 d.1)
       ∙ sym (sum_by-append all (sources_in s) (sources_all shards))
@@ -222,7 +222,7 @@ module _ (workers : ℕ) (ops : List NamedOp) (g : Graph) (layout : ℕ → List
 -- all workers together take and drop as many blocks as the layout rule says of the batch, for every number of workers
 pub batch_totals : (workers : ℕ) (ops : List NamedOp) (g : Graph) (before : ℕ → List BlockView) (shards : List Shard)
     (dones : List ShardDone)
-    → 0 < workers → IsWithin g → IsLayoutOf (layout_by before) g.edges → ArePlanned workers ops g (layout_by before) shards
+    → 0 < workers → HasEndsWithin g → IsLayoutOf (layout_by before) g.edges → ArePlanned workers ops g (layout_by before) shards
     → AllZip (IsShardDone before) shards dones
     → (sum_by (λ d. length d.left.taken.items) dones ≡ taken_by ops g (layout_by before) (length (after_all ops g).names))
     × (sum_by (λ d. length d.left.dropped.items) dones ≡ dropped_by ops g (layout_by before) (length (after_all ops g).names))
@@ -238,7 +238,7 @@ module _ (workers w : ℕ) (ops : List NamedOp) (g : Graph) (layout : ℕ → Li
     (planned : IsShardOf workers (resolved ops g) layout w shard) (is : IsShardDone before shard done) where
   -- the batch's outcomes over the shard's sources
   abbrev all_outcomes : List Outcome
-  all_outcomes = outcomes_all (sources_in shard) (resolved ops g) (opened (layout_by before))
+  all_outcomes = outcomes_all (sources_in shard) (resolved ops g) (opened_rows (layout_by before))
 
   -- a shard's outcomes are the batch's at the shard's places
   pub shard_outcomes_at : done.outcomes.items
@@ -247,16 +247,16 @@ module _ (workers w : ℕ) (ops : List NamedOp) (g : Graph) (layout : ℕ → Li
       is.outcomes_are
       ∙ ap₂ (λ ps (os : List Outcome). zip ps (map told os)) planned.places
       (same_outcomes (sources_in shard) (steps_in shard) (shard_ops workers w (resolved ops g)) planned.acts_are
-      (opened (layout_by before))
-      ∙ ap (λ rs. outcomes_all (sources_in shard) rs (opened (layout_by before)))
+      (opened_rows (layout_by before))
+      ∙ ap (λ rs. outcomes_all (sources_in shard) rs (opened_rows (layout_by before)))
       (sym (same_ops workers w ops g (layout_by before))))
       ∙ shard_places workers w ops g (layout_by before) (sources_in shard)
       (λ k d lt. ap (λ n. n == w) (planned.own k d lt) ∙ eq-eqb w w refl)
 
   -- a shard leaves its rows as the batch does
   row_there : (k : ℕ) (d : ℕ × List BlockView) → k < length (row_values done.rows.items)
-      → rows_all (steps_in shard) (opened (layout_by before)) (get_or (row_values done.rows.items) k d).0
-      ≡ rows_all (resolved ops g) (opened (layout_by before)) (get_or (row_values done.rows.items) k d).0
+      → rows_all (steps_in shard) (opened_rows (layout_by before)) (get_or (row_values done.rows.items) k d).0
+      ≡ rows_all (resolved ops g) (opened_rows (layout_by before)) (get_or (row_values done.rows.items) k d).0
   row_there k d lt =
       let r : ℕ × List BlockView = get_or (row_values done.rows.items) k d in
       let long : length (map (λ (r : ℕ × List BlockView). r.0) (row_values done.rows.items))
@@ -265,7 +265,7 @@ module _ (workers w : ℕ) (ops : List NamedOp) (g : Graph) (layout : ℕ → Li
       ∙ get_or-map (λ (r : ℕ × List BlockView). r.0) (row_values done.rows.items) k d 0 lt in
       let within : k < length (sources_in shard) = omega (arith, ap length is.sources_are) in
       let own : r.0 % workers ≡ w = ap (λ s. s % workers) (sym source) ∙ planned.own k 0 within in
-      worker_rows workers w ops g layout shard planned (opened (layout_by before)) r.0 (ap (λ b. b == w) own ∙ eq-eqb w w refl)
+      worker_rows workers w ops g layout shard planned (opened_rows (layout_by before)) r.0 (ap (λ b. b == w) own ∙ eq-eqb w w refl)
 
   -- a shard's rows have the layout that the batch leaves
   pub shard_layout_at : All (λ r. map shape_of r.1 ≡ layout_after ops g (layout_by before) r.0) (row_values done.rows.items)
@@ -274,6 +274,6 @@ module _ (workers w : ℕ) (ops : List NamedOp) (g : Graph) (layout : ℕ → Li
   -- a shard's rows have the births that the batch leaves
   pub shard_births_at : (f h : BlockView → ℕ) (n : ℕ) → ((b : BlockView) → is_in b.number done.left.taken.items ≡ true → h b ≡ n)
       → All (λ r. All (λ b. h b ≡ f b) (before r.0) → map h r.1
-      ≡ births_end n (rows_all (resolved ops g) (opened (layout_by before)) r.0) (map f (before r.0)))
+      ≡ births_end n (rows_all (resolved ops g) (opened_rows (layout_by before)) r.0) (map f (before r.0)))
       (row_values done.rows.items)
   shard_births_at f h n each k d lt = grind (arith, common_steps, row_there)

@@ -6,7 +6,7 @@ use Rattle.graph_types.{proofs.Expiry.fewer, specs.{Graph.{Graph, Stamp}, Step.{
 use Rattle.graph_types.specs.{Step.changed_key, declared.batches.NamedOp.{NamedOp, TheVariants.{Insert, Incr, Remove, Expire}}}
 use Rattle.graph_types.specs.declared.{batches.Outcome.{Outcome, TheVariants.Expired}, changes.EdgeChange.EdgeChange}
 use Rattle.graph_types.specs.declared.changes.EdgeChange.TheVariants.{Remove as ToRemove}
-use Rattle.batch_shards.specs.Groups.{told}
+use Rattle.graph_types.specs.Outcomes.{told}
 use Rattle.batch_apply.{specs.Applied.is_inserted, proofs.EdgeCounts.op_len}
 
 change_told : (change : EdgeChange) (before : Option Stamp) → told (outcome_at change before) ≡ outcome_at change before

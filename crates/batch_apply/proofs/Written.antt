@@ -5,9 +5,10 @@ use Rattle.std.proofs.{Math.Nat.{add-mod-mod, mod-add-mod, mod-mod}, lemmas.Bool
 use Rattle.std.{proofs.lemmas.{Bool.ltb-false, List.{append_assoc, Sums.sum_by-append}, Grind.common_steps}, specs.List.sum_by}
 use Rattle.graph_types.specs.declared.batches.Outcome.{Outcome, TheVariants.{Absent, Expired}}
 use Rattle.edge_block.specs.{Rows.OpenBlock, Rows.old_in_row, Batches.key_outcome}
-use Rattle.edge_block.specs.Batches.{Resolved, AtKey, InAll, shard_of, is_in_shard, together, outcome_in, outcomes_all, rows_step}
+use Rattle.edge_block.specs.Batches.{Resolved, AtKey, InAll, shard_of, is_in_shard, outcome_in, outcomes_all, rows_step}
+use Rattle.graph_types.specs.Outcomes.{together}
 use Rattle.batch_apply.specs.Plans.{written, results, written_all}
-use Rattle.batch_shards.specs.Groups.{told}
+use Rattle.graph_types.specs.Outcomes.{told}
 
 -- what stands after a shard: the results of the operations that pass are put together with it
 abbrev mixed : (Resolved → Bool) → List Resolved → List Outcome → List Outcome → List Outcome

@@ -18,16 +18,16 @@ pub record IsApplied (v : VersionView) (ops : List NamedOp) (numbers : List ℕ)
   -- the operation rule
   pub outcomes_are : a.outcomes.items ≡ outcomes ops (content v)
   -- all blocks that aren't dropped are kept as they are, and the others are fresh ones of the numbers taken
-  pub exchanged : Exchanges (blocks_of v.rows) (blocks_of a.version.rows) a.taken.items (shared.blocks_of a.dropped.items)
+  pub exchanged : Exchanges (blocks_of v.rows) (blocks_of a.version.rows) a.taken.items (shared.shared_blocks a.dropped.items)
   -- each number handed in is taken or handed back
-  pub handed : (q : ℕ → Bool) → count_by q a.taken.items + count_by q (shared.numbers_of a.unused.items) ≡ count_by q numbers
+  pub handed : (q : ℕ → Bool) → count_by q a.taken.items + count_by q (shared.shared_numbers a.unused.items) ≡ count_by q numbers
   -- the layout rule, and as many blocks taken and dropped as it says
   pub layout : (source : ℕ) → layout_of a.version.rows source ≡ layout_after ops (content v) (layout_of v.rows) source
   pub taken_are : length a.taken.items ≡ taken_by ops (content v) (layout_of v.rows) (length (after_all ops (content v)).names)
   pub dropped_are : length a.dropped.items ≡ dropped_by ops (content v) (layout_of v.rows)
       (length (after_all ops (content v)).names)
   -- the rule of births
-  pub births : CarriesBirths v ops a.version a.taken.items (shared.blocks_of a.dropped.items)
+  pub births : CarriesBirths v ops a.version a.taken.items (shared.shared_blocks a.dropped.items)
 
 -- the outcomes of shards, one shard after another, written at their places
 abbrev pub written_from : List ShardDone → List Outcome → List Outcome

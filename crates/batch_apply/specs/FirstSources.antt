@@ -12,13 +12,13 @@ abbrev pub source_in : Option Key → List ℕ
 source_in None = []
 source_in (Some k) = k.source ∷ []
 
-abbrev pub asked_by : Resolved → List ℕ
-asked_by (AtKey source key change) = source_in key
-asked_by (InAll time) = []
+abbrev pub asked_source : Resolved → List ℕ
+asked_source (AtKey source key change) = source_in key
+asked_source (InAll time) = []
 
 -- those of operations, one after another
-abbrev pub asked : List Resolved → List ℕ
-asked rs = flat_map asked_by rs
+abbrev pub asked_sources : List Resolved → List ℕ
+asked_sources rs = flat_map asked_source rs
 
 -- the places from the next one on say where these are among the sources, one after another
 abbrev pub AreNext : List ℕ → List ℕ → Places → Type 0
@@ -31,5 +31,5 @@ pub record AreFirst (workers w : ℕ) (rs : List Resolved) (old : List OldRow) (
   pub distinct : AllPairs (λ a b. a ≢ b) sources
   pub own : All (λ s. s % workers ≡ w) sources
   pub from : (s : ℕ) → list_any (nat_eq s) sources ≡ true
-      → (list_any (nat_eq s) (old_sources old) || list_any (nat_eq s) (asked rs)) ≡ true
+      → (list_any (nat_eq s) (old_sources old) || list_any (nat_eq s) (asked_sources rs)) ≡ true
   pub old_rows : (s : ℕ) → s % workers ≡ w → list_any (nat_eq s) (old_sources old) ≡ true → list_any (nat_eq s) sources ≡ true

@@ -19,8 +19,8 @@ pub record IsShard (rows : ℕ → List BlockView) (shard : Shard) : Type 0 wher
   pub distinct : AllPairs (λ a b. a ≢ b) (map (λ s. s.0) shard.sources.items)
 
 -- what the work on each job's shard must leave of these rows, in the order of the jobs
-abbrev pub AreDone : (ℕ → List BlockView) → List Job → List ShardDone → Type 0
-AreDone rows jobs done = AllZip (λ j d. IsShardDone rows j.shard d) jobs done
+abbrev pub AreShardsDone : (ℕ → List BlockView) → List Job → List ShardDone → Type 0
+AreShardsDone rows jobs done = AllZip (λ j d. IsShardDone rows j.shard d) jobs done
 
 -- the job of a shard, once the shard has so many fresh blocks
 pub record IsDealt (planned : Shard × ℕ) (job : Job) : Type 0 where
@@ -36,14 +36,14 @@ pub record IsGathered (rows : ℕ → List BlockView) (planned : List (Shard × 
   pub dones : List ShardDone
   pub rest : List ℕ
   pub dealt : AllZip IsDealt planned jobs
-  pub shared_out : (q : ℕ → Bool) → count_by q (flat_map (λ j. shared.numbers_of j.shard.fresh.items) jobs) + count_by q rest
+  pub shared_out : (q : ℕ → Bool) → count_by q (flat_map (λ j. shared.shared_numbers j.shard.fresh.items) jobs) + count_by q rest
       ≡ count_by q numbers
-  pub done : AreDone rows jobs dones
+  pub done : AreShardsDone rows jobs dones
   pub outcomes_are : all.outcomes.items ≡ written_from dones (replicate operations Absent)
   pub rows_are : row_values all.rows.items ≡ flat_map (λ d. row_values d.rows.items) dones
   pub taken_are : all.left.taken.items ≡ flat_map (λ d. d.left.taken.items) dones
-  pub dropped_are : shared.blocks_of all.left.dropped.items ≡ flat_map (λ d. shared.blocks_of d.left.dropped.items) dones
-  pub unused_are : shared.numbers_of all.left.unused.items ≡ rest ++ flat_map (λ d. shared.numbers_of d.left.unused.items) dones
+  pub dropped_are : shared.shared_blocks all.left.dropped.items ≡ flat_map (λ d. shared.shared_blocks d.left.dropped.items) dones
+  pub unused_are : shared.shared_numbers all.left.unused.items ≡ rest ++ flat_map (λ d. shared.shared_numbers d.left.unused.items) dones
 
 -- the shards of a plan were worked on with fresh blocks of these numbers, none of which the version has, and what they left was
 -- put together; the plan has these names and kinds

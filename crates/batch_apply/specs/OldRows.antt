@@ -2,7 +2,8 @@
 use Rattle.std.specs.Prelude.{◌≡◌, ◌≢◌, ℕ, ◌<◌, ◌%◌, ◌==◌, List, map, filter, All, AllPairs, true, nat_eq}
 use Rattle.std.specs.List.{list_any, sum_by}
 use Rattle.graph_types.specs.declared.batches.NamedOp.{NamedOp}
-use Rattle.edge_block.specs.{Slots.BlockView, Operations.{Parts, OfEdge, OfAll, parts_of}}
+use Rattle.graph_types.specs.Parts.{Parts, OfEdge, OfAll, parts_of}
+use Rattle.edge_block.specs.Slots.{BlockView}
 use Rattle.batch_shards.specs.Spending.{latest_by, old_blocks}
 use Rattle.batch_apply.specs.declared.old.OldRow.{OldRow}
 

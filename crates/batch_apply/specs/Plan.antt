@@ -1,13 +1,13 @@
 -- The numbers of a batch's names, each operation by the names at its place.
-use Rattle.std.specs.{Prelude.{ℕ, ◌≡◌, ◌<◌, ◌≤◌, List, [], ◌∷◌, length, if◌then◌else◌}, Option.{option_map, IfSome}}
+use Rattle.std.specs.{Prelude.{ℕ, ◌≡◌, ◌<◌, ◌≤◌, List, ◌∷◌, length, if◌then◌else◌}, Option.{option_map, IfSome}}
 use Rattle.std.specs.declared.option.Option.{Option, TheVariants.{None, Some}}
-use Rattle.graph_types.specs.{Graph.Key, Step.number_of, declared.batches.NamedOp.NamedOp, Changes.IsChange}
+use Rattle.graph_types.specs.{Graph.{Graph, Key}, Limits.standard_limits, Step.{number_of, empty_graph}, Changes.IsChange}
+use Rattle.graph_types.specs.{Refusals.IsLimitRefusal, declared.{batches.NamedOp.NamedOp, refusals.ApplyError.ApplyError}}
 use Rattle.vertex_names.specs.{Book.Book, declared.book.AddError.{AddError, TheVariants.{NamesFull, OutOfMemory}}}
-use Rattle.edge_block.specs.Operations.{Parts, OfEdge, OfAll, parts_of, names_after, kinds_after}
+use Rattle.graph_types.specs.Parts.{Parts, OfEdge, OfAll, parts_of}
 use Rattle.edge_block.specs.Batches.{Resolved, AtKey, InAll, is_known}
-use Rattle.batch_apply.specs.declared.{plans.PlanError.PlanError, resolve.{Ends.Ends, EdgeKey.EdgeKey, SeenKind.SeenKind}}
+use Rattle.batch_apply.specs.declared.resolve.{Ends.Ends, EdgeKey.EdgeKey, SeenKind.SeenKind}
 use Rattle.batch_apply.specs.declared.resolve.ResolvedOp.{ResolvedOp, TheVariants.{Edge, Expire}}
-use Rattle.batch_apply.specs.declared.plans.PlanError.TheVariants as plan
 
 -- a name's number, if it has appeared
 abbrev pub known : List (List ℕ) → List ℕ → Option ℕ
@@ -40,15 +40,6 @@ kind_by kinds (OfAll time) = None
 abbrev pub IsSeen : List (List ℕ) → Option SeenKind → Type 0
 IsSeen kinds seen = IfSome seen (λ k. known kinds k.text.now ≡ Some k.number.0)
 
--- the names, and the kinds, after operations, one after another
-abbrev pub names_all : List NamedOp → List (List ℕ) → List (List ℕ)
-names_all [] names = names
-names_all (op ∷ ops) names = names_all ops (names_after op names)
-
-abbrev pub kinds_all : List NamedOp → List (List ℕ) → List (List ℕ)
-kinds_all [] kinds = kinds
-kinds_all (op ∷ ops) kinds = kinds_all ops (kinds_after op kinds)
-
 -- the key of three numbers, if all of them are known
 abbrev pub key_from : Option ℕ → Option ℕ → Option ℕ → Option Key
 key_from (Some kind) (Some source) (Some target) = Some (record { kind = kind; source = source; target = target })
@@ -61,12 +52,12 @@ with_kind kinds ends (OfEdge change kind source target) =
 with_kind kinds ends (OfAll time) = InAll time
 
 -- the key and the operation that the program's values show
-abbrev pub key_of : EdgeKey → Key
-key_of k = record { kind = k.kind.0; source = k.source; target = k.target }
+abbrev pub key_shown : EdgeKey → Key
+key_shown k = record { kind = k.kind.0; source = k.source; target = k.target }
 
-abbrev pub shown : ResolvedOp → Resolved
-shown (Edge source key change) = AtKey source (option_map key_of key) change
-shown (Expire time) = InAll time
+abbrev pub shown_op : ResolvedOp → Resolved
+shown_op (Edge source key change) = AtKey source (option_map key_shown key) change
+shown_op (Expire time) = InAll time
 
 -- an operation on an edge has a weight and a time in range
 abbrev pub IsInRange : ResolvedOp → Type 0
@@ -80,14 +71,20 @@ with_names book names = record book { names = names }
 abbrev pub Fits : Book → Type 0
 Fits book = length book.names ≤ book.limit
 
--- the refusal of names that would be more than the limit; want of memory may come at any time
+-- the refusal of names that would be more than the limit; out of memory may come at any time
 abbrev pub IsRefusal : AddError → Book → List (List ℕ) → Type 0
 IsRefusal NamesFull book names = book.limit < length names
 IsRefusal OutOfMemory book names = Unit {0}
 
--- when a batch is not planned: for the names first, and for the kinds only where the names fit
-abbrev pub IsUnplanned : PlanError → List NamedOp → Book → Book → Type 0
-IsUnplanned plan.NamesFull ops names kinds = names.limit < length (names_all ops names.names)
-IsUnplanned plan.KindsFull ops names kinds = (kinds.limit < length (kinds_all ops kinds.names))
-    × (length (names_all ops names.names) ≤ names.limit)
-IsUnplanned plan.OutOfMemory ops names kinds = Unit {0}
+-- the graph of which books have the names and the kinds, with their limits and no edges
+abbrev pub graph_by : Book → Book → Graph
+graph_by names kinds =
+    record empty_graph {
+      names = names.names;
+      kinds = kinds.names;
+      limits = record standard_limits { names = names.limit; kinds = kinds.limit };
+    }
+
+-- when a batch is not planned
+abbrev pub IsUnplanned : ApplyError → List NamedOp → Book → Book → Type 0
+IsUnplanned error ops names kinds = IsLimitRefusal error ops (graph_by names kinds)

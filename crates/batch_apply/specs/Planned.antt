@@ -1,11 +1,10 @@
 -- The plan of a batch: what it leaves of the names, and its operations by worker.
 use Rattle.std.specs.{Prelude.{◌≡◌, ℕ, List, map}, List.{range_with_len, AllZip}}
-use Rattle.graph_types.specs.{Graph.Graph, Step.{MeetsNameLimit, MeetsKindLimit, after_all}, declared.batches.NamedOp.NamedOp}
+use Rattle.graph_types.specs.{Graph.Graph, Step.after_all, declared.batches.NamedOp.NamedOp}
 use Rattle.edge_block.specs.{Slots.BlockView, Batches.resolved}
 use Rattle.batch_shards.specs.{Done.{layout_by, sources_in}, Spending.needed}
 use Rattle.graph_version.specs.Kept.{vertex_book, kind_book}
-use Rattle.batch_apply.specs.{Shards.IsShardOf, declared.plans.{Plan.Plan, PlanError.{PlanError, TheVariants.NamesFull}}}
-use Rattle.batch_apply.specs.declared.plans.PlanError.TheVariants.{KindsFull, OutOfMemory}
+use Rattle.batch_apply.specs.{Shards.IsShardOf, declared.plans.Plan.Plan}
 
 -- the books have the names that the batch leaves of the graph, the shards over its rows are those of workers 0, 1, .. in order,
 -- and each may take as many fresh blocks as it has operations on edges, and blocks with an edge that an expiry may take
@@ -15,13 +14,3 @@ pub record IsPlan (workers : ℕ) (ops : List NamedOp) (g : Graph) (rows : ℕ �
   pub shards : AllZip (IsShardOf workers (resolved ops g) (layout_by rows)) (range_with_len 0 workers)
       plan.shards.items
   pub needs : plan.needs.items ≡ map (λ shard. needed rows (sources_in shard) shard.steps.items) plan.shards.items
-
--- a batch that leaves no more names and no more kinds than the limits
-abbrev pub MeetsNeitherLimit : List NamedOp → Graph → Type 0
-MeetsNeitherLimit ops g = (MeetsNameLimit ops g → ⊥) × (MeetsKindLimit ops g → ⊥)
-
--- when a batch is not planned: for the names first, then for the kinds; want of memory may come at any time
-abbrev pub IsPlanRefusal : PlanError → List NamedOp → Graph → Type 0
-IsPlanRefusal NamesFull ops g = MeetsNameLimit ops g
-IsPlanRefusal KindsFull ops g = MeetsKindLimit ops g × (MeetsNameLimit ops g → ⊥)
-IsPlanRefusal OutOfMemory ops g = Unit {0}

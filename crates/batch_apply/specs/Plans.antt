@@ -2,15 +2,15 @@
 use Rattle.std.specs.{Prelude.{ℕ, ◌+◌, List, [], ◌∷◌, map, Bool}, List.enumerate_from}
 use Rattle.graph_types.specs.{Graph.Graph, declared.batches.{NamedOp.NamedOp, Outcome.Outcome}}
 use Rattle.edge_block.specs.{Rows.OpenBlock, Batches.{Resolved, resolved, is_in_shard, outcomes_all, picked}}
-pub use Rattle.batch_shards.specs.Groups.{told, written}
+pub use Rattle.graph_types.specs.Outcomes.{told, written}
 
 -- the batch's operations, each with its place
 abbrev pub placed_ops : List NamedOp → Graph → List (ℕ × Resolved)
 placed_ops ops g = enumerate_from 0 (resolved ops g)
 
 -- the operations of a shard without their places
-abbrev pub ops_of : List (ℕ × Resolved) → List Resolved
-ops_of shard = map (λ p. p.1) shard
+abbrev pub shard_operations : List (ℕ × Resolved) → List Resolved
+shard_operations shard = map (λ p. p.1) shard
 
 -- the results of the operations that pass, each with its place
 abbrev pub results : {A : Type 0} → (Resolved → Bool) → List Resolved → List A → ℕ → List (ℕ × A)

@@ -39,13 +39,13 @@ with_op (AtKey source key change) sources = with_source key sources
 with_op (InAll time) sources = sources
 
 -- the time of an expiry, 0 of another operation
-abbrev pub time_of : Resolved → ℕ
-time_of (AtKey source key change) = 0
-time_of (InAll time) = time
+abbrev pub resolved_time : Resolved → ℕ
+resolved_time (AtKey source key change) = 0
+resolved_time (InAll time) = time
 
 -- the greatest time of the batch's expiries, 0 where it has none: no edge is from before that
-abbrev pub latest : List Resolved → ℕ
-latest rs = latest_by time_of rs
+abbrev pub latest_expiry : List Resolved → ℕ
+latest_expiry rs = latest_by resolved_time rs
 
 -- whether a row has an edge that was last touched before a time
 abbrev pub has_old_shape : ℕ → List Shape → Bool
@@ -66,7 +66,7 @@ pub record AreShardSteps (workers : ℕ) (rs : List Resolved) (w : ℕ) (is_old 
 -- the shard of a worker over a version of this layout: it opens each row of its own from which an expiry may take an edge
 abbrev pub IsShardOf : ℕ → List Resolved → (ℕ → List Shape) → ℕ → Shard → Type 0
 IsShardOf workers rs layout w shard =
-    AreShardSteps workers rs w (λ s. has_old_shape (latest rs) (layout s)) (sources_in shard) shard.steps.items
+    AreShardSteps workers rs w (λ s. has_old_shape (latest_expiry rs) (layout s)) (sources_in shard) shard.steps.items
 
 -- one shard for each worker, in order, each with the batch's operations on the worker's sources, over a version's layout
 abbrev pub ArePlanned : ℕ → List NamedOp → Graph → (ℕ → List Shape) → List Shard → Type 0

@@ -7,11 +7,11 @@ ghost use Rattle.graph_types.specs.declared.batches.Outcome.TheVariants.{Absent}
 ghost use Rattle.graph_version.specs.Batches.{batch_value};
 ghost use Rattle.graph_version.specs.Rows as rows;
 ghost use Rattle.graph_version.specs.Rows.{row_of};
-ghost use Rattle.batch_shards.specs.RowBlocks.{blocks_of, numbers_of};
+ghost use Rattle.batch_shards.specs.RowBlocks.{shared_blocks, shared_numbers};
 ghost use Rattle.batch_shards.specs.Closing.{row_values};
 ghost use Rattle.graph_version.specs.Versions.{content, is_in};
 ghost use Rattle.batch_apply.specs.Planned.{IsPlan};
-ghost use Rattle.batch_shards.specs.Groups.{written};
+ghost use Rattle.graph_types.specs.Outcomes.{written};
 ghost use Rattle.batch_apply.specs.Gathered.{IsDealt, IsShard};
 ghost use Rattle.batch_apply.specs.Applied.{is_inserted, taken_away};
 ghost use Rattle.batch_apply.specs.Applied.{IsApplied, written_from};
@@ -20,9 +20,9 @@ ghost use Rattle.batch_apply.specs.Gathered.{IsGathered, IsWorked};
 
 use crate::plans::Plan;
 use crate::workers::{Gate, Job, PassAll, do_all, do_alone};
-use batch_shards::{Leavings, Shard, ShardDone, write_outcomes};
+use batch_shards::{Leavings, Shard, ShardDone};
 use edge_block::Block;
-use graph_types::{Batch, Outcome, VertexId};
+use graph_types::{Batch, Outcome, VertexId, write_outcomes};
 use graph_version::{RowTable, Version, VersionDraft};
 use std::alloc::{AllocError, Global};
 use std::sync::Arc;
@@ -69,9 +69,9 @@ pub fn apply<R: Threads + Sync, G: Gate + Sync>(
         (row_of version.now.rows) plan }
     requires few { length version.now.batches < (content version.now).limits.batches }
     requires blocks { sum_by (λ n. n) plan.needs.items ≤ length blocks.items }
-    requires distinct { AllPairs ◌≢◌ (numbers_of blocks.items) }
-    requires unlisted { All (λ n. is_in n (rows.numbers_of (rows.blocks_of version.now.rows)) ≡ false) (numbers_of blocks.items) }
-    ensures { IfOk result (IsApplied version.now (batch_value batch) (numbers_of blocks.items)) }
+    requires distinct { AllPairs ◌≢◌ (shared_numbers blocks.items) }
+    requires unlisted { All (λ n. is_in n (rows.numbers_of (rows.blocks_of version.now.rows)) ≡ false) (shared_numbers blocks.items) }
+    ensures { IfOk result (IsApplied version.now (batch_value batch) (shared_numbers blocks.items)) }
 {
     let rewritten = apply_over(rt, alloc, gate, version, plan, batch, blocks, None)?;
     Ok(rewritten.applied)
@@ -97,10 +97,10 @@ pub fn apply_over<R: Threads + Sync, G: Gate + Sync>(
         (row_of version.now.rows) plan }
     requires few { length version.now.batches < (content version.now).limits.batches }
     requires blocks { sum_by (λ n. n) plan.needs.items ≤ length blocks.items }
-    requires distinct { AllPairs ◌≢◌ (numbers_of blocks.items) }
-    requires unlisted { All (λ n. is_in n (rows.numbers_of (rows.blocks_of version.now.rows)) ≡ false) (numbers_of blocks.items) }
+    requires distinct { AllPairs ◌≢◌ (shared_numbers blocks.items) }
+    requires unlisted { All (λ n. is_in n (rows.numbers_of (rows.blocks_of version.now.rows)) ≡ false) (shared_numbers blocks.items) }
     requires table { IfSome table (λ t. t ≡ version.now.rows) }
-    ensures { IfOk result (IsRewritten version.now (batch_value batch) (numbers_of blocks.items)) }
+    ensures { IfOk result (IsRewritten version.now (batch_value batch) (shared_numbers blocks.items)) }
 {
     let Plan {
         names,
@@ -135,9 +135,9 @@ pub fn apply_alone(
     requires plan { IsPlan 1 (batch_value batch) (content version.now) (row_of version.now.rows) plan }
     requires few { length version.now.batches < (content version.now).limits.batches }
     requires blocks { sum_by (λ n. n) plan.needs.items ≤ length blocks.items }
-    requires distinct { AllPairs ◌≢◌ (numbers_of blocks.items) }
-    requires unlisted { All (λ n. is_in n (rows.numbers_of (rows.blocks_of version.now.rows)) ≡ false) (numbers_of blocks.items) }
-    ensures { IfOk result (IsApplied version.now (batch_value batch) (numbers_of blocks.items)) }
+    requires distinct { AllPairs ◌≢◌ (shared_numbers blocks.items) }
+    requires unlisted { All (λ n. is_in n (rows.numbers_of (rows.blocks_of version.now.rows)) ≡ false) (shared_numbers blocks.items) }
+    ensures { IfOk result (IsApplied version.now (batch_value batch) (shared_numbers blocks.items)) }
 {
     let rewritten = apply_alone_over(alloc, version, plan, batch, blocks, None)?;
     Ok(rewritten.applied)
@@ -155,10 +155,10 @@ pub fn apply_alone_over(
     requires plan { IsPlan 1 (batch_value batch) (content version.now) (row_of version.now.rows) plan }
     requires few { length version.now.batches < (content version.now).limits.batches }
     requires blocks { sum_by (λ n. n) plan.needs.items ≤ length blocks.items }
-    requires distinct { AllPairs ◌≢◌ (numbers_of blocks.items) }
-    requires unlisted { All (λ n. is_in n (rows.numbers_of (rows.blocks_of version.now.rows)) ≡ false) (numbers_of blocks.items) }
+    requires distinct { AllPairs ◌≢◌ (shared_numbers blocks.items) }
+    requires unlisted { All (λ n. is_in n (rows.numbers_of (rows.blocks_of version.now.rows)) ≡ false) (shared_numbers blocks.items) }
     requires table { IfSome table (λ t. t ≡ version.now.rows) }
-    ensures { IfOk result (IsRewritten version.now (batch_value batch) (numbers_of blocks.items)) }
+    ensures { IfOk result (IsRewritten version.now (batch_value batch) (shared_numbers blocks.items)) }
 {
     let Plan {
         names,
@@ -240,7 +240,7 @@ fn work<R: Threads + Sync, G: Gate + Sync>(
     requires ready { (jobs : List Job) → AllZip IsDealt (zip load.shards.items load.needs.items) jobs
         → All (λ j. IsShard (row_of version.now.rows) j.shard) jobs }
     ensures { IfOk result (IsGathered (row_of version.now.rows) (zip load.shards.items load.needs.items)
-        (numbers_of load.blocks.items) load.operations) }
+        (shared_numbers load.blocks.items) load.operations) }
 {
     if load.shards.len() == 1 {
         return work_alone(alloc, gate, version, load);
@@ -272,7 +272,7 @@ fn work_alone<G: Gate>(
     requires ready { (jobs : List Job) → AllZip IsDealt (zip load.shards.items load.needs.items) jobs
         → All (λ j. IsShard (row_of version.now.rows) j.shard) jobs }
     ensures { IfOk result (IsGathered (row_of version.now.rows) (zip load.shards.items load.needs.items)
-        (numbers_of load.blocks.items) load.operations) }
+        (shared_numbers load.blocks.items) load.operations) }
 {
     let Workload {
         mut shards,
@@ -306,8 +306,8 @@ fn deal(
     requires blocks { sum_by (λ n. n) needs.now ≤ length blocks.old.items }
     ensures jobs { IfOk result (λ v. AllZip IsDealt (zip shards.items needs.now) v.items) }
     ensures numbers { IfOk result (λ v. (q : ℕ → Bool)
-        → count_by q (flat_map (λ j. numbers_of j.shard.fresh.items) v.items) + count_by q (numbers_of blocks.new.items)
-        ≡ count_by q (numbers_of blocks.old.items)) }
+        → count_by q (flat_map (λ j. shared_numbers j.shard.fresh.items) v.items) + count_by q (shared_numbers blocks.new.items)
+        ≡ count_by q (shared_numbers blocks.old.items)) }
 {
     let mut jobs = Vec::with_capacity(alloc, shards.len())?;
     for shard in shards {
@@ -326,7 +326,7 @@ fn take_last(blocks: &mut Vec<Arc<Block>>, count: usize) -> Result<Vec<Arc<Block
     ensures taken { IfOk result (λ v. length v.items ≡ count) }
     ensures left { OnOk result (length blocks.new.items + count ≡ length blocks.old.items) }
     ensures numbers { IfOk result (λ v. (q : ℕ → Bool)
-        → count_by q (numbers_of blocks.new.items) + count_by q (numbers_of v.items) ≡ count_by q (numbers_of blocks.old.items)) }
+        → count_by q (shared_numbers blocks.new.items) + count_by q (shared_numbers v.items) ≡ count_by q (shared_numbers blocks.old.items)) }
 {
     let rest = blocks.len() - count;
     if rest == 0 {
@@ -357,10 +357,10 @@ fn gather(
     ensures outcomes { IfOk result (λ a. a.outcomes.items ≡ written_from dones.items (replicate operations Absent)) }
     ensures rows { IfOk result (λ a. row_values a.rows.items ≡ flat_map (λ d. row_values d.rows.items) dones.items) }
     ensures taken { IfOk result (λ a. a.left.taken.items ≡ flat_map (λ d. d.left.taken.items) dones.items) }
-    ensures dropped { IfOk result (λ a. blocks_of a.left.dropped.items ≡ flat_map (λ d. blocks_of d.left.dropped.items)
+    ensures dropped { IfOk result (λ a. shared_blocks a.left.dropped.items ≡ flat_map (λ d. shared_blocks d.left.dropped.items)
         dones.items) }
-    ensures unused { IfOk result (λ a. numbers_of a.left.unused.items ≡ numbers_of unused.items
-        ++ flat_map (λ d. numbers_of d.left.unused.items) dones.items) }
+    ensures unused { IfOk result (λ a. shared_numbers a.left.unused.items ≡ shared_numbers unused.items
+        ++ flat_map (λ d. shared_numbers d.left.unused.items) dones.items) }
 {
     let mut all = none_gathered(alloc, operations, unused)?;
     for done in dones {
@@ -397,10 +397,10 @@ fn add(all: &mut Gathered, done: ShardDone) -> Result<(), AllocError>
     ensures outcomes { OnOk result (all.new.outcomes.items ≡ written done.outcomes.items all.old.outcomes.items) }
     ensures rows { OnOk result (row_values all.new.rows.items ≡ row_values all.old.rows.items ++ row_values done.rows.items) }
     ensures taken { OnOk result (all.new.left.taken.items ≡ all.old.left.taken.items ++ done.left.taken.items) }
-    ensures dropped { OnOk result (blocks_of all.new.left.dropped.items ≡ blocks_of all.old.left.dropped.items
-        ++ blocks_of done.left.dropped.items) }
-    ensures unused { OnOk result (numbers_of all.new.left.unused.items ≡ numbers_of all.old.left.unused.items
-        ++ numbers_of done.left.unused.items) }
+    ensures dropped { OnOk result (shared_blocks all.new.left.dropped.items ≡ shared_blocks all.old.left.dropped.items
+        ++ shared_blocks done.left.dropped.items) }
+    ensures unused { OnOk result (shared_numbers all.new.left.unused.items ≡ shared_numbers all.old.left.unused.items
+        ++ shared_numbers done.left.unused.items) }
 {
     let ShardDone {
         outcomes,
@@ -429,10 +429,10 @@ fn add_items<T: Drop>(all: &mut Vec<T>, more: &mut Vec<T>) -> Result<(), AllocEr
 /// Adds the blocks that a shard has dropped and those that it did not use.
 fn add_blocks(all: &mut Leavings, left: &mut Leavings) -> Result<(), AllocError>
     ensures taken { OnOk result (all.new.taken ≡ all.old.taken) }
-    ensures dropped { OnOk result (blocks_of all.new.dropped.items ≡ blocks_of all.old.dropped.items
-        ++ blocks_of left.old.dropped.items) }
-    ensures unused { OnOk result (numbers_of all.new.unused.items ≡ numbers_of all.old.unused.items
-        ++ numbers_of left.old.unused.items) }
+    ensures dropped { OnOk result (shared_blocks all.new.dropped.items ≡ shared_blocks all.old.dropped.items
+        ++ shared_blocks left.old.dropped.items) }
+    ensures unused { OnOk result (shared_numbers all.new.unused.items ≡ shared_numbers all.old.unused.items
+        ++ shared_numbers left.old.unused.items) }
 {
     add_items(&mut all.dropped, &mut left.dropped)?;
     add_items(&mut all.unused, &mut left.unused)?;

@@ -12,18 +12,17 @@ ghost use Rattle.graph_version.specs.Versions.{content, IsVersion};
 ghost use Rattle.graph_version.specs.Rows.{row_of};
 ghost use Rattle.batch_shards.specs.Done.{layout_by, sources_in};
 ghost use Rattle.batch_shards.specs.Spending.{needed};
-ghost use Rattle.batch_apply.specs.Plan.{shown, AreFound, IsInRange};
-ghost use Rattle.batch_apply.specs.Planned.{MeetsNeitherLimit, IsPlanRefusal};
-ghost use Rattle.batch_apply.specs.Shards.{IsShardOf, latest};
+ghost use Rattle.batch_apply.specs.Plan.{shown_op, AreFound, IsInRange};
+ghost use Rattle.graph_types.specs.Refusals.{MeetsNeitherLimit, IsLimitRefusal};
+ghost use Rattle.batch_apply.specs.Shards.{IsShardOf, latest_expiry};
 ghost use Rattle.batch_apply.specs.OldRows.{AreOldRows};
 
 use crate::naming::resolve_batch;
 use crate::old::OldRow;
-use crate::plans::PlanError;
 use crate::resolve::{Ends, ResolvedOp};
 use crate::shards::{Needing, shard_for};
 use batch_shards::Shard;
-use graph_types::Batch;
+use graph_types::{ApplyError, Batch};
 use graph_version::Version;
 use std::alloc::{AllocError, Global};
 use std::thread::{Threads, map_indices};
@@ -47,17 +46,17 @@ pub fn name_batch(
     version: &Version,
     batch: &Batch,
     found: &[Ends],
-) -> Result<NamedBatch, PlanError>
+) -> Result<NamedBatch, ApplyError>
     requires { AreFound (content version.now).names batch.now found.now }
     ensures names { IfOk result (λ n. n.names ≡ vertex_book (after_all batch.now (content version.now))) }
     ensures kinds { IfOk result (λ n. n.kinds ≡ kind_book (after_all batch.now (content version.now))) }
-    ensures ops { IfOk result (λ n. map shown n.ops.items ≡ resolved batch.now (content version.now)) }
+    ensures ops { IfOk result (λ n. map shown_op n.ops.items ≡ resolved batch.now (content version.now)) }
     ensures few { IfOk result (λ n. length n.ops.items ≤ most_operations) }
-    ensures placed { IfOk result (λ n. All IsPlaced (map shown n.ops.items)) }
+    ensures placed { IfOk result (λ n. All IsPlaced (map shown_op n.ops.items)) }
     ensures changes { IfOk result (λ n. All IsInRange n.ops.items) }
     ensures version { IsVersion version.now }
     ensures limits { OnOk result (MeetsNeitherLimit batch.now (content version.now)) }
-    ensures refused { IfErr result (λ error. IsPlanRefusal error batch.now (content version.now)) }
+    ensures refused { IfErr result (λ error. IsLimitRefusal error batch.now (content version.now)) }
 {
     let mut names = version.names().share()?;
     let mut kinds = version.kinds().share()?;
@@ -106,13 +105,13 @@ pub fn shards_for(
 ) -> Result<Shards, AllocError>
     requires workers { 0 < workers }
     requires few { length ops.now ≤ most_operations }
-    requires placed { All IsPlaced (map shown ops.now) }
+    requires placed { All IsPlaced (map shown_op ops.now) }
     requires valid { All IsInRange ops.now }
     requires few_old { length old.now ≤ most_names }
-    requires old { (rows : ℕ → List BlockView) × AreOldRows (latest (map shown ops.now)) rows old.now }
-    ensures shards { IfOk result (λ v. (rows : ℕ → List BlockView) → AreOldRows (latest (map shown ops.now)) rows old.now
-        → AllZip (IsShardOf workers (map shown ops.now) (layout_by rows)) (range_with_len 0 workers) v.shards.items) }
-    ensures needs { IfOk result (λ v. (rows : ℕ → List BlockView) → AreOldRows (latest (map shown ops.now)) rows old.now
+    requires old { (rows : ℕ → List BlockView) × AreOldRows (latest_expiry (map shown_op ops.now)) rows old.now }
+    ensures shards { IfOk result (λ v. (rows : ℕ → List BlockView) → AreOldRows (latest_expiry (map shown_op ops.now)) rows old.now
+        → AllZip (IsShardOf workers (map shown_op ops.now) (layout_by rows)) (range_with_len 0 workers) v.shards.items) }
+    ensures needs { IfOk result (λ v. (rows : ℕ → List BlockView) → AreOldRows (latest_expiry (map shown_op ops.now)) rows old.now
         → v.needs.items ≡ map (λ shard. min (needed rows (sources_in shard) shard.steps.items) (2 ^ 64 - 1)) v.shards.items) }
 {
     let mut all = no_shards(alloc);
@@ -133,13 +132,13 @@ pub fn shards_at_once<R: Threads + Sync>(
 ) -> Result<Shards, AllocError>
     requires workers { 0 < workers }
     requires few { length ops.now ≤ most_operations }
-    requires placed { All IsPlaced (map shown ops.now) }
+    requires placed { All IsPlaced (map shown_op ops.now) }
     requires valid { All IsInRange ops.now }
     requires few_old { length old.now ≤ most_names }
-    requires old { (rows : ℕ → List BlockView) × AreOldRows (latest (map shown ops.now)) rows old.now }
-    ensures shards { IfOk result (λ v. (rows : ℕ → List BlockView) → AreOldRows (latest (map shown ops.now)) rows old.now
-        → AllZip (IsShardOf workers (map shown ops.now) (layout_by rows)) (range_with_len 0 workers) v.shards.items) }
-    ensures needs { IfOk result (λ v. (rows : ℕ → List BlockView) → AreOldRows (latest (map shown ops.now)) rows old.now
+    requires old { (rows : ℕ → List BlockView) × AreOldRows (latest_expiry (map shown_op ops.now)) rows old.now }
+    ensures shards { IfOk result (λ v. (rows : ℕ → List BlockView) → AreOldRows (latest_expiry (map shown_op ops.now)) rows old.now
+        → AllZip (IsShardOf workers (map shown_op ops.now) (layout_by rows)) (range_with_len 0 workers) v.shards.items) }
+    ensures needs { IfOk result (λ v. (rows : ℕ → List BlockView) → AreOldRows (latest_expiry (map shown_op ops.now)) rows old.now
         → v.needs.items ≡ map (λ shard. min (needed rows (sources_in shard) shard.steps.items) (2 ^ 64 - 1)) v.shards.items) }
 {
     if workers < 2 {
@@ -148,15 +147,15 @@ pub fn shards_at_once<R: Threads + Sync>(
     let plan_one = |worker: usize| -> Result<Needing, AllocError>
         requires workers { 0 < workers }
         requires few { length ops.now ≤ most_operations }
-        requires placed { All IsPlaced (map shown ops.now) }
+        requires placed { All IsPlaced (map shown_op ops.now) }
         requires valid { All IsInRange ops.now }
         requires few_old { length old.now ≤ most_names }
-        requires old { (rows : ℕ → List BlockView) × AreOldRows (latest (map shown ops.now)) rows old.now }
+        requires old { (rows : ℕ → List BlockView) × AreOldRows (latest_expiry (map shown_op ops.now)) rows old.now }
         ensures shard { IfOk result (λ n. (rows : ℕ → List BlockView)
-            → AreOldRows (latest (map shown ops.entry.now)) rows old.entry.now
-            → IsShardOf workers (map shown ops.entry.now) (layout_by rows) worker n.shard) }
+            → AreOldRows (latest_expiry (map shown_op ops.entry.now)) rows old.entry.now
+            → IsShardOf workers (map shown_op ops.entry.now) (layout_by rows) worker n.shard) }
         ensures blocks { IfOk result (λ n. (rows : ℕ → List BlockView)
-            → AreOldRows (latest (map shown ops.entry.now)) rows old.entry.now
+            → AreOldRows (latest_expiry (map shown_op ops.entry.now)) rows old.entry.now
             → n.blocks ≡ min (needed rows (sources_in n.shard) n.shard.steps.items) (2 ^ 64 - 1)) }
     { shard_for(alloc, workers, worker, ops, old) };
     let planned = map_indices(rt, alloc, workers, &plan_one)?;

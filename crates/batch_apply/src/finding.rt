@@ -7,7 +7,7 @@ ghost use Rattle.batch_apply.specs.Plan.{ends_in, AreFound, IsFound};
 
 use crate::resolve::Ends;
 use crate::workers::one_after_another;
-use graph_types::NamedOp;
+use graph_types::{MOST_WEIGHT, NamedOp, OpParts, parts_in};
 use std::alloc::{AllocError, Global};
 use std::thread::{Threads, join};
 use vertex_names::NameBook;
@@ -16,14 +16,12 @@ use vertex_names::NameBook;
 fn find(names: &NameBook, op: &NamedOp) -> Ends
     ensures { result ≡ ends_in names.now.names op.now }
 {
-    match op {
-        NamedOp::Insert { source, target, .. }
-        | NamedOp::Incr { source, target, .. }
-        | NamedOp::Remove { source, target, .. } => Ends {
+    match parts_in(op, MOST_WEIGHT) {
+        OpParts::OfEdge(_, _, source, target) => Ends {
             source: names.number(source.as_str()),
             target: names.number(target.as_str()),
         },
-        NamedOp::Expire { .. } => Ends {
+        OpParts::OfAll(_) => Ends {
             source: None,
             target: None,
         },

@@ -11,7 +11,7 @@ ghost use Rattle.graph_types.specs.declared.batches.NamedOp.{NamedOp};
 ghost use Rattle.graph_types.specs.declared.batches.Outcome.TheVariants.{Absent};
 ghost use Rattle.edge_block.specs.Rows.{Shape, OpenBlock, shape_of};
 ghost use Rattle.edge_block.specs.Batches.{Resolved, resolved, rows_all, sum_below, taken_by, dropped_by, outcomes_all};
-ghost use Rattle.edge_block.specs.Batches.{opened, layout_after, is_in_shard, IsWithin, IsLayoutOf};
+ghost use Rattle.edge_block.specs.Batches.{opened_rows, layout_after, is_in_shard, HasEndsWithin, IsLayoutOf};
 ghost use Rattle.graph_version.specs.Rows.{row_of, blocks_of};
 ghost use Rattle.batch_apply.specs.Shards.{IsShardOf};
 ghost use Rattle.batch_apply.specs.Planned.{IsPlan};
@@ -20,7 +20,7 @@ ghost use Rattle.batch_apply.specs.Shards.{ArePlanned};
 ghost use Rattle.batch_shards.specs.Done.{IsShardDone, layout_by, sources_in, steps_in};
 ghost use Rattle.batch_shards.specs.declared.shard.Shard.{Shard};
 ghost use Rattle.batch_apply.specs.Plans.{written_all, results};
-ghost use Rattle.batch_shards.specs.Groups.{told};
+ghost use Rattle.graph_types.specs.Outcomes.{told};
 ghost use Rattle.batch_shards.specs.Spending.{needed};
 ghost use Rattle.batch_apply.specs.Examples.{two_rows, three_steps};
 ghost use Rattle.batch_shards.specs.Closing.{row_values};
@@ -54,7 +54,7 @@ pub fn law_worker_rows()
 pub fn law_batch_totals()
     ensures { (workers : ℕ) (ops : List NamedOp) (g : Graph) (before : ℕ → List BlockView) (shards : List Shard)
         (dones : List ShardDone)
-        → 0 < workers → IsWithin g → IsLayoutOf (layout_by before) g.edges → ArePlanned workers ops g (layout_by before) shards
+        → 0 < workers → HasEndsWithin g → IsLayoutOf (layout_by before) g.edges → ArePlanned workers ops g (layout_by before) shards
         → AllZip (IsShardDone before) shards dones
         → (sum_by (λ d. length d.left.taken.items) dones ≡ taken_by ops g (layout_by before) (length (after_all ops g).names))
         × (sum_by (λ d. length d.left.dropped.items) dones ≡ dropped_by ops g (layout_by before)
@@ -68,7 +68,7 @@ pub fn law_shard_results()
         (shard : Shard) (done : ShardDone)
         → IsShardOf workers (resolved ops g) layout w shard → IsShardDone before shard done
         → done.outcomes.items ≡ results (is_in_shard workers w) (resolved ops g)
-        (map told (outcomes_all (sources_in shard) (resolved ops g) (opened (layout_by before)))) 0 }
+        (map told (outcomes_all (sources_in shard) (resolved ops g) (opened_rows (layout_by before)))) 0 }
     ensures layout { (workers w : ℕ) (ops : List NamedOp) (g : Graph) (layout : ℕ → List Shape) (before : ℕ → List BlockView)
         (shard : Shard) (done : ShardDone)
         → IsShardOf workers (resolved ops g) layout w shard → IsShardDone before shard done

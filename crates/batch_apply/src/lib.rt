@@ -20,12 +20,14 @@ mod source_laws;
 mod workers;
 
 pub use applied::{Applied, Rewritten, apply, apply_alone, apply_alone_over, apply_over};
+// Why a batch is refused; [`plan`] gives `NamesFull`, `KindsFull` or `OutOfMemory`.
+pub use graph_types::ApplyError as PlanError;
 pub use laws::{
     law_all_written, law_batch_totals, law_needs, law_needs_example, law_shard_results,
     law_sum_all, law_worker_rows,
 };
 pub use old::{OldRow, old_rows};
 pub use planning::{plan, plan_with};
-pub use plans::{Plan, PlanError};
+pub use plans::Plan;
 pub use source_laws::law_sources_within;
 pub use workers::{Gate, Job, PassAll, do_all};

@@ -3,32 +3,30 @@
 ghost use Rattle.std.specs.Prelude.{◌≡◌, ◌≤◌, ℕ, List, map, IfOk, IfErr, OnOk, All};
 ghost use Rattle.graph_types.specs.Valid.{IsValid};
 ghost use Rattle.graph_types.specs.Limits.{weight_limit};
-ghost use Rattle.edge_block.specs.Operations.{parts_in};
+ghost use Rattle.graph_types.specs.Parts.{parts_in, names_after_all, kinds_after_all};
 ghost use Rattle.edge_block.specs.Batches.{resolve_parts, resolved_by, IsPlaced};
-ghost use Rattle.batch_apply.specs.Plan.{names_all, kinds_all, shown, with_names, AreFound, Fits, IsInRange, IsSeen, IsUnplanned};
+ghost use Rattle.batch_apply.specs.Plan.{shown_op, with_names, AreFound, Fits, IsInRange, IsSeen, IsUnplanned};
 
 use crate::finding::found_at;
-use crate::plans::PlanError;
 use crate::resolve::{Ends, ResolvedOp, SeenKind, resolve_op};
-use graph_types::NamedOp;
+use graph_types::{ApplyError, MOST_WEIGHT, NamedOp, OpParts, parts_in};
 use std::alloc::Global;
 use vertex_names::NameBook;
 
 /// An operation's kind with its number, by the operation resolved; none where its edge's key is not known.
 fn kind_seen<'a>(op: &'a NamedOp, resolved: ResolvedOp) -> Option<SeenKind<'a>>
-    ensures { (most : ℕ) (names kinds : List (List ℕ)) → shown resolved ≡ resolve_parts names kinds (parts_in most op.now)
+    ensures { (most : ℕ) (names kinds : List (List ℕ)) → shown_op resolved ≡ resolve_parts names kinds (parts_in most op.now)
         → IsSeen kinds result }
 {
     let ResolvedOp::Edge(_, Some(key), _) = resolved else {
         return None;
     };
-    match op {
-        NamedOp::Insert { kind, .. } | NamedOp::Incr { kind, .. } | NamedOp::Remove { kind, .. } =>
-            Some(SeenKind {
-                text: kind.as_str(),
-                number: key.kind,
-            }),
-        NamedOp::Expire { .. } => None,
+    match parts_in(op, MOST_WEIGHT) {
+        OpParts::OfEdge(_, kind, _, _) => Some(SeenKind {
+            text: kind.as_str(),
+            number: key.kind,
+        }),
+        OpParts::OfAll(_) => None,
     }
 }
 
@@ -45,17 +43,17 @@ pub fn resolve_batch(
     most: u64,
     ops: &[NamedOp],
     found_before: &[Ends],
-) -> Result<Vec<ResolvedOp>, PlanError>
+) -> Result<Vec<ResolvedOp>, ApplyError>
     requires limit { kinds.old.limit ≤ 64 }
     requires within { Fits names.old × Fits kinds.old }
     requires most { most ≤ weight_limit }
     requires valid { All IsValid ops.now }
     requires found { AreFound names.old.names ops.now found_before.now }
-    ensures ops { IfOk result (λ v. map shown v.items ≡ resolved_by most ops.now names.old.names kinds.old.names) }
+    ensures ops { IfOk result (λ v. map shown_op v.items ≡ resolved_by most ops.now names.old.names kinds.old.names) }
     ensures changes { IfOk result (λ v. All IsInRange v.items) }
-    ensures placed { IfOk result (λ v. All IsPlaced (map shown v.items)) }
-    ensures names { OnOk result (names.new ≡ with_names names.old (names_all ops.now names.old.names)) }
-    ensures kinds { OnOk result (kinds.new ≡ with_names kinds.old (kinds_all ops.now kinds.old.names)) }
+    ensures placed { IfOk result (λ v. All IsPlaced (map shown_op v.items)) }
+    ensures names { OnOk result (names.new ≡ with_names names.old (names_after_all ops.now names.old.names)) }
+    ensures kinds { OnOk result (kinds.new ≡ with_names kinds.old (kinds_after_all ops.now kinds.old.names)) }
     ensures within { OnOk result (Fits names.new × Fits kinds.new) }
     ensures refused { IfErr result (λ error. IsUnplanned error ops.now names.old kinds.old) }
 {
@@ -74,7 +72,7 @@ pub fn resolve_batch(
         )?;
         seen = kind_seen(asked, op);
         let Ok(()) = found.push(op) else {
-            return Err(PlanError::OutOfMemory);
+            return Err(ApplyError::OutOfMemory);
         };
     }
     Ok(found)

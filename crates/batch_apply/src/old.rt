@@ -1,14 +1,14 @@
 //! The rows of a version from which a batch's expiries may take edges.
 
 ghost use Rattle.std.specs.Prelude.{◌≡◌, IfOk};
-ghost use Rattle.edge_block.specs.Operations.{parts_of};
+ghost use Rattle.graph_types.specs.Parts.{parts_of};
 ghost use Rattle.graph_version.specs.Rows.{row_of};
 ghost use Rattle.graph_version.specs.Sharing.{block_values};
 ghost use Rattle.batch_shards.specs.Spending.{old_blocks};
 ghost use Rattle.batch_apply.specs.OldRows.{AreOldRows, expiry_time, time_in};
 
 use edge_block::Block;
-use graph_types::{Batch, NamedOp, VertexId};
+use graph_types::{Batch, MOST_WEIGHT, NamedOp, OpParts, VertexId, parts_in};
 use graph_version::Version;
 use std::alloc::{AllocError, Global};
 use std::sync::Arc;
@@ -25,11 +25,9 @@ pub struct OldRow {
 fn time_of(op: &NamedOp) -> u64
     ensures { result ≡ time_in (parts_of op.now) }
 {
-    match op {
-        NamedOp::Insert { .. } => 0,
-        NamedOp::Incr { .. } => 0,
-        NamedOp::Remove { .. } => 0,
-        NamedOp::Expire { time } => *time,
+    match parts_in(op, MOST_WEIGHT) {
+        OpParts::OfEdge(_, _, _, _) => 0,
+        OpParts::OfAll(time) => time,
     }
 }
 

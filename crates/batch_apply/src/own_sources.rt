@@ -5,10 +5,10 @@ ghost use Rattle.std.specs.Prelude.{IfOk, IfSome, OnOk, All, AllPairs};
 ghost use Rattle.graph_types.specs.Limits.{most_names, most_operations};
 ghost use Rattle.edge_block.specs.Batches as layout;
 ghost use Rattle.edge_block.specs.Batches.{IsPlaced, shard_ops};
-ghost use Rattle.batch_apply.specs.Plan.{shown};
+ghost use Rattle.batch_apply.specs.Plan.{shown_op};
 ghost use Rattle.batch_apply.specs.OldRows.{old_sources, own_rows, blocks_in};
 ghost use Rattle.batch_apply.specs.Shards.{source_numbers};
-ghost use Rattle.batch_apply.specs.FirstSources.{AreFirst, AreNext, asked, asked_by};
+ghost use Rattle.batch_apply.specs.FirstSources.{AreFirst, AreNext, asked_sources, asked_source};
 
 use crate::old::OldRow;
 use crate::resolve::ResolvedOp;
@@ -31,7 +31,7 @@ fn worker_of(workers: usize, source: Option<u32>) -> usize
 /// Whether an operation is one of a worker's: an expiry is every one's.
 pub fn is_in_shard(workers: usize, worker: usize, op: ResolvedOp) -> bool
     requires { 0 < workers }
-    ensures { result ≡ layout.is_in_shard workers worker (shown op) }
+    ensures { result ≡ layout.is_in_shard workers worker (shown_op op) }
 {
     match op {
         ResolvedOp::Edge(source, _, _) => worker_of(workers, source) == worker,
@@ -96,7 +96,7 @@ fn list_old(
 
 /// Adds the source of the edge that an operation is on, if its names are known.
 fn add_asked(sources: &mut Vec<VertexId>, op: ResolvedOp) -> Result<(), AllocError>
-    ensures { OnOk result (source_numbers sources.new.items ≡ source_numbers sources.old.items ++ asked_by (shown op)) }
+    ensures { OnOk result (source_numbers sources.new.items ≡ source_numbers sources.old.items ++ asked_source (shown_op op)) }
 {
     if let ResolvedOp::Edge(_, Some(key), _) = op {
         sources.push(VertexId(key.source))?;
@@ -113,7 +113,7 @@ fn list_asked(
 ) -> Result<(), AllocError>
     requires { 0 < workers }
     ensures { OnOk result (source_numbers sources.new.items
-        ≡ source_numbers sources.old.items ++ asked (shard_ops workers worker (map shown ops.now))) }
+        ≡ source_numbers sources.old.items ++ asked_sources (shard_ops workers worker (map shown_op ops.now))) }
 {
     for op in ops {
         if is_in_shard(workers, worker, *op) {
@@ -133,12 +133,12 @@ pub fn first_sources(
 ) -> Result<Listed, AllocError>
     requires workers { 0 < workers }
     requires few { length ops.now ≤ most_operations }
-    requires placed { All IsPlaced (map shown ops.now) }
+    requires placed { All IsPlaced (map shown_op ops.now) }
     requires few_old { length old.now ≤ most_names }
     requires distinct { AllPairs (λ a b. a ≢ b) (old_sources old.now) }
-    ensures sources { IfOk result (λ l. AreFirst workers worker (map shown ops.now) old.now (source_numbers l.sources.items)) }
+    ensures sources { IfOk result (λ l. AreFirst workers worker (map shown_op ops.now) old.now (source_numbers l.sources.items)) }
     ensures places { IfOk result (λ l. IfSome l.places (AreNext (source_numbers l.sources.items)
-        (asked (shard_ops workers worker (map shown ops.now))))) }
+        (asked_sources (shard_ops workers worker (map shown_op ops.now))))) }
     ensures blocks { IfOk result (λ l. l.blocks ≡ min (blocks_in (own_rows workers worker old.now)) (2 ^ 64 - 1)) }
     ensures few { IfOk result (λ l. length l.sources.items ≤ length old.now + length ops.now) }
 {

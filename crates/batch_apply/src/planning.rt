@@ -4,13 +4,14 @@ ghost use Rattle.std.specs.Prelude.{◌≡◌, ◌<◌, IfOk, IfErr, OnOk};
 ghost use Rattle.graph_version.specs.Versions.{content};
 ghost use Rattle.graph_version.specs.Rows.{row_of};
 ghost use Rattle.batch_apply.specs.OldRows.{AreOldRows, expiry_time};
-ghost use Rattle.batch_apply.specs.Planned.{IsPlan, MeetsNeitherLimit, IsPlanRefusal};
+ghost use Rattle.graph_types.specs.Refusals.{MeetsNeitherLimit, IsLimitRefusal};
+ghost use Rattle.batch_apply.specs.Planned.{IsPlan};
 
 use crate::dividing::{NamedBatch, Shards, name_batch, shards_at_once, shards_for};
 use crate::finding::look_up;
 use crate::old::{OldRow, old_rows};
-use crate::plans::{Plan, PlanError};
-use graph_types::Batch;
+use crate::plans::Plan;
+use graph_types::{ApplyError, Batch};
 use graph_version::Version;
 use std::alloc::Global;
 use std::thread::Threads;
@@ -30,11 +31,11 @@ pub fn plan(
     version: &Version,
     batch: &Batch,
     workers: usize,
-) -> Result<Plan, PlanError>
+) -> Result<Plan, ApplyError>
     requires workers { 0 < workers }
     ensures plan { IfOk result (IsPlan workers batch.now (content version.now) (row_of version.now.rows)) }
     ensures limits { OnOk result (MeetsNeitherLimit batch.now (content version.now)) }
-    ensures refused { IfErr result (λ error. IsPlanRefusal error batch.now (content version.now)) }
+    ensures refused { IfErr result (λ error. IsLimitRefusal error batch.now (content version.now)) }
 {
     let old = old_rows(alloc, version, batch)?;
     let named = name_batch(alloc, version, batch, &[])?;
@@ -51,12 +52,12 @@ pub fn plan_with<R: Threads + Sync>(
     batch: &Batch,
     old: &[OldRow],
     workers: usize,
-) -> Result<Plan, PlanError>
+) -> Result<Plan, ApplyError>
     requires workers { 0 < workers }
     requires old { AreOldRows (expiry_time batch.now) (row_of version.now.rows) old.now }
     ensures plan { IfOk result (IsPlan workers batch.now (content version.now) (row_of version.now.rows)) }
     ensures limits { OnOk result (MeetsNeitherLimit batch.now (content version.now)) }
-    ensures refused { IfErr result (λ error. IsPlanRefusal error batch.now (content version.now)) }
+    ensures refused { IfErr result (λ error. IsLimitRefusal error batch.now (content version.now)) }
 {
     let found = look_up(rt, alloc, version.names(), batch.ops(), workers)?;
     let named = name_batch(alloc, version, batch, &found)?;

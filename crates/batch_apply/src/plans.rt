@@ -1,11 +1,9 @@
-//! What a plan is, and why there may be none.
+//! What a plan is.
 
 ghost use Rattle.std.specs.Prelude.{◌≡◌, ◌-◌, ◌^◌, min};
 ghost use Rattle.std.specs.List.{sum_by};
 
 use batch_shards::Shard;
-use std::alloc::AllocError;
-use thiserror::Error;
 use vertex_names::NameBook;
 
 /// What the workers of a batch need of it.
@@ -32,26 +30,5 @@ impl Plan {
             all = all.saturating_add(*need);
         }
         all
-    }
-}
-
-/// Why a batch was not planned.
-#[derive(Clone, Copy, Debug, PartialEq, Eq, Error)]
-pub enum PlanError {
-    #[error("the batch would leave more vertex names than the limit")]
-    NamesFull,
-    #[error("the batch would leave more kinds than the limit")]
-    KindsFull,
-    #[error("out of memory")]
-    OutOfMemory,
-}
-
-impl From<AllocError> for PlanError {
-    ghost use Rattle.batch_apply.specs.declared.plans.PlanError.TheVariants.{OutOfMemory};
-
-    ghost from_gives = { λ _ e. e ≡ OutOfMemory };
-
-    fn from(_refused: AllocError) -> PlanError {
-        PlanError::OutOfMemory
     }
 }

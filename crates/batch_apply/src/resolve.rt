@@ -1,20 +1,19 @@
 //! The numbers of a batch's names, each operation by the names at its place.
 
 ghost use Rattle.std.specs.Prelude.{◌≡◌, ◌≤◌, ◌<◌, ◌∷◌, ℕ, List, [], length, IfOk, IfErr, OnOk, IfSome, Some, IsTrue, All};
-ghost use Rattle.graph_types.specs.Step.{with_name};
+ghost use Rattle.graph_types.specs.Step.{with_name, names_made, kinds_made};
 ghost use Rattle.edge_block.specs.Batches.{AtKey, resolve_parts};
 ghost use Rattle.vertex_names.specs.Book.{Book};
 ghost use Rattle.graph_types.specs.declared.batches.NamedOp.{NamedOp};
 ghost use Rattle.graph_types.specs.Valid.{is_name, is_kind_name, has_names, IsValid};
 ghost use Rattle.std.specs.Option.{option_map};
-ghost use Rattle.edge_block.specs.Operations.{parts_in, parts_of, names_after, kinds_after};
+ghost use Rattle.graph_types.specs.Parts.{parts_in, parts_of, names_after, kinds_after, names_after_all};
 ghost use Rattle.graph_types.specs.Limits.{weight_limit};
 ghost use Rattle.batch_apply.specs.Plan as plan;
-ghost use Rattle.batch_apply.specs.Plan.{known, ends_in, names_all, key_from, key_of, shown, with_names, kind_by};
+ghost use Rattle.batch_apply.specs.Plan.{known, ends_in, key_from, key_shown, shown_op, with_names, kind_by};
 ghost use Rattle.batch_apply.specs.Plan.{Fits, IsFound, IsSeen, IsInRange, IsRefusal, IsUnplanned};
 
-use crate::plans::PlanError;
-use graph_types::{EdgeChange, KindId, NamedOp};
+use graph_types::{ApplyError, EdgeChange, KindId, MOST_WEIGHT, NamedOp, OpParts, parts_in};
 use vertex_names::{AddError, NameBook, is_same_name};
 
 /// The numbers of an operation's source and target: none where a name has not appeared.
@@ -90,6 +89,36 @@ fn find_end(names: &NameBook, name: &str, found: Option<u32>) -> Option<u32>
     }
 }
 
+/// The numbers of an edge's ends, of which some may have been found before; its names are added first, where the change makes
+/// any.
+fn edge_ends(
+    names: &mut NameBook,
+    change: EdgeChange,
+    source: &str,
+    target: &str,
+    found: Ends,
+) -> Result<Ends, AddError>
+    requires within { Fits names.old }
+    requires source { IsTrue (is_name source.now) }
+    requires target { IsTrue (is_name target.now) }
+    requires found_source { IfSome found.source (λ number. known names.old.names source.now ≡ Some number) }
+    requires found_target { IfSome found.target (λ number. known names.old.names target.now ≡ Some number) }
+    ensures ends { let after = names_made change source.now target.now names.old.names in
+        IfOk result (λ e. e ≡ record { source = known after source.now; target = known after target.now }) }
+    ensures names { OnOk result (names.new ≡ with_names names.old (names_made change source.now target.now names.old.names)) }
+    ensures within { OnOk result (Fits names.new) }
+    ensures refused { IfErr result (λ error. IsRefusal error names.old
+        (names_made change source.now target.now names.old.names)) }
+{
+    if change.makes_names() {
+        return add_ends(names, source, target, found);
+    }
+    Ok(Ends {
+        source: find_end(names, source, found.source),
+        target: find_end(names, target, found.target),
+    })
+}
+
 /// The numbers of an operation's ends, of which some may have been found before; its names are added first, where it makes
 /// any.
 fn op_ends(names: &mut NameBook, op: &NamedOp, found: Ends) -> Result<Ends, AddError>
@@ -101,18 +130,11 @@ fn op_ends(names: &mut NameBook, op: &NamedOp, found: Ends) -> Result<Ends, AddE
     ensures within { OnOk result (Fits names.new) }
     ensures refused { IfErr result (λ error. IsRefusal error names.old (names_after op.now names.old.names)) }
 {
-    match op {
-        NamedOp::Insert { source, target, .. } => {
-            add_ends(names, source.as_str(), target.as_str(), found)
+    match parts_in(op, MOST_WEIGHT) {
+        OpParts::OfEdge(change, _, source, target) => {
+            edge_ends(names, change, source.as_str(), target.as_str(), found)
         }
-        NamedOp::Incr { source, target, .. } => {
-            add_ends(names, source.as_str(), target.as_str(), found)
-        }
-        NamedOp::Remove { source, target, .. } => Ok(Ends {
-            source: find_end(names, source.as_str(), found.source),
-            target: find_end(names, target.as_str(), found.target),
-        }),
-        NamedOp::Expire { .. } => Ok(Ends {
+        OpParts::OfAll(_) => Ok(Ends {
             source: None,
             target: None,
         }),
@@ -173,6 +195,28 @@ fn find_kind(kinds: &NameBook, kind: &str, seen: Option<SeenKind<'_>>) -> Option
     Some(KindId(number as u8))
 }
 
+/// The number of an edge's kind, which is added first, where the change makes it. It may have been seen before.
+fn edge_kind(
+    kinds: &mut NameBook,
+    change: EdgeChange,
+    kind: &str,
+    seen: Option<SeenKind<'_>>,
+) -> Result<Option<KindId>, AddError>
+    requires limit { kinds.old.limit ≤ 64 }
+    requires within { Fits kinds.old }
+    requires kind { IsTrue (is_name kind.now) }
+    requires seen { IsSeen kinds.old.names seen }
+    ensures kind { IfOk result (λ k. option_map (λ k. k.0) k ≡ known (kinds_made change kind.now kinds.old.names) kind.now) }
+    ensures kinds { OnOk result (kinds.new ≡ with_names kinds.old (kinds_made change kind.now kinds.old.names)) }
+    ensures within { OnOk result (Fits kinds.new) }
+    ensures refused { IfErr result (λ error. IsRefusal error kinds.old (kinds_made change kind.now kinds.old.names)) }
+{
+    if change.makes_names() {
+        return add_kind(kinds, kind, seen);
+    }
+    Ok(find_kind(kinds, kind, seen))
+}
+
 /// The number of an operation's kind, which is added first, where the operation makes kinds. It may have been seen before.
 fn op_kind(
     kinds: &mut NameBook,
@@ -188,17 +232,15 @@ fn op_kind(
     ensures within { OnOk result (Fits kinds.new) }
     ensures refused { IfErr result (λ error. IsRefusal error kinds.old (kinds_after op.now kinds.old.names)) }
 {
-    match op {
-        NamedOp::Insert { kind, .. } => add_kind(kinds, kind.as_str(), seen),
-        NamedOp::Incr { kind, .. } => add_kind(kinds, kind.as_str(), seen),
-        NamedOp::Remove { kind, .. } => Ok(find_kind(kinds, kind.as_str(), seen)),
-        NamedOp::Expire { .. } => Ok(None),
+    match parts_in(op, MOST_WEIGHT) {
+        OpParts::OfEdge(change, kind, _, _) => edge_kind(kinds, change, kind.as_str(), seen),
+        OpParts::OfAll(_) => Ok(None),
     }
 }
 
 /// The key of numbers of which each is known.
 fn key_by(ends: Ends, kind: Option<KindId>) -> Option<EdgeKey>
-    ensures { option_map key_of result ≡ key_from (option_map (λ k. k.0) kind) ends.source ends.target }
+    ensures { option_map key_shown result ≡ key_from (option_map (λ k. k.0) kind) ends.source ends.target }
 {
     Some(EdgeKey {
         kind: kind?,
@@ -209,7 +251,7 @@ fn key_by(ends: Ends, kind: Option<KindId>) -> Option<EdgeKey>
 
 /// An operation on the edge of these ends and this kind.
 fn on_edge(ends: Ends, kind: Option<KindId>, change: EdgeChange) -> ResolvedOp
-    ensures { shown result ≡ AtKey ends.source (key_from (option_map (λ k. k.0) kind) ends.source ends.target) change }
+    ensures { shown_op result ≡ AtKey ends.source (key_from (option_map (λ k. k.0) kind) ends.source ends.target) change }
 {
     ResolvedOp::Edge(ends.source, key_by(ends, kind), change)
 }
@@ -219,41 +261,24 @@ fn resolved_op(op: &NamedOp, most: u64, ends: Ends, kind: Option<KindId>) -> Res
     requires op { IsValid op.now }
     requires most { most ≤ weight_limit }
     ensures shown { (kinds : List (List ℕ)) → option_map (λ k. k.0) kind ≡ kind_by kinds (parts_of op.now)
-        → shown result ≡ plan.with_kind kinds ends (parts_in most op.now) }
+        → shown_op result ≡ plan.with_kind kinds ends (parts_in most op.now) }
     ensures valid { IsInRange result }
 {
-    match op {
-        NamedOp::Insert { weight, time, .. } => on_edge(
-            ends,
-            kind,
-            EdgeChange::Insert {
-                weight: *weight,
-                time: *time,
-                most,
-            },
-        ),
-        NamedOp::Incr { amount, time, .. } => on_edge(
-            ends,
-            kind,
-            EdgeChange::Incr {
-                amount: *amount,
-                time: *time,
-                most,
-            },
-        ),
-        NamedOp::Remove { .. } => on_edge(ends, kind, EdgeChange::Remove),
-        NamedOp::Expire { time } => ResolvedOp::Expire(*time),
+    match parts_in(op, most) {
+        OpParts::OfEdge(change, _, _, _) => on_edge(ends, kind, change),
+        OpParts::OfAll(time) => ResolvedOp::Expire(time),
     }
 }
 
 /// Why a batch isn't planned whose names are refused.
-fn names_refusal(error: AddError) -> PlanError
-    ensures { (ops : List NamedOp) (names kinds : Book) → IsRefusal error names (names_all ops names.names)
+#[tactic(auto, using(crate::proofs::Names::unplanned_names))]
+fn names_refusal(error: AddError) -> ApplyError
+    ensures { (ops : List NamedOp) (names kinds : Book) → IsRefusal error names (names_after_all ops names.names)
         → IsUnplanned result ops names kinds }
 {
     match error {
-        AddError::NamesFull => PlanError::NamesFull,
-        AddError::OutOfMemory => PlanError::OutOfMemory,
+        AddError::NamesFull => ApplyError::NamesFull,
+        AddError::OutOfMemory => ApplyError::OutOfMemory,
     }
 }
 
@@ -263,8 +288,8 @@ fn names_refusal(error: AddError) -> PlanError
 fn add_names(names: &mut NameBook, ops: &[NamedOp]) -> Result<(), AddError>
     requires within { Fits names.old }
     requires valid { All IsValid ops.now }
-    ensures within { OnOk result (length (names_all ops.now names.old.names) ≤ names.old.limit) }
-    ensures refused { IfErr result (λ error. IsRefusal error names.old (names_all ops.now names.old.names)) }
+    ensures within { OnOk result (length (names_after_all ops.now names.old.names) ≤ names.old.limit) }
+    ensures refused { IfErr result (λ error. IsRefusal error names.old (names_after_all ops.now names.old.names)) }
 {
     for op in ops {
         let unfound = Ends {
@@ -278,16 +303,16 @@ fn add_names(names: &mut NameBook, ops: &[NamedOp]) -> Result<(), AddError>
 
 /// Why a batch isn't planned that is refused for an operation's kind, and has these operations behind that one: for its
 /// names, where they don't fit.
-fn kinds_refusal(error: AddError, names: &mut NameBook, behind: &[NamedOp]) -> PlanError
+fn kinds_refusal(error: AddError, names: &mut NameBook, behind: &[NamedOp]) -> ApplyError
     requires within { Fits names.old }
     requires valid { All IsValid behind.now }
     ensures { (op : NamedOp) (before kinds : Book) → names.old ≡ with_names before (names_after op before.names)
         → IsRefusal error kinds (kinds_after op kinds.names) → IsUnplanned result (op ∷ behind.now) before kinds }
 {
     match error {
-        AddError::OutOfMemory => PlanError::OutOfMemory,
+        AddError::OutOfMemory => ApplyError::OutOfMemory,
         AddError::NamesFull => match add_names(names, behind) {
-            Ok(()) => PlanError::KindsFull,
+            Ok(()) => ApplyError::KindsFull,
             Err(error) => names_refusal(error),
         },
     }
@@ -305,7 +330,7 @@ pub fn resolve_op(
     behind: &[NamedOp],
     found: Ends,
     seen: Option<SeenKind<'_>>,
-) -> Result<ResolvedOp, PlanError>
+) -> Result<ResolvedOp, ApplyError>
     requires limit { kinds.old.limit ≤ 64 }
     requires within { Fits names.old × Fits kinds.old }
     requires op { IsValid op.now }
@@ -313,7 +338,7 @@ pub fn resolve_op(
     requires behind { All IsValid behind.now }
     requires found { IsFound names.old.names op.now found }
     requires seen { IsSeen kinds.old.names seen }
-    ensures op { IfOk result (λ r. shown r
+    ensures op { IfOk result (λ r. shown_op r
         ≡ resolve_parts (names_after op.now names.old.names) (kinds_after op.now kinds.old.names) (parts_in most op.now)) }
     ensures change { IfOk result IsInRange }
     ensures names { OnOk result (names.new ≡ with_names names.old (names_after op.now names.old.names)) }

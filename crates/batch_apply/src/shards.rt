@@ -9,10 +9,10 @@ ghost use Rattle.edge_block.specs.Batches.{IsPlaced};
 ghost use Rattle.batch_shards.specs.Shards.{IsPlace, IsAct, key_at, resolved_at};
 ghost use Rattle.batch_shards.specs.Done.{layout_by, sources_in};
 ghost use Rattle.batch_shards.specs.Spending.{needed};
-ghost use Rattle.batch_apply.specs.Plan.{key_of, shown, IsInRange};
+ghost use Rattle.batch_apply.specs.Plan.{key_shown, shown_op, IsInRange};
 ghost use Rattle.batch_apply.specs.OldRows.{AreOldRows};
-ghost use Rattle.batch_apply.specs.FirstSources.{AreNext, asked_by, source_in};
-ghost use Rattle.batch_apply.specs.Shards.{IsShardOf, latest, source_numbers, unsourced, with_number, with_source, with_op};
+ghost use Rattle.batch_apply.specs.FirstSources.{AreNext, asked_source, source_in};
+ghost use Rattle.batch_apply.specs.Shards.{IsShardOf, latest_expiry, source_numbers, unsourced, with_number, with_source, with_op};
 
 use crate::old::OldRow;
 use crate::own_sources::{Listed, Places, first_sources, is_in_shard, take_next};
@@ -68,13 +68,13 @@ fn place_in(
 ) -> Result<Option<Place>, AllocError>
     requires few { length sources.old.items < 2 ^ 32 }
     requires next { (rest : List ℕ) × IfSome places.old (AreNext (source_numbers sources.old.items)
-        (source_in (option_map key_of key) ++ rest)) }
+        (source_in (option_map key_shown key) ++ rest)) }
     ensures next { OnOk result ((rest : List ℕ)
-        → IfSome places.old (AreNext (source_numbers sources.old.items) (source_in (option_map key_of key) ++ rest))
+        → IfSome places.old (AreNext (source_numbers sources.old.items) (source_in (option_map key_shown key) ++ rest))
         → IfSome places.new (AreNext (source_numbers sources.new.items) rest)) }
-    ensures sources { OnOk result (source_numbers sources.new.items ≡ with_source (option_map key_of key)
+    ensures sources { OnOk result (source_numbers sources.new.items ≡ with_source (option_map key_shown key)
         (source_numbers sources.old.items)) }
-    ensures key { IfOk result (λ p. key_at (source_numbers sources.new.items) p ≡ option_map key_of key) }
+    ensures key { IfOk result (λ p. key_at (source_numbers sources.new.items) p ≡ option_map key_shown key) }
     ensures place { IfOk result (λ p. IsPlace (length (source_numbers sources.new.items)) p) }
     ensures few { OnOk result (length sources.new.items ≤ length sources.old.items + 1) }
 {
@@ -97,12 +97,12 @@ fn act_in(
 ) -> Result<Act, AllocError>
     requires few { length sources.old.items < 2 ^ 32 }
     requires valid { IsInRange op }
-    requires next { (rest : List ℕ) × IfSome places.old (AreNext (source_numbers sources.old.items) (asked_by (shown op) ++ rest)) }
+    requires next { (rest : List ℕ) × IfSome places.old (AreNext (source_numbers sources.old.items) (asked_source (shown_op op) ++ rest)) }
     ensures next { OnOk result ((rest : List ℕ)
-        → IfSome places.old (AreNext (source_numbers sources.old.items) (asked_by (shown op) ++ rest))
+        → IfSome places.old (AreNext (source_numbers sources.old.items) (asked_source (shown_op op) ++ rest))
         → IfSome places.new (AreNext (source_numbers sources.new.items) rest)) }
-    ensures sources { OnOk result (source_numbers sources.new.items ≡ with_op (shown op) (source_numbers sources.old.items)) }
-    ensures act { IfOk result (λ act. unsourced (resolved_at (source_numbers sources.new.items) act) ≡ unsourced (shown op)) }
+    ensures sources { OnOk result (source_numbers sources.new.items ≡ with_op (shown_op op) (source_numbers sources.old.items)) }
+    ensures act { IfOk result (λ act. unsourced (resolved_at (source_numbers sources.new.items) act) ≡ unsourced (shown_op op)) }
     ensures in_rows { IfOk result (IsAct (length (source_numbers sources.new.items))) }
     ensures few { OnOk result (length sources.new.items ≤ length sources.old.items + 1) }
 {
@@ -133,13 +133,13 @@ pub fn shard_for(
 ) -> Result<Needing, AllocError>
     requires workers { 0 < workers }
     requires few { length ops.now ≤ most_operations }
-    requires placed { All IsPlaced (map shown ops.now) }
+    requires placed { All IsPlaced (map shown_op ops.now) }
     requires valid { All IsInRange ops.now }
     requires few_old { length old.now ≤ most_names }
-    requires old { (rows : ℕ → List BlockView) × AreOldRows (latest (map shown ops.now)) rows old.now }
-    ensures shard { IfOk result (λ n. (rows : ℕ → List BlockView) → AreOldRows (latest (map shown ops.now)) rows old.now
-        → IsShardOf workers (map shown ops.now) (layout_by rows) worker n.shard) }
-    ensures blocks { IfOk result (λ n. (rows : ℕ → List BlockView) → AreOldRows (latest (map shown ops.now)) rows old.now
+    requires old { (rows : ℕ → List BlockView) × AreOldRows (latest_expiry (map shown_op ops.now)) rows old.now }
+    ensures shard { IfOk result (λ n. (rows : ℕ → List BlockView) → AreOldRows (latest_expiry (map shown_op ops.now)) rows old.now
+        → IsShardOf workers (map shown_op ops.now) (layout_by rows) worker n.shard) }
+    ensures blocks { IfOk result (λ n. (rows : ℕ → List BlockView) → AreOldRows (latest_expiry (map shown_op ops.now)) rows old.now
         → n.blocks ≡ min (needed rows (sources_in n.shard) n.shard.steps.items) (2 ^ 64 - 1)) }
 {
     let Listed {

@@ -5,7 +5,7 @@ ghost use Rattle.graph_types.specs.Graph.{Graph};
 ghost use Rattle.graph_types.specs.Step.{after_all};
 ghost use Rattle.graph_types.specs.declared.batches.NamedOp.{NamedOp};
 ghost use Rattle.edge_block.specs.Rows.{Shape};
-ghost use Rattle.edge_block.specs.Batches.{resolved, IsWithin, IsLayoutOf};
+ghost use Rattle.edge_block.specs.Batches.{resolved, HasEndsWithin, IsLayoutOf};
 ghost use Rattle.batch_shards.specs.Done.{sources_in};
 ghost use Rattle.batch_shards.specs.declared.shard.Shard.{Shard};
 ghost use Rattle.batch_apply.specs.Shards.{IsShardOf};
@@ -13,6 +13,6 @@ ghost use Rattle.batch_apply.specs.Shards.{IsShardOf};
 /// The sources of a batch's shards are vertices of the graph that the batch leaves.
 pub fn law_sources_within()
     ensures { (workers worker : ℕ) (ops : List NamedOp) (g : Graph) (layout : ℕ → List Shape) (shard : Shard)
-        → IsWithin g → IsLayoutOf layout g.edges → IsShardOf workers (resolved ops g) layout worker shard
+        → HasEndsWithin g → IsLayoutOf layout g.edges → IsShardOf workers (resolved ops g) layout worker shard
         → All (λ s. s < length (after_all ops g).names) (sources_in shard) }
 {}

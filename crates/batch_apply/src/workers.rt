@@ -4,7 +4,7 @@ ghost use Rattle.std.specs.Prelude.{◌≡◌, ◌+◌, ◌++◌, ◌<◌, ◌�
 ghost use Rattle.std.specs.Thread.{IsSync};
 ghost use Rattle.graph_version.specs.Rows.{row_of};
 ghost use Rattle.batch_shards.specs.Done.{IsShardDone};
-ghost use Rattle.batch_apply.specs.Gathered.{IsShard, AreDone};
+ghost use Rattle.batch_apply.specs.Gathered.{IsShard, AreShardsDone};
 
 use batch_shards::{Shard, ShardDone, work_on};
 use graph_version::Version;
@@ -53,7 +53,7 @@ pub fn do_all<R: Threads + Sync, G: Gate + Sync>(
     jobs: Vec<Job>,
 ) -> Result<Vec<ShardDone>, AllocError>
     requires { All (λ j. IsShard (row_of version.now.rows) j.shard) jobs.items }
-    ensures { IfOk result (λ v. AreDone (row_of version.now.rows) jobs.items v.items) }
+    ensures { IfOk result (λ v. AreShardsDone (row_of version.now.rows) jobs.items v.items) }
 {
     for job in jobs.as_slice() {
         if !job.is_busy() {
@@ -89,7 +89,7 @@ fn do_busy<R: Threads + Sync, G: Gate + Sync>(
     mut low: Vec<Job>,
 ) -> Result<Vec<ShardDone>, AllocError>
     requires { All (λ j. IsShard (row_of version.now.rows) j.shard) low.items }
-    ensures { IfOk result (λ v. AreDone (row_of version.now.rows) low.items v.items) }
+    ensures { IfOk result (λ v. AreShardsDone (row_of version.now.rows) low.items v.items) }
 {
     let Some(place) = last_of_several(&low) else {
         return do_each(alloc, gate, version, of, low);
@@ -97,11 +97,11 @@ fn do_busy<R: Threads + Sync, G: Gate + Sync>(
     let high = low.split_off(place)?;
     let back = move || -> Result<Vec<ShardDone>, AllocError>
         requires { IsSync G.row × All (λ j. IsShard (row_of version.now.rows) j.shard) high.items }
-        ensures { IfOk result (λ v. AreDone (row_of version.entry.now.rows) high.items v.items) }
+        ensures { IfOk result (λ v. AreShardsDone (row_of version.entry.now.rows) high.items v.items) }
     { do_each(alloc, gate, version, of, high) };
     let front = move || -> Result<Vec<ShardDone>, AllocError>
         requires { IsSync R.row × IsSync G.row × All (λ j. IsShard (row_of version.now.rows) j.shard) low.items }
-        ensures { IfOk result (λ v. AreDone (row_of version.entry.now.rows) low.items v.items) }
+        ensures { IfOk result (λ v. AreShardsDone (row_of version.entry.now.rows) low.items v.items) }
     { do_busy(rt, alloc, gate, version, of, low) };
     let (b, a) = join(rt, back, front);
     let all = a?;
@@ -132,7 +132,7 @@ fn do_each<G: Gate>(
     jobs: Vec<Job>,
 ) -> Result<Vec<ShardDone>, AllocError>
     requires { All (λ j. IsShard (row_of version.now.rows) j.shard) jobs.items }
-    ensures { IfOk result (λ v. AreDone (row_of version.now.rows) jobs.items v.items) }
+    ensures { IfOk result (λ v. AreShardsDone (row_of version.now.rows) jobs.items v.items) }
 {
     let mut done = Vec::with_capacity(alloc, jobs.len())?;
     for job in jobs {

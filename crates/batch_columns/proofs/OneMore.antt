@@ -3,10 +3,10 @@ use Rattle.std.proofs.Common.{◌≡◌, ◌≤◌, ℕ, zero, suc, ◌+◌, ◌
 use Rattle.std.proofs.Common.{length-append, append_assoc}
 use Rattle.std.specs.Prelude.{Ok}
 use Rattle.graph_types.specs.declared.batches.NamedOp.{NamedOp}
-use Rattle.batch_columns.specs.{Dictionaries.{joined, in_order, IsInserted}, Operations.{OperationTable, operation_at, operations_from}}
+use Rattle.batch_columns.specs.{Dictionaries.{joined_operations, in_order, IsInserted}, Operations.{OperationTable, operation_at, operations_from}}
 
 -- the parts of a list that is joined
-pub joined_parts : (op : Option NamedOp) (rest : Option (List NamedOp)) (all : List NamedOp) → joined op rest ≡ Some all
+pub joined_parts : (op : Option NamedOp) (rest : Option (List NamedOp)) (all : List NamedOp) → joined_operations op rest ≡ Some all
     → (one : NamedOp) × (others : List NamedOp) × (op ≡ Some one) × (rest ≡ Some others) × (all ≡ one ∷ others)
 joined_parts (Some one) (Some others) all is = (one, others, refl, refl, cc)
 joined_parts (Some one) None all is = cc
@@ -16,12 +16,12 @@ pub one_more : (op_at : ℕ → Option NamedOp) (at n : ℕ) (ops : List NamedOp
     → op_at (at + n) ≡ Some op → in_order op_at at (suc n) ≡ Some (ops ++ op ∷ [])
 one_more op_at at zero ops op are is =
     let none : ops ≡ [] = cc in
-    rw none (ap (λ o. joined o (Some [])) (ap op_at (omega arith) ∙ is))
+    rw none (ap (λ o. joined_operations o (Some [])) (ap op_at (omega arith) ∙ is))
 one_more op_at at (suc n) ops op are is =
     let parts = joined_parts (op_at at) (in_order op_at (at + 1) n) ops are in
     let place : at + 1 + n ≡ at + suc n = omega arith in
     let rest = one_more op_at (at + 1) n parts.1 op parts.3 (ap op_at place ∙ is) in
-    rw parts.4 (ap (λ o. joined o (in_order op_at (at + 1) (suc n))) parts.2 ∙ ap (joined (Some parts.0)) rest)
+    rw parts.4 (ap (λ o. joined_operations o (in_order op_at (at + 1) (suc n))) parts.2 ∙ ap (joined_operations (Some parts.0)) rest)
 
 -- what an operation that is in was
 pub inserted_op : (limit : ℕ) (o : Option NamedOp) (old new : List NamedOp) (done : Unit {0}) → IsInserted limit o old new (Ok done)

@@ -44,14 +44,14 @@ IsInserted limit (Some op) old new (Ok done) = IsPushed limit op old new (Ok don
 IsInserted limit (Some op) old new (Err (Refused error)) = IsPushed limit op old new (Err error)
 IsInserted limit (Some op) old new (Err BadNumber) = ⊥
 
-abbrev pub joined : Option NamedOp → Option (List NamedOp) → Option (List NamedOp)
-joined (Some op) (Some ops) = Some (op ∷ ops)
-joined _ _ = None
+abbrev pub joined_operations : Option NamedOp → Option (List NamedOp) → Option (List NamedOp)
+joined_operations (Some op) (Some ops) = Some (op ∷ ops)
+joined_operations _ _ = None
 
 -- the operations at so many places from one on, in order; none where one of them is none
 abbrev pub in_order : (ℕ → Option NamedOp) → ℕ → ℕ → Option (List NamedOp)
 in_order op_at at zero = Some []
-in_order op_at at (suc n) = joined (op_at at) (in_order op_at (at + 1) n)
+in_order op_at at (suc n) = joined_operations (op_at at) (in_order op_at (at + 1) n)
 
 -- insertions of a kind, as columns have them: numbers in a dictionary, weights and times
 pub record Insertions : Type 0 where

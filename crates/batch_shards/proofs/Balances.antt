@@ -4,7 +4,7 @@ use Rattle.std.{proofs.{Common.arith, lemmas.{List.map-append, Grind.common_step
 use Rattle.edge_block.specs.{Slots.BlockView, Rows.{shape_of, has_none}}
 use Rattle.batch_shards.specs.{RowBlocks.{block_of, had_here, had_in, own_here, own_in}, Closing.{after_here, stays_here}}
 use Rattle.batch_shards.specs.Closing.{written_here, dropped_here, unused_here, after_of, stays_of, written_of, dropped_of}
-use Rattle.batch_shards.specs.{Closing.{unused_of, stays_all, written_all, dropped_all, unused_all}, Shards.{had_all, own_all}}
+use Rattle.batch_shards.specs.{Closing.{unused_of, stays_all, written_blocks, dropped_all, unused_all}, Shards.{had_all, own_all}}
 use Rattle.batch_shards.specs.declared.{row_blocks.RowBlock.RowBlock, shard.OpenRow.OpenRow}
 
 -- what balances in each element balances in the whole list
@@ -54,7 +54,7 @@ pub all_before : (work : List OpenRow) (p : BlockView → Bool) → count_by p (
 all_before work p = adds_up p (λ (r : OpenRow). stays_of r.blocks.items) (λ (r : OpenRow). dropped_of r.blocks.items)
     (λ (r : OpenRow). had_in r.blocks.items) (λ r. row_before p r.blocks.items) work
 
-pub all_after : (work : List OpenRow) (p : BlockView → Bool) → count_by p (stays_all work) + count_by p (written_all work)
+pub all_after : (work : List OpenRow) (p : BlockView → Bool) → count_by p (stays_all work) + count_by p (written_blocks work)
     ≡ count_by p (flat_map (λ r. after_of r.blocks.items) work)
 all_after work p = adds_up p (λ (r : OpenRow). stays_of r.blocks.items) (λ (r : OpenRow). written_of r.blocks.items)
     (λ (r : OpenRow). after_of r.blocks.items) (λ r. row_after p r.blocks.items) work
@@ -76,7 +76,7 @@ row_numbers q row =
     omega arith
 
 pub all_numbers : (q : ℕ → Bool) (work : List OpenRow)
-    → count_by q (map (λ b. b.number) (written_all work)) + count_by q (unused_all work) ≡ count_by q (own_all work)
+    → count_by q (map (λ b. b.number) (written_blocks work)) + count_by q (unused_all work) ≡ count_by q (own_all work)
 all_numbers q work =
     let sum = balance q (λ (r : OpenRow). map (λ b. b.number) (written_of r.blocks.items))
     (λ (r : OpenRow). unused_of r.blocks.items) (λ (r : OpenRow). own_in r.blocks.items) (λ _. [])

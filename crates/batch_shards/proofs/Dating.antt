@@ -7,7 +7,7 @@ use Rattle.std.proofs.lemmas.Grind.{common_steps}
 use Rattle.edge_block.specs.{declared.blocks.Block.Block, Slots.BlockView, Rows.{OpenBlock, shape_of, has_none}}
 use Rattle.graph_version.specs.Versions.{is_in}
 use Rattle.batch_shards.specs.{RowBlocks.{block_of, opens, had_here, had_in}, Closing.{written_here, after_of, written_of}}
-use Rattle.batch_shards.specs.{Closing.{dropped_of, closed_rows, written_all, dropped_all}, Shards.{AreOpen, sources_of}}
+use Rattle.batch_shards.specs.{Closing.{dropped_of, closed_rows, written_blocks, dropped_all}, Shards.{AreOpen, sources_of}}
 use Rattle.batch_shards.specs.{Births.{first_birth, left_over, births_end, births_dropped}, declared.row_blocks.RowBlock.RowBlock}
 use Rattle.batch_shards.{specs.declared.shard.OpenRow.OpenRow, proofs.Closed.{all_left, all_right}}
 
@@ -43,7 +43,7 @@ module _ (f g : BlockView → ℕ) (n : ℕ) where
       (all_right (λ b. g b ≡ f b) (had_here h) (had_in row) old))
 
   pub all_births : (now : ℕ → List OpenBlock) (rows : ℕ → List BlockView) (work : List OpenRow) → AreOpen now work
-      → All (λ r. had_in r.blocks.items ≡ rows r.source.0) work → All (λ b. g b ≡ n) (written_all work)
+      → All (λ r. had_in r.blocks.items ≡ rows r.source.0) work → All (λ b. g b ≡ n) (written_blocks work)
       → All (λ r. All (λ b. g b ≡ f b) (rows r.0) → map g r.1 ≡ births_end n (now r.0) (map f (rows r.0))) (closed_rows work)
   all_births now rows [] opened had new = grind (arith, common_steps, All-nil)
   all_births now rows (r ∷ work) opened had new =
@@ -52,12 +52,12 @@ module _ (f g : BlockView → ℕ) (n : ℕ) where
       let shown = All-head (λ (r : OpenRow). opens r.blocks.items ≡ now r.source.0) r work opened in
       All-cons (λ (r : ℕ × List BlockView). All (λ b. g b ≡ f b) (rows r.0) → map g r.1 ≡ births_end n (now r.0) (map f (rows r.0)))
       (r.source.0, after_of r.blocks.items) (closed_rows work)
-      (λ old. row_births r.blocks.items (all_left (λ b. g b ≡ n) (written_of r.blocks.items) (written_all work) new)
+      (λ old. row_births r.blocks.items (all_left (λ b. g b ≡ n) (written_of r.blocks.items) (written_blocks work) new)
       (subst (λ bs. All (λ b. g b ≡ f b) bs) (sym here) old)
       ∙ ap₂ (λ os bs. births_end n os (map f bs)) shown here)
       (all_births now rows work (All-tail (λ (r : OpenRow). opens r.blocks.items ≡ now r.source.0) r work opened)
       (All-tail (λ (r : OpenRow). had_in r.blocks.items ≡ rows r.source.0) r work had)
-      (all_right (λ b. g b ≡ n) (written_of r.blocks.items) (written_all work) new))
+      (all_right (λ b. g b ≡ n) (written_of r.blocks.items) (written_blocks work) new))
 
   -- those with taken numbers
   pub written_births : (bs : List BlockView) → ((b : BlockView) → is_in b.number (map (λ b. b.number) bs) ≡ true → g b ≡ n)

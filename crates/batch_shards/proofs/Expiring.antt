@@ -11,8 +11,10 @@ use Rattle.graph_types.specs.declared.{batches.Outcome.TheVariants.{Removed, Abs
 use Rattle.graph_types.proofs.DegreeBounds.{one_where}
 use Rattle.edge_block.specs.{Slots.{Slot, slots_since, has_before, old_in, edges_in, holds, at_first, BlockView}, Rows.OpenBlock}
 use Rattle.edge_block.specs.Rows.{touch, expire_block, put_edge, set_edge, edge_at, untouched, shape_of, has_edge, has_room}
-use Rattle.edge_block.specs.{Rows.{new_block, touches}, Batches.{key_step, key_outcome, together}}
-use Rattle.batch_shards.specs.{Groups.told, Spending.{is_unspent, unspent, old_blocks, time_of, latest, spends, takes}}
+use Rattle.edge_block.specs.{Rows.{new_block, touches}, Batches.{key_step, key_outcome}}
+use Rattle.graph_types.specs.Outcomes.{together}
+use Rattle.graph_types.specs.Outcomes.{told}
+use Rattle.batch_shards.specs.Spending.{is_unspent, unspent, old_blocks, act_time, latest, spends, takes}
 use Rattle.batch_shards.specs.declared.shard.{Act.{Act, TheVariants.{Edge, Expire}}, Step.Step}
 
 -- f of so many first elements
@@ -175,13 +177,13 @@ opened_owes t [] = refl
 opened_owes t (b ∷ row) = grind (arith, common_steps, opened_owes t row)
 
 -- no expiry is later than the latest
-pub not_later : (steps : List Step) (k : ℕ) (s : Step) → k < length steps → time_of (get_or steps k s).act ≤ latest steps
+pub not_later : (steps : List Step) (k : ℕ) (s : Step) → k < length steps → act_time (get_or steps k s).act ≤ latest steps
 not_later [] k s lt = absurd (omega arith)
-not_later (x ∷ steps) zero s lt = Rattle.std.proofs.Math.Nat.le-max_left (time_of x.act) (latest steps)
+not_later (x ∷ steps) zero s lt = Rattle.std.proofs.Math.Nat.le-max_left (act_time x.act) (latest steps)
 not_later (x ∷ steps) (suc k) s lt = grind (arith, common_steps, not_later steps k s (omega arith))
 
 -- what is needed of a row is what it takes and owes
-pub spends_least : (act : Act) (t : ℕ) (row : List OpenBlock) → time_of act ≤ t → spends act row ≤ takes act + unspent t row
+pub spends_least : (act : Act) (t : ℕ) (row : List OpenBlock) → act_time act ≤ t → spends act row ≤ takes act + unspent t row
 spends_least (Edge place change) t row le = omega arith
 spends_least (Expire time) t row le = let few = fewer_earlier time t row le in omega arith
 

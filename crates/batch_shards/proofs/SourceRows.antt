@@ -4,11 +4,13 @@ use Rattle.std.proofs.{Common.{refl, sym, subst, ap, ap₂, ◌∙◌, arith, Al
 use Rattle.std.{proofs.lemmas.List.{Sums.sum_by-append, Elements.All-push}, specs.declared.{sync.Arc.Arc, alloc.Global.Global}}
 use Rattle.std.{specs.List.sum_by, proofs.lemmas.{Bool.false≢true, Grind.common_steps}}
 use Rattle.graph_types.specs.declared.{batches.Outcome.{Outcome, TheVariants.Expired}, ids.VertexId.VertexId}
-use Rattle.edge_block.specs.{declared.blocks.Block.Block, Slots.BlockView, Batches.{outcome_in, together, rows_all, opened}}
+use Rattle.edge_block.specs.{declared.blocks.Block.Block, Slots.BlockView, Batches.{outcome_in, rows_all, opened_rows}}
+use Rattle.graph_types.specs.Outcomes.{together}
 use Rattle.edge_block.specs.Rows.{OpenBlock, old_in_row}
-use Rattle.batch_shards.specs.{RowBlocks.{blocks_of, numbers_of, opens, had_in, own_in, HaveSame, IsOf}, Closing.row_values}
-use Rattle.batch_shards.specs.{Closing.{after_of, written_of, dropped_of, unused_of, written_all}, Shards.{key_at, resolved_at}}
-use Rattle.batch_shards.specs.{Shards.{resolved_in, own_all}, Done.layout_by, Groups.{is_past, does_act, told, outcome_over}}
+use Rattle.batch_shards.specs.{RowBlocks.{shared_blocks, shared_numbers, opens, had_in, own_in, HaveSame, IsOf}, Closing.row_values}
+use Rattle.batch_shards.specs.{Closing.{after_of, written_of, dropped_of, unused_of, written_blocks}, Shards.{key_at, resolved_at}}
+use Rattle.batch_shards.specs.{Shards.{resolved_in, own_all}, Done.layout_by, Groups.{is_past, does_act, outcome_over}}
+use Rattle.graph_types.specs.Outcomes.{told}
 use Rattle.batch_shards.specs.{Groups.{IsTold, IsSourceRow, IsOneMore}, OpenRows.{IsRowOf, KeepsOthers}, Progress.AreOutcomes}
 use Rattle.batch_shards.specs.{Progress.AreRowsDone, declared.shard.{OpenRow.OpenRow, ShardDone.ShardDone, Step.Step, Act.Act}}
 use Rattle.batch_shards.{specs.declared.shard.Act.TheVariants.{Edge, Expire}, proofs.Places.{count_by-append, one_piece}}
@@ -18,10 +20,10 @@ module _ (rows : ℕ → List BlockView) (sources : List ℕ) (steps : List Step
   -- the outcome of an operation with one more row
   module _ (row source : ℕ) (is : IsSourceRow sources steps row source) (k : ℕ) (lt : k < length steps) where
     abbrev over : List ℕ → Outcome
-    over counted = outcome_over counted sources steps (opened (layout_by rows)) k
+    over counted = outcome_over counted sources steps (opened_rows (layout_by rows)) k
 
     abbrev now : ℕ → List OpenBlock
-    now = rows_all (resolved_in sources (take k steps)) (opened (layout_by rows))
+    now = rows_all (resolved_in sources (take k steps)) (opened_rows (layout_by rows))
 
     abbrev acts : Act → Type 0
     acts act = (get_or steps k first_step).act ≡ act
@@ -63,7 +65,7 @@ module _ (rows : ℕ → List BlockView) (sources : List ℕ) (steps : List Step
   pub outcomes_more : (row source : ℕ) → IsSourceRow sources steps row source → (old new : List (ℕ × Outcome))
       → ((k : ℕ) (s : Step) (o : ℕ × Outcome) → k < length steps → does_act row (get_or steps k s).act ≡ true
       → IsTold (get_or steps k s).act (get_or old k o).1
-      → IsOneMore sources steps (opened (layout_by rows)) source k (get_or old k o).1 (get_or new k o).1)
+      → IsOneMore sources steps (opened_rows (layout_by rows)) source k (get_or old k o).1 (get_or new k o).1)
       → KeepsOthers steps row old new
       → AreOutcomes sources steps rows row old → AreOutcomes sources steps rows (row + 1) new
   outcomes_more row source is old new written kept d = record {
@@ -72,7 +74,7 @@ module _ (rows : ℕ → List BlockView) (sources : List ℕ) (steps : List Step
         let act : Act = (get_or steps k s).act in
         let same : (get_or steps k first_step).act ≡ act = ap (λ (x : Step). x.act) (get_or_default steps k first_step s lt) in
         elim (does_act row act) as (λ t. does_act row act ≡ t
-        → (get_or new k o).1 ≡ told (outcome_over (take (row + 1) sources) sources steps (opened (layout_by rows)) k)) [
+        → (get_or new k o).1 ≡ told (outcome_over (take (row + 1) sources) sources steps (opened_rows (layout_by rows)) k)) [
           | true ↦ λ t. written k s o lt t
               (was_told row source is k lt act same (get_or old k o).1 (λ before. d.are k s o lt before))
               ∙ one_told row source is k lt act same (get_or old k o).1 (λ before. d.are k s o lt before)
@@ -88,23 +90,23 @@ module _ (rows : ℕ → List BlockView) (sources : List ℕ) (steps : List Step
     taken = take_more sources row 0 is.within ∙ ap (λ s. take row sources ++ s ∷ []) is.source_is
 
     pub row_done : (handed : List ℕ) (fresh next : List (Arc Block Global)) (before after : ShardDone)
-        → opens r.blocks.items ≡ rows_all (resolved_in sources steps) (opened (layout_by rows)) start.source.0
+        → opens r.blocks.items ≡ rows_all (resolved_in sources steps) (opened_rows (layout_by rows)) start.source.0
         → had_in r.blocks.items ≡ rows start.source.0
-        → HaveSame (own_in r.blocks.items) (numbers_of next) [] (numbers_of fresh)
+        → HaveSame (own_in r.blocks.items) (shared_numbers next) [] (shared_numbers fresh)
         → (AreOutcomes sources steps rows row before.outcomes.items
         → AreOutcomes sources steps rows (row + 1) after.outcomes.items)
         → row_values after.rows.items ≡ row_values before.rows.items ++ (r.source.0, after_of r.blocks.items) ∷ []
         → after.left.taken.items ≡ before.left.taken.items ++ map (λ b. b.number) (written_of r.blocks.items)
-        → blocks_of after.left.dropped.items ≡ blocks_of before.left.dropped.items ++ dropped_of r.blocks.items
-        → numbers_of after.left.unused.items ≡ numbers_of before.left.unused.items ++ unused_of r.blocks.items
+        → shared_blocks after.left.dropped.items ≡ shared_blocks before.left.dropped.items ++ dropped_of r.blocks.items
+        → shared_numbers after.left.unused.items ≡ shared_numbers before.left.unused.items ++ unused_of r.blocks.items
         → AreRowsDone rows sources steps handed row fresh before → AreRowsDone rows sources steps handed (row + 1) next after
     row_done handed fresh next before after shown had same outcomes closed took dropped unused d = record {
       work = d.work ++ r ∷ [];
       sources_are = map-append (λ (r : OpenRow). r.source.0) d.work (r ∷ [])
           ∙ ap₂ (λ a b. a ++ b ∷ []) d.sources_are (ap (λ s. s.0) of_source.source_is) ∙ sym taken;
       layout = All-push (λ (r : OpenRow). opens r.blocks.items
-          ≡ rows_all (resolved_in sources steps) (opened (layout_by rows)) r.source.0) d.work r d.layout
-          (shown ∙ ap (λ s. rows_all (resolved_in sources steps) (opened (layout_by rows)) s.0) (sym of_source.source_is));
+          ≡ rows_all (resolved_in sources steps) (opened_rows (layout_by rows)) r.source.0) d.work r d.layout
+          (shown ∙ ap (λ s. rows_all (resolved_in sources steps) (opened_rows (layout_by rows)) s.0) (sym of_source.source_is));
       own = All-push (λ (r : OpenRow). All (IsOf r.source.0) r.blocks.items) d.work r d.own
           (subst (λ (s : VertexId). All (IsOf s.0) r.blocks.items) (sym of_source.source_is) of_source.own);
       had = one_piece (λ (r : OpenRow). had_in r.blocks.items) d.work r ∙ ap₂ (λ a b. a ++ b) d.had had
@@ -122,7 +124,7 @@ module _ (rows : ℕ → List BlockView) (sources : List ℕ) (steps : List Step
           ∙ sym (map-append (λ (r : OpenRow). (r.source.0, after_of r.blocks.items)) d.work (r ∷ []));
       taken = took ∙ ap (λ ns. ns ++ map (λ (b : BlockView). b.number) (written_of r.blocks.items)) d.taken
           ∙ sym (ap (map (λ (b : BlockView). b.number)) (one_piece (λ (r : OpenRow). written_of r.blocks.items) d.work r)
-          ∙ map-append (λ (b : BlockView). b.number) (written_all d.work) (written_of r.blocks.items));
+          ∙ map-append (λ (b : BlockView). b.number) (written_blocks d.work) (written_of r.blocks.items));
       dropped = dropped ∙ ap (λ bs. bs ++ dropped_of r.blocks.items) d.dropped
           ∙ sym (one_piece (λ (r : OpenRow). dropped_of r.blocks.items) d.work r);
       unused = unused ∙ ap (λ ns. ns ++ unused_of r.blocks.items) d.unused

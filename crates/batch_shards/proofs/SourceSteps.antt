@@ -5,9 +5,11 @@ use Rattle.std.proofs.lemmas.Bool.{or_right, eq-eqb, eqb-true, eqb-false, ne_eqb
 use Rattle.std.proofs.lemmas.List.{get_or-set_same, get_or-set_other, Sums.{count_by_more_yes, count_by_more_no, sum_by-cons}}
 use Rattle.std.{specs.{List.sum_by, Prelude.nat_lt, declared.option.Option.TheVariants.Some}, proofs.lemmas.Grind.common_steps}
 use Rattle.graph_types.specs.declared.{batches.Outcome.{Outcome, TheVariants.Expired}, changes.EdgeChange.EdgeChange}
-use Rattle.edge_block.specs.{Rows.{OpenBlock, old_in_row}, Batches.{key_step, rows_step, rows_all, outcome_in, together}}
-use Rattle.batch_shards.specs.{Shards.{IsAct, resolved_at, resolved_in}, Spending.takes, Groups.{is_at, is_past, does_act}}
-use Rattle.batch_shards.specs.Groups.{may_change, key_of, IsNext, LeadsTo, IsSourceRow, IsOneMore, IsTold, told, outcome_over}
+use Rattle.edge_block.specs.{Rows.{OpenBlock, old_in_row}, Batches.{key_step, rows_step, rows_all, outcome_in}}
+use Rattle.graph_types.specs.Outcomes.{together}
+use Rattle.batch_shards.specs.{Shards.{IsAct, resolved_at, resolved_in}, Spending.takes, Groups.{is_on_row, is_past, does_act}}
+use Rattle.batch_shards.specs.Groups.{may_change, key_placed, IsNextStep, LeadsToStep, IsSourceRow, IsOneMore, IsTold, outcome_over}
+use Rattle.graph_types.specs.Outcomes.{told}
 use Rattle.batch_shards.specs.{Groups.{act_step, act_outcome}, declared.shard.Act.{Act, TheVariants.{Edge, Expire}}}
 use Rattle.batch_shards.{specs.declared.shard.{Place.Place, Step.Step}, proofs.ShardSteps.{further, apart, first_step}}
 use Rattle.batch_shards.proofs.{ShardSteps.all_rows_more, Expiring.told_none, Young.{young_before, young_stays}}
@@ -28,18 +30,18 @@ or_false b e = grind (arith, common_steps)
 or_none : (b : Bool) → (b || false) ≡ false → b ≡ false
 or_none b e = grind (arith, common_steps)
 
-not_at : (row since : ℕ) (act : Act) → may_change row since act ≡ false → is_at row act ≡ false
+not_at : (row since : ℕ) (act : Act) → may_change row since act ≡ false → is_on_row row act ≡ false
 not_at row since act e = grind (arith, common_steps, or_none)
 
 -- operations past a row are those on the next row and those past both
 pub past_more : (row : ℕ) (steps : List Step) → count_by (λ s. is_past row s.act) steps
-    ≡ count_by (λ s. is_past (row + 1) s.act) steps + count_by (λ s. is_at row s.act) steps
+    ≡ count_by (λ s. is_past (row + 1) s.act) steps + count_by (λ s. is_on_row row s.act) steps
 past_more row [] = refl
 past_more row (s ∷ steps) = grind (arith, common_steps, past_more row steps)
 
 module _ (sources : List ℕ) (steps : List Step) (row source : ℕ) (is : IsSourceRow sources steps row source) where
   stepped_edge : (change : EdgeChange) (p : Place) (rows : ℕ → List OpenBlock) → (p.row == row) ≡ true
-      → rows_step (resolved_at sources (Edge (Some p) change)) rows source ≡ key_step change (key_of source (Some p)) (rows source)
+      → rows_step (resolved_at sources (Edge (Some p) change)) rows source ≡ key_step change (key_placed source (Some p)) (rows source)
   stepped_edge change p rows e = grind (arith, common_steps, eqb-true, eq-eqb)
 
   row_stepped : (act : Act) (rows : ℕ → List OpenBlock) → does_act row act ≡ true
@@ -96,7 +98,7 @@ module _ (sources : List ℕ) (steps : List Step) (row source : ℕ) (is : IsSou
           stays : (act : Act) → (get_or steps k first_step).act ≡ act → may_change row since act ≡ false
               → does_act row act ≡ true → IsTold act before → IsOneMore sources steps rows source k before before
           stays (Edge place change) e out at was =
-              absurd (false≢true (sym (or_none (is_at row (Edge place change)) out) ∙ or_false (is_at row (Edge place change)) at))
+              absurd (false≢true (sym (or_none (is_on_row row (Edge place change)) out) ∙ or_false (is_on_row row (Edge place change)) at))
           stays (Expire time) e out at was =
               let none = young_before time since (now source) (ltb-false since time out) young in
               let sum = sum_by-cons (λ s. old_in_row time (now s)) source [] in
@@ -106,7 +108,7 @@ module _ (sources : List ℕ) (steps : List Step) (row source : ℕ) (is : IsSou
               ∙ ap (λ a. outcome_in (source ∷ []) (resolved_at sources a) now) e ∙ ap Expired zero))
 
     -- the operations between two that may change the row leave it alone, and what was told of those that act on it stands
-    module _ (since place next : ℕ) (leads : LeadsTo (may_change row since) (does_act row) steps place next)
+    module _ (since place next : ℕ) (leads : LeadsToStep (may_change row since) (does_act row) steps place next)
         (young : old_in_row since (row_by place) ≡ 0) where
       pub left_alone : row_by next ≡ row_by place
       left_alone = skipped since (next - place) place next (omega (arith, leads.ahead)) leads.within young leads.between
@@ -122,20 +124,20 @@ module _ (sources : List ℕ) (steps : List Step) (row source : ℕ) (is : IsSou
 -- and are not counted among those on the row
 pub skipped_count : (steps : List Step) (row since gap k next : ℕ) → next ≡ k + gap → next ≤ length steps
     → ((j : ℕ) (s : Step) → k ≤ j → j < next → may_change row since (get_or steps j s).act ≡ false)
-    → count_by (λ s. is_at row s.act) (take next steps) ≡ count_by (λ s. is_at row s.act) (take k steps)
-skipped_count steps row since zero k next e le out = ap (λ n. count_by (λ s. is_at row s.act) (take n steps)) (omega arith)
+    → count_by (λ s. is_on_row row s.act) (take next steps) ≡ count_by (λ s. is_on_row row s.act) (take k steps)
+skipped_count steps row since zero k next e le out = ap (λ n. count_by (λ s. is_on_row row s.act) (take n steps)) (omega arith)
 skipped_count steps row since (suc gap) k next e le out =
     let last : next ≡ k + gap + 1 = omega arith in
-    ap (λ n. count_by (λ (s : Step). is_at row s.act) (take n steps)) last
-    ∙ count_by_more_no (λ (s : Step). is_at row s.act) steps (k + gap) first_step (omega arith)
+    ap (λ n. count_by (λ (s : Step). is_on_row row s.act) (take n steps)) last
+    ∙ count_by_more_no (λ (s : Step). is_on_row row s.act) steps (k + gap) first_step (omega arith)
     (not_at row since (get_or steps (k + gap) first_step).act (out (k + gap) first_step (omega arith) (omega arith)))
     ∙ skipped_count steps row since gap k (k + gap) refl (omega arith) (λ j s a b. out j s a (omega arith))
 
 -- an operation on the row's edges is one more of those
 pub at_row : (steps : List Step) (row k : ℕ) → k < length steps → does_act row (get_or steps k first_step).act ≡ true
-    → (count_by (λ s. is_at row s.act) (take (k + 1) steps)
-    ≡ count_by (λ s. is_at row s.act) (take k steps) + takes (get_or steps k first_step).act)
-    × (count_by (λ s. is_at row s.act) (take (k + 1) steps) ≤ count_by (λ s. is_at row s.act) steps)
+    → (count_by (λ s. is_on_row row s.act) (take (k + 1) steps)
+    ≡ count_by (λ s. is_on_row row s.act) (take k steps) + takes (get_or steps k first_step).act)
+    × (count_by (λ s. is_on_row row s.act) (take (k + 1) steps) ≤ count_by (λ s. is_on_row row s.act) steps)
 at_row steps row k lt acts = grind (arith, common_steps, first_step, count_by_more_yes, or_false, count_by_more_no)
 
 -- what is so of each place before one and of each behind it is so of each other place
@@ -152,20 +154,20 @@ pub past_here : (row : ℕ) (act : Act) → is_past (row + 1) act ≡ false → 
 past_here row act past out = grind (arith, common_steps, ltb-false, eqb-false, or_none, false≢true, le-ltb)
 
 -- the next one is also that from a later place on
-pub next_from : {needed of : Act → Bool} {steps : List Step} {place next : ℕ} → LeadsTo needed of steps place next → (p : ℕ)
-    → place ≤ p → p ≤ next → LeadsTo needed of steps p next
+pub next_from : {needed of : Act → Bool} {steps : List Step} {place next : ℕ} → LeadsToStep needed of steps place next → (p : ℕ)
+    → place ≤ p → p ≤ next → LeadsToStep needed of steps p next
 next_from x p ge le = grind (arith, common_steps)
 
 -- the next operation on the row's edges behind one, where the next at its place was known
-pub edge_behind : (steps : List Step) (row i e behind n : ℕ) → i < length steps → IsNext (is_at row) steps i e
-    → ((s : Step) → is_at row (get_or steps i s).act ≡ true → IsNext (is_at row) steps (i + 1) behind)
-    → n ≡ cond (i == e) behind e → IsNext (is_at row) steps (i + 1) n
+pub edge_behind : (steps : List Step) (row i e behind n : ℕ) → i < length steps → IsNextStep (is_on_row row) steps i e
+    → ((s : Step) → is_on_row row (get_or steps i s).act ≡ true → IsNextStep (is_on_row row) steps (i + 1) behind)
+    → n ≡ cond (i == e) behind e → IsNextStep (is_on_row row) steps (i + 1) n
 edge_behind steps row i e behind n lt x more is =
-    subst (IsNext (is_at row) steps (i + 1)) (sym is)
-    (elim (i == e) as (λ b. (i == e) ≡ b → IsNext (is_at row) steps (i + 1) (cond b behind e)) [
+    subst (IsNextStep (is_on_row row) steps (i + 1)) (sym is)
+    (elim (i == e) as (λ b. (i == e) ≡ b → IsNextStep (is_on_row row) steps (i + 1) (cond b behind e)) [
       | true ↦ λ t.
           let same : i ≡ e = eqb-true i e t in
-          more first_step (ap (λ k. is_at row (get_or steps k first_step).act) same ∙ x.there first_step (omega arith))
+          more first_step (ap (λ k. is_on_row row (get_or steps k first_step).act) same ∙ x.there first_step (omega arith))
       | false ↦ λ t.
           let other = eqb-false i e t in
           let ahead = x.ahead in
@@ -173,15 +175,15 @@ edge_behind steps row i e behind n lt x more is =
     ] refl)
 
 -- the next of two kinds is the earlier one of both
-pub earlier_next : {p q u v : Act → Bool} {steps : List Step} {place a b : ℕ} → LeadsTo u p steps place a
-    → LeadsTo v q steps place b → LeadsTo (λ act. u act || v act) (λ act. p act || q act) steps place (min a b)
+pub earlier_next : {p q u v : Act → Bool} {steps : List Step} {place a b : ℕ} → LeadsToStep u p steps place a
+    → LeadsToStep v q steps place b → LeadsToStep (λ act. u act || v act) (λ act. p act || q act) steps place (min a b)
 earlier_next {p} {q} {u} {v} {steps} {place} {a} {b} x y =
     elim (nat_lt a b) as
-    (λ t. nat_lt a b ≡ t → LeadsTo (λ act. u act || v act) (λ act. p act || q act) steps place (min a b)) [
+    (λ t. nat_lt a b ≡ t → LeadsToStep (λ act. u act || v act) (λ act. p act || q act) steps place (min a b)) [
       | true ↦ λ t.
           let lt : a < b = ltb-true a b t in
           let least : a ≡ min a b = omega arith in
-          subst (LeadsTo (λ act. u act || v act) (λ act. p act || q act) steps place) least (record {
+          subst (LeadsToStep (λ act. u act || v act) (λ act. p act || q act) steps place) least (record {
             ahead = x.ahead;
             within = x.within;
             between = λ k s ge below. or_from (u (get_or steps k s).act) (v (get_or steps k s).act) (x.between k s ge below)
@@ -191,7 +193,7 @@ earlier_next {p} {q} {u} {v} {steps} {place} {a} {b} x y =
       | false ↦ λ t.
           let ge : b ≤ a = ltb-false a b t in
           let least : b ≡ min a b = omega arith in
-          subst (LeadsTo (λ act. u act || v act) (λ act. p act || q act) steps place) least (record {
+          subst (LeadsToStep (λ act. u act || v act) (λ act. p act || q act) steps place) least (record {
             ahead = y.ahead;
             within = y.within;
             between = λ k s le below. or_from (u (get_or steps k s).act) (v (get_or steps k s).act)

@@ -6,9 +6,9 @@ use Rattle.std.{proofs.lemmas.List.{Elements.All-tail, Sums.{sum_by-cons, sum_by
 use Rattle.std.{specs.declared.option.Option.{Option, TheVariants.{None, Some}}, proofs.lemmas.Grind.common_steps}
 use Rattle.graph_types.specs.{Graph.Stamp, Step.{is_before, stamp_after, outcome_at}, declared.changes.EdgeChange.EdgeChange}
 use Rattle.graph_types.specs.declared.changes.EdgeChange.TheVariants.{Insert as ToInsert, Incr as ToIncr, Remove as ToRemove}
-use Rattle.edge_block.specs.Slots.{Slot, edges_in, old_in, slots_since, at_first, put_slot, take_slot, holds, is_free}
+use Rattle.edge_block.specs.Slots.{Slot, edges_in, old_in, slots_since, at_first, put_slot, take_slot, holds, is_free_slot}
 use Rattle.edge_block.specs.Rows.{OpenBlock, has_old, touch, touches, expire_row, old_in_row, has_edge, has_room, new_block, edge_at, set_edge, change_row}
-use Rattle.batch_shards.specs.{Groups.{is_expiry, is_later, IsNext, LeadsTo}, Spending.{latest, time_of, AreReached}}
+use Rattle.batch_shards.specs.{Groups.{is_expiry, is_later, IsNextStep, LeadsToStep}, Spending.{latest, act_time, AreTimesReached}}
 use Rattle.batch_shards.{specs.declared.shard.{Act.Act, Step.Step}, proofs.{ShardSteps.first_step, Expiring.{older, count_wider}}}
 
 -- what is old at a time is old at each later one
@@ -72,15 +72,15 @@ pub young_more : (s t : ℕ) (row : List OpenBlock) (k : ℕ) (d : OpenBlock) �
 young_more s t row k d lt young le here = grind (arith, common_steps, sum_by_more, young_before)
 
 -- the greatest time of one operation more
-latest_push : (steps : List Step) (s : Step) → latest (steps ++ s ∷ []) ≡ max (latest steps) (time_of s.act)
+latest_push : (steps : List Step) (s : Step) → latest (steps ++ s ∷ []) ≡ max (latest steps) (act_time s.act)
 latest_push [] s = grind (arith, common_steps)
-latest_push (x ∷ steps) s = ap (max (time_of x.act)) (latest_push steps s)
-    ∙ regroup (time_of x.act) (latest steps) (time_of s.act) where
+latest_push (x ∷ steps) s = ap (max (act_time x.act)) (latest_push steps s)
+    ∙ regroup (act_time x.act) (latest steps) (act_time s.act) where
       regroup : (a b c : ℕ) → max a (max b c) ≡ max (max a b) c
       regroup a b c = omega arith
 
 pub latest_more : (steps : List Step) (k : ℕ) → k < length steps
-    → latest (take (k + 1) steps) ≡ max (latest (take k steps)) (time_of (get_or steps k first_step).act)
+    → latest (take (k + 1) steps) ≡ max (latest (take k steps)) (act_time (get_or steps k first_step).act)
 latest_more steps k lt = grind (arith, common_steps, take_more, first_step, latest_push)
 
 latest_rises : (i j : ℕ) (steps : List Step) → i ≤ j → latest (take i steps) ≤ latest (take j steps)
@@ -88,7 +88,7 @@ latest_rises zero j steps le = omega arith
 latest_rises (suc i) zero steps le = absurd (omega arith)
 latest_rises (suc i) (suc j) [] le = omega arith
 latest_rises (suc i) (suc j) (x ∷ steps) le =
-    higher (time_of x.act) (latest (take i steps)) (latest (take j steps)) (latest_rises i j steps (omega arith)) where
+    higher (act_time x.act) (latest (take i steps)) (latest (take j steps)) (latest_rises i j steps (omega arith)) where
       higher : (a b c : ℕ) → b ≤ c → max a b ≤ max a c
       higher a b c le = omega arith
 
@@ -102,7 +102,7 @@ reached_push steps v i n long is are k lt = grind (arith, common_steps, ltb-true
 none_later : (since : ℕ) (act : Act) → is_expiry act ≡ false → is_later since act ≡ false
 none_later since act e = grind (arith, common_steps, false≢true)
 
-module _ (steps : List Step) (reached : List ℕ) (are : AreReached steps reached) where
+module _ (steps : List Step) (reached : List ℕ) (are : AreTimesReached steps reached) where
   pub reached_rises : (i j : ℕ) → i ≤ j → j < length reached → get_or reached i 0 ≤ get_or reached j 0
   reached_rises i j le lt = grind (arith, common_steps, latest_rises)
 
@@ -113,7 +113,7 @@ module _ (steps : List Step) (reached : List ℕ) (are : AreReached steps reache
 
   -- no expiry before the place at which a time is passed is later, and the next expiry from there on may be
   pub leads_later : (since place first n : ℕ) → ((k : ℕ) → k < first → get_or reached k 0 ≤ since)
-      → IsNext is_expiry steps (max place first) n → LeadsTo (is_later since) is_expiry steps place n
+      → IsNextStep is_expiry steps (max place first) n → LeadsToStep (is_later since) is_expiry steps place n
   leads_later since place first n low next = grind (arith, common_steps, not_reached, ltb-true, ltb-false, none_later)
 
 -- what a change writes bears a time that isn't before this one
@@ -141,9 +141,9 @@ put_young : (s : ℕ) (e : Slot) (slots : List (Option Slot)) → is_before s e.
 put_young s e slots new young =
     let one : old_in s (Some e ∷ []) ≡ 0 = grind (arith, common_steps) in
     elim (list_any (holds e.target) slots) as (λ b. old_in s (cond b (at_first (holds e.target) (λ _. Some e) slots)
-    (at_first is_free (λ _. Some e) slots)) ≡ 0) [
+    (at_first is_free_slot (λ _. Some e) slots)) ≡ 0) [
       | true ↦ slot_young s (holds e.target) (Some e) slots one young
-      | false ↦ slot_young s is_free (Some e) slots one young
+      | false ↦ slot_young s is_free_slot (Some e) slots one young
     ]
 
 take_young : (s target : ℕ) (slots : List (Option Slot)) → old_in s slots ≡ 0 → old_in s (take_slot target slots) ≡ 0

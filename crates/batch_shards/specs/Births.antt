@@ -2,7 +2,7 @@
 -- its blocks; the blocks that it had before the batch stay in their order, and new ones are appended.
 use Rattle.std.specs.Prelude.{◌≡◌, ℕ, zero, suc, ◌&&◌, Bool, true, List, [], ◌∷◌, ◌++◌, length, map, count_by, All, if◌then◌else◌}
 use Rattle.graph_types.specs.{Graph.Graph, Step.after_all, declared.batches.NamedOp.NamedOp}
-use Rattle.edge_block.specs.{Slots.BlockView, Rows.{OpenBlock, Shape, is_kept}, Batches.{opened, resolved, rows_all}}
+use Rattle.edge_block.specs.{Slots.BlockView, Rows.{OpenBlock, Shape, is_kept}, Batches.{opened_rows, resolved, rows_all}}
 use Rattle.graph_version.specs.{Rows.row_of, Versions.{VersionView, content, layout_of, is_in}}
 
 abbrev pub first_birth : List ℕ → ℕ
@@ -32,7 +32,7 @@ births_dropped (o ∷ row) births =
 
 -- the row of a source at the end of a batch, before its touched blocks without edges are left out
 abbrev pub open_row : List NamedOp → Graph → (ℕ → List Shape) → ℕ → List OpenBlock
-open_row ops g layout source = rows_all (resolved ops g) (opened layout) source
+open_row ops g layout source = rows_all (resolved ops g) (opened_rows layout) source
 
 -- the births of each source's blocks that a batch leaves, whose version is n
 abbrev pub births_after : ℕ → List NamedOp → Graph → (ℕ → List Shape) → (ℕ → List ℕ) → ℕ → List ℕ

@@ -45,8 +45,8 @@ closed_rows work = map (λ r. (r.source.0, after_of r.blocks.items)) work
 abbrev pub stays_all : List OpenRow → List BlockView
 stays_all work = flat_map (λ r. stays_of r.blocks.items) work
 
-abbrev pub written_all : List OpenRow → List BlockView
-written_all work = flat_map (λ r. written_of r.blocks.items) work
+abbrev pub written_blocks : List OpenRow → List BlockView
+written_blocks work = flat_map (λ r. written_of r.blocks.items) work
 
 abbrev pub dropped_all : List OpenRow → List BlockView
 dropped_all work = flat_map (λ r. dropped_of r.blocks.items) work

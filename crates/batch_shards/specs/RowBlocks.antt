@@ -10,11 +10,11 @@ use Rattle.batch_shards.specs.declared.row_blocks.RowBlock.{RowBlock}
 abbrev pub block_of : Arc Block Global → BlockView
 block_of b = arc_value {X = Block} b
 
-abbrev pub blocks_of : List (Arc Block Global) → List BlockView
-blocks_of bs = map block_of bs
+abbrev pub shared_blocks : List (Arc Block Global) → List BlockView
+shared_blocks bs = map block_of bs
 
-abbrev pub numbers_of : List (Arc Block Global) → List ℕ
-numbers_of bs = map (λ b. (block_of b).number) bs
+abbrev pub shared_numbers : List (Arc Block Global) → List ℕ
+shared_numbers bs = map (λ b. (block_of b).number) bs
 
 -- a block of the row, as the layout rule sees it
 abbrev pub open_of : RowBlock → OpenBlock

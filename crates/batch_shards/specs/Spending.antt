@@ -2,7 +2,7 @@
 use Rattle.std.specs.Prelude.{◌≡◌, ℕ, ◌+◌, ◌<◌, max, List, [], ◌∷◌, count_by, length, get_or, take, drop, Bool, not, ◌&&◌}
 use Rattle.std.specs.{declared.option.Option.{Option, TheVariants.{None, Some}}, List.sum_by}
 use Rattle.edge_block.specs.{Slots.{BlockView, has_before}, Rows.{OpenBlock, has_old}}
-use Rattle.batch_shards.specs.{Groups.{is_past, is_expiry, AreExpiries, AreGroups}, declared.groups.Groups.Groups}
+use Rattle.batch_shards.specs.{Groups.{is_past, is_expiry, AreExpiries, AreStepGroups}, declared.groups.Groups.Groups}
 use Rattle.batch_shards.specs.declared.shard.{Act.{Act, TheVariants.{Edge, Expire}}, Step.Step}
 
 -- the greatest time that f tells of an element, 0 where there is none
@@ -11,15 +11,15 @@ latest_by f [] = 0
 latest_by f (x ∷ xs) = max (f x) (latest_by f xs)
 
 -- the greatest time of the expiries
-abbrev pub time_of : Act → ℕ
-time_of (Edge place change) = 0
-time_of (Expire time) = time
+abbrev pub act_time : Act → ℕ
+act_time (Edge place change) = 0
+act_time (Expire time) = time
 
 abbrev pub latest : List Step → ℕ
-latest steps = latest_by (λ s. time_of s.act) steps
+latest steps = latest_by (λ s. act_time s.act) steps
 
 -- for each place, the greatest time of the expiries up to it
-pub record AreReached (steps : List Step) (reached : List ℕ) : Type 0 where
+pub record AreTimesReached (steps : List Step) (reached : List ℕ) : Type 0 where
   pub long : length reached ≡ length steps
   pub are : (k : ℕ) → k < length steps → get_or reached k 0 ≡ latest (take (k + 1) steps)
 
@@ -27,9 +27,9 @@ pub record AreReached (steps : List Step) (reached : List ℕ) : Type 0 where
 pub record AreListed (rows : ℕ) (steps : List Step) (groups : Groups) : Type 0 where
   pub firsts : length groups.first.items ≡ rows
   pub nexts : length groups.next.items ≡ length steps
-  pub are : AreGroups 0 steps groups.first.items groups.next.items
+  pub are : AreStepGroups 0 steps groups.first.items groups.next.items
   pub expiries : AreExpiries 0 steps groups.expiries.items
-  pub reached : AreReached steps groups.reached.items
+  pub reached : AreTimesReached steps groups.reached.items
 
 -- where lists tell of the operations on so many rows, they are right
 abbrev pub IsGrouped : ℕ → List Step → Option Groups → Type 0

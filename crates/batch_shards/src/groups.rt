@@ -2,8 +2,8 @@
 
 ghost use Rattle.std.specs.Prelude.{◌≡◌, ◌+◌, ◌≤◌, ◌<◌, ◌^◌, ◌==◌, ℕ, IfOk, IsTrue, List, length, get_or, cond, not};
 ghost use Rattle.batch_shards.specs.Shards.{AreSteps};
-ghost use Rattle.batch_shards.specs.Groups.{AreGroups, AreExpiries, IsNext, LeadsTo, is_at, is_expiry, is_later};
-ghost use Rattle.batch_shards.specs.Spending.{AreReached, IsGrouped};
+ghost use Rattle.batch_shards.specs.Groups.{AreStepGroups, AreExpiries, IsNextStep, LeadsToStep, is_on_row, is_expiry, is_later};
+ghost use Rattle.batch_shards.specs.Spending.{AreTimesReached, IsGrouped};
 
 use crate::shard::{Act, Step};
 use std::alloc::{AllocError, Global};
@@ -47,7 +47,7 @@ impl Groups {
         requires place { place < length self.now.expiries.items }
         requires reached { length self.now.reached.items < length self.now.expiries.items }
         ensures { (steps : List Step) → AreExpiries 0 steps self.now.expiries.items
-            → AreReached steps self.now.reached.items → LeadsTo (is_later since) is_expiry steps place result }
+            → AreTimesReached steps self.now.reached.items → LeadsToStep (is_later since) is_expiry steps place result }
     {
         let next = self.expiries[place];
         if next == self.reached.len() {
@@ -75,7 +75,7 @@ pub fn group_steps(alloc: Global, rows: usize, steps: &[Step]) -> Result<Option<
 /// The first operation on a row's edges, or else the number of all operations.
 pub fn first_edge(groups: &Option<Groups>, steps: &[Step], row: usize) -> usize
     requires { (rows : ℕ) × (row < rows) × IsGrouped rows steps.now groups.now }
-    ensures { IsNext (is_at row) steps.now 0 result }
+    ensures { IsNextStep (is_on_row row) steps.now 0 result }
 {
     match groups {
         None => edge_from(steps, row, 0),
@@ -93,8 +93,8 @@ pub fn edge_behind(
 ) -> usize
     requires groups { (rows : ℕ) × (row < rows) × IsGrouped rows steps.now groups.now }
     requires place { place < length steps.now }
-    requires edge { IsNext (is_at row) steps.now place edge }
-    ensures { IsNext (is_at row) steps.now (place + 1) result }
+    requires edge { IsNextStep (is_on_row row) steps.now place edge }
+    ensures { IsNextStep (is_on_row row) steps.now (place + 1) result }
 {
     match groups {
         None => edge_from(steps, row, place + 1),
@@ -106,7 +106,7 @@ pub fn edge_behind(
 pub fn later_expiry(groups: &Option<Groups>, steps: &[Step], place: usize, since: u64) -> usize
     requires groups { (rows : ℕ) × IsGrouped rows steps.now groups.now }
     requires place { place ≤ length steps.now }
-    ensures { LeadsTo (is_later since) is_expiry steps.now place result }
+    ensures { LeadsToStep (is_later since) is_expiry steps.now place result }
 {
     match groups {
         None => expiry_from(steps, place),
@@ -117,7 +117,7 @@ pub fn later_expiry(groups: &Option<Groups>, steps: &[Step], place: usize, since
 /// The first operation on a row's edges that is not before a place, or else the number of all operations.
 fn edge_from(steps: &[Step], row: usize, place: usize) -> usize
     requires { place ≤ length steps.now }
-    ensures { IsNext (is_at row) steps.now place result }
+    ensures { IsNextStep (is_on_row row) steps.now place result }
 {
     let mut next = place;
     while is_off(steps, row, next) {
@@ -129,7 +129,7 @@ fn edge_from(steps: &[Step], row: usize, place: usize) -> usize
 /// Whether there is an operation at a place that is on no edge of the row.
 fn is_off(steps: &[Step], row: usize, place: usize) -> bool
     ensures within { IsTrue result → place < length steps.now }
-    ensures off { (s : Step) → place < length steps.now → result ≡ not (is_at row (get_or steps.now place s).act) }
+    ensures off { (s : Step) → place < length steps.now → result ≡ not (is_on_row row (get_or steps.now place s).act) }
 {
     place < steps.len() && !steps[place].is_on(row)
 }
@@ -137,7 +137,7 @@ fn is_off(steps: &[Step], row: usize, place: usize) -> bool
 /// The first expiry that is not before a place, or else the number of all operations.
 fn expiry_from(steps: &[Step], place: usize) -> usize
     requires { place ≤ length steps.now }
-    ensures { IsNext is_expiry steps.now place result }
+    ensures { IsNextStep is_expiry steps.now place result }
 {
     let mut next = place;
     while is_edge(steps, next) {
@@ -159,9 +159,9 @@ fn groups_of(alloc: Global, rows: usize, steps: &[Step]) -> Result<Groups, Alloc
     requires { AreSteps rows steps.now }
     ensures rows { IfOk result (λ g. length g.first.items ≡ rows) }
     ensures steps { IfOk result (λ g. length g.next.items ≡ length steps.now) }
-    ensures groups { IfOk result (λ g. AreGroups 0 steps.now g.first.items g.next.items) }
+    ensures groups { IfOk result (λ g. AreStepGroups 0 steps.now g.first.items g.next.items) }
     ensures expiries { IfOk result (λ g. AreExpiries 0 steps.now g.expiries.items) }
-    ensures reached { IfOk result (λ g. AreReached steps.now g.reached.items) }
+    ensures reached { IfOk result (λ g. AreTimesReached steps.now g.reached.items) }
 {
     let expiries = expiries_of(alloc, steps)?;
     let reached = reached_by(alloc, steps)?;
@@ -209,7 +209,7 @@ fn expiries_of(alloc: Global, steps: &[Step]) -> Result<Vec<usize>, AllocError>
 
 /// For each place, the greatest time of the expiries up to it.
 fn reached_by(alloc: Global, steps: &[Step]) -> Result<Vec<u64>, AllocError>
-    ensures { IfOk result (λ v. AreReached steps.now v.items) }
+    ensures { IfOk result (λ v. AreTimesReached steps.now v.items) }
 {
     let mut reached = Vec::with_capacity(alloc, steps.len())?;
     let mut latest = 0_u64;
@@ -242,7 +242,7 @@ fn targets_in(
     steps: &[Step],
     row: usize,
 ) -> Result<Vec<u32>, AllocError>
-    requires groups { AreGroups 0 steps.now groups.now.first.items groups.now.next.items }
+    requires groups { AreStepGroups 0 steps.now groups.now.first.items groups.now.next.items }
     requires row { row < length groups.now.first.items }
     requires steps { length groups.now.next.items ≡ length steps.now }
 {

@@ -7,11 +7,9 @@
 mod groups;
 mod notes;
 mod open_rows;
-mod outcomes;
 mod room;
 mod row_blocks;
 mod rows;
 mod shard;
 
-pub use outcomes::write_outcomes;
 pub use shard::{Act, Leavings, Place, Shard, ShardDone, Step, work_on};

@@ -3,17 +3,18 @@
 ghost use Rattle.std.specs.Prelude.{◌≡◌, ◌+◌, ◌++◌, ◌<◌, ◌≤◌, ℕ, List, [], IfOk, OnOk, All};
 ghost use Rattle.std.specs.Option.{option_to_list};
 ghost use Rattle.std.specs.Prelude.{vec_len, vec_capacity, length, map, count_by, ◌%◌, ◌^◌};
-ghost use Rattle.graph_types.specs.declared.batches.Outcome.TheVariants.{Expired};
 ghost use Rattle.graph_types.specs.Changes.{IsChange};
 ghost use Rattle.edge_block.specs.Rows as layout;
 ghost use Rattle.edge_block.specs.Rows.{OpenBlock, has_none, shape_of};
-ghost use Rattle.edge_block.specs.Batches.{key_step, key_outcome, together};
-ghost use Rattle.batch_shards.specs.RowBlocks.{block_of, blocks_of, kept_of, opens, had_in, own_in, numbers_of};
-ghost use Rattle.batch_shards.specs.OpenRows.{IsRowOf, KeepsIn, LeavesEnough, AreDone, KeepsOthers};
+ghost use Rattle.edge_block.specs.Batches.{key_step, key_outcome};
+ghost use Rattle.graph_types.specs.Outcomes.{together};
+ghost use Rattle.batch_shards.specs.RowBlocks.{block_of, shared_blocks, kept_of, opens, had_in, own_in, shared_numbers};
+ghost use Rattle.batch_shards.specs.OpenRows.{IsRowOf, KeepsIn, LeavesEnough, AreStepsDone, KeepsOthers};
 ghost use Rattle.batch_shards.specs.Closing.{after_here, written_here, dropped_here, unused_here, after_of, written_of};
 ghost use Rattle.batch_shards.specs.Closing.{dropped_of, unused_of};
-ghost use Rattle.batch_shards.specs.Groups.{is_at, key_of, told, act_step, act_outcome, IsSourceRow};
-ghost use Rattle.batch_shards.specs.Spending.{spends, takes, time_of, latest, unspent, IsGrouped};
+ghost use Rattle.batch_shards.specs.Groups.{is_on_row, key_placed, act_step, act_outcome, IsSourceRow};
+ghost use Rattle.graph_types.specs.Outcomes.{told};
+ghost use Rattle.batch_shards.specs.Spending.{spends, takes, act_time, latest, unspent, IsGrouped};
 ghost use Rattle.batch_shards.specs.Shards.{IsActChange};
 ghost use Rattle.batch_shards.specs.Notes.{IsNoted};
 
@@ -24,7 +25,7 @@ use crate::row_blocks::RowBlock;
 use crate::rows::{Hints, apply_step, expire_blocks, least_time};
 use crate::shard::{Act, Leavings, OpenRow, Place, Step};
 use edge_block::Block;
-use graph_types::{EdgeChange, KindId, Outcome, VertexId};
+use graph_types::{EdgeChange, KindId, Outcome, VertexId, put_together};
 use std::alloc::{AllocError, Global};
 use std::sync::Arc;
 use version_pages::Row;
@@ -40,9 +41,9 @@ fn do_step(
     requires fresh { 0 < vec_len fresh.old }
     requires of_source { IsRowOf row.old.source row.old }
     ensures row { OnOk result (opens row.new.blocks.items
-        ≡ key_step change (key_of row.old.source.0 place) (opens row.old.blocks.items)) }
+        ≡ key_step change (key_placed row.old.source.0 place) (opens row.old.blocks.items)) }
     ensures outcome { IfOk result (λ o. o
-        ≡ key_outcome change (key_of row.old.source.0 place) (λ _. opens row.old.blocks.items)) }
+        ≡ key_outcome change (key_placed row.old.source.0 place) (λ _. opens row.old.blocks.items)) }
     ensures of_source { OnOk result (IsRowOf row.old.source row.new) }
     ensures keeps { OnOk result (KeepsIn 1 row.old.blocks.items fresh.old row.new.blocks.items fresh.new) }
 {
@@ -82,16 +83,6 @@ fn expire_row(row: &mut OpenRow, fresh: &mut Vec<Arc<Block>>, time: u64) -> Resu
     Ok(count)
 }
 
-/// What is told of an expiry, with what was told of it before in other rows.
-fn counted(before: Outcome, count: u64) -> Outcome
-    ensures { result ≡ told (together before (Expired count)) }
-{
-    match before {
-        Outcome::Expired(counted) => Outcome::Expired(counted.wrapping_add(count)),
-        _ => Outcome::Expired(count),
-    }
-}
-
 /// Does one operation on a row, and answers its outcome in this row and those before.
 fn do_act(
     row: &mut OpenRow,
@@ -108,7 +99,7 @@ fn do_act(
     ensures of_source { OnOk result (IsRowOf row.old.source row.new) }
     ensures keeps { OnOk result (KeepsIn (spends act (opens row.old.blocks.items)) row.old.blocks.items fresh.old
         row.new.blocks.items fresh.new) }
-    ensures enough { OnOk result (LeavesEnough (time_of act) (takes act) row.old.blocks.items fresh.old row.new.blocks.items fresh.new) }
+    ensures enough { OnOk result (LeavesEnough (act_time act) (takes act) row.old.blocks.items fresh.old row.new.blocks.items fresh.new) }
 {
     match act {
         Act::Edge(place, change) => {
@@ -117,7 +108,7 @@ fn do_act(
         }
         Act::Expire(time) => {
             let count = expire_row(row, fresh, time)?;
-            Ok(counted(before, count))
+            Ok(put_together(before, Outcome::Expired(count)))
         }
     }
 }
@@ -136,16 +127,16 @@ pub fn do_steps(
     requires groups { (rows : ℕ) × (row < rows) × IsGrouped rows steps.now groups.now }
     requires changes { All (λ s. IsActChange s.act) steps.now }
     requires outcomes { length outcomes.old.items ≡ length steps.now }
-    requires fresh { count_by (λ s. is_at row s.act) steps.now + unspent (latest steps.now) (opens opened.old.blocks.items)
+    requires fresh { count_by (λ s. is_on_row row s.act) steps.now + unspent (latest steps.now) (opens opened.old.blocks.items)
         ≤ vec_len fresh.old }
     requires of_source { IsRowOf opened.old.source opened.old }
     ensures done { OnOk result ((sources : List ℕ) (rows : ℕ → List OpenBlock)
         → IsSourceRow sources steps.now row opened.old.source.0 → opens opened.old.blocks.items ≡ rows opened.old.source.0
-        → AreDone sources steps.now rows row opened.old.source.0 opened.new.blocks.items outcomes.old.items
+        → AreStepsDone sources steps.now rows row opened.old.source.0 opened.new.blocks.items outcomes.old.items
         outcomes.new.items) }
     ensures others { OnOk result (KeepsOthers steps.now row outcomes.old.items outcomes.new.items) }
     ensures of_source { OnOk result (IsRowOf opened.old.source opened.new) }
-    ensures keeps { OnOk result (KeepsIn (count_by (λ s. is_at row s.act) steps.now
+    ensures keeps { OnOk result (KeepsIn (count_by (λ s. is_on_row row s.act) steps.now
         + unspent (latest steps.now) (opens opened.old.blocks.items)) opened.old.blocks.items fresh.old
         opened.new.blocks.items fresh.new) }
 {
@@ -180,7 +171,7 @@ pub fn open_row(
     requires own { All (λ b. (block_of b).source ≡ source.0) row.now }
     requires empty { list.items ≡ [] }
     ensures blocks { IfOk result (λ r. opens r.blocks.items ≡ map kept_of row.now) }
-    ensures had { IfOk result (λ r. had_in r.blocks.items ≡ blocks_of row.now) }
+    ensures had { IfOk result (λ r. had_in r.blocks.items ≡ shared_blocks row.now) }
     ensures none_own { IfOk result (λ r. own_in r.blocks.items ≡ []) }
     ensures of_source { IfOk result (IsRowOf source) }
 {
@@ -229,10 +220,10 @@ fn is_bare(block: &Block) -> bool
 
 /// The row's block of the next version, unless the batch has emptied it.
 fn close_one(blocks: RowBlock, left: &mut Leavings) -> Result<Option<Arc<Block>>, AllocError>
-    ensures kept { IfOk result (λ b. blocks_of (option_to_list b) ≡ after_here blocks) }
+    ensures kept { IfOk result (λ b. shared_blocks (option_to_list b) ≡ after_here blocks) }
     ensures taken { OnOk result (left.new.taken.items ≡ left.old.taken.items ++ map (λ b. b.number) (written_here blocks)) }
-    ensures dropped { OnOk result (blocks_of left.new.dropped.items ≡ blocks_of left.old.dropped.items ++ dropped_here blocks) }
-    ensures unused { OnOk result (numbers_of left.new.unused.items ≡ numbers_of left.old.unused.items ++ unused_here blocks) }
+    ensures dropped { OnOk result (shared_blocks left.new.dropped.items ≡ shared_blocks left.old.dropped.items ++ dropped_here blocks) }
+    ensures unused { OnOk result (shared_numbers left.new.unused.items ≡ shared_numbers left.old.unused.items ++ unused_here blocks) }
 {
     let RowBlock {
         block,
@@ -260,12 +251,12 @@ fn close_block(
     left: &mut Leavings,
 ) -> Result<(), AllocError>
     requires room { vec_len row.old < vec_capacity row.old }
-    ensures row { OnOk result (blocks_of row.new.items ≡ blocks_of row.old.items ++ after_here blocks) }
+    ensures row { OnOk result (shared_blocks row.new.items ≡ shared_blocks row.old.items ++ after_here blocks) }
     ensures grows { OnOk result (vec_len row.new ≤ vec_len row.old + 1) }
     ensures capacity { vec_capacity row.new ≡ vec_capacity row.old }
     ensures taken { OnOk result (left.new.taken.items ≡ left.old.taken.items ++ map (λ b. b.number) (written_here blocks)) }
-    ensures dropped { OnOk result (blocks_of left.new.dropped.items ≡ blocks_of left.old.dropped.items ++ dropped_here blocks) }
-    ensures unused { OnOk result (numbers_of left.new.unused.items ≡ numbers_of left.old.unused.items ++ unused_here blocks) }
+    ensures dropped { OnOk result (shared_blocks left.new.dropped.items ≡ shared_blocks left.old.dropped.items ++ dropped_here blocks) }
+    ensures unused { OnOk result (shared_numbers left.new.unused.items ≡ shared_numbers left.old.unused.items ++ unused_here blocks) }
 {
     // Most blocks of a long row are untouched.
     if !blocks.touched {
@@ -286,9 +277,9 @@ fn close_blocks(
 ) -> Result<Row, AllocError>
     ensures row { IfOk result (λ r. r ≡ after_of blocks.items) }
     ensures taken { OnOk result (left.new.taken.items ≡ left.old.taken.items ++ map (λ b. b.number) (written_of blocks.items)) }
-    ensures dropped { OnOk result (blocks_of left.new.dropped.items ≡ blocks_of left.old.dropped.items
+    ensures dropped { OnOk result (shared_blocks left.new.dropped.items ≡ shared_blocks left.old.dropped.items
         ++ dropped_of blocks.items) }
-    ensures unused { OnOk result (numbers_of left.new.unused.items ≡ numbers_of left.old.unused.items ++ unused_of blocks.items) }
+    ensures unused { OnOk result (shared_numbers left.new.unused.items ≡ shared_numbers left.old.unused.items ++ unused_of blocks.items) }
 {
     let mut row = Vec::with_capacity(alloc, blocks.len())?;
     for block in blocks {
@@ -308,9 +299,9 @@ pub fn close_row(
     ensures emptied { OnOk result (blocks.new.items ≡ []) }
     ensures taken { OnOk result (left.new.taken.items ≡ left.old.taken.items
         ++ map (λ b. b.number) (written_of blocks.old.items)) }
-    ensures dropped { OnOk result (blocks_of left.new.dropped.items ≡ blocks_of left.old.dropped.items
+    ensures dropped { OnOk result (shared_blocks left.new.dropped.items ≡ shared_blocks left.old.dropped.items
         ++ dropped_of blocks.old.items) }
-    ensures unused { OnOk result (numbers_of left.new.unused.items ≡ numbers_of left.old.unused.items
+    ensures unused { OnOk result (shared_numbers left.new.unused.items ≡ shared_numbers left.old.unused.items
         ++ unused_of blocks.old.items) }
 {
     if blocks.len() == 1 {

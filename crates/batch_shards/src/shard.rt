@@ -3,10 +3,10 @@
 ghost use Rattle.std.specs.Prelude.{◌≡◌, ◌≢◌, ◌+◌, ◌<◌, ◌≤◌, ℕ, List, [], IfOk, OnOk, All, AllPairs};
 ghost use Rattle.std.specs.Prelude.{vec_len, length, map};
 ghost use Rattle.graph_version.specs.Rows.{row_of};
-ghost use Rattle.batch_shards.specs.RowBlocks.{block_of, blocks_of};
+ghost use Rattle.batch_shards.specs.RowBlocks.{block_of, shared_blocks};
 ghost use Rattle.batch_shards.specs.Done.{AreBlockRows, IsShardDone};
-ghost use Rattle.batch_shards.specs.Groups.{is_at, is_expiry, none_told};
-ghost use Rattle.batch_shards.specs.Spending.{time_of, needed, needed_past, IsGrouped};
+ghost use Rattle.batch_shards.specs.Groups.{is_on_row, is_expiry, none_told};
+ghost use Rattle.batch_shards.specs.Spending.{act_time, needed, needed_past, IsGrouped};
 ghost use Rattle.batch_shards.specs.Progress.{AreRowsDone};
 ghost use Rattle.batch_shards.specs.Shards.{AreSteps};
 
@@ -56,7 +56,7 @@ pub struct Step {
 impl Step {
     /// Whether it is on an edge of a row.
     pub(crate) fn is_on(&self, row: usize) -> bool
-        ensures { result ≡ is_at row self.now.act }
+        ensures { result ≡ is_on_row row self.now.act }
     {
         match self.act {
             Act::Edge(Some(place), _) => place.row as usize == row,
@@ -77,7 +77,7 @@ impl Step {
 
     /// The time of an expiry, 0 of an operation on an edge.
     pub fn expiry_time(&self) -> u64
-        ensures { result ≡ time_of self.now.act }
+        ensures { result ≡ act_time self.now.act }
     {
         match self.act {
             Act::Edge(_, _) => 0,
@@ -99,7 +99,7 @@ pub struct Leavings {
 
 /// The blocks of a source's row.
 fn blocks_at(version: &Version, source: VertexId) -> &[Arc<Block>]
-    ensures row { blocks_of result.now ≡ row_of version.now.rows source.0 }
+    ensures row { shared_blocks result.now ≡ row_of version.now.rows source.0 }
     ensures own { All (λ b. (block_of b).source ≡ source.0) result.now }
     ensures rows { AreBlockRows (row_of version.now.rows) }
 {

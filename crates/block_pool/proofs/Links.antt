@@ -3,16 +3,16 @@ use Rattle.std.proofs.Common.{◌≡◌, ◌≢◌, ℕ, zero, suc, ◌+◌, ◌
 use Rattle.std.proofs.{Common.{refl, sym, ap, ap₂, subst, ◌∙◌, arith, map, replicate}, lemmas.Bool.{cases_eq, eq-eqb, true≢false}}
 use Rattle.std.proofs.lemmas.{Bool.or_parts, List.{get_or-set_same, get_or-set_other, get_or-map, map-set}}
 use Rattle.std.proofs.{Math.ListN.length-set, lemmas.Grind.common_steps}
-use Rattle.block_pool.specs.{declared.stacks.Stack.Stack, Chains.chain, Chains.chain_of, Chains.AreBelow, Chains.AreWithin}
+use Rattle.block_pool.specs.{declared.stacks.Stack.Stack, Chains.chain, Chains.chain_of, Chains.AreBelow, Chains.AreStacksWithin}
 use Rattle.block_pool.specs.Chains.{Stacks, stack_of, below_top, AreAbsent}
-use Rattle.block_reclamation.specs.Status.{is_listed}
+use Rattle.block_reclamation.specs.Status.{is_among}
 
 -- the link of a number that a chain hasn't
-pub chain_else : (below : List ℕ) (top height n v : ℕ) → is_listed n (chain below top height) ≡ false
+pub chain_else : (below : List ℕ) (top height n v : ℕ) → is_among n (chain below top height) ≡ false
     → chain (set below n v) top height ≡ chain below top height
 chain_else below top zero n v none = refl
 chain_else below top (suc height) n v none =
-    let parts = or_parts (top == n) (is_listed n (chain below (get_or below top 0) height)) none in
+    let parts = or_parts (top == n) (is_among n (chain below (get_or below top 0) height)) none in
     let ne : top ≢ n = λ e. true≢false (sym (eq-eqb top n e) ∙ parts.0) in
     let same : get_or (set below n v) top 0 ≡ get_or below top 0 = get_or-set_other below n top v 0 ne in
     ap (λ ns. top ∷ ns) (ap (λ t. chain (set below n v) t height) same
@@ -51,7 +51,7 @@ chain_rest below top (suc height) lt =
     let less : suc height - 1 ≡ height = omega arith in ap (chain below (get_or below top 0)) less
 
 -- a chain with one number more
-pub chain_more : (below : List ℕ) (top height n : ℕ) → n < length below → is_listed n (chain below top height) ≡ false
+pub chain_more : (below : List ℕ) (top height n : ℕ) → n < length below → is_among n (chain below top height) ≡ false
     → chain (set below n top) n (height + 1) ≡ n ∷ chain below top height
 chain_more below top height n lt none = grind (arith, common_steps, get_or-set_same, chain_else)
 
@@ -77,7 +77,7 @@ module _ (rooms below : List ℕ) (stacks : List Stack) where
       let is = shown (view_of rooms below stacks) refl k s low in
       let this : stack_of (map (chain_of below) stacks) k ≡ chain below s.top s.height =
       is.1 ∙ ap (chain_of below) (sym here) in
-      let more = chain_more below s.top s.height n lt (ap (is_listed n) (sym this) ∙ absent k) in
+      let more = chain_more below s.top s.height n lt (ap (is_among n) (sym this) ∙ absent k) in
       let lists : map (chain_of (set below n s.top)) (set stacks k after)
       ≡ set (map (chain_of below) stacks) k (n ∷ stack_of (map (chain_of below) stacks) k) =
       map-set (chain_of (set below n s.top)) stacks k after
@@ -94,7 +94,7 @@ module _ (rooms below : List ℕ) (stacks : List Stack) where
   popped view e k s t here low some link = grind (arith, common_steps, shown, chain_rest, map-set)
 
   -- the links stay within the room
-  module _ (are : AreWithin below stacks) where
+  module _ (are : AreStacksWithin below stacks) where
     pub top_within : (k : ℕ) (s : Stack) → s ≡ get_or stacks k s → k < length stacks → 0 < s.height → s.top < length below
     top_within k s here lt some =
         first s.height some (subst (λ (r : Stack). AreBelow (length below) (chain_of below r)) (sym here) (are.each k s lt)) where
@@ -111,11 +111,11 @@ module _ (rooms below : List ℕ) (stacks : List Stack) where
 
     pub pushed_within : (k n : ℕ) (s : Stack) → s ≡ get_or stacks k s → k < length stacks → n < length below
         → AreAbsent n (map (chain_of below) stacks)
-        → AreWithin (set below n s.top) (set stacks k (record { top = n; height = s.height + 1 }))
+        → AreStacksWithin (set below n s.top) (set stacks k (record { top = n; height = s.height + 1 }))
     pushed_within k n s here lt low absent = grind (arith, common_steps, length-set, within_push)
 
     pub popped_within : (k : ℕ) (s : Stack) (t : ℕ) → s ≡ get_or stacks k s → k < length stacks → 0 < s.height
-        → t ≡ get_or below s.top 0 → AreWithin below (set stacks k (record { top = t; height = s.height - 1 }))
+        → t ≡ get_or below s.top 0 → AreStacksWithin below (set stacks k (record { top = t; height = s.height - 1 }))
     popped_within k s t here lt some link =
         grind (arith, common_steps, length-set, cases_eq, get_or-set_same, chain_rest, get_or-set_other)
 
@@ -126,5 +126,5 @@ map_empty below zero t = refl
 map_empty below (suc k) t = ap (λ ls. [] ∷ ls) (map_empty below k t)
 
 pub empty_within : (below : List ℕ) (k : ℕ) (t : ℕ) → length below < 4294967296
-    → AreWithin below (replicate k (record { top = t; height = 0 }))
+    → AreStacksWithin below (replicate k (record { top = t; height = 0 }))
 empty_within below k t few = grind (arith, common_steps)

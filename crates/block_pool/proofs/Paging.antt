@@ -4,7 +4,7 @@ use Rattle.std.proofs.lemmas.{Bool.cases_eq, Bool.cases_lt, List.{get_or-set_sam
 use Rattle.std.proofs.lemmas.List.FromFn.{length-map-range_with_len, get_or-map-range_with_len}
 use Rattle.std.proofs.Math.ListN.{length-set}
 use Rattle.std.specs.declared.{vec.Vec.Vec, alloc.Global.Global}
-use Rattle.block_pool.specs.Paging.{Paged, HasRoom, by_place, in_pages, items_of, paged}
+use Rattle.block_pool.specs.Paging.{Paged, HasRoom, by_place, item_in_pages, items_of, paged}
 
 pub length-by_place : {A : Type 0} (f : ℕ → A) (count : ℕ) → length (by_place f count) ≡ count
 length-by_place f count = length-map-range_with_len f 0 count
@@ -49,7 +49,7 @@ module _ {A : Type 0} (blank : ℕ → A) (pages : List (List A)) where
   -- a page in the place of one that shows the same
   pub same_in : (q : ℕ) (page : List A) → q < length pages
       → ((k : ℕ) → k < 4096 → get_or page k (blank (q * 4096 + k)) ≡ get_or (get_or pages q []) k (blank (q * 4096 + k)))
-      → (j : ℕ) → in_pages blank (set pages q page) j ≡ in_pages blank pages j
+      → (j : ℕ) → item_in_pages blank (set pages q page) j ≡ item_in_pages blank pages j
   same_in q page lt each j = elim (cases_eq (j / 4096) q) [
     | inl e ↦
         let here : get_or (set pages q page) (j / 4096) [] ≡ page =
@@ -75,13 +75,13 @@ module _ {A : Type 0} (blank : ℕ → A) (pages : List (List A)) where
     pub item_within : place % 4096 < length (get_or pages (place / 4096) [])
     item_within = let e = room_in pages (place / 4096) in omega arith
 
-    written_here : (x : A) → in_pages blank (written pages place x) place ≡ x
+    written_here : (x : A) → item_in_pages blank (written pages place x) place ≡ x
     written_here x =
         ap (λ (p : List A). get_or p (place % 4096) (blank place))
         (get_or-set_same pages (place / 4096) (set (get_or pages (place / 4096) []) (place % 4096) x) [] page_within)
         ∙ get_or-set_same (get_or pages (place / 4096) []) (place % 4096) x (blank place) item_within
 
-    written_else : (x : A) (j : ℕ) → j ≢ place → in_pages blank (written pages place x) j ≡ in_pages blank pages j
+    written_else : (x : A) (j : ℕ) → j ≢ place → item_in_pages blank (written pages place x) j ≡ item_in_pages blank pages j
     written_else x j ne = elim (cases_eq (j / 4096) (place / 4096)) [
       | inl e ↦
           let other : j % 4096 ≢ place % 4096 = λ same. ne (omega (arith, e, same)) in
@@ -98,10 +98,10 @@ module _ {A : Type 0} (blank : ℕ → A) (pages : List (List A)) where
     -- an element is written, and each page has room as before
     pub shown_written : (count : ℕ) (x : A) → place < count
         → paged blank (written pages place x) count
-        ≡ record { items = set (by_place (in_pages blank pages) count) place x; rooms = map length pages }
+        ≡ record { items = set (by_place (item_in_pages blank pages) count) place x; rooms = map length pages }
     shown_written count x lt =
         ap₂ (λ (is : List A) (rs : List ℕ). the_paged is rs)
-        (set_by_place (in_pages blank pages) (in_pages blank (written pages place x)) count place x lt (written_here x) (written_else x)) rooms
+        (set_by_place (item_in_pages blank pages) (item_in_pages blank (written pages place x)) count place x lt (written_here x) (written_else x)) rooms
       where
         the_paged : List A → List ℕ → Paged A
         the_paged is rs = record { items = is; rooms = rs }
@@ -139,12 +139,12 @@ module _ {A : Type 0} (pages : List (List A)) (q : ℕ) (page : List A) (lt : q 
 -- what a list in pages is seen as
 module _ {A : Type 0} (blank : ℕ → A) (pages : List (List A)) (count : ℕ) (seen : Paged A) (is : paged blank pages count ≡ seen) where
   pub seen_length : count ≡ length seen.items
-  seen_length = sym (length-by_place (in_pages blank pages) count) ∙ ap (λ (v : Paged A). length v.items) is
+  seen_length = sym (length-by_place (item_in_pages blank pages) count) ∙ ap (λ (v : Paged A). length v.items) is
 
-  pub seen_at : (place : ℕ) (d : A) → place < length seen.items → get_or seen.items place d ≡ in_pages blank pages place
+  pub seen_at : (place : ℕ) (d : A) → place < length seen.items → get_or seen.items place d ≡ item_in_pages blank pages place
   seen_at place d lt =
       sym (ap (λ (v : Paged A). get_or v.items place d) is)
-      ∙ at_place (in_pages blank pages) count place d (omega (arith, seen_length))
+      ∙ at_place (item_in_pages blank pages) count place d (omega (arith, seen_length))
 
   pub seen_room : (place : ℕ) → HasRoom seen.rooms place → HasRoom (map length pages) place
   seen_room place room = subst (λ (v : Paged A). HasRoom v.rooms place) (sym is) room
@@ -152,10 +152,10 @@ module _ {A : Type 0} (blank : ℕ → A) (pages : List (List A)) (count : ℕ) 
   pub seen_room_of : (place : ℕ) → HasRoom (map length pages) place → HasRoom seen.rooms place
   seen_room_of place room = subst (λ (v : Paged A). HasRoom v.rooms place) is room
 
-  pub seen_same : (now : List (List A)) → ((j : ℕ) → in_pages blank now j ≡ in_pages blank pages j)
-      → by_place (in_pages blank now) count ≡ seen.items
+  pub seen_same : (now : List (List A)) → ((j : ℕ) → item_in_pages blank now j ≡ item_in_pages blank pages j)
+      → by_place (item_in_pages blank now) count ≡ seen.items
   seen_same now each =
-      same_by_place (in_pages blank now) (in_pages blank pages) count each ∙ ap (λ (v : Paged A). v.items) is
+      same_by_place (item_in_pages blank now) (item_in_pages blank pages) count each ∙ ap (λ (v : Paged A). v.items) is
 
   pub seen_set : (place : ℕ) (x : A) → place < length seen.items → HasRoom seen.rooms place
       → paged blank (written pages place x) count ≡ record { items = set seen.items place x; rooms = seen.rooms }

@@ -9,7 +9,7 @@ use Rattle.block_reclamation.specs.Status.{is_free}
 use Rattle.std.specs.{Prelude.{None, IfSome}, Arc.arc_value}
 use Rattle.edge_block.specs.declared.blocks.Block.{Block}
 use Rattle.block_pool.specs.{declared.numbers.Numbers.Numbers, Chains.Stacks, Paging.{Paged, HasRoom, by_place}, Pools.{marked, AreBodies}}
-use Rattle.block_pool.specs.Kept.{IsNumbers, AreRoomy, IsReady, IsRoomier, HasRooms, HasRoomFor, status_of, Lists}
+use Rattle.block_pool.specs.Kept.{IsNumbers, AreRoomy, IsReadyNumber, IsRoomier, HasRooms, HasRoomFor, status_of, Lists}
 use Rattle.block_pool.proofs.{Tallies.free_more, Paging.{length-by_place, at_place}}
 
 -- a status changed, of a number that has memory where it isn't free now
@@ -129,7 +129,7 @@ room_first count rooms k lt out =
 -- after a grant, the next number is ready where it was
 pub ready_next : (old new : Numbers) → new.free.items ≡ old.free.items → new.free_len ≡ old.free_len - 1 → 0 < old.free_len
     → old.free_len ≤ length old.statuses.items → length new.statuses.items ≡ length old.statuses.items → HasRooms old new
-    → (before : ℕ) → IsReady old (before + 1) → IsReady new before
+    → (before : ℕ) → IsReadyNumber old (before + 1) → IsReadyNumber new before
 ready_next old new items less some few long rooms before is =
     let place : new.free_len - 1 - before ≡ old.free_len - 1 - (before + 1) = omega arith in
     let number : get_or new.free.items (new.free_len - 1 - before) 0 ≡ get_or old.free.items (old.free_len - 1 - (before + 1)) 0 =

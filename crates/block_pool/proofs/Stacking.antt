@@ -7,35 +7,35 @@ use Rattle.std.proofs.{lemmas.List.Sums.{sum_by-cons, count_by-le-length}, Math.
 use Rattle.std.specs.Prelude.{sum_by}
 use Rattle.std.proofs.lemmas.Grind.{common_steps}
 use Rattle.block_reclamation.specs.declared.{copies.{PinCopy.PinCopy, TheConstants.SEATS}, status.BlockStatus.BlockStatus}
-use Rattle.block_reclamation.specs.{declared.status.BlockStatus.TheVariants.{Free, Granted}, Status.{is_listed, is_retired}}
+use Rattle.block_reclamation.specs.{declared.status.BlockStatus.TheVariants.{Free, Granted}, Status.{is_among, is_retired}}
 use Rattle.block_reclamation.specs.Status.{is_reclaimable}
 use Rattle.block_pool.specs.{Chains.{Stacks, stack_of, below_top, AreAbsent}, declared.numbers.{Numbers.Numbers, TheConstants.{LOOSE, LATE}}}
-use Rattle.block_pool.specs.Kept.{IsNumbers, AreRoomy, statuses, status_of, tally, AreNeeded, HasPins, IsSorted, Fits, top_of, put_on, taken_off, moved}
+use Rattle.block_pool.specs.Kept.{IsNumbers, AreRoomy, statuses, status_of, tally, AreNeeded, HasPins, IsSorted, FitsWitness, top_of, put_on, taken_off, moved}
 use Rattle.block_pool.proofs.Tallies.{count_true, count_lt, same_number, tally_at, tally_has_one, tally_true}
 use Rattle.block_pool.proofs.{Tallies.tally_here, Tallies.past_retired, Tallies.none_retired, Grants.tally_once}
 use Rattle.edge_block.proofs.Counts.{count_more}
 
 -- what is counted is in the list, and what is in it is counted
-counted_in : (n : ℕ) (ns : List ℕ) → 1 ≤ count_by (λ k. k == n) ns → is_listed n ns ≡ true
+counted_in : (n : ℕ) (ns : List ℕ) → 1 ≤ count_by (λ k. k == n) ns → is_among n ns ≡ true
 counted_in n [] h = absurd (omega arith)
 counted_in n (m ∷ ns) h =
     elim (m == n) as (λ b. count_by (λ k. k == n) (m ∷ ns) ≡ cond b 1 0 + count_by (λ k. k == n) ns
-    → (b || is_listed n ns) ≡ true) [
+    → (b || is_among n ns) ≡ true) [
       | true ↦ λ _. refl
       | false ↦ λ c. counted_in n ns (omega arith)
     ] (count_more (λ k. k == n) m ns)
 
-in_counted : (n : ℕ) (ns : List ℕ) → is_listed n ns ≡ true → 1 ≤ count_by (λ k. k == n) ns
+in_counted : (n : ℕ) (ns : List ℕ) → is_among n ns ≡ true → 1 ≤ count_by (λ k. k == n) ns
 in_counted n [] h = absurd (false≢true h)
 in_counted n (m ∷ ns) h =
-    elim (m == n) as (λ b. (b || is_listed n ns) ≡ true
+    elim (m == n) as (λ b. (b || is_among n ns) ≡ true
     → count_by (λ k. k == n) (m ∷ ns) ≡ cond b 1 0 + count_by (λ k. k == n) ns → 1 ≤ count_by (λ k. k == n) (m ∷ ns)) [
       | true ↦ λ _ c. omega arith
       | false ↦ λ is c. let rest = in_counted n ns is in omega arith
     ] h (count_more (λ k. k == n) m ns)
 
-not_counted : (n : ℕ) (ns : List ℕ) → count_by (λ k. k == n) ns ≡ 0 → is_listed n ns ≡ false
-not_counted n ns none = false_from_ne_true (is_listed n ns) (λ t. let c = in_counted n ns t in omega arith)
+not_counted : (n : ℕ) (ns : List ℕ) → count_by (λ k. k == n) ns ≡ 0 → is_among n ns ≡ false
+not_counted n ns none = false_from_ne_true (is_among n ns) (λ t. let c = in_counted n ns t in omega arith)
 
 -- the numbers of all stacks, with one put on and with one taken off
 sum_put : (q : ℕ → Bool) (lists : List (List ℕ)) (stack n : ℕ) → stack < length lists
@@ -93,7 +93,7 @@ module _ (copy : PinCopy) (pool : List BlockStatus) where
   needed_set k s ns lt never are n is = grind (arith, common_steps)
 
   -- a status of a number that isn't in the list
-  needed_else : (k : ℕ) (s : BlockStatus) (ns : List ℕ) → is_listed k ns ≡ false → AreNeeded copy pool ns
+  needed_else : (k : ℕ) (s : BlockStatus) (ns : List ℕ) → is_among k ns ≡ false → AreNeeded copy pool ns
       → AreNeeded copy (set pool k s) ns
   needed_else k s ns out are n is = grind (arith, common_steps)
 
@@ -173,15 +173,15 @@ module _ {pool : List BlockStatus} {pins : List (Option ℕ)} {least : ℕ} {lis
           | false ↦ λ t. past_retired copy (status_of pool k) t
         ] refl
       where
-        in_stack : (stack : ℕ) → stack ≤ LATE → is_listed k (stack_of lists stack) ≡ true → is_reclaimable copy (status_of pool k) ≡ false
+        in_stack : (stack : ℕ) → stack ≤ LATE → is_among k (stack_of lists stack) ≡ true → is_reclaimable copy (status_of pool k) ≡ false
         in_stack stack within is =
             elim (cases_lt stack SEATS) [
               | inl low ↦ are.held copy stack low (has stack low) k is
               | inr high ↦ elim (cases_eq stack LATE) [
-                | inl e ↦ late k (sym (ap (λ j. is_listed k (stack_of lists j)) e) ∙ is)
+                | inl e ↦ late k (sym (ap (λ j. is_among k (stack_of lists j)) e) ∙ is)
                 | inr ne ↦
                     let e : stack ≡ LOOSE = omega arith in
-                    absurd (false≢true (sym (ap (is_listed k) (ap (stack_of lists) e ∙ empty)) ∙ is))
+                    absurd (false≢true (sym (ap (is_among k) (ap (stack_of lists) e ∙ empty)) ∙ is))
               ]
             ]
 
@@ -222,7 +222,7 @@ module _ {pool : List BlockStatus} {pins : List (Option ℕ)} {least : ℕ} {lis
           let e = count_true (stack_of (taken_off from lists) stack) in
           omega arith
 
-      pub sorted_moved : (to : ℕ) → to ≤ LATE → Fits pool pins least to (top_of (stack_of lists from))
+      pub sorted_moved : (to : ℕ) → to ≤ LATE → FitsWitness pool pins least to (top_of (stack_of lists from))
           → IsSorted pool pins least (moved from to lists)
       sorted_moved to lt fits =
           let n : ℕ = top_of (stack_of lists from) in

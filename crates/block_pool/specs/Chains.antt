@@ -1,7 +1,7 @@
 -- How stacks are linked.
 use Rattle.std.specs.Prelude.{◌<◌, ℕ, zero, suc, List, [], ◌∷◌, length, slice_index_or, ◌≡◌, false}
 use Rattle.block_pool.specs.declared.stacks.Stack.{Stack}
-use Rattle.block_reclamation.specs.Status.{is_listed}
+use Rattle.block_reclamation.specs.Status.{is_among}
 
 -- each list is a stack, its top first; the rooms say which numbers have memory for a link
 pub record Stacks : Type 0 where
@@ -18,7 +18,7 @@ below_top (top ∷ numbers) = numbers
 
 -- the number stands in no stack
 abbrev pub AreAbsent : ℕ → List (List ℕ) → Type 0
-AreAbsent number lists = (stack : ℕ) → is_listed number (stack_of lists stack) ≡ false
+AreAbsent number lists = (stack : ℕ) → is_among number (stack_of lists stack) ≡ false
 
 -- so many numbers from a top down
 abbrev pub chain : List ℕ → ℕ → ℕ → List ℕ
@@ -33,6 +33,6 @@ abbrev pub AreBelow : ℕ → List ℕ → Type 0
 AreBelow bound [] = Unit {0}
 AreBelow bound (n ∷ ns) = (n < bound) × AreBelow bound ns
 
-pub record AreWithin (below : List ℕ) (stacks : List Stack) : Type 0 where
+pub record AreStacksWithin (below : List ℕ) (stacks : List Stack) : Type 0 where
   pub few : length below < 4294967296
   pub each : (k : ℕ) (d : Stack) → k < length stacks → AreBelow (length below) (chain_of below (slice_index_or stacks k d))

@@ -4,7 +4,7 @@ use Rattle.std.specs.Prelude.{◌≡◌, ◌<◌, ◌≤◌, ℕ, zero, suc, ◌
 use Rattle.std.specs.Prelude.{count_by, sum_by, slice_index, slice_index_or, slice_set, true, false, Option, None}
 use Rattle.block_pool.specs.{declared.numbers.{Numbers.Numbers, TheConstants.LATE}, Chains.{stack_of, below_top}, Paging.HasRoom}
 use Rattle.block_reclamation.specs.declared.{copies.{PinCopy.PinCopy, TheConstants.SEATS}, status.BlockStatus.BlockStatus}
-use Rattle.block_reclamation.specs.{declared.status.BlockStatus.TheVariants.Granted, Copies.reach_of, Status.{is_listed, is_free, most_blocks}}
+use Rattle.block_reclamation.specs.{declared.status.BlockStatus.TheVariants.Granted, Copies.reach_of, Status.{is_among, is_free, most_blocks}}
 use Rattle.block_reclamation.specs.Status.{is_retired, is_reclaimable}
 
 abbrev pub statuses : Numbers → List BlockStatus
@@ -30,7 +30,7 @@ popped room len (suc k) = slice_index room (len - 1) ∷ popped room (len - 1) k
 
 -- the copy needs each block of these numbers that is retired
 abbrev pub AreNeeded : PinCopy → List BlockStatus → List ℕ → Type 0
-AreNeeded copy pool numbers = (n : ℕ) → is_listed n numbers ≡ true → is_reclaimable copy (status_of pool n) ≡ false
+AreNeeded copy pool numbers = (n : ℕ) → is_among n numbers ≡ true → is_reclaimable copy (status_of pool n) ≡ false
 
 -- the copy has these settled pins
 abbrev pub HasPins : PinCopy → List (Option ℕ) → Type 0
@@ -46,7 +46,7 @@ pub record IsSorted (pool : List BlockStatus) (pins : List (Option ℕ)) (least 
   pub late : (copy : PinCopy) → reach_of copy < least → AreNeeded copy pool (stack_of lists LATE)
 
 -- the number may stand in that stack
-pub record Fits (pool : List BlockStatus) (pins : List (Option ℕ)) (least to number : ℕ) : Type 0 where
+pub record FitsWitness (pool : List BlockStatus) (pins : List (Option ℕ)) (least to number : ℕ) : Type 0 where
   pub held : (copy : PinCopy) → to < SEATS → slice_index_or copy.settled to None ≡ slice_index_or pins to None
       → is_reclaimable copy (status_of pool number) ≡ false
   pub late : (copy : PinCopy) → to ≡ LATE → reach_of copy < least → is_reclaimable copy (status_of pool number) ≡ false
@@ -77,7 +77,7 @@ pub record AreRoomy (pool : List BlockStatus) (len : ℕ) (statuses links places
   pub last : (place : ℕ) → len ≤ place → place < length pool → HasRoom places place
 
 -- there is memory to grant the number that so many others are granted before
-pub record IsReady (n : Numbers) (before : ℕ) : Type 0 where
+pub record IsReadyNumber (n : Numbers) (before : ℕ) : Type 0 where
   pub status : HasRoom n.statuses.rooms (slice_index n.free.items (n.free_len - 1 - before))
   pub link : HasRoom n.retired.rooms (slice_index n.free.items (n.free_len - 1 - before))
   pub last : HasRoom n.free.rooms (n.free_len - 1 - before)
@@ -110,4 +110,4 @@ pub record IsRoomier (old new : Numbers) : Type 0 where
   pub same : statuses new ≡ statuses old
   pub free : new.free.items ≡ old.free.items
   pub free_len : new.free_len ≡ old.free_len
-  pub ready : (before : ℕ) → IsReady old before → IsReady new before
+  pub ready : (before : ℕ) → IsReadyNumber old before → IsReadyNumber new before

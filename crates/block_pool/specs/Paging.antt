@@ -16,12 +16,12 @@ abbrev pub by_place : {A : Type 0} → (ℕ → A) → ℕ → List A
 by_place f count = map f (range_with_len 0 count)
 
 -- the element at a place: what its page has there, and a blank one where it has nothing
-abbrev pub in_pages : {A : Type 0} → (ℕ → A) → List (List A) → ℕ → A
-in_pages blank pages place = slice_index_or (slice_index_or pages (place / 4096) []) (place % 4096) (blank place)
+abbrev pub item_in_pages : {A : Type 0} → (ℕ → A) → List (List A) → ℕ → A
+item_in_pages blank pages place = slice_index_or (slice_index_or pages (place / 4096) []) (place % 4096) (blank place)
 
 abbrev pub items_of : {A : Type 0} → Vec A Global → List A
 items_of page = page.items
 
 -- what such pages show as a list of so many elements
 abbrev pub paged : {A : Type 0} → (ℕ → A) → List (List A) → ℕ → Paged A
-paged blank pages count = record { items = by_place (in_pages blank pages) count; rooms = map length pages }
+paged blank pages count = record { items = by_place (item_in_pages blank pages) count; rooms = map length pages }

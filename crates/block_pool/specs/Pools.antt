@@ -26,9 +26,9 @@ marked [] x xs = xs
 marked (place ∷ places) x xs = marked places x (slice_set xs place x)
 
 -- the pool with the status at each of these numbers changed
-abbrev pub changed : (BlockStatus → BlockStatus) → List ℕ → List BlockStatus → List BlockStatus
-changed change [] pool = pool
-changed change (number ∷ numbers) pool = changed change numbers (slice_set pool number (change (slice_index_or pool number Granted)))
+abbrev pub changed_numbers : (BlockStatus → BlockStatus) → List ℕ → List BlockStatus → List BlockStatus
+changed_numbers change [] pool = pool
+changed_numbers change (number ∷ numbers) pool = changed_numbers change numbers (slice_set pool number (change (slice_index_or pool number Granted)))
 
 -- distinct numbers that are free
 pub record AreFree (pool : List BlockStatus) (numbers : List ℕ) : Type 0 where

@@ -13,4 +13,6 @@ mod pages;
 mod pool;
 mod stacks;
 
-pub use pool::{Grant, GrantError, Pool};
+// Why a batch is refused; [`Pool::grant`] gives `PoolEmpty` or `OutOfMemory`.
+pub use graph_types::ApplyError as GrantError;
+pub use pool::{Grant, Pool};

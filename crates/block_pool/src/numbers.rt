@@ -70,7 +70,7 @@ pub(crate) struct Numbers {
 }
 
 impl Numbers {
-    ghost use Rattle.block_pool.specs.Kept.{statuses, IsNumbers, IsSame, IsRoomier, IsReady, HasRooms, Fits};
+    ghost use Rattle.block_pool.specs.Kept.{statuses, IsNumbers, IsSame, IsRoomier, IsReadyNumber, HasRooms, FitsWitness};
 
     /// The numbers 0 to `count` - 1, all free.
     pub fn all_free(alloc: Global, count: u32) -> Result<Numbers, AllocError>
@@ -122,7 +122,7 @@ impl Numbers {
         ensures kept { IsNumbers self.new }
         ensures same { IsRoomier self.old self.new }
         ensures number { IfOk result (λ n. n ≡ slice_index self.old.free.items (self.old.free_len - 1 - before)) }
-        ensures ready { OnOk result (IsReady self.new before) }
+        ensures ready { OnOk result (IsReadyNumber self.new before) }
     {
         let place = self.free_len - 1 - before;
         let number = self.free.get(place);
@@ -136,7 +136,7 @@ impl Numbers {
     pub fn use_last(&mut self, count: usize)
         requires kept { IsNumbers self.old }
         requires enough { count ≤ self.old.free_len }
-        requires ready { (before : ℕ) → before < count → IsReady self.old before }
+        requires ready { (before : ℕ) → before < count → IsReadyNumber self.old before }
         ensures kept { IsNumbers self.new }
         ensures statuses { statuses self.new ≡ marked (popped self.old.free.items self.old.free_len count) Granted
             (statuses self.old) }
@@ -152,7 +152,7 @@ impl Numbers {
     fn use_one(&mut self)
         requires kept { IsNumbers self.old }
         requires some { 0 < self.old.free_len }
-        requires ready { IsReady self.old 0 }
+        requires ready { IsReadyNumber self.old 0 }
         ensures kept { IsNumbers self.new }
         ensures statuses { statuses self.new ≡ slice_set (statuses self.old)
             (slice_index self.old.free.items (self.old.free_len - 1)) Granted }
@@ -282,7 +282,7 @@ impl Numbers {
         requires to { to ≤ LATE }
         requires other { from ≢ to }
         requires some { 0 < length (stack_of self.old.retired.lists from) }
-        requires fits { Fits (statuses self.old) self.old.pins self.old.least to (top_of (stack_of self.old.retired.lists from)) }
+        requires fits { FitsWitness (statuses self.old) self.old.pins self.old.least to (top_of (stack_of self.old.retired.lists from)) }
         ensures kept { IsNumbers self.new }
         ensures same { IsSame self.old self.new }
         ensures least { self.new.least ≡ self.old.least }

@@ -4,10 +4,10 @@ ghost use Rattle.std.specs.Prelude.{◌≡◌, ◌⊎◌, ◌<◌, ◌≤◌, �
 ghost use Rattle.std.specs.Prelude.{IfSome, None, true, ℕ, ◌-◌, slice_index, slice_index_or, slice_set};
 ghost use Rattle.std.specs.Arc.{arc_value};
 ghost use Rattle.edge_block.specs.declared.blocks.Block.{Block};
-ghost use Rattle.block_pool.specs.Pools.{retired, is_in_use_at, marked, changed, AreFree, is_used_at};
+ghost use Rattle.block_pool.specs.Pools.{retired, is_in_use_at, marked, changed_numbers, AreFree, is_used_at};
 ghost use Rattle.block_reclamation.specs.declared.status.BlockStatus.TheVariants.{Free, Granted, Used};
 ghost use Rattle.block_reclamation.specs.Status.{is_free, is_in_use, is_retired, is_reclaimable, most_blocks, recycled};
-ghost use Rattle.block_pool.specs.Kept.{statuses, popped, IsNumbers, IsRoomier, IsReady, HasRoomFor};
+ghost use Rattle.block_pool.specs.Kept.{statuses, popped, IsNumbers, IsRoomier, IsReadyNumber, HasRoomFor};
 ghost use Rattle.block_pool.specs.Paging.{HasRoom};
 ghost use Rattle.block_pool.specs.Pools.{AreBodies};
 
@@ -15,10 +15,10 @@ use crate::numbers::Numbers;
 use crate::pages::{Blank, Pages};
 use block_reclamation::PinCopy;
 use edge_block::Block;
+use graph_types::ApplyError;
 use std::alloc::{AllocError, Global};
 use std::marker::Model;
 use std::sync::Arc;
-use thiserror::Error;
 
 impl Blank for Option<Arc<Block>> {
     ghost use Rattle.std.specs.Prelude.{None};
@@ -71,26 +71,6 @@ pub struct Grant {
     pub blocks: Vec<Arc<Block>>,
 }
 
-/// Why nothing was granted.
-#[derive(Clone, Copy, Debug, PartialEq, Eq, Error)]
-pub enum GrantError {
-    #[error("{needed} blocks are needed and {free} are free")]
-    PoolEmpty { needed: u32, free: u32 },
-    #[error("out of memory")]
-    OutOfMemory,
-}
-
-impl From<AllocError> for GrantError {
-    ghost use Rattle.std.specs.Prelude.{◌≡◌};
-    ghost use Rattle.block_pool.specs.declared.pool.GrantError.TheVariants.{OutOfMemory};
-
-    ghost from_gives = { λ _ e. e ≡ OutOfMemory };
-
-    fn from(_error: AllocError) -> GrantError {
-        GrantError::OutOfMemory
-    }
-}
-
 impl Pool {
     /// A pool of so many blocks, 16 to 4,293,918,719, all free. It takes some 100 bytes for each 4,096 of them. What is kept of a
     /// number takes memory at a grant, and no other call takes any.
@@ -126,6 +106,7 @@ impl Pool {
     /// add up to the pool.
     pub fn used(&self) -> u32
         ensures count { result ≡ count_by is_in_use self.now }
+        ensures few { length self.now ≤ most_blocks }
         ensures all { count_by is_free self.now + count_by is_in_use self.now + count_by is_retired self.now ≡ length self.now }
     {
         self.numbers.used() as u32
@@ -137,21 +118,39 @@ impl Pool {
     ///
     /// `PoolEmpty` exactly where fewer are free; `OutOfMemory` where a growth was refused. Either leaves each number
     /// as it was.
-    pub fn grant(&mut self, count: u32) -> Result<Grant, GrantError>
+    pub fn grant(&mut self, count: u32) -> Result<Grant, ApplyError>
         ensures numbers { IfOk result (λ g. AreFree self.old g.numbers.items × (length g.numbers.items ≡ count)) }
         ensures blocks { IfOk result (λ g. map (λ b. (arc_value {X = Block} b).number) g.blocks.items ≡ g.numbers.items) }
         ensures used { IfOk result (λ g. self.new ≡ marked g.numbers.items Granted self.old) }
-        ensures refused { IfErr result (λ e. (e ≡ GrantError.OutOfMemory)
-            ⊎ ((count_by is_free self.old < count) × (e ≡ GrantError.PoolEmpty count (count_by is_free self.old)))) }
+        ensures refused { IfErr result (λ e. (e ≡ ApplyError.OutOfMemory)
+            ⊎ ((count_by is_free self.old < count) × (e ≡ ApplyError.PoolEmpty count (count_by is_free self.old)))) }
         ensures exact { count_by is_free self.old < count
-            → result ≡ Err (GrantError.PoolEmpty count (count_by is_free self.old)) }
+            → result ≡ Err (ApplyError.PoolEmpty count (count_by is_free self.old)) }
         ensures enough { OnOk result (count ≤ count_by is_free self.old) }
         ensures unchanged { OnErr result (self.new ≡ self.old) }
     {
+        self.grant_of(count, count)
+    }
+
+    /// As [`grant`](Pool::grant), where so many blocks are asked for and as many granted, which are no more.
+    ///
+    /// `PoolEmpty` exactly where fewer are free than are asked for.
+    pub fn grant_of(&mut self, asked: u32, count: u32) -> Result<Grant, ApplyError>
+        requires { count ≤ asked }
+        ensures numbers { IfOk result (λ g. AreFree self.old g.numbers.items × (length g.numbers.items ≡ count)) }
+        ensures blocks { IfOk result (λ g. map (λ b. (arc_value {X = Block} b).number) g.blocks.items ≡ g.numbers.items) }
+        ensures used { IfOk result (λ g. self.new ≡ marked g.numbers.items Granted self.old) }
+        ensures refused { IfErr result (λ e. (e ≡ ApplyError.OutOfMemory)
+            ⊎ ((count_by is_free self.old < asked) × (e ≡ ApplyError.PoolEmpty asked (count_by is_free self.old)))) }
+        ensures exact { count_by is_free self.old < asked
+            → result ≡ Err (ApplyError.PoolEmpty asked (count_by is_free self.old)) }
+        ensures enough { OnOk result (asked ≤ count_by is_free self.old) }
+        ensures unchanged { OnErr result (self.new ≡ self.old) }
+    {
         let free = self.free();
-        if count > free {
-            return Err(GrantError::PoolEmpty {
-                needed: count,
+        if asked > free {
+            return Err(ApplyError::PoolEmpty {
+                needed: asked,
                 free,
             });
         }
@@ -187,7 +186,7 @@ impl Pool {
     /// Retires a block whose birth was noted with the number of the version that left it out. It takes no memory.
     pub fn retire(&mut self, block: Arc<Block>, version: u64)
         requires { is_used_at self.old (arc_value {X = Block} block).number ≡ true }
-        ensures { self.new ≡ changed (retired version) ((arc_value {X = Block} block).number ∷ []) self.old }
+        ensures { self.new ≡ changed_numbers (retired version) ((arc_value {X = Block} block).number ∷ []) self.old }
     {
         let number = block.number();
         self.numbers.retire(number, version);
@@ -223,7 +222,7 @@ fn gather(
     ensures rooms { HasRoomFor (statuses numbers.old) bodies.new.rooms }
     ensures numbers { IfOk result (λ g. g.numbers.items ≡ popped numbers.old.free.items numbers.old.free_len count) }
     ensures blocks { IfOk result (λ g. map (λ b. (arc_value {X = Block} b).number) g.blocks.items ≡ g.numbers.items) }
-    ensures ready { OnOk result ((before : ℕ) → before < count → IsReady numbers.new before) }
+    ensures ready { OnOk result ((before : ℕ) → before < count → IsReadyNumber numbers.new before) }
     ensures taken { OnOk result ((before : ℕ) → before < count
         → HasRoom bodies.new.rooms (slice_index numbers.old.free.items (numbers.old.free_len - 1 - before))) }
 {

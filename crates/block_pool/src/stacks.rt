@@ -36,7 +36,7 @@ impl Drop for LinkedStacks {
 impl Model for LinkedStacks {
     ghost use Rattle.std.specs.Prelude.{length, map};
     ghost use Rattle.block_pool.specs.Chains.{Stacks};
-    ghost use Rattle.block_pool.specs.Chains.{chain_of, AreWithin};
+    ghost use Rattle.block_pool.specs.Chains.{chain_of, AreStacksWithin};
 
     ghost Value = { Stacks };
 
@@ -46,7 +46,7 @@ impl Model for LinkedStacks {
       rooms = s.below.rooms;
     } };
 
-    ghost invariant = { λ s. AreWithin s.below.items s.stacks.items };
+    ghost invariant = { λ s. AreStacksWithin s.below.items s.stacks.items };
 }
 
 impl LinkedStacks {

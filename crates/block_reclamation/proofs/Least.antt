@@ -3,7 +3,7 @@ use Rattle.std.proofs.Common.{◌≡◌, ℕ, zero, suc, ◌<◌, ◌≤◌, ◌
 use Rattle.std.proofs.{Common.{Option, Some, None, refl, sym, ap, ◌∙◌, arith, ltb}, lemmas.Bool.{cases_lt, or_left, or_right, Decides.nat_tests}}
 use Rattle.std.specs.List.{list_any}
 use Rattle.block_reclamation.specs.declared.copies.PinCopy.{PinCopy}
-use Rattle.block_reclamation.specs.Copies.{lesser, least_of, reach_of, is_between, is_before, needs}
+use Rattle.block_reclamation.specs.Copies.{lesser, least_of, reach_of, is_between, is_pin_before, needs}
 
 lesser_below : (n : ℕ) (o : Option ℕ) → lesser n o ≤ n
 lesser_below n None = omega arith
@@ -69,7 +69,7 @@ pub unsettled_needed : (copy : PinCopy) (birth retirement s p : ℕ) → get_or 
 unsettled_needed copy birth retirement s p at before =
     or_right (ltb copy.last retirement) _
     (or_right (list_any (is_between birth retirement) copy.settled) _
-    (any_at (is_before retirement) copy.unsettled s p at (grind (arith, nat_tests, before))))
+    (any_at (is_pin_before retirement) copy.unsettled s p at (grind (arith, nat_tests, before))))
 
 pub reach_needed : (copy : PinCopy) (birth retirement : ℕ) → reach_of copy < retirement → needs copy birth retirement ≡ true
 reach_needed copy birth retirement late =

@@ -3,7 +3,7 @@ use Rattle.std.proofs.Common.{◌≡◌, ℕ, ◌+◌, ◌≤◌, Bool, true, fa
 use Rattle.std.proofs.{Common.{refl, ap, ◌∙◌, arith, ltb}, lemmas.{Bool.Decides.nat_tests, List.Sums.sum_by-cons}}
 use Rattle.std.specs.List.{list_any}
 use Rattle.block_reclamation.specs.declared.status.BlockStatus.{BlockStatus, TheVariants.{Free, Granted, Used, Retired}}
-use Rattle.block_reclamation.specs.{Copies.{lesser, least_of, is_between, is_before}, Status.{is_free, is_granted, is_used}}
+use Rattle.block_reclamation.specs.{Copies.{lesser, least_of, is_between, is_pin_before}, Status.{is_free, is_granted, is_used}}
 use Rattle.block_reclamation.specs.{Status.{is_retired, is_in_use}, Laws.{IsOneOfFour, ArePartition, FloorSpares, NeedIsMonotone}}
 use Rattle.block_reclamation.proofs.Least.{least_below, least_each}
 
@@ -58,11 +58,11 @@ floor_spares copy birth retirement low =
     let all = least_below first copy.unsettled in
     let some = least_below copy.last copy.settled in
     none_of_three (ltb copy.last retirement) (list_any (is_between birth retirement) copy.settled)
-    (list_any (is_before retirement) copy.unsettled)
+    (list_any (is_pin_before retirement) copy.unsettled)
     (grind (arith, nat_tests, low, all, some))
     (none_passes (is_between birth retirement) retirement refl (λ m high. grind (arith, nat_tests, high)) copy.last copy.settled
     (omega (arith, low, all)))
-    (none_passes (is_before retirement) retirement refl (λ m high. grind (arith, nat_tests, high)) first copy.unsettled low)
+    (none_passes (is_pin_before retirement) retirement refl (λ m high. grind (arith, nat_tests, high)) first copy.unsettled low)
 
 -- what a test finds, a weaker test finds
 any_weaker : (p q : Option ℕ → Bool) (pins : List (Option ℕ)) → ((pin : Option ℕ) → p pin ≡ true → q pin ≡ true)
@@ -89,17 +89,17 @@ wider : (birth retirement earlier later : ℕ) (pin : Option ℕ) → earlier �
 wider birth retirement earlier later None low high found = found
 wider birth retirement earlier later (Some pin) low high found = grind (arith, nat_tests, low, high, found)
 
-longer : (retirement later : ℕ) (pin : Option ℕ) → retirement ≤ later → is_before retirement pin ≡ true → is_before later pin ≡ true
+longer : (retirement later : ℕ) (pin : Option ℕ) → retirement ≤ later → is_pin_before retirement pin ≡ true → is_pin_before later pin ≡ true
 longer retirement later None high found = found
 longer retirement later (Some pin) high found = grind (arith, nat_tests, high, found)
 
 pub need_is_monotone : NeedIsMonotone
 need_is_monotone copy birth retirement earlier later low high need =
     some_of_three (ltb copy.last retirement) (list_any (is_between birth retirement) copy.settled)
-    (list_any (is_before retirement) copy.unsettled)
-    (ltb copy.last later) (list_any (is_between earlier later) copy.settled) (list_any (is_before later) copy.unsettled)
+    (list_any (is_pin_before retirement) copy.unsettled)
+    (ltb copy.last later) (list_any (is_between earlier later) copy.settled) (list_any (is_pin_before later) copy.unsettled)
     (λ late. grind (arith, nat_tests, high, late))
     (any_weaker (is_between birth retirement) (is_between earlier later) copy.settled
     (λ pin found. wider birth retirement earlier later pin low high found))
-    (any_weaker (is_before retirement) (is_before later) copy.unsettled (λ pin found. longer retirement later pin high found))
+    (any_weaker (is_pin_before retirement) (is_pin_before later) copy.unsettled (λ pin found. longer retirement later pin high found))
     need

@@ -62,11 +62,11 @@ abbrev pub is_between : ℕ → ℕ → Option ℕ → Bool
 is_between birth retirement None = false
 is_between birth retirement (Some pin) = nat_le birth pin && nat_lt pin retirement
 
-abbrev pub is_before : ℕ → Option ℕ → Bool
-is_before retirement None = false
-is_before retirement (Some pin) = nat_lt pin retirement
+abbrev pub is_pin_before : ℕ → Option ℕ → Bool
+is_pin_before retirement None = false
+is_pin_before retirement (Some pin) = nat_lt pin retirement
 
 abbrev pub needs : PinCopy → ℕ → ℕ → Bool
 needs copy birth retirement =
     nat_lt copy.last retirement
-    || (list_any (is_between birth retirement) copy.settled || list_any (is_before retirement) copy.unsettled)
+    || (list_any (is_between birth retirement) copy.settled || list_any (is_pin_before retirement) copy.unsettled)

@@ -38,8 +38,8 @@ is_at test None = false
 is_at test (Some status) = test status
 
 -- whether a list of block numbers has this one
-abbrev pub is_listed : ℕ → List ℕ → Bool
-is_listed b blocks = list_any (λ c. c == b) blocks
+abbrev pub is_among : ℕ → List ℕ → Bool
+is_among b blocks = list_any (λ c. c == b) blocks
 
 -- Dates
 

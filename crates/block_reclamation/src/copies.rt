@@ -83,7 +83,7 @@ fn is_between(birth: u64, retirement: u64, pin: Option<u64>) -> bool
 }
 
 fn is_before(retirement: u64, pin: Option<u64>) -> bool
-    ensures { result ≡ copies.is_before retirement pin }
+    ensures { result ≡ copies.is_pin_before retirement pin }
 {
     match pin {
         Some(pin) => pin < retirement,
@@ -111,7 +111,7 @@ fn any_between(pins: &[Option<u64>], birth: u64, retirement: u64) -> bool
 }
 
 fn any_before(pins: &[Option<u64>], retirement: u64) -> bool
-    ensures { result ≡ list_any (copies.is_before retirement) pins.now }
+    ensures { result ≡ list_any (copies.is_pin_before retirement) pins.now }
 {
     pins.iter().any(|pin| is_before(retirement, *pin))
 }

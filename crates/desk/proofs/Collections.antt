@@ -7,12 +7,12 @@ use Rattle.block_reclamation.specs.declared.status.BlockStatus.{BlockStatus, The
 use Rattle.block_reclamation.specs.{Status.{is_retired, recycled}, declared.copies.PinCopy.PinCopy}
 use Rattle.store_steps.{specs.Opening.IsVersionZero, specs.Opening.opened_desk, specs.Desks.DeskView}
 use Rattle.store_steps.proofs.{OpeningShown.opened_is_desk, CollectedDesk.{desk_collected, is_collected, collected_is_desk}}
-use Rattle.desk.specs.Kept.{IsKept}
+use Rattle.desk.specs.Kept.{IsKeptDesk}
 use Rattle.edge_block.proofs.Counts.{count_more}
 
 -- what is kept holds of equal values too
-pub kept_same : (d e : DeskView) (keeps others : Bool) (room more : ℕ) → IsKept d keeps room → e ≡ d → others ≡ keeps → room ≤ more
-    → IsKept e others more
+pub kept_same : (d e : DeskView) (keeps others : Bool) (room more : ℕ) → IsKeptDesk d keeps room → e ≡ d → others ≡ keeps → room ≤ more
+    → IsKeptDesk e others more
 kept_same d e keeps others room more kept same alike grows = grind (arith, common_steps)
 
 -- no block is retired at an opening
@@ -37,7 +37,7 @@ long_replicate : (n : ℕ) → length (replicate n Free) ≡ n
 long_replicate n = grind (arith, common_steps)
 
 -- an opened desk
-pub opened_kept : (blocks : ℕ) (v : VersionView) → IsVersionZero blocks v → 16 ≤ blocks → IsKept (opened_desk blocks v) (keeps_batches v.opening.limits) 0
+pub opened_kept : (blocks : ℕ) (v : VersionView) → IsVersionZero blocks v → 16 ≤ blocks → IsKeptDesk (opened_desk blocks v) (keeps_batches v.opening.limits) 0
 opened_kept blocks v zero_is some = record {
   desk = opened_is_desk blocks v zero_is;
   blocks_some =
@@ -50,9 +50,9 @@ opened_kept blocks v zero_is some = record {
 }
 
 -- the desk after a collection
-pub collection_kept : (d e : DeskView) (copy : PinCopy) (keeps others : Bool) (before room : ℕ) → IsKept d keeps before
+pub collection_kept : (d e : DeskView) (copy : PinCopy) (keeps others : Bool) (before room : ℕ) → IsKeptDesk d keeps before
     → copy.last ≤ length d.last.batches → e ≡ desk_collected d copy → others ≡ keeps → count_by is_retired e.pool ≤ room
-    → IsKept e others room
+    → IsKeptDesk e others room
 collection_kept d e copy keeps others before room kept low is alike fits = record {
   desk = collected_is_desk d e copy kept.desk low (is_collected d e copy is);
   blocks_some =

@@ -4,11 +4,11 @@ use Rattle.std.proofs.{Common.{count_by, vec_len}, lemmas.{Grind.common_steps, L
 use Rattle.std.specs.{declared.{sync.Arc.Arc, alloc.Global.Global}, Prelude.All, List.sum_by, Arc.arc_value}
 use Rattle.graph_types.specs.{Graph.Graph, declared.batches.NamedOp.NamedOp}
 use Rattle.edge_block.specs.declared.blocks.Block.{Block}
-use Rattle.batch_shards.specs.RowBlocks.{block_of, blocks_of, numbers_of}
+use Rattle.batch_shards.specs.RowBlocks.{block_of, shared_blocks, shared_numbers}
 use Rattle.graph_version.specs.{declared.versions.Version.Version, Versions.VersionView, Versions.content, Logs.keeps_batches}
-use Rattle.block_reclamation.specs.{Status.{is_listed, is_free, is_retired, is_in_use}, declared.status.BlockStatus.BlockStatus}
+use Rattle.block_reclamation.specs.{Status.{is_among, is_free, is_retired, is_in_use}, declared.status.BlockStatus.BlockStatus}
 use Rattle.block_reclamation.specs.declared.status.BlockStatus.TheVariants.{Free, Granted, Used}
-use Rattle.block_pool.specs.Pools.{retired, marked, changed, AreFree}
+use Rattle.block_pool.specs.Pools.{retired, marked, changed_numbers, AreFree}
 use Rattle.store_steps.{specs.{Journal.Entry, Desks.{DeskView, IsDesk, FollowsLayout}, Steps.Accepts}, proofs.BatchLaws.accepted_steps}
 use Rattle.store_steps.proofs.Applications.{Application, next_desk, born_pool, retired_pool, moves_left}
 use Rattle.store_steps.proofs.{Accepting.{made_accepted, made_desk}, RetiredCounts.retired_room, GrantedBlocks.taken_granted}
@@ -16,8 +16,9 @@ use Rattle.store_steps.proofs.GrantedBlocks.{taken_movable, dropped_movable, unu
 use Rattle.store_steps.proofs.{GrantedBlocks.{born_movable, born_given_back}, ChangedLists.length-changed}
 use Rattle.block_pool.proofs.Grants.{length-marked}
 use Rattle.batch_apply.{specs.declared.plans.Plan.Plan, proofs.Asked.needs_within}
-use Rattle.desk.specs.declared.{entries.JournalEntry.JournalEntry, errors.ApplyError.ApplyError}
-use Rattle.desk.specs.{declared.applying.Prepared.Prepared, Kept.{IsKept, desk_of, entry_of}, Applying.IsPrepared}
+use Rattle.graph_types.specs.declared.refusals.ApplyError.{ApplyError}
+use Rattle.desk.specs.declared.entries.JournalEntry.{JournalEntry}
+use Rattle.desk.specs.{declared.applying.Prepared.Prepared, Kept.{IsKeptDesk, desk_of, journal_entry}, Applying.IsPrepared}
 use Rattle.desk.specs.{Applying.{AreUsedOnce, AreBornOnce}, Refusals.{Refuses, RefusesGrant, IsPlanned, IsWithin, asked}}
 use Rattle.desk.{specs.Refusals.block_count, proofs.UsedBlocks.used_blocks}
 use Rattle.graph_version.specs.Rows as rows
@@ -36,7 +37,7 @@ pub record Handing : Type 0 where
   pub is_prepared : IsPrepared old.last ops handed prepared
   pub granted : pool ≡ marked numbers Granted old.pool
 
-numbers_mapped : (bs : List (Arc Block Global)) → rows.numbers_of (blocks_of bs) ≡ numbers_of bs
+numbers_mapped : (bs : List (Arc Block Global)) → rows.numbers_of (shared_blocks bs) ≡ shared_numbers bs
 numbers_mapped [] = refl
 numbers_mapped (b ∷ bs) = ap (λ ns. (block_of b).number ∷ ns) (numbers_mapped bs)
 
@@ -50,8 +51,8 @@ application h = record {
   numbers = h.numbers;
   version = version_of h;
   taken = h.prepared.taken;
-  dropped = blocks_of h.prepared.dropped.items;
-  unused = numbers_of h.prepared.unused.items;
+  dropped = shared_blocks h.prepared.dropped.items;
+  unused = shared_numbers h.prepared.unused.items;
   before = h.before;
   applied = record {
     free = h.free;
@@ -76,7 +77,7 @@ grant_within d v workers ops plan desk last admitted =
     (needs_within workers ops (content v) v.rows plan admitted.planned)
 
 -- as many blocks were granted as numbers
-pub granted_many : (blocks : List (Arc Block Global)) (numbers : List ℕ) (n : ℕ) → numbers_of blocks ≡ numbers
+pub granted_many : (blocks : List (Arc Block Global)) (numbers : List ℕ) (n : ℕ) → shared_numbers blocks ≡ numbers
     → length numbers ≡ n → n ≤ length blocks
 granted_many blocks numbers n same many = grind (arith, common_steps)
 
@@ -93,7 +94,7 @@ back_same pool new end numbers free is after = after ∙ ap (marked numbers Free
 
 -- and so it is where some of the granted numbers were born meanwhile
 
-taken_within : (h : Handing) (m : ℕ) → is_listed m h.prepared.taken ≡ true → is_listed m h.numbers ≡ true
+taken_within : (h : Handing) (m : ℕ) → is_among m h.prepared.taken ≡ true → is_among m h.numbers ≡ true
 taken_within h m is = taken_granted (application h) m is
 
 pub born_used : (h : Handing) (number : ℕ) (new : List BlockStatus) → new ≡ marked h.prepared.taken (Used number) h.pool
@@ -112,12 +113,12 @@ born_same h number new end is after =
 -- The granted blocks are none of the last version's
 
 pub unlisted : (d : DeskView) (numbers handed : List ℕ) (v : VersionView) → IsDesk d → AreFree d.pool numbers → handed ≡ numbers
-    → v ≡ d.last → All (λ n. is_listed n (rows.numbers_of (rows.blocks_of v.rows)) ≡ false) handed
+    → v ≡ d.last → All (λ n. is_among n (rows.numbers_of (rows.blocks_of v.rows)) ≡ false) handed
 unlisted d numbers handed v desk free same at k e h = grind (arith, common_steps)
 
 -- The blocks' moves
 
-dropped_is : (h : Handing) → numbers_of h.prepared.dropped.items ≡ rows.numbers_of (blocks_of h.prepared.dropped.items)
+dropped_is : (h : Handing) → shared_numbers h.prepared.dropped.items ≡ rows.numbers_of (shared_blocks h.prepared.dropped.items)
 dropped_is h = sym (numbers_mapped h.prepared.dropped.items)
 
 born_is : (h : Handing) (number : ℕ) (born : List BlockStatus) → number ≡ length h.old.last.batches + 1
@@ -126,9 +127,9 @@ born_is h number born is made = made ∙ (λ i. marked h.prepared.taken (Used (i
 
 retired_is : (h : Handing) (number : ℕ) (born : List BlockStatus) → number ≡ length h.old.last.batches + 1
     → born ≡ marked h.prepared.taken (Used number) h.pool
-    → changed (retired number) (numbers_of h.prepared.dropped.items) born ≡ retired_pool (application h)
+    → changed_numbers (retired number) (shared_numbers h.prepared.dropped.items) born ≡ retired_pool (application h)
 retired_is h number born is made =
-    λ i. changed (retired (is i)) (dropped_is h i) (born_is h number born is made i)
+    λ i. changed_numbers (retired (is i)) (dropped_is h i) (born_is h number born is made i)
 
 pub taken_once : (h : Handing) → AreUsedOnce h.prepared.taken h.pool
 taken_once h =
@@ -136,27 +137,27 @@ taken_once h =
     subst (AreUsedOnce h.prepared.taken) (sym h.granted) (record { pass = m.pass; apart = m.apart })
 
 pub dropped_once : (h : Handing) (number : ℕ) (born : List BlockStatus) → number ≡ length h.old.last.batches + 1
-    → born ≡ marked h.prepared.taken (Used number) h.pool → AreBornOnce (numbers_of h.prepared.dropped.items) born
+    → born ≡ marked h.prepared.taken (Used number) h.pool → AreBornOnce (shared_numbers h.prepared.dropped.items) born
 dropped_once h number born is made =
     let m = dropped_movable (application h) in
-    let once : AreBornOnce (rows.numbers_of (blocks_of h.prepared.dropped.items)) (born_pool (application h)) =
+    let once : AreBornOnce (rows.numbers_of (shared_blocks h.prepared.dropped.items)) (born_pool (application h)) =
     record { pass = m.pass; apart = m.apart } in
-    subst (AreBornOnce (numbers_of h.prepared.dropped.items)) (sym (born_is h number born is made))
+    subst (AreBornOnce (shared_numbers h.prepared.dropped.items)) (sym (born_is h number born is made))
     (subst (λ ns. AreBornOnce ns (born_pool (application h))) (sym (dropped_is h)) once)
 
 pub unused_once : (h : Handing) (number : ℕ) (born : List BlockStatus) → number ≡ length h.old.last.batches + 1
     → born ≡ marked h.prepared.taken (Used number) h.pool
-    → AreUsedOnce (numbers_of h.prepared.unused.items) (changed (retired number) (numbers_of h.prepared.dropped.items) born)
+    → AreUsedOnce (shared_numbers h.prepared.unused.items) (changed_numbers (retired number) (shared_numbers h.prepared.dropped.items) born)
 unused_once h number born is made =
     let m = unused_movable (application h) in
-    subst (AreUsedOnce (numbers_of h.prepared.unused.items)) (sym (retired_is h number born is made))
+    subst (AreUsedOnce (shared_numbers h.prepared.unused.items)) (sym (retired_is h number born is made))
     (record { pass = m.pass; apart = m.apart })
 
 pub end_pool : (h : Handing) (number : ℕ) (born end : List BlockStatus) → number ≡ length h.old.last.batches + 1
-    → born ≡ marked h.prepared.taken (Used number) h.pool → end ≡ marked (numbers_of h.prepared.unused.items) Free
-    (changed (retired number) (numbers_of h.prepared.dropped.items) born) → end ≡ (next_desk (application h)).pool
+    → born ≡ marked h.prepared.taken (Used number) h.pool → end ≡ marked (shared_numbers h.prepared.unused.items) Free
+    (changed_numbers (retired number) (shared_numbers h.prepared.dropped.items) born) → end ≡ (next_desk (application h)).pool
 end_pool h number born end is made moved =
-    moved ∙ ap (marked (numbers_of h.prepared.unused.items) Free) (retired_is h number born is made) ∙ moves_left (application h)
+    moved ∙ ap (marked (shared_numbers h.prepared.unused.items) Free) (retired_is h number born is made) ∙ moves_left (application h)
 
 -- The desk afterwards
 
@@ -172,7 +173,7 @@ entry_in h = entries.Applied h.prepared.batch h.prepared.taken h.prepared.droppe
 
 pub end_desk : (h : Handing) (opened : List ℕ) (last : VersionView) (entries old_entries : List Entry)
     (pool : List BlockStatus) → h.old.opened ≡ opened → old_entries ≡ h.old.journal → last ≡ version_of h
-    → entries ≡ old_entries ++ entry_of (entry_in h) ∷ [] → pool ≡ (next_desk (application h)).pool
+    → entries ≡ old_entries ++ journal_entry (entry_in h) ∷ [] → pool ≡ (next_desk (application h)).pool
     → desk_of opened last entries pool ≡ next_desk (application h)
 end_desk h opened last entries old_entries pool same_opened before same_last same_entries same_pool =
     grind (arith, common_steps, dropped_is)
@@ -193,7 +194,7 @@ pub end_room : (h : Handing) (end : List BlockStatus) → end ≡ (next_desk (ap
 end_room h end is =
     let a = ap (count_by is_retired) is in
     let b = ap (count_by is_retired) h.granted in
-    let many : length (blocks_of h.prepared.dropped.items) ≡ length h.prepared.dropped.items =
+    let many : length (shared_blocks h.prepared.dropped.items) ≡ length h.prepared.dropped.items =
     length-map h.prepared.dropped.items block_of in
     let room = retired_room (application h) in
     omega arith
@@ -206,7 +207,7 @@ end_fits h end room before dropped is retired many fits =
     let fewer = end_room h end is in let ok = h.prepared.dropped.ok in omega (arith, ok.0)
 
 pub end_kept : (h : Handing) (new : DeskView) (keeps : Bool) (room : ℕ) → new ≡ next_desk (application h) → 16 ≤ length h.old.pool
-    → keeps ≡ keeps_batches h.old.last.opening.limits → count_by is_retired new.pool ≤ room → IsKept new keeps room
+    → keeps ≡ keeps_batches h.old.last.opening.limits → count_by is_retired new.pool ≤ room → IsKeptDesk new keeps room
 end_kept h new keeps room is some kept fits = record {
   desk = subst IsDesk (sym is) (made_desk (application h));
   blocks_some =

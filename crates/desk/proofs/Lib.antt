@@ -7,3 +7,4 @@ pub mod UsedBlocks
 pub mod Zeros
 pub mod Readied
 pub mod OpenedAnew
+pub mod Refused

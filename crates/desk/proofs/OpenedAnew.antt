@@ -6,11 +6,11 @@ use Rattle.std.specs.{Prelude.{slice_get, nat_lt, if◌then◌else◌}, List.lis
 use Rattle.edge_block.specs.Slots.{BlockView}
 use Rattle.std.specs.declared.option.Option.{Option, TheVariants.{None, Some}}
 use Rattle.graph_version.specs.{Rows.{blocks_of, numbers_of}, Versions.{VersionView, IsVersion}, Rebased.IsRebased}
-use Rattle.block_reclamation.specs.{declared.status.BlockStatus.BlockStatus, Copies.{needs, is_between, is_before}}
+use Rattle.block_reclamation.specs.{declared.status.BlockStatus.BlockStatus, Copies.{needs, is_between, is_pin_before}}
 use Rattle.block_reclamation.specs.declared.status.BlockStatus.TheVariants.{Free, Granted, Used, Retired}
-use Rattle.block_reclamation.specs.Status.{is_at, is_in_use, is_listed, is_used, recycled}
+use Rattle.block_reclamation.specs.Status.{is_at, is_in_use, is_among, is_used, recycled}
 use Rattle.block_pool.specs.Pools.{is_used_at, marked}
-use Rattle.store_steps.specs.{Dates.IsDated, Desks.{DeskView, IsDesk, last_numbers}, Opening.{IsVersionZero, opened_desk}}
+use Rattle.store_steps.specs.{Dates.IsDatedBlock, Desks.{DeskView, IsDesk, last_numbers}, Opening.{IsVersionZero, opened_desk}}
 use Rattle.store_steps.proofs.{ChangedLists.{marked_at, same_list}, Dated.desk_dated, NumberLists.{all_by, differ_from}}
 use Rattle.desk.specs.{Applying.AreUsedOnce, Openings.without_pins}
 
@@ -26,7 +26,7 @@ not_past m n le = grind (arith, common_steps)
 -- without a pin no block is needed that was retired by the last version
 unneeded : (last birth retirement : ℕ) → retirement ≤ last → needs (without_pins last) birth retirement ≡ false
 unneeded last birth retirement le =
-    rw (not_past last retirement le, any_none (is_between birth retirement) refl 16, any_none (is_before retirement) refl 16) refl
+    rw (not_past last retirement le, any_none (is_between birth retirement) refl 16, any_none (is_pin_before retirement) refl 16) refl
 
 -- Each number
 
@@ -35,7 +35,7 @@ pool_like [] m = refl
 pool_like (s ∷ pool) zero = refl
 pool_like (s ∷ pool) (suc m) = pool_like pool m
 
-one_reset : (last : ℕ) (opened t : Bool) (o : Option BlockStatus) → IsDated opened last o → is_at is_used o ≡ t
+one_reset : (last : ℕ) (opened t : Bool) (o : Option BlockStatus) → IsDatedBlock opened last o → is_at is_used o ≡ t
     → option_map (recycled (without_pins last)) (if t then option_map (λ _. Used 0) o else o)
     ≡ (if t then option_map (λ _. Used 0) (option_map (λ _. Free) o) else option_map (λ _. Free) o)
 one_reset last opened true None dated used = refl
@@ -54,9 +54,9 @@ pub reset_pool : (d : DeskView) → IsDesk d
 reset_pool d desk = same_list _ _ (λ m.
     slice_get-map (recycled (without_pins (length d.last.batches))) (marked (last_numbers d) (Used 0) d.pool) m
     ∙ ap (option_map (recycled (without_pins (length d.last.batches)))) (marked_at (last_numbers d) (Used 0) d.pool m)
-    ∙ one_reset (length d.last.batches) (is_listed m d.opened) (is_listed m (last_numbers d)) (slice_get d.pool m)
+    ∙ one_reset (length d.last.batches) (is_among m d.opened) (is_among m (last_numbers d)) (slice_get d.pool m)
     (desk_dated d desk m) (desk.listed m)
-    ∙ ap (λ p. if is_listed m (last_numbers d) then option_map (λ _. Used 0) p else p) (sym (pool_like d.pool m))
+    ∙ ap (λ p. if is_among m (last_numbers d) then option_map (λ _. Used 0) p else p) (sym (pool_like d.pool m))
     ∙ sym (marked_at (last_numbers d) (Used 0) (replicate (length d.pool) Free) m))
 
 -- Their numbers
@@ -66,13 +66,13 @@ used_below [] n is = cc
 used_below (s ∷ pool) zero is = omega arith
 used_below (s ∷ pool) (suc n) is = let rest = used_below pool n is in omega arith
 
-all_below : (pool : List BlockStatus) (ns : List ℕ) → ((m : ℕ) → is_listed m ns ≡ true → is_used_at pool m ≡ true)
+all_below : (pool : List BlockStatus) (ns : List ℕ) → ((m : ℕ) → is_among m ns ≡ true → is_used_at pool m ≡ true)
     → All (λ n. n < length pool) ns
 all_below pool [] each = All-nil (λ n. n < length pool)
 all_below pool (n ∷ ns) each =
     let here : (n == n) ≡ true = eq-eqb n n refl in
     All-cons (λ k. k < length pool) n ns (used_below pool n (each n (rw here refl)))
-    (all_below pool ns (λ m is. each m (or_right (n == m) (is_listed m ns) is)))
+    (all_below pool ns (λ m is. each m (or_right (n == m) (is_among m ns) is)))
 
 in_use : (o : Option BlockStatus) → is_at is_used o ≡ true → is_at is_in_use o ≡ true
 in_use None is = cc

@@ -6,7 +6,7 @@ use Rattle.std.proofs.Math.ListN.{length-set}
 use Rattle.std.specs.{Prelude.{slice_set}, declared.option.Option.{Option, TheVariants.{None, Some}}}
 use Rattle.block_reclamation.specs.{declared.copies.{Pin.Pin, TheConstants.SEATS}, Board.{BoardState, no_pins, with_pin}, Copies.{pin_at, settled, unsettled}}
 use Rattle.store_steps.specs.Desks.{DeskView}
-use Rattle.desk.specs.Owned.{OwnedView, IsOwned, IsCounted, IsSeatFor, count_at, held_pin, opened_owned, with_seat}
+use Rattle.desk.specs.Owned.{OwnedView, IsOwned, IsHoldCounted, IsSeatFor, count_at, held_pin, opened_owned, with_hold}
 
 opened_is_owned : (d : DeskView) (n : ℕ) → IsOwned (opened_owned d n)
 opened_is_owned d n = record {
@@ -16,7 +16,7 @@ opened_is_owned d n = record {
   counted = λ seat low.
       let none : pin_at (replicate SEATS None) seat ≡ None = get_or-replicate SEATS seat None None low in
       let zero : count_at (replicate SEATS 0) seat ≡ 0 = get_or-replicate SEATS seat 0 0 low in
-      subst (λ p. IsCounted (length d.last.batches) p (count_at (replicate SEATS 0) seat)) (sym none) zero;
+      subst (λ p. IsHoldCounted (length d.last.batches) p (count_at (replicate SEATS 0) seat)) (sym none) zero;
   apart = λ a b number x y p q.
       let none : pin_at (replicate SEATS None) a ≡ None = get_or-replicate SEATS a None None x in cc;
 }
@@ -54,29 +54,29 @@ module _ (pins : List (Option Pin)) (seat : ℕ) (pin : Option Pin) (within : se
         ] refl
       ] refl
 
-  pub changed_counted : (last : ℕ) (counts : List ℕ) (count s : ℕ) → seat < length counts → IsCounted last pin count
-      → IsCounted last (pin_at pins s) (count_at counts s)
-      → IsCounted last (pin_at (slice_set pins seat pin) s) (count_at (slice_set counts seat count) s)
+  pub changed_counted : (last : ℕ) (counts : List ℕ) (count s : ℕ) → seat < length counts → IsHoldCounted last pin count
+      → IsHoldCounted last (pin_at pins s) (count_at counts s)
+      → IsHoldCounted last (pin_at (slice_set pins seat pin) s) (count_at (slice_set counts seat count) s)
   changed_counted last counts count s low here before =
       elim (s == seat) as (λ t. (s == seat) ≡ t
-      → IsCounted last (pin_at (slice_set pins seat pin) s) (count_at (slice_set counts seat count) s)) [
+      → IsHoldCounted last (pin_at (slice_set pins seat pin) s) (count_at (slice_set counts seat count) s)) [
         | true ↦ λ e.
             (let counted : count_at (slice_set counts seat count) s ≡ count =
             ap (count_at (slice_set counts seat count)) (eqb-true s seat e) ∙ get_or-set_same counts seat count 0 low in
-            subst (λ p. IsCounted last p (count_at (slice_set counts seat count) s)) (sym (there s e))
-            (subst (IsCounted last pin) (sym counted) here))
+            subst (λ p. IsHoldCounted last p (count_at (slice_set counts seat count) s)) (sym (there s e))
+            (subst (IsHoldCounted last pin) (sym counted) here))
         | false ↦ λ e.
             (let counted : count_at (slice_set counts seat count) s ≡ count_at counts s =
             get_or-set_other counts seat s count 0 (λ same. true≢false (sym (eq-eqb s seat same) ∙ e)) in
-            subst (λ p. IsCounted last p (count_at (slice_set counts seat count) s)) (sym (else s e))
-            (subst (IsCounted last (pin_at pins s)) (sym counted) before))
+            subst (λ p. IsHoldCounted last p (count_at (slice_set counts seat count) s)) (sym (else s e))
+            (subst (IsHoldCounted last (pin_at pins s)) (sym counted) before))
       ] refl
 
 -- with this pin and count at a seat all is owned still
 pub changed_owned : (o : OwnedView) (seat count : ℕ) (pin : Option Pin) → IsOwned o → seat < SEATS
-    → IsCounted (length o.desk.last.batches) pin count
+    → IsHoldCounted (length o.desk.last.batches) pin count
     → ((number b : ℕ) → pin ≡ Some (held_pin number) → b < SEATS → pin_at o.board.pins b ≡ Some (held_pin number) → b ≡ seat)
-    → IsOwned (with_seat o seat pin count)
+    → IsOwned (with_hold o seat pin count)
 changed_owned o seat count pin is low here one =
     let pins = is.pins in
     let seats = is.seats in
@@ -91,7 +91,7 @@ changed_owned o seat count pin is low here one =
 
 -- a number is pinned at the seat for it
 pub pinned_owned : (o : OwnedView) (number seat count : ℕ) → IsOwned o → IsSeatFor o number seat
-    → number ≤ length o.desk.last.batches → 0 < count → IsOwned (with_seat o seat (Some (held_pin number)) count)
+    → number ≤ length o.desk.last.batches → 0 < count → IsOwned (with_hold o seat (Some (held_pin number)) count)
 pinned_owned o number seat count is for low some =
     changed_owned o seat count (Some (held_pin number)) is for.0 (some, refl, low) (λ n b same within at.
     let at_number : pin_at o.board.pins b ≡ Some (held_pin number) = at ∙ sym same in

@@ -7,7 +7,7 @@ use Rattle.batch_apply.specs.{Planned.IsPlan, declared.plans.Plan.Plan}
 use Rattle.block_reclamation.specs.{Status.is_retired, declared.status.BlockStatus.{BlockStatus, TheVariants.{Free, Granted}}}
 use Rattle.block_pool.specs.Pools.{marked, AreFree}
 use Rattle.store_steps.{specs.Desks.DeskView, proofs.GrantedBlocks.given_back}
-use Rattle.desk.specs.{Applying.IsPrepared, Kept.{IsKept, desk_in}, Journals.JournalView, declared.{applying.Prepared.Prepared, desks.Parts.Parts}}
+use Rattle.desk.specs.{Applying.IsPrepared, Kept.{IsKeptDesk, desk_in}, Journals.JournalView, declared.{applying.Prepared.Prepared, desks.Parts.Parts}}
 use Rattle.desk.specs.Ready.{IsGranted, IsReady, old_of, ops_of}
 use Rattle.desk.proofs.{Handing.Handing, Collections.kept_same}
 
@@ -70,10 +70,10 @@ module _ (p q : Parts) (numbers : List ℕ) (free : AreFree p.pool numbers) (gra
     pool = back i;
   }
 
-  pub granted_from : IsKept (desk_in p) p.journal.keeps p.journal.room → IsGranted q numbers
+  pub granted_from : IsKeptDesk (desk_in p) p.journal.keeps p.journal.room → IsGranted q numbers
   granted_from is = record {
-    before = subst (λ (d : DeskView). IsKept d q.journal.keeps q.journal.room) (sym old_same)
-        (subst (λ (j : JournalView). IsKept (desk_in p) j.keeps j.room) (sym journal) is);
+    before = subst (λ (d : DeskView). IsKeptDesk d q.journal.keeps q.journal.room) (sym old_same)
+        (subst (λ (j : JournalView). IsKeptDesk (desk_in p) j.keeps j.room) (sym journal) is);
     free = subst (λ (xs : List BlockStatus). AreFree xs numbers) (sym back) free;
     granted = granted ∙ ap (marked numbers Granted) (sym back);
   }

@@ -4,7 +4,7 @@ use Rattle.std.{proofs.Common.if◌then◌else◌, proofs.Common.Bool, specs.dec
 use Rattle.std.{proofs.lemmas.Grind.common_steps, specs.Prelude.slice_get, specs.Option.option_map, specs.Arc.arc_value}
 use Rattle.graph_version.specs.{Rows.blocks_of, Rows.numbers_of, Rebased.IsRebased}
 use Rattle.graph_version.specs.{Versions.VersionView, Versions.IsVersion, declared.versions.Version.Version}
-use Rattle.block_reclamation.specs.{Status.is_listed, declared.status.BlockStatus.BlockStatus}
+use Rattle.block_reclamation.specs.{Status.is_among, declared.status.BlockStatus.BlockStatus}
 use Rattle.block_reclamation.specs.declared.status.BlockStatus.TheVariants.{Free, Granted, Used}
 use Rattle.block_pool.specs.Pools.{is_free_at, marked, AreFree}
 use Rattle.store_steps.{specs.Opening.{IsVersionZero, opened_desk}, proofs.ChangedLists.{marked_at, same_list}}
@@ -18,8 +18,8 @@ twice_marked t p x y = grind (arith, common_steps)
 
 pub marked_over : (ns : List ℕ) (x y : BlockStatus) (pool : List BlockStatus) → marked ns y (marked ns x pool) ≡ marked ns y pool
 marked_over ns x y pool = same_list _ _ (λ m.
-    marked_at ns y (marked ns x pool) m ∙ ap (λ p. if is_listed m ns then option_map (λ _. y) p else p) (marked_at ns x pool m)
-    ∙ twice_marked (is_listed m ns) (slice_get pool m) x y ∙ sym (marked_at ns y pool m))
+    marked_at ns y (marked ns x pool) m ∙ ap (λ p. if is_among m ns then option_map (λ _. y) p else p) (marked_at ns x pool m)
+    ∙ twice_marked (is_among m ns) (slice_get pool m) x y ∙ sym (marked_at ns y pool m))
 
 -- a number that is free in a pool of so many is below that
 below : (blocks n : ℕ) → is_free_at (replicate blocks Free) n ≡ true → n < blocks

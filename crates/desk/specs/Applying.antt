@@ -2,7 +2,7 @@
 use Rattle.std.specs.{Prelude.{◌≡◌, ℕ, ◌+◌, List, [], ◌∷◌, ◌++◌, length, count_by, Bool, true, slice_get}, Arc.arc_value}
 use Rattle.std.specs.List.{list_all}
 use Rattle.graph_types.specs.{Step.outcomes, declared.batches.{Batch.Batch, NamedOp.NamedOp}}
-use Rattle.batch_shards.specs.{RowBlocks.blocks_of, RowBlocks.numbers_of, Births.CarriesBirths, Done.Exchanges}
+use Rattle.batch_shards.specs.{RowBlocks.shared_blocks, RowBlocks.shared_numbers, Births.CarriesBirths, Done.Exchanges}
 use Rattle.graph_version.specs.{declared.versions.Version.Version, Versions.VersionView, Versions.IsVersion, Versions.content}
 use Rattle.store_steps.specs.Desks.{FollowsLayout}
 use Rattle.desk.specs.declared.applying.Prepared.{Prepared}
@@ -18,12 +18,12 @@ pub record IsPrepared (v : VersionView) (ops : List NamedOp) (numbers : List ℕ
   pub batches : (arc_value {X = Version} p.version).batches ≡ v.batches ++ ops ∷ []
   pub outcomes_are : p.outcomes ≡ outcomes ops (content v)
   pub exchanged : Exchanges (rows.blocks_of v.rows) (rows.blocks_of (arc_value {X = Version} p.version).rows) p.taken
-      (blocks_of p.dropped.items)
-  pub handed : (q : ℕ → Bool) → count_by q p.taken + count_by q (numbers_of p.unused.items) ≡ count_by q numbers
+      (shared_blocks p.dropped.items)
+  pub handed : (q : ℕ → Bool) → count_by q p.taken + count_by q (shared_numbers p.unused.items) ≡ count_by q numbers
   pub layout : FollowsLayout v ops (arc_value {X = Version} p.version) (length p.taken) (length p.dropped.items)
-  pub births : CarriesBirths v ops (arc_value {X = Version} p.version) p.taken (blocks_of p.dropped.items)
+  pub births : CarriesBirths v ops (arc_value {X = Version} p.version) p.taken (shared_blocks p.dropped.items)
   pub batch_is : arc_value {X = Batch} p.batch ≡ ops
-  pub dropped_are : p.dropped_numbers ≡ numbers_of p.dropped.items
+  pub dropped_are : p.dropped_numbers ≡ shared_numbers p.dropped.items
   pub rows_are : DifferAt p.sources.items v.rows (arc_value {X = Version} p.version).rows
 
 -- each of the numbers has a status that passes, and none stands twice

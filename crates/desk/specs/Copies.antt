@@ -3,11 +3,11 @@ use Rattle.std.specs.Prelude.{ℕ, Bool, List, [], ◌∷◌, Option, None, slic
 use Rattle.block_reclamation.specs.Copies.{number_if}
 
 -- the pins with these numbers that are there
-abbrev pub pins_of : List Bool → List ℕ → List (Option ℕ)
-pins_of [] _ = []
-pins_of (there ∷ more) [] = []
-pins_of (there ∷ more) (number ∷ numbers) = number_if there number ∷ pins_of more numbers
+abbrev pub kept_pins : List Bool → List ℕ → List (Option ℕ)
+kept_pins [] _ = []
+kept_pins (there ∷ more) [] = []
+kept_pins (there ∷ more) (number ∷ numbers) = number_if there number ∷ kept_pins more numbers
 
 -- the pin of a seat
-abbrev pub pin_in : List (Option ℕ) → ℕ → Option ℕ
-pin_in pins seat = slice_index_or pins seat None
+abbrev pub kept_pin : List (Option ℕ) → ℕ → Option ℕ
+kept_pin pins seat = slice_index_or pins seat None

@@ -5,6 +5,6 @@ use Rattle.store_steps.specs.Journal.{Entry, Applied, Collected}
 use Rattle.desk.specs.declared.entries.JournalEntry.{JournalEntry}
 use Rattle.desk.specs.declared.entries.JournalEntry.TheVariants as entries
 
-abbrev pub entry_of : JournalEntry → Entry
-entry_of (entries.Applied batch taken dropped) = Applied (arc_value {X = Batch} batch) taken dropped
-entry_of (entries.Collected copy recycled) = Collected copy recycled
+abbrev pub journal_entry : JournalEntry → Entry
+journal_entry (entries.Applied batch taken dropped) = Applied (arc_value {X = Batch} batch) taken dropped
+journal_entry (entries.Collected copy recycled) = Collected copy recycled

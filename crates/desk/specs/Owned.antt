@@ -22,9 +22,9 @@ abbrev pub count_at : List ℕ → ℕ → ℕ
 count_at counts seat = slice_index_or counts seat 0
 
 -- the seat's version is held as often as the count says, and not at all where it has no pin
-abbrev pub IsCounted : ℕ → Option Pin → ℕ → Type 0
-IsCounted last None count = count ≡ 0
-IsCounted last (Some pin) count = (0 < count) × (pin ≡ held_pin pin.number) × (pin.number ≤ last)
+abbrev pub IsHoldCounted : ℕ → Option Pin → ℕ → Type 0
+IsHoldCounted last None count = count ≡ 0
+IsHoldCounted last (Some pin) count = (0 < count) × (pin ≡ held_pin pin.number) × (pin.number ≤ last)
 
 -- each seat's pin is counted, no number has two seats, and the floor isn't past the last version
 pub record IsOwned (o : OwnedView) : Type 0 where
@@ -32,7 +32,7 @@ pub record IsOwned (o : OwnedView) : Type 0 where
   pub seats : length o.counts ≡ SEATS
   pub floor_low : o.board.floor ≤ length o.desk.last.batches
   pub counted : (seat : ℕ) → seat < SEATS
-      → IsCounted (length o.desk.last.batches) (pin_at o.board.pins seat) (count_at o.counts seat)
+      → IsHoldCounted (length o.desk.last.batches) (pin_at o.board.pins seat) (count_at o.counts seat)
   pub apart : (a b number : ℕ) → a < SEATS → b < SEATS → pin_at o.board.pins a ≡ Some (held_pin number)
       → pin_at o.board.pins b ≡ Some (held_pin number) → a ≡ b
 
@@ -51,14 +51,14 @@ abbrev pub IsSeatOf : OwnedView → ℕ → ℕ → Type 0
 IsSeatOf o number seat = (seat < SEATS) × (pin_at o.board.pins seat ≡ Some (held_pin number))
 
 -- with this pin and this count at a seat
-abbrev pub with_seat : OwnedView → ℕ → Option Pin → ℕ → OwnedView
-with_seat o seat pin count = record o { board = with_pin o.board seat pin; counts = slice_set o.counts seat count }
+abbrev pub with_hold : OwnedView → ℕ → Option Pin → ℕ → OwnedView
+with_hold o seat pin count = record o { board = with_pin o.board seat pin; counts = slice_set o.counts seat count }
 
 -- a number is held once more: its seat has its pin, and its count is one more
 pub record HoldsOnce (old : OwnedView) (number : ℕ) (new : OwnedView) : Type 0 where
   pub seat : ℕ
   pub is_for : IsSeatFor old number seat
-  pub new_is : new ≡ with_seat old seat (Some (held_pin number)) (count_at old.counts seat + 1)
+  pub new_is : new ≡ with_hold old seat (Some (held_pin number)) (count_at old.counts seat + 1)
 
 -- why a number isn't held: all seats are other numbers'. Want of memory may come at any place
 abbrev pub RefusesHold : OwnedView → ℕ → HoldError → Type 0
@@ -69,7 +69,7 @@ RefusesHold o number OutOfMemory = Unit {0}
 pub record ReleasesOnce (old : OwnedView) (number : ℕ) (new : OwnedView) : Type 0 where
   pub seat : ℕ
   pub is_of : IsSeatOf old number seat
-  pub new_is : new ≡ with_seat old seat (if count_at old.counts seat == 1 then None else Some (held_pin number))
+  pub new_is : new ≡ with_hold old seat (if count_at old.counts seat == 1 then None else Some (held_pin number))
       (count_at old.counts seat - 1)
 
 -- a hold is taken back: of a former opening nothing is left to release, and of this one the number is held once less

@@ -4,11 +4,11 @@ use Rattle.std.specs.List.{sum_by}
 use Rattle.graph_types.specs.declared.batches.{Batch.Batch, NamedOp.NamedOp}
 use Rattle.graph_version.specs.{Batches.batch_value, declared.versions.Version.Version, Versions.{VersionView, is_in}}
 use Rattle.batch_apply.specs.declared.plans.Plan.{Plan}
-use Rattle.batch_shards.specs.RowBlocks.{blocks_of, numbers_of}
+use Rattle.batch_shards.specs.RowBlocks.{shared_blocks, shared_numbers}
 use Rattle.block_reclamation.specs.{Status.is_retired, declared.status.BlockStatus.TheVariants.{Free, Granted}}
 use Rattle.block_pool.specs.Pools.{marked, AreFree}
 use Rattle.store_steps.specs.Desks.{DeskView, desk_after}
-use Rattle.desk.specs.{Applying.IsPrepared, Tables.IsTableOf, Kept.{IsKept, desk_with}, declared.{applying.Prepared.Prepared, desks.Parts.Parts, ready.Load.Load}}
+use Rattle.desk.specs.{Applying.IsPrepared, Tables.IsTableOf, Kept.{IsKeptDesk, desk_with}, declared.{applying.Prepared.Prepared, desks.Parts.Parts, ready.Load.Load}}
 use Rattle.graph_version.specs.Rows as rows
 
 -- Granted
@@ -25,7 +25,7 @@ old_of parts numbers = desk_with parts (marked numbers Free parts.pool)
 
 -- blocks of these numbers were granted to the desk of before, with which all that it keeps would be kept
 pub record IsGranted (parts : Parts) (numbers : List ℕ) : Type 0 where
-  pub before : IsKept (old_of parts numbers) parts.journal.keeps parts.journal.room
+  pub before : IsKeptDesk (old_of parts numbers) parts.journal.keeps parts.journal.room
   pub free : AreFree (old_of parts numbers).pool numbers
   pub granted : parts.pool ≡ marked numbers Granted (old_of parts numbers).pool
 
@@ -35,8 +35,8 @@ pub record IsLoad (v : VersionView) (ops : List NamedOp) (plan : Plan) (load : L
   pub plan_is : load.plan ≡ plan
   pub batch_is : batch_value load.batch ≡ ops
   pub enough : sum_by (λ n. n) plan.needs.items ≤ length load.blocks.items
-  pub distinct : AllPairs ◌≢◌ (numbers_of load.blocks.items)
-  pub unlisted : All (λ n. is_in n (rows.numbers_of (rows.blocks_of v.rows)) ≡ false) (numbers_of load.blocks.items)
+  pub distinct : AllPairs ◌≢◌ (shared_numbers load.blocks.items)
+  pub unlisted : All (λ n. is_in n (rows.numbers_of (rows.blocks_of v.rows)) ≡ false) (shared_numbers load.blocks.items)
   pub table : IsTableOf v.rows load.table
 
 -- Ready
@@ -51,7 +51,7 @@ abbrev pub ops_of : Prepared → List NamedOp
 ops_of p = arc_value {X = Batch} p.batch
 
 abbrev pub new_of : DeskView → Prepared → DeskView
-new_of old p = desk_after old (ops_of p) (arc_value {X = Version} p.version) p.taken (blocks_of p.dropped.items)
+new_of old p = desk_after old (ops_of p) (arc_value {X = Version} p.version) p.taken (shared_blocks p.dropped.items)
 
 abbrev pub ready_of : Parts → List ℕ → Prepared → ReadyView
 ready_of parts numbers p =

@@ -2,10 +2,9 @@
 use Rattle.std.specs.{Prelude.{◌≡◌, ℕ, ◌+◌, ◌<◌, ◌≤◌, if◌then◌else◌, List, length}, List.list_any}
 use Rattle.graph_types.specs.{Graph.Graph, Step.is_expire, declared.batches.NamedOp.NamedOp}
 use Rattle.graph_version.specs.{Rows.blocks_of, Rows.row_of, Versions.VersionView, Versions.content}
-use Rattle.batch_apply.specs.{Planned.IsPlan, Planned.IsPlanRefusal, Planned.MeetsNeitherLimit, declared.plans.Plan.Plan}
-use Rattle.desk.specs.declared.errors.ApplyError.{ApplyError}
-use Rattle.desk.specs.declared.errors.ApplyError.TheVariants.{BatchLimit, NamesFull, KindsFull, PoolEmpty, OutOfMemory}
-use Rattle.batch_apply.specs.declared.plans.PlanError.TheVariants as plan
+use Rattle.graph_types.specs.{Refusals.{MeetsNeitherLimit, IsLimitRefusal}, declared.refusals.ApplyError.ApplyError}
+use Rattle.graph_types.specs.declared.refusals.ApplyError.TheVariants.{BatchLimit, NamesFull, KindsFull, PoolEmpty, OutOfMemory}
+use Rattle.batch_apply.specs.{Planned.IsPlan, declared.plans.Plan.Plan}
 
 -- how many blocks a batch asks for behind a version with so many blocks: one for each operation, and where an operation expires
 -- edges, as many more as the version has. They must be free, though fewer may be granted, and fewer taken
@@ -29,8 +28,8 @@ pub record Attempt : Type 0 where
 -- kinds than the limits; where it asks for more blocks than are free. Want of memory may come at any place.
 abbrev pub BatchRefusal : Attempt → ApplyError → Type 0
 BatchRefusal a BatchLimit = a.graph.limits.batches ≤ a.batches
-BatchRefusal a NamesFull = (a.batches < a.graph.limits.batches) × IsPlanRefusal plan.NamesFull a.ops a.graph
-BatchRefusal a KindsFull = (a.batches < a.graph.limits.batches) × IsPlanRefusal plan.KindsFull a.ops a.graph
+BatchRefusal a NamesFull = (a.batches < a.graph.limits.batches) × IsLimitRefusal NamesFull a.ops a.graph
+BatchRefusal a KindsFull = (a.batches < a.graph.limits.batches) × IsLimitRefusal KindsFull a.ops a.graph
 BatchRefusal a (PoolEmpty needed left) =
     (a.batches < a.graph.limits.batches) × MeetsNeitherLimit a.ops a.graph × (needed ≡ asked a.ops a.used) × (left ≡ a.free)
     × (a.free < asked a.ops a.used)

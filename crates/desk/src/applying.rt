@@ -8,23 +8,23 @@ ghost use Rattle.graph_version.specs.Rows as rows;
 ghost use Rattle.graph_version.specs.Batches.{batch_value};
 ghost use Rattle.graph_version.specs.Versions.{VersionView, content};
 ghost use Rattle.batch_apply.specs.Rewritten.{IsRewritten};
-ghost use Rattle.batch_shards.specs.RowBlocks.{numbers_of};
-ghost use Rattle.block_reclamation.specs.Status.{is_listed, is_free, is_in_use, most_blocks};
+ghost use Rattle.batch_shards.specs.RowBlocks.{shared_numbers};
+ghost use Rattle.block_reclamation.specs.Status.{is_among, is_free, is_in_use, most_blocks};
 ghost use Rattle.block_pool.specs.Pools.{AreFree, marked};
 ghost use Rattle.block_reclamation.specs.declared.status.BlockStatus.TheVariants.{Granted};
 ghost use Rattle.desk.specs.Applying.{IsPrepared};
 ghost use Rattle.desk.specs.Refusals.{Refuses, RefusesGrant, IsPlanned, asked};
 
-use crate::errors::ApplyError;
-use batch_apply::{Applied, Plan, PlanError, Rewritten, plan};
+use batch_apply::{Applied, Plan, Rewritten, plan};
 use block_pool::{Grant, Pool};
 use edge_block::Block;
-use graph_types::{Batch, List, Outcome, VertexId};
+use graph_types::{ApplyError, Batch, List, Outcome, VertexId};
 use graph_version::Version;
 use std::alloc::{AllocError, Global};
 use std::sync::Arc;
 
 /// The plan of a batch after this version, for one worker.
+#[tactic(auto, using(crate::proofs::Refused::plan_refuses))]
 pub(crate) fn plan_next(alloc: Global, last: &Version, batch: &Batch) -> Result<Plan, ApplyError>
     ensures planned { IfOk result (IsPlanned last.now 1 batch.now) }
     ensures refused { IfErr result (λ e. (free : ℕ) → Refuses last.now free batch.now e) }
@@ -32,12 +32,7 @@ pub(crate) fn plan_next(alloc: Global, last: &Version, batch: &Batch) -> Result<
     if last.number() >= u64::from(last.limits().batches()) {
         return Err(ApplyError::BatchLimit);
     }
-    match plan(alloc, last, batch, 1) {
-        Ok(plan) => Ok(plan),
-        Err(PlanError::NamesFull) => Err(ApplyError::NamesFull),
-        Err(PlanError::KindsFull) => Err(ApplyError::KindsFull),
-        Err(PlanError::OutOfMemory) => Err(ApplyError::OutOfMemory),
-    }
+    Ok(plan(alloc, last, batch, 1)?)
 }
 
 /// How many blocks a batch asks for behind a version that uses so many.
@@ -55,25 +50,14 @@ pub(crate) fn grant_blocks(pool: &mut Pool, batch: &Batch, plan: &Plan) -> Resul
     requires { sum_by (λ n. n) plan.now.needs.items ≤ asked batch.now (count_by is_in_use pool.old) }
     ensures numbers { IfOk result (λ g. AreFree pool.old g.numbers.items
         × (length g.numbers.items ≡ sum_by (λ n. n) plan.now.needs.items)) }
-    ensures blocks { IfOk result (λ g. numbers_of g.blocks.items ≡ g.numbers.items) }
+    ensures blocks { IfOk result (λ g. shared_numbers g.blocks.items ≡ g.numbers.items) }
     ensures used { IfOk result (λ g. pool.new ≡ marked g.numbers.items Granted pool.old) }
     ensures enough { OnOk result (asked batch.now (count_by is_in_use pool.old) ≤ count_by is_free pool.old) }
     ensures refused { IfErr result (RefusesGrant (asked batch.now (count_by is_in_use pool.old)) (count_by is_free pool.old)) }
     ensures unchanged { OnErr result (pool.new ≡ pool.old) }
 {
-    let free = pool.free();
     let asked = asked_by(batch, pool.used());
-    if asked > free {
-        return Err(ApplyError::PoolEmpty {
-            needed: asked,
-            free,
-        });
-    }
-    // So many are free, and so memory alone can be wanting.
-    let Ok(grant) = pool.grant(plan.blocks_needed() as u32) else {
-        return Err(ApplyError::OutOfMemory);
-    };
-    Ok(grant)
+    Ok(pool.grant_of(asked, plan.blocks_needed() as u32)?)
 }
 
 /// The number of the version after this one.
@@ -99,7 +83,7 @@ pub(crate) struct Prepared {
 
 /// The numbers of blocks, in their order.
 fn numbers_in(alloc: Global, blocks: &[Arc<Block>]) -> Result<Vec<u32>, AllocError>
-    ensures { IfOk result (λ v. v.items ≡ numbers_of blocks.now) }
+    ensures { IfOk result (λ v. v.items ≡ shared_numbers blocks.now) }
 {
     let mut numbers = Vec::with_capacity(alloc, blocks.len())?;
     for block in blocks {

@@ -2,7 +2,7 @@
 
 ghost use Rattle.std.specs.Prelude.{◌≡◌, ◌<◌};
 ghost use Rattle.block_reclamation.specs.declared.copies.TheConstants.{SEATS};
-ghost use Rattle.desk.specs.Copies.{pin_in};
+ghost use Rattle.desk.specs.Copies.{kept_pin};
 
 use block_reclamation::{PinCopy, SEATS};
 use std::marker::Model;
@@ -38,11 +38,11 @@ struct KeptPins {
 
 impl Model for KeptPins {
     ghost use Rattle.std.specs.Prelude.{List, Option, ℕ};
-    ghost use Rattle.desk.specs.Copies.{pins_of};
+    ghost use Rattle.desk.specs.Copies.{kept_pins};
 
     ghost Value = { List (Option ℕ) };
 
-    ghost view = { λ p. pins_of p.are_there p.numbers };
+    ghost view = { λ p. kept_pins p.are_there p.numbers };
 }
 
 impl KeptCopy {
@@ -96,7 +96,7 @@ impl KeptPins {
 
     fn pin(&self, seat: usize) -> Option<u64>
         requires { seat < SEATS }
-        ensures { result ≡ pin_in self.now seat }
+        ensures { result ≡ kept_pin self.now seat }
     {
         if self.are_there[seat] {
             Some(self.numbers[seat])

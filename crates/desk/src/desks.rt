@@ -18,16 +18,16 @@ ghost use Rattle.store_steps.specs.Desks.{IsDesk, IsCollected, births_in, collec
 ghost use Rattle.store_steps.specs.Dates.{AreDated};
 ghost use Rattle.store_steps.specs.Opening.{IsVersionZero, opened_desk};
 ghost use Rattle.store_steps.specs.Steps.{Accepts, TakesAt, recycling};
-ghost use Rattle.batch_shards.specs.RowBlocks.{numbers_of};
+ghost use Rattle.batch_shards.specs.RowBlocks.{shared_numbers};
 ghost use Rattle.desk.specs.Ready.{IsLoad};
 ghost use Rattle.desk.specs.Refusals.{Refuses, IsWithin, IsPlanned, block_count};
-ghost use Rattle.desk.specs.Kept.{entry_of};
+ghost use Rattle.desk.specs.Kept.{journal_entry};
 ghost use Rattle.desk.specs.Openings.{OpensWith, RefusesOpening};
 
 use crate::applying::plan_next;
 use crate::copies::KeptCopy;
 use crate::entries::JournalEntry;
-use crate::errors::{ApplyError, OpenError};
+use crate::errors::OpenError;
 use crate::journals::Journal;
 use crate::last::Last;
 use crate::ready::{Accepted, Granted, Load, Ready, grant_for};
@@ -37,7 +37,7 @@ use batch_apply::{Plan, apply_alone_over};
 use block_pool::Pool;
 use block_reclamation::PinCopy;
 use core::mem::replace_with;
-use graph_types::{Batch, Limits};
+use graph_types::{ApplyError, Batch, Limits, List};
 use graph_version::Version;
 use std::alloc::{AllocError, Global};
 use std::marker::Model;
@@ -77,7 +77,7 @@ impl Model for Desk {
     ghost use Rattle.std.specs.Coded.{codes};
     ghost use Rattle.graph_types.specs.Coded.{graph_code};
     ghost use Rattle.store_steps.specs.Desks.{DeskView};
-    ghost use Rattle.desk.specs.Kept.{IsKept, desk_in};
+    ghost use Rattle.desk.specs.Kept.{IsKeptDesk, desk_in};
 
     ghost Value = { DeskView };
 
@@ -86,7 +86,7 @@ impl Model for Desk {
     ghost view = { λ d. desk_in d.parts.value };
 
     ghost invariant = { λ d.
-        IsKept (desk_in d.parts.value) d.parts.value.journal.keeps d.parts.value.journal.room };
+        IsKeptDesk (desk_in d.parts.value) d.parts.value.journal.keeps d.parts.value.journal.room };
 }
 
 /// What a collection answers: its floor, how many blocks it recycled, and how many stay retired.
@@ -191,7 +191,7 @@ impl Desk {
     pub fn grant(self, batch: Arc<Batch>, plan: Plan) -> Result<(Granted, Load), (Desk, ApplyError)>
         requires planned { (workers : ℕ) × IsPlanned self.last workers (batch_value batch) plan }
         ensures granted { IfOk result (λ r. r.0
-            ≡ record { old = self; ops = batch_value batch; numbers = numbers_of r.1.blocks.items }) }
+            ≡ record { old = self; ops = batch_value batch; numbers = shared_numbers r.1.blocks.items }) }
         ensures load { IfOk result (λ r. IsLoad self.last (batch_value batch) plan r.1) }
         ensures within { OnOk result (IsWithin self.last (count_by is_free self.pool) (batch_value batch)) }
         ensures refused { IfErr result (λ e. Refuses self.last (count_by is_free self.pool) (batch_value batch) e.1) }
@@ -366,7 +366,7 @@ impl Desk {
     /// legally, to the last version's batches and to what each block is. So no block was born or retired with a number above the
     /// last version's, and the used blocks are those of the last version.
     pub fn journal(&self) -> &[JournalEntry]
-        ensures entries { keeps_batches self.now.last.opening.limits ≡ true → map entry_of result.now ≡ self.now.journal }
+        ensures entries { keeps_batches self.now.last.opening.limits ≡ true → map journal_entry result.now ≡ self.now.journal }
         ensures replays { IsDesk self.now }
         ensures dated { AreDated self.now.opened (length self.now.last.batches) self.now.pool }
         ensures used { count_by is_in_use self.now.pool ≡ block_count self.now.last }

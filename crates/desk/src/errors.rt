@@ -3,32 +3,6 @@
 use std::alloc::AllocError;
 use thiserror::Error;
 
-/// Why a batch was refused: the first of these that holds. Want of memory may come at any place.
-#[derive(Clone, Copy, Debug, PartialEq, Eq, Error)]
-pub enum ApplyError {
-    #[error("as many batches were applied as the limit allows")]
-    BatchLimit,
-    #[error("the batch would leave more vertex names than the limit allows")]
-    NamesFull,
-    #[error("the batch would leave more kinds than the limit allows")]
-    KindsFull,
-    #[error("{needed} blocks are needed and {free} are free")]
-    PoolEmpty { needed: u32, free: u32 },
-    #[error("out of memory")]
-    OutOfMemory,
-}
-
-impl From<AllocError> for ApplyError {
-    ghost use Rattle.std.specs.Prelude.{◌≡◌};
-    ghost use Rattle.desk.specs.declared.errors.ApplyError.TheVariants.{OutOfMemory};
-
-    ghost from_gives = { λ _ e. e ≡ OutOfMemory };
-
-    fn from(_error: AllocError) -> ApplyError {
-        ApplyError::OutOfMemory
-    }
-}
-
 /// Why no desk was opened over a version.
 #[derive(Clone, Copy, Debug, PartialEq, Eq, Error)]
 pub enum OpenError {

@@ -1,7 +1,7 @@
 //! The journal: in the proofs all entries, and in memory those of a store that keeps its batches.
 
 ghost use Rattle.std.specs.Prelude.{◌≡◌, ◌+◌, ◌<◌, ◌≤◌, ◌++◌, ◌∷◌, [], true, map, OnOk, vec_capacity, vec_len};
-ghost use Rattle.desk.specs.Entries.{entry_of};
+ghost use Rattle.desk.specs.Entries.{journal_entry};
 
 use crate::entries::JournalEntry;
 use crate::told::ToldEntries;
@@ -29,7 +29,7 @@ impl Drop for Journal {
 impl Model for Journal {
     ghost use Rattle.std.specs.Prelude.{◌≡◌, true, map, vec_capacity, vec_len};
     ghost use Rattle.desk.specs.Journals.{JournalView, room_of};
-    ghost use Rattle.desk.specs.Entries.{entry_of};
+    ghost use Rattle.desk.specs.Entries.{journal_entry};
 
     ghost Value = { JournalView };
 
@@ -39,7 +39,7 @@ impl Model for Journal {
       room = room_of j.keeps (vec_len j.kept) (vec_capacity j.kept);
     } };
 
-    ghost invariant = { λ j. j.keeps ≡ true → map entry_of j.kept.items ≡ j.told };
+    ghost invariant = { λ j. j.keeps ≡ true → map journal_entry j.kept.items ≡ j.told };
 }
 
 impl Journal {
@@ -71,7 +71,7 @@ impl Journal {
     /// Appends an entry, for which there is room. It takes no memory.
     pub(crate) fn enter(&mut self, entry: JournalEntry)
         requires { 0 < self.old.room }
-        ensures entered { self.new.entries ≡ self.old.entries ++ entry_of entry ∷ [] }
+        ensures entered { self.new.entries ≡ self.old.entries ++ journal_entry entry ∷ [] }
         ensures keeps { self.new.keeps ≡ self.old.keeps }
         ensures room { self.old.room ≤ self.new.room + 1 }
     {
@@ -84,7 +84,7 @@ impl Journal {
 
     /// The entries, where they are kept.
     pub(crate) fn entries(&self) -> &[JournalEntry]
-        ensures { self.now.keeps ≡ true → map entry_of result.now ≡ self.now.entries }
+        ensures { self.now.keeps ≡ true → map journal_entry result.now ≡ self.now.entries }
     {
         self.kept.as_slice()
     }

@@ -29,6 +29,7 @@ mod zero;
 pub use copies::KeptCopy;
 pub use desks::{Collected, Desk, Stat};
 pub use entries::JournalEntry;
-pub use errors::{ApplyError, HoldError, OpenError, ReleaseError};
+pub use errors::{HoldError, OpenError, ReleaseError};
+pub use graph_types::ApplyError;
 pub use owned::{Held, Hold, OwnedDesk};
 pub use ready::{Accepted, Granted, Load, Ready};

@@ -1,9 +1,9 @@
 //! Moves of blocks between the pool's sets, in time by their count. None of these takes memory.
 
 ghost use Rattle.std.specs.Prelude.{◌≡◌};
-ghost use Rattle.block_pool.specs.Pools.{marked, changed, retired};
+ghost use Rattle.block_pool.specs.Pools.{marked, changed_numbers, retired};
 ghost use Rattle.block_reclamation.specs.declared.status.BlockStatus.TheVariants.{Free, Used};
-ghost use Rattle.batch_shards.specs.RowBlocks.{numbers_of};
+ghost use Rattle.batch_shards.specs.RowBlocks.{shared_numbers};
 ghost use Rattle.desk.specs.Applying.{AreUsedOnce, AreBornOnce};
 
 use block_pool::Pool;
@@ -22,8 +22,8 @@ pub(crate) fn give_back_numbers(pool: &mut Pool, mut numbers: Vec<u32>)
 
 /// Gives back what was granted, with the blocks.
 pub(crate) fn give_back_blocks(pool: &mut Pool, mut blocks: Vec<Arc<Block>>)
-    requires { AreUsedOnce (numbers_of blocks.items) pool.old }
-    ensures { pool.new ≡ marked (numbers_of blocks.items) Free pool.old }
+    requires { AreUsedOnce (shared_numbers blocks.items) pool.old }
+    ensures { pool.new ≡ marked (shared_numbers blocks.items) Free pool.old }
 {
     while let Some(block) = blocks.pop() {
         pool.give_back(block.number(), Some(block));
@@ -44,8 +44,8 @@ pub(crate) fn born_blocks(pool: &mut Pool, taken: &[u32], version: u64)
 
 /// Retires blocks with the number of the version that leaves them out.
 pub(crate) fn retire_blocks(pool: &mut Pool, mut blocks: Vec<Arc<Block>>, version: u64)
-    requires { AreBornOnce (numbers_of blocks.items) pool.old }
-    ensures { pool.new ≡ changed (retired version) (numbers_of blocks.items) pool.old }
+    requires { AreBornOnce (shared_numbers blocks.items) pool.old }
+    ensures { pool.new ≡ changed_numbers (retired version) (shared_numbers blocks.items) pool.old }
 {
     while let Some(block) = blocks.pop() {
         pool.retire(block, version);
@@ -59,9 +59,9 @@ pub(crate) fn move_blocks(
     unused: Vec<Arc<Block>>,
     version: u64,
 )
-    requires dropped { AreBornOnce (numbers_of dropped.items) pool.old }
-    requires unused { AreUsedOnce (numbers_of unused.items) (changed (retired version) (numbers_of dropped.items) pool.old) }
-    ensures { pool.new ≡ marked (numbers_of unused.items) Free (changed (retired version) (numbers_of dropped.items) pool.old) }
+    requires dropped { AreBornOnce (shared_numbers dropped.items) pool.old }
+    requires unused { AreUsedOnce (shared_numbers unused.items) (changed_numbers (retired version) (shared_numbers dropped.items) pool.old) }
+    ensures { pool.new ≡ marked (shared_numbers unused.items) Free (changed_numbers (retired version) (shared_numbers dropped.items) pool.old) }
 {
     retire_blocks(pool, dropped, version);
     give_back_blocks(pool, unused);

@@ -14,15 +14,15 @@ ghost use Rattle.store_steps.specs.Desks.{IsCollected, births_in};
 ghost use Rattle.store_steps.specs.Opening.{IsVersionZero, opened_desk};
 ghost use Rattle.store_steps.specs.Steps.{Accepts, TakesAt, recycling};
 ghost use Rattle.desk.specs.Owned.{opened_owned, HoldsOnce, RefusesHold, IsReleased, RefusesRelease, copied};
-ghost use Rattle.desk.specs.Owned.{IsSeatFor, IsSeatOf, ReleasesOnce, count_at, held_pin, with_seat};
+ghost use Rattle.desk.specs.Owned.{IsSeatFor, IsSeatOf, ReleasesOnce, count_at, held_pin, with_hold};
 ghost use Rattle.desk.specs.Refusals.{Refuses, IsWithin};
 
 use crate::desks::{Collected, Desk};
-use crate::errors::{ApplyError, HoldError, ReleaseError};
+use crate::errors::{HoldError, ReleaseError};
 use crate::ready::Accepted;
 use crate::seats::seat_with;
 use block_reclamation::{Board, Pin, SEATS, SeatNo};
-use graph_types::Batch;
+use graph_types::{ApplyError, Batch};
 use graph_version::Version;
 use std::alloc::AllocError;
 use std::marker::Model;
@@ -254,7 +254,7 @@ impl OwnedDesk {
         requires seat { IsSeatFor self.old number seat }
         requires number { number ≡ length self.old.desk.last.batches }
         requires count { count ≡ count_at self.old.counts seat + 1 }
-        ensures { self.new ≡ with_seat self.old seat (Some (held_pin number)) count }
+        ensures { self.new ≡ with_hold self.old seat (Some (held_pin number)) count }
     {
         self.board.pin(seat);
         self.board.settle(seat, number);

@@ -8,7 +8,7 @@ ghost use Rattle.graph_types.specs.Step.{outcomes};
 ghost use Rattle.graph_version.specs.Batches.{batch_value};
 ghost use Rattle.graph_version.specs.declared.versions.Version.{Version};
 ghost use Rattle.graph_version.specs.Versions.{VersionView, content};
-ghost use Rattle.batch_shards.specs.RowBlocks.{numbers_of};
+ghost use Rattle.batch_shards.specs.RowBlocks.{shared_numbers};
 ghost use Rattle.batch_apply.specs.Rewritten.{IsRewritten};
 ghost use Rattle.block_reclamation.specs.Status.{is_free, is_retired};
 ghost use Rattle.block_reclamation.specs.declared.status.BlockStatus.TheVariants as statuses;
@@ -23,12 +23,11 @@ ghost use Rattle.desk.specs.Refusals.{Refuses, IsWithin, IsPlanned};
 use crate::applying::{Prepared, grant_blocks, made_of, next_number};
 use crate::desks::{Desk, Parts};
 use crate::entries::JournalEntry;
-use crate::errors::ApplyError;
 use crate::moves::{born_blocks, give_back_numbers, move_blocks};
 use batch_apply::{Plan, Rewritten};
 use block_pool::Grant;
 use edge_block::Block;
-use graph_types::{Batch, List, Outcome};
+use graph_types::{ApplyError, Batch, List, Outcome};
 use graph_version::{RowTable, Version};
 use std::alloc::AllocError;
 use std::marker::Model;
@@ -212,7 +211,7 @@ pub(crate) fn grant_for(
     requires planned { (workers : ℕ) × IsPlanned (desk_in parts.old).last workers (batch_value batch.now) plan }
     ensures free { IfOk result (λ r. AreFree parts.old.pool r.0.items) }
     ensures granted { IfOk result (λ r. parts.new.pool ≡ marked r.0.items statuses.Granted parts.old.pool) }
-    ensures numbers { IfOk result (λ r. r.0.items ≡ numbers_of r.1.blocks.items) }
+    ensures numbers { IfOk result (λ r. r.0.items ≡ shared_numbers r.1.blocks.items) }
     ensures load { IfOk result (λ r. IsLoad (desk_in parts.old).last (batch_value batch.now) plan r.1) }
     ensures within { OnOk result (IsWithin (desk_in parts.old).last (count_by is_free parts.old.pool) (batch_value batch.now)) }
     ensures refused { IfErr result (Refuses (desk_in parts.old).last (count_by is_free parts.old.pool) (batch_value batch.now)) }

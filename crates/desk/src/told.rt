@@ -1,7 +1,7 @@
 //! Entries that stand in the proofs alone.
 
 ghost use Rattle.std.specs.Prelude.{◌≡◌, ◌++◌, ◌∷◌, []};
-ghost use Rattle.desk.specs.Entries.{entry_of};
+ghost use Rattle.desk.specs.Entries.{journal_entry};
 
 use crate::entries::JournalEntry;
 use logbook::{Opening as Opens, Pens, Rule, Seen, Start};
@@ -71,9 +71,9 @@ struct OneMore;
 
 impl Opens<Longer, AnyEntry> for OneMore {
     ghost use Rattle.std.specs.Prelude.{◌++◌, ◌∷◌, []};
-    ghost use Rattle.desk.specs.Entries.{entry_of};
+    ghost use Rattle.desk.specs.Entries.{journal_entry};
 
-    ghost log = { λ count longer. longer.told ++ entry_of longer.entry ∷ [] };
+    ghost log = { λ count longer. longer.told ++ journal_entry longer.entry ∷ [] };
 }
 
 impl ToldEntries {
@@ -96,7 +96,7 @@ impl ToldEntries {
 
     /// The list with one entry more, and the entry.
     pub(crate) fn and(self, entry: JournalEntry) -> (ToldEntries, JournalEntry)
-        ensures told { result.0 ≡ self ++ entry_of entry ∷ [] }
+        ensures told { result.0 ≡ self ++ journal_entry entry ∷ [] }
         ensures entry { result.1 ≡ entry }
     {
         let longer = Longer { told: self, entry };

@@ -4,12 +4,13 @@ use Rattle.std.specs.Prelude.{Result, Ok, Err}
 use Rattle.graph_types.specs.{Limits.most_operations, declared.batches.NamedOp.NamedOp}
 use Rattle.block_reclamation.specs.Status.{is_free}
 use Rattle.desk.specs.{Owned.OwnedView, Refusals.Refuses}
-use Rattle.desk.specs.declared.{errors.ApplyError.ApplyError, ready.Accepted.Accepted}
-use Rattle.desk.specs.declared.errors.ApplyError.TheVariants.{BatchLimit, NamesFull, KindsFull, PoolEmpty, OutOfMemory as ApplyOutOfMemory}
+use Rattle.graph_types.specs.declared.refusals.ApplyError.{ApplyError}
+use Rattle.desk.specs.declared.ready.Accepted.{Accepted}
+use Rattle.graph_types.specs.declared.refusals.ApplyError.TheVariants.{BatchLimit, NamesFull, KindsFull, PoolEmpty, OutOfMemory as ApplyOutOfMemory}
 use Rattle.batch_columns.specs.Dictionaries.{in_order, Insertions, IsInserted}
 use Rattle.batch_columns.proofs.OneMore.{one_more, inserted_op, one_longer}
 use Rattle.desk_counts.specs.{declared.counts.Counts.Counts, Counted.with_outcomes}
-use Rattle.desk_columns.specs.Feeding.{are_alike, AreIn, AreIn.Begin, CollectsFor, Collects, ComesBefore, IsApplied, IsTried, RefusesBatch, RefusesPart, RefusesRest, Takes}
+use Rattle.desk_columns.specs.Feeding.{are_alike_columns, AreIn, AreIn.Begin, CollectsFor, Collects, ComesBefore, IsFeedApplied, IsTried, RefusesBatch, RefusesPart, RefusesRest, TakesFeed}
 use Rattle.desk_columns.specs.declared.columns.InsertColumnsError.{InsertColumnsError}
 use Rattle.desk_columns.specs.declared.columns.InsertColumnsError.TheVariants.{BadLength, BadInsertion, Refused, OutOfMemory}
 
@@ -34,7 +35,7 @@ collected_before old from ops (Err ApplyOutOfMemory) collects = inr collects
 
 -- a batch that is refused, and not for its blocks
 pub tried_once : (old new : OwnedView) (ops : List NamedOp) (error : ApplyError)
-    → ((needed left : ℕ) → error ≡ PoolEmpty needed left → ⊥) → IsApplied old ops (Err error) new → IsTried old ops (Err error) new
+    → ((needed left : ℕ) → error ≡ PoolEmpty needed left → ⊥) → IsFeedApplied old ops (Err error) new → IsTried old ops (Err error) new
 tried_once old new ops BatchLimit other applied = record { from = old; collected = inl refl; applied = applied }
 tried_once old new ops NamesFull other applied = record { from = old; collected = inl refl; applied = applied }
 tried_once old new ops KindsFull other applied = record { from = old; collected = inl refl; applied = applied }
@@ -44,16 +45,16 @@ tried_once old new ops ApplyOutOfMemory other applied = record { from = old; col
 -- a batch that is applied behind a collection
 pub tried_again : (old before from new : OwnedView) (ops again : List NamedOp) (needed left : ℕ) (answer : Result Accepted ApplyError)
     → before ≡ old → again ≡ ops → Refuses old.desk.last (count_by is_free old.desk.pool) ops (PoolEmpty needed left)
-    → Collects before from → IsApplied from again answer new → IsTried old ops answer new
+    → Collects before from → IsFeedApplied from again answer new → IsTried old ops answer new
 tried_again old before from new ops again needed left answer same one refused collects applied = record {
   from = from;
   collected = collected_before old from ops answer (needed, left, refused, subst (λ (o : OwnedView). Collects o from) same collects);
-  applied = subst (λ (b : List NamedOp). IsApplied from b answer new) one applied;
+  applied = subst (λ (b : List NamedOp). IsFeedApplied from b answer new) one applied;
 }
 
 -- a batch that is taken is counted, and one that is refused left no more than a collection
 pub taken_of : (old new : OwnedView) (counts counted : Counts) (ops : List NamedOp) (a : Accepted) → IsTried old ops (Ok a) new
-    → counted ≡ with_outcomes counts a.number a.outcomes → Takes old counts ops new counted
+    → counted ≡ with_outcomes counts a.number a.outcomes → TakesFeed old counts ops new counted
 taken_of old new counts counted ops a tried counted_is = record {
   from = tried.from;
   collected = tried.collected;
@@ -64,8 +65,8 @@ taken_of old new counts counted ops a tried counted_is = record {
       ∙ ap (with_outcomes counts (length new.desk.last.batches)) tried.applied.outcomes_are);
 }
 
-pub whole_of : (old new : OwnedView) (counts counted : Counts) (ops : List NamedOp) (a : Accepted) → IsApplied old ops (Ok a) new
-    → counted ≡ with_outcomes counts a.number a.outcomes → Takes old counts ops new counted
+pub whole_of : (old new : OwnedView) (counts counted : Counts) (ops : List NamedOp) (a : Accepted) → IsFeedApplied old ops (Ok a) new
+    → counted ≡ with_outcomes counts a.number a.outcomes → TakesFeed old counts ops new counted
 whole_of old new counts counted ops a applied =
     taken_of old new counts counted ops a (record { from = old; collected = inl refl; applied = applied })
 
@@ -77,14 +78,14 @@ refused_of old new ops error tried =
       subst (λ (o : OwnedView). Refuses o.desk.last (count_by is_free o.desk.pool) ops error) same tried.applied.refused,
     )
 
-pub refused_rest : (c : Insertions) (done : ℕ) (old new : OwnedView) (error : InsertColumnsError) → are_alike c ≡ true
+pub refused_rest : (c : Insertions) (done : ℕ) (old new : OwnedView) (error : InsertColumnsError) → are_alike_columns c ≡ true
     → done < length c.sources → RefusesPart c done old error new → RefusesRest c done old error new
 refused_rest c done old new BadLength alike left refused = absurd refused
 refused_rest c done old new (BadInsertion error) alike left refused = (alike, left, refused)
 refused_rest c done old new (Refused error) alike left refused = (alike, left, refused)
 refused_rest c done old new OutOfMemory alike left refused = (alike, left, refused)
 
-pub refused_at : (c : Insertions) (at done : ℕ) (old new : OwnedView) (error : InsertColumnsError) → done ≡ at → are_alike c ≡ true
+pub refused_at : (c : Insertions) (at done : ℕ) (old new : OwnedView) (error : InsertColumnsError) → done ≡ at → are_alike_columns c ≡ true
     → at < length c.sources → RefusesPart c at old error new → RefusesRest c done old error new
 refused_at c at done old new error same alike left refused =
     refused_rest c done old new error alike (subst (λ (n : ℕ). n < length c.sources) (sym same) left)

@@ -4,8 +4,9 @@ use Rattle.graph_types.specs.{Limits.{most_operations, operation_limit}, Step.ou
 use Rattle.graph_version.specs.Versions.{content}
 use Rattle.block_reclamation.specs.{Status.is_free}
 use Rattle.store_steps.specs.{Boards.raised_board, Desks.IsCollected, Steps.Accepts}
-use Rattle.desk.specs.{Owned.{OwnedView, copied}, Refusals.{Refuses, IsWithin}, declared.errors.ApplyError.ApplyError, declared.ready.Accepted.Accepted}
-use Rattle.desk.specs.declared.errors.ApplyError.TheVariants.{PoolEmpty}
+use Rattle.desk.specs.{Owned.{OwnedView, copied}, Refusals.{Refuses, IsWithin}, declared.ready.Accepted.Accepted}
+use Rattle.graph_types.specs.declared.refusals.ApplyError.{ApplyError}
+use Rattle.graph_types.specs.declared.refusals.ApplyError.TheVariants.{PoolEmpty}
 use Rattle.batch_columns.specs.Dictionaries.{Insertions, insertion_at, insertions_from, IsInserted}
 use Rattle.batch_columns.specs.declared.columns.InsertError.{InsertError}
 use Rattle.desk_columns.specs.declared.columns.Insertions.{Insertions as Lent}
@@ -28,8 +29,8 @@ columns_of lent =
     }
 
 -- the columns have one length
-abbrev pub are_alike : Insertions → Bool
-are_alike c =
+abbrev pub are_alike_columns : Insertions → Bool
+are_alike_columns c =
     (length c.targets == length c.sources) && (length c.weights == length c.sources) && (length c.times == length c.sources)
 
 -- a collection
@@ -53,7 +54,7 @@ ComesBefore (Err (PoolEmpty needed left)) ops old new = CollectsFor ops old new
 ComesBefore _ ops old new = MayCollect ops old new
 
 -- a batch is applied to a desk as it is, or refused
-pub record IsApplied (old : OwnedView) (ops : List NamedOp) (answer : Result Accepted ApplyError) (new : OwnedView) : Type 0 where
+pub record IsFeedApplied (old : OwnedView) (ops : List NamedOp) (answer : Result Accepted ApplyError) (new : OwnedView) : Type 0 where
   pub held : new ≡ record old { desk = new.desk }
   pub within : OnOk answer (IsWithin old.desk.last (count_by is_free old.desk.pool) ops)
   pub accepted : OnOk answer (Accepts old.desk ops new.desk)
@@ -66,10 +67,10 @@ pub record IsApplied (old : OwnedView) (ops : List NamedOp) (answer : Result Acc
 pub record IsTried (old : OwnedView) (ops : List NamedOp) (answer : Result Accepted ApplyError) (new : OwnedView) : Type 0 where
   pub from : OwnedView
   pub collected : ComesBefore answer ops old from
-  pub applied : IsApplied from ops answer new
+  pub applied : IsFeedApplied from ops answer new
 
 -- a batch is taken, and counted
-pub record Takes (old : OwnedView) (counts : Counts) (ops : List NamedOp) (new : OwnedView) (counted : Counts) : Type 0 where
+pub record TakesFeed (old : OwnedView) (counts : Counts) (ops : List NamedOp) (new : OwnedView) (counted : Counts) : Type 0 where
   pub from : OwnedView
   pub collected : MayCollect ops old from
   pub within : IsWithin from.desk.last (count_by is_free from.desk.pool) ops
@@ -83,7 +84,7 @@ RefusesBatch old ops error new =
     ComesBefore (Err error) ops old new × Refuses new.desk.last (count_by is_free new.desk.pool) ops error
 
 -- of so many insertions from a place on, the first that is refused
-pub record IsFirstRefused (c : Insertions) (at count : ℕ) (error : InsertError) : Type 0 where
+pub record IsFirstRefusedRow (c : Insertions) (at count : ℕ) (error : InsertError) : Type 0 where
   pub before : List NamedOp
   pub within : length before < count
   pub fit : insertions_from c at (length before) ≡ Some before
@@ -111,7 +112,7 @@ pub record TakesNext (c : Insertions) (at count : ℕ) (old : OwnedView) (counts
   pub count_is : count ≡ batch_length parts c at
   pub ops : List NamedOp
   pub are : insertions_from c at count ≡ Some ops
-  pub takes : Takes old counts ops new counted
+  pub takes : TakesFeed old counts ops new counted
 
 -- the insertions before a place are in, batch after batch from the first on, and counted
 pub data AreIn (first : OwnedView) (start : Counts) (c : Insertions) : ℕ → OwnedView → Counts → Type 0 where
@@ -122,18 +123,18 @@ pub data AreIn (first : OwnedView) (start : Counts) (c : Insertions) : ℕ → O
 -- why the batch of one part from a place on isn't in, and what it left
 abbrev pub RefusesPart : Insertions → ℕ → OwnedView → InsertColumnsError → OwnedView → Type 0
 RefusesPart c at old BadLength new = ⊥
-RefusesPart c at old (BadInsertion error) new = IsFirstRefused c at (batch_length 1 c at) error × (new ≡ old)
+RefusesPart c at old (BadInsertion error) new = IsFirstRefusedRow c at (batch_length 1 c at) error × (new ≡ old)
 RefusesPart c at old (Refused error) new =
     (ops : List NamedOp) × (insertions_from c at (batch_length 1 c at) ≡ Some ops) × RefusesBatch old ops error new
 RefusesPart c at old OutOfMemory new = new ≡ old
 
 -- the same of the whole, of which the insertions before a place are in; some are left where the columns have one length
 abbrev pub RefusesRest : Insertions → ℕ → OwnedView → InsertColumnsError → OwnedView → Type 0
-RefusesRest c done old BadLength new = (are_alike c ≡ false) × (done ≡ 0) × (new ≡ old)
-RefusesRest c done old error new = (are_alike c ≡ true) × (done < length c.sources) × RefusesPart c done old error new
+RefusesRest c done old BadLength new = (are_alike_columns c ≡ false) × (done ≡ 0) × (new ≡ old)
+RefusesRest c done old error new = (are_alike_columns c ≡ true) × (done < length c.sources) × RefusesPart c done old error new
 
 abbrev pub Ends : Insertions → ℕ → OwnedView → Result (Unit {0}) InsertColumnsError → OwnedView → Type 0
-Ends c done old (Ok _) new = (are_alike c ≡ true) × (done ≡ length c.sources) × (new ≡ old)
+Ends c done old (Ok _) new = (are_alike_columns c ≡ true) × (done ≡ length c.sources) × (new ≡ old)
 Ends c done old (Err error) new = RefusesRest c done old error new
 
 -- what a call with columns comes to: those before a place are in and counted, and that is all of them, or the rest is refused

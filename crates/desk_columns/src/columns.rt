@@ -8,7 +8,7 @@ ghost use Rattle.block_reclamation.specs.Status.{is_free};
 ghost use Rattle.batch_columns.specs.Dictionaries.{insertion_at, insertions_from, IsInserted};
 ghost use Rattle.desk_counts.specs.Counted.{none_counted, with_outcomes};
 ghost use Rattle.desk_columns.specs.Feeding as specs;
-ghost use Rattle.desk_columns.specs.Feeding.{columns_of, batch_length, most_parts, BearsParts, IsApplied, IsFirstRefused, IsTried, RefusesPart, Takes, TakesNext, Feeds};
+ghost use Rattle.desk_columns.specs.Feeding.{columns_of, batch_length, most_parts, BearsParts, IsFeedApplied, IsFirstRefusedRow, IsTried, RefusesPart, TakesFeed, TakesNext, Feeds};
 
 use batch_columns::{InsertError, insert_numbers};
 use desk::{Accepted, ApplyError, OwnedDesk};
@@ -55,7 +55,7 @@ fn insert_at(
     place: usize,
 ) -> Result<(), InsertError>
     requires within { place < length insertions.now.sources.now }
-    requires alike { specs.are_alike (columns_of insertions.now) ≡ true }
+    requires alike { specs.are_alike_columns (columns_of insertions.now) ≡ true }
     ensures { IsInserted most_operations (insertion_at (columns_of insertions.now) place) batch.old batch.new result }
 {
     insert_numbers(
@@ -81,9 +81,9 @@ fn batch_of(
 ) -> Result<Batch, InsertError>
     requires few { count ≤ most_operations }
     requires within { from + count ≤ length insertions.now.sources.now }
-    requires alike { specs.are_alike (columns_of insertions.now) ≡ true }
+    requires alike { specs.are_alike_columns (columns_of insertions.now) ≡ true }
     ensures batch { IfOk result (λ ops. insertions_from (columns_of insertions.now) from count ≡ Some ops) }
-    ensures refused { IfErr result (IsFirstRefused (columns_of insertions.now) from count) }
+    ensures refused { IfErr result (IsFirstRefusedRow (columns_of insertions.now) from count) }
 {
     let mut batch = Batch::with_room(alloc, count);
     let mut place = from;
@@ -98,7 +98,7 @@ fn batch_of(
 
 /// Applies a batch to the desk as it is, or refuses it.
 fn apply_once(desk: &mut OwnedDesk, batch: Arc<Batch>) -> Result<Accepted, ApplyError>
-    ensures { IsApplied desk.old (batch_value batch) result desk.new }
+    ensures { IsFeedApplied desk.old (batch_value batch) result desk.new }
 {
     desk.apply(batch)
 }
@@ -140,9 +140,9 @@ fn insert_whole(
 ) -> Result<(), InsertColumnsError>
     requires few { count ≤ most_operations }
     requires within { from + count ≤ length insertions.now.sources.now }
-    requires alike { specs.are_alike (columns_of insertions.now) ≡ true }
+    requires alike { specs.are_alike_columns (columns_of insertions.now) ≡ true }
     ensures taken { IfOk result (λ _. (ops : List NamedOp) × (insertions_from (columns_of insertions.now) from count ≡ Some ops)
-        × Takes desk.old counts.old ops desk.new counts.new) }
+        × TakesFeed desk.old counts.old ops desk.new counts.new) }
     ensures unchanged { OnErr result (desk.new ≡ desk.old) }
     ensures counts { OnErr result (counts.new ≡ counts.old) }
 {
@@ -174,9 +174,9 @@ fn insert_part(
 ) -> Result<(), InsertColumnsError>
     requires few { count ≡ batch_length 1 (columns_of insertions.now) from }
     requires within { from + count ≤ length insertions.now.sources.now }
-    requires alike { specs.are_alike (columns_of insertions.now) ≡ true }
+    requires alike { specs.are_alike_columns (columns_of insertions.now) ≡ true }
     ensures taken { IfOk result (λ _. (ops : List NamedOp) × (insertions_from (columns_of insertions.now) from count ≡ Some ops)
-        × Takes desk.old counts.old ops desk.new counts.new) }
+        × TakesFeed desk.old counts.old ops desk.new counts.new) }
     ensures refused { IfErr result (λ e. RefusesPart (columns_of insertions.now) from desk.old e desk.new) }
     ensures counts { OnErr result (counts.new ≡ counts.old) }
 {
@@ -220,7 +220,7 @@ fn insert_next(
     counts: &mut Counts,
 ) -> Result<usize, InsertColumnsError>
     requires within { from < length insertions.now.sources.now }
-    requires alike { specs.are_alike (columns_of insertions.now) ≡ true }
+    requires alike { specs.are_alike_columns (columns_of insertions.now) ≡ true }
     ensures taken { IfOk result (λ count. TakesNext (columns_of insertions.now) from count desk.old counts.old desk.new counts.new) }
     ensures refused { IfErr result (λ e. RefusesPart (columns_of insertions.now) from desk.old e desk.new) }
     ensures counts { OnErr result (counts.new ≡ counts.old) }
@@ -242,7 +242,7 @@ fn insert_next(
 
 /// Whether the columns have one length.
 fn are_alike(insertions: &Insertions<'_>) -> bool
-    ensures { result ≡ specs.are_alike (columns_of insertions.now) }
+    ensures { result ≡ specs.are_alike_columns (columns_of insertions.now) }
 {
     let count = insertions.sources.len();
     insertions.targets.len() == count

@@ -1,6 +1,7 @@
 -- How many of a batch's operations had each outcome.
 use Rattle.std.specs.Prelude.{◌≡◌, ℕ, ◌+◌, ◌%◌, ◌^◌, List, [], ◌∷◌, Bool, true, false, length, count_by, sum_by}
-use Rattle.graph_types.specs.declared.batches.Outcome.{Outcome, TheVariants.{Inserted, Updated, Removed, Absent, Overflow, Expired}}
+use Rattle.graph_types.specs.Outcomes.{expired_in}
+use Rattle.graph_types.specs.declared.batches.Outcome.{Outcome, TheVariants.{Inserted, Updated, Removed, Absent, Overflow}}
 use Rattle.desk_counts.specs.declared.counts.Counts.{Counts}
 
 abbrev pub was_inserted : Outcome → Bool
@@ -22,11 +23,6 @@ was_absent _ = false
 abbrev pub was_overflow : Outcome → Bool
 was_overflow Overflow = true
 was_overflow _ = false
-
--- how many edges an outcome says that an expiry took away
-abbrev pub expired_in : Outcome → ℕ
-expired_in (Expired count) = count
-expired_in _ = 0
 
 -- numbers as 64 bits have them
 abbrev pub wrapped : ℕ → ℕ

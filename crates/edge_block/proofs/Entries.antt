@@ -6,7 +6,7 @@ use Rattle.std.specs.{Prelude.◌||◌, Prelude.Contains, List.list_any, Option.
 use Rattle.std.specs.declared.option.Option.{Option, TheVariants.None, TheVariants.Some}
 use Rattle.std.proofs.lemmas.Grind.{common_steps}
 use Rattle.graph_types.{specs.Graph.{Key, Stamp}, proofs.{Arcs.contains_map, Counts.{Contains-cons, Contains-cons_cases}}}
-use Rattle.edge_block.specs.Slots.{Slot, BlockView, at_first, slot_at, stamp_at, holds, is_free, has_room_for, AreDistinct}
+use Rattle.edge_block.specs.Slots.{Slot, BlockView, at_first, stamp_in_slot, stamp_at, holds, is_free_slot, has_room_for, AreDistinct}
 use Rattle.edge_block.specs.{Slots.put_slot, Slots.take_slot, Slots.edges_in, Slots.entry_in, Slots.entries_of, Laws.StandsIn}
 use Rattle.edge_block.proofs.{Firsts.at_first-none, Changes.{set_first, set_unique, Fits, Puts, fits_key, fits_room, any_key, none_is}}
 
@@ -14,23 +14,23 @@ twice : {A : Type 0} (b : Bool) (x y z : A) → cond b x (cond b y z) ≡ cond b
 twice h0 x y z = grind (arith, common_steps)
 
 -- a slot with an edge, in place of another to the same target
-over : (e : Slot) (s : Option Slot) → holds e.target s ≡ true → Puts slot_at ◌==◌ eqb-true e.target (Some e.stamp) (Some e) s
+over : (e : Slot) (s : Option Slot) → holds e.target s ≡ true → Puts stamp_in_slot ◌==◌ eqb-true e.target (Some e.stamp) (Some e) s
 over e h1 h q = grind (arith, common_steps)
 
 -- a slot with an edge, in place of a free one
-into : (e : Slot) (s : Option Slot) → is_free s ≡ true → Puts slot_at ◌==◌ eqb-true e.target (Some e.stamp) (Some e) s
+into : (e : Slot) (s : Option Slot) → is_free_slot s ≡ true → Puts stamp_in_slot ◌==◌ eqb-true e.target (Some e.stamp) (Some e) s
 into e h1 h q = grind (arith, common_steps)
 
 none_there : (b : Bool) (x : Option Stamp) → None ≡ cond b None (cond b x None)
 none_there h0 x = grind (arith, common_steps)
 
 -- a free slot, in place of one with an edge to the target
-out_of : (target : ℕ) (s : Option Slot) → holds target s ≡ true → Puts slot_at ◌==◌ eqb-true target None None s
+out_of : (target : ℕ) (s : Option Slot) → holds target s ≡ true → Puts stamp_in_slot ◌==◌ eqb-true target None None s
 out_of target h1 h q = grind (arith, common_steps)
 
 -- a slot holds a target where a search finds it
 pub list_any-holds : (target : ℕ) (slots : List (Option Slot)) → list_any (holds target) slots ≡ is_some (stamp_at slots target)
-list_any-holds target slots = any_key slot_at ◌==◌ eqb-true target None slots
+list_any-holds target slots = any_key stamp_in_slot ◌==◌ eqb-true target None slots
 
 pub stamp_at-absent : (target : ℕ) (slots : List (Option Slot)) → list_any (holds target) slots ≡ false
     → stamp_at slots target ≡ None
@@ -46,43 +46,43 @@ held_both slots target = (absent_by_stamp target slots, stamp_at-absent target s
 
 module _ (e : Slot) (slots : List (Option Slot)) (distinct : AreDistinct slots) where
   fits_held : list_any (holds e.target) slots ≡ true
-      → Fits slot_at ◌==◌ eqb-true e.target (Some e.stamp) (holds e.target) (λ _. Some e) slots
-  fits_held h = fits_key slot_at ◌==◌ eqb-true e.target (Some e.stamp) (λ _. Some e) slots h distinct (λ k d within. over e _)
+      → Fits stamp_in_slot ◌==◌ eqb-true e.target (Some e.stamp) (holds e.target) (λ _. Some e) slots
+  fits_held h = fits_key stamp_in_slot ◌==◌ eqb-true e.target (Some e.stamp) (λ _. Some e) slots h distinct (λ k d within. over e _)
 
-  fits_free : list_any (holds e.target) slots ≡ false → list_any is_free slots ≡ true
-      → Fits slot_at ◌==◌ eqb-true e.target (Some e.stamp) is_free (λ _. Some e) slots
-  fits_free h room = fits_room slot_at ◌==◌ eqb-true e.target (Some e.stamp) is_free (λ _. Some e) slots room
+  fits_free : list_any (holds e.target) slots ≡ false → list_any is_free_slot slots ≡ true
+      → Fits stamp_in_slot ◌==◌ eqb-true e.target (Some e.stamp) is_free_slot (λ _. Some e) slots
+  fits_free h room = fits_room stamp_in_slot ◌==◌ eqb-true e.target (Some e.stamp) is_free_slot (λ _. Some e) slots room
       (stamp_at-absent e.target slots h) (λ k d within i none. into e _ i)
 
   -- after a put the target has the edge, and every other target has what it had
   pub stamp_at-put_slot : has_room_for e.target slots ≡ true → (q : ℕ)
       → stamp_at (put_slot e slots) q ≡ cond (q == e.target) (Some e.stamp) (stamp_at slots q)
   stamp_at-put_slot room q =
-      elim (list_any (holds e.target) slots) as (λ b. list_any (holds e.target) slots ≡ b → (b || list_any is_free slots) ≡ true
-      → stamp_at (cond b (at_first (holds e.target) (λ _. Some e) slots) (at_first is_free (λ _. Some e) slots)) q
+      elim (list_any (holds e.target) slots) as (λ b. list_any (holds e.target) slots ≡ b → (b || list_any is_free_slot slots) ≡ true
+      → stamp_at (cond b (at_first (holds e.target) (λ _. Some e) slots) (at_first is_free_slot (λ _. Some e) slots)) q
       ≡ cond (q == e.target) (Some e.stamp) (stamp_at slots q)) [
-        | true ↦ λ t free. set_first slot_at ◌==◌ eqb-true e.target (Some e.stamp) (holds e.target) (λ _. Some e) slots
+        | true ↦ λ t free. set_first stamp_in_slot ◌==◌ eqb-true e.target (Some e.stamp) (holds e.target) (λ _. Some e) slots
             (fits_held t) q
-        | false ↦ λ t free. set_first slot_at ◌==◌ eqb-true e.target (Some e.stamp) is_free (λ _. Some e) slots
+        | false ↦ λ t free. set_first stamp_in_slot ◌==◌ eqb-true e.target (Some e.stamp) is_free_slot (λ _. Some e) slots
             (fits_free t free) q
       ] refl room
 
   pub AreDistinct-put_slot : AreDistinct (put_slot e slots)
   AreDistinct-put_slot =
       elim (list_any (holds e.target) slots) as (λ b. list_any (holds e.target) slots ≡ b
-      → AreDistinct (cond b (at_first (holds e.target) (λ _. Some e) slots) (at_first is_free (λ _. Some e) slots))) [
-        | true ↦ λ t. set_unique slot_at ◌==◌ eqb-true e.target (Some e.stamp) (holds e.target) (λ _. Some e) slots
+      → AreDistinct (cond b (at_first (holds e.target) (λ _. Some e) slots) (at_first is_free_slot (λ _. Some e) slots))) [
+        | true ↦ λ t. set_unique stamp_in_slot ◌==◌ eqb-true e.target (Some e.stamp) (holds e.target) (λ _. Some e) slots
             (fits_held t) distinct
-        | false ↦ λ t. elim (cases_Bool (list_any is_free slots)) [
-          | inl free ↦ set_unique slot_at ◌==◌ eqb-true e.target (Some e.stamp) is_free (λ _. Some e) slots
+        | false ↦ λ t. elim (cases_Bool (list_any is_free_slot slots)) [
+          | inl free ↦ set_unique stamp_in_slot ◌==◌ eqb-true e.target (Some e.stamp) is_free_slot (λ _. Some e) slots
               (fits_free t free) distinct
-          | inr full ↦ rw (at_first-none is_free (λ _. Some e) slots full) distinct
+          | inr full ↦ rw (at_first-none is_free_slot (λ _. Some e) slots full) distinct
         ]
       ] refl
 
 module _ (target : ℕ) (slots : List (Option Slot)) (distinct : AreDistinct slots) where
-  fits_taken : list_any (holds target) slots ≡ true → Fits slot_at ◌==◌ eqb-true target None (holds target) (λ _. None) slots
-  fits_taken h = fits_key slot_at ◌==◌ eqb-true target None (λ _. None) slots h distinct (λ k d within. out_of target _)
+  fits_taken : list_any (holds target) slots ≡ true → Fits stamp_in_slot ◌==◌ eqb-true target None (holds target) (λ _. None) slots
+  fits_taken h = fits_key stamp_in_slot ◌==◌ eqb-true target None (λ _. None) slots h distinct (λ k d within. out_of target _)
 
   gone : (q : ℕ) → stamp_at slots target ≡ None → stamp_at slots q ≡ cond (q == target) None (stamp_at slots q)
   gone q none = grind (arith, common_steps)
@@ -92,14 +92,14 @@ module _ (target : ℕ) (slots : List (Option Slot)) (distinct : AreDistinct slo
   stamp_at-take_slot q =
       elim (list_any (holds target) slots) as (λ b. list_any (holds target) slots ≡ b
       → stamp_at (take_slot target slots) q ≡ cond (q == target) None (stamp_at slots q)) [
-        | true ↦ λ t. set_first slot_at ◌==◌ eqb-true target None (holds target) (λ _. None) slots (fits_taken t) q
+        | true ↦ λ t. set_first stamp_in_slot ◌==◌ eqb-true target None (holds target) (λ _. None) slots (fits_taken t) q
         | false ↦ λ t. ap (λ xs. stamp_at xs q) (at_first-none (holds target) (λ _. None) slots t)
             ∙ gone q (stamp_at-absent target slots t)
       ] refl
 
   pub AreDistinct-take_slot : AreDistinct (take_slot target slots)
   AreDistinct-take_slot = elim (cases_Bool (list_any (holds target) slots)) [
-    | inl held ↦ set_unique slot_at ◌==◌ eqb-true target None (holds target) (λ _. None) slots (fits_taken held) distinct
+    | inl held ↦ set_unique stamp_in_slot ◌==◌ eqb-true target None (holds target) (λ _. None) slots (fits_taken held) distinct
     | inr none ↦ rw (at_first-none (holds target) (λ _. None) slots none) distinct
   ]
 
@@ -110,7 +110,7 @@ edge_found [] distinct x (k, within, is) = absurd (omega arith)
 edge_found (None ∷ slots) distinct x there = edge_found slots distinct.1 x there
 edge_found (Some e ∷ slots) distinct x there =
     elim (Contains-cons_cases e (edges_in slots) x there) [
-      | inl same ↦ subst (λ (y : Slot). option_or (slot_at (Some y) x.target) (stamp_at slots x.target) ≡ Some x.stamp) (sym same)
+      | inl same ↦ subst (λ (y : Slot). option_or (stamp_in_slot (Some y) x.target) (stamp_at slots x.target) ≡ Some x.stamp) (sym same)
           (rw (eq-eqb x.target x.target refl) refl)
       | inr later ↦
           let found : stamp_at slots x.target ≡ Some x.stamp = edge_found slots distinct.1 x later in

@@ -4,7 +4,7 @@ use Rattle.std.proofs.{Common.{arith, Some, None, is_some, get_or}, lemmas.{Bool
 use Rattle.std.{proofs.lemmas.List.Elements.{All-map, All-weaker}, specs.Option.option_or}
 use Rattle.std.proofs.lemmas.Grind.{common_steps}
 use Rattle.graph_types.specs.{Graph.Stamp, Step.is_before, Step.stays_from}
-use Rattle.edge_block.specs.Slots.{Slot, slot_at, stamp_at, AreDistinct, NoKeyTwice, first_some, slot_since, slots_since}
+use Rattle.edge_block.specs.Slots.{Slot, stamp_in_slot, stamp_at, AreDistinct, NoKeyTwice, first_some, slot_since, slots_since}
 use Rattle.edge_block.specs.{Slots.has_before, Rows.{OpenBlock, open_at, edge_at, expire_block, expire_row}}
 use Rattle.edge_block.proofs.RowLaws.{IsOpenRow, Within}
 
@@ -40,18 +40,18 @@ module _ {A K : Type 0} (at : A → K → Option Stamp) (f : A → A) (time : �
 
 -- Slots
 
-slot_stays : (time : ℕ) (s : Option Slot) (q : ℕ) → slot_at (slot_since time s) q ≡ stays_from time (slot_at s q)
+slot_stays : (time : ℕ) (s : Option Slot) (q : ℕ) → stamp_in_slot (slot_since time s) q ≡ stays_from time (stamp_in_slot s q)
 slot_stays time h1 q = grind (arith, common_steps)
 
-every_slot : (time : ℕ) (slots : List (Option Slot)) → All (Stays slot_at (slot_since time) time) slots
+every_slot : (time : ℕ) (slots : List (Option Slot)) → All (Stays stamp_in_slot (slot_since time) time) slots
 every_slot time slots k d h = slot_stays time (get_or slots k d)
 
 pub slots_stay : (time : ℕ) (slots : List (Option Slot)) → AreDistinct slots → (q : ℕ)
     → stamp_at (slots_since time slots) q ≡ stays_from time (stamp_at slots q)
-slots_stay time slots u q = first_stays slot_at (slot_since time) time slots (every_slot time slots) u q
+slots_stay time slots u q = first_stays stamp_in_slot (slot_since time) time slots (every_slot time slots) u q
 
 pub slots_distinct : (time : ℕ) (slots : List (Option Slot)) → AreDistinct slots → AreDistinct (slots_since time slots)
-slots_distinct time slots u = once_stays slot_at (slot_since time) time slots (every_slot time slots) u
+slots_distinct time slots u = once_stays stamp_in_slot (slot_since time) time slots (every_slot time slots) u
 
 -- slots without an old edge stay as they are
 pub slots_kept : (time : ℕ) (slots : List (Option Slot)) → has_before time slots ≡ false → slots_since time slots ≡ slots

@@ -6,14 +6,14 @@ use Rattle.std.specs.{List.list_all, List.range_with_len, Option.option_or, FinM
 use Rattle.std.proofs.{Common.arith, lemmas.Grind.common_steps}
 use Rattle.graph_types.specs.{Graph.{Graph, Key, Stamp, key_cmp}, Step.{after_all, outcomes, expired, count_before}}
 use Rattle.graph_types.specs.declared.batches.{NamedOp.NamedOp, Outcome.TheVariants.Expired}
-use Rattle.edge_block.specs.{Slots.{Slot, NoKeyTwice, stamp_at, is_free, AreDistinct}, Rows.{Shape, OpenBlock, block_at, row_at}}
+use Rattle.edge_block.specs.{Slots.{Slot, NoKeyTwice, stamp_at, is_free_slot, AreDistinct}, Rows.{Shape, OpenBlock, block_at, row_at}}
 use Rattle.edge_block.specs.Rows.{open_at, edge_at, IsRow, is_kept, row_end, shapes, untouched, expire_row}
-use Rattle.edge_block.specs.Batches.{InAll, resolved, rows_step, IsWithin, rows_all, outcome_in, outcomes_all, IsLayoutOf, opened}
+use Rattle.edge_block.specs.Batches.{InAll, resolved, rows_step, HasEndsWithin, rows_all, outcome_in, outcomes_all, IsLayoutOf, opened_rows}
 use Rattle.edge_block.specs.Batches.{layout_after}
 use Rattle.edge_block.proofs.{RowLaws.IsOpenRow, OperationLaws.{Shows, AreOpenRows, expiry_shows, all_shows}}
 
 -- slots that are all free
-all_free : (slots : List (Option Slot)) → list_all is_free slots ≡ true → (q : ℕ) → stamp_at slots q ≡ None
+all_free : (slots : List (Option Slot)) → list_all is_free_slot slots ≡ true → (q : ℕ) → stamp_at slots q ≡ None
 all_free [] h q = refl
 all_free (None ∷ slots) h q = all_free slots h q
 all_free (Some e ∷ slots) h q = absurd (false≢true h)
@@ -62,15 +62,15 @@ ended_layout : (rows : ℕ → List OpenBlock) (edges : FinMap key_cmp Stamp) �
 ended_layout rows edges u s = grind (arith, common_steps, end_within, end_unique, end_at)
 
 -- a batch leaves a layout of the graph that it leaves, and the rows' outcomes are the operation rule's
-pub batch_layout : (ops : List NamedOp) (g : Graph) (layout : ℕ → List Shape) (n : ℕ) → IsWithin g → IsLayoutOf layout g.edges
+pub batch_layout : (ops : List NamedOp) (g : Graph) (layout : ℕ → List Shape) (n : ℕ) → HasEndsWithin g → IsLayoutOf layout g.edges
     → length (after_all ops g).names ≤ n
     → IsLayoutOf (layout_after ops g layout) (after_all ops g).edges
-    × (outcomes_all (range_with_len 0 n) (resolved ops g) (opened layout) ≡ outcomes ops g)
-    × IsWithin (after_all ops g)
+    × (outcomes_all (range_with_len 0 n) (resolved ops g) (opened_rows layout) ≡ outcomes ops g)
+    × HasEndsWithin (after_all ops g)
 batch_layout ops g layout n w l few =
-    let done = all_shows ops g (opened layout) n w (λ source. opened_row (layout source) (l.distinct source))
+    let done = all_shows ops g (opened_rows layout) n w (λ source. opened_row (layout source) (l.distinct source))
     (λ k. opened_at (layout k.source) (k.kind, k.target) ∙ l.shows k) few in (
-      ended_layout (rows_all (resolved ops g) (opened layout)) (after_all ops g).edges done.1 done.0,
+      ended_layout (rows_all (resolved ops g) (opened_rows layout)) (after_all ops g).edges done.1 done.0,
       done.2,
       done.3,
     )
@@ -78,9 +78,9 @@ batch_layout ops g layout n w l few =
 -- an expiry alone leaves a layout of the edges that stay, and tells how many went
 pub expiry_layout : (time : ℕ) (edges : FinMap key_cmp Stamp) (layout : ℕ → List Shape) (n : ℕ) → IsLayoutOf layout edges
     → ((k : Key) → is_some (get edges k) ≡ true → k.source < n)
-    → IsLayoutOf (λ source. row_end (expire_row time (opened layout source))) (expired time edges)
-    × (outcome_in (range_with_len 0 n) (InAll time) (opened layout) ≡ Expired (count_before time edges))
+    → IsLayoutOf (λ source. row_end (expire_row time (opened_rows layout source))) (expired time edges)
+    × (outcome_in (range_with_len 0 n) (InAll time) (opened_rows layout) ≡ Expired (count_before time edges))
 expiry_layout time edges layout n l below =
-    let done = expiry_shows time edges (opened layout) n (λ source. opened_row (layout source) (l.distinct source))
+    let done = expiry_shows time edges (opened_rows layout) n (λ source. opened_row (layout source) (l.distinct source))
     (λ k. opened_at (layout k.source) (k.kind, k.target) ∙ l.shows k) below in
-    (ended_layout (rows_step (InAll time) (opened layout)) (expired time edges) done.1 done.0, done.2)
+    (ended_layout (rows_step (InAll time) (opened_rows layout)) (expired time edges) done.1 done.0, done.2)

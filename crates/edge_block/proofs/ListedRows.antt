@@ -9,7 +9,7 @@ use Rattle.std.proofs.lemmas.Grind.{common_steps}
 use Rattle.graph_types.specs.{Graph.{Key, Stamp, key_cmp, key_of, stamp_of, map_of}, Step.{is_before, was_before, count_before}}
 use Rattle.graph_types.{specs.declared.ids.Edge.Edge, proofs.Keys.{keys_total, exact_keys, is_key_of, is_key_of_at, HasKeysOnce}}
 use Rattle.graph_types.proofs.{Keys.{once_none, once_cons, get_cons}, Expiry.count_before-map_of}
-use Rattle.edge_block.specs.{Slots.{Slot, slot_at, stamp_at, edges_in, old_in, AreDistinct, NoKeyTwice}, Rows.{Shape, OpenBlock}}
+use Rattle.edge_block.specs.{Slots.{Slot, stamp_in_slot, stamp_at, edges_in, old_in, AreDistinct, NoKeyTwice}, Rows.{Shape, OpenBlock}}
 use Rattle.edge_block.specs.{Rows.{block_at, row_at, row_entries, shapes, old_in_row, IsRow}, Batches.IsLayoutOf}
 use Rattle.edge_block.{specs.Listed.{edge_from, edges_in_row, edges_in_rows, edges_below, AreListedOnce}, proofs.{Changes.or_none, Firsts.none_by_test}}
 
@@ -151,7 +151,7 @@ once_slots source kind (Some e ∷ slots) rest distinct once apart =
     let edge : Edge = edge_from (slot_entry source kind e) in
     let key : Key = key_of edge in
     let tested : (e.target == e.target) ≡ true = eq-eqb e.target e.target refl in
-    let found : slot_at (Some e) e.target ≡ Some e.stamp = rw tested refl in
+    let found : stamp_in_slot (Some e) e.target ≡ Some e.stamp = rw tested refl in
     let unique : stamp_at slots e.target ≡ None = distinct.0 e.target (ap is_some found) in
     let here : stands source key.source (in_slots kind (Some e ∷ slots) key) ≡ Some e.stamp =
     at_itself source kind (stamp_at (Some e ∷ slots) e.target) ∙ ap (λ o. option_or o (stamp_at slots e.target)) found in
@@ -162,7 +162,7 @@ once_slots source kind (Some e ∷ slots) rest distinct once apart =
     (not_there (slot_edges source kind slots ++ rest) key
     (get_slots source kind slots rest key ∙ ap (λ o. option_or o (get (map_of rest) key)) others ∙ more))
     (once_slots source kind slots rest distinct.1 once
-    (λ k is. apart k (more_some (k.source == source) (k.kind == kind) (slot_at (Some e) k.target) (stamp_at slots k.target) is)))
+    (λ k is. apart k (more_some (k.source == source) (k.kind == kind) (stamp_in_slot (Some e) k.target) (stamp_at slots k.target) is)))
 
 apart_here : (s : Bool) (a c y : Option Stamp) → is_some (cond s a None) ≡ true → (is_some a ≡ true → c ≡ None)
     → (is_some (cond s (option_or a c) None) ≡ true → y ≡ None) → option_or (cond s c None) y ≡ None

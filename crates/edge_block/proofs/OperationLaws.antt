@@ -5,16 +5,17 @@ use Rattle.std.proofs.lemmas.{Bool.{true≢false, false≢true, eqb-true, lt-ltb
 use Rattle.std.specs.{List.range_with_len, Option.option_or, Ordering.eq_by_cmp}
 use Rattle.std.specs.{Cmp.Equal-is, FinMap.FinMap, FinMap.get}
 use Rattle.graph_types.specs.{Graph.{Graph, Key, Stamp, key_cmp}, Step.{after_all, set_at, stamp_after, outcome_at, changed}}
-use Rattle.graph_types.specs.Step.{changed_key, change_outcome, after, outcome, outcomes, with_name, names_made}
+use Rattle.graph_types.specs.Step.{changed_key, change_outcome, outcome, outcomes, with_name, names_made}
 use Rattle.graph_types.specs.{Step.{kinds_made, expired, count_before}, Answer.is_listed}
 use Rattle.graph_types.specs.declared.batches.{NamedOp.NamedOp, Outcome.Outcome}
 use Rattle.graph_types.specs.declared.{batches.Outcome.TheVariants.{Absent, Expired}, changes.EdgeChange.EdgeChange}
 use Rattle.graph_types.specs.declared.changes.EdgeChange.TheVariants.{Insert as ToInsert, Incr as ToIncr, Remove as ToRemove}
-use Rattle.edge_block.specs.Operations.{Parts, OfEdge, OfAll, parts_in, names_by, kinds_by, names_after, kinds_after}
+use Rattle.graph_types.specs.Parts.{Parts, OfEdge, OfAll, names_by, kinds_by, names_after, kinds_after}
 use Rattle.edge_block.specs.{Slots.{NoKeyTwice, AreDistinct}, Rows.{OpenBlock, block_at, row_at, open_at, edge_at, IsRow}}
 use Rattle.edge_block.specs.{Rows.{change_row, shapes}, Batches.{Resolved, InAll, resolve_parts, resolved, resolved_by, key_is_of, key_step}}
-use Rattle.edge_block.specs.Batches.{rows_step, IsWithin, rows_all, key_outcome, outcome_in, outcomes_all, IsLayoutOf}
+use Rattle.edge_block.specs.Batches.{rows_step, HasEndsWithin, rows_all, key_outcome, outcome_in, outcomes_all, IsLayoutOf}
 use Rattle.graph_types.proofs.{Keys.exact_keys, NameLists.length-after_all-names, Expiry.get-expired, WeightsKept.set_at_get}
+use Rattle.graph_types.proofs.OperationParts.{after_parts, outcome_parts, parts_over, after_is, outcome_is, names_over, kinds_over}
 use Rattle.graph_types.proofs.NameLists.{any_before_end, appears-with_name, stays-with_name, named, length-names_made, length-kinds_made}
 use Rattle.edge_block.proofs.{RowLaws.{IsOpenRow, change_sets}, ListedRows.{tests, tied, count_shown}, ExpiryLaws.expire_stays}
 use Rattle.edge_block.proofs.{ExpiryLaws.{expire_open, was_there}, Changes.none_is}
@@ -26,32 +27,6 @@ Shows rows edges = (k : Key) → edge_at (rows k.source) (k.kind, k.target) ≡ 
 -- no row has two edges of one key
 abbrev pub AreOpenRows : (ℕ → List OpenBlock) → Type 0
 AreOpenRows rows = (source : ℕ) → IsOpenRow (rows source)
-
--- what an operation leaves, and its outcome, by its parts
-abbrev after_parts : Parts → Graph → Graph
-after_parts (OfEdge change kind source target) g = changed change kind source target g
-after_parts (OfAll time) g = record g { edges = expired time g.edges }
-
-abbrev outcome_parts : Parts → Graph → Outcome
-outcome_parts (OfEdge change kind source target) g = change_outcome change kind source target g
-outcome_parts (OfAll time) g = Expired (count_before time g.edges)
-
--- under the limit of the graph
-abbrev parts_over : NamedOp → Graph → Parts
-parts_over op g = parts_in g.limits.weight op
-
-after_is : (op : NamedOp) (g : Graph) → after op g ≡ after_parts (parts_over op g) g
-after_is h0 g = grind (arith, common_steps)
-
-outcome_is : (op : NamedOp) (g : Graph) → outcome op g ≡ outcome_parts (parts_over op g) g
-outcome_is h0 g = grind (arith, common_steps)
-
--- a limit of weights changes no names
-names_over : (most : ℕ) (op : NamedOp) (names : List (List ℕ)) → names_by (parts_in most op) names ≡ names_after op names
-names_over most h0 names = grind (arith, common_steps)
-
-kinds_over : (most : ℕ) (op : NamedOp) (kinds : List (List ℕ)) → kinds_by (parts_in most op) kinds ≡ kinds_after op kinds
-kinds_over most h0 kinds = grind (arith, common_steps)
 
 never : {A : Type 0} (a : Bool) (x y : A) → y ≡ cond (a && false) x y
 never h0 x y = grind (arith, common_steps)
@@ -84,7 +59,7 @@ all_appear names kinds kind source target =
     (appears-with_name _ target)
 
 -- an operation with an unknown name is a removal, and nothing is at its key
-unknown_none : (change : EdgeChange) (kind source target : List ℕ) (g : Graph) → IsWithin g
+unknown_none : (change : EdgeChange) (kind source target : List ℕ) (g : Graph) → HasEndsWithin g
     → knows change kind source target g ≡ false
     → (get g.edges (changed_key change kind source target g) ≡ None) × (stamp_after change None ≡ None)
     × (outcome_at change None ≡ Absent)
@@ -106,7 +81,7 @@ module _ (change : EdgeChange) (kind source target : List ℕ) (g : Graph) where
   key_when b = cond b (Some key) None
 
   -- one operation on one edge
-  edge_shows : (rows : ℕ → List OpenBlock) → IsWithin g → AreOpenRows rows → Shows rows g.edges
+  edge_shows : (rows : ℕ → List OpenBlock) → HasEndsWithin g → AreOpenRows rows → Shows rows g.edges
       → let r = resolve_parts (names_made change source target g.names) (kinds_made change kind g.kinds)
       (OfEdge change kind source target) in
       Shows (rows_step r rows) (changed change kind source target g).edges × AreOpenRows (rows_step r rows)
@@ -142,7 +117,7 @@ lies (ToIncr amount time most) kind source target g before is =
     let n = named g.names g.kinds kind source target in (n.kind, n.source, n.target)
 lies ToRemove kind source target g before is = absurd (false≢true is)
 
-pub step_within : (op : Parts) (g : Graph) → IsWithin g → IsWithin (after_parts op g)
+pub step_within : (op : Parts) (g : Graph) → HasEndsWithin g → HasEndsWithin (after_parts op g)
 step_within (OfAll time) g w q is = w q (was_there time (get g.edges q) (ap is_some (sym (get-expired time g.edges q)) ∙ is))
 step_within (OfEdge change kind source target) g w q is =
     let k : Key = changed_key change kind source target g in
@@ -186,7 +161,7 @@ expiry_shows time edges rows n u s below =
     grind (arith, common_steps, expire_stays, get-expired, expire_open, count_shown, shapes_layout)
 
 -- one operation
-pub step_shows : (op : Parts) (g : Graph) (rows : ℕ → List OpenBlock) (n : ℕ) → IsWithin g → AreOpenRows rows
+pub step_shows : (op : Parts) (g : Graph) (rows : ℕ → List OpenBlock) (n : ℕ) → HasEndsWithin g → AreOpenRows rows
     → Shows rows g.edges → length g.names ≤ n
     → let r = resolve_parts (names_by op g.names) (kinds_by op g.kinds) op in
     Shows (rows_step r rows) (after_parts op g).edges × AreOpenRows (rows_step r rows)
@@ -209,7 +184,7 @@ limits_left : (parts : Parts) (g : Graph) → (after_parts parts g).limits ≡ g
 limits_left h0 g = grind (arith, common_steps)
 
 -- the operation over a graph
-one_shows : (op : NamedOp) (g : Graph) (rows : ℕ → List OpenBlock) (n : ℕ) → IsWithin g → AreOpenRows rows → Shows rows g.edges
+one_shows : (op : NamedOp) (g : Graph) (rows : ℕ → List OpenBlock) (n : ℕ) → HasEndsWithin g → AreOpenRows rows → Shows rows g.edges
     → length g.names ≤ n → let r = by_left op g in
     Shows (rows_step r rows) (after_parts (parts_over op g) g).edges × AreOpenRows (rows_step r rows)
     × (outcome_in (range_with_len 0 n) r rows ≡ outcome_parts (parts_over op g) g)
@@ -222,11 +197,11 @@ one_shows op g rows n w u s few =
     same (step_shows parts g rows n w u s few)
 
 -- a batch's operations, one after another
-pub all_shows : (ops : List NamedOp) (g : Graph) (rows : ℕ → List OpenBlock) (n : ℕ) → IsWithin g → AreOpenRows rows
+pub all_shows : (ops : List NamedOp) (g : Graph) (rows : ℕ → List OpenBlock) (n : ℕ) → HasEndsWithin g → AreOpenRows rows
     → Shows rows g.edges → length (after_all ops g).names ≤ n
     → let rs = resolved ops g in
     Shows (rows_all rs rows) (after_all ops g).edges × AreOpenRows (rows_all rs rows)
-    × (outcomes_all (range_with_len 0 n) rs rows ≡ outcomes ops g) × IsWithin (after_all ops g)
+    × (outcomes_all (range_with_len 0 n) rs rows ≡ outcomes ops g) × HasEndsWithin (after_all ops g)
 all_shows [] g rows n w u s few = (s, u, refl, w)
 all_shows (op ∷ ops) g rows n w u s few =
     let all : List ℕ = range_with_len 0 n in
@@ -247,7 +222,7 @@ all_shows (op ∷ ops) g rows n w u s few =
     subst (λ (h : Graph).
     Shows (rows_all rs (rows_step r rows)) (after_all ops h).edges × AreOpenRows (rows_all rs (rows_step r rows))
     × (outcome_in all r rows ∷ outcomes_all all rs (rows_step r rows) ≡ outcome op g ∷ outcomes ops h)
-    × IsWithin (after_all ops h))
+    × HasEndsWithin (after_all ops h))
     (sym (after_is op g)) (
       subst (λ xs. Shows (rows_all xs (rows_step r rows)) (after_all ops next).edges) there rest.0,
       subst (λ xs. AreOpenRows (rows_all xs (rows_step r rows))) there rest.1,

@@ -9,7 +9,7 @@ use Rattle.std.specs.{Prelude.◌==◌, List.list_any, Int.{bit_at, w32, bit_not
 use Rattle.std.specs.{Int.RustNames.bit_and, declared.option.Option.{Option, TheVariants.{None, Some}}}
 use Rattle.std.proofs.lemmas.Grind.{common_steps}
 use Rattle.lane_scan.specs.Masks.{InMask, IsPlaceOf}
-use Rattle.edge_block.specs.Slots.{Slot, edge_slot, at_first, holds, is_free, slot_at, put_slot, take_slot, has_room_for}
+use Rattle.edge_block.specs.Slots.{Slot, edge_slot, at_first, holds, is_free_slot, stamp_in_slot, put_slot, take_slot, has_room_for}
 use Rattle.edge_block.specs.{Slots.stamp_at, Columns.slots_of, Columns.slot_from, Columns.column_slot}
 use Rattle.edge_block.proofs.{Firsts.at_first-set, Firsts.first_some_at, Firsts.none_by_test, SlotLaws.target_of_edge}
 
@@ -135,10 +135,10 @@ none_holds live ts ws fs rs target lt none =
 
 -- all places are live
 pub none_free : (live : ℕ) (ts : List ℕ) (ws : List ℤ) (fs rs : List ℕ) → live + 1 ≡ 2 ^ 32
-    → list_any is_free (slots_of live ts ws fs rs) ≡ false
+    → list_any is_free_slot (slots_of live ts ws fs rs) ≡ false
 none_free live ts ws fs rs full =
-    list_any_none is_free (slots_of live ts ws fs rs)
-    (All-from_get_or (λ s. is_free s ≡ false) (slots_of live ts ws fs rs) None
+    list_any_none is_free_slot (slots_of live ts ws fs rs)
+    (All-from_get_or (λ s. is_free_slot s ≡ false) (slots_of live ts ws fs rs) None
     (λ i within.
     let few : i < 32 = omega (arith, length-slots_of live ts ws fs rs) in
     let ones : live ≡ 2 ^ 32 - 1 = omega arith in
@@ -147,8 +147,8 @@ none_free live ts ws fs rs full =
 
 -- the lowest dead place is the first free slot
 pub first_free : (live : ℕ) (ts : List ℕ) (ws : List ℤ) (fs rs : List ℕ) (f : Option Slot → Option Slot) → live + 1 < 2 ^ 32 →
-    (list_any is_free (slots_of live ts ws fs rs) ≡ true)
-    × (at_first is_free f (slots_of live ts ws fs rs) ≡ set (slots_of live ts ws fs rs) (trailing_ones w32 live) (f None))
+    (list_any is_free_slot (slots_of live ts ws fs rs) ≡ true)
+    × (at_first is_free_slot f (slots_of live ts ws fs rs) ≡ set (slots_of live ts ws fs rs) (trailing_ones w32 live) (f None))
 first_free live ts ws fs rs f room =
     let lowest : (trailing_ones w32 live < 32) × (bit_at live (trailing_ones w32 live) ≡ 0)
     × ((k : ℕ) → k < trailing_ones w32 live → bit_at live k ≡ 1) = bit_at-trailing_ones w32 live room in
@@ -158,8 +158,8 @@ first_free live ts ws fs rs f room =
     let clear : bit_at live (trailing_ones w32 live) ≡ 0 = lowest.1 in
     let none : get_or (slots_of live ts ws fs rs) (trailing_ones w32 live) None ≡ None =
     slot_dead live ts ws fs rs (trailing_ones w32 live) None few (λ set. omega arith) in (
-      list_any_at is_free (slots_of live ts ws fs rs) (trailing_ones w32 live) None in_slots (rw none),
-      at_first-set is_free f (slots_of live ts ws fs rs) (trailing_ones w32 live) None in_slots (rw none)
+      list_any_at is_free_slot (slots_of live ts ws fs rs) (trailing_ones w32 live) None in_slots (rw none),
+      at_first-set is_free_slot f (slots_of live ts ws fs rs) (trailing_ones w32 live) None in_slots (rw none)
           (λ k below. rw (slot_live live ts ws fs rs k None (omega arith) (lowest.2 k below)))
           ∙ ap (λ s. set (slots_of live ts ws fs rs) (trailing_ones w32 live) (f s)) none,
     )
@@ -173,7 +173,7 @@ pub put_into : (live : ℕ) (ts : List ℕ) (ws : List ℤ) (fs rs : List ℕ) (
     ≡ set (slots_of live ts ws fs rs) (trailing_ones w32 live) (Some (edge_slot target w f r)))
 put_into live ts ws fs rs target lt fits none room =
     let absent : list_any (holds target) (slots_of live ts ws fs rs) ≡ false = none_holds live ts ws fs rs target lt none in
-    let free : list_any is_free (slots_of live ts ws fs rs) ≡ true = rw absent at room in
+    let free : list_any is_free_slot (slots_of live ts ws fs rs) ≡ true = rw absent at room in
     let dead : live + 1 < 2 ^ 32 = elim (cases_eq (live + 1) (2 ^ 32)) [
       | inl full ↦ absurd (true≢false (sym free ∙ none_free live ts ws fs rs full))
       | inr ne ↦ omega arith
@@ -184,7 +184,7 @@ put_into live ts ws fs rs target lt fits none room =
 
 -- a full block has no free slot
 pub is_free-full : (live : ℕ) (ts : List ℕ) (ws : List ℤ) (fs rs : List ℕ) → live < 2 ^ 32
-    → list_any is_free (slots_of live ts ws fs rs) ≡ not (live == 4294967295)
+    → list_any is_free_slot (slots_of live ts ws fs rs) ≡ not (live == 4294967295)
 is_free-full live ts ws fs rs fits =
     elim (cases_eq live 4294967295) [
       | inl e ↦ rw (eq-eqb live 4294967295 e) (none_free live ts ws fs rs (omega arith))
@@ -193,7 +193,7 @@ is_free-full live ts ws fs rs fits =
 
 -- a slot with an edge is that of a live place
 pub live_at : (live : ℕ) (ts : List ℕ) (ws : List ℤ) (fs rs : List ℕ) (i : ℕ)
-    → is_free (get_or (slots_of live ts ws fs rs) i None) ≡ false → (i < 32) × InMask live i
+    → is_free_slot (get_or (slots_of live ts ws fs rs) i None) ≡ false → (i < 32) × InMask live i
 live_at live ts ws fs rs i taken =
     grind (arith, common_steps, cases_lt, lives_or_not, true≢false, slot_dead, get_or_past, length-slots_of)
 
@@ -204,8 +204,8 @@ pub stamp_found : (slots : List (Option Slot)) (target i : ℕ) (e : Slot) → i
 stamp_found slots target i e within is held before =
     let same : target ≡ e.target = target_of_edge e target (rw is at held) in (
       sym same,
-      first_some_at (λ s. slot_at s target) slots i None e.stamp within (rw is (rw (eq-eqb target e.target same)))
-          (λ k below. none_by_test (slot_at (get_or slots k None) target) (λ some. true≢false (sym some ∙ before k below))),
+      first_some_at (λ s. stamp_in_slot s target) slots i None e.stamp within (rw is (rw (eq-eqb target e.target same)))
+          (λ k below. none_by_test (stamp_in_slot (get_or slots k None) target) (λ some. true≢false (sym some ∙ before k below))),
     )
 
 -- a place taken out is that of the target
@@ -238,5 +238,5 @@ found_at live ts ws fs rs target i e lt at least is =
 
 -- a live place's slot is not free
 pub not_free_at : (live : ℕ) (ts : List ℕ) (ws : List ℤ) (fs rs : List ℕ) (i : ℕ) → i < 32 → InMask live i
-    → is_free (get_or (slots_of live ts ws fs rs) i None) ≡ false
+    → is_free_slot (get_or (slots_of live ts ws fs rs) i None) ≡ false
 not_free_at live ts ws fs rs i few lives = rw (slot_live live ts ws fs rs i None few lives)

@@ -3,7 +3,7 @@ use Rattle.std.proofs.{Common.{arith, ◌≡◌, ℕ, true, List}, lemmas.Bool.{
 use Rattle.std.specs.{List.list_any, declared.option.Option.{Option, TheVariants.Some}}
 use Rattle.std.proofs.lemmas.Grind.{common_steps}
 use Rattle.graph_types.specs.Graph.{Stamp}
-use Rattle.edge_block.{specs.Slots.{Slot, holds, is_free, stamp_at, has_room_for}, proofs.Firsts.first_some-by_any}
+use Rattle.edge_block.{specs.Slots.{Slot, holds, is_free_slot, stamp_at, has_room_for}, proofs.Firsts.first_some-by_any}
 
 -- the target is there
 pub room_found : (target : ℕ) (slots : List (Option Slot)) (stamp : Stamp) → stamp_at slots target ≡ Some stamp
@@ -11,5 +11,5 @@ pub room_found : (target : ℕ) (slots : List (Option Slot)) (stamp : Stamp) →
 room_found target slots stamp found = grind (arith, common_steps, or_left, true_from_ne_false, first_some-by_any)
 
 -- a slot is free
-pub room_free : (target : ℕ) (slots : List (Option Slot)) → list_any is_free slots ≡ true → has_room_for target slots ≡ true
-room_free target slots free = or_right (list_any (holds target) slots) (list_any is_free slots) free
+pub room_free : (target : ℕ) (slots : List (Option Slot)) → list_any is_free_slot slots ≡ true → has_room_for target slots ≡ true
+room_free target slots free = or_right (list_any (holds target) slots) (list_any is_free_slot slots) free

@@ -6,7 +6,7 @@ use Rattle.std.specs.List.{list_any}
 use Rattle.std.proofs.{Common.arith, lemmas.Grind.common_steps}
 use Rattle.graph_types.specs.{Graph.Stamp, Step.stamp_after, Step.outcome_at}
 use Rattle.graph_types.specs.declared.changes.EdgeChange.{EdgeChange}
-use Rattle.edge_block.specs.Slots.{Slot, at_first, slot_at, stamp_at, holds, is_free, AreDistinct, NoKeyTwice, put_slot}
+use Rattle.edge_block.specs.Slots.{Slot, at_first, stamp_in_slot, stamp_at, holds, is_free_slot, AreDistinct, NoKeyTwice, put_slot}
 use Rattle.edge_block.specs.{Slots.take_slot, Rows.{OpenBlock, open_at, edge_at, has_edge, has_room, touch, new_block, put_edge}}
 use Rattle.edge_block.{specs.Rows.{set_edge, touches, change_row}, proofs.Changes.{set_first, set_unique}}
 use Rattle.edge_block.proofs.Changes.{set_last, unique_last, Fits, Puts, fits_key, fits_room, any_key, none_is}
@@ -36,7 +36,7 @@ edge_kind place h is =
     elim (place.0 == h.shape.kind) as (λ b. place.0 == h.shape.kind ≡ b
     → is_some (cond b (stamp_at h.shape.slots place.1) None) ≡ true
     → (place.0 ≡ h.shape.kind) × (list_any (holds place.1) h.shape.slots ≡ true)) [
-      | true ↦ λ t i. (eqb-true place.0 h.shape.kind t, any_key slot_at ◌==◌ eqb-true place.1 None h.shape.slots ∙ i)
+      | true ↦ λ t i. (eqb-true place.0 h.shape.kind t, any_key stamp_in_slot ◌==◌ eqb-true place.1 None h.shape.slots ∙ i)
       | false ↦ λ t i. absurd (false≢true i)
     ] refl is
 
@@ -77,7 +77,7 @@ module _ (place : ℕ × ℕ) (row : List OpenBlock) (u : IsOpenRow row) where
         (All-weaker Within (λ x. has_edge place x ≡ true
         → Puts open_at same_place place_is place (Some stamp) (touch (put_slot e) x) x)
         (λ x d i. touch_puts place (Some stamp) (put_slot e) x (edge_kind place x i).0
-        (stamp_at-put_slot e x.shape.slots d (or_left _ (list_any is_free x.shape.slots) (edge_kind place x i).1))) row u.within) in (
+        (stamp_at-put_slot e x.shape.slots d (or_left _ (list_any is_free_slot x.shape.slots) (edge_kind place x i).1))) row u.within) in (
           set_first open_at same_place place_is place (Some stamp) (has_edge place) (touch (put_slot e)) row fits,
           record {
             within = All-at_first Within (has_edge place) (touch (put_slot e)) row u.within
@@ -91,8 +91,8 @@ module _ (place : ℕ × ℕ) (row : List OpenBlock) (u : IsOpenRow row) where
         → Sets place (Some stamp) row (at_first (λ h. has_room place.0 h.shape) (touch (put_slot e)) row)
     put_into none h =
         let room : OpenBlock → Bool = λ x. has_room place.0 x.shape in
-        let parts : (x : OpenBlock) → room x ≡ true → (place.0 == x.shape.kind ≡ true) × (list_any is_free x.shape.slots ≡ true) =
-        λ x i. and_parts (place.0 == x.shape.kind) (list_any is_free x.shape.slots) i in
+        let parts : (x : OpenBlock) → room x ≡ true → (place.0 == x.shape.kind ≡ true) × (list_any is_free_slot x.shape.slots ≡ true) =
+        λ x i. and_parts (place.0 == x.shape.kind) (list_any is_free_slot x.shape.slots) i in
         let fits : Fits open_at same_place place_is place (Some stamp) room (touch (put_slot e)) row =
         fits_room open_at same_place place_is place (Some stamp) room (touch (put_slot e)) row h none
         (All-weaker Within (λ x. room x ≡ true → open_at x place ≡ None

@@ -7,9 +7,11 @@ use Rattle.std.proofs.{Common.arith, lemmas.Grind.common_steps}
 use Rattle.graph_types.specs.Graph.{Key}
 use Rattle.graph_types.specs.declared.batches.NamedOp.{NamedOp}
 use Rattle.graph_types.specs.declared.batches.Outcome.TheVariants.{Expired}
-use Rattle.edge_block.specs.{Operations.{Parts, parts_in, names_after, kinds_after}, Rows.OpenBlock}
+use Rattle.graph_types.specs.Parts.{Parts, parts_in, names_after, kinds_after}
+use Rattle.edge_block.specs.Rows.{OpenBlock}
 use Rattle.edge_block.specs.{Rows.old_in_row, Batches.{Resolved, AtKey, InAll, key_is_of, acts_on, row_step}}
-use Rattle.edge_block.specs.Batches.{key_outcome, outcome_in, rows_step, rows_all, outcomes_all, picked, together, joined}
+use Rattle.edge_block.specs.Batches.{key_outcome, outcome_in, rows_step, rows_all, outcomes_all, picked}
+use Rattle.graph_types.specs.Outcomes.{together, joined}
 use Rattle.edge_block.specs.Batches.{IsPlaced, is_in_shard, shard_ops, resolve_parts, resolved_by}
 
 sum_same : (own : ℕ → Bool) (f g : ℕ → ℕ) → ((s : ℕ) → own s ≡ true → f s ≡ g s) → (xs : List ℕ)

@@ -5,7 +5,7 @@ use Rattle.std.specs.declared.option.Option.TheVariants.{None, Some}
 use Rattle.graph_types.specs.{Graph.{Graph, Key, Stamp, key_cmp}, Step.{number_of, key_in, outcome_at}}
 use Rattle.graph_types.specs.declared.batches.{NamedOp.NamedOp, Outcome.{Outcome, TheVariants.{Absent, Expired}}}
 use Rattle.graph_types.specs.{declared.changes.EdgeChange.EdgeChange, Answer.is_listed}
-use Rattle.edge_block.specs.Operations.{Parts, OfEdge, OfAll, parts_in, names_after, kinds_after}
+use Rattle.graph_types.specs.Parts.{Parts, OfEdge, OfAll, parts_in, names_after, kinds_after}
 use Rattle.edge_block.specs.Rows.{Shape, OpenBlock, row_at, edge_at, untouched, change_row, expire_row, old_in_row, row_end}
 use Rattle.edge_block.specs.Rows.{taken_in, dropped_in, IsRow}
 pub use Rattle.graph_types.specs.Answer.{is_listed as is_known}
@@ -78,12 +78,12 @@ outcomes_all sources [] rows = []
 outcomes_all sources (r ∷ rs) rows = outcome_in sources r rows ∷ outcomes_all sources rs (rows_step r rows)
 
 -- the rows before the batch's first operation
-abbrev pub opened : (ℕ → List Shape) → ℕ → List OpenBlock
-opened layout source = map untouched (layout source)
+abbrev pub opened_rows : (ℕ → List Shape) → ℕ → List OpenBlock
+opened_rows layout source = map untouched (layout source)
 
 -- the layout that a batch leaves
 abbrev pub layout_after : List NamedOp → Graph → (ℕ → List Shape) → ℕ → List Shape
-layout_after ops g layout source = row_end (rows_all (resolved ops g) (opened layout) source)
+layout_after ops g layout source = row_end (rows_all (resolved ops g) (opened_rows layout) source)
 
 abbrev pub sum_below : ℕ → (ℕ → ℕ) → ℕ
 sum_below zero f = 0
@@ -92,15 +92,15 @@ sum_below (suc n) f = f n + sum_below n f
 -- how many blocks a batch takes and drops, over n sources
 abbrev pub taken_by : List NamedOp → Graph → (ℕ → List Shape) → ℕ → ℕ
 taken_by ops g layout n =
-    sum_below n (λ source. taken_in (rows_all (resolved ops g) (opened layout) source))
+    sum_below n (λ source. taken_in (rows_all (resolved ops g) (opened_rows layout) source))
 
 abbrev pub dropped_by : List NamedOp → Graph → (ℕ → List Shape) → ℕ → ℕ
 dropped_by ops g layout n =
-    sum_below n (λ source. dropped_in (rows_all (resolved ops g) (opened layout) source))
+    sum_below n (λ source. dropped_in (rows_all (resolved ops g) (opened_rows layout) source))
 
 -- an edge's numbers are those of names and kinds
-abbrev pub IsWithin : Graph → Type 0
-IsWithin g =
+abbrev pub HasEndsWithin : Graph → Type 0
+HasEndsWithin g =
     (k : Key) → is_some (get g.edges k) ≡ true
     → (k.kind < length g.kinds) × (k.source < length g.names) × (k.target < length g.names)
 
@@ -126,17 +126,6 @@ is_in_shard workers w (InAll time) = true
 
 abbrev pub shard_ops : ℕ → ℕ → List Resolved → List Resolved
 shard_ops workers w rs = filter (is_in_shard workers w) rs
-
--- what is told of one operation over two lists of sources, taken together: an expiry's counts are added, and of all else
--- the second stands
-abbrev pub together : Outcome → Outcome → Outcome
-together (Expired a) (Expired b) = Expired (a + b)
-together other b = b
-
--- the same for each operation
-abbrev pub joined : List Outcome → List Outcome → List Outcome
-joined (x ∷ xs) (y ∷ ys) = together x y ∷ joined xs ys
-joined _ _ = []
 
 -- of results, those of the elements that pass the test
 abbrev pub picked : {A B : Type 0} → (A → Bool) → List A → List B → List B

@@ -2,7 +2,7 @@
 use Rattle.std.specs.{Prelude.{◌≡◌, ℕ, pos, List, [], ◌∷◌, map, length}, List.range_with_len}
 use Rattle.std.specs.declared.option.Option.TheVariants.{Some}
 use Rattle.edge_block.specs.{Slots.edges_in, Rows.{OpenBlock, Shape, row_end, taken_in, dropped_in}, Batches.{Resolved, AtKey}}
-use Rattle.edge_block.specs.Batches.{InAll, rows_all, opened}
+use Rattle.edge_block.specs.Batches.{InAll, rows_all, opened_rows}
 use Rattle.graph_types.specs.declared.changes.EdgeChange.{EdgeChange, TheVariants.{Insert, Remove}}
 
 abbrev pub change_at : EdgeChange → ℕ → Resolved
@@ -16,11 +16,11 @@ remove_at target = change_at Remove target
 
 -- the row of source 0 that operations leave of a row
 abbrev pub row_by : List Resolved → List Shape → List OpenBlock
-row_by ops row = rows_all ops (opened (λ _. row)) 0
+row_by ops row = rows_all ops (opened_rows (λ _. row)) 0
 
 -- which targets each block of a row has, slots rising
-abbrev pub targets_of : List Shape → List (List ℕ)
-targets_of row = map (λ b. map (λ e. e.target) (edges_in b.slots)) row
+abbrev pub targets_in_row : List Shape → List (List ℕ)
+targets_in_row row = map (λ b. map (λ e. e.target) (edges_in b.slots)) row
 
 -- an insertion at time 9, where insert_at is one at time 1
 abbrev pub insert_late : ℕ → Resolved
@@ -41,7 +41,7 @@ pub record AreExamples : Type 0 where
   pub overflows : Leaves many (32 ∷ 1 ∷ []) 2 0
   -- an edge goes into the first block with room, at the lowest free slot: the second block is not touched
   pub first_with_room : Leaves (row_by (remove_at 0 ∷ insert_at 33 ∷ []) (row_end many)) (32 ∷ 1 ∷ []) 1 1
-  pub lowest_free : targets_of
+  pub lowest_free : targets_in_row
       (row_end (row_by (insert_at 3 ∷ remove_at 1 ∷ insert_at 4 ∷ []) (row_end (row_by (map insert_at (range_with_len 0 3)) []))))
       ≡ (0 ∷ 4 ∷ 2 ∷ 3 ∷ []) ∷ []
   -- a touched block without edges is left out, and takes no fresh block

@@ -2,7 +2,6 @@ pub mod Slots
 pub mod Columns
 pub mod Lending
 pub mod Laws
-pub mod Operations
 pub mod Rows
 pub mod Batches
 pub mod Listed

@@ -4,7 +4,7 @@ use Rattle.std.specs.{Prelude.if◌then◌else◌, List.{list_any, list_all, sum
 use Rattle.std.specs.declared.option.Option.TheVariants.{None, Some}
 use Rattle.graph_types.specs.{Graph.{Key, Stamp}, declared.{changes.EdgeChange.EdgeChange, batches.Outcome.Outcome}}
 use Rattle.graph_types.specs.{declared.batches.Outcome.TheVariants.{Inserted, Updated, Removed}, Step.{stamp_after, outcome_at}}
-use Rattle.edge_block.specs.Slots.{BlockView, Slot, is_free, stamp_at, AreDistinct, at_first, put_slot, take_slot, edges_in}
+use Rattle.edge_block.specs.Slots.{BlockView, Slot, is_free_slot, stamp_at, AreDistinct, at_first, put_slot, take_slot, edges_in}
 use Rattle.edge_block.specs.Slots.{first_some, NoKeyTwice, slots_since, old_in, has_before}
 
 -- a block without its number and source: its kind and its 32 slots
@@ -20,10 +20,10 @@ abbrev pub block_at : Shape → ℕ × ℕ → Option Stamp
 block_at b place = if place.0 == b.kind then stamp_at b.slots place.1 else None
 
 abbrev pub has_room : ℕ → Shape → Bool
-has_room kind b = (kind == b.kind) && list_any is_free b.slots
+has_room kind b = (kind == b.kind) && list_any is_free_slot b.slots
 
 abbrev pub has_none : Shape → Bool
-has_none b = list_all is_free b.slots
+has_none b = list_all is_free_slot b.slots
 
 -- what the row's edge of a kind to a target bears
 abbrev pub row_at : List Shape → ℕ × ℕ → Option Stamp

@@ -31,9 +31,9 @@ edge_stamp weight first recent = record { weight = weight; first = first; recent
 abbrev pub edge_slot : ℕ → ℤ → ℕ → ℕ → Slot
 edge_slot target weight first recent = record { target = target; stamp = edge_stamp weight first recent }
 
-abbrev pub is_free : Option Slot → Bool
-is_free None = true
-is_free (Some e) = false
+abbrev pub is_free_slot : Option Slot → Bool
+is_free_slot None = true
+is_free_slot (Some e) = false
 
 -- the edges of slots, in slot order
 abbrev pub edges_in : List (Option Slot) → List Slot
@@ -42,31 +42,31 @@ edges_in (None ∷ slots) = edges_in slots
 edges_in (Some e ∷ slots) = e ∷ edges_in slots
 
 -- what a slot's edge bears, where it is one to the target
-abbrev pub slot_at : Option Slot → ℕ → Option Stamp
-slot_at None target = None
-slot_at (Some e) target = if target == e.target then Some e.stamp else None
+abbrev pub stamp_in_slot : Option Slot → ℕ → Option Stamp
+stamp_in_slot None target = None
+stamp_in_slot (Some e) target = if target == e.target then Some e.stamp else None
 
 -- whether a slot's edge is one to the target
 abbrev pub holds : ℕ → Option Slot → Bool
-holds target s = is_some (slot_at s target)
+holds target s = is_some (stamp_in_slot s target)
 
 -- what the edge to a target bears, where there is one
 abbrev pub stamp_at : List (Option Slot) → ℕ → Option Stamp
-stamp_at slots target = first_some (λ s. slot_at s target) slots
+stamp_at slots target = first_some (λ s. stamp_in_slot s target) slots
 
 -- no two slots have edges to one target
 abbrev pub AreDistinct : List (Option Slot) → Type 0
-AreDistinct slots = NoKeyTwice slot_at slots
+AreDistinct slots = NoKeyTwice stamp_in_slot slots
 
 -- an edge written over the slot of its target, or into the lowest free slot
 abbrev pub put_slot : Slot → List (Option Slot) → List (Option Slot)
 put_slot e slots =
     if list_any (holds e.target) slots then at_first (holds e.target) (λ _. Some e) slots
-    else at_first is_free (λ _. Some e) slots
+    else at_first is_free_slot (λ _. Some e) slots
 
 -- whether an edge to the target can be put: the target is there, or a slot is free
 abbrev pub has_room_for : ℕ → List (Option Slot) → Bool
-has_room_for target slots = list_any (holds target) slots || list_any is_free slots
+has_room_for target slots = list_any (holds target) slots || list_any is_free_slot slots
 
 -- without the edge to the target
 abbrev pub take_slot : ℕ → List (Option Slot) → List (Option Slot)

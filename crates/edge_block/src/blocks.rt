@@ -7,7 +7,7 @@ ghost use Rattle.std.specs.List.{list_any};
 ghost use Rattle.graph_types.specs.Graph.{IsWeight, IsTime};
 ghost use Rattle.graph_types.specs.View.{in_view, takes_kind};
 ghost use Rattle.lane_scan.specs.Masks.{AreBoundsOf};
-ghost use Rattle.edge_block.specs.Slots.{IsBlock, IsStamp, edges_in, edge_slot, is_free, empty_block, entries_of, holds};
+ghost use Rattle.edge_block.specs.Slots.{IsBlock, IsStamp, edges_in, edge_slot, is_free_slot, empty_block, entries_of, holds};
 ghost use Rattle.edge_block.specs.Slots.{slots_since, old_in, has_before, IsOld};
 ghost use Rattle.edge_block.specs.Slots.{has_room_for, put_slot, take_slot, stamp_at, targets_in, with_slots};
 
@@ -152,7 +152,7 @@ impl Block {
 
     /// Whether no slot is free.
     pub fn is_full(&self) -> bool
-        ensures { list_any is_free self.now.slots ≡ not result }
+        ensures { list_any is_free_slot self.now.slots ≡ not result }
     {
         self.live == u32::MAX
     }
@@ -355,7 +355,7 @@ impl Block {
     /// What the columns have at a place.
     fn edge_at(&self, place: usize) -> EdgeRef<'_>
         requires within { place < 32 }
-        requires has_edge { is_free (slice_index_or self.now.slots place None) ≡ false }
+        requires has_edge { is_free_slot (slice_index_or self.now.slots place None) ≡ false }
         ensures kind { result.kind.0 ≡ self.now.kind }
         ensures edge { slice_index_or self.now.slots place None
             ≡ Some (edge_slot result.target.now result.weight.now result.first.now result.recent.now) }

@@ -10,9 +10,10 @@ ghost use Rattle.graph_types.specs.declared.batches.NamedOp.{NamedOp};
 ghost use Rattle.graph_types.specs.declared.batches.Outcome.TheVariants.{Expired};
 ghost use Rattle.edge_block.specs.Examples.{AreExamples};
 ghost use Rattle.edge_block.specs.Rows.{Shape, OpenBlock, row_end, expire_row};
-ghost use Rattle.edge_block.specs.Batches.{Resolved, IsWithin, IsLayoutOf, acts_on, layout_after, outcomes_all, resolved, resolved_by};
-ghost use Rattle.edge_block.specs.Batches.{InAll, opened, rows_all, outcome_in};
-ghost use Rattle.edge_block.specs.Batches.{shard_ops, is_in_shard, picked, joined};
+ghost use Rattle.edge_block.specs.Batches.{Resolved, HasEndsWithin, IsLayoutOf, acts_on, layout_after, outcomes_all, resolved, resolved_by};
+ghost use Rattle.edge_block.specs.Batches.{InAll, opened_rows, rows_all, outcome_in};
+ghost use Rattle.edge_block.specs.Batches.{shard_ops, is_in_shard, picked};
+ghost use Rattle.graph_types.specs.Outcomes.{joined};
 ghost use Rattle.edge_block.specs.Listed.{edges_below, AreListedOnce};
 
 /// A batch leaves a layout of the graph that it leaves, and the outcomes in its rows are the operation rule's, for
@@ -20,11 +21,11 @@ ghost use Rattle.edge_block.specs.Listed.{edges_below, AreListedOnce};
 /// the names that the batch leaves.
 #[tactic(auto, using(crate::proofs::GraphLaws::batch_layout))]
 pub fn law_batch_layout()
-    ensures { (ops : List NamedOp) (g : Graph) (layout : ℕ → List Shape) (n : ℕ) → IsWithin g → IsLayoutOf layout g.edges
+    ensures { (ops : List NamedOp) (g : Graph) (layout : ℕ → List Shape) (n : ℕ) → HasEndsWithin g → IsLayoutOf layout g.edges
         → length (after_all ops g).names ≤ n
         → IsLayoutOf (layout_after ops g layout) (after_all ops g).edges
-        × (outcomes_all (range_with_len 0 n) (resolved ops g) (opened layout) ≡ outcomes ops g)
-        × IsWithin (after_all ops g) }
+        × (outcomes_all (range_with_len 0 n) (resolved ops g) (opened_rows layout) ≡ outcomes ops g)
+        × HasEndsWithin (after_all ops g) }
 {}
 
 /// An expiry alone leaves a layout of the edges that stay, and counts those that go, over so many sources that each edge is
@@ -33,8 +34,8 @@ pub fn law_batch_layout()
 pub fn law_expiry_layout()
     ensures { (time : ℕ) (edges : FinMap key_cmp Stamp) (layout : ℕ → List Shape) (n : ℕ) → IsLayoutOf layout edges
         → ((k : Key) → is_some (get edges k) ≡ true → k.source < n)
-        → IsLayoutOf (λ source. row_end (expire_row time (opened layout source))) (expired time edges)
-        × (outcome_in (range_with_len 0 n) (InAll time) (opened layout) ≡ Expired (count_before time edges)) }
+        → IsLayoutOf (λ source. row_end (expire_row time (opened_rows layout source))) (expired time edges)
+        × (outcome_in (range_with_len 0 n) (InAll time) (opened_rows layout) ≡ Expired (count_before time edges)) }
 {}
 
 /// A shard's operations alone leave its sources' rows as the whole batch does, for every number of workers.

@@ -9,7 +9,7 @@ use Rattle.graph_types.specs.{Graph.Graph, declared.ids.Edge.Edge, declared.requ
 use Rattle.epoch_core.specs.declared.{states.{Version.Version, Opening.Opening}, session_states.SessionState.SessionState}
 use Rattle.epoch_core.specs.declared.events.Event.{Event, TheVariants.{Reply, Release, Take, Fill, Post, Floor, Recycle, Pin}}
 use Rattle.epoch_core.specs.{declared.events.Event.TheVariants.{Enter, Settle, Ask, Read}, Versions.graph_at, Posting.can_post}
-use Rattle.epoch_core.specs.{Posting.version_by, Blocks.{changed_at, filled, taken, reclaimed}, Worlds.{session_of, start}}
+use Rattle.epoch_core.specs.{Posting.version_by, Blocks.{changed_at, filled_heap, status_taken, reclaimed}, Worlds.{session_of, start}}
 use Rattle.epoch_core.specs.Worlds.{Answer, IsStart, MachineState, World, held_in, last_graph, last_number, replies_of}
 use Rattle.epoch_core.specs.{Posts.posted, Runs.{Runs, is_done, next_world}, Sound.{IsSessionSound, IsSound}, Machine.with_status}
 use Rattle.epoch_core.specs.Machine.{Answers, Question, move, question_in, question_of, to_ask, to_enter, to_pin, to_read}
@@ -201,9 +201,9 @@ replying_accounts s t w rest sound =
 
 accounts : (s : ℕ) (w : World) (e : Event) (rest : List Observation) → IsSound w → Accounts s w e rest
 accounts s w (Take b) rest sound = calm_accounts s w _ rest (is_done w (Take b)) sound
-    (calm_status s w (changed_at taken w.status b))
+    (calm_status s w (changed_at status_taken w.status b))
 accounts s w (Fill b edges) rest sound = calm_accounts s w _ rest (is_done w (Fill b edges)) sound
-    (calm_heap s w (filled w.status w.heap b edges))
+    (calm_heap s w (filled_heap w.status w.heap b edges))
 accounts s w (Post batch blocks) rest sound =
     calm_accounts s w _ rest (is_done w (Post batch blocks)) sound
     (calm_if s (can_post w.opening w.heap w.status w.versions batch blocks) w (posted w batch blocks)

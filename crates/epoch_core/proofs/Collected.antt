@@ -4,8 +4,8 @@ use Rattle.std.proofs.{Common.{get_or, set, refl, sym, ap, subst, ◌∙◌, ari
 use Rattle.std.{proofs.lemmas.Bool.Decides.nat_tests, specs.{Prelude.slice_get, List.list_any, Option.unwrap_or}}
 use Rattle.std.specs.declared.option.Option.{Option, TheVariants.{None, Some}}
 use Rattle.block_reclamation.specs.declared.{copies.{PinCopy.PinCopy, Pin.Pin}, status.BlockStatus.BlockStatus}
-use Rattle.block_reclamation.specs.{declared.status.BlockStatus.TheVariants.{Free, Retired}, Status.{is_at, is_listed}}
-use Rattle.block_reclamation.specs.{Status.is_retired, Copies.{needs, is_between, is_before, settled_number, unsettled_number}}
+use Rattle.block_reclamation.specs.{declared.status.BlockStatus.TheVariants.{Free, Retired}, Status.{is_at, is_among}}
+use Rattle.block_reclamation.specs.{Status.is_retired, Copies.{needs, is_between, is_pin_before, settled_number, unsettled_number}}
 use Rattle.epoch_core.specs.declared.session_states.SessionState.{SessionState, TheVariants.Idle}
 use Rattle.epoch_core.specs.{declared.events.Event.TheVariants.Recycle, Blocks.reclaimed, Collections.LeavesNoneUnpinned}
 use Rattle.epoch_core.specs.{Collections.{IsSettledNeed, IsUnsettledNeed, IsPinned, collecting, LeavesWhatPinsNeed}, Worlds.World}
@@ -81,14 +81,14 @@ still (c ∷ cs) v b birth retirement at need =
     (ap (λ k. needs k birth retirement) r.copy ∙ need)
 
 was : (bs : List ℕ) (v : World) (b birth retirement : ℕ) → IsRetiredAt (run (map Recycle bs) v) b birth retirement
-    → IsRetiredAt v b birth retirement × (is_listed b bs ≡ true → needs v.copy birth retirement ≡ true)
+    → IsRetiredAt v b birth retirement × (is_among b bs ≡ true → needs v.copy birth retirement ≡ true)
 was [] v b birth retirement at = (at, λ no. cc)
 was (c ∷ cs) v b birth retirement at =
     let r : Recycles v (next_world v (Recycle c)) c = recycles v c in
     let rest = was cs (next_world v (Recycle c)) b birth retirement at in
     let here = r.back b birth retirement rest.0 in (
       here.0,
-      elim (eqb c b) as (λ t. eqb c b ≡ t → (t || is_listed b cs) ≡ true → needs v.copy birth retirement ≡ true) [
+      elim (eqb c b) as (λ t. eqb c b ≡ t → (t || is_among b cs) ≡ true → needs v.copy birth retirement ≡ true) [
         | true ↦ λ e _. here.1 (grind (arith, e))
         | false ↦ λ _ listed. sym (ap (λ k. needs k birth retirement) r.copy) ∙ rest.1 listed
       ] refl,
@@ -129,7 +129,7 @@ found number p (session ∷ sessions) k never none is =
 settled_need : (w : World) (birth retirement : ℕ) → Found settled_number (is_between birth retirement) w.sessions → IsSettledNeed w birth retirement
 settled_need w birth retirement f = grind (arith, common_steps)
 
-unsettled_need : (w : World) (retirement : ℕ) → Found unsettled_number (is_before retirement) w.sessions → IsUnsettledNeed w retirement
+unsettled_need : (w : World) (retirement : ℕ) → Found unsettled_number (is_pin_before retirement) w.sessions → IsUnsettledNeed w retirement
 unsettled_need w retirement f = grind (arith, common_steps)
 
 pub pinned : (w : World) (birth retirement : ℕ) → retirement ≤ last_number w → needs (present_copy w) birth retirement ≡ true → IsPinned w birth retirement
@@ -146,7 +146,7 @@ pub leaves_what_pins_need : (w : World) → IsSound w → LeavesWhatPinsNeed w
 leaves_what_pins_need w sound blocks all b birth retirement = (
   λ at.
       let old = was blocks (floored w) b birth retirement at in
-      let listed : is_listed b blocks ≡ true = all b (ap (is_at is_retired) old.0) in
+      let listed : is_among b blocks ≡ true = all b (ap (is_at is_retired) old.0) in
       (old.0, pinned w birth retirement (retired_by w b birth retirement sound old.0) (old.1 listed)),
   λ h. still blocks (floored w) b birth retirement h.0 (pin_needs w birth retirement h.1),
 )

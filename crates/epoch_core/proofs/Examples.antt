@@ -9,7 +9,7 @@ use Rattle.graph_types.proofs.Keys.{keys_total, exact_keys, once_none, once_cons
 use Rattle.epoch_core.specs.declared.events.Event.{Event, TheVariants.{Release, Take, Fill, Post, Floor, Pin, Enter, Settle, Ask}}
 use Rattle.epoch_core.specs.{declared.events.Event.TheVariants.{Read, Reply}, Posting.{can_post, are_edges_of}, Worlds.World}
 use Rattle.epoch_core.specs.{Worlds.{empty_opening, start_world}, Runs.run, Holdings.{Holding, holdings_of, observations}}
-use Rattle.epoch_core.specs.Examples.{AreExamples, name_a, name_b, kind_k, put_edge, add_to_edge, edge_of, ask_edge}
+use Rattle.epoch_core.specs.Examples.{AreExamples, name_a, name_b, kind_k, one_insertion, add_to_edge, example_edge, ask_edge}
 use Rattle.epoch_core.specs.Examples.{short_batches, long_batches, of_short, of_long}
 use Rattle.epoch_core.{specs.Posts.posted, specs.Versions.left, proofs.Edges.Decides-edges}
 
@@ -35,7 +35,7 @@ graph_of_edge s = with_edges (one_edge s)
 
 -- an edge put where there is none
 first_graph : (weight : ℤ) (time : ℕ) → is_weight weight ≡ true
-    → left empty_opening (put_edge weight time ∷ []) ≡ graph_of_edge (stamp weight time time)
+    → left empty_opening (one_insertion weight time ∷ []) ≡ graph_of_edge (stamp weight time time)
 first_graph weight time fits =
     ap (λ o. with_edges (set_at nothing key (stamp_after (Insert weight time weight_limit) o))) (get-empty key_cmp key)
     ∙ ap (λ b. with_edges (set_at nothing key (cond (not b) None (Some (stamp weight time time))))) fits
@@ -68,8 +68,8 @@ once_one : (e : Edge) → HasKeysOnce (e ∷ [])
 once_one e = once_cons e [] (λ k d h. absurd (omega arith)) once_none
 
 shows_one : (g : Graph) (weight : ℤ) (time : ℕ) → g ≡ graph_of_edge (stamp weight time time)
-    → are_edges_of g (edge_of weight time) ≡ true
-shows_one g weight time is = (Decides-edges g (edge_of weight time)).1
+    → are_edges_of g (example_edge weight time) ≡ true
+shows_one g weight time is = (Decides-edges g (example_edge weight time)).1
     (record { once = once_one _; same = ap (λ h. h.edges) (sym is) })
 
 -- no edges are once each the edges of the graph without edges
@@ -84,34 +84,34 @@ sees s w batch blocks rest can = grind (arith, common_steps)
 -- The short run
 
 abbrev short_fill : World
-short_fill = run (Take 0 ∷ Fill 0 (edge_of (pos 1) 1) ∷ []) (start_world 1 1)
+short_fill = run (Take 0 ∷ Fill 0 (example_edge (pos 1) 1) ∷ []) (start_world 1 1)
 
 abbrev short_rest : List Event
 short_rest = Pin 0 ∷ Enter 0 ∷ Ask 0 ask_edge ∷ Read 0 ∷ Reply 0 ∷ []
 
 short_holdings : of_short ≡ record { graph = left empty_opening short_batches; answered = ask_edge ∷ [] } ∷ []
-short_holdings = ap holdings_of (sees 0 short_fill (put_edge (pos 1) 1) (0 ∷ []) short_rest
+short_holdings = ap holdings_of (sees 0 short_fill (one_insertion (pos 1) 1) (0 ∷ []) short_rest
     (shows_one _ (pos 1) 1 (first_graph (pos 1) 1 refl)))
 
 -- The long run
 
 abbrev long_fill : World
-long_fill = run (Take 1 ∷ Fill 1 (edge_of (pos 7) 1) ∷ []) (posted (start_world 2 3) [] [])
+long_fill = run (Take 1 ∷ Fill 1 (example_edge (pos 7) 1) ∷ []) (posted (start_world 2 3) [] [])
 
 abbrev long_more : World
-long_more = run (Pin 1 ∷ Take 2 ∷ Fill 2 (edge_of (pos 1) 1) ∷ []) (posted long_fill (put_edge (pos 7) 1) (1 ∷ []))
+long_more = run (Pin 1 ∷ Take 2 ∷ Fill 2 (example_edge (pos 1) 1) ∷ []) (posted long_fill (one_insertion (pos 7) 1) (1 ∷ []))
 
 abbrev long_rest : List Event
 long_rest = Enter 1 ∷ Pin 0 ∷ Enter 0 ∷ Settle 0 ∷ Floor ∷ Ask 0 ask_edge ∷ Read 0 ∷ Reply 0 ∷ Release 0 ∷ []
 
 abbrev long_after : List Event
-long_after = Pin 1 ∷ Take 2 ∷ Fill 2 (edge_of (pos 1) 1) ∷ Post (add_to_edge (negsuc 5) 1) (2 ∷ []) ∷ long_rest
+long_after = Pin 1 ∷ Take 2 ∷ Fill 2 (example_edge (pos 1) 1) ∷ Post (add_to_edge (negsuc 5) 1) (2 ∷ []) ∷ long_rest
 
 long_holdings : of_long ≡ record { graph = left empty_opening long_batches; answered = ask_edge ∷ [] } ∷ []
 long_holdings =
-    ap holdings_of (sees 0 (start_world 2 3) [] [] (Take 1 ∷ Fill 1 (edge_of (pos 7) 1) ∷ Post (put_edge (pos 7) 1) (1 ∷ [])
+    ap holdings_of (sees 0 (start_world 2 3) [] [] (Take 1 ∷ Fill 1 (example_edge (pos 7) 1) ∷ Post (one_insertion (pos 7) 1) (1 ∷ [])
     ∷ long_after) shows_none)
-    ∙ ap holdings_of (sees 0 long_fill (put_edge (pos 7) 1) (1 ∷ []) long_after (shows_one _ (pos 7) 1 (first_graph (pos 7) 1 refl)))
+    ∙ ap holdings_of (sees 0 long_fill (one_insertion (pos 7) 1) (1 ∷ []) long_after (shows_one _ (pos 7) 1 (first_graph (pos 7) 1 refl)))
     ∙ ap holdings_of (sees 0 long_more (add_to_edge (negsuc 5) 1) (2 ∷ []) long_rest (shows_one _ (pos 1) 1 long_graph))
 
 abbrev held_with : Graph → List Holding

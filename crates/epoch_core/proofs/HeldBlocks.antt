@@ -3,7 +3,7 @@ use Rattle.std.proofs.Common.{◌≡◌, ◌⊎◌, inl, inr, ℕ, zero, suc, �
 use Rattle.std.proofs.{Common.{arith, ltb}, lemmas.{Grind.common_steps, Bool.cases_lt, Bool.Decides.nat_tests}}
 use Rattle.std.specs.{Prelude.slice_get, declared.option.Option.{Option, TheVariants.{Some}}}
 use Rattle.block_reclamation.specs.declared.{status.BlockStatus.{BlockStatus, TheVariants.Retired}}
-use Rattle.block_reclamation.specs.{Status.{is_at, is_listed, is_retired, is_used}, Copies.{needs, settled_number, unsettled_number}}
+use Rattle.block_reclamation.specs.{Status.{is_at, is_among, is_retired, is_used}, Copies.{needs, settled_number, unsettled_number}}
 use Rattle.epoch_core.specs.declared.session_states.{Hold.Hold, SessionState.SessionState}
 use Rattle.epoch_core.specs.Worlds.{World, held_in, last_blocks, last_number, present_copy, seat_pin, session_of, settled_in}
 use Rattle.epoch_core.specs.{Worlds.unsettled_in, Versions.blocks_at, Runs.run, Collections.{has_settled, HaveSettled, collecting}}
@@ -106,8 +106,8 @@ pin_of : (w : World) (b birth retirement : ℕ) → IsSound w → IsRetiredAt w 
 pin_of w b birth retirement sound at (inl h) =
     let holder : Holder w (session_of w h.session) h.version =
     holder_of w (session_of w h.session) h.version (sound.sessions h.session) h.holds in
-    let lists : is_listed b (blocks_at w.opening w.versions holder.hold.version) ≡ true =
-    ap (λ n. is_listed b (blocks_at w.opening w.versions n)) holder.version_is ∙ h.lists in
+    let lists : is_among b (blocks_at w.opening w.versions holder.hold.version) ≡ true =
+    ap (λ n. is_among b (blocks_at w.opening w.versions n)) holder.version_is ∙ h.lists in
     let kept = subst (IsKeptAt holder.hold.version) at (holder.held.kept b lists) in
     holder_needs w b birth retirement h.session h.version holder.hold.settled holder refl kept.0 kept.1
 pin_of w b birth retirement sound at (inr f) =
@@ -170,16 +170,16 @@ kept_retired : (n : ℕ) (o : Option BlockStatus) → IsKeptAt n o → is_at is_
 kept_retired n o kept unused = grind (arith, common_steps)
 
 -- a retired block isn't listed by the last version, and a held block that it doesn't list is retired
-pub unlisted : (w : World) (b : ℕ) → IsSound w → is_at is_retired (slice_get w.status b) ≡ true → is_listed b (last_blocks w) ≡ false
+pub unlisted : (w : World) (b : ℕ) → IsSound w → is_at is_retired (slice_get w.status b) ≡ true → is_among b (last_blocks w) ≡ false
 unlisted w b sound is = sym (sound.used b) ∙ not_used (slice_get w.status b) is
 
-pub held_is_retired : (w : World) (b : ℕ) → IsSound w → IsHeldBlock w b → is_listed b (last_blocks w) ≡ false
+pub held_is_retired : (w : World) (b : ℕ) → IsSound w → IsHeldBlock w b → is_among b (last_blocks w) ≡ false
     → is_at is_retired (slice_get w.status b) ≡ true
 held_is_retired w b sound h none =
     let holder : Holder w (session_of w h.session) h.version =
     holder_of w (session_of w h.session) h.version (sound.sessions h.session) h.holds in
-    let lists : is_listed b (blocks_at w.opening w.versions holder.hold.version) ≡ true =
-    ap (λ n. is_listed b (blocks_at w.opening w.versions n)) holder.version_is ∙ h.lists in
+    let lists : is_among b (blocks_at w.opening w.versions holder.hold.version) ≡ true =
+    ap (λ n. is_among b (blocks_at w.opening w.versions n)) holder.version_is ∙ h.lists in
     kept_retired holder.hold.version (slice_get w.status b) (holder.held.kept b lists) (sound.used b ∙ none)
 
 pub leaves_what_is_held : (w : World) → IsSound w → LeavesWhatIsHeld w

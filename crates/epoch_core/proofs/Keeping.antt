@@ -5,9 +5,9 @@ use Rattle.std.specs.{Prelude.{slice_get, if◌then◌else◌}, declared.option.
 use Rattle.graph_types.specs.declared.ids.Edge.{Edge}
 use Rattle.block_reclamation.specs.{declared.status.BlockStatus.BlockStatus, declared.copies.PinCopy.PinCopy, Copies.needs}
 use Rattle.block_reclamation.specs.declared.status.BlockStatus.TheVariants.{Free, Granted, Used, Retired}
-use Rattle.block_reclamation.specs.Status.{is_at, is_listed, is_used, IsDated, IsKept}
+use Rattle.block_reclamation.specs.Status.{is_at, is_among, is_used, IsDated, IsKept}
 use Rattle.epoch_core.specs.declared.session_states.{Hold.Hold, SessionState.{SessionState, TheVariants.{Idle, Pinned, Holding}}}
-use Rattle.epoch_core.specs.{declared.session_states.SessionState.TheVariants.Asking, Blocks.{filled, taken, reclaimed}}
+use Rattle.epoch_core.specs.{declared.session_states.SessionState.TheVariants.Asking, Blocks.{filled_heap, status_taken, reclaimed}}
 use Rattle.epoch_core.specs.{Machine.{with_heap, with_status}, Versions.{AreEdgesOf, blocks_at, edges_at, edges_of, graph_at}}
 use Rattle.epoch_core.specs.{Versions.version_at, Worlds.{World, last_blocks, last_graph, last_number, session_of}}
 use Rattle.epoch_core.specs.Sound.{IsCovered, IsDatedAt, IsHeld, IsKeptAt, IsListedAsDated, IsListedAt, IsNamed}
@@ -40,7 +40,7 @@ carry_held old new hold c h =
       held_last = omega (arith, c.last, h.held_last);
       settled = h.settled;
       covered = subst (λ k. IsCovered k hold.version) (sym c.copy) h.covered;
-      kept = λ b is. c.kept b hold.version h.covered h.held_last (h.kept b (subst (λ bs. is_listed b bs ≡ true) blocks is));
+      kept = λ b is. c.kept b hold.version h.covered h.held_last (h.kept b (subst (λ bs. is_among b bs ≡ true) blocks is));
       shown =
           let same : edges_of new.heap (blocks_at new.opening new.versions hold.version)
           ≡ edges_of old.heap (blocks_at old.opening old.versions hold.version) = ap (edges_of new.heap) blocks ∙ pieces in
@@ -70,7 +70,7 @@ pub record FreesNone (copy : PinCopy) (before after : BlockStatus) : Type 0 wher
   pub listed : (w : World) (b : ℕ) → IsListedAsDated w b after
   pub not_kept : (n : ℕ) → IsCovered copy n → IsKept n before → ⊥
 
-pub frees_taken : (copy : PinCopy) (before after : BlockStatus) → taken before ≡ Some after → FreesNone copy before after
+pub frees_taken : (copy : PinCopy) (before after : BlockStatus) → status_taken before ≡ Some after → FreesNone copy before after
 frees_taken copy before after is = grind (arith, common_steps)
 
 abbrev freed_by : Bool → Option BlockStatus
@@ -160,7 +160,7 @@ pub record Fills (status : List BlockStatus) (heap : List (List Edge)) (b : ℕ)
   pub result : after ≡ set heap b edges
 
 pub fills : (status : List BlockStatus) (heap : List (List Edge)) (b : ℕ) (edges : List Edge) (after : List (List Edge))
-    → filled status heap b edges ≡ Some after → Fills status heap b edges after
+    → filled_heap status heap b edges ≡ Some after → Fills status heap b edges after
 fills status heap b edges after is = grind (arith, common_steps)
 
 pub sound_fill : (w : World) (b : ℕ) (edges : List Edge) → IsSound w → slice_get w.status b ≡ Some Granted

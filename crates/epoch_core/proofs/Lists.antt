@@ -5,7 +5,7 @@ use Rattle.std.{proofs.lemmas.{List.append_assoc, Grind.common_steps, Bool.eq-eq
 use Rattle.std.specs.{List.{enumerate_from, flat_map}, declared.option.Option.{Option, TheVariants.Some}, Option.option_map}
 use Rattle.std.specs.Option.{option_and_then}
 use Rattle.epoch_core.specs.Blocks.{changed_at}
-use Rattle.block_reclamation.specs.Status.{is_listed}
+use Rattle.block_reclamation.specs.Status.{is_among}
 
 pub option_map_some : {A B : Type 0} (f : A → B) (o : Option A) (y : B) → option_map f o ≡ Some y → (x : A) × (o ≡ Some x)
     × (y ≡ f x)
@@ -76,27 +76,27 @@ neither a b = grind (arith, common_steps)
 pub true_or_false : (b : Bool) → (b ≡ true) ⊎ (b ≡ false)
 true_or_false b = grind (arith, common_steps)
 
-pub all_listed : (p : ℕ → Bool) (bs : List ℕ) (b : ℕ) → list_all p bs ≡ true → is_listed b bs ≡ true → p b ≡ true
+pub all_listed : (p : ℕ → Bool) (bs : List ℕ) (b : ℕ) → list_all p bs ≡ true → is_among b bs ≡ true → p b ≡ true
 all_listed p [] b all is = cc
 all_listed p (c ∷ cs) b all is =
-    elim (eqb c b) as (λ t. eqb c b ≡ t → (t || is_listed b cs) ≡ true → p b ≡ true) [
+    elim (eqb c b) as (λ t. eqb c b ≡ t → (t || is_among b cs) ≡ true → p b ≡ true) [
       | true ↦ λ e _. let same : c ≡ b = grind (arith, e) in subst (λ x. p x ≡ true) same (and_left _ _ all)
       | false ↦ λ _ rest. all_listed p cs b (and_right _ _ all) rest
     ] refl is
 
 -- a function on numbers that agrees on what is listed makes the same list of pieces
-pub same_pieces : {A : Type 0} (f g : ℕ → List A) (bs : List ℕ) → ((b : ℕ) → is_listed b bs ≡ true → f b ≡ g b)
+pub same_pieces : {A : Type 0} (f g : ℕ → List A) (bs : List ℕ) → ((b : ℕ) → is_among b bs ≡ true → f b ≡ g b)
     → flat_map f bs ≡ flat_map g bs
 same_pieces f g [] same = refl
 same_pieces f g (b ∷ bs) same =
-    let here : f b ≡ g b = same b (ap (λ t. t || is_listed b bs) (eq-eqb b b refl)) in
+    let here : f b ≡ g b = same b (ap (λ t. t || is_among b bs) (eq-eqb b b refl)) in
     let rest : flat_map f bs ≡ flat_map g bs = same_pieces f g bs
-    (λ c is. same c (elim (eqb b c) as (λ t. (t || is_listed c bs) ≡ true) [ true ↦ refl | false ↦ is ])) in
+    (λ c is. same c (elim (eqb b c) as (λ t. (t || is_among c bs) ≡ true) [ true ↦ refl | false ↦ is ])) in
     cc
 
-pub listed_take : (n b : ℕ) (bs : List ℕ) → is_listed b (take n bs) ≡ true → is_listed b bs ≡ true
+pub listed_take : (n b : ℕ) (bs : List ℕ) → is_among b (take n bs) ≡ true → is_among b bs ≡ true
 listed_take zero b bs is = cc
 listed_take (suc n) b [] is = cc
 listed_take (suc n) b (c ∷ cs) is =
-    elim (eqb c b) as (λ t. (t || is_listed b (take n cs)) ≡ true → (t || is_listed b cs)
+    elim (eqb c b) as (λ t. (t || is_among b (take n cs)) ≡ true → (t || is_among b cs)
     ≡ true) [ true ↦ λ _. refl | false ↦ λ rest. listed_take n b cs rest ] is

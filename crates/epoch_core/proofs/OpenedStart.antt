@@ -6,16 +6,16 @@ use Rattle.std.proofs.lemmas.List.Elements.{All-nil, All-cons}
 use Rattle.std.specs.{Prelude.slice_get, List.flat_map, declared.option.Option.TheVariants.Some}
 use Rattle.epoch_core.{proofs.PostRule.differ_head, proofs.Lists.set_same, proofs.Lists.set_else, specs.Sound.IsCore}
 use Rattle.epoch_core.specs.{Versions.AreEdgesOf, Versions.edges_at, declared.session_states.SessionState.TheVariants.Idle}
-use Rattle.epoch_core.specs.Opened.{Lists, numbers_in, heap_with, status_with, opened_state_in, IsOpeningIn}
+use Rattle.epoch_core.specs.Opened.{BlockLists, numbers_in, heap_with, status_with, opened_state_in, IsOpeningIn}
 use Rattle.epoch_core.{specs.Worlds.IsStart, specs.Worlds.HasContents, proofs.Steps.sound_start, proofs.Steps.free_at}
 use Rattle.graph_types.{proofs.Counts.apart_tail, specs.{Graph.graph_in, Limits.LimitsView, declared.{ids.Edge.Edge, contents.Content.Content}}}
-use Rattle.block_reclamation.specs.{declared.status.BlockStatus.{BlockStatus, TheVariants.{Free, Used}}, Status.is_listed}
+use Rattle.block_reclamation.specs.{declared.status.BlockStatus.{BlockStatus, TheVariants.{Free, Used}}, Status.is_among}
 
-length-heap_with : (lists : Lists) (heap : List (List Edge)) → length (heap_with lists heap) ≡ length heap
+length-heap_with : (lists : BlockLists) (heap : List (List Edge)) → length (heap_with lists heap) ≡ length heap
 length-heap_with [] heap = refl
 length-heap_with (l ∷ lists) heap = length-heap_with lists (set heap l.0 l.1) ∙ length-set heap l.0 l.1
 
-length-status_with : (lists : Lists) (status : List BlockStatus) → length (status_with lists status) ≡ length status
+length-status_with : (lists : BlockLists) (status : List BlockStatus) → length (status_with lists status) ≡ length status
 length-status_with [] status = refl
 length-status_with (l ∷ lists) status = length-status_with lists (set status l.0 (Used 0)) ∙ length-set status l.0 (Used 0)
 
@@ -24,31 +24,31 @@ same_either true = refl
 same_either false = refl
 
 -- what each block is
-status_at : (lists : Lists) (status : List BlockStatus) (b : ℕ) (s : BlockStatus) → slice_get status b ≡ Some s
-    → slice_get (status_with lists status) b ≡ Some (cond (is_listed b (numbers_in lists)) (Used 0) s)
+status_at : (lists : BlockLists) (status : List BlockStatus) (b : ℕ) (s : BlockStatus) → slice_get status b ≡ Some s
+    → slice_get (status_with lists status) b ≡ Some (cond (is_among b (numbers_in lists)) (Used 0) s)
 status_at [] status b s at = at
 status_at (l ∷ lists) status b s at =
     elim (l.0 == b) as (λ t. l.0 == b ≡ t → slice_get (status_with lists (set status l.0 (Used 0))) b
-    ≡ Some (cond (t || is_listed b (numbers_in lists)) (Used 0) s)) [
+    ≡ Some (cond (t || is_among b (numbers_in lists)) (Used 0) s)) [
       | true ↦ λ t.
           let same : l.0 ≡ b = eqb-true l.0 b t in
           status_at lists (set status l.0 (Used 0)) b (Used 0)
           (ap (slice_get (set status l.0 (Used 0))) (sym same) ∙ set_same status l.0 s (Used 0) (ap (slice_get status) same ∙ at))
-          ∙ ap (λ x. Some x) (same_either (is_listed b (numbers_in lists)))
+          ∙ ap (λ x. Some x) (same_either (is_among b (numbers_in lists)))
       | false ↦ λ t.
           status_at lists (set status l.0 (Used 0)) b s
           (set_else status l.0 b (Used 0) (λ e. eqb-false l.0 b t (sym e)) ∙ at)
     ] refl
 
 -- a block that isn't listed keeps its edges
-heap_else : (lists : Lists) (heap : List (List Edge)) (b : ℕ) → All (λ c. b ≢ c) (numbers_in lists)
+heap_else : (lists : BlockLists) (heap : List (List Edge)) (b : ℕ) → All (λ c. b ≢ c) (numbers_in lists)
     → edges_at (heap_with lists heap) b ≡ edges_at heap b
 heap_else [] heap b apart = refl
 heap_else (l ∷ lists) heap b apart =
     heap_else lists (set heap l.0 l.1) b (All-tail (λ c. b ≢ c) l.0 (numbers_in lists) apart)
     ∙ get_or-set_other heap l.0 b l.1 [] (All-head (λ c. b ≢ c) l.0 (numbers_in lists) apart)
 
-heap_all : (lists : Lists) (heap : List (List Edge)) → All (λ l. l.0 < length heap) lists → AllPairs ◌≢◌ (numbers_in lists)
+heap_all : (lists : BlockLists) (heap : List (List Edge)) → All (λ l. l.0 < length heap) lists → AllPairs ◌≢◌ (numbers_in lists)
     → flat_map (edges_at (heap_with lists heap)) (numbers_in lists) ≡ flat_map (λ l. l.1) lists
 heap_all [] heap within different = refl
 heap_all (l ∷ lists) heap within different =
@@ -60,14 +60,14 @@ heap_all (l ∷ lists) heap within different =
     (subst (λ n. All (In n) lists) (sym (length-set heap l.0 l.1)) (All-tail (In (length heap)) l lists within))
     (apart_tail l.0 (numbers_in lists) different) i)
 
-numbers_within : (blocks : ℕ) (lists : Lists) → All (λ l. l.0 < blocks) lists → All (λ b. b < blocks) (numbers_in lists)
+numbers_within : (blocks : ℕ) (lists : BlockLists) → All (λ l. l.0 < blocks) lists → All (λ b. b < blocks) (numbers_in lists)
 numbers_within blocks [] within = All-nil (λ b. b < blocks)
 numbers_within blocks (l ∷ lists) within =
     let In : ℕ × List Edge → Type 0 = λ x. x.0 < blocks in
     All-cons (λ b. b < blocks) l.0 (numbers_in lists) (All-head In l lists within)
     (numbers_within blocks lists (All-tail In l lists within))
 
-module _ (limits : LimitsView) (sessions blocks : ℕ) (content : Content) (lists : Lists)
+module _ (limits : LimitsView) (sessions blocks : ℕ) (content : Content) (lists : BlockLists)
     (is : IsOpeningIn limits blocks content lists) where
   long_status : length (status_with lists (replicate blocks Free)) ≡ blocks
   long_status = length-status_with lists (replicate blocks Free) ∙ length-replicate blocks Free

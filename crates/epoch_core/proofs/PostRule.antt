@@ -10,24 +10,24 @@ use Rattle.epoch_core.specs.{Blocks.all_differ, declared.events.Event.TheVariant
 use Rattle.epoch_core.specs.{Runs.is_done, Posting.{all_listable, can_post, graph_after, is_listable}, Versions.edges_of}
 use Rattle.epoch_core.{specs.Posts.{MayPost, posted}, proofs.{Lists.{and_left, and_right, neither}, Edges.Decides-edges}}
 use Rattle.block_reclamation.specs.declared.status.BlockStatus.{BlockStatus, TheVariants.Granted}
-use Rattle.block_reclamation.specs.Status.{is_at, is_granted, is_listed}
+use Rattle.block_reclamation.specs.Status.{is_at, is_granted, is_among}
 
 Decides-granted : (o : Option BlockStatus) → Decides (is_at is_granted o) (o ≡ Some Granted)
 Decides-granted o = grind (arith, common_steps)
 
 Decides-listable : (status : List BlockStatus) (last : List ℕ) (blocks : List ℕ)
-    → Decides (all_listable status last blocks) (All (λ b. (slice_get status b ≡ Some Granted) ⊎ IsTrue (is_listed b last)) blocks)
+    → Decides (all_listable status last blocks) (All (λ b. (slice_get status b ≡ Some Granted) ⊎ IsTrue (is_among b last)) blocks)
 Decides-listable status last blocks =
-    Decides-by_and (is_listable status last) (λ b. (slice_get status b ≡ Some Granted) ⊎ IsTrue (is_listed b last))
+    Decides-by_and (is_listable status last) (λ b. (slice_get status b ≡ Some Granted) ⊎ IsTrue (is_among b last))
     (all_listable status last)
     (λ b. Decides-or _ _ (Decides-granted (slice_get status b)) (λ t. t, λ t. t)) refl (λ _ _. refl) blocks
 
 -- a number that isn't listed differs from each that is
-Decides-unlisted : (b : ℕ) (bs : List ℕ) → Decides (not (is_listed b bs)) (All (λ c. b ≢ c) bs)
+Decides-unlisted : (b : ℕ) (bs : List ℕ) → Decides (not (is_among b bs)) (All (λ c. b ≢ c) bs)
 Decides-unlisted b bs =
-    Decides-by_and (λ c. not (eqb c b)) (λ c. b ≢ c) (λ cs. not (is_listed b cs))
+    Decides-by_and (λ c. not (eqb c b)) (λ c. b ≢ c) (λ cs. not (is_among b cs))
     (λ c. Decides-like _ (λ apart same. apart (sym same)) (λ apart same. apart (sym same)) (Decides-not _ (Decides-eqb c b)))
-    refl (λ c cs. neither (eqb c b) (is_listed b cs)) bs
+    refl (λ c cs. neither (eqb c b) (is_among b cs)) bs
 
 pub differ_head : (b : ℕ) (bs : List ℕ) → AllPairs ◌≢◌ (b ∷ bs) → All (λ c. b ≢ c) bs
 differ_head b bs all = λ k d h. all 0 (suc k) d (omega arith) (omega arith)

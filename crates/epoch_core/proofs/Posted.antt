@@ -11,14 +11,14 @@ use Rattle.epoch_core.specs.{Sound.{IsListedAsDated, IsListedAt, IsListedBetween
 use Rattle.epoch_core.{specs.Posting.{can_post, graph_after, is_listable, version_by}, proofs.PostRule.Decides-post}
 use Rattle.epoch_core.proofs.{PostRule.listable_of, Keeping.{Carries, carry}, Lists.{get_enumerated, length_enumerated}}
 use Rattle.epoch_core.proofs.{Lists.all_listed, Changes.{length_next, version_before, graph_before, version_next, graph_next}}
-use Rattle.block_reclamation.specs.{declared.status.BlockStatus.BlockStatus, Status.{is_at, is_granted, is_listed, is_used, IsDated}}
+use Rattle.block_reclamation.specs.{declared.status.BlockStatus.BlockStatus, Status.{is_at, is_granted, is_among, is_used, IsDated}}
 use Rattle.block_reclamation.specs.declared.status.BlockStatus.TheVariants.{Free, Granted, Used, Retired}
 
 -- the status of each block afterwards
 pub status_at : (n : ℕ) (blocks : List ℕ) (status : List BlockStatus) (b : ℕ) → slice_get (status_after n blocks status) b
-    ≡ option_map (after_post n (is_listed b blocks)) (slice_get status b)
-status_at n blocks status b = get_enumerated (λ i s. after_post n (is_listed i blocks) s) 0 status b
-    ∙ (let e : 0 + b ≡ b = omega arith in ap (λ i. option_map (after_post n (is_listed i blocks)) (slice_get status b)) e)
+    ≡ option_map (after_post n (is_among b blocks)) (slice_get status b)
+status_at n blocks status b = get_enumerated (λ i s. after_post n (is_among i blocks) s) 0 status b
+    ∙ (let e : 0 + b ≡ b = omega arith in ap (λ i. option_map (after_post n (is_among i blocks)) (slice_get status b)) e)
 
 used_after : (n : ℕ) (t : Bool) (o : Option BlockStatus) → (t ≡ true → (is_at is_granted o || is_at is_used o) ≡ true)
     → is_at is_used (option_map (after_post n t) o) ≡ t
@@ -64,8 +64,8 @@ named_posted w batch blocks sound n h =
 
 -- a new version lists the blocks that it is posted on, and each older one those that it did
 between_after : (w : World) (batch : List NamedOp) (blocks : List ℕ) (b first end : ℕ)
-    → ((n : ℕ) → first ≤ n → n ≤ last_number w → is_listed b (blocks_at w.opening w.versions n) ≡ ltb n end)
-    → is_listed b blocks ≡ ltb (last_number w + 1) end → IsListedBetween (posted w batch blocks) b first end
+    → ((n : ℕ) → first ≤ n → n ≤ last_number w → is_among b (blocks_at w.opening w.versions n) ≡ ltb n end)
+    → is_among b blocks ≡ ltb (last_number w + 1) end → IsListedBetween (posted w batch blocks) b first end
 between_after w batch blocks b first end old new = λ n low high.
     let v : Version = version_by w.opening w.versions batch blocks in
     let next : last_number (posted w batch blocks) ≡ suc (length w.versions) = length_next w.versions v in
@@ -74,10 +74,10 @@ between_after w batch blocks b first end old new = λ n low high.
           let at : blocks_at w.opening (w.versions ++ v ∷ []) n ≡ blocks =
           ap (blocks_at w.opening (w.versions ++ v ∷ [])) e ∙ ap (λ u. u.blocks) (version_next w.opening w.versions v) in
           let number : n ≡ last_number w + 1 = e ∙ next ∙ sym (add-one (last_number w)) in
-          ap (is_listed b) at ∙ new ∙ ap (λ k. ltb k end) (sym number)
+          ap (is_among b) at ∙ new ∙ ap (λ k. ltb k end) (sym number)
       | inr ne ↦
           let before : n ≤ length w.versions = omega (arith, next) in
-          ap (λ u. is_listed b u.blocks) (version_before w.opening w.versions v n before) ∙ old n low before
+          ap (λ u. is_among b u.blocks) (version_before w.opening w.versions v n before) ∙ old n low before
     ]
 
 pub below : (n end : ℕ) → n < end → ltb n end ≡ true
@@ -86,7 +86,7 @@ below n end h = grind (arith, nat_tests)
 not_below : (n end : ℕ) → end ≤ n → ltb n end ≡ false
 not_below n end h = grind (arith, nat_tests)
 
-listed_after : (w : World) (batch : List NamedOp) (blocks : List ℕ) (b : ℕ) (s : BlockStatus) (t : Bool) → is_listed b blocks ≡ t
+listed_after : (w : World) (batch : List NamedOp) (blocks : List ℕ) (b : ℕ) (s : BlockStatus) (t : Bool) → is_among b blocks ≡ t
     → (t ≡ true → (is_granted s || is_used s) ≡ true) → IsDated (last_number w) s → IsListedAsDated w b s
     → IsListedAsDated (posted w batch blocks) b (after_post (last_number w + 1) t s)
 listed_after w batch blocks b Free true is may dated l = tt
@@ -109,7 +109,7 @@ listed_after w batch blocks b (Retired birth retirement) false is may dated l =
     between_after w batch blocks b birth retirement l (is ∙ sym (not_below (last_number w + 1) retirement (omega (arith, dated.1))))
 
 listed_at_after : (w : World) (batch : List NamedOp) (blocks : List ℕ) (b : ℕ) (o : Option BlockStatus) (t : Bool)
-    → is_listed b blocks ≡ t → (t ≡ true → (is_at is_granted o || is_at is_used o) ≡ true) → IsDatedAt (last_number w) o
+    → is_among b blocks ≡ t → (t ≡ true → (is_at is_granted o || is_at is_used o) ≡ true) → IsDatedAt (last_number w) o
     → IsListedAt w b o → IsListedAt (posted w batch blocks) b (option_map (after_post (last_number w + 1) t) o)
 listed_at_after w batch blocks b None t is may dated l = tt
 listed_at_after w batch blocks b (Some s) t is may dated l = listed_after w batch blocks b s t is may dated l
@@ -119,7 +119,7 @@ pub sound_posted : (w : World) (batch : List NamedOp) (blocks : List ℕ) → Is
 sound_posted w batch blocks sound can =
     let asked : MayPost w batch blocks = (Decides-post w batch blocks).0 can in
     let all : all_listable w.status (last_blocks w) blocks ≡ true = listable_of w batch blocks can in
-    let may : (b : ℕ) → is_listed b blocks ≡ true
+    let may : (b : ℕ) → is_among b blocks ≡ true
     → (is_at is_granted (slice_get w.status b) || is_at is_used (slice_get w.status b)) ≡ true = λ b is.
     ap (λ t. is_at is_granted (slice_get w.status b) || t) (sound.used b)
     ∙ all_listed (is_listable w.status (last_blocks w)) blocks b all is in
@@ -132,19 +132,19 @@ sound_posted w batch blocks sound can =
       copy_last = omega (arith, next, sound.copy_last);
       used = λ b.
           ap (is_at is_used) (status_at (last_number w + 1) blocks w.status b)
-          ∙ used_after (last_number w + 1) (is_listed b blocks) (slice_get w.status b) (may b) ∙ ap (is_listed b) (sym at);
+          ∙ used_after (last_number w + 1) (is_among b blocks) (slice_get w.status b) (may b) ∙ ap (is_among b) (sym at);
       dated = λ b. subst (λ n. IsDatedAt n (slice_get (posted w batch blocks).status b))
           (sym (next ∙ sym (add-one (last_number w))))
           (subst (IsDatedAt (last_number w + 1)) (sym (status_at (last_number w + 1) blocks w.status b))
-          (dated_after (last_number w) (is_listed b blocks) (slice_get w.status b) (sound.dated b)));
+          (dated_after (last_number w) (is_among b blocks) (slice_get w.status b) (sound.dated b)));
       listed = λ b.
           subst (IsListedAt (posted w batch blocks) b) (sym (status_at (last_number w + 1) blocks w.status b))
-          (listed_at_after w batch blocks b (slice_get w.status b) (is_listed b blocks) refl (may b) (sound.dated b)
+          (listed_at_after w batch blocks b (slice_get w.status b) (is_among b blocks) refl (may b) (sound.dated b)
           (sound.listed b));
       listed_once = subst (AllPairs ◌≢◌) (sym at) asked.different;
       shown = subst (λ g. AreEdgesOf (edges_of w.heap (last_blocks (posted w batch blocks))) g) (sym made)
           (subst (λ bs. AreEdgesOf (edges_of w.heap bs) (graph_after w.opening w.versions batch)) (sym at) asked.shown);
       named = named_posted w batch blocks sound;
       sessions = λ s. carry w (posted w batch blocks) (session_of w s) (carries_posted w batch blocks) (sound.sessions s);
-      sizes = sound.sizes ∙ sym (length_enumerated (λ p. after_post (last_number w + 1) (is_listed p.0 blocks) p.1) 0 w.status);
+      sizes = sound.sizes ∙ sym (length_enumerated (λ p. after_post (last_number w + 1) (is_among p.0 blocks) p.1) 0 w.status);
     }

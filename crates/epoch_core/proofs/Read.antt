@@ -11,7 +11,7 @@ use Rattle.epoch_core.specs.declared.{states.Version.Version, session_states.Ses
 use Rattle.epoch_core.specs.{Posting.last_content, Machine.ReadsContent, Sound.IsNamed, Sound.IsSessionSound, Sound.IsSound}
 use Rattle.epoch_core.specs.declared.session_states.SessionState.TheVariants.{Idle, Pinned, Holding, Asking}
 use Rattle.epoch_core.specs.Worlds.{HasContents, World, last_blocks, last_graph, last_number, session_of}
-use Rattle.epoch_core.specs.Versions.{IsContentGraph, AreEdgesOf, opening_graph, batches_at, blocks_at, content_with, edges_of, graph_at, version_at}
+use Rattle.epoch_core.specs.Versions.{IsContentGraph, AreEdgesOf, graph_of_opening, batches_at, blocks_at, content_with, edges_of, graph_at, version_at}
 
 same_within : (n m : ℕ) (x e : Edge) → key_of e ≡ key_of x → stamp_of e ≡ stamp_of x → IsEdgeWithin n m x → IsEdgeWithin n m e
 same_within n m x e key stamp w = record {
@@ -109,5 +109,5 @@ within_graph l c g is same = subst (λ (h : Graph). is_within_limits h ≡ true)
 pub last_graph_is : (w : World) → IsSound w → graph_in w.opening.limits (last_content w.opening w.heap w.versions) ≡ last_graph w
 last_graph_is w sound =
     let named : IsNamed w (last_number w) = sound.named (last_number w) (omega arith) in
-    let limits = limits_left_by (batches_at w.versions (last_number w)) (opening_graph w.opening) in
+    let limits = limits_left_by (batches_at w.versions (last_number w)) (graph_of_opening w.opening) in
     λ i. record { names = named.names i; kinds = named.kinds i; edges = sound.shown.same i; limits = sym limits i }

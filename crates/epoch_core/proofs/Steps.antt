@@ -7,13 +7,13 @@ use Rattle.std.specs.declared.option.Option.{Option, TheVariants.None, TheVarian
 use Rattle.graph_types.specs.Limits.{LimitsView}
 use Rattle.graph_types.{specs.declared.ids.Edge.Edge, proofs.Keys.once_none}
 use Rattle.block_reclamation.specs.declared.status.BlockStatus.{BlockStatus, TheVariants.Free, TheVariants.Used}
-use Rattle.block_reclamation.specs.Status.{is_at, is_listed, is_used, IsDated}
+use Rattle.block_reclamation.specs.Status.{is_at, is_among, is_used, IsDated}
 use Rattle.epoch_core.specs.declared.{session_states.SessionState.TheVariants.Idle, events.Event.{Event, TheVariants.Reply}}
 use Rattle.epoch_core.specs.declared.events.Event.TheVariants.{Release, Take, Fill, Post, Floor, Recycle, Pin, Enter, Settle, Ask}
 use Rattle.epoch_core.specs.{declared.events.Event.TheVariants.Read, Posts.posted, Worlds.{IsStart, World, last_number, session_of}}
 use Rattle.epoch_core.specs.Worlds.{start_in}
 use Rattle.epoch_core.specs.Versions.{blocks_at}
-use Rattle.epoch_core.specs.{Worlds.MachineState, Sound.{IsDatedAt, IsListedAsDated, IsListedAt, IsNamed, IsSound}, Blocks.{changed_at, taken, reclaimed}}
+use Rattle.epoch_core.specs.{Worlds.MachineState, Sound.{IsDatedAt, IsListedAsDated, IsListedAt, IsNamed, IsSound}, Blocks.{changed_at, status_taken, reclaimed}}
 use Rattle.epoch_core.specs.{Runs.{next_world, run}, Posting.can_post, Machine.{step, with_heap, with_status}}
 use Rattle.epoch_core.proofs.Lists.{true_or_false, option_map_some, ChangedAt, changed_at-some}
 use Rattle.epoch_core.proofs.Keeping.{FreesNone, frees_taken, frees_recycled, sound_status, Fills, fills, sound_fill}
@@ -39,7 +39,7 @@ sound_if : (t : Bool) (w after : World) → (t ≡ true → IsSound w) → (if t
 sound_if t w after sound is = grind (arith, common_steps)
 
 pub sound_step : (w after : World) (e : Event) → IsSound w → step w e ≡ Some after → IsSound after
-sound_step w after (Take b) sound is = sound_changed w after b taken sound (frees_taken w.copy) is
+sound_step w after (Take b) sound is = sound_changed w after b status_taken sound (frees_taken w.copy) is
 sound_step w after (Fill b edges) sound is = sound_filled w after b edges sound is
 sound_step w after (Post batch blocks) sound is = sound_if (can_post w.opening w.heap w.status w.versions batch blocks)
     (posted w batch blocks) after (sound_posted w batch blocks sound) is
@@ -79,22 +79,22 @@ dated_first : (t : Bool) → IsDated 0 (at_first t)
 dated_first t = grind (arith, common_steps)
 
 -- what is listed is within the bound of the list
-listed_within : (n b : ℕ) (bs : List ℕ) → All (λ c. c < n) bs → is_listed b bs ≡ true → b < n
+listed_within : (n b : ℕ) (bs : List ℕ) → All (λ c. c < n) bs → is_among b bs ≡ true → b < n
 listed_within n b [] all is = cc
 listed_within n b (c ∷ cs) all is =
-    elim (eqb c b) as (λ t. eqb c b ≡ t → (t || is_listed b cs) ≡ true → b < n) [
+    elim (eqb c b) as (λ t. eqb c b ≡ t → (t || is_among b cs) ≡ true → b < n) [
       | true ↦ λ e _. let same : c ≡ b = grind (arith, e) in subst (λ x. x < n) same (all 0 c (omega arith))
       | false ↦ λ _ rest. listed_within n b cs (λ k d h. all (suc k) d (omega arith)) rest
     ] refl is
 
 used_start : (start : MachineState) (b : ℕ) → IsStart start → is_at is_used (slice_get start.world.status b)
-    ≡ is_listed b start.world.opening.blocks
+    ≡ is_among b start.world.opening.blocks
 used_start start b is =
     elim (cases_lt b (length start.world.status)) [
-      | inl low ↦ ap (is_at is_used) (is.status b low) ∙ used_first (is_listed b start.world.opening.blocks)
+      | inl low ↦ ap (is_at is_used) (is.status b low) ∙ used_first (is_among b start.world.opening.blocks)
       | inr past ↦
           ap (is_at is_used) (slice_get_past start.world.status b past)
-          ∙ elim (true_or_false (is_listed b start.world.opening.blocks)) [
+          ∙ elim (true_or_false (is_among b start.world.opening.blocks)) [
             | inl listed ↦ let low : b < length start.world.status =
                 listed_within (length start.world.status) b start.world.opening.blocks is.within listed in absurd (omega arith)
             | inr none ↦ sym none
@@ -105,17 +105,17 @@ dated_start : (start : MachineState) (b : ℕ) → IsStart start → IsDatedAt 0
 dated_start start b is = grind (arith, common_steps, cases_lt, dated_first, slice_get_past)
 
 -- version 0 lists the blocks that are used from it on
-listed_first : (w : World) (b : ℕ) (t : Bool) → is_listed b w.opening.blocks ≡ t → last_number w ≡ 0 → IsListedAsDated w b (at_first t)
+listed_first : (w : World) (b : ℕ) (t : Bool) → is_among b w.opening.blocks ≡ t → last_number w ≡ 0 → IsListedAsDated w b (at_first t)
 listed_first w b true is none = λ n low high.
     let first : n ≡ 0 = omega arith in
-    ap (λ k. is_listed b (blocks_at w.opening w.versions k)) first ∙ is ∙ sym (below n (last_number w + 1) (omega arith))
+    ap (λ k. is_among b (blocks_at w.opening w.versions k)) first ∙ is ∙ sym (below n (last_number w + 1) (omega arith))
 listed_first w b false is none = tt
 
 listed_start : (start : MachineState) (b : ℕ) → IsStart start → IsListedAt start.world b (slice_get start.world.status b)
 listed_start start b is =
     elim (cases_lt b (length start.world.status)) [
       | inl low ↦ subst (IsListedAt start.world b) (sym (is.status b low))
-          (listed_first start.world b (is_listed b start.world.opening.blocks) refl (ap length is.alone))
+          (listed_first start.world b (is_among b start.world.opening.blocks) refl (ap length is.alone))
       | inr past ↦ subst (IsListedAt start.world b) (sym (slice_get_past start.world.status b past)) tt
     ]
 

@@ -1,7 +1,7 @@
 -- What a whole collection leaves.
 use Rattle.std.specs.Prelude.{◌≡◌, ◌↔◌, ◌⊎◌, ℕ, ◌≤◌, ◌<◌, Bool, true, false, List, ◌∷◌, map, slice_get, IsTrue, IsFalse}
 use Rattle.std.specs.declared.option.Option.TheVariants.{None, Some}
-use Rattle.block_reclamation.specs.{declared.status.BlockStatus.TheVariants.Retired, Status.{is_at, is_listed, is_retired}}
+use Rattle.block_reclamation.specs.{declared.status.BlockStatus.TheVariants.Retired, Status.{is_at, is_among, is_retired}}
 use Rattle.epoch_core.specs.declared.events.Event.{Event, TheVariants.Floor, TheVariants.Recycle}
 use Rattle.epoch_core.specs.declared.session_states.SessionState.{SessionState, TheVariants.{Idle, Pinned, Holding, Asking}}
 use Rattle.epoch_core.specs.{Worlds.World, Worlds.session_of, Worlds.pin_in, Worlds.settled_in, Worlds.unsettled_in, Runs.run}
@@ -29,7 +29,7 @@ abbrev pub collecting : List ℕ → List Event
 collecting blocks = Floor ∷ map Recycle blocks
 
 abbrev pub AreAllRetired : World → List ℕ → Type 0
-AreAllRetired w blocks = (b : ℕ) → IsTrue (is_at is_retired (slice_get w.status b)) → IsTrue (is_listed b blocks)
+AreAllRetired w blocks = (b : ℕ) → IsTrue (is_at is_retired (slice_get w.status b)) → IsTrue (is_among b blocks)
 
 -- the blocks that are still retired are exactly those that a pin needs
 abbrev pub LeavesWhatPinsNeed : World → Type 0
@@ -51,7 +51,7 @@ pub record IsHeldBlock (w : World) (b : ℕ) : Type 0 where
   pub session : ℕ
   pub version : ℕ
   pub holds : held_in (session_of w session) ≡ Some version
-  pub lists : IsTrue (is_listed b (blocks_at w.opening w.versions version))
+  pub lists : IsTrue (is_among b (blocks_at w.opening w.versions version))
 
 -- a session that is pinned holds a version, and has told its number
 abbrev pub has_settled : SessionState → Bool
@@ -69,7 +69,7 @@ abbrev pub LeavesWhatIsHeld : World → Type 0
 LeavesWhatIsHeld w =
     (blocks : List ℕ) → AreAllRetired w blocks → HaveSettled w → (b : ℕ)
     → IsTrue (is_at is_retired (slice_get (run (collecting blocks) w).status b))
-    ↔ (IsHeldBlock w b × IsFalse (is_listed b (last_blocks w)))
+    ↔ (IsHeldBlock w b × IsFalse (is_among b (last_blocks w)))
 
 -- a session that hasn't told the number of its version may come to hold each version from its pin on, and one of these
 -- lists the block
@@ -80,7 +80,7 @@ pub record IsListedFromPin (w : World) (b : ℕ) : Type 0 where
   pub is_pin : unsettled_in (session_of w session) ≡ Some pin
   pub pin_version : pin ≤ version
   pub version_last : version ≤ last_number w
-  pub lists : IsTrue (is_listed b (blocks_at w.opening w.versions version))
+  pub lists : IsTrue (is_among b (blocks_at w.opening w.versions version))
 
 -- in any case a retired block is left exactly where a held version, or one from such a pin on, lists it
 abbrev pub LeavesWhatMayBeHeld : World → Type 0

@@ -4,13 +4,13 @@ use Rattle.std.specs.{Prelude.AllPairs, declared.option.Option.TheVariants.Some}
 use Rattle.graph_types.specs.declared.ids.Edge.{Edge}
 use Rattle.epoch_core.specs.{declared.events.Event.TheVariants.Fill, Versions.blocks_at, Runs.is_done}
 use Rattle.epoch_core.specs.Worlds.{World, last_number, last_blocks, pin_in, held_in, session_of}
-use Rattle.block_reclamation.specs.Status.{is_at, is_free, is_granted, is_retired, is_listed}
+use Rattle.block_reclamation.specs.Status.{is_at, is_free, is_granted, is_retired, is_among}
 
 -- no Fill that is done names a block in the list of a version that some session holds
 abbrev pub FillsNoHeldBlock : World → Type 0
 FillsNoHeldBlock w =
     (b : ℕ) (edges : List Edge) (s n : ℕ) → IsTrue (is_done w (Fill b edges)) → held_in (session_of w s) ≡ Some n
-    → IsFalse (is_listed b (blocks_at w.opening w.versions n))
+    → IsFalse (is_among b (blocks_at w.opening w.versions n))
 
 -- the floor is at most each pin and at most the last number, and a holder's pin at most its held number
 pub record PinsInOrder (w : World) : Type 0 where
@@ -23,7 +23,7 @@ abbrev pub parts_with : World → ℕ → ℕ
 parts_with w b =
     count_by (λ is_in. is_in)
     (is_at is_free (slice_get w.status b) ∷ is_at is_granted (slice_get w.status b) ∷ is_at is_retired (slice_get w.status b)
-    ∷ is_listed b (last_blocks w) ∷ [])
+    ∷ is_among b (last_blocks w) ∷ [])
 
 -- each block number is in exactly one of the four, no other number is in any, and the last version lists no
 -- block twice

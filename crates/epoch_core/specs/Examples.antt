@@ -19,14 +19,14 @@ name_b = 98 ∷ []
 abbrev pub kind_k : List ℕ
 kind_k = 107 ∷ []
 
-abbrev pub put_edge : ℤ → ℕ → List NamedOp
-put_edge weight time = Insert kind_k name_a name_b weight time ∷ []
+abbrev pub one_insertion : ℤ → ℕ → List NamedOp
+one_insertion weight time = Insert kind_k name_a name_b weight time ∷ []
 
 abbrev pub add_to_edge : ℤ → ℕ → List NamedOp
 add_to_edge amount time = Incr kind_k name_a name_b amount time ∷ []
 
-abbrev pub edge_of : ℤ → ℕ → List Edge
-edge_of weight time =
+abbrev pub example_edge : ℤ → ℕ → List Edge
+example_edge weight time =
     record {
       kind = record { 0 = 0 };
       source = record { 0 = 0 };
@@ -41,21 +41,21 @@ ask_edge = OneEdge kind_k name_a name_b
 
 -- a machine with one session and one block: the edge by one batch
 abbrev pub short_batches : List (List NamedOp)
-short_batches = put_edge (pos 1) 1 ∷ []
+short_batches = one_insertion (pos 1) 1 ∷ []
 
 abbrev pub short_run : List Event
 short_run =
-    Take 0 ∷ Fill 0 (edge_of (pos 1) 1) ∷ Post (put_edge (pos 1) 1) (0 ∷ [])
+    Take 0 ∷ Fill 0 (example_edge (pos 1) 1) ∷ Post (one_insertion (pos 1) 1) (0 ∷ [])
     ∷ Pin 0 ∷ Enter 0 ∷ Ask 0 ask_edge ∷ Read 0 ∷ Reply 0 ∷ []
 
 -- a machine with two sessions and three blocks: the same edge by three batches, as version 3
 abbrev pub long_batches : List (List NamedOp)
-long_batches = [] ∷ put_edge (pos 7) 1 ∷ add_to_edge (negsuc 5) 1 ∷ []
+long_batches = [] ∷ one_insertion (pos 7) 1 ∷ add_to_edge (negsuc 5) 1 ∷ []
 
 abbrev pub long_run : List Event
 long_run =
-    Post [] [] ∷ Take 1 ∷ Fill 1 (edge_of (pos 7) 1) ∷ Post (put_edge (pos 7) 1) (1 ∷ [])
-    ∷ Pin 1 ∷ Take 2 ∷ Fill 2 (edge_of (pos 1) 1) ∷ Post (add_to_edge (negsuc 5) 1) (2 ∷ [])
+    Post [] [] ∷ Take 1 ∷ Fill 1 (example_edge (pos 7) 1) ∷ Post (one_insertion (pos 7) 1) (1 ∷ [])
+    ∷ Pin 1 ∷ Take 2 ∷ Fill 2 (example_edge (pos 1) 1) ∷ Post (add_to_edge (negsuc 5) 1) (2 ∷ [])
     ∷ Enter 1 ∷ Pin 0 ∷ Enter 0 ∷ Settle 0 ∷ Floor ∷ Ask 0 ask_edge ∷ Read 0 ∷ Reply 0 ∷ Release 0 ∷ []
 
 abbrev pub of_short : List Holding

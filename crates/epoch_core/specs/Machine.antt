@@ -8,7 +8,7 @@ use Rattle.epoch_core.specs.declared.{states.{Version.Version, Opening.Opening},
 use Rattle.epoch_core.specs.declared.events.Event.TheVariants.{Release, Take, Fill, Post, Floor, Recycle, Pin, Enter, Settle, Ask}
 use Rattle.epoch_core.specs.declared.{events.Event.TheVariants.Read, session_states.{Hold.Hold, Inquiry.Inquiry}}
 use Rattle.epoch_core.specs.declared.session_states.SessionState.{SessionState, TheVariants.{Idle, Pinned, Holding, Asking}}
-use Rattle.epoch_core.specs.{Posting.can_post, Posts.posted, Blocks.{changed_at, taken, filled, reclaimed}, Worlds.Answer}
+use Rattle.epoch_core.specs.{Posting.can_post, Posts.posted, Blocks.{changed_at, status_taken, filled_heap, reclaimed}, Worlds.Answer}
 use Rattle.epoch_core.specs.{Worlds.{World, last_number, graph_with, present_copy}, Versions.{version_at, blocks_at, edges_at}}
 use Rattle.epoch_core.specs.Versions.{content_with}
 
@@ -76,8 +76,8 @@ move w s change = option_map (with_sessions w) (changed_at change w.sessions s)
 
 -- the world after an event, and none where the event is skipped
 abbrev pub step : World → Event → Option World
-step w (Take b) = option_map (with_status w) (changed_at taken w.status b)
-step w (Fill b edges) = option_map (with_heap w) (filled w.status w.heap b edges)
+step w (Take b) = option_map (with_status w) (changed_at status_taken w.status b)
+step w (Fill b edges) = option_map (with_heap w) (filled_heap w.status w.heap b edges)
 step w (Post batch blocks) = if can_post w.opening w.heap w.status w.versions batch blocks then Some
     (posted w batch blocks) else None
 step w Floor = Some (record w { floor = floor_of (present_copy w); copy = present_copy w })

@@ -5,7 +5,7 @@ use Rattle.std.specs.declared.option.Option.{Option, TheVariants.None, TheVarian
 use Rattle.graph_types.specs.Graph.{Graph, Key, Stamp, key_of, stamp_of, graph_in, IsContentIn}
 use Rattle.graph_types.specs.{Step.after_all, Limits.LimitsView, declared.ids.Edge.Edge}
 use Rattle.graph_types.specs.{Step.is_within_limits, declared.{batches.NamedOp.NamedOp, contents.Content.Content}}
-use Rattle.block_reclamation.specs.{declared.status.BlockStatus.BlockStatus, Status.is_at, Status.is_granted, Status.is_listed}
+use Rattle.block_reclamation.specs.{declared.status.BlockStatus.BlockStatus, Status.is_at, Status.is_granted, Status.is_among}
 use Rattle.epoch_core.specs.{declared.states.{Version.Version, Opening.Opening}, Blocks.{all_differ, status_after}}
 use Rattle.epoch_core.specs.Versions.{graph_at, version_at, blocks_at, edges_of, content_with, IsContentGraph}
 
@@ -17,7 +17,7 @@ graph_after opening versions batch = after_all batch (graph_at opening versions 
 
 -- a version may list the granted blocks and those of the last version
 abbrev pub is_listable : List BlockStatus → List ℕ → ℕ → Bool
-is_listable status last b = is_at is_granted (slice_get status b) || is_listed b last
+is_listable status last b = is_at is_granted (slice_get status b) || is_among b last
 
 abbrev pub all_listable : List BlockStatus → List ℕ → List ℕ → Bool
 all_listable status last blocks = list_all (is_listable status last) blocks
@@ -69,9 +69,9 @@ last_content opening heap versions =
     content_with (version_at opening versions (length versions)) (edges_of heap (blocks_at opening versions (length versions)))
 
 -- what a batch leaves of a content; none where it would meet a limit
-abbrev pub IsAppliedTo : LimitsView → Content → List NamedOp → Option Content → Type 0
-IsAppliedTo limits content batch None = IsFalse (is_within_limits (after_all batch (graph_in limits content)))
-IsAppliedTo limits content batch (Some after) =
+abbrev pub IsContentAfter : LimitsView → Content → List NamedOp → Option Content → Type 0
+IsContentAfter limits content batch None = IsFalse (is_within_limits (after_all batch (graph_in limits content)))
+IsContentAfter limits content batch (Some after) =
     IsContentIn limits after × (graph_in limits after ≡ after_all batch (graph_in limits content))
 
 -- what a Post would set: the status of each block and the new version; none where it is skipped

@@ -2,7 +2,7 @@
 use Rattle.std.specs.Prelude.{◌≡◌, ◌≢◌, ◌⊎◌, ℕ, ◌<◌, List, [], ◌∷◌, ◌++◌, ◌+◌, slice_get, All, AllPairs, IsTrue}
 use Rattle.std.specs.declared.option.Option.TheVariants.{Some}
 use Rattle.graph_types.specs.{Step.{MeetsNameLimit, MeetsKindLimit}, declared.batches.NamedOp.NamedOp}
-use Rattle.block_reclamation.specs.{declared.status.BlockStatus.TheVariants.Granted, Status.is_listed}
+use Rattle.block_reclamation.specs.{declared.status.BlockStatus.TheVariants.Granted, Status.is_among}
 use Rattle.epoch_core.specs.{Blocks.status_after, Worlds.World, Worlds.last_number, Worlds.last_blocks, Worlds.last_graph}
 use Rattle.epoch_core.specs.{Versions.AreEdgesOf, Versions.edges_of, Posting.graph_after, Posting.version_by}
 
@@ -11,7 +11,7 @@ pub record MayPost (w : World) (batch : List NamedOp) (blocks : List ℕ) : Type
   -- there are fewer batches than the limit
   pub few : last_number w < w.opening.limits.batches
   -- each block is granted or of the last version
-  pub listable : All (λ b. (slice_get w.status b ≡ Some Granted) ⊎ IsTrue (is_listed b (last_blocks w))) blocks
+  pub listable : All (λ b. (slice_get w.status b ≡ Some Granted) ⊎ IsTrue (is_among b (last_blocks w))) blocks
   -- none is listed twice
   pub different : AllPairs ◌≢◌ blocks
   -- the batch meets no limit on names or kinds

@@ -3,7 +3,7 @@ use Rattle.std.specs.Prelude.{true, ◌≡◌, ◌≢◌, ℕ, ◌≤◌, ◌<�
 use Rattle.std.specs.declared.option.Option.{Option}
 use Rattle.block_reclamation.specs.{declared.status.BlockStatus.BlockStatus, declared.copies.PinCopy.PinCopy, Copies.needs}
 use Rattle.block_reclamation.specs.declared.status.BlockStatus.TheVariants.{Used, Retired}
-use Rattle.block_reclamation.specs.Status.{is_at, is_used, is_listed, IsDated, IsKept}
+use Rattle.block_reclamation.specs.Status.{is_at, is_used, is_among, IsDated, IsKept}
 use Rattle.epoch_core.specs.declared.session_states.{Hold.Hold, SessionState.SessionState}
 use Rattle.epoch_core.specs.declared.session_states.SessionState.TheVariants.{Idle, Pinned, Holding, Asking}
 use Rattle.epoch_core.specs.Worlds.{World, MachineState, HasContents, last_number, last_blocks, last_graph, session_of}
@@ -19,7 +19,7 @@ IsKeptAt n status = MatchOption status ⊥ (IsKept n)
 -- of the versions from number `first` on, those below number `end` list the block, and no other
 abbrev pub IsListedBetween : World → ℕ → ℕ → ℕ → Type 0
 IsListedBetween w b first end =
-    (n : ℕ) → first ≤ n → n ≤ last_number w → is_listed b (blocks_at w.opening w.versions n) ≡ nat_lt n end
+    (n : ℕ) → first ≤ n → n ≤ last_number w → is_among b (blocks_at w.opening w.versions n) ≡ nat_lt n end
 
 -- a used block is listed by each version from its birth on, a retired one by each from its birth to below its retirement
 abbrev pub IsListedAsDated : World → ℕ → BlockStatus → Type 0
@@ -42,7 +42,7 @@ pub record IsHeld (w : World) (hold : Hold) : Type 0 where
   -- a pin that is settled is the number of the version
   pub settled : IsTrue hold.settled → hold.pin ≡ hold.version
   pub covered : IsCovered w.copy hold.version
-  pub kept : (b : ℕ) → IsTrue (is_listed b (blocks_at w.opening w.versions hold.version))
+  pub kept : (b : ℕ) → IsTrue (is_among b (blocks_at w.opening w.versions hold.version))
       → IsKeptAt hold.version (slice_get w.status b)
   pub shown : AreEdgesOf (edges_of w.heap (blocks_at w.opening w.versions hold.version)) (graph_at w.opening w.versions hold.version)
 
@@ -61,7 +61,7 @@ pub record IsNamed (w : World) (n : ℕ) : Type 0 where
 pub record IsSound (w : World) : Type 0 where
   pub floor_last : w.floor ≤ last_number w
   pub copy_last : w.copy.last ≤ last_number w
-  pub used : (b : ℕ) → is_at is_used (slice_get w.status b) ≡ is_listed b (last_blocks w)
+  pub used : (b : ℕ) → is_at is_used (slice_get w.status b) ≡ is_among b (last_blocks w)
   pub dated : (b : ℕ) → IsDatedAt (last_number w) (slice_get w.status b)
   pub listed : (b : ℕ) → IsListedAt w b (slice_get w.status b)
   pub listed_once : AllPairs ◌≢◌ (last_blocks w)

@@ -7,12 +7,12 @@ use Rattle.epoch_core.specs.declared.states.{Version.Version, Opening.Opening}
 
 -- Versions
 
-abbrev pub opening_graph : Opening → Graph
-opening_graph opening = graph_in opening.limits opening.content
+abbrev pub graph_of_opening : Opening → Graph
+graph_of_opening opening = graph_in opening.limits opening.content
 
 -- what batches leave, one after another, of the opening graph
 abbrev pub left : Opening → List (List NamedOp) → Graph
-left opening batches = left_by batches (opening_graph opening)
+left opening batches = left_by batches (graph_of_opening opening)
 
 -- the batches up to version n, and the graph that they leave
 abbrev pub batches_at : List Version → ℕ → List (List NamedOp)

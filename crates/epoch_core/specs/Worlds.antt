@@ -7,11 +7,11 @@ use Rattle.std.specs.declared.option.Option.{Option, TheVariants.None, TheVarian
 use Rattle.graph_types.specs.{Graph.Graph, Graph.graph_of, Graph.content_of, declared.requests.AskError.AskError}
 use Rattle.graph_types.specs.{Limits.{LimitsView, standard_limits}, declared.{ids.Edge.Edge, requests.Reply.Reply}}
 use Rattle.block_reclamation.specs.declared.{status.BlockStatus.{BlockStatus, TheVariants.{Free, Used}}, copies.PinCopy.PinCopy}
-use Rattle.block_reclamation.specs.{declared.copies.{TheConstants.SEATS, Pin.Pin}, Status.is_listed, Copies.{no_copy, copy_of}}
+use Rattle.block_reclamation.specs.{declared.copies.{TheConstants.SEATS, Pin.Pin}, Status.is_among, Copies.{no_copy, copy_of}}
 use Rattle.block_reclamation.specs.Copies.{unsettled, settled_number, unsettled_number}
 use Rattle.epoch_core.specs.declared.{states.Version.Version, states.Opening.Opening, session_states.SessionState.SessionState}
 use Rattle.epoch_core.specs.declared.session_states.SessionState.TheVariants.{Idle, Pinned, Holding, Asking}
-use Rattle.epoch_core.specs.Versions.{IsContentGraph, AreEdgesOf, blocks_at, edges_of, graph_at, opening_graph}
+use Rattle.epoch_core.specs.Versions.{IsContentGraph, AreEdgesOf, blocks_at, edges_of, graph_at, graph_of_opening}
 
 -- a reply, or the refusal that stands in its place
 abbrev pub Answer : Type 0
@@ -104,9 +104,9 @@ pub record IsStart (state : MachineState) : Type 0 where
   pub alone : state.world.versions ≡ []
   pub within : All (λ b. b < length state.world.status) state.world.opening.blocks
   pub different : AllPairs ◌≢◌ state.world.opening.blocks
-  pub shown : AreEdgesOf (edges_of state.world.heap state.world.opening.blocks) (opening_graph state.world.opening)
+  pub shown : AreEdgesOf (edges_of state.world.heap state.world.opening.blocks) (graph_of_opening state.world.opening)
   pub status : (b : ℕ) → b < length state.world.status → slice_get state.world.status b
-      ≡ Some (if is_listed b state.world.opening.blocks then Used 0 else Free)
+      ≡ Some (if is_among b state.world.opening.blocks then Used 0 else Free)
   pub heap : length state.world.heap ≡ length state.world.status
   pub floor : state.world.floor ≡ 0
   pub copy : state.world.copy ≡ no_copy

@@ -15,7 +15,7 @@ use std::alloc::{AllocError, Global};
 /// Makes a free block granted. `Skipped`, with nothing changed, where there is no block of this number or it isn't free.
 /// It takes no memory.
 pub fn take_block(status: &mut Vec<BlockStatus>, block: usize) -> Step
-    ensures { Stepped (specs.changed_at specs.taken status.old.items block) result status.old.items status.new.items }
+    ensures { Stepped (specs.changed_at specs.status_taken status.old.items block) result status.old.items status.new.items }
 {
     let before = status.get(block).copied();
     match before {
@@ -73,7 +73,7 @@ pub fn fill_block(
 ) -> Result<Step, AllocError>
     requires { length heap.old.items ≡ length status.now }
     ensures filled { IfOk result
-        (λ step. Stepped (specs.filled status.now heap.old.items block edges.now) step heap.old.items heap.new.items) }
+        (λ step. Stepped (specs.filled_heap status.now heap.old.items block edges.now) step heap.old.items heap.new.items) }
     ensures unchanged { OnErr result (heap.new.items ≡ heap.old.items) }
 {
     let before = status.get(block).copied();

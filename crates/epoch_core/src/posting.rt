@@ -14,8 +14,8 @@ use crate::contents::{are_edges_of, edges_of};
 use crate::states::{Opening, Version};
 use crate::versions::{blocks_at, content_with};
 use block_reclamation::BlockStatus;
-use graph_model::{PlainError, plain_apply_in};
-use graph_types::{Batch, Content, Edge, Limits, List};
+use graph_model::plain_apply_in;
+use graph_types::{ApplyError, Batch, Content, Edge, Limits, List};
 use std::alloc::{AllocError, Global};
 
 /// The content of the last version, its edges read from its blocks.
@@ -33,14 +33,13 @@ fn last_content(
 }
 
 /// What a refused batch leaves: nothing where it meets the limit on names or on kinds; want of memory stays that.
-fn left_of(refusal: PlainError) -> Result<Option<Content>, AllocError>
-    ensures { MatchResult result (λ after. (after ≡ None) × (refusal ≢ PlainError.OutOfMemory))
-        (λ _. refusal ≡ PlainError.OutOfMemory) }
+fn left_of(refusal: ApplyError) -> Result<Option<Content>, AllocError>
+    ensures { MatchResult result (λ after. (after ≡ None) × (refusal ≢ ApplyError.OutOfMemory))
+        (λ _. refusal ≡ ApplyError.OutOfMemory) }
 {
     match refusal {
-        PlainError::NamesFull => Ok(None),
-        PlainError::KindsFull => Ok(None),
-        PlainError::OutOfMemory => Err(AllocError),
+        ApplyError::OutOfMemory => Err(AllocError),
+        _ => Ok(None),
     }
 }
 
@@ -53,7 +52,7 @@ fn after_batch(
     batch: &Batch,
 ) -> Result<Option<Content>, AllocError>
     requires { IsContentIn limits content }
-    ensures { IfOk result (λ after. posting.IsAppliedTo limits content batch.now after) }
+    ensures { IfOk result (λ after. posting.IsContentAfter limits content batch.now after) }
 {
     match plain_apply_in(alloc, limits, &mut content, batch) {
         Ok(_) => Ok(Some(content)),

@@ -1,7 +1,7 @@
 //! A store that threads share: one feeds it, and beside it two others read.
 
 ghost use Rattle.misteluk.specs.Opened.{IsOpeningOf};
-ghost use Rattle.misteluk.specs.Stores.{IsSeatOf};
+ghost use Rattle.misteluk.specs.Stores.{IsSeatOfOpening};
 
 use misteluk::{
     Batch, Command, Config, EndlessFeed, NamedFilter, NamedOp, Naming, Opened, PassAll, Reply,
@@ -77,7 +77,7 @@ fn learnt<J: Naming, R: Threads + Wait + Sync>(
     mut seat: Seat,
     town: &str,
 ) -> Option<Seat>
-    requires { IsSeatOf J.book J.opening seat }
+    requires { IsSeatOfOpening J.book J.opening seat }
 {
     let receipt = store.apply(rt, &PassAll, road(alloc, town)?).ok()?;
     seat.learn(&receipt).ok()?;

@@ -1,8 +1,8 @@
 -- What the rules for commands give.
 use Rattle.std.proofs.Common.{◌≡◌, Result, Ok, Err, sym}
-use Rattle.feed_csv.specs.{Commands.{Gives, Refuses}, declared.command.FeedWord.{FeedWord, TheVariants.Memory}}
+use Rattle.feed_csv.specs.{Commands.{Gives, RefusesItem}, declared.command.FeedWord.{FeedWord, TheVariants.Memory}}
 
-pub refuses_same : {A : Type 0} (word : FeedWord) (item : Result A FeedWord) → item ≡ Err word → Refuses word item
+pub refuses_same : {A : Type 0} (word : FeedWord) (item : Result A FeedWord) → item ≡ Err word → RefusesItem word item
 refuses_same Memory item same = tt
 refuses_same _ item same = same
 

@@ -6,11 +6,11 @@ use Rattle.graph_types.specs.{Limits.is_time, Limits.is_weight, Valid.{IsValid, 
 use Rattle.graph_types.specs.declared.batches.NamedOp.{NamedOp, TheVariants.{Insert, Incr}}
 use Rattle.graph_types.specs.declared.requests.{NamedFilter.NamedFilter, Request.{Request, TheVariants.{Labels, Cores, Degrees}}}
 use Rattle.feed_csv.specs.declared.command.Command.TheVariants.{Commit, OpenSlot, CloseSlot, Stat, Collect, Rebase}
-use Rattle.feed_csv.specs.Commands.{HasValidOp, Refuses, bare_command, edge_command, edge_fields, edge_of, expire_of, filter_at}
+use Rattle.feed_csv.specs.Commands.{HasValidOp, RefusesItem, bare_command, edge_command, edge_fields, edge_of, expire_of, filter_at}
 use Rattle.feed_csv.specs.Commands.{filter_command, filter_fields, item_of, levels_of, names_at, remove_of, slot_command}
 use Rattle.feed_csv.specs.Fields.{◌>>=◌, any_kind_at}
 use Rattle.feed_csv.specs.{Fields.{field, kind_at, name_at, of_length, required, slot_at, time_at, weight_at}, Number.at_most}
-use Rattle.feed_csv.specs.{Number.{has_minus, number_of, slot_of, time_of, weight_of}, Records.Row, Script.{FaultStepIn, NextStepIn}}
+use Rattle.feed_csv.specs.{Number.{has_minus, number_in_text, slot_of, time_of, weight_of}, Records.Row, Script.{FaultStepIn, NextStepIn}}
 use Rattle.feed_csv.specs.{Script.{Script, TakesRowIn}, declared.command.{Command.Command, FeedFault.FeedFault, FeedWord.FeedWord}}
 use Rattle.feed_csv.specs.declared.command.FeedWord.TheVariants.{Read, BadCommand, BadFields, BadName, BadWeight, BadTime}
 use Rattle.feed_csv.specs.declared.command.FeedWord.TheVariants.{BadSlot, Memory}
@@ -70,11 +70,11 @@ signed false one None weight same = cc same
 signed false one (Some size) weight same = grind (arith, common_steps, same)
 
 weight_in_range : (text : List ℕ) (weight : ℤ) → weight_of text ≡ Some weight → IsTrue (is_weight weight)
-weight_in_range text weight same = signed (has_minus text) (number_of (drop 1 text)) (number_of text) weight same
+weight_in_range text weight same = signed (has_minus text) (number_in_text (drop 1 text)) (number_in_text text) weight same
 
 time_in_range : (text : List ℕ) (time : ℕ) → time_of text ≡ Some time → IsTrue (is_time time)
 time_in_range text time same =
-    let most : time ≤ 9223372036854775807 = within 9223372036854775807 (number_of text) time same in
+    let most : time ≤ 9223372036854775807 = within 9223372036854775807 (number_in_text text) time same in
     grind (arith, common_steps, most)
 
 names_are : (kind source target : List ℕ) → IsTrue (is_kind_name kind) → IsTrue (is_name source) → IsTrue (is_name target)
@@ -217,7 +217,7 @@ item_of-judges row =
     (tested (is (codes "rebase")) _ _ (λ _. slot_command-judges Rebase row (λ _. tt)) (refused BadCommand tt)))))))))))))))
 
 -- a record that was taken and refused is a step of the feed
-pub refused_step : (word : FeedWord) (row : Row) (old new : Script) → word ≢ Memory → Refuses word (item_of row)
+pub refused_step : (word : FeedWord) (row : Row) (old new : Script) → word ≢ Memory → RefusesItem word (item_of row)
     → TakesRowIn None old row new → FaultStepIn None word old new
 refused_step Read row old new other same takes = absurd ((item_of-judges row).fails Read same)
 refused_step Memory row old new other same takes = absurd (other refl)

@@ -7,7 +7,7 @@ use Rattle.csv.specs.Reading.{ReadRecord, ReadsNext, Ready, default_config, pend
 use Rattle.csv.specs.{Reading.source_of, declared.{parser.{Config.Config, State.State}, reader.Reader.Reader, error.Error.Error}}
 use Rattle.csv.specs.declared.parser.State.TheVariants as st
 use Rattle.csv.specs.declared.reader.Trim.TheVariants as trim
-use Rattle.feed_csv.specs.Records.{Finds, IsOver, IsPlain, Takes, rows_left}
+use Rattle.feed_csv.specs.Records.{Finds, IsOver, IsPlain, TakesRecord, rows_left}
 
 -- a record takes a byte at least, or it is the last of a text that is at its end
 abbrev pub Shortens : List ℕ → Option Read → Type 0
@@ -107,7 +107,7 @@ rows_in state source = option_map (λ bytes. records_from default_config (length
 
 takes_from : (state after : State) (before left : Option (List ℕ)) (fields : List (List ℕ))
     → ReadsNext default_config state before left true fields after
-    → Takes (rows_in state before) fields (rows_in after left)
+    → TakesRecord (rows_in state before) fields (rows_in after left)
 unfolding rows_in
 takes_from state after None left fields reads = tt
 takes_from state after (Some bytes) None fields reads = absurd reads
@@ -129,7 +129,7 @@ source_of-begun remaining reader begun = rw begun refl
 -- a read that found a record took the first of those left
 takes-first : {R : Type 0} (remaining : R → Option (List ℕ)) (old new : Reader R) (fields : List (List ℕ))
     → old.config ≡ default_config
-    → ReadRecord remaining old new true fields → Takes (rows_left remaining old) fields (rows_left remaining new)
+    → ReadRecord remaining old new true fields → TakesRecord (rows_left remaining old) fields (rows_left remaining new)
 unfolding rows_in
 takes-first remaining old new fields plain reads =
     rw (source_of-begun remaining new reads.1)

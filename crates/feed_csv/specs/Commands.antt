@@ -128,25 +128,25 @@ HasValidOp (Op op) = IsValid op
 HasValidOp _ = Unit {0}
 
 -- how a word of refusal is written
-abbrev pub word_text : FeedWord → List ℕ
-word_text Read = codes "Read"
-word_text BadCommand = codes "BadCommand"
-word_text BadFields = codes "BadFields"
-word_text BadName = codes "BadName"
-word_text BadWeight = codes "BadWeight"
-word_text BadTime = codes "BadTime"
-word_text BadSlot = codes "BadSlot"
-word_text Memory = codes "Memory"
+abbrev pub feed_word_text : FeedWord → List ℕ
+feed_word_text Read = codes "Read"
+feed_word_text BadCommand = codes "BadCommand"
+feed_word_text BadFields = codes "BadFields"
+feed_word_text BadName = codes "BadName"
+feed_word_text BadWeight = codes "BadWeight"
+feed_word_text BadTime = codes "BadTime"
+feed_word_text BadSlot = codes "BadSlot"
+feed_word_text Memory = codes "Memory"
 
 -- a word that stands for want of memory, or for the record's refusal
-abbrev pub Refuses : {A : Type 0} → FeedWord → Result A FeedWord → Type 0
-Refuses Memory item = Unit {0}
-Refuses word item = item ≡ Err word
+abbrev pub RefusesItem : {A : Type 0} → FeedWord → Result A FeedWord → Type 0
+RefusesItem Memory item = Unit {0}
+RefusesItem word item = item ≡ Err word
 
 -- a result is what the rules give, unless memory ran out
 abbrev pub Gives : {A : Type 0} → Result A FeedWord → Result A FeedWord → Type 0
 Gives (Ok value) item = item ≡ Ok value
-Gives (Err word) item = Refuses word item
+Gives (Err word) item = RefusesItem word item
 
 -- want of memory has a word of its own, and every other fault is the reader's
 abbrev pub fault_word : ErrorKind → FeedWord

@@ -8,8 +8,8 @@ decimal_value [] = 0
 decimal_value (digit ∷ digits) = (digit - 48) * 10 ^ length digits + decimal_value digits
 
 -- a number is 1 to 19 digits, and nothing else
-abbrev pub number_of : List ℕ → Option ℕ
-number_of text =
+abbrev pub number_in_text : List ℕ → Option ℕ
+number_in_text text =
     if nat_le 1 (length text) && nat_le (length text) 19 && list_all is_ascii_digit text then Some (decimal_value text) else None
 
 -- a number, where there is one and it is at most so much
@@ -19,18 +19,18 @@ at_most most (Some number) = if nat_le number most then Some number else None
 
 -- a time is at most 2^63 - 1
 abbrev pub time_of : List ℕ → Option ℕ
-time_of text = at_most 9223372036854775807 (number_of text)
+time_of text = at_most 9223372036854775807 (number_in_text text)
 
 -- a slot is below 16
 abbrev pub slot_of : List ℕ → Option ℕ
-slot_of text = at_most 15 (number_of text)
+slot_of text = at_most 15 (number_in_text text)
 
 -- a weight, or an amount, is from -2^40 to 2^40: a number, which may stand behind a minus
 abbrev pub has_minus : List ℕ → Bool
 has_minus text = starts_with nat_eq text (45 ∷ [])
 
 abbrev pub magnitude_of : List ℕ → Option ℕ
-magnitude_of text = at_most 1099511627776 (number_of text)
+magnitude_of text = at_most 1099511627776 (number_in_text text)
 
 abbrev pub weight_of : List ℕ → Option ℤ
 weight_of text =

@@ -28,10 +28,10 @@ rows_left remaining reader =
     option_map (λ bytes. records_from default_config (length bytes + 1) (reader_state reader) bytes) (source_of remaining reader)
 
 -- of the rows left, where they are known, the first was taken
-abbrev pub Takes : Option (List Row) → Row → Option (List Row) → Type 0
-Takes None row after = Unit {0}
-Takes (Some rows) row None = ⊥
-Takes (Some rows) row (Some rest) = rows ≡ row ∷ rest
+abbrev pub TakesRecord : Option (List Row) → Row → Option (List Row) → Type 0
+TakesRecord None row after = Unit {0}
+TakesRecord (Some rows) row None = ⊥
+TakesRecord (Some rows) row (Some rest) = rows ≡ row ∷ rest
 
 -- where the rows left are known, there are none
 abbrev pub IsOver : Option (List Row) → Type 0
@@ -40,5 +40,5 @@ IsOver (Some rows) = rows ≡ []
 
 -- a look for a record found this one, the first of the rows left before, or none since none were left
 abbrev pub Finds : Bool → Option (List Row) → Row → Option (List Row) → Type 0
-Finds true before row after = Takes before row after
+Finds true before row after = TakesRecord before row after
 Finds false before row after = IsOver before

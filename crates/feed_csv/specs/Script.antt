@@ -1,7 +1,7 @@
 -- A feed, as its callers see it, and what one call of it does.
 use Rattle.std.specs.{Prelude.{◌≡◌, ◌<◌, ◌⊎◌, ℕ, ◌+◌, Bool, true, List, Option, Some, None, Result, Ok, Err}, Io.Iter.u64_saturate}
 use Rattle.csv.specs.declared.error.ErrorKind.{ErrorKind}
-use Rattle.feed_csv.specs.{Commands.{item_of, fault_word}, Records.{IsOver, Row, Takes, record_limit}}
+use Rattle.feed_csv.specs.{Commands.{item_of, fault_word}, Records.{IsOver, Row, TakesRecord, record_limit}}
 use Rattle.feed_csv.specs.declared.command.{Command.Command, FeedFault.FeedFault, FeedWord.{FeedWord, TheVariants.{Read, Memory}}}
 use Rattle.feed_csv.specs.declared.phase.Phase.{Phase, TheVariants.{Reading, Ended, Stopped}}
 
@@ -15,14 +15,14 @@ pub record Script : Type 0 where
   pub left : Option (List Row)
 
 -- A feed gives at most so many records, its limit, or as many as there are. It may give one more
-abbrev pub HasRoom : Option ℕ → ℕ → Type 0
-HasRoom (Some limit) given = given < limit
-HasRoom None given = Unit {0}
+abbrev pub HasRecordRoom : Option ℕ → ℕ → Type 0
+HasRecordRoom (Some limit) given = given < limit
+HasRecordRoom None given = Unit {0}
 
 -- it gave as many as it may
-abbrev pub IsFull : Option ℕ → ℕ → Type 0
-IsFull (Some limit) given = given ≡ limit
-IsFull None given = ⊥
+abbrev pub IsScriptFull : Option ℕ → ℕ → Type 0
+IsScriptFull (Some limit) given = given ≡ limit
+IsScriptFull None given = ⊥
 
 -- the number of the record behind so many. Without a limit records are counted up to 2 ^ 64 - 1, and all behind that one have its
 -- number
@@ -33,7 +33,7 @@ next_number None given = u64_saturate (given + 1)
 -- a record may be read
 pub record IsOpenIn (limit : Option ℕ) (script : Script) : Type 0 where
   pub reading : script.phase ≡ Reading
-  pub room : HasRoom limit script.given
+  pub room : HasRecordRoom limit script.given
 
 -- this record was taken: it is the first of those left, and the next call looks at the one after it
 pub record TakesRowIn (limit : Option ℕ) (old : Script) (row : Row) (new : Script) : Type 0 where
@@ -41,7 +41,7 @@ pub record TakesRowIn (limit : Option ℕ) (old : Script) (row : Row) (new : Scr
   pub reading : new.phase ≡ Reading
   pub given : new.given ≡ next_number limit old.given
   pub works : new.failed ≡ old.failed
-  pub left : Takes old.left row new.left
+  pub left : TakesRecord old.left row new.left
 
 -- the input's end was met: no record is left
 pub record MeetsEndIn (limit : Option ℕ) (old new : Script) : Type 0 where
@@ -68,7 +68,7 @@ pub record FailsWith (word : FeedWord) (script : Script) : Type 0 where
 abbrev pub ReadStopsIn : Option ℕ → Script → Script → Type 0
 ReadStopsIn limit old new =
     (IsOpenIn limit old × FailsWith Read new)
-    ⊎ ((old.phase ≡ Reading) × IsFull limit old.given × (new ≡ record old { phase = Stopped }))
+    ⊎ ((old.phase ≡ Reading) × IsScriptFull limit old.given × (new ≡ record old { phase = Stopped }))
     ⊎ ((old.phase ≡ Stopped) × (new ≡ old))
 
 -- where csv's reader failed, it was for want of memory; else memory was wanting for what a record asks

@@ -1,7 +1,7 @@
 // Commands, and faults in their place.
 
 ghost use Rattle.std.specs.Prelude.{◌≡◌};
-ghost use Rattle.feed_csv.specs.Commands.{word_text};
+ghost use Rattle.feed_csv.specs.Commands.{feed_word_text};
 
 use graph_types::{NamedOp, Request};
 use std::alloc::AllocError;
@@ -63,7 +63,7 @@ impl From<AllocError> for FeedWord {
 impl FeedWord {
     /// The word as scripts' error lines have it: the variant's name. It takes no memory.
     pub fn word(self) -> &'static str
-        ensures { result.now ≡ word_text self }
+        ensures { result.now ≡ feed_word_text self }
     {
         match self {
             FeedWord::Read => "Read",

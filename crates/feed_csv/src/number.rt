@@ -1,7 +1,7 @@
 // Numbers of a script.
 
 ghost use Rattle.std.specs.Prelude.{◌≡◌, option_map, pos};
-ghost use Rattle.feed_csv.specs.Number.{magnitude_of, number_of, slot_of, time_of, weight_of};
+ghost use Rattle.feed_csv.specs.Number.{magnitude_of, number_in_text, slot_of, time_of, weight_of};
 
 // A decimal number of at most this many digits fits 64 bits.
 const MOST_DIGITS: usize = 19;
@@ -14,7 +14,7 @@ const GREATEST_SLOT: u64 = 15;
 
 // The number that 1 to 19 digits stand for.
 fn number(text: &[u8]) -> Option<u64>
-    ensures { result ≡ number_of text.now }
+    ensures { result ≡ number_in_text text.now }
 {
     if text.is_empty() || text.len() > MOST_DIGITS {
         return None;

@@ -3,11 +3,11 @@ use Rattle.std.proofs.Common.{◌≡◌, ℕ, ◌<◌, Bool, true, cond, List, [
 use Rattle.std.proofs.{Common.arith, lemmas.{Int.ints, List.{map-append, Sums.{sum_by_push, fold-append}}}}
 use Rattle.std.{proofs.lemmas.List.Elements.{filter-append, All-append, All-cons, All-nil, All-head}, specs.Prelude.filter}
 use Rattle.std.{specs.Prelude.{fold, All}, proofs.lemmas.Grind.common_steps}
-use Rattle.graph_types.specs.{Graph.stamp_of, Degrees.{listed_degree, with_edge, CountsEdge, HasRoom}, Limits.IsWeightIn}
+use Rattle.graph_types.specs.{Graph.stamp_of, Degrees.{listed_degree, with_edge, CountsEdge, HasDegreeRoom}, Limits.IsWeightIn}
 use Rattle.graph_types.{specs.declared.ids.{Edge.Edge, Degree.Degree, Filter.Filter}, proofs.DegreeBounds.degree_within}
 use Rattle.graph_types.proofs.ListedDegrees.{with_shown}
 use Rattle.edge_block.specs.Slots.{IsStamp}
-use Rattle.graph_cores.{specs.Tallies.{passes, HasRoomFor, Counts}, proofs.Parts.{first_edges, All-left, All-right}}
+use Rattle.graph_cores.{specs.Tallies.{passes, HasTallyRoom, Counts}, proofs.Parts.{first_edges, All-left, All-right}}
 
 -- the sum of the weights of listed edges
 abbrev weight_sum : List Edge → ℤ
@@ -31,9 +31,9 @@ pub record IsCountable (f : Filter) (e : Edge) (table : List Degree) : Type 0 wh
   pub source : e.source.0 < length table
   pub target : e.target.0 < length table
   pub shown : passes f e ≡ true
-  pub room : All (HasRoom (nat_abs e.weight)) table
+  pub room : All (HasDegreeRoom (nat_abs e.weight)) table
 
-pub countable : (f : Filter) (e : Edge) (table : List Degree) → HasRoomFor f (e ∷ []) table → IsCountable f e table
+pub countable : (f : Filter) (e : Edge) (table : List Degree) → HasTallyRoom f (e ∷ []) table → IsCountable f e table
 countable f e table room =
     let before = room.0 in
     let is = room.1 in
@@ -49,7 +49,7 @@ countable f e table room =
           (All-right (λ (x : Edge). x.target.0 < n) before (e ∷ []) are.targets);
       shown = All-head (λ (x : Edge). passes f x ≡ true) e []
           (All-right (λ (x : Edge). passes f x ≡ true) before (e ∷ []) are.seen);
-      room = λ v d h. subst (HasRoom (nat_abs e.weight)) (sym (is.tally.at v d h))
+      room = λ v d h. subst (HasDegreeRoom (nat_abs e.weight)) (sym (is.tally.at v d h))
           (degree_within f before n are.kind_count v are.most_weight (nat_abs e.weight) are.few are.sums light firsts.once
           (All-left (λ (x : Edge). x.kind.0 < are.kind_count) before (e ∷ []) are.kinds) firsts.sources firsts.targets
           (All-left (λ (x : Edge). IsWeightIn are.most_weight x.weight) before (e ∷ []) are.weights));

@@ -4,7 +4,7 @@ use Rattle.std.proofs.{Common.get_or, Common.take, lemmas.Bool.cases_eq, lemmas.
 use Rattle.std.proofs.lemmas.List.Elements.{Contains-push, Contains-push_cases, Contains-append_left, Contains-get_or}
 use Rattle.std.{specs.{Prelude.◌↔◌, List.Contains}, proofs.lemmas.Grind.{flat_map-append, common_steps}}
 use Rattle.graph_types.specs.{Graph.Graph, Analyses.LeadsTo, Arcs.AreWithin, declared.ids.Filter.Filter}
-use Rattle.graph_cores.specs.Peel.{both_ways, AreLinks, IsLinked}
+use Rattle.graph_cores.specs.Peel.{both_ways, AreAllLinks, IsLinked}
 
 -- one more pair
 added : (xs : List (ℕ × ℕ)) (a b v w : ℕ) → Contains (xs ++ (a, b) ∷ []) (v, w) ↔ (Contains xs (v, w) ⊎ ((v ≡ a) × (w ≡ b)))
@@ -132,7 +132,7 @@ module _ (f : Filter) (g : Graph) where
   )
 
   module _ (n : ℕ) (links : List (ℕ × ℕ)) (within : (a b : ℕ) → LeadsTo f g a b → (a < n) × (b < n)) where
-    pub links_all : (i : ℕ) → n ≤ i → LinksBelow i links → AreLinks f g links
+    pub links_all : (i : ℕ) → n ≤ i → LinksBelow i links → AreAllLinks f g links
     links_all i le below v w = (
       (λ c.
           let r = (below v w).0 c in
@@ -146,7 +146,7 @@ module _ (f : Filter) (g : Graph) where
       )),
     )
 
-    pub links_within : AreLinks f g links → AreWithin n links
+    pub links_within : AreAllLinks f g links → AreWithin n links
     links_within are k d lt =
         let link = get_or links k d in
         let joined = ((are link.0 link.1).0 (Contains-get_or links k d lt)).1 in

@@ -3,7 +3,7 @@ use Rattle.std.proofs.Common.{◌≡◌, ◌≢◌, ℕ, true, ◌+◌, ◌<◌,
 use Rattle.std.proofs.{Common.{length-append, sym, ap, ◌∙◌, subst, arith}, lemmas.List.{get_or_append_left, get_or-append-add}}
 use Rattle.std.specs.Prelude.{All, AllPairs}
 use Rattle.graph_types.specs.{declared.ids.{Degree.Degree, Edge.Edge, Filter.Filter}, Graph.key_of, Limits.IsWeightIn}
-use Rattle.graph_cores.specs.Tallies.{passes, IsCounted, AreViewEdges, HasRoomFor, Counts}
+use Rattle.graph_cores.specs.Tallies.{passes, IsCounted, AreViewEdges, HasTallyRoom, Counts}
 
 module _ {X : Type 0} where
   pub All-left : (P : X → Type 0) (xs ys : List X) → All P (xs ++ ys) → All P xs
@@ -50,7 +50,7 @@ begun_end f all left old table none begun before is =
 
 -- a piece of what is left has room, and once it is counted the rest is left
 pub begun_room : (f : Filter) (all left piece rest : List Edge) (old table : List Degree) → left ≡ piece ++ rest
-    → length table ≡ length old → HasRoomFor f all old → IsBegun f all left old table → HasRoomFor f piece table
+    → length table ≡ length old → HasTallyRoom f all old → IsBegun f all left old table → HasTallyRoom f piece table
 begun_room f all left piece rest old table split long room begun =
     let r = begun room.0 room.1 in
     let whole : room.0 ++ all ≡ (r.0 ++ piece) ++ rest =

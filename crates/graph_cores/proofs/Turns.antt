@@ -2,12 +2,12 @@
 use Rattle.std.proofs.Common.{◌≡◌, ℕ, List, [], ◌∷◌, length, ap, subst}
 use Rattle.graph_types.specs.{Degrees.CountsEdge, declared.ids.Degree.Degree, declared.ids.Filter.Filter}
 use Rattle.edge_block.specs.{Slots.BlockView, Slots.IsStamp, Lending.LentEdge}
-use Rattle.graph_cores.{specs.Tallies.{edge_between, shown_block, HasRoomFor}, proofs.Parts.{IsBegun, begun_room, begun_more}}
+use Rattle.graph_cores.{specs.Tallies.{edge_between, shown_block, HasTallyRoom}, proofs.Parts.{IsBegun, begun_room, begun_more}}
 use Rattle.graph_cores.proofs.{Blocks.{edge_lent, edges_lent}, Counting.{IsCountable, countable, counts_edge}}
 
 module _ (f : Filter) (b : BlockView) (old table : List Degree) (left rest : List LentEdge) (l : LentEdge)
     (next : left ≡ l ∷ rest)
-    (long : length table ≡ length old) (room : HasRoomFor f (shown_block f b) old)
+    (long : length table ≡ length old) (room : HasTallyRoom f (shown_block f b) old)
     (begun : IsBegun f (shown_block f b) (edges_lent b.source left) old table) where
   pub next_room : IsCountable f (edge_lent b.source l) table
   next_room = countable f (edge_lent b.source l) table

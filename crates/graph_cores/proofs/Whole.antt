@@ -11,7 +11,7 @@ use Rattle.graph_types.specs.{Graph.{Graph, key_of}, Degrees.listed_degree, Answ
 use Rattle.graph_types.{specs.declared.ids.{Degree.Degree, Edge.Edge, Filter.Filter}, proofs.Keys.get_listed}
 use Rattle.graph_types.{specs.Limits.IsWeightIn, proofs.{LimitsKept.{places_few, sums_within}, WeightsKept.weights_of}}
 use Rattle.graph_types.proofs.{Counts.Contains-first, Arcs.contains_map, Folds.{count_entries, weight_entries}}
-use Rattle.edge_block.specs.Slots.{Slot, BlockView, is_free, edges_in, entry_in}
+use Rattle.edge_block.specs.Slots.{Slot, BlockView, is_free_slot, edges_in, entry_in}
 use Rattle.graph_version.specs.{Rows.{row_of, blocks_of}, Versions.{VersionView, content, IsVersion, IsBlockOf}}
 use Rattle.graph_version.{specs.Edges.{AreEachOnce, edges_in_blocks}, proofs.{Shown.rows_each_once, Totals.same_blocks}}
 use Rattle.graph_version.proofs.{Members.in_rows, Rows.stands}
@@ -73,7 +73,7 @@ first_below f rows k (suc j) =
     )
 
 -- slots that are not all free have an edge
-some_edge : (slots : List (Option Slot)) → list_all is_free slots ≡ false → (e : Slot) × Contains (edges_in slots) e
+some_edge : (slots : List (Option Slot)) → list_all is_free_slot slots ≡ false → (e : Slot) × Contains (edges_in slots) e
 some_edge [] none = absurd (true≢false none)
 some_edge (None ∷ slots) some = some_edge slots some
 some_edge (Some e ∷ slots) some = (e, Contains-first e (edges_in slots) e refl)

@@ -8,8 +8,8 @@ abbrev pub both_ways : List (ℕ × ℕ) → List (ℕ × ℕ)
 both_ways links = flat_map (λ link. link ∷ (link.1, link.0) ∷ []) links
 
 -- each two different vertices that an edge of the view joins, both ways, as often as may be
-abbrev pub AreLinks : Filter → Graph → List (ℕ × ℕ) → Type 0
-AreLinks f g links = (v w : ℕ) → Contains links (v, w) ↔ ((w ≢ v) × Joins f g v w)
+abbrev pub AreAllLinks : Filter → Graph → List (ℕ × ℕ) → Type 0
+AreAllLinks f g links = (v w : ℕ) → Contains links (v, w) ↔ ((w ≢ v) × Joins f g v w)
 
 -- v and w are the source and another of the targets, in either order
 abbrev pub IsLinked : ℕ → List ℕ → ℕ → ℕ → Type 0

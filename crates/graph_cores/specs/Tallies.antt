@@ -48,8 +48,8 @@ pub record AreViewEdges (f : Filter) (n : ℕ) (edges : List Edge) : Type 0 wher
   pub seen : All (λ e. passes f e ≡ true) edges
 
 -- a table of the degrees over some edges of a view, to which these can be added
-abbrev pub HasRoomFor : Filter → List Edge → List Degree → Type 0
-HasRoomFor f edges table = (before : List Edge) × IsCounted f before table × AreViewEdges f (length table) (before ++ edges)
+abbrev pub HasTallyRoom : Filter → List Edge → List Degree → Type 0
+HasTallyRoom f edges table = (before : List Edge) × IsCounted f before table × AreViewEdges f (length table) (before ++ edges)
 
 -- these edges are counted, whichever were counted before
 abbrev pub Counts : Filter → List Edge → List Degree → List Degree → Type 0

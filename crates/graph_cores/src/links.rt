@@ -3,7 +3,7 @@
 ghost use Rattle.std.specs.Prelude.{◌≡◌, ◌⊎◌, ◌↔◌, ℕ, length, IfOk, OnOk};
 ghost use Rattle.std.specs.List.{Contains};
 ghost use Rattle.graph_types.specs.Arcs.{AreWithin};
-ghost use Rattle.graph_cores.specs.Peel.{both_ways, AreLinks, IsLinked};
+ghost use Rattle.graph_cores.specs.Peel.{both_ways, AreAllLinks, IsLinked};
 
 use graph_version::ViewEdges;
 use std::alloc::{AllocError, Global};
@@ -27,7 +27,7 @@ pub(crate) fn list_links<E: ViewEdges>(
     alloc: Global,
     edges: &E,
 ) -> Result<Vec<(u32, u32)>, AllocError>
-    ensures exact { IfOk result (λ links. AreLinks (E.filter edges.now) (E.graph edges.now) (both_ways links.items)) }
+    ensures exact { IfOk result (λ links. AreAllLinks (E.filter edges.now) (E.graph edges.now) (both_ways links.items)) }
     ensures within { IfOk result (λ links. AreWithin (length (E.graph edges.now).names) links.items) }
     ensures ends { IfOk result (λ links. AreWithin (length (E.graph edges.now).names) (both_ways links.items)) }
 {

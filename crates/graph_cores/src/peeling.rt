@@ -7,7 +7,7 @@ ghost use Rattle.graph_types.specs.Arcs.{AreNeighbors, at};
 ghost use Rattle.graph_types.specs.Graph.{Graph};
 ghost use Rattle.graph_types.specs.Limits.{most_names};
 ghost use Rattle.graph_types.specs.declared.ids.Filter.{Filter};
-ghost use Rattle.graph_cores.specs.Rows.{IsRows, row_of};
+ghost use Rattle.graph_cores.specs.Rows.{IsRows, neighbor_row};
 ghost use Rattle.graph_cores.specs.Peel.{IsPeeling, is_alive, is_high, is_low, lowered};
 
 use crate::rows::{Rows, neighbor_rows};
@@ -35,8 +35,8 @@ pub fn cores_over<E: ViewEdges>(alloc: Global, edges: &E) -> Result<Vec<u32>, Al
 fn peel(alloc: Global, rows: &Rows, count: usize) -> Result<Vec<u32>, AllocError>
     requires rows { IsRows count rows.now }
     requires few { count ≤ most_names }
-    requires short { (v : ℕ) → length (row_of rows.now v) ≤ count }
-    ensures { IfOk result (λ cores. (f : Filter) (g : Graph) → AreNeighbors f g (row_of rows.now)
+    requires short { (v : ℕ) → length (neighbor_row rows.now v) ≤ count }
+    ensures { IfOk result (λ cores. (f : Filter) (g : Graph) → AreNeighbors f g (neighbor_row rows.now)
         → IsTable count (IsCoreNumber f g) cores.items) }
 {
     let vertices = numbers(alloc, count as u32)?;
@@ -58,13 +58,13 @@ fn rounds(
 ) -> Result<(), AllocError>
     requires rows { IsRows (length cores.old) rows.now }
     requires few { length cores.old ≤ most_names }
-    requires short { (v : ℕ) → length (row_of rows.now v) ≤ length cores.old }
+    requires short { (v : ℕ) → length (neighbor_row rows.now v) ≤ length cores.old }
     requires alive { alive.old ≡ replicate (length cores.old) true }
     requires degrees_long { length degrees.old ≡ length cores.old }
-    requires degrees { (v : ℕ) → at degrees.old v ≡ length (row_of rows.now v) }
+    requires degrees { (v : ℕ) → at degrees.old v ≡ length (neighbor_row rows.now v) }
     requires vertices_within { All (λ w. w < length cores.old) vertices.items }
     requires vertices { (v : ℕ) → v < length cores.old → Contains vertices.items v }
-    ensures { OnOk result ((f : Filter) (g : Graph) → AreNeighbors f g (row_of rows.now)
+    ensures { OnOk result ((f : Filter) (g : Graph) → AreNeighbors f g (neighbor_row rows.now)
         → IsTable (length cores.old) (IsCoreNumber f g) cores.new) }
 {
     let mut left = vertices;
@@ -126,9 +126,9 @@ fn peel_level(
     ensures shrinks { OnOk result ((v : ℕ) → (IsTrue (is_alive alive.new v) → IsTrue (is_alive alive.old v))
         × (at degrees.new v ≤ at degrees.old v)) }
     ensures empty { OnOk result (stack.new.items ≡ []) }
-    ensures peeling { OnOk result ((f : Filter) (g : Graph) → AreNeighbors f g (row_of rows.now)
-        → IsPeeling f g (length cores.old) (row_of rows.now) alive.old degrees.old cores.old stack.old.items k
-        → IsPeeling f g (length cores.old) (row_of rows.now) alive.new degrees.new cores.new [] k) }
+    ensures peeling { OnOk result ((f : Filter) (g : Graph) → AreNeighbors f g (neighbor_row rows.now)
+        → IsPeeling f g (length cores.old) (neighbor_row rows.now) alive.old degrees.old cores.old stack.old.items k
+        → IsPeeling f g (length cores.old) (neighbor_row rows.now) alive.new degrees.new cores.new [] k) }
 {
     while let Some(vertex) = stack.pop() {
         let place = vertex as usize;
@@ -168,9 +168,9 @@ fn lower(
 fn lengths(alloc: Global, rows: &Rows, count: usize) -> Result<Vec<u32>, AllocError>
     requires rows { IsRows count rows.now }
     requires few { count ≤ most_names }
-    requires short { (v : ℕ) → length (row_of rows.now v) ≤ count }
+    requires short { (v : ℕ) → length (neighbor_row rows.now v) ≤ count }
     ensures long { IfOk result (λ degrees. length degrees.items ≡ count) }
-    ensures each { IfOk result (λ degrees. (v : ℕ) → v < count → at degrees.items v ≡ length (row_of rows.now v)) }
+    ensures each { IfOk result (λ degrees. (v : ℕ) → v < count → at degrees.items v ≡ length (neighbor_row rows.now v)) }
 {
     let mut degrees = Vec::with_capacity(alloc, count)?;
     for vertex in 0..count {

@@ -2,11 +2,11 @@
 
 ghost use Rattle.std.specs.Prelude.{◌≡◌, ◌<◌, ◌≤◌, ◌+◌, ◌+ℤ◌, ◌^◌, nat_abs, length, replicate, All, IfOk};
 ghost use Rattle.graph_types.specs.Answer.{degree_table};
-ghost use Rattle.graph_types.specs.Degrees.{CountsEdge, HasRoom};
+ghost use Rattle.graph_types.specs.Degrees.{CountsEdge, HasDegreeRoom};
 ghost use Rattle.graph_types.specs.Limits.{most_places};
 ghost use Rattle.graph_version.specs.Sharing.{block_values};
 ghost use Rattle.graph_version.specs.Versions.{content};
-ghost use Rattle.graph_cores.specs.Tallies.{edge_between, shown_block, shown_edges, HasRoomFor, Counts};
+ghost use Rattle.graph_cores.specs.Tallies.{edge_between, shown_block, shown_edges, HasTallyRoom, Counts};
 
 use edge_block::Block;
 use graph_types::{Degree, Filter, VertexId};
@@ -25,7 +25,7 @@ const NONE: Degree = Degree {
 fn count_edge(table: &mut [Degree], source: VertexId, target: u32, weight: i64)
     requires source { source.0 < length table.old }
     requires target { target < length table.old }
-    requires room { All (HasRoom (nat_abs weight)) table.old }
+    requires room { All (HasDegreeRoom (nat_abs weight)) table.old }
     ensures { CountsEdge (edge_between source.0 target weight) table.old table.new }
 {
     count_out(&mut table[source.0 as usize], weight);
@@ -34,7 +34,7 @@ fn count_edge(table: &mut [Degree], source: VertexId, target: u32, weight: i64)
 
 /// Counts an edge that leaves.
 fn count_out(degree: &mut Degree, weight: i64)
-    requires { HasRoom (nat_abs weight) degree.old }
+    requires { HasDegreeRoom (nat_abs weight) degree.old }
     ensures { degree.new
         ≡ record degree.old { outgoing = degree.old.outgoing + 1; out_weight = degree.old.out_weight +ℤ weight } }
 {
@@ -52,7 +52,7 @@ fn count_in(degree: &mut Degree)
 
 /// Counts a block's edges that the filter lets through.
 fn count_block(table: &mut [Degree], block: &Block, view: &Filter)
-    requires { HasRoomFor view.now (shown_block view.now block.now) table.old }
+    requires { HasTallyRoom view.now (shown_block view.now block.now) table.old }
     ensures { Counts view.now (shown_block view.now block.now) table.old table.new }
 {
     let source = block.source();
@@ -63,7 +63,7 @@ fn count_block(table: &mut [Degree], block: &Block, view: &Filter)
 
 /// Counts the edges of a row that the filter lets through.
 fn count_row(table: &mut [Degree], blocks: &[Arc<Block>], view: &Filter)
-    requires { HasRoomFor view.now (shown_edges view.now (block_values blocks.now)) table.old }
+    requires { HasTallyRoom view.now (shown_edges view.now (block_values blocks.now)) table.old }
     ensures { Counts view.now (shown_edges view.now (block_values blocks.now)) table.old table.new }
 {
     for block in blocks {

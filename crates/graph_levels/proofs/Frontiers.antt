@@ -7,14 +7,14 @@ use Rattle.std.proofs.lemmas.List.Elements.{All-nil, All-cons, Contains-push, Co
 use Rattle.std.{specs.{Prelude.{All, replicate}, List.Contains}, proofs.lemmas.Grind.common_steps}
 use Rattle.graph_types.specs.{Graph.Graph, Analyses.{LeadsTo, Walk, IsLevel, IsTable}, declared.ids.Filter.Filter}
 use Rattle.graph_types.{specs.declared.ids.VertexId.VertexId, proofs.Counts.{Contains-cons_cases, Contains-nil}}
-use Rattle.graph_levels.specs.Search.{has_none, level_of, HasLevel, IsReached, IsSearch}
-use Rattle.graph_levels.specs.Reached.{met, stands_in, table_of, vertices_of}
+use Rattle.graph_levels.specs.Search.{is_unreached, level_of, HasLevel, IsReachedWithin, IsSearch}
+use Rattle.graph_levels.specs.Reached.{met, stands_in, level_table, vertices_of}
 use Rattle.graph_levels.proofs.Tables.{asked, front_long, length-table, levelled, table_push, vertices_push}
 
-none_of : (o : Option ℕ) → has_none o ≡ true → o ≡ None
+none_of : (o : Option ℕ) → is_unreached o ≡ true → o ≡ None
 none_of o h = grind (arith, common_steps)
 
-some_of : (o : Option ℕ) → has_none o ≡ false → (j : ℕ) × (o ≡ Some j)
+some_of : (o : Option ℕ) → is_unreached o ≡ false → (j : ℕ) × (o ≡ Some j)
 some_of o h = grind (arith, common_steps)
 
 same_level : (levels : List (Option ℕ)) (v j k : ℕ) → HasLevel levels j v → HasLevel levels k v → j ≡ k
@@ -69,12 +69,12 @@ module _ (f : Filter) (g : Graph) (s : ℕ) where
   -- what visiting targets of u leaves, where n vertices are there and the next frontier stands behind the first m rows
   pub record Visited (n : ℕ) (rows : List (VertexId × ℕ)) (rest : List ℕ) (m d : ℕ) (ts : List ℕ)
       (new : List (VertexId × ℕ)) : Type 0 where
-    pub search : IsSearch f g s (table_of n new) rest (vertices_of (drop m new)) d
-    pub reached : All (IsReached (table_of n new) (d + 1)) ts
-    pub keep : (w k : ℕ) → HasLevel (table_of n rows) k w → HasLevel (table_of n new) k w
+    pub search : IsSearch f g s (level_table n new) rest (vertices_of (drop m new)) d
+    pub reached : All (IsReachedWithin (level_table n new) (d + 1)) ts
+    pub keep : (w k : ℕ) → HasLevel (level_table n rows) k w → HasLevel (level_table n new) k w
 
   pub visit_all : (n : ℕ) (ts : List ℕ) (rows : List (VertexId × ℕ)) (rest : List ℕ) (m d u : ℕ)
-      → IsSearch f g s (table_of n rows) rest (vertices_of (drop m rows)) d → HasLevel (table_of n rows) d u → m ≤ length rows
+      → IsSearch f g s (level_table n rows) rest (vertices_of (drop m rows)) d → HasLevel (level_table n rows) d u → m ≤ length rows
       → All (LeadsTo f g u) ts → All (λ v. v < n) ts → Visited n rows rest m d ts (met (d + 1) ts rows)
   visit_all n [] rows rest m d u i at long edges in' = grind (arith, common_steps, All-nil)
   visit_all n (v ∷ ts) rows rest m d u i at long edges in' =
@@ -82,17 +82,17 @@ module _ (f : Filter) (g : Graph) (s : ℕ) where
       let edge : LeadsTo f g u v = edges 0 0 (omega arith) in
       let others = All-tail (LeadsTo f g u) v ts edges in
       let rest_in = All-tail (λ w. w < n) v ts in' in
-      let levels = table_of n rows in
+      let levels = level_table n rows in
       let new : List (VertexId × ℕ) = rows ++ (record { 0 = v }, d + 1) ∷ [] in
       let below : v < length levels = omega (arith, length-table n rows, lt) in
       let when_none : level_of levels v ≡ None → Visited n rows rest m d (v ∷ ts) (met (d + 1) ts new) =
       λ none.
-      let keep : (w k : ℕ) → HasLevel levels k w → HasLevel (table_of n new) k w =
+      let keep : (w k : ℕ) → HasLevel levels k w → HasLevel (level_table n new) k w =
       λ w k h. subst (λ t. HasLevel t k w) (sym (table_push n rows v (d + 1))) (kept levels v (d + 1) none w k h) in
-      let here : HasLevel (table_of n new) (d + 1) v =
+      let here : HasLevel (level_table n new) (d + 1) v =
       subst (λ t. HasLevel t (d + 1) v) (sym (table_push n rows v (d + 1)))
       (get_or-set_same levels v (Some (d + 1)) None below) in
-      let next : IsSearch f g s (table_of n new) rest (vertices_of (drop m new)) d =
+      let next : IsSearch f g s (level_table n new) rest (vertices_of (drop m new)) d =
       subst (λ t. IsSearch f g s t rest (vertices_of (drop m new)) d) (sym (table_push n rows v (d + 1)))
       (subst (λ vs. IsSearch f g s (set levels v (Some (d + 1))) rest vs d) (sym (vertices_push m rows v (d + 1) long))
       (mark levels rest (vertices_of (drop m rows)) d u v i at edge below none)) in
@@ -100,7 +100,7 @@ module _ (f : Filter) (g : Graph) (s : ℕ) where
       others rest_in in
       record {
         search = r.search;
-        reached = All-cons (IsReached (table_of n (met (d + 1) ts new)) (d + 1)) v ts
+        reached = All-cons (IsReachedWithin (level_table n (met (d + 1) ts new)) (d + 1)) v ts
             (d + 1, r.keep v (d + 1) here, omega arith) r.reached;
         keep = λ w k h. r.keep w k (keep w k h);
       } in
@@ -109,7 +109,7 @@ module _ (f : Filter) (g : Graph) (s : ℕ) where
       let r = visit_all n ts rows rest m d u i at long others rest_in in
       record {
         search = r.search;
-        reached = All-cons (IsReached (table_of n (met (d + 1) ts rows)) (d + 1)) v ts (j, r.keep v j h, i.low v j h) r.reached;
+        reached = All-cons (IsReachedWithin (level_table n (met (d + 1) ts rows)) (d + 1)) v ts (j, r.keep v j h, i.low v j h) r.reached;
         keep = r.keep;
       } in
       let choose : (b : Bool) → stands_in v rows ≡ b → Visited n rows rest m d (v ∷ ts) (met (d + 1) ts (cond b rows new)) =
@@ -121,7 +121,7 @@ module _ (f : Filter) (g : Graph) (s : ℕ) where
 
   -- a vertex whose targets are all reached is done
   pub done : (levels : List (Option ℕ)) (u : ℕ) (rest next : List ℕ) (d : ℕ) → IsSearch f g s levels (u ∷ rest) next d
-      → ((v : ℕ) → LeadsTo f g u v → IsReached levels (d + 1) v) → IsSearch f g s levels rest next d
+      → ((v : ℕ) → LeadsTo f g u v → IsReachedWithin levels (d + 1) v) → IsSearch f g s levels rest next d
   done levels u rest next d i all = record {
     start = i.start;
     sound = i.sound;
@@ -147,17 +147,17 @@ module _ (f : Filter) (g : Graph) (s : ℕ) where
   pub step : (n d k : ℕ) (ts : List ℕ) (old rows : List (VertexId × ℕ)) (row : VertexId × ℕ)
       → rows ≡ old ++ drop (length old) rows → k < length old → row ≡ get_or rows k row
       → All (LeadsTo f g row.0.0) ts → All (λ v. v < n) ts → ((b : ℕ) → LeadsTo f g row.0.0 b → Contains ts b)
-      → IsSearch f g s (table_of n rows) (vertices_of (drop k old)) (vertices_of (drop (length old) rows)) d
-      → IsSearch f g s (table_of n (met (d + 1) ts rows)) (vertices_of (drop (k + 1) old))
+      → IsSearch f g s (level_table n rows) (vertices_of (drop k old)) (vertices_of (drop (length old) rows)) d
+      → IsSearch f g s (level_table n (met (d + 1) ts rows)) (vertices_of (drop (k + 1) old))
       (vertices_of (drop (length old) (met (d + 1) ts rows))) d
   step n d k ts old rows row front lt is edges in' each i =
       let u = row.0.0 in
       let rest = vertices_of (drop (k + 1) old) in
-      let at : IsSearch f g s (table_of n rows) (u ∷ rest) (vertices_of (drop (length old) rows)) d =
-      subst (λ vs. IsSearch f g s (table_of n rows) vs (vertices_of (drop (length old) rows)) d) (asked old rows k row front lt is) i in
+      let at : IsSearch f g s (level_table n rows) (u ∷ rest) (vertices_of (drop (length old) rows)) d =
+      subst (λ vs. IsSearch f g s (level_table n rows) vs (vertices_of (drop (length old) rows)) d) (asked old rows k row front lt is) i in
       let r = visit_all n ts rows (u ∷ rest) (length old) d u at (at.now 0 0 (omega arith)) (front_long old rows front) edges in' in
-      done (table_of n (met (d + 1) ts rows)) u rest (vertices_of (drop (length old) (met (d + 1) ts rows))) d r.search
-      (λ b edge. All-contains (IsReached (table_of n (met (d + 1) ts rows)) (d + 1)) ts b r.reached (each b edge))
+      done (level_table n (met (d + 1) ts rows)) u rest (vertices_of (drop (length old) (met (d + 1) ts rows))) d r.search
+      (λ b edge. All-contains (IsReachedWithin (level_table n (met (d + 1) ts rows)) (d + 1)) ts b r.reached (each b edge))
 
   -- the next frontier becomes the frontier
   pub deeper : (levels : List (Option ℕ)) (next : List ℕ) (d : ℕ) → IsSearch f g s levels [] next d
@@ -177,8 +177,8 @@ module _ (f : Filter) (g : Graph) (s : ℕ) where
 
   module _ (levels : List (Option ℕ)) (start : HasLevel levels 0 s)
       (sound : (v k : ℕ) → HasLevel levels k v → Walk (LeadsTo f g) s v k)
-      (closed : (u v k : ℕ) → HasLevel levels k u → LeadsTo f g u v → IsReached levels (k + 1) v) where
-    reached : (m v : ℕ) → Walk (LeadsTo f g) s v m → IsReached levels m v
+      (closed : (u v k : ℕ) → HasLevel levels k u → LeadsTo f g u v → IsReachedWithin levels (k + 1) v) where
+    reached : (m v : ℕ) → Walk (LeadsTo f g) s v m → IsReachedWithin levels m v
     reached zero v w = (0, ap (level_of levels) (sym w) ∙ start, omega arith)
     reached (suc m) v w =
         let before = reached m w.0 w.1 in
@@ -194,7 +194,7 @@ module _ (f : Filter) (g : Graph) (s : ℕ) where
   pub found : (levels : List (Option ℕ)) (n d : ℕ) → length levels ≡ n → IsSearch f g s levels [] [] d
       → IsTable n (IsLevel f g s) levels
   found levels n d long i =
-      let closed : (u v k : ℕ) → HasLevel levels k u → LeadsTo f g u v → IsReached levels (k + 1) v =
+      let closed : (u v k : ℕ) → HasLevel levels k u → LeadsTo f g u v → IsReachedWithin levels (k + 1) v =
       λ u v k h to. elim (i.closed u v k h to) [
         | inl r ↦ r
         | inr (inl c) ↦ absurd (Contains-nil u c)

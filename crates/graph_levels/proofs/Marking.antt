@@ -5,7 +5,7 @@ use Rattle.std.proofs.lemmas.{Nat.Bits.{bit_at_set_same, bit_at_set_other, bit_a
 use Rattle.std.{proofs.lemmas.List.{get_or-replicate, get_or_past, length-replicate}, specs.{Prelude.replicate, Int.w64}}
 use Rattle.std.{specs.Int.{bit_at, RustNames.bit_or}, proofs.lemmas.Grind.common_steps}
 use Rattle.graph_types.specs.declared.ids.VertexId.{VertexId}
-use Rattle.graph_levels.{specs.Reached.{AreMarks, IsMarked}, proofs.Tables.stands_push}
+use Rattle.graph_levels.{specs.Reached.{AreVertexMarks, IsMarked}, proofs.Tables.stands_push}
 
 -- the word with a bit more
 abbrev pub with_bit : ℕ → ℕ → ℕ
@@ -35,8 +35,8 @@ pub marked_other : (marks : List ℕ) (v w : ℕ) → v / 64 < length marks → 
 marked_other marks v w lt ne = grind (arith, common_steps, marks_alike)
 
 -- one vertex more, with its mark
-pub marks_more : (marks new : List ℕ) (rows : List (VertexId × ℕ)) (d v : ℕ) → AreMarks marks rows → IsMarked new v
-    → ((w : ℕ) → w ≢ v → (IsMarked new w ↔ IsMarked marks w)) → AreMarks new (rows ++ (record { 0 = v }, d) ∷ [])
+pub marks_more : (marks new : List ℕ) (rows : List (VertexId × ℕ)) (d v : ℕ) → AreVertexMarks marks rows → IsMarked new v
+    → ((w : ℕ) → w ≢ v → (IsMarked new w ↔ IsMarked marks w)) → AreVertexMarks new (rows ++ (record { 0 = v }, d) ∷ [])
 marks_more marks new rows d v are marked others w = grind (arith, common_steps, stands_push, eqb_tells)
 
 -- with no bit set nothing is marked
@@ -44,5 +44,5 @@ pub none_marked : (count v : ℕ) → IsMarked (replicate count 0) v → ⊥
 none_marked count v marked = grind (arith, common_steps, cases_lt, get_or-replicate, get_or_past, length-replicate, bit_at-zero)
 
 pub first_marked : (count s : ℕ) (new : List ℕ) → IsMarked new s
-    → ((w : ℕ) → w ≢ s → (IsMarked new w ↔ IsMarked (replicate count 0) w)) → AreMarks new ((record { 0 = s }, 0) ∷ [])
+    → ((w : ℕ) → w ≢ s → (IsMarked new w ↔ IsMarked (replicate count 0) w)) → AreVertexMarks new ((record { 0 = s }, 0) ∷ [])
 first_marked count s new marked others = grind (arith, common_steps, marks_more, none_marked, false≢true)

@@ -14,7 +14,7 @@ use Rattle.std.specs.{List.{IsDistinct, list_any, Sorted.{IsNonDecreasing, IsNon
 use Rattle.std.proofs.lemmas.Grind.{common_steps}
 use Rattle.graph_types.proofs.{Counts.{Contains-cons, Contains-cons_cases, Contains-first}, Arcs.contains_map}
 use Rattle.graph_types.specs.declared.ids.VertexId.{VertexId}
-use Rattle.graph_levels.specs.{Search.{has_none, level_of}, Reached.{AreRows, met, rows_from, stands_in, table_of, vertices_of}}
+use Rattle.graph_levels.specs.{Search.{is_unreached, level_of}, Reached.{AreRows, met, rows_from, stands_in, level_table, vertices_of}}
 
 -- a table with the levels of rows, one after another
 abbrev pub filled : List (Option ℕ) → List (VertexId × ℕ) → List (Option ℕ)
@@ -24,11 +24,11 @@ length-filled : (rows : List (VertexId × ℕ)) (levels : List (Option ℕ)) →
 length-filled [] levels = refl
 length-filled (row ∷ rows) levels = grind (arith, common_steps, length-filled rows (set levels row.0.0 (Some row.1)))
 
-pub length-table : (n : ℕ) (rows : List (VertexId × ℕ)) → length (table_of n rows) ≡ n
+pub length-table : (n : ℕ) (rows : List (VertexId × ℕ)) → length (level_table n rows) ≡ n
 length-table n rows = length-filled rows (replicate n None) ∙ length-replicate n None
 
 pub table_push : (n : ℕ) (rows : List (VertexId × ℕ)) (v d : ℕ)
-    → table_of n (rows ++ (record { 0 = v }, d) ∷ []) ≡ set (table_of n rows) v (Some d)
+    → level_table n (rows ++ (record { 0 = v }, d) ∷ []) ≡ set (level_table n rows) v (Some d)
 table_push n rows v d = fold-append (λ table row. set table row.0.0 (Some row.1)) (replicate n None) rows ((record { 0 = v }, d) ∷ [])
 
 pub vertices_push : (m : ℕ) (rows : List (VertexId × ℕ)) (v d : ℕ) → m ≤ length rows
@@ -37,8 +37,8 @@ vertices_push m rows v d long = grind (arith, common_steps, drop-append-le, map-
 
 -- a vertex has a level in the filled table where it had one, or stands in a row
 levelled_from : (rows : List (VertexId × ℕ)) (levels : List (Option ℕ)) (v : ℕ) → v < length levels
-    → has_none (level_of (filled levels rows) v) ≡ (has_none (level_of levels v) && not (stands_in v rows))
-levelled_from [] levels v lt = elim (has_none (level_of levels v)) as (λ b. b ≡ (b && true)) [ true ↦ refl | false ↦ refl ]
+    → is_unreached (level_of (filled levels rows) v) ≡ (is_unreached (level_of levels v) && not (stands_in v rows))
+levelled_from [] levels v lt = elim (is_unreached (level_of levels v)) as (λ b. b ≡ (b && true)) [ true ↦ refl | false ↦ refl ]
 levelled_from (row ∷ rows) levels v lt =
     let w = row.0.0 in
     let new = set levels w (Some row.1) in
@@ -47,20 +47,20 @@ levelled_from (row ∷ rows) levels v lt =
     elim (eqb_tells v w) [
       | inl same ↦
           more
-          ∙ ap (λ o. has_none o && not (stands_in v rows))
+          ∙ ap (λ o. is_unreached o && not (stands_in v rows))
           (ap (level_of new) same.1 ∙ get_or-set_same levels w (Some row.1) None (subst (λ x. x < length levels) same.1 lt))
-          ∙ sym (ap (λ b. has_none (level_of levels v) && not (b || stands_in v rows)) same.0 ∙ nothing (has_none (level_of levels v)))
+          ∙ sym (ap (λ b. is_unreached (level_of levels v) && not (b || stands_in v rows)) same.0 ∙ nothing (is_unreached (level_of levels v)))
       | inr other ↦
           more
-          ∙ ap (λ o. has_none o && not (stands_in v rows)) (get_or-set_other levels w v (Some row.1) None other.1)
-          ∙ sym (ap (λ b. has_none (level_of levels v) && not (b || stands_in v rows)) other.0)
+          ∙ ap (λ o. is_unreached o && not (stands_in v rows)) (get_or-set_other levels w v (Some row.1) None other.1)
+          ∙ sym (ap (λ b. is_unreached (level_of levels v) && not (b || stands_in v rows)) other.0)
     ] where
       nothing : (b : Bool) → (b && false) ≡ false
       nothing true = refl
       nothing false = refl
 
 pub levelled : (n : ℕ) (rows : List (VertexId × ℕ)) (v : ℕ) → v < n
-    → has_none (level_of (table_of n rows) v) ≡ not (stands_in v rows)
+    → is_unreached (level_of (level_table n rows) v) ≡ not (stands_in v rows)
 levelled n rows v lt = grind (arith, common_steps, levelled_from, length-replicate, get_or-replicate)
 
 -- visiting targets keeps the rows that were there, at their front
@@ -254,9 +254,9 @@ same_rows (Some d ∷ levels) v (first ∷ rows) rise sound whole =
 
 -- the rows of a search, in the order of their vertices, are those of its table
 pub sorted_rows : (n : ℕ) (rows sorted : List (VertexId × ℕ)) → AreRows n rows → IsPermutation rows sorted
-    → IsNonDecreasingBy (λ row. row.0.0) sorted → sorted ≡ rows_from 0 (table_of n rows)
+    → IsNonDecreasingBy (λ row. row.0.0) sorted → sorted ≡ rows_from 0 (level_table n rows)
 sorted_rows n rows sorted are moved ordered =
-    same_rows (table_of n rows) 0 sorted rise
+    same_rows (level_table n rows) 0 sorted rise
     (λ row at. (
       row.0.0,
       omega arith,
@@ -269,14 +269,14 @@ sorted_rows n rows sorted are moved ordered =
       vertex : VertexId × ℕ → ℕ
       vertex row = row.0.0
 
-      stands : (w d : ℕ) → level_of (table_of n rows) w ≡ Some d → Contains rows (record { 0 = w }, d)
+      stands : (w d : ℕ) → level_of (level_table n rows) w ≡ Some d → Contains rows (record { 0 = w }, d)
       stands w d is = elim (cases_lt w n) [
         | inl lt ↦ elim (tells rows (replicate n None) w d (omega (arith, lt, length-replicate {A = Option ℕ} n None)) is) [
           | inl at ↦ at
           | inr had ↦ let both = sym (get_or-replicate n w None None lt) ∙ had in absurd (cc)
         ]
         | inr past ↦
-            let both = sym (get_or_past (table_of n rows) w None (omega (arith, past, length-table n rows))) ∙ is in absurd (cc)
+            let both = sym (get_or_past (level_table n rows) w None (omega (arith, past, length-table n rows))) ∙ is in absurd (cc)
       ]
 
       ordered_vertices : IsNonDecreasing (vertices_of sorted)

@@ -4,7 +4,7 @@ use Rattle.std.proofs.lemmas.{Bool.{cases_eq, cases_lt}, List.{get_or-set_same, 
 use Rattle.std.{proofs.lemmas.List.FromFn.{length-range_with_len, get_or-range_with_len}, specs.List.range_with_len}
 use Rattle.std.proofs.lemmas.Grind.{common_steps}
 use Rattle.graph_types.specs.{Graph.Graph, Analyses.Connects, declared.ids.Filter.Filter}
-use Rattle.graph_levels.{specs.Forest.{parent, IsForest, IsSound, Respects}, proofs.Walks.{itself, then}}
+use Rattle.graph_levels.{specs.Forest.{parent, IsForest, IsSoundForest, Respects}, proofs.Walks.{itself, then}}
 
 -- a read of a place within
 pub read : (ps : List ℕ) (v : ℕ) → v < length ps → get_or ps v 0 ≡ parent ps v
@@ -21,8 +21,8 @@ pub forest_set : (ps : List ℕ) (v a : ℕ) → v < length ps → a ≤ v → I
 forest_set ps v a lt le low = grind (arith, common_steps, cases_eq, parent_set_same, parent_set_other)
 
 -- a parent that walks join
-pub sound_set : (f : Filter) (g : Graph) (ps : List ℕ) (v a : ℕ) → v < length ps → Connects f g a v → IsSound f g ps
-    → IsSound f g (set ps v a)
+pub sound_set : (f : Filter) (g : Graph) (ps : List ℕ) (v a : ℕ) → v < length ps → Connects f g a v → IsSoundForest f g ps
+    → IsSoundForest f g (set ps v a)
 sound_set f g ps v a lt c sound = λ w. elim (cases_eq w v) [
   | inl e ↦ subst (λ x. Connects f g (parent (set ps v a) x) x) (sym e)
       (subst (λ x. Connects f g x v) (sym (parent_set_same ps v a lt)) c)
@@ -72,14 +72,14 @@ halved_respects ps v label lt low new =
     let old : Respects ps label = respects_halved ps v label lt (subst (λ x. Respects (set ps v x) label) e new) in
     (old, linked_same ps v (up ps v) label lt new)
 
-pub halved_connects : (f : Filter) (g : Graph) (ps : List ℕ) (v : ℕ) → v < length ps → IsForest ps → IsSound f g ps
+pub halved_connects : (f : Filter) (g : Graph) (ps : List ℕ) (v : ℕ) → v < length ps → IsForest ps → IsSoundForest f g ps
     → Connects f g (up ps v) v
 halved_connects f g ps v lt low sound =
     let u = up_is ps v lt low in
     subst (λ x. Connects f g x v) (sym u.0) (then f g _ _ _ (sound (parent ps v)) (sound v))
 
-pub halved_sound : (f : Filter) (g : Graph) (ps : List ℕ) (v : ℕ) → v < length ps → IsForest ps → IsSound f g ps
-    → IsSound f g (set ps v (up ps v))
+pub halved_sound : (f : Filter) (g : Graph) (ps : List ℕ) (v : ℕ) → v < length ps → IsForest ps → IsSoundForest f g ps
+    → IsSoundForest f g (set ps v (up ps v))
 halved_sound f g ps v lt low sound = sound_set f g ps v (up ps v) lt (halved_connects f g ps v lt low sound) sound
 
 pub halved_flat : (ps : List ℕ) (i : ℕ) → i < length ps → IsForest ps → FlatBelow ps i → FlatBelow (set ps i (up ps i)) (i + 1)
@@ -96,5 +96,5 @@ fresh n v = grind (arith, common_steps, cases_lt, get_or-range_with_len, length-
 pub fresh_forest : (n : ℕ) (ps : List ℕ) → ps ≡ range_with_len 0 n → IsForest ps
 fresh_forest n ps e = λ v. let f = fresh n v in let same = ap (λ xs. parent xs v) e in omega arith
 
-pub fresh_sound : (f : Filter) (g : Graph) (n : ℕ) (ps : List ℕ) → ps ≡ range_with_len 0 n → IsSound f g ps
+pub fresh_sound : (f : Filter) (g : Graph) (n : ℕ) (ps : List ℕ) → ps ≡ range_with_len 0 n → IsSoundForest f g ps
 fresh_sound f g n ps e = λ v. subst (λ x. Connects f g x v) (sym (ap (λ xs. parent xs v) e ∙ fresh n v)) (itself f g v)

@@ -3,7 +3,7 @@ use Rattle.std.proofs.Common.{◌≡◌, ℕ, ◌≤◌, zero, suc, arith, refl,
 use Rattle.std.proofs.lemmas.Option.{get_or_from_slice_get}
 use Rattle.graph_types.specs.{Graph.Graph, declared.ids.Filter.Filter, Analyses.{LeadsTo, Joins, Walk, Connects, IsLabel}}
 use Rattle.graph_types.{specs.Analyses.IsTable, proofs.Walks.{joined, back}}
-use Rattle.graph_levels.specs.Forest.{parent, IsForest, IsSound}
+use Rattle.graph_levels.specs.Forest.{parent, IsForest, IsSoundForest}
 
 module _ (f : Filter) (g : Graph) where
   pub itself : (a : ℕ) → Connects f g a a
@@ -29,7 +29,7 @@ module _ (f : Filter) (g : Graph) where
     are_labels v = (sound v, λ w c. let same = along c.0 w v c.1 in let below = low w in omega arith)
 
   -- flat trees that edges do not leave are the labels
-  pub flat_trees : (n : ℕ) (ps : List ℕ) → length ps ≡ n → IsForest ps → IsSound f g ps
+  pub flat_trees : (n : ℕ) (ps : List ℕ) → length ps ≡ n → IsForest ps → IsSoundForest f g ps
       → ((v : ℕ) → parent ps (parent ps v) ≡ parent ps v)
       → ((a b : ℕ) → LeadsTo f g a b → parent ps a ≡ parent ps b)
       → IsTable n (IsLabel f g) ps

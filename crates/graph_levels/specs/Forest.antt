@@ -10,8 +10,8 @@ abbrev pub IsForest : List ℕ → Type 0
 IsForest parents = (v : ℕ) → parent parents v ≤ v
 
 -- walks join each vertex to its parent
-abbrev pub IsSound : Filter → Graph → List ℕ → Type 0
-IsSound f g parents = (v : ℕ) → Connects f g (parent parents v) v
+abbrev pub IsSoundForest : Filter → Graph → List ℕ → Type 0
+IsSoundForest f g parents = (v : ℕ) → Connects f g (parent parents v) v
 
 -- a vertex and its parent have one label
 abbrev pub Respects : List ℕ → (ℕ → ℕ) → Type 0

@@ -5,8 +5,8 @@ use Rattle.std.specs.{Prelude.{◌↔◌, ◌/◌, ◌%◌, slice_index_or, IsTr
 use Rattle.graph_types.specs.{Graph.Graph, Analyses.AreLevels, declared.ids.{Filter.Filter, VertexId.VertexId}}
 use Rattle.graph_levels.specs.declared.found.Levels.{Levels, TheVariants.{Each, Reached}}
 
-abbrev pub numbers_of : List VertexId → List ℕ
-numbers_of vertices = map (λ vertex. vertex.0) vertices
+abbrev pub vertex_numbers : List VertexId → List ℕ
+vertex_numbers vertices = map (λ vertex. vertex.0) vertices
 
 abbrev pub vertices_of : List (VertexId × ℕ) → List ℕ
 vertices_of rows = map (λ row. row.0.0) rows
@@ -21,8 +21,8 @@ met level [] rows = rows
 met level (v ∷ vs) rows = met level vs (cond (stands_in v rows) rows (rows ++ (record { 0 = v }, level) ∷ []))
 
 -- the table of so many vertices in which those of the rows have their levels, and no other has one
-abbrev pub table_of : ℕ → List (VertexId × ℕ) → List (Option ℕ)
-table_of count rows = fold (λ levels row. slice_set levels row.0.0 (Some row.1)) (replicate count None) rows
+abbrev pub level_table : ℕ → List (VertexId × ℕ) → List (Option ℕ)
+level_table count rows = fold (λ levels row. slice_set levels row.0.0 (Some row.1)) (replicate count None) rows
 
 -- each row is of a vertex of its own below the count
 pub record AreRows (count : ℕ) (rows : List (VertexId × ℕ)) : Type 0 where
@@ -49,5 +49,5 @@ abbrev pub IsMarked : List ℕ → ℕ → Type 0
 IsMarked marks v = bit_at (slice_index_or marks (v / 64) 0) (v % 64) ≡ 1
 
 -- the vertices that stand in these rows are marked, and no other
-abbrev pub AreMarks : List ℕ → List (VertexId × ℕ) → Type 0
-AreMarks marks rows = (v : ℕ) → (IsMarked marks v ↔ IsTrue (stands_in v rows))
+abbrev pub AreVertexMarks : List ℕ → List (VertexId × ℕ) → Type 0
+AreVertexMarks marks rows = (v : ℕ) → (IsMarked marks v ↔ IsTrue (stands_in v rows))

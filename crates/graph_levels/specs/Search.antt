@@ -3,9 +3,9 @@ use Rattle.std.specs.Prelude.{◌≡◌, ℕ, ◌+◌, ◌≤◌, List, slice_in
 use Rattle.std.specs.List.{Contains}
 use Rattle.graph_types.specs.{Graph.Graph, Analyses.{LeadsTo, Walk}, declared.ids.Filter.Filter}
 
-abbrev pub has_none : Option ℕ → Bool
-has_none None = true
-has_none (Some n) = false
+abbrev pub is_unreached : Option ℕ → Bool
+is_unreached None = true
+is_unreached (Some n) = false
 
 abbrev pub level_of : List (Option ℕ) → ℕ → Option ℕ
 level_of levels v = slice_index_or levels v None
@@ -13,8 +13,8 @@ level_of levels v = slice_index_or levels v None
 abbrev pub HasLevel : List (Option ℕ) → ℕ → ℕ → Type 0
 HasLevel levels d v = level_of levels v ≡ Some d
 
-abbrev pub IsReached : List (Option ℕ) → ℕ → ℕ → Type 0
-IsReached levels k v = (j : ℕ) × (level_of levels v ≡ Some j) × (j ≤ k)
+abbrev pub IsReachedWithin : List (Option ℕ) → ℕ → ℕ → Type 0
+IsReachedWithin levels k v = (j : ℕ) × (level_of levels v ≡ Some j) × (j ≤ k)
 
 -- Between two frontiers: each level is that of a walk and at most depth + 1; those of rest have depth, those of next
 -- depth + 1; an edge out of a vertex that is in neither leads to a level that is at most one more.
@@ -26,4 +26,4 @@ pub record IsSearch (f : Filter) (g : Graph) (source : ℕ) (levels : List (Opti
   pub now : All (HasLevel levels depth) rest
   pub later : All (HasLevel levels (depth + 1)) next
   pub closed : (u v k : ℕ) → HasLevel levels k u → LeadsTo f g u v
-      → IsReached levels (k + 1) v ⊎ (Contains rest u ⊎ Contains next u)
+      → IsReachedWithin levels (k + 1) v ⊎ (Contains rest u ⊎ Contains next u)

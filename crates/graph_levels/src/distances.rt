@@ -3,8 +3,8 @@
 ghost use Rattle.std.specs.Prelude.{◌≡◌, ◌<◌, ◌≤◌, ◌+◌, ◌*◌, ◌/◌, ℕ, [], length, drop, replicate, All, IfOk, OnOk};
 ghost use Rattle.graph_types.specs.Analyses.{AreLevels, LeadsTo};
 ghost use Rattle.graph_types.specs.Limits.{most_names};
-ghost use Rattle.graph_levels.specs.Reached.{AreMarks};
-ghost use Rattle.graph_levels.specs.Reached.{AreRows, met, table_of, vertices_of};
+ghost use Rattle.graph_levels.specs.Reached.{AreVertexMarks};
+ghost use Rattle.graph_levels.specs.Reached.{AreRows, met, level_table, vertices_of};
 ghost use Rattle.graph_levels.specs.Search.{IsSearch};
 
 use crate::marks::{WORD, is_marked, mark};
@@ -20,9 +20,9 @@ fn visit(
     level: u32,
 ) -> Result<(), AllocError>
     requires within { All (λ v. v / 64 < length marks.old) targets.now }
-    requires marks { AreMarks marks.old rows.old.items }
+    requires marks { AreVertexMarks marks.old rows.old.items }
     ensures rows { OnOk result (rows.new.items ≡ met level targets.now rows.old.items) }
-    ensures marks { OnOk result (AreMarks marks.new rows.new.items) }
+    ensures marks { OnOk result (AreVertexMarks marks.new rows.new.items) }
 {
     for target in targets {
         if !is_marked(marks, *target) {
@@ -47,15 +47,15 @@ fn advance<R: ViewEdges>(
     requires within { (a b : ℕ) → LeadsTo (R.filter edges.now) (R.graph edges.now) a b
         → (a < length (R.graph edges.now).names) × (b < length (R.graph edges.now).names) }
     requires few { depth < most_names }
-    requires marks { AreMarks marks.old rows.old.items }
+    requires marks { AreVertexMarks marks.old rows.old.items }
     requires rows { AreRows (length (R.graph edges.now).names) rows.old.items }
-    ensures marks { OnOk result (AreMarks marks.new rows.new.items) }
+    ensures marks { OnOk result (AreVertexMarks marks.new rows.new.items) }
     ensures rows { OnOk result (AreRows (length (R.graph edges.now).names) rows.new.items) }
     ensures more { OnOk result (length rows.old.items ≤ length rows.new.items) }
     ensures search { OnOk result ((source : ℕ)
-        → IsSearch (R.filter edges.now) (R.graph edges.now) source (table_of (length (R.graph edges.now).names) rows.old.items)
+        → IsSearch (R.filter edges.now) (R.graph edges.now) source (level_table (length (R.graph edges.now).names) rows.old.items)
         (vertices_of (drop first rows.old.items)) [] depth
-        → IsSearch (R.filter edges.now) (R.graph edges.now) source (table_of (length (R.graph edges.now).names) rows.new.items)
+        → IsSearch (R.filter edges.now) (R.graph edges.now) source (level_table (length (R.graph edges.now).names) rows.new.items)
         [] (vertices_of (drop (length rows.old.items) rows.new.items)) depth) }
 {
     for place in first..rows.len() {
@@ -79,7 +79,7 @@ fn reach<R: ViewEdges>(
         → (a < length (R.graph edges.now).names) × (b < length (R.graph edges.now).names) }
     requires few { length (R.graph edges.now).names ≤ most_names }
     ensures levels { IfOk result (λ rows. AreLevels (R.filter edges.now) (R.graph edges.now) source.0
-        (table_of (length (R.graph edges.now).names) rows.items)) }
+        (level_table (length (R.graph edges.now).names) rows.items)) }
     ensures rows { IfOk result (λ rows. AreRows (length (R.graph edges.now).names) rows.items) }
 {
     mark(marks, source.0);
@@ -105,7 +105,7 @@ pub(crate) fn search<R: ViewEdges>(
 ) -> Result<Vec<(VertexId, u32)>, AllocError>
     requires { source.0 < length (R.graph edges.now).names }
     ensures levels { IfOk result (λ rows. AreLevels (R.filter edges.now) (R.graph edges.now) source.0
-        (table_of (length (R.graph edges.now).names) rows.items)) }
+        (level_table (length (R.graph edges.now).names) rows.items)) }
     ensures rows { IfOk result (λ rows. AreRows (length (R.graph edges.now).names) rows.items) }
 {
     let mut marks = vec![in alloc; 0; edges.vertex_count() / WORD + 1]?;

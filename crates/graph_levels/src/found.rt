@@ -3,7 +3,7 @@
 ghost use Rattle.std.specs.Prelude.{◌≡◌, ◌<◌, length, All, IfOk};
 ghost use Rattle.graph_types.specs.Analyses.{AreLevels};
 ghost use Rattle.graph_levels.specs.Reached.{TellLevels};
-ghost use Rattle.graph_levels.specs.Reached.{table_of, vertices_of};
+ghost use Rattle.graph_levels.specs.Reached.{level_table, vertices_of};
 
 use crate::distances::search;
 use graph_types::{List, VertexId};
@@ -29,7 +29,7 @@ fn table(
     count: usize,
 ) -> Result<Vec<Option<u32>>, AllocError>
     requires { All (λ v. v < count) (vertices_of rows.now) }
-    ensures { IfOk result (λ levels. levels.items ≡ table_of count rows.now) }
+    ensures { IfOk result (λ levels. levels.items ≡ level_table count rows.now) }
 {
     let mut levels = vec![in alloc; None; count]?;
     for row in rows {

@@ -5,7 +5,7 @@ ghost use Rattle.std.specs.List.{range_with_len};
 ghost use Rattle.graph_types.specs.Analyses.{AreLabels, Joins, Connects};
 ghost use Rattle.graph_types.specs.Graph.{Graph};
 ghost use Rattle.graph_types.specs.declared.ids.Filter.{Filter};
-ghost use Rattle.graph_levels.specs.Forest.{parent, IsForest, IsSound, Respects};
+ghost use Rattle.graph_levels.specs.Forest.{parent, IsForest, IsSoundForest, Respects};
 
 use graph_version::ViewEdges;
 use std::alloc::{AllocError, Global};
@@ -19,7 +19,7 @@ fn find(parents: &mut [u32], start: u32) -> u32
     ensures low { result ≤ start }
     ensures coarser { (label : ℕ → ℕ) → Respects parents.new label → Respects parents.old label × (label start ≡ label result) }
     ensures roots { (v : ℕ) → parent parents.old v ≡ v → parent parents.new v ≡ v }
-    ensures sound { (f : Filter) (g : Graph) → IsSound f g parents.old → IsSound f g parents.new × Connects f g result start }
+    ensures sound { (f : Filter) (g : Graph) → IsSoundForest f g parents.old → IsSoundForest f g parents.new × Connects f g result start }
 {
     let mut vertex = start;
     while parents[vertex as usize] != vertex {
@@ -38,7 +38,7 @@ fn join(parents: &mut [u32], a: u32, b: u32)
     requires b_within { b < length parents.old }
     ensures forest { IsForest parents.new }
     ensures coarser { (label : ℕ → ℕ) → Respects parents.new label → Respects parents.old label × (label a ≡ label b) }
-    ensures sound { (f : Filter) (g : Graph) → IsSound f g parents.old → Joins f g a b → IsSound f g parents.new }
+    ensures sound { (f : Filter) (g : Graph) → IsSoundForest f g parents.old → Joins f g a b → IsSoundForest f g parents.new }
 {
     if parents[a as usize] == parents[b as usize] {
         return;
@@ -60,8 +60,8 @@ fn join_all(parents: &mut [u32], vertex: u32, targets: &[u32])
     ensures forest { IsForest parents.new }
     ensures coarser { (label : ℕ → ℕ) → Respects parents.new label
         → Respects parents.old label × All (λ v. label vertex ≡ label v) targets.now }
-    ensures sound { (f : Filter) (g : Graph) → IsSound f g parents.old → All (λ v. Joins f g vertex v) targets.now
-        → IsSound f g parents.new }
+    ensures sound { (f : Filter) (g : Graph) → IsSoundForest f g parents.old → All (λ v. Joins f g vertex v) targets.now
+        → IsSoundForest f g parents.new }
 {
     for target in targets {
         join(parents, vertex, *target);
@@ -74,7 +74,7 @@ fn flatten(parents: &mut [u32])
     ensures forest { IsForest parents.new }
     ensures flat { (v : ℕ) → parent parents.new (parent parents.new v) ≡ parent parents.new v }
     ensures coarser { (label : ℕ → ℕ) → Respects parents.new label → Respects parents.old label }
-    ensures sound { (f : Filter) (g : Graph) → IsSound f g parents.old → IsSound f g parents.new }
+    ensures sound { (f : Filter) (g : Graph) → IsSoundForest f g parents.old → IsSoundForest f g parents.new }
 {
     for vertex in 0..parents.len() {
         parents[vertex] = parents[parents[vertex] as usize];
@@ -85,7 +85,7 @@ fn flatten(parents: &mut [u32])
 fn settle<R: ViewEdges>(alloc: Global, edges: &R, parents: &mut [u32]) -> Result<(), AllocError>
     requires forest { IsForest parents.old }
     requires long { length parents.old ≡ length (R.graph edges.now).names }
-    ensures labels { OnOk result (IsSound (R.filter edges.now) (R.graph edges.now) parents.old
+    ensures labels { OnOk result (IsSoundForest (R.filter edges.now) (R.graph edges.now) parents.old
         → AreLabels (R.filter edges.now) (R.graph edges.now) parents.new) }
 {
     let mut targets = Vec::new(alloc);

@@ -4,7 +4,7 @@ ghost use Rattle.std.specs.Prelude.{◌≡◌, ◌<◌, ◌≤◌, ◌↔◌, le
 ghost use Rattle.graph_types.specs.Analyses.{AreLevels, AreLabels};
 ghost use Rattle.graph_version.specs.Versions.{content};
 ghost use Rattle.graph_levels.specs.Reached.{TellLevels};
-ghost use Rattle.graph_levels.specs.Reached.{numbers_of};
+ghost use Rattle.graph_levels.specs.Reached.{vertex_numbers};
 ghost use Rattle.graph_levels.specs.declared.versions.LevelError.TheVariants.{OutOfMemory};
 
 use crate::found::{Levels, levels_over, reached_over};
@@ -81,7 +81,7 @@ pub fn reached(
 /// The label of each vertex of a version, in number order: the least vertex to which edges of the view join it, each taken
 /// in either direction. The error is want of memory. A window that ends before it begins is an empty view.
 pub fn labels(alloc: Global, version: &Version, view: &Filter) -> Result<Vec<VertexId>, AllocError>
-    ensures { IfOk result (λ labels. AreLabels view.now (content version.now) (numbers_of labels.items)) }
+    ensures { IfOk result (λ labels. AreLabels view.now (content version.now) (vertex_numbers labels.items)) }
 {
     let edges = VersionEdges {
         version,
@@ -93,7 +93,7 @@ pub fn labels(alloc: Global, version: &Version, view: &Filter) -> Result<Vec<Ver
 
 /// The vertices of these numbers.
 fn vertices(alloc: Global, numbers: &[u32]) -> Result<Vec<VertexId>, AllocError>
-    ensures { IfOk result (λ vertices. numbers_of vertices.items ≡ numbers.now) }
+    ensures { IfOk result (λ vertices. vertex_numbers vertices.items ≡ numbers.now) }
 {
     let mut vertices = Vec::with_capacity(alloc, numbers.len())?;
     for number in numbers {

@@ -4,8 +4,8 @@ use Rattle.std.proofs.{Common.{refl, sym, ap, ◌∙◌, arith}, lemmas.List.{ge
 use Rattle.std.proofs.lemmas.{List.Elements.filter_map-append, Option.slice_get-get_or, Grind.common_steps}
 use Rattle.std.specs.{Prelude.{All, zip, Ok, position, bytes_eq}, List.filter_map, Option.option_to_list}
 use Rattle.graph_types.specs.{Graph.Graph, Graph.graph_of, Analyses.AreLevels, Analyses.AreLabels, Analyses.AreCoreNumbers}
-use Rattle.graph_types.specs.Answer.{IsAnswer, first_refusal, filter_refusal, resolved, reached}
-use Rattle.graph_types.specs.{Answer.names_of, Answer.level_row, declared.ids.Filter.Filter, declared.contents.Content.Content}
+use Rattle.graph_types.specs.Answer.{IsAnswer, first_refusal, filter_refusal, resolved_filter, reached}
+use Rattle.graph_types.specs.{Answer.names_of_vertices, Answer.level_row, declared.ids.Filter.Filter, declared.contents.Content.Content}
 use Rattle.graph_types.specs.declared.requests.{NamedFilter.NamedFilter, AskError.AskError, AskError.TheVariants.NoVertex}
 use Rattle.graph_types.specs.declared.requests.Request.TheVariants.{Levels as AskLevels, Labels as AskLabels, Cores as AskCores}
 use Rattle.graph_types.specs.declared.requests.Reply.TheVariants.{Levels, Labels, Cores}
@@ -25,10 +25,10 @@ labels_below f g labels table k d h =
 pub label_turn : (names : List (List ℕ)) (labels : List ℕ) (k : ℕ) (x : List ℕ) (label : ℕ) (y : List ℕ)
     → (k < length names) × (k < length labels) × ((d : List ℕ) → x ≡ get_or names k d) × ((d : ℕ) → label ≡ get_or labels k d)
     → label < length names → y ≡ get_or names label y
-    → (k < length names) × (k < length (names_of names labels)) × ((d : List ℕ) → x ≡ get_or names k d)
-    × ((d : List ℕ) → y ≡ get_or (names_of names labels) k d)
+    → (k < length names) × (k < length (names_of_vertices names labels)) × ((d : List ℕ) → x ≡ get_or names k d)
+    × ((d : List ℕ) → y ≡ get_or (names_of_vertices names labels) k d)
 label_turn names labels k x label y turn within is =
-    let long : length (names_of names labels) ≡ length labels = length-map labels (λ v. get_or names v []) in
+    let long : length (names_of_vertices names labels) ≡ length labels = length-map labels (λ v. get_or names v []) in
     let h = turn.1 in (
       turn.0,
       omega arith,
@@ -65,7 +65,7 @@ level_rows_more names levels rows new k n x level is pushed next turn =
     ∙ ap (filter_map level_row) (sym (next_row names levels k n x level next turn))
 
 -- each table with names put in is the answer
-module _ (c : Content) (named : NamedFilter) (f : Filter) (found : f ≡ resolved (graph_of c) named)
+module _ (c : Content) (named : NamedFilter) (f : Filter) (found : f ≡ resolved_filter (graph_of c) named)
     (fine : filter_refusal (graph_of c) named true ≡ None) where
   pub levels_answer : (source : List ℕ) (place : ℕ) (levels : List (Option ℕ)) (rows : List (List ℕ × ℕ))
       → Some place ≡ position (bytes_eq source) c.names → AreLevels f (graph_of c) place levels
@@ -73,7 +73,7 @@ module _ (c : Content) (named : NamedFilter) (f : Filter) (found : f ≡ resolve
   levels_answer source place levels rows at table is = grind (arith, common_steps, place_some, place_number, vertex_listed)
 
   pub labels_answer : (labels : List ℕ) (rows : List (List ℕ × List ℕ)) → AreLabels f (graph_of c) labels
-      → rows ≡ zip c.names (names_of c.names labels) → IsAnswer (AskLabels named) (graph_of c) (Ok (Labels rows))
+      → rows ≡ zip c.names (names_of_vertices c.names labels) → IsAnswer (AskLabels named) (graph_of c) (Ok (Labels rows))
   labels_answer labels rows table is = grind (arith, common_steps)
 
   pub cores_answer : (numbers : List ℕ) (rows : List (List ℕ × ℕ)) → AreCoreNumbers f (graph_of c) numbers

@@ -7,7 +7,7 @@ use Rattle.std.specs.Prelude.{filter, fold, All}
 use Rattle.std.proofs.lemmas.Grind.{common_steps}
 use Rattle.graph_types.specs.Graph.{graph_of, key_of, entry_of, IsContent, IsEdgeWithin}
 use Rattle.graph_types.specs.{View.in_view, Answer.degree_at, Answer.degree_table}
-use Rattle.graph_types.specs.Degrees.{listed_degree, IsTally, CountsEdge, HasRoom}
+use Rattle.graph_types.specs.Degrees.{listed_degree, IsTally, CountsEdge, HasDegreeRoom}
 use Rattle.graph_types.specs.declared.{contents.Content.Content, ids.Edge.Edge, ids.Degree.Degree, ids.Filter.Filter}
 use Rattle.graph_types.{specs.Limits.{IsWeightIn, SumsFit}, proofs.{Keys.HasKeysOnce, LimitsKept.{places_few, most_fits}}}
 use Rattle.graph_types.proofs.{DegreeBounds.degree_within, ListedDegrees.{listed_at, with_shown}}
@@ -40,7 +40,7 @@ tally_hidden f edges i n x table tally within hidden = grind (arith, common_step
 -- the table after the first edges of a content has room for one more
 pub tally_within : (f : Filter) (c : Content) → IsContent c → (edges : List Edge) (k : ℕ) (e : Edge) (table : List Degree)
     → edges ≡ c.edges → k < length edges → IsTally f (take k edges) (length c.names) table → (v : ℕ) (d : Degree)
-    → v < length table → HasRoom (nat_abs (get_or edges k e).weight) (get_or table v d)
+    → v < length table → HasDegreeRoom (nat_abs (get_or edges k e).weight) (get_or table v d)
 tally_within f c is edges k e table listed low tally v d h =
     let n = length c.names in
     let m = length c.kinds in

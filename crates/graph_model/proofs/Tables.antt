@@ -5,7 +5,7 @@ use Rattle.std.{specs.Prelude.All, specs.List.range_with_len}
 use Rattle.std.proofs.lemmas.Grind.{common_steps}
 use Rattle.graph_types.specs.Limits.{most_names}
 use Rattle.graph_types.specs.{Graph.{graph_of, IsContent}, Analyses.{AreLevels, AreLabels}, Arcs.{arcs_of, two_way, AreWithin}}
-use Rattle.graph_types.specs.{Arcs.{IsLowered, IsClosed, level_start, level_of}, declared.contents.Content.Content}
+use Rattle.graph_types.specs.{Arcs.{IsLowered, IsClosed, level_start, level_below}, declared.contents.Content.Content}
 use Rattle.graph_types.{specs.declared.ids.Filter.Filter, proofs.Arcs.{arc_leads, leads_arc, arcs_within, arc_joins, joins_arc}}
 use Rattle.graph_types.proofs.{Arcs.two_way_within, Settling.{level_start_long, settled_levels, settled_labels}}
 
@@ -21,7 +21,7 @@ module _ (f : Filter) (c : Content) (is : IsContent c) where
   pub levels_done : (source : ℕ) (arcs : List (ℕ × ℕ)) (first numbers : List ℕ) → source < length c.names
       → arcs ≡ arcs_of f c.edges → first ≡ level_start (length c.names) source
       → IsLowered arcs 1 first numbers → IsClosed arcs 1 numbers
-      → AreLevels f (graph_of c) source (map (level_of (length c.names)) numbers)
+      → AreLevels f (graph_of c) source (map (level_below (length c.names)) numbers)
   levels_done source arcs first numbers h same start l closed =
       settled_levels f (graph_of c) source (arcs_of f c.edges) (length c.names) numbers (leads_arc f c is) (arc_leads f c is)
       (arcs_within f c is) h

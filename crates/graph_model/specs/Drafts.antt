@@ -1,6 +1,5 @@
 -- Words on the copy of a content that is changed, and on the edges in it.
-use Rattle.std.specs.Prelude.{ℕ, List, [], ◌∷◌}
-use Rattle.graph_types.specs.{Graph.{Key, content_of}, Step.{after, empty_graph}, declared.{ids.Edge.Edge, batches.NamedOp.NamedOp}}
+use Rattle.graph_types.specs.{Graph.{Key, content_of}, declared.ids.Edge.Edge}
 use Rattle.graph_types.specs.declared.{changes.EdgeMarks.EdgeMarks, contents.Content.Content}
 use Rattle.graph_model.specs.declared.{drafts.Draft.Draft, edges.EdgeKey.EdgeKey}
 
@@ -21,11 +20,3 @@ edge_with k m = record {
   first = m.first;
   recent = m.recent;
 }
-
--- the vertices' names that an operation leaves, and that operations leave: they depend on no kinds, no edges and no limits
-abbrev pub names_after : NamedOp → List (List ℕ) → List (List ℕ)
-names_after op names = (after op (record empty_graph { names = names })).names
-
-abbrev pub names_left : List NamedOp → List (List ℕ) → List (List ℕ)
-names_left [] names = names
-names_left (op ∷ ops) names = names_left ops (names_after op names)

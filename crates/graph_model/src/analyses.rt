@@ -2,7 +2,7 @@
 
 ghost use Rattle.std.specs.Prelude.{◌≡◌, ◌⊎◌, ◌<◌, ◌++◌, length, zip, All, IfOk, OnOk};
 ghost use Rattle.std.specs.Option.{option_to_list};
-ghost use Rattle.graph_types.specs.Answer.{IsAnswer, reached, level_row, names_of};
+ghost use Rattle.graph_types.specs.Answer.{IsAnswer, reached, level_row, names_of_vertices};
 ghost use Rattle.graph_types.specs.Graph.{graph_of, IsContent};
 ghost use Rattle.graph_types.specs.declared.requests.Request.TheVariants.{Levels, Labels, Cores};
 
@@ -99,7 +99,7 @@ fn name_labels(
     labels: &[u32],
 ) -> Result<Vec<(Name, Name)>, AllocError>
     requires { All (λ label. label < length names.now) labels.now }
-    ensures { IfOk result (λ rows. rows.items ≡ zip names.now (names_of names.now labels.now)) }
+    ensures { IfOk result (λ rows. rows.items ≡ zip names.now (names_of_vertices names.now labels.now)) }
 {
     let mut rows = Vec::with_capacity(alloc, names.len())?;
     for (name, label) in names.iter().zip(labels) {

@@ -7,41 +7,13 @@ ghost use Rattle.graph_types.specs.Step.{MeetsKindLimit};
 ghost use Rattle.graph_types.specs.Step.{after_all, outcomes};
 ghost use Rattle.graph_types.specs.Valid.{IsValid};
 ghost use Rattle.graph_model.specs.Drafts.{shown_by};
-ghost use Rattle.graph_model.specs.Refusals.{Refuses, Exceeds};
-ghost use Rattle.graph_model.specs.declared.apply.PlainError.TheVariants.{OutOfMemory};
+ghost use Rattle.graph_types.specs.Refusals.{IsLimitRefusal};
+ghost use Rattle.graph_model.specs.Refusals.{Exceeds};
 
 use crate::drafts::Draft;
 use crate::names::names_left;
-use graph_types::{Batch, Content, Limits, NamedOp, Outcome};
-use std::alloc::{AllocError, AllocFailed, Global};
-use thiserror::Error;
-
-/// Why a batch was refused; the first that holds, in this order.
-#[derive(Clone, Copy, Debug, PartialEq, Eq, Error)]
-pub enum PlainError {
-    #[error("the graph would have more vertices than its limit")]
-    NamesFull,
-    #[error("the graph would have more kinds than its limit")]
-    KindsFull,
-    #[error("out of memory")]
-    OutOfMemory,
-}
-
-impl From<AllocError> for PlainError {
-    ghost from_gives = { λ _ e. e ≡ OutOfMemory };
-
-    fn from(_error: AllocError) -> PlainError {
-        PlainError::OutOfMemory
-    }
-}
-
-impl<T: Drop> From<AllocFailed<T>> for PlainError {
-    ghost from_gives = { λ _ e. e ≡ OutOfMemory };
-
-    fn from(_error: AllocFailed<T>) -> PlainError {
-        PlainError::OutOfMemory
-    }
-}
+use graph_types::{ApplyError, Batch, Content, Limits, NamedOp, Outcome};
+use std::alloc::Global;
 
 /// Applies a batch's operations one after another, in order, and answers their outcomes in that order. The limits are the
 /// standard ones.
@@ -53,12 +25,12 @@ pub fn plain_apply(
     alloc: Global,
     content: &mut Content,
     batch: &Batch,
-) -> Result<Vec<Outcome>, PlainError>
+) -> Result<Vec<Outcome>, ApplyError>
     requires { IsContentIn standard_limits content.old }
     ensures outcomes { IfOk result (λ list. list.items ≡ outcomes batch.now (graph_of content.old)) }
     ensures graph { OnOk result (graph_of content.new ≡ after_all batch.now (graph_of content.old)) }
     ensures content { IsContentIn standard_limits content.new }
-    ensures refused { IfErr result (λ e. Refuses e batch.now (graph_of content.old)) }
+    ensures refused { IfErr result (λ e. IsLimitRefusal e batch.now (graph_of content.old)) }
     ensures unchanged { OnErr result (content.new ≡ content.old) }
 {
     plain_apply_in(alloc, Limits::standard(), content, batch)
@@ -76,12 +48,12 @@ pub fn plain_apply_in(
     limits: Limits,
     content: &mut Content,
     batch: &Batch,
-) -> Result<Vec<Outcome>, PlainError>
+) -> Result<Vec<Outcome>, ApplyError>
     requires { IsContentIn limits content.old }
     ensures outcomes { IfOk result (λ list. list.items ≡ outcomes batch.now (graph_in limits content.old)) }
     ensures graph { OnOk result (graph_in limits content.new ≡ after_all batch.now (graph_in limits content.old)) }
     ensures content { IsContentIn limits content.new }
-    ensures refused { IfErr result (λ e. Refuses e batch.now (graph_in limits content.old)) }
+    ensures refused { IfErr result (λ e. IsLimitRefusal e batch.now (graph_in limits content.old)) }
     ensures unchanged { OnErr result (content.new ≡ content.old) }
 {
     let mut draft = Draft::of(alloc, content)?;
@@ -100,7 +72,7 @@ fn apply_ops(
     limits: Limits,
     draft: &mut Draft,
     ops: &[NamedOp],
-) -> Result<Vec<Outcome>, PlainError>
+) -> Result<Vec<Outcome>, ApplyError>
     requires content { IsContentIn limits (shown_by draft.old) }
     requires valid { All IsValid ops.now }
     ensures outcomes { IfOk result (λ list. list.items ≡ outcomes ops.now (graph_in limits (shown_by draft.old))) }
@@ -122,26 +94,26 @@ fn refusal(
     limits: Limits,
     content: &Content,
     ops: &[NamedOp],
-    error: PlainError,
-) -> PlainError
+    error: ApplyError,
+) -> ApplyError
     requires content { IsContentIn limits content.now }
     requires stopped { Exceeds error (after_all ops.now (graph_in limits content.now)) }
-    ensures { Refuses result ops.now (graph_in limits content.now) }
+    ensures { IsLimitRefusal result ops.now (graph_in limits content.now) }
 {
     match error {
-        PlainError::KindsFull => kinds_refusal(alloc, limits, content, ops),
-        PlainError::NamesFull | PlainError::OutOfMemory => error,
+        ApplyError::KindsFull => kinds_refusal(alloc, limits, content, ops),
+        _ => error,
     }
 }
 
 /// The refusal of operations that would leave too many kinds.
-fn kinds_refusal(alloc: Global, limits: Limits, content: &Content, ops: &[NamedOp]) -> PlainError
+fn kinds_refusal(alloc: Global, limits: Limits, content: &Content, ops: &[NamedOp]) -> ApplyError
     requires content { IsContentIn limits content.now }
     requires kinds { MeetsKindLimit ops.now (graph_in limits content.now) }
-    ensures { Refuses result ops.now (graph_in limits content.now) }
+    ensures { IsLimitRefusal result ops.now (graph_in limits content.now) }
 {
     match names_left(alloc, limits.names(), content.names.as_slice(), ops) {
-        Ok(_) => PlainError::KindsFull,
+        Ok(_) => ApplyError::KindsFull,
         Err(error) => error,
     }
 }

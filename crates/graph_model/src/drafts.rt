@@ -9,10 +9,12 @@ ghost use Rattle.graph_model.specs.Drafts.{shown_by};
 ghost use Rattle.graph_model.specs.Refusals.{Exceeds};
 ghost use Rattle.graph_types.specs.declared.batches.NamedOp.TheVariants.{Expire};
 
-use crate::PlainError;
 use crate::edges::{EdgeKey, clear_before, marks_at, put_at};
 use crate::names::{make_kind, make_names, number_of};
-use graph_types::{Content, Edge, EdgeChange, Limits, List, Name, NamedOp, Outcome, change_edge};
+use graph_types::{
+    ApplyError, Content, Edge, EdgeChange, Limits, List, Name, NamedOp, OpParts, Outcome,
+    change_edge, parts_in,
+};
 use std::alloc::{AllocError, Global};
 
 /// A copy of a content, whose lists can grow.
@@ -50,7 +52,8 @@ impl Draft {
     ///
     /// `NamesFull` where it would leave more vertices than the limits allow, `KindsFull` where it would leave more kinds,
     /// and `OutOfMemory` where a growth was refused.
-    pub(crate) fn apply(&mut self, limits: Limits, op: &NamedOp) -> Result<Outcome, PlainError>
+    #[tactic(auto, using(graph_types::proofs::OperationParts::outcome_is))]
+    pub(crate) fn apply(&mut self, limits: Limits, op: &NamedOp) -> Result<Outcome, ApplyError>
         requires content { IsContentIn limits (shown_by self.old) }
         requires valid { IsValid op.now }
         ensures outcome { IfOk result (λ o. o ≡ step.outcome op.now (graph_in limits (shown_by self.old))) }
@@ -58,42 +61,11 @@ impl Draft {
         ensures content { OnOk result (IsContentIn limits (shown_by self.new)) }
         ensures refused { IfErr result (λ e. Exceeds e (step.after op.now (graph_in limits (shown_by self.old)))) }
     {
-        let most = limits.weight();
-        match op {
-            NamedOp::Insert {
-                kind,
-                source,
-                target,
-                weight,
-                time,
-            } => {
-                let change = EdgeChange::Insert {
-                    weight: *weight,
-                    time: *time,
-                    most,
-                };
+        match parts_in(op, limits.weight()) {
+            OpParts::OfEdge(change, kind, source, target) => {
                 self.change(limits, change, kind, source, target)
             }
-            NamedOp::Incr {
-                kind,
-                source,
-                target,
-                amount,
-                time,
-            } => {
-                let change = EdgeChange::Incr {
-                    amount: *amount,
-                    time: *time,
-                    most,
-                };
-                self.change(limits, change, kind, source, target)
-            }
-            NamedOp::Remove {
-                kind,
-                source,
-                target,
-            } => self.change(limits, EdgeChange::Remove, kind, source, target),
-            NamedOp::Expire { time } => Ok(self.expire(limits, *time)),
+            OpParts::OfAll(time) => Ok(self.expire(limits, time)),
         }
     }
 
@@ -118,7 +90,7 @@ impl Draft {
         kind: &Name,
         source: &Name,
         target: &Name,
-    ) -> Result<Outcome, PlainError>
+    ) -> Result<Outcome, ApplyError>
         requires content { IsContentIn limits (shown_by self.old) }
         requires change { IsChange change }
         requires most { AllowsUpTo limits.weight change }

@@ -20,16 +20,17 @@ mod reply;
 mod settling;
 mod walks;
 
-pub use apply::{PlainError, plain_apply, plain_apply_in};
+pub use apply::{plain_apply, plain_apply_in};
 pub use arcs::shows;
 pub use block_reclamation::PinCopy;
 pub use cores::plain_cores;
+// `PlainError` is why a batch is refused: for [`plain_apply`] that is `NamesFull`, `KindsFull` or `OutOfMemory`.
 pub use graph_types::{
-    AskError, Batch, Content, Degree, Edge, EdgeChange, EdgeMarks, Filter, KindId, Limits, List,
-    Name, NamedFilter, NamedOp, Outcome, PushError, Reply, Request, VertexId, change_edge,
-    is_kind_name, is_kind_name_bytes, is_name, is_name_bytes, law_edge_order, law_expiry,
-    law_first_time_stays, law_names_stay_names, law_one_answer, law_one_table, law_some_answer,
-    law_some_table, law_within_limits,
+    ApplyError, ApplyError as PlainError, AskError, Batch, Content, Degree, Edge, EdgeChange,
+    EdgeMarks, Filter, KindId, Limits, List, Name, NamedFilter, NamedOp, Outcome, PushError, Reply,
+    Request, VertexId, change_edge, is_kind_name, is_kind_name_bytes, is_name, is_name_bytes,
+    law_edge_order, law_expiry, law_first_time_stays, law_names_stay_names, law_one_answer,
+    law_one_table, law_some_answer, law_some_table, law_within_limits,
 };
 pub use laws::law_names_before_kinds;
 pub use reply::plain_reply;

@@ -2,11 +2,10 @@
 
 ghost use Rattle.std.specs.Prelude.{◌≡◌, ◌≤◌, length, position, bytes_eq, IfOk, OnOk, IfErr};
 ghost use Rattle.graph_types.specs.Step as step;
-ghost use Rattle.graph_model.specs.Drafts as left;
+ghost use Rattle.graph_types.specs.Parts.{names_after, names_after_all};
 ghost use Rattle.graph_model.specs.Refusals.{IsNamesRefusal, IsKindsRefusal};
 
-use crate::PlainError;
-use graph_types::{EdgeChange, Name, NamedOp};
+use graph_types::{ApplyError, EdgeChange, MOST_WEIGHT, Name, NamedOp, OpParts, parts_in};
 use std::alloc::{AllocError, Global};
 
 /// The place of a name in a list of names, if it is listed. It takes no memory.
@@ -40,16 +39,6 @@ fn add_name(names: &mut Vec<Name>, name: &Name) -> Result<(), AllocError>
     }
 }
 
-/// Whether a change makes the names of its edge.
-fn makes_names(change: EdgeChange) -> bool
-    ensures { result ≡ step.makes_names change }
-{
-    match change {
-        EdgeChange::Insert { .. } | EdgeChange::Incr { .. } => true,
-        EdgeChange::Remove => false,
-    }
-}
-
 /// Adds the names of an edge's two ends, where the change makes them. `NamesFull` where they would be more than
 /// the limit.
 pub(crate) fn make_names(
@@ -58,12 +47,12 @@ pub(crate) fn make_names(
     change: EdgeChange,
     source: &Name,
     target: &Name,
-) -> Result<(), PlainError>
+) -> Result<(), ApplyError>
     ensures made { OnOk result (names.new.items ≡ step.names_made change source.now target.now names.old.items) }
     ensures few { OnOk result (length names.old.items ≤ limit → length names.new.items ≤ limit) }
     ensures refused { IfErr result (λ e. IsNamesRefusal limit e (step.names_made change source.now target.now names.old.items)) }
 {
-    if !makes_names(change) {
+    if !change.makes_names() {
         return Ok(());
     }
     make_both(names, limit, source, target)
@@ -75,7 +64,7 @@ fn make_both(
     limit: u32,
     source: &Name,
     target: &Name,
-) -> Result<(), PlainError>
+) -> Result<(), ApplyError>
     ensures made { OnOk result (names.new.items ≡ step.with_name (step.with_name names.old.items source.now) target.now) }
     ensures few { OnOk result (length names.new.items ≤ limit) }
     ensures refused { IfErr result (λ e. IsNamesRefusal limit e
@@ -84,7 +73,7 @@ fn make_both(
     add_name(names, source)?;
     add_name(names, target)?;
     if names.len() > limit as usize {
-        return Err(PlainError::NamesFull);
+        return Err(ApplyError::NamesFull);
     }
     Ok(())
 }
@@ -95,32 +84,32 @@ pub(crate) fn make_kind(
     limit: u32,
     change: EdgeChange,
     kind: &Name,
-) -> Result<(), PlainError>
+) -> Result<(), ApplyError>
     ensures made { OnOk result (kinds.new.items ≡ step.kinds_made change kind.now kinds.old.items) }
     ensures few { OnOk result (length kinds.old.items ≤ limit → length kinds.new.items ≤ limit) }
     ensures refused { IfErr result (λ e. IsKindsRefusal limit e (step.kinds_made change kind.now kinds.old.items)) }
 {
-    if !makes_names(change) {
+    if !change.makes_names() {
         return Ok(());
     }
     add_name(kinds, kind)?;
     if kinds.len() > limit as usize {
-        return Err(PlainError::KindsFull);
+        return Err(ApplyError::KindsFull);
     }
     Ok(())
 }
 
 /// Adds the vertices' names that an operation makes. `NamesFull` where they would be more than the limit.
-fn make_names_of(names: &mut Vec<Name>, limit: u32, op: &NamedOp) -> Result<(), PlainError>
-    ensures made { OnOk result (names.new.items ≡ left.names_after op.now names.old.items) }
+fn make_names_of(names: &mut Vec<Name>, limit: u32, op: &NamedOp) -> Result<(), ApplyError>
+    ensures made { OnOk result (names.new.items ≡ names_after op.now names.old.items) }
     ensures few { OnOk result (length names.old.items ≤ limit → length names.new.items ≤ limit) }
-    ensures refused { IfErr result (λ e. IsNamesRefusal limit e (left.names_after op.now names.old.items)) }
+    ensures refused { IfErr result (λ e. IsNamesRefusal limit e (names_after op.now names.old.items)) }
 {
-    match op {
-        NamedOp::Insert { source, target, .. } | NamedOp::Incr { source, target, .. } => {
-            make_both(names, limit, source, target)
+    match parts_in(op, MOST_WEIGHT) {
+        OpParts::OfEdge(change, _, source, target) => {
+            make_names(names, limit, change, source, target)
         }
-        NamedOp::Remove { .. } | NamedOp::Expire { .. } => Ok(()),
+        OpParts::OfAll(_) => Ok(()),
     }
 }
 
@@ -130,11 +119,11 @@ pub(crate) fn names_left(
     limit: u32,
     names: &[Name],
     ops: &[NamedOp],
-) -> Result<Vec<Name>, PlainError>
+) -> Result<Vec<Name>, ApplyError>
     requires { length names.now ≤ limit }
-    ensures left { IfOk result (λ all. all.items ≡ left.names_left ops.now names.now) }
+    ensures left { IfOk result (λ all. all.items ≡ names_after_all ops.now names.now) }
     ensures few { IfOk result (λ all. length all.items ≤ limit) }
-    ensures refused { IfErr result (λ e. IsNamesRefusal limit e (left.names_left ops.now names.now)) }
+    ensures refused { IfErr result (λ e. IsNamesRefusal limit e (names_after_all ops.now names.now)) }
 {
     let mut all = names.to_vec(alloc)?;
     for op in ops {

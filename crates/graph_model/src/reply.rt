@@ -2,14 +2,14 @@
 
 ghost use Rattle.std.specs.Prelude.{◌≡◌, ◌⊎◌, ◌≤◌, ◌<◌, length, All, IfOk, OnOk, IfErr, MatchResult, None, Some, true};
 ghost use Rattle.std.specs.Prelude.{false, nat_abs};
-ghost use Rattle.graph_types.specs.Answer.{IsAnswer, is_listed, filter_refusal, resolved, degree_table, shown};
-ghost use Rattle.graph_types.specs.Degrees.{CountsEdge, HasRoom, with_edge};
+ghost use Rattle.graph_types.specs.Answer.{IsAnswer, is_listed, filter_refusal, resolved_filter, degree_table, shown_stamp};
+ghost use Rattle.graph_types.specs.Degrees.{CountsEdge, HasDegreeRoom, with_edge};
 ghost use Rattle.graph_types.specs.Graph.{graph_of, map_of, IsContent};
 ghost use Rattle.graph_types.specs.Limits.{most_kinds};
 ghost use Rattle.graph_types.specs.Step.{number_of};
 ghost use Rattle.graph_types.specs.Changes.{stamp_in};
 ghost use Rattle.graph_model.specs.Drafts.{shown_key};
-ghost use Rattle.graph_model.specs.Refusals.{takes_memory};
+ghost use Rattle.graph_model.specs.Refusals.{needs_memory};
 ghost use Rattle.std.specs.FinMap.{get};
 ghost use Rattle.std.specs.Option.{option_map};
 
@@ -31,7 +31,7 @@ use std::alloc::{AllocError, Global};
 pub fn plain_reply(alloc: Global, content: &Content, request: &Request) -> Result<Reply, AskError>
     requires { IsContent content.now }
     ensures answer { (result ≡ Err AskError.OutOfMemory) ⊎ IsAnswer request.now (graph_of content.now) result }
-    ensures without_memory { takes_memory request.now ≡ false → IsAnswer request.now (graph_of content.now) result }
+    ensures without_memory { needs_memory request.now ≡ false → IsAnswer request.now (graph_of content.now) result }
 {
     match request {
         Request::Levels { source, filter } => reply_levels(alloc, content, source, filter),
@@ -83,7 +83,7 @@ fn reply_edge(
 
 /// Weight, first time and recent time of the edge with this key, if it is listed.
 fn shown_at(edges: &[Edge], key: EdgeKey) -> Option<(i64, u64, u64)>
-    ensures { result ≡ option_map shown (get (map_of edges.now) (shown_key key)) }
+    ensures { result ≡ option_map shown_stamp (get (map_of edges.now) (shown_key key)) }
 {
     let marks = marks_at(edges, key)?;
     Some(times_of(marks))
@@ -91,7 +91,7 @@ fn shown_at(edges: &[Edge], key: EdgeKey) -> Option<(i64, u64, u64)>
 
 /// Weight, first time and recent time.
 fn times_of(marks: EdgeMarks) -> (i64, u64, u64)
-    ensures { result ≡ shown (stamp_in marks) }
+    ensures { result ≡ shown_stamp (stamp_in marks) }
 {
     (marks.weight, marks.first, marks.recent)
 }
@@ -99,7 +99,7 @@ fn times_of(marks: EdgeMarks) -> (i64, u64, u64)
 /// The filter with its kind's number in place of the name.
 pub(crate) fn resolve(content: &Content, filter: &NamedFilter) -> Result<Filter, AskError>
     requires { length content.now.kinds ≤ most_kinds }
-    ensures found { IfOk result (λ f. f ≡ resolved (graph_of content.now) filter.now) }
+    ensures found { IfOk result (λ f. f ≡ resolved_filter (graph_of content.now) filter.now) }
     ensures refused { MatchResult result
         (λ _. filter_refusal (graph_of content.now) filter.now true ≡ None)
         (λ e. filter_refusal (graph_of content.now) filter.now true ≡ Some e) }
@@ -158,7 +158,7 @@ fn tally(alloc: Global, content: &Content, filter: Filter) -> Result<Vec<Degree>
 fn count_edge(table: &mut Vec<Degree>, edge: &Edge)
     requires source { edge.now.source.0 < length table.old.items }
     requires target { edge.now.target.0 < length table.old.items }
-    requires room { All (HasRoom (nat_abs edge.now.weight)) table.old.items }
+    requires room { All (HasDegreeRoom (nat_abs edge.now.weight)) table.old.items }
     ensures { CountsEdge edge.now table.old.items table.new.items }
 {
     count_at(&mut table[edge.source.0 as usize], edge, edge.source);
@@ -169,7 +169,7 @@ fn count_edge(table: &mut Vec<Degree>, edge: &Edge)
 
 /// Counts an edge at a vertex.
 fn count_at(degree: &mut Degree, edge: &Edge, vertex: VertexId)
-    requires room { HasRoom (nat_abs edge.now.weight) degree.old }
+    requires room { HasDegreeRoom (nat_abs edge.now.weight) degree.old }
     ensures { degree.new ≡ with_edge edge.now vertex.0 degree.old }
 {
     if edge.source == vertex {

@@ -5,7 +5,7 @@ ghost use Rattle.std.specs.List.{range_with_len};
 ghost use Rattle.graph_types.specs.Limits.{most_names};
 ghost use Rattle.graph_types.specs.Graph.{graph_of, IsContent};
 ghost use Rattle.graph_types.specs.Analyses.{AreLevels, AreLabels};
-ghost use Rattle.graph_types.specs.Arcs.{level_start, level_of};
+ghost use Rattle.graph_types.specs.Arcs.{level_start, level_below};
 
 use crate::arcs::{arcs_of, two_way};
 use crate::settling::settle;
@@ -47,7 +47,7 @@ fn unreached(alloc: Global, count: usize, source: VertexId) -> Result<Vec<u32>, 
 
 /// Numbers below the count are levels, and others none.
 fn reached(alloc: Global, numbers: &[u32], count: u32) -> Result<Vec<Option<u32>>, AllocError>
-    ensures { IfOk result (λ levels. levels.items ≡ map (level_of count) numbers.now) }
+    ensures { IfOk result (λ levels. levels.items ≡ map (level_below count) numbers.now) }
 {
     numbers
         .iter()

@@ -7,7 +7,7 @@ use Rattle.std.proofs.lemmas.List.Sums.{sum_by-cons, sum_by-le-sum_by, sum_by-le
 use Rattle.std.{proofs.lemmas.List.Elements.All-tail, specs.Prelude.{count_by, sum_by, filter, fold, All}}
 use Rattle.std.proofs.lemmas.Grind.{common_steps}
 use Rattle.graph_types.specs.{Graph.{Key, entry_of}, Limits.{IsWeightIn, SumsFit, most_places}, View.{in_view, leaves, enters}}
-use Rattle.graph_types.specs.{Degrees.{listed_degree, HasRoom}, declared.ids.{Edge.Edge, Filter.Filter}}
+use Rattle.graph_types.specs.{Degrees.{listed_degree, HasDegreeRoom}, declared.ids.{Edge.Edge, Filter.Filter}}
 use Rattle.graph_types.proofs.{Keys.HasKeysOnce, Keys.is_key_of, Keys.count_key, Folds.fold_from}
 
 step_up : (b : Bool) (c k : ℕ) → cond (b && ltb c (suc k)) 1 0 ≤ cond (b && ltb c k) 1 0 + cond (b && eqb c k) 1 0
@@ -134,7 +134,7 @@ room_for n m most count few sums =
 -- the degrees of a vertex over some edges, of which each key is listed once, have room for one edge more
 pub degree_within : (f : Filter) (es : List Edge) (n m v most weight : ℕ) → n * m ≤ most_places → SumsFit (n * m) most
     → weight ≤ most → HasKeysOnce es → All (λ e. e.kind.0 < m) es → All (λ e. e.source.0 < n) es → All (λ e. e.target.0 < n) es
-    → All (λ e. IsWeightIn most e.weight) es → HasRoom weight (listed_degree f es v)
+    → All (λ e. IsWeightIn most e.weight) es → HasDegreeRoom weight (listed_degree f es v)
 degree_within f es n m v most weight places sums light once kinds sources targets weights =
     let outgoing = crowd_of_edges (λ e. leaves f v (entry_of e)) (λ e. e.target.0) n m es (leaves_once f v es once) kinds targets in
     let incoming = crowd_of_edges (λ e. enters f v (entry_of e)) (λ e. e.source.0) n m es (enters_once f v es once) kinds sources in

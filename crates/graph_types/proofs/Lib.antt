@@ -1,6 +1,8 @@
 pub mod Copies
 pub mod Empty
 pub mod NameLists
+pub mod OperationParts
+pub mod PlacedOutcomes
 pub mod NameNumbers
 pub mod NamesKept
 pub mod EdgeLookup

@@ -7,7 +7,7 @@ use Rattle.std.proofs.lemmas.List.{get_or_past, get_or_default, Elements.{All-co
 use Rattle.std.proofs.lemmas.{List.FromFn.{length-range_with_len, get_or-range_with_len}, Grind.common_steps}
 use Rattle.std.specs.{Prelude.{AllPairs, sum, replicate, map}, List.{Contains, range_with_len}}
 use Rattle.graph_types.specs.{Graph.Graph, declared.ids.Filter.Filter, Analyses.{LeadsTo, Joins, Walk, IsLevel, IsLabel, IsTable}}
-use Rattle.graph_types.specs.Arcs.{Arc, AreWithin, at, IsLowered, IsClosed, level_start, level_of}
+use Rattle.graph_types.specs.Arcs.{Arc, AreWithin, at, IsLowered, IsClosed, level_start, level_below}
 use Rattle.graph_types.proofs.{Walks.walk_map, Counts.Contains-first, Counts.Contains-cons, Counts.sub_length}
 
 -- no number is lowered yet
@@ -178,19 +178,19 @@ module _ (f : Filter) (g : Graph) (source : ℕ) (arcs : List (ℕ × ℕ)) (n :
         | inr ne ↦ let far = first_other r.0 (omega arith) ne in absurd (omega arith)
       ]
 
-  level_at : (v : ℕ) → v < n → IsLevel f g source v (level_of n (at numbers v))
+  level_at : (v : ℕ) → v < n → IsLevel f g source v (level_below n (at numbers v))
   level_at v lt = grind (arith, common_steps, near, nat_tests, far)
 
-  pub settled_levels : IsTable n (IsLevel f g source) (map (level_of n) numbers)
+  pub settled_levels : IsTable n (IsLevel f g source) (map (level_below n) numbers)
   settled_levels =
       let long = l.size ∙ (level_start_long n source) in
       record {
-        one_each = length-map numbers (level_of n) ∙ long;
+        one_each = length-map numbers (level_below n) ∙ long;
         each = λ v x is.
-            let h = slice_get_within (map (level_of n) numbers) v x is in
-            let m = length-map numbers (level_of n) in
-            subst (IsLevel f g source v) (sym (get_or-map (level_of n) numbers v 0 x (omega arith))
-            ∙ get_or_from_slice_get (map (level_of n) numbers) v x x is) (level_at v (omega arith));
+            let h = slice_get_within (map (level_below n) numbers) v x is in
+            let m = length-map numbers (level_below n) in
+            subst (IsLevel f g source v) (sym (get_or-map (level_below n) numbers v 0 x (omega arith))
+            ∙ get_or_from_slice_get (map (level_below n) numbers) v x x is) (level_at v (omega arith));
       }
 
 -- The labels: from each vertex's own number, by steps of 0, both ways along each edge.

@@ -1,7 +1,7 @@
 -- Each content has levels, labels and core numbers.
 use Rattle.std.{proofs.{Common.{length, map}, lemmas.List.FromFn.length-range_with_len}, specs.List.range_with_len}
 use Rattle.graph_types.specs.{Graph.graph_in, Tables.HaveSomeTable, Arcs.{arcs_of, two_way, level_start}}
-use Rattle.graph_types.specs.Arcs.{level_of}
+use Rattle.graph_types.specs.Arcs.{level_below}
 use Rattle.graph_types.proofs.Arcs.{arc_leads, leads_arc, arcs_within, arc_joins, joins_arc, two_way_within}
 use Rattle.graph_types.proofs.{Cores.cores_by_arcs, Settling.{some_settled, settled_levels, settled_labels, level_start_long}}
 
@@ -11,7 +11,7 @@ some_table = record {
       let arcs = arcs_of f c.edges in
       let n = length c.names in
       let r = some_settled arcs 1 (level_start n source) (rw (level_start_long n source) (arcs_within f c is)) in (
-        map (level_of n) r.0,
+        map (level_below n) r.0,
         settled_levels f (graph_in limits c) source arcs n r.0 (leads_arc f c is) (arc_leads f c is) (arcs_within f c is) h r.1 r.2,
       );
   labels = λ f limits c is.

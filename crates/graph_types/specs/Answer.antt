@@ -19,8 +19,8 @@ is_kind_listed kinds None = true
 is_kind_listed kinds (Some kind) = is_listed kinds kind
 
 -- the filter with its kind's number in place of the name
-abbrev pub resolved : Graph → NamedFilter → Filter
-resolved g f = record { kind = option_map (λ name. record { 0 = number_of g.kinds name }) f.kind; lo = f.lo; hi = f.hi }
+abbrev pub resolved_filter : Graph → NamedFilter → Filter
+resolved_filter g f = record { kind = option_map (λ name. record { 0 = number_of g.kinds name }) f.kind; lo = f.lo; hi = f.hi }
 
 -- the first refusal that holds, of the window, the kind and the vertices
 abbrev pub first_refusal : Bool → Bool → Bool → Option AskError
@@ -41,8 +41,8 @@ refusal (AskOneEdge kind source target) g =
     first_refusal true (is_listed g.kinds kind) (is_listed g.names source && is_listed g.names target)
 
 -- weight, first time and recent time
-abbrev pub shown : Stamp → ℤ × ℕ × ℕ
-shown e = (e.weight, e.first, e.recent)
+abbrev pub shown_stamp : Stamp → ℤ × ℕ × ℕ
+shown_stamp e = (e.weight, e.first, e.recent)
 
 abbrev pub degree_at : Filter → Graph → ℕ → Degree
 degree_at f g v = record { outgoing = out_degree f g v; incoming = in_degree f g v; out_weight = out_weight f g v }
@@ -59,21 +59,21 @@ abbrev pub reached : List (List ℕ) → List (Option ℕ) → List (List ℕ ×
 reached names levels = filter_map level_row (zip names levels)
 
 -- the name of each of these vertices
-abbrev pub names_of : List (List ℕ) → List ℕ → List (List ℕ)
-names_of names vertices = map (λ v. slice_index_or names v []) vertices
+abbrev pub names_of_vertices : List (List ℕ) → List ℕ → List (List ℕ)
+names_of_vertices names vertices = map (λ v. slice_index_or names v []) vertices
 
 -- a reply to a request that is not refused
 abbrev pub IsReply : Request → Graph → Reply → Type 0
 IsReply (AskLevels source filter) g reply =
-    (levels : List (Option ℕ)) × AreLevels (resolved g filter) g (number_of g.names source) levels
+    (levels : List (Option ℕ)) × AreLevels (resolved_filter g filter) g (number_of g.names source) levels
     × (reply ≡ Levels (reached g.names levels))
 IsReply (AskLabels filter) g reply =
-    (labels : List ℕ) × AreLabels (resolved g filter) g labels × (reply ≡ Labels (zip g.names (names_of g.names labels)))
+    (labels : List ℕ) × AreLabels (resolved_filter g filter) g labels × (reply ≡ Labels (zip g.names (names_of_vertices g.names labels)))
 IsReply (AskCores filter) g reply =
-    (numbers : List ℕ) × AreCoreNumbers (resolved g filter) g numbers × (reply ≡ Cores (zip g.names numbers))
-IsReply (AskDegrees filter) g reply = reply ≡ Degrees (zip g.names (degree_table (resolved g filter) g))
+    (numbers : List ℕ) × AreCoreNumbers (resolved_filter g filter) g numbers × (reply ≡ Cores (zip g.names numbers))
+IsReply (AskDegrees filter) g reply = reply ≡ Degrees (zip g.names (degree_table (resolved_filter g filter) g))
 IsReply (AskOneEdge kind source target) g reply =
-    reply ≡ OneEdge (option_map shown (get g.edges (key_in g.names g.kinds kind source target)))
+    reply ≡ OneEdge (option_map shown_stamp (get g.edges (key_in g.names g.kinds kind source target)))
 
 -- the answer: the first refusal that holds, or else a reply
 abbrev pub IsAnswer : Request → Graph → Result Reply AskError → Type 0

@@ -41,8 +41,8 @@ IsClosed arcs step numbers = All (λ arc. at numbers arc.1 ≤ at numbers arc.0 
 abbrev pub level_start : ℕ → ℕ → List ℕ
 level_start n source = slice_set (replicate n n) source 0
 
-abbrev pub level_of : ℕ → ℕ → Option ℕ
-level_of n number = cond (nat_lt number n) (Some number) None
+abbrev pub level_below : ℕ → ℕ → Option ℕ
+level_below n number = cond (nat_lt number n) (Some number) None
 
 -- for each vertex the other vertices that an edge of the view joins to it, each once
 pub record AreNeighbors (f : Filter) (g : Graph) (neighbors : ℕ → List ℕ) : Type 0 where

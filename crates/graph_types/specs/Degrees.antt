@@ -31,7 +31,7 @@ pub record CountsEdge (e : Edge) (old new : List Degree) : Type 0 where
   pub at : (v : ℕ) (d : Degree) → v < length old → slice_index_or new v d ≡ with_edge e v (slice_index_or old v d)
 
 -- degrees to which an edge of a weight of this size can be added
-pub record HasRoom (weight : ℕ) (d : Degree) : Type 0 where
+pub record HasDegreeRoom (weight : ℕ) (d : Degree) : Type 0 where
   pub outgoing : d.outgoing ≤ most_places
   pub incoming : d.incoming ≤ most_places
   pub out_weight : nat_abs d.out_weight + weight < 2 ^ 63

@@ -2,8 +2,10 @@ pub mod Limits
 pub mod Graph
 pub mod Coded
 pub mod Valid
+pub mod Refusals
 pub mod Changes
 pub mod Step
+pub mod Parts
 pub mod View
 pub mod Degrees
 pub mod Analyses
@@ -11,3 +13,4 @@ pub mod Answer
 pub mod Laws
 pub mod Arcs
 pub mod Tables
+pub mod Outcomes

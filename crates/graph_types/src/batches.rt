@@ -10,7 +10,7 @@ ghost use Rattle.graph_types.specs.Step as step;
 ghost use Rattle.std.specs.List.{list_any};
 ghost use Rattle.std.specs.declared.option.Option.TheVariants.{None, Some};
 
-use crate::{Name, is_kind_name, is_name};
+use crate::{EdgeChange, MOST_WEIGHT, Name, OpParts, is_kind_name, is_name, parts_in};
 use std::alloc::{AllocError, Global};
 use std::marker::Model;
 use thiserror::Error;
@@ -343,25 +343,9 @@ fn are_names(kind: &Name, source: &Name, target: &Name) -> bool
 fn has_names(op: &NamedOp) -> bool
     ensures { result ≡ valid.has_names op.now }
 {
-    match op {
-        NamedOp::Insert {
-            kind,
-            source,
-            target,
-            ..
-        } => are_names(kind, source, target),
-        NamedOp::Incr {
-            kind,
-            source,
-            target,
-            ..
-        } => are_names(kind, source, target),
-        NamedOp::Remove {
-            kind,
-            source,
-            target,
-        } => are_names(kind, source, target),
-        NamedOp::Expire { .. } => true,
+    match parts_in(op, MOST_WEIGHT) {
+        OpParts::OfEdge(_, kind, source, target) => are_names(kind, source, target),
+        OpParts::OfAll(_) => true,
     }
 }
 
@@ -369,11 +353,20 @@ fn has_names(op: &NamedOp) -> bool
 fn has_weight(op: &NamedOp) -> bool
     ensures { result ≡ valid.has_weight op.now }
 {
-    match op {
-        NamedOp::Insert { weight, .. } => is_weight(*weight),
-        NamedOp::Incr { amount, .. } => is_weight(*amount),
-        NamedOp::Remove { .. } => true,
-        NamedOp::Expire { .. } => true,
+    match parts_in(op, MOST_WEIGHT) {
+        OpParts::OfEdge(change, _, _, _) => has_weight_at(change),
+        OpParts::OfAll(_) => true,
+    }
+}
+
+/// Whether a change's weight or amount is in range, if it has one.
+fn has_weight_at(change: EdgeChange) -> bool
+    ensures { result ≡ valid.has_weight_at change }
+{
+    match change {
+        EdgeChange::Insert { weight, .. } => is_weight(weight),
+        EdgeChange::Incr { amount, .. } => is_weight(amount),
+        EdgeChange::Remove => true,
     }
 }
 
@@ -381,11 +374,20 @@ fn has_weight(op: &NamedOp) -> bool
 fn has_time(op: &NamedOp) -> bool
     ensures { result ≡ valid.has_time op.now }
 {
-    match op {
-        NamedOp::Insert { time, .. } => is_time(*time),
-        NamedOp::Incr { time, .. } => is_time(*time),
-        NamedOp::Remove { .. } => true,
-        NamedOp::Expire { time } => is_time(*time),
+    match parts_in(op, MOST_WEIGHT) {
+        OpParts::OfEdge(change, _, _, _) => has_time_at(change),
+        OpParts::OfAll(time) => is_time(time),
+    }
+}
+
+/// Whether a change's time is in range, if it has one.
+fn has_time_at(change: EdgeChange) -> bool
+    ensures { result ≡ valid.has_time_at change }
+{
+    match change {
+        EdgeChange::Insert { time, .. } => is_time(time),
+        EdgeChange::Incr { time, .. } => is_time(time),
+        EdgeChange::Remove => true,
     }
 }
 

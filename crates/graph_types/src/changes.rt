@@ -3,7 +3,7 @@
 ghost use Rattle.std.specs.Prelude.{◌≡◌, IfSome, false};
 ghost use Rattle.graph_types.specs.Changes.{AreMarks, IsChange, option_stamp};
 ghost use Rattle.graph_types.specs.Limits as limits;
-ghost use Rattle.graph_types.specs.Step.{outcome_at, outcome_put, overflows, stamp_after, stamp_put};
+ghost use Rattle.graph_types.specs.Step.{makes_names, outcome_at, outcome_put, overflows, stamp_after, stamp_put};
 
 use crate::Outcome;
 
@@ -18,6 +18,23 @@ pub enum EdgeChange {
     Incr { amount: i64, time: u64, most: u64 },
     /// Takes the edge away.
     Remove,
+}
+
+impl EdgeChange {
+    /// Whether it makes the names of its edge: a removal makes none. It takes no memory.
+    ///
+    /// ```
+    /// assert!(rt; !EdgeChange::Remove.makes_names());
+    /// ```
+    #[inline(always)]
+    pub fn makes_names(self) -> bool
+        ensures { result ≡ makes_names self }
+    {
+        match self {
+            EdgeChange::Insert { .. } | EdgeChange::Incr { .. } => true,
+            EdgeChange::Remove => false,
+        }
+    }
 }
 
 /// What an edge bears.

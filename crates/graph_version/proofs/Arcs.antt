@@ -6,7 +6,7 @@ use Rattle.std.{specs.{List.Contains, FinMap.find}, proofs.lemmas.Grind.common_s
 use Rattle.graph_types.specs.Graph.{Key, Stamp, key_cmp, key_of, stamp_of, entry_of}
 use Rattle.graph_types.{specs.Analyses.LeadsTo, proofs.Arcs.contains_map, proofs.Arcs.map_contains, proofs.Counts.contains_filter}
 use Rattle.graph_types.proofs.{Counts.filter_contains, Keys.get_is, Keys.find_listed, Keys.is_key_of, Keys.is_key_of_at}
-use Rattle.graph_version.specs.Listed.{edge_along, is_within, leaves, along, all_edges, put_targets}
+use Rattle.graph_version.specs.Listed.{edge_along, is_within, leaves_source, along, all_edges, put_targets}
 
 pick : (b : Bool) (s : Stamp) (o : Option Stamp) → o ≡ Some s → cond b (Some s) o ≡ Some s
 pick b s o e = grind (arith, common_steps)
@@ -37,12 +37,12 @@ module _ (count : ℕ) (arcs : List (ℕ × ℕ)) where
       let second : b < count = grind (arith, nat_tests) in
       (omega (arith, long, first), omega (arith, long, second))
 
-  pub listed : (source b : ℕ) → Contains (map (λ (arc : ℕ × ℕ). arc.1) (filter (leaves count source) arcs)) b ↔ LeadsTo all_edges
+  pub listed : (source b : ℕ) → Contains (map (λ (arc : ℕ × ℕ). arc.1) (filter (leaves_source count source) arcs)) b ↔ LeadsTo all_edges
       (along count arcs) source b
   listed source b = (
     (λ c.
-        let r = map_contains (λ (arc : ℕ × ℕ). arc.1) (filter (leaves count source) arcs) b c in
-        let kept = filter_contains (leaves count source) arcs r.0 r.1 in
+        let r = map_contains (λ (arc : ℕ × ℕ). arc.1) (filter (leaves_source count source) arcs) b c in
+        let kept = filter_contains (leaves_source count source) arcs r.0 r.1 in
         let parts = and_parts (r.0.0 == source) (is_within count r.0) kept.1 in
         let first = eqb-true r.0.0 source parts.0 in
         let same : ◌≡◌ {A = ℕ × ℕ} r.0 (source, b) = λ i. (first i, r.2 i) in
@@ -50,14 +50,14 @@ module _ (count : ℕ) (arcs : List (ℕ × ℕ)) where
         (contains_filter (is_within count) arcs r.0 parts.1 kept.0))),
     (λ l.
         let kept = filter_contains (is_within count) arcs (source, b) (arc_along source b l) in
-        let passes : leaves count source (source, b) ≡ true =
+        let passes : leaves_source count source (source, b) ≡ true =
         ap (λ t. t && is_within count (source, b)) ((Decides-eqb source source).1 refl) ∙ kept.1 in
-        contains_map (λ (arc : ℕ × ℕ). arc.1) (filter (leaves count source) arcs) (source, b)
-        (contains_filter (leaves count source) arcs (source, b) passes kept.0)),
+        contains_map (λ (arc : ℕ × ℕ). arc.1) (filter (leaves_source count source) arcs) (source, b)
+        (contains_filter (leaves_source count source) arcs (source, b) passes kept.0)),
   )
 
 pub put_is : (count source : ℕ) (arcs : List (ℕ × ℕ)) (targets : List ℕ)
-    → put_targets count source arcs targets ≡ targets ++ map (λ (arc : ℕ × ℕ). arc.1) (filter (leaves count source) arcs)
+    → put_targets count source arcs targets ≡ targets ++ map (λ (arc : ℕ × ℕ). arc.1) (filter (leaves_source count source) arcs)
 put_is count source [] targets = sym (append-nil targets)
 put_is count source (arc ∷ arcs) targets =
     grind (arith, common_steps, put_is count source arcs (targets ++ arc.1 ∷ []), put_is count source arcs targets)

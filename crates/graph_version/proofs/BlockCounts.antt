@@ -1,18 +1,18 @@
 -- How many blocks rows have: a version at most 2 ^ 58, since each of its blocks has an edge.
 use Rattle.std.proofs.Common.{◌≡◌, ℕ, suc, ◌≤◌, ◌^◌, false, List, [], ◌∷◌, length, Option, Some, None, arith, All, length-append}
 use Rattle.std.{proofs.lemmas.{List.Elements.{All-head, All-tail, All-append}, Grind.common_steps}, specs.List.list_all}
-use Rattle.edge_block.specs.Slots.{Slot, BlockView, is_free, edges_in}
+use Rattle.edge_block.specs.Slots.{Slot, BlockView, is_free_slot, edges_in}
 use Rattle.version_pages.specs.Rows.{row_of, blocks_of}
 use Rattle.graph_version.specs.{Versions.VersionView, Versions.IsVersion, Edges.edges_in_block, Edges.edges_in_blocks}
 use Rattle.graph_version.proofs.{Few.count_is_total, Few.few_total, Totals.count_one}
 
-some_edges : (slots : List (Option Slot)) → list_all is_free slots ≡ false → 1 ≤ length (edges_in slots)
+some_edges : (slots : List (Option Slot)) → list_all is_free_slot slots ≡ false → 1 ≤ length (edges_in slots)
 some_edges [] is = cc
 some_edges (None ∷ slots) is = some_edges slots is
 some_edges (Some e ∷ slots) is = omega arith
 
 abbrev HasEdges : BlockView → Type 0
-HasEdges b = list_all is_free b.slots ≡ false
+HasEdges b = list_all is_free_slot b.slots ≡ false
 
 as_many_edges : (bs : List BlockView) → All HasEdges bs → length bs ≤ length (edges_in_blocks bs)
 as_many_edges [] all = omega arith

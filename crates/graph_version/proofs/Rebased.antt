@@ -9,12 +9,12 @@ use Rattle.graph_types.specs.{Graph.{key_of, stamp_of, IsContent, IsContentIn, H
 use Rattle.graph_types.{specs.declared.{batches.NamedOp.NamedOp, contents.Content.Content, ids.Edge.Edge}, proofs.Keys.get_listed}
 use Rattle.graph_types.{specs.Limits.AreLimits, proofs.{LimitsKept.{limits_left_by, each_fits, sums_within}, WeightsKept.weights_listed}}
 use Rattle.edge_block.specs.{Slots.{IsStamp, Slot, BlockView, entry_in, entries_of, edges_in}, Lending.{LentEdge, lent_of}}
-use Rattle.edge_block.specs.{declared.blocks.Block.Block, Rows.shape_of, Batches.{IsLayoutOf, IsWithin}}
+use Rattle.edge_block.specs.{declared.blocks.Block.Block, Rows.shape_of, Batches.{IsLayoutOf, HasEndsWithin}}
 use Rattle.vertex_names.specs.Book.{Book}
 use Rattle.version_pages.specs.{Rows.{row_of, blocks_of, numbers_of, Replaces}, Sharing.{block_value, block_values}}
 use Rattle.graph_version.specs.{Versions.{VersionView, IsBlockOf, AreRowsOf, IsVersion, content, layout_of}, Edges.edge_from}
 use Rattle.graph_version.specs.{Edges.{edges_in_block, edges_in_blocks}, Kept.{vertex_book, kind_book, version_of, IsSummary}, Logs.keeps_batches}
-use Rattle.graph_version.specs.LentEdges.{edge_of}
+use Rattle.graph_version.specs.LentEdges.{lent_as_edge}
 use Rattle.graph_version.specs.Rebased.{AreCopies, IsRebased, rows_like, unnumbered}
 use Rattle.graph_version.proofs.{Shown.rows_each_once, Totals.same_blocks, Totals.at_source, Totals.elsewhere}
 
@@ -180,7 +180,7 @@ version_over : (v : VersionView) (rows : List (List BlockView)) (g : Graph) → 
     → IsVersion (version_of g [] rows)
 version_over v rows g is same are = record {
   rows = are;
-  within = subst IsWithin (sym same) is.within;
+  within = subst HasEndsWithin (sym same) is.within;
   small = record {
     names = subst (λ (h : Graph). length h.names ≤ h.limits.names) (sym same) is.small.names;
     kinds = subst (λ (h : Graph). length h.kinds ≤ h.limits.kinds) (sym same) is.small.kinds;
@@ -317,7 +317,7 @@ listed_content names kinds edges keeps v c l is apart kinds_apart stamps e same 
       edges_within = λ k d lt.
           let x = get_or c.edges k d in
           let there : is_some (get (graph_in l c).edges (key_of x)) ≡ true = ap is_some (get_listed c.edges once k d lt) in
-          let at = subst IsWithin (sym same) is.version.within (key_of x) there in
+          let at = subst HasEndsWithin (sym same) is.version.within (key_of x) there in
           let stamp = stamps k d lt in
           record {
             kind = at.0;
@@ -339,9 +339,9 @@ pub weight_fits : (z : ℤ) → IsWeight z → FitsSigned w64 z
 weight_fits z h = search rules
 
 lent_slots : (b : BlockView) (es : List Slot)
-    → map (edge_of b.source) (map lent_of (map (entry_in b) es)) ≡ map edge_from (map (entry_in b) es)
+    → map (lent_as_edge b.source) (map lent_of (map (entry_in b) es)) ≡ map edge_from (map (entry_in b) es)
 lent_slots b [] = refl
 lent_slots b (e ∷ es) = ap (λ l. edge_from (entry_in b e) ∷ l) (lent_slots b es)
 
-pub lent_edges : (b : BlockView) → map (edge_of b.source) (map lent_of (entries_of b)) ≡ edges_in_block b
+pub lent_edges : (b : BlockView) → map (lent_as_edge b.source) (map lent_of (entries_of b)) ≡ edges_in_block b
 lent_edges b = lent_slots b (edges_in b.slots)

@@ -7,8 +7,8 @@ use Rattle.graph_version.specs.{Edges.edges_in_blocks, Lending.left_in}
 use Rattle.graph_version.specs.declared.edges.{RowBlocks.RowBlocks, EdgeIter.EdgeIter}
 
 -- an edge that a block of a source lends, as graph_types lists edges
-abbrev pub edge_of : ℕ → LentEdge → Edge
-edge_of source lent = record {
+abbrev pub lent_as_edge : ℕ → LentEdge → Edge
+lent_as_edge source lent = record {
   kind = record { 0 = lent.kind };
   source = record { 0 = source };
   target = record { 0 = lent.target };
@@ -19,12 +19,12 @@ edge_of source lent = record {
 
 -- the same of an edge that is lent with its source
 abbrev pub sourced_edge : VertexId × EdgeRef → Edge
-sourced_edge lent = edge_of lent.0.0 (lent_edge lent.1)
+sourced_edge lent = lent_as_edge lent.0.0 (lent_edge lent.1)
 
 -- the blocks that are still to be lent: those that are left of a row, and those of the rows after it
 abbrev pub blocks_left : RowBlocks → List BlockView
 blocks_left it = block_values it.blocks.now ++ blocks_of (drop it.source it.rows.now)
 
 -- the edges that are still to be lent: those that are left of a block, and those of the blocks after it
-abbrev pub edges_left : EdgeIter → List Edge
-edges_left it = map (edge_of it.source.0) (left_in it.edges) ++ edges_in_blocks (blocks_left it.blocks)
+abbrev pub edges_to_come : EdgeIter → List Edge
+edges_to_come it = map (lent_as_edge it.source.0) (left_in it.edges) ++ edges_in_blocks (blocks_left it.blocks)

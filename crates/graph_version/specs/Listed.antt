@@ -19,8 +19,8 @@ abbrev pub is_within : ℕ → ℕ × ℕ → Bool
 is_within count arc = nat_lt arc.0 count && nat_lt arc.1 count
 
 -- an arc between its vertices that leaves this one
-abbrev pub leaves : ℕ → ℕ → ℕ × ℕ → Bool
-leaves count source arc = (arc.0 == source) && is_within count arc
+abbrev pub leaves_source : ℕ → ℕ → ℕ × ℕ → Bool
+leaves_source count source arc = (arc.0 == source) && is_within count arc
 
 -- the graph of so many vertices with these arcs
 abbrev pub along : ℕ → List (ℕ × ℕ) → Graph
@@ -40,4 +40,4 @@ all_edges = record { kind = None; lo = 0; hi = 0 }
 abbrev pub put_targets : ℕ → ℕ → List (ℕ × ℕ) → List ℕ → List ℕ
 put_targets count source [] targets = targets
 put_targets count source (arc ∷ arcs) targets =
-    put_targets count source arcs (cond (leaves count source arc) (targets ++ arc.1 ∷ []) targets)
+    put_targets count source arcs (cond (leaves_source count source arc) (targets ++ arc.1 ∷ []) targets)

@@ -3,7 +3,7 @@ use Rattle.std.specs.Prelude.{◌≡◌, ◌≢◌, ℕ, ◌≤◌, List, [], ma
 use Rattle.std.specs.List.{list_any, list_all}
 use Rattle.graph_types.specs.{Graph.{Graph, HasWeights}, Limits.{LimitsView, AreLimits, standard_limits}, Step.{left_by, empty_graph_in}}
 use Rattle.graph_types.specs.declared.batches.NamedOp.{NamedOp}
-use Rattle.edge_block.specs.{Slots.{BlockView, is_free}, Rows.{Shape, shape_of}, Batches.{IsLayoutOf, IsWithin}}
+use Rattle.edge_block.specs.{Slots.{BlockView, is_free_slot}, Rows.{Shape, shape_of}, Batches.{IsLayoutOf, HasEndsWithin}}
 use Rattle.version_pages.specs.Rows.{row_of, blocks_of, numbers_of}
 
 -- the graph that it began with, the batches since, and a row of blocks for each source
@@ -23,7 +23,7 @@ layout_of rows source = map shape_of (row_of rows source)
 -- a block of a source's row: of that source, with an edge
 pub record IsBlockOf (source : ℕ) (b : BlockView) : Type 0 where
   pub source_is : b.source ≡ source
-  pub has_edges : list_all is_free b.slots ≡ false
+  pub has_edges : list_all is_free_slot b.slots ≡ false
 
 -- the rows have the graph's edges, each once, and no two blocks have one number
 pub record AreRowsOf (g : Graph) (rows : List (List BlockView)) : Type 0 where
@@ -42,7 +42,7 @@ pub record IsSmall (v : VersionView) : Type 0 where
 -- what is true of every version: its rows have its content, whose edges join its vertices, and it is within the limits
 pub record IsVersion (v : VersionView) : Type 0 where
   pub rows : AreRowsOf (content v) v.rows
-  pub within : IsWithin (content v)
+  pub within : HasEndsWithin (content v)
   pub small : IsSmall v
 
 -- the version without batches, under these limits and under the standard ones

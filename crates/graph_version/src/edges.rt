@@ -69,11 +69,11 @@ pub struct EdgeIter<'a> {
 }
 
 impl<'a> EdgeIter<'a> {
-    ghost use Rattle.graph_version.specs.LentEdges.{edges_left};
+    ghost use Rattle.graph_version.specs.LentEdges.{edges_to_come};
 
     /// All edges.
     pub(crate) fn over(rows: &'a Rows) -> EdgeIter<'a>
-        ensures { edges_left result ≡ edges_in_blocks (blocks_of rows.now) }
+        ensures { edges_to_come result ≡ edges_in_blocks (blocks_of rows.now) }
     {
         EdgeIter {
             blocks: RowBlocks::over(rows),
@@ -85,13 +85,13 @@ impl<'a> EdgeIter<'a> {
 
 impl<'a> Iterator for EdgeIter<'a> {
     ghost use Rattle.std.specs.Iterator.{YieldsFirstBy, item_count};
-    ghost use Rattle.graph_version.specs.LentEdges.{edges_left, sourced_edge};
+    ghost use Rattle.graph_version.specs.LentEdges.{edges_to_come, sourced_edge};
 
     type Item = (VertexId, EdgeRef<'a>);
 
-    ghost next_gives = { YieldsFirstBy sourced_edge edges_left };
+    ghost next_gives = { YieldsFirstBy sourced_edge edges_to_come };
 
-    ghost remaining = { item_count edges_left };
+    ghost remaining = { item_count edges_to_come };
 
     fn next(&mut self) -> Option<(VertexId, EdgeRef<'a>)> {
         loop {

@@ -1,7 +1,7 @@
 //! A view as a plain list of arcs.
 
 ghost use Rattle.std.specs.Prelude.{◌≡◌, ◌↔◌};
-ghost use Rattle.graph_version.specs.Listed.{along, all_edges, leaves};
+ghost use Rattle.graph_version.specs.Listed.{along, all_edges, leaves_source};
 
 use crate::source::ViewEdges;
 use std::alloc::AllocError;
@@ -38,7 +38,7 @@ impl ViewEdges for ListedArcs {
 
 /// Whether an arc between so many vertices leaves this one.
 fn leads_from(count: u16, source: u32, arc: (u32, u32)) -> bool
-    ensures { result ≡ leaves count source arc }
+    ensures { result ≡ leaves_source count source arc }
 {
     let count = count as u32;
     arc.0 == source && arc.0 < count && arc.1 < count

@@ -12,7 +12,7 @@ ghost use Rattle.version_pages.specs.Ages.{IsNextOld};
 ghost use Rattle.graph_version.specs.Versions.{IsVersion, empty_version, empty_version_in, content};
 ghost use Rattle.edge_block.specs.Rows.{shape_of, block_at};
 ghost use Rattle.graph_version.specs.Edges.{lent_to, edges_in_blocks, AreEachOnce};
-ghost use Rattle.graph_version.specs.LentEdges.{edges_left};
+ghost use Rattle.graph_version.specs.LentEdges.{edges_to_come};
 ghost use Rattle.graph_version.specs.Kept.{vertex_book, kind_book, edge_total};
 ghost use Rattle.graph_version.specs.Logs.{keeps_batches};
 
@@ -224,8 +224,8 @@ impl Version {
     /// }
     /// ```
     pub fn edges(&self) -> EdgeIter<'_>
-        ensures edges { edges_left result ≡ edges_in_blocks (blocks_of self.now.rows) }
-        ensures each_once { AreEachOnce (edges_left result) (content self.now) }
+        ensures edges { edges_to_come result ≡ edges_in_blocks (blocks_of self.now.rows) }
+        ensures each_once { AreEachOnce (edges_to_come result) (content self.now) }
     {
         EdgeIter::over(&self.rows)
     }

@@ -42,8 +42,8 @@ pub record IsPlaceWithin (times : List ℕ) (live lo hi place : ℕ) : Type 0 wh
   pub to_hi : slice_index times place ≤ hi
 
 -- a weight is a whole number of at most 2 ^ 40 in size
-abbrev pub IsWeight : ℤ → Type 0
-IsWeight weight = nat_abs weight ≤ 2 ^ 40
+abbrev pub IsLaneWeight : ℤ → Type 0
+IsLaneWeight weight = nat_abs weight ≤ 2 ^ 40
 
 -- the least of the values, and the greatest
 pub record IsLeastOf (values : List ℕ) (least : ℕ) : Type 0 where

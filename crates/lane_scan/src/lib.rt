@@ -9,7 +9,7 @@
 
 ghost use Rattle.std.specs.Prelude.{◌≡◌, ℕ, ◌+◌, ◌<◌, ◌≤◌, ◌^◌, ◌↔◌, ℤ, pos, ◌+ℤ◌, List, [], ◌∷◌, ◌++◌, length, fold, All};
 ghost use Rattle.std.specs.Prelude.{IsTrue, slice_index};
-ghost use Rattle.lane_scan.specs.Masks.{InMask, IsFirstPlaceOf, IsPlaceOf, IsPlaceWithin, IsUsedPart, IsWeight, AreBoundsOf};
+ghost use Rattle.lane_scan.specs.Masks.{InMask, IsFirstPlaceOf, IsPlaceOf, IsPlaceWithin, IsUsedPart, IsLaneWeight, AreBoundsOf};
 ghost use Rattle.lane_scan.specs.Masks.{selected};
 
 use std::simd::prelude::*;
@@ -134,7 +134,7 @@ fn window_mask_one_by_one(times: &[u64], live: u32, lo: u64, hi: u64) -> u32
 /// A weight is at most 2^40 in size; what stands outside of the mask may be anything.
 pub fn masked_sum(weights: &[i64], mask: u32) -> i64
     requires few { length weights.now ≤ 32 }
-    requires counted_are_weights { All IsWeight (selected mask weights.now) }
+    requires counted_are_weights { All IsLaneWeight (selected mask weights.now) }
     ensures { result ≡ fold ◌+ℤ◌ (pos 0) (selected mask weights.now) }
 {
     let mut sum = 0;

@@ -44,7 +44,7 @@ operations_code (operations.Refused error) = insert_code error
 operations_code operations.OutOfMemory = 1
 
 -- what names are told by, where there are too few of them
-abbrev pub names_code : ℕ → Result (Unit {0}) TextError → ℕ
-names_code missing (Ok _) = 0
-names_code missing (Err text.Fewer) = missing
-names_code missing (Err text.NoRoom) = 4
+abbrev pub names_result_code : ℕ → Result (Unit {0}) TextError → ℕ
+names_result_code missing (Ok _) = 0
+names_result_code missing (Err text.Fewer) = missing
+names_result_code missing (Err text.NoRoom) = 4

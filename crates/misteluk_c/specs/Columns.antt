@@ -9,7 +9,7 @@ use Rattle.desk_columns.specs.declared.columns.InsertColumnsError.{InsertColumns
 use Rattle.desk_columns.specs.declared.columns.InsertColumnsError.TheVariants as columns
 use Rattle.desk_counts.specs.declared.counts.Counts.{Counts}
 use Rattle.store_handles.specs.declared.held.Held.{Held}
-use Rattle.misteluk_c.specs.{Codes.{insert_code, operations_code}, Desks.{desk_in, apply_code}, Held.{batch_in, Asks}}
+use Rattle.misteluk_c.specs.{Codes.{insert_code, operations_code}, Desks.{held_desk, apply_code}, Held.{batch_in, Asks}}
 
 -- operations of columns, from a place on, are behind the own ones of a batch that may have as many as the limit; or one is refused,
 -- and the batch is as it was
@@ -40,5 +40,5 @@ insert_columns_code (Err columns.OutOfMemory) = 1
 -- insertions of columns are fed to a desk, as far as they are not refused
 abbrev pub TellsFeeding : Insertions → OwnedView → Option Held → ℕ → Counts → ℕ → Type 0
 TellsFeeding c old desk code counts done =
-    IsSomeAnd (desk_in desk)
+    IsSomeAnd (held_desk desk)
     (λ new. (answer : Result (Unit {0}) InsertColumnsError) × (code ≡ insert_columns_code answer) × Feeds old c answer new counts done)

@@ -4,21 +4,22 @@ use Rattle.graph_types.specs.{Step.outcomes, declared.batches.NamedOp.NamedOp}
 use Rattle.graph_version.specs.{Versions.{content, empty_version}, Kept.edge_total, Rebased.IsRebased}
 use Rattle.block_reclamation.specs.Status.{is_free, is_retired, is_in_use, is_reclaimable}
 use Rattle.store_steps.specs.{Desks.DeskView, Opening.{IsVersionZero, opened_desk}, Steps.Accepts}
-use Rattle.desk.specs.{Refusals.{Refuses, IsWithin}, declared.errors.ApplyError.ApplyError, declared.errors.HoldError.TheVariants.NoSeat, declared.owned.Hold.Hold}
-use Rattle.desk.specs.declared.errors.ApplyError.TheVariants as refused
+use Rattle.desk.specs.{Refusals.{Refuses, IsWithin}, declared.{errors.HoldError.TheVariants.NoSeat, owned.Hold.Hold}}
+use Rattle.graph_types.specs.declared.refusals.ApplyError.{ApplyError}
+use Rattle.graph_types.specs.declared.refusals.ApplyError.TheVariants as refused
 use Rattle.desk.specs.Owned.{OwnedView, opened_owned, HoldsOnce, RefusesHold, IsReleased, RefusesRelease, copied}
 use Rattle.desk_columns.specs.Feeding.{Collects}
 use Rattle.desk_counts.specs.{Counted.{with_outcomes, none_counted}, declared.counts.Counts.Counts}
 use Rattle.store_handles.specs.declared.held.Held.{Held}
 use Rattle.store_handles.specs.declared.held.Held.TheVariants as held
 use Rattle.misteluk_c.specs.declared.desks.{DeskStat.DeskStat, HoldNumbers.HoldNumbers}
-use Rattle.misteluk_c.specs.Held.{version_in, batch_in, Makes}
+use Rattle.misteluk_c.specs.Held.{held_version_of, batch_in, MakesHeld}
 
 -- the desk that a handle holds
-abbrev pub desk_in : Option Held → Option OwnedView
-desk_in None = None
-desk_in (Some (held.Desk desk)) = Some desk
-desk_in (Some _) = None
+abbrev pub held_desk : Option Held → Option OwnedView
+held_desk None = None
+held_desk (Some (held.Desk desk)) = Some desk
+held_desk (Some _) = None
 
 abbrev pub apply_code : ApplyError → ℕ
 apply_code refused.BatchLimit = 11
@@ -37,12 +38,12 @@ TellsApplied old ops new batch code counts =
     × (new ≡ old) × (batch_in batch ≡ Some ops))
 
 abbrev pub TellsApply : OwnedView → List NamedOp → Option Held → Option Held → ℕ → Counts → Type 0
-TellsApply old ops desk batch code counts = IsSomeAnd (desk_in desk) (λ new. TellsApplied old ops new batch code counts)
+TellsApply old ops desk batch code counts = IsSomeAnd (held_desk desk) (λ new. TellsApplied old ops new batch code counts)
 
 abbrev pub TellsCollect : OwnedView → Option Held → ℕ → ℕ → Type 0
 TellsCollect old desk code freed =
     (code ≡ 0) × (freed ≡ count_by (is_reclaimable (copied old.desk old.board)) old.desk.pool)
-    × IsSomeAnd (desk_in desk) (Collects old)
+    × IsSomeAnd (held_desk desk) (Collects old)
 
 abbrev pub stat_of : DeskView → DeskStat
 stat_of d =
@@ -60,25 +61,25 @@ stat_of d =
 abbrev pub TellsHeld : OwnedView → OwnedView → Option Held → Option Held → ℕ → HoldNumbers → Type 0
 TellsHeld old new (Some before) version code hold = (code ≡ 3) × (new ≡ old) × (version ≡ Some before)
 TellsHeld old new None version code hold =
-    ((code ≡ 0) × (version_in version ≡ Some old.desk.last) × (hold ≡ record { opening = old.opening; number = length old.desk.last.batches })
+    ((code ≡ 0) × (held_version_of version ≡ Some old.desk.last) × (hold ≡ record { opening = old.opening; number = length old.desk.last.batches })
     × HoldsOnce old (length old.desk.last.batches) new)
     ⊎ ((code ≡ 15) × RefusesHold old (length old.desk.last.batches) NoSeat × (new ≡ old) × (version ≡ None))
     ⊎ ((code ≡ 1) × (new ≡ old) × (version ≡ None))
 
 abbrev pub TellsHold : OwnedView → Option Held → Option Held → Option Held → ℕ → HoldNumbers → Type 0
-TellsHold old desk before version code hold = IsSomeAnd (desk_in desk) (λ new. TellsHeld old new before version code hold)
+TellsHold old desk before version code hold = IsSomeAnd (held_desk desk) (λ new. TellsHeld old new before version code hold)
 
 abbrev pub hold_of : HoldNumbers → Hold
 hold_of hold = record { opening = hold.opening; number = hold.number }
 
 abbrev pub TellsRelease : OwnedView → HoldNumbers → Option Held → ℕ → Type 0
 TellsRelease old hold desk code =
-    IsSomeAnd (desk_in desk) (λ new. ((code ≡ 0) × IsReleased old (hold_of hold) new)
+    IsSomeAnd (held_desk desk) (λ new. ((code ≡ 0) × IsReleased old (hold_of hold) new)
     ⊎ ((code ≡ 15) × RefusesRelease old (hold_of hold) × (new ≡ old)))
 
 abbrev pub TellsRebase : OwnedView → Option Held → ℕ → Type 0
 TellsRebase old desk code =
-    IsSomeAnd (desk_in desk) (λ new. ((code ≡ 0) × IsRebased old.desk.last new.desk.last
+    IsSomeAnd (held_desk desk) (λ new. ((code ≡ 0) × IsRebased old.desk.last new.desk.last
     × IsVersionZero (length old.desk.pool) new.desk.last
     × (new ≡ opened_owned (opened_desk (length old.desk.pool) new.desk.last) (old.opening + 1)))
     ⊎ ((code ≡ 1) × (new ≡ old)))

@@ -10,13 +10,13 @@ use Rattle.version_columns.specs.Texts.{WritesNames}
 use Rattle.batch_columns.specs.Dictionaries.{IsPushed}
 use Rattle.store_handles.specs.declared.held.Held.{Held}
 use Rattle.store_handles.specs.declared.held.Held.TheVariants as held
-use Rattle.misteluk_c.specs.Codes.{column_code, columns_code, push_code, names_code}
+use Rattle.misteluk_c.specs.Codes.{column_code, columns_code, push_code, names_result_code}
 
 -- the version, and the batch, that a handle holds
-abbrev pub version_in : Option Held → Option VersionView
-version_in None = None
-version_in (Some (held.Version version)) = Some (arc_value {X = Version} version)
-version_in (Some _) = None
+abbrev pub held_version_of : Option Held → Option VersionView
+held_version_of None = None
+held_version_of (Some (held.Version version)) = Some (arc_value {X = Version} version)
+held_version_of (Some _) = None
 
 abbrev pub batch_in : Option Held → Option (List NamedOp)
 batch_in None = None
@@ -31,17 +31,17 @@ IsAlone _ = Unit {0}
 
 -- a call about what a handle holds tells so of it; where the handle holds no such thing, the code says that
 abbrev pub Asks : {X : Type 0} → Option X → ℕ → (X → Type 0) → Type 0
-Asks None code Tells = code ≡ 2
-Asks (Some x) code Tells = Tells x
+Asks None code TellsCode = code ≡ 2
+Asks (Some x) code TellsCode = TellsCode x
 
 -- a call that makes something in a handle: made, or not for want of memory; and the handle is as it was where it holds something
-abbrev pub Makes : Option Held → Option Held → ℕ → (Option Held → Type 0) → Type 0
-Makes None new code Made = ((code ≡ 0) × Made new) ⊎ ((code ≡ 1) × (new ≡ None))
-Makes (Some held) new code Made = (code ≡ 3) × (new ≡ Some held)
+abbrev pub MakesHeld : Option Held → Option Held → ℕ → (Option Held → Type 0) → Type 0
+MakesHeld None new code Made = ((code ≡ 0) × Made new) ⊎ ((code ≡ 1) × (new ≡ None))
+MakesHeld (Some held) new code Made = (code ≡ 3) × (new ≡ Some held)
 
 -- the code tells the answer of a call that writes columns
-abbrev pub Tells : ℕ → (Result (Unit {0}) ColumnError → Type 0) → Type 0
-Tells code Answers = (answer : Result (Unit {0}) ColumnError) × (code ≡ columns_code answer) × Answers answer
+abbrev pub TellsCode : ℕ → (Result (Unit {0}) ColumnError → Type 0) → Type 0
+TellsCode code Answers = (answer : Result (Unit {0}) ColumnError) × (code ≡ columns_code answer) × Answers answer
 
 -- the code tells whether an operation was appended
 abbrev pub TellsPush : NamedOp → List NamedOp → Option Held → ℕ → Type 0
@@ -57,7 +57,7 @@ TellsNumber missing names name code number =
 -- names in one text
 abbrev pub TellsNames : ℕ → List (List ℕ) → ℕ → List ℕ → List ℕ → List ℕ → ℕ → Type 0
 TellsNames missing names first old new ends code =
-    (answer : Result (Unit {0}) TextError) × (code ≡ names_code missing answer) × WritesNames names first old new ends answer
+    (answer : Result (Unit {0}) TextError) × (code ≡ names_result_code missing answer) × WritesNames names first old new ends answer
 
 -- one edge
 abbrev pub TellsEdge : Result Marks ColumnError → ℕ → Marks → Type 0

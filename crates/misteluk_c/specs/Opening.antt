@@ -7,7 +7,7 @@ use Rattle.store_steps.specs.{Desks.DeskView, Opening.opened_desk}
 use Rattle.desk.specs.Owned.{opened_owned}
 use Rattle.store_handles.specs.declared.held.Held.{Held}
 use Rattle.misteluk_c.specs.declared.opening.DeskLimits.{DeskLimits}
-use Rattle.misteluk_c.specs.{Held.Makes, Desks.desk_in}
+use Rattle.misteluk_c.specs.{Held.MakesHeld, Desks.held_desk}
 
 -- the limits as C has them, with one on weights, and where none is given for those
 abbrev pub limits_with : DeskLimits → ℕ → LimitsView
@@ -31,7 +31,7 @@ weight_told d = (content d.last).limits.weight
 -- a desk without edges is opened, in a handle that held nothing
 abbrev pub OpensIn : LimitsView → ℕ → Option Held → Option Held → ℕ → Type 0
 OpensIn limits blocks old new code =
-    Makes old new code (λ held. desk_in held ≡ Some (opened_owned (opened_desk blocks (empty_version_in limits)) 0))
+    MakesHeld old new code (λ held. held_desk held ≡ Some (opened_owned (opened_desk blocks (empty_version_in limits)) 0))
 
 -- there are too few blocks, or more than the most
 abbrev pub RefusesBlocks : ℕ → ℕ → Option Held → Option Held → ℕ → Type 0

@@ -2,7 +2,7 @@
 
 ghost use Rattle.std.specs.Prelude.{◌≡◌, [], Some, None, IsSome, length, OnOk, OnErr};
 ghost use Rattle.graph_types.specs.declared.batches.NamedOp.TheVariants.{Insert, Incr, Remove, Expire};
-ghost use Rattle.misteluk_c.specs.Held.{batch_in, Asks, IsAlone, Makes, TellsPush};
+ghost use Rattle.misteluk_c.specs.Held.{batch_in, Asks, IsAlone, MakesHeld, TellsPush};
 
 use crate::codes::{HELD_ALREADY, MEMORY, NO_HANDLE, OK, push_code};
 use batch_columns::{push_add, push_expire, push_insert, push_remove};
@@ -13,7 +13,7 @@ use store_handles::{Handle, Held};
 /// Makes an empty batch.
 #[unsafe(no_mangle)]
 pub extern "C" fn misteluk_batch_new(alloc: Global, out: &mut Handle) -> u32
-    ensures { Makes out.old.held out.new.held result (λ held. batch_in held ≡ Some []) }
+    ensures { MakesHeld out.old.held out.new.held result (λ held. batch_in held ≡ Some []) }
 {
     if !out.is_empty() {
         return HELD_ALREADY;

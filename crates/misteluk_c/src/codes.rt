@@ -107,7 +107,7 @@ pub(crate) fn operations_code(error: OperationsError) -> u32
 
 /// What names are told by, where there are too few of them.
 pub(crate) fn names_code(missing: u32, answer: Result<(), TextError>) -> u32
-    ensures { result ≡ codes.names_code missing answer }
+    ensures { result ≡ codes.names_result_code missing answer }
 {
     match answer {
         Ok(()) => OK,

@@ -1,9 +1,9 @@
 //! Desks.
 
 ghost use Rattle.std.specs.Prelude.{◌≡◌, ◌≢◌, ℕ, Some, None};
-ghost use Rattle.misteluk_c.specs.Held.{batch_in, version_in, Asks};
+ghost use Rattle.misteluk_c.specs.Held.{batch_in, held_version_of, Asks};
 ghost use Rattle.misteluk_c.specs.Desks as desks;
-ghost use Rattle.misteluk_c.specs.Desks.{desk_in, TellsApply, TellsApplied, TellsCollect, TellsHeld, TellsHold, TellsRelease, TellsRebase, stat_of};
+ghost use Rattle.misteluk_c.specs.Desks.{held_desk, TellsApply, TellsApplied, TellsCollect, TellsHeld, TellsHold, TellsRelease, TellsRebase, stat_of};
 
 use crate::codes::{
     BATCHES_FULL, BLOCKS_FULL, HELD_ALREADY, KINDS_FULL, MEMORY, NAMES_FULL, NO_HANDLE, NO_SEAT, OK,
@@ -52,7 +52,7 @@ pub extern "C" fn misteluk_desk_apply(
     batch: &mut Handle,
     counts: &mut Counts,
 ) -> u32
-    ensures told { Asks (desk_in desk.old.held) result (λ o. Asks (batch_in batch.old.held) result
+    ensures told { Asks (held_desk desk.old.held) result (λ o. Asks (batch_in batch.old.held) result
         (λ ops. TellsApply o ops desk.new.held batch.new.held result counts.new)) }
     ensures same { result ≡ 2 → (desk.new.held ≡ desk.old.held) × (batch.new.held ≡ batch.old.held) }
 {
@@ -118,7 +118,7 @@ fn apply_in(alloc: Global, desk: &mut OwnedDesk, held: &mut Held, counts: &mut C
 /// Frees each retired block that no held version needs.
 #[unsafe(no_mangle)]
 pub extern "C" fn misteluk_desk_collect(alloc: Global, desk: &mut Handle, freed: &mut u64) -> u32
-    ensures told { Asks (desk_in desk.old.held) result (λ o. TellsCollect o desk.new.held result freed.new) }
+    ensures told { Asks (held_desk desk.old.held) result (λ o. TellsCollect o desk.new.held result freed.new) }
     ensures same { result ≡ 2 → desk.new.held ≡ desk.old.held }
 {
     let Some(mut held) = desk.take(alloc) else {
@@ -132,7 +132,7 @@ pub extern "C" fn misteluk_desk_collect(alloc: Global, desk: &mut Handle, freed:
 /// Tells the counts.
 #[unsafe(no_mangle)]
 pub extern "C" fn misteluk_desk_stat(alloc: Global, desk: &mut Handle, out: &mut DeskStat) -> u32
-    ensures told { Asks (desk_in desk.old.held) result (λ o. (result ≡ 0) × (out.new ≡ stat_of o.desk)) }
+    ensures told { Asks (held_desk desk.old.held) result (λ o. (result ≡ 0) × (out.new ≡ stat_of o.desk)) }
     ensures same { desk.new.held ≡ desk.old.held }
 {
     let Some(held) = desk.take(alloc) else {
@@ -172,7 +172,7 @@ pub extern "C" fn misteluk_desk_hold(
     version: &mut Handle,
     hold: &mut HoldNumbers,
 ) -> u32
-    ensures told { Asks (desk_in desk.old.held) result
+    ensures told { Asks (held_desk desk.old.held) result
         (λ o. TellsHold o desk.new.held version.old.held version.new.held result hold.new) }
     ensures same { result ≡ 2 → (desk.new.held ≡ desk.old.held) × (version.new.held ≡ version.old.held) }
 {
@@ -215,7 +215,7 @@ fn hold_in(alloc: Global, desk: &mut OwnedDesk, version: &mut Handle, hold: &mut
 /// Takes one hold back.
 #[unsafe(no_mangle)]
 pub extern "C" fn misteluk_desk_release(alloc: Global, desk: &mut Handle, hold: HoldNumbers) -> u32
-    ensures told { Asks (desk_in desk.old.held) result (λ o. TellsRelease o hold desk.new.held result) }
+    ensures told { Asks (held_desk desk.old.held) result (λ o. TellsRelease o hold desk.new.held result) }
     ensures same { result ≡ 2 → desk.new.held ≡ desk.old.held }
 {
     let Some(mut held) = desk.take(alloc) else {
@@ -229,7 +229,7 @@ pub extern "C" fn misteluk_desk_release(alloc: Global, desk: &mut Handle, hold: 
 /// Opens the desk anew over what the last version holds.
 #[unsafe(no_mangle)]
 pub extern "C" fn misteluk_desk_rebase(alloc: Global, desk: &mut Handle) -> u32
-    ensures told { Asks (desk_in desk.old.held) result (λ o. TellsRebase o desk.new.held result) }
+    ensures told { Asks (held_desk desk.old.held) result (λ o. TellsRebase o desk.new.held result) }
     ensures same { result ≡ 2 → desk.new.held ≡ desk.old.held }
 {
     let Some(mut held) = desk.take(alloc) else {
@@ -254,7 +254,7 @@ pub(crate) fn apply_code(error: ApplyError) -> u32
 }
 
 fn apply_by(alloc: Global, held: &mut Held, batch: &mut Handle, counts: &mut Counts) -> u32
-    ensures told { Asks (desk_in (Some held.old)) result
+    ensures told { Asks (held_desk (Some held.old)) result
         (λ o. Asks (batch_in batch.old.held) result
         (λ ops. TellsApply o ops (Some held.new) batch.new.held result counts.new)) }
     ensures same { result ≡ 2 → (held.new ≡ held.old) × (batch.new.held ≡ batch.old.held) }
@@ -266,7 +266,7 @@ fn apply_by(alloc: Global, held: &mut Held, batch: &mut Handle, counts: &mut Cou
 }
 
 fn collect_by(held: &mut Held, freed: &mut u64) -> u32
-    ensures told { Asks (desk_in (Some held.old)) result
+    ensures told { Asks (held_desk (Some held.old)) result
         (λ o. TellsCollect o (Some held.new) result freed.new) }
     ensures same { result ≡ 2 → held.new ≡ held.old }
 {
@@ -278,7 +278,7 @@ fn collect_by(held: &mut Held, freed: &mut u64) -> u32
 }
 
 fn hold_by(alloc: Global, held: &mut Held, version: &mut Handle, hold: &mut HoldNumbers) -> u32
-    ensures told { Asks (desk_in (Some held.old)) result
+    ensures told { Asks (held_desk (Some held.old)) result
         (λ o. TellsHold o (Some held.new) version.old.held version.new.held result hold.new) }
     ensures same { result ≡ 2 → (held.new ≡ held.old) × (version.new.held ≡ version.old.held) }
 {
@@ -289,7 +289,7 @@ fn hold_by(alloc: Global, held: &mut Held, version: &mut Handle, hold: &mut Hold
 }
 
 fn release_by(held: &mut Held, hold: HoldNumbers) -> u32
-    ensures told { Asks (desk_in (Some held.old)) result
+    ensures told { Asks (held_desk (Some held.old)) result
         (λ o. TellsRelease o hold (Some held.new) result) }
     ensures same { result ≡ 2 → held.new ≡ held.old }
 {
@@ -307,7 +307,7 @@ fn release_by(held: &mut Held, hold: HoldNumbers) -> u32
 }
 
 fn rebase_by(held: &mut Held) -> u32
-    ensures told { Asks (desk_in (Some held.old)) result
+    ensures told { Asks (held_desk (Some held.old)) result
         (λ o. TellsRebase o (Some held.new) result) }
     ensures same { result ≡ 2 → held.new ≡ held.old }
 {

@@ -3,7 +3,7 @@
 ghost use Rattle.std.specs.Prelude.{◌≡◌, Some, None};
 ghost use Rattle.desk_columns.specs.Feeding.{columns_of};
 ghost use Rattle.misteluk_c.specs.Held.{Asks};
-ghost use Rattle.misteluk_c.specs.Desks.{desk_in};
+ghost use Rattle.misteluk_c.specs.Desks.{held_desk};
 ghost use Rattle.misteluk_c.specs.Columns.{TellsFeeding};
 ghost use Rattle.misteluk_c.specs.Columns as columns;
 
@@ -29,7 +29,7 @@ pub extern "C" fn misteluk_desk_insert_columns(
     counts: &mut Counts,
     done: &mut u64,
 ) -> u32
-    ensures told { Asks (desk_in desk.old.held) result (λ o. TellsFeeding (record {
+    ensures told { Asks (held_desk desk.old.held) result (λ o. TellsFeeding (record {
       kind = kind.now;
       text = text.now;
       ends = ends.now;
@@ -38,7 +38,7 @@ pub extern "C" fn misteluk_desk_insert_columns(
       weights = weights.now;
       times = times.now;
     }) o desk.new.held result counts.new done.new) }
-    ensures none { desk_in desk.old.held ≡ None
+    ensures none { held_desk desk.old.held ≡ None
         → (desk.new.held ≡ desk.old.held) × (counts.new ≡ counts.old) × (done.new ≡ done.old) }
 {
     let insertions = Insertions {
@@ -65,9 +65,9 @@ fn insert_by(
     counts: &mut Counts,
     done: &mut u64,
 ) -> u32
-    ensures told { Asks (desk_in (Some held.old)) result
+    ensures told { Asks (held_desk (Some held.old)) result
         (λ o. TellsFeeding (columns_of insertions.now) o (Some held.new) result counts.new done.new) }
-    ensures none { desk_in (Some held.old) ≡ None
+    ensures none { held_desk (Some held.old) ≡ None
         → (held.new ≡ held.old) × (counts.new ≡ counts.old) × (done.new ≡ done.old) }
 {
     let Held::Desk(desk) = held else {

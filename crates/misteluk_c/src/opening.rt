@@ -5,8 +5,8 @@ ghost use Rattle.graph_version.specs.Versions.{empty_version_in};
 ghost use Rattle.block_reclamation.specs.Status.{most_blocks};
 ghost use Rattle.store_steps.specs.Opening.{opened_desk};
 ghost use Rattle.desk.specs.Owned.{opened_owned};
-ghost use Rattle.misteluk_c.specs.Held.{Asks, Makes};
-ghost use Rattle.misteluk_c.specs.Desks.{desk_in};
+ghost use Rattle.misteluk_c.specs.Held.{Asks, MakesHeld};
+ghost use Rattle.misteluk_c.specs.Desks.{held_desk};
 ghost use Rattle.misteluk_c.specs.Opening.{Opens, OpensWithin, limits_of, limits_with, limits_told, weight_told};
 
 use crate::codes::{BAD_BLOCKS, BAD_LIMITS, HELD_ALREADY, MEMORY, NO_HANDLE, OK};
@@ -84,8 +84,8 @@ fn open_under(alloc: Global, limits: &DeskLimits, weight: u64, blocks: u32, out:
 fn open_in(alloc: Global, limits: Limits, blocks: u32, out: &mut Handle) -> u32
     requires least { 16 ≤ blocks }
     requires most { blocks ≤ most_blocks }
-    ensures { Makes out.old.held out.new.held result
-        (λ held. desk_in held ≡ Some (opened_owned (opened_desk blocks (empty_version_in limits)) 0)) }
+    ensures { MakesHeld out.old.held out.new.held result
+        (λ held. held_desk held ≡ Some (opened_owned (opened_desk blocks (empty_version_in limits)) 0)) }
 {
     if !out.is_empty() {
         return HELD_ALREADY;
@@ -107,7 +107,7 @@ pub extern "C" fn misteluk_desk_limits(
     desk: &mut Handle,
     out: &mut DeskLimits,
 ) -> u32
-    ensures told { Asks (desk_in desk.old.held) result (λ o. (result ≡ 0) × (out.new ≡ limits_told o.desk)) }
+    ensures told { Asks (held_desk desk.old.held) result (λ o. (result ≡ 0) × (out.new ≡ limits_told o.desk)) }
     ensures same { desk.new.held ≡ desk.old.held }
 {
     let Some(held) = desk.take(alloc) else {
@@ -138,7 +138,7 @@ fn limits_of(desk: &Desk) -> DeskLimits
 /// Tells how large the weights of a desk may be.
 #[unsafe(no_mangle)]
 pub extern "C" fn misteluk_desk_weight(alloc: Global, desk: &mut Handle, out: &mut u64) -> u32
-    ensures told { Asks (desk_in desk.old.held) result (λ o. (result ≡ 0) × (out.new ≡ weight_told o.desk)) }
+    ensures told { Asks (held_desk desk.old.held) result (λ o. (result ≡ 0) × (out.new ≡ weight_told o.desk)) }
     ensures same { desk.new.held ≡ desk.old.held }
 {
     let Some(held) = desk.take(alloc) else {

@@ -2,10 +2,10 @@
 
 ghost use Rattle.std.specs.Prelude.{◌≡◌, Some, None, length, MatchOption};
 ghost use Rattle.graph_version.specs.Versions.{content};
-ghost use Rattle.version_columns.specs.Lookups.{size_of, edge_at};
+ghost use Rattle.version_columns.specs.Lookups.{size_of, marks_of_edge};
 ghost use Rattle.version_columns.specs.Tables.{WritesCores, WritesLabels, WritesLevels, WritesDegrees, degree_columns};
 ghost use Rattle.version_columns.specs.Rows.{columns, edge_columns, WritesRow, IsRowCount, WritesEdges};
-ghost use Rattle.misteluk_c.specs.Held.{version_in, Asks, Makes, Tells, TellsNumber, TellsNames, TellsEdge};
+ghost use Rattle.misteluk_c.specs.Held.{held_version_of, Asks, MakesHeld, TellsCode, TellsNumber, TellsNames, TellsEdge};
 
 use crate::codes::{
     HELD_ALREADY, MEMORY, NO_HANDLE, NO_KIND, NO_VERTEX, OK, column_code, columns_code, names_code,
@@ -25,9 +25,9 @@ pub extern "C" fn misteluk_version_clone(
     out: &mut Handle,
 ) -> u32
     ensures same { version.new.held ≡ version.old.held }
-    ensures made { Asks (version_in version.old.held) result
-        (λ v. Makes out.old.held out.new.held result (λ held. version_in held ≡ Some v)) }
-    ensures none { version_in version.old.held ≡ None → out.new.held ≡ out.old.held }
+    ensures made { Asks (held_version_of version.old.held) result
+        (λ v. MakesHeld out.old.held out.new.held result (λ held. held_version_of held ≡ Some v)) }
+    ensures none { held_version_of version.old.held ≡ None → out.new.held ≡ out.old.held }
 {
     let Some(held) = version.take(alloc) else {
         return NO_HANDLE;
@@ -38,9 +38,9 @@ pub extern "C" fn misteluk_version_clone(
 }
 
 fn clone_of(alloc: Global, held: &Held, out: &mut Handle) -> u32
-    ensures made { Asks (version_in (Some held.now)) result
-        (λ v. Makes out.old.held out.new.held result (λ held. version_in held ≡ Some v)) }
-    ensures none { version_in (Some held.now) ≡ None → out.new.held ≡ out.old.held }
+    ensures made { Asks (held_version_of (Some held.now)) result
+        (λ v. MakesHeld out.old.held out.new.held result (λ held. held_version_of held ≡ Some v)) }
+    ensures none { held_version_of (Some held.now) ≡ None → out.new.held ≡ out.old.held }
 {
     let Held::Version(version) = held else {
         return NO_HANDLE;
@@ -73,7 +73,7 @@ pub extern "C" fn misteluk_version_size(
     out: &mut VersionSize,
 ) -> u32
     ensures same { version.new.held ≡ version.old.held }
-    ensures told { Asks (version_in version.old.held) result (λ v. (result ≡ 0) × (out.new ≡ size_of v)) }
+    ensures told { Asks (held_version_of version.old.held) result (λ v. (result ≡ 0) × (out.new ≡ size_of v)) }
 {
     let Some(held) = version.take(alloc) else {
         return NO_HANDLE;
@@ -95,7 +95,7 @@ pub extern "C" fn misteluk_version_vertex(
     out: &mut u32,
 ) -> u32
     ensures same { version.new.held ≡ version.old.held }
-    ensures told { Asks (version_in version.old.held) result (λ v. TellsNumber 16 (content v).names name.now result out.new) }
+    ensures told { Asks (held_version_of version.old.held) result (λ v. TellsNumber 16 (content v).names name.now result out.new) }
 {
     let Some(held) = version.take(alloc) else {
         return NO_HANDLE;
@@ -117,7 +117,7 @@ pub extern "C" fn misteluk_version_kind(
     out: &mut u32,
 ) -> u32
     ensures same { version.new.held ≡ version.old.held }
-    ensures told { Asks (version_in version.old.held) result (λ v. TellsNumber 17 (content v).kinds name.now result out.new) }
+    ensures told { Asks (held_version_of version.old.held) result (λ v. TellsNumber 17 (content v).kinds name.now result out.new) }
 {
     let Some(held) = version.take(alloc) else {
         return NO_HANDLE;
@@ -140,7 +140,7 @@ pub extern "C" fn misteluk_version_names(
     ends: &mut [u64],
 ) -> u32
     ensures same { version.new.held ≡ version.old.held }
-    ensures told { Asks (version_in version.old.held) result (λ v. TellsNames 16 (content v).names first text.old text.new ends.new result) }
+    ensures told { Asks (held_version_of version.old.held) result (λ v. TellsNames 16 (content v).names first text.old text.new ends.new result) }
 {
     let Some(held) = version.take(alloc) else {
         return NO_HANDLE;
@@ -166,7 +166,7 @@ pub extern "C" fn misteluk_version_kind_names(
     ends: &mut [u64],
 ) -> u32
     ensures same { version.new.held ≡ version.old.held }
-    ensures told { Asks (version_in version.old.held) result (λ v. TellsNames 17 (content v).kinds first text.old text.new ends.new result) }
+    ensures told { Asks (held_version_of version.old.held) result (λ v. TellsNames 17 (content v).kinds first text.old text.new ends.new result) }
 {
     let Some(held) = version.take(alloc) else {
         return NO_HANDLE;
@@ -193,7 +193,7 @@ pub extern "C" fn misteluk_version_edge(
     out: &mut Marks,
 ) -> u32
     ensures same { version.new.held ≡ version.old.held }
-    ensures told { Asks (version_in version.old.held) result (λ v. TellsEdge (edge_at (content v) kind source target) result out.new) }
+    ensures told { Asks (held_version_of version.old.held) result (λ v. TellsEdge (marks_of_edge (content v) kind source target) result out.new) }
 {
     let Some(held) = version.take(alloc) else {
         return NO_HANDLE;
@@ -217,7 +217,7 @@ pub extern "C" fn misteluk_version_degrees(
     out_weight: &mut [i64],
 ) -> u32
     ensures same { version.new.held ≡ version.old.held }
-    ensures told { Asks (version_in version.old.held) result (λ v. Tells result (WritesDegrees (content v) view.now (degree_columns outgoing.old incoming.old out_weight.old)
+    ensures told { Asks (held_version_of version.old.held) result (λ v. TellsCode result (WritesDegrees (content v) view.now (degree_columns outgoing.old incoming.old out_weight.old)
         (degree_columns outgoing.new incoming.new out_weight.new))) }
 {
     let Some(held) = version.take(alloc) else {
@@ -245,7 +245,7 @@ pub extern "C" fn misteluk_version_levels(
     levels: &mut [u32],
 ) -> u32
     ensures same { version.new.held ≡ version.old.held }
-    ensures told { Asks (version_in version.old.held) result (λ v. Tells result (WritesLevels (content v) view.now source levels.old levels.new)) }
+    ensures told { Asks (held_version_of version.old.held) result (λ v. TellsCode result (WritesLevels (content v) view.now source levels.old levels.new)) }
 {
     let Some(held) = version.take(alloc) else {
         return NO_HANDLE;
@@ -269,7 +269,7 @@ pub extern "C" fn misteluk_version_labels(
     labels: &mut [u32],
 ) -> u32
     ensures same { version.new.held ≡ version.old.held }
-    ensures told { Asks (version_in version.old.held) result (λ v. Tells result (WritesLabels (content v) view.now labels.old labels.new)) }
+    ensures told { Asks (held_version_of version.old.held) result (λ v. TellsCode result (WritesLabels (content v) view.now labels.old labels.new)) }
 {
     let Some(held) = version.take(alloc) else {
         return NO_HANDLE;
@@ -291,7 +291,7 @@ pub extern "C" fn misteluk_version_cores(
     cores: &mut [u32],
 ) -> u32
     ensures same { version.new.held ≡ version.old.held }
-    ensures told { Asks (version_in version.old.held) result (λ v. Tells result (WritesCores (content v) view.now cores.old cores.new)) }
+    ensures told { Asks (held_version_of version.old.held) result (λ v. TellsCode result (WritesCores (content v) view.now cores.old cores.new)) }
 {
     let Some(held) = version.take(alloc) else {
         return NO_HANDLE;
@@ -319,7 +319,7 @@ pub extern "C" fn misteluk_version_row(
     count: &mut u64,
 ) -> u32
     ensures same { version.new.held ≡ version.old.held }
-    ensures told { Asks (version_in version.old.held) result (λ v. Tells result (WritesRow v view.now source (columns kinds.old targets.old weights.old firsts.old recents.old)
+    ensures told { Asks (held_version_of version.old.held) result (λ v. TellsCode result (WritesRow v view.now source (columns kinds.old targets.old weights.old firsts.old recents.old)
         (columns kinds.new targets.new weights.new firsts.new recents.new)) × IsRowCount v view.now source count.new) }
 {
     let Some(held) = version.take(alloc) else {
@@ -351,7 +351,7 @@ pub extern "C" fn misteluk_version_edges(
     count: &mut u64,
 ) -> u32
     ensures same { version.new.held ≡ version.old.held }
-    ensures told { Asks (version_in version.old.held) result (λ v. Tells result (WritesEdges v view.now
+    ensures told { Asks (held_version_of version.old.held) result (λ v. TellsCode result (WritesEdges v view.now
         (edge_columns source.old sources.old (columns kinds.old targets.old weights.old firsts.old recents.old))
         (edge_columns source.new sources.new (columns kinds.new targets.new weights.new firsts.new recents.new)) count.new)) }
 {
@@ -388,7 +388,7 @@ fn number_to(number: Option<u32>, missing: u32, out: &mut u32) -> u32
 }
 
 fn edge_to(version: &Version, kind: u32, source: u32, target: u32, out: &mut Marks) -> u32
-    ensures { TellsEdge (edge_at (content version.now) kind source target) result out.new }
+    ensures { TellsEdge (marks_of_edge (content version.now) kind source target) result out.new }
 {
     match columns::edge(version, kind, source, target) {
         Ok(marks) => {

@@ -5,23 +5,23 @@ use Rattle.std.proofs.lemmas.List.{get_or_append_left, get_or-append-add}
 use Rattle.std.specs.{Prelude.slice_get, Option.{option_map, option_eq}, declared.option.Option.Option}
 use Rattle.std.specs.declared.option.Option.TheVariants.{None, Some}
 use Rattle.graph_types.specs.declared.ids.VertexId.{VertexId}
-use Rattle.number_ranks.specs.Sorting.{numbers_of}
+use Rattle.number_ranks.specs.Sorting.{ranked_numbers}
 
 abbrev pub number_of : VertexId → ℕ
 number_of v = v.0
 
-pub as_many : (xs : List VertexId) → length (numbers_of xs) ≡ length xs
+pub as_many : (xs : List VertexId) → length (ranked_numbers xs) ≡ length xs
 as_many xs = length-map xs number_of
 
-pub number_at : (xs : List VertexId) (i : ℕ) (d : VertexId) → i < length xs → get_or (numbers_of xs) i 0 ≡ (get_or xs i d).0
+pub number_at : (xs : List VertexId) (i : ℕ) (d : VertexId) → i < length xs → get_or (ranked_numbers xs) i 0 ≡ (get_or xs i d).0
 number_at xs i d lt = get_or-map number_of xs i d 0 lt
 
-pub one_more : (xs : List VertexId) (v : VertexId) → numbers_of (xs ++ v ∷ []) ≡ numbers_of xs ++ v.0 ∷ []
+pub one_more : (xs : List VertexId) (v : VertexId) → ranked_numbers (xs ++ v ∷ []) ≡ ranked_numbers xs ++ v.0 ∷ []
 one_more xs v = map-append number_of xs (v ∷ [])
 
 -- those before stay where they are, and the new one is the last
 pub stays : (xs : List VertexId) (v : VertexId) (k : ℕ) → k < length xs
-    → slice_get (numbers_of (xs ++ v ∷ [])) k ≡ slice_get (numbers_of xs) k
+    → slice_get (ranked_numbers (xs ++ v ∷ [])) k ≡ slice_get (ranked_numbers xs) k
 stays xs v k lt =
     slice_get-map number_of (xs ++ v ∷ []) k
     ∙ ap (option_map number_of) (slice_get-get_or (xs ++ v ∷ []) k v (omega (arith, more xs))
@@ -32,7 +32,7 @@ stays xs v k lt =
     more [] = refl
     more (x ∷ xs) = omega (arith, more xs)
 
-pub new_last : (xs : List VertexId) (v : VertexId) → slice_get (numbers_of (xs ++ v ∷ [])) (length xs) ≡ Some v.0
+pub new_last : (xs : List VertexId) (v : VertexId) → slice_get (ranked_numbers (xs ++ v ∷ [])) (length xs) ≡ Some v.0
 new_last [] v = refl
 new_last (x ∷ xs) v = new_last xs v
 

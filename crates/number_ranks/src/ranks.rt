@@ -3,7 +3,7 @@
 ghost use Rattle.std.specs.Prelude.{◌≡◌, ◌<◌, ◌≤◌, ◌^◌, ℕ, length, get_or, IfOk, OnOk, ◌+◌, ◌-◌, ◌⊎◌, Some, nat_eq, slice_get};
 ghost use Rattle.std.specs.List.{list_any};
 ghost use Rattle.std.specs.List.Sorted.{IsStrictlyIncreasing};
-ghost use Rattle.number_ranks.specs.Sorting.{numbers_of};
+ghost use Rattle.number_ranks.specs.Sorting.{ranked_numbers};
 
 use crate::counting::sorted_entries;
 use graph_types::VertexId;
@@ -23,13 +23,13 @@ pub struct Ranks {
 /// ```
 pub fn rank(alloc: Global, list: &[VertexId]) -> Result<Ranks, AllocError>
     requires few { length list.now < 2 ^ 32 }
-    ensures rising { IfOk result (λ ranks. IsStrictlyIncreasing (numbers_of ranks.numbers.items)) }
-    ensures same { IfOk result (λ ranks. (n : ℕ) → list_any (nat_eq n) (numbers_of ranks.numbers.items)
-        ≡ list_any (nat_eq n) (numbers_of list.now)) }
+    ensures rising { IfOk result (λ ranks. IsStrictlyIncreasing (ranked_numbers ranks.numbers.items)) }
+    ensures same { IfOk result (λ ranks. (n : ℕ) → list_any (nat_eq n) (ranked_numbers ranks.numbers.items)
+        ≡ list_any (nat_eq n) (ranked_numbers list.now)) }
     ensures few { IfOk result (λ ranks. length ranks.numbers.items ≤ length list.now) }
     ensures long { IfOk result (λ ranks. length ranks.places.items ≡ length list.now) }
     ensures places { IfOk result (λ ranks. (k : ℕ) → k < length list.now
-        → slice_get (numbers_of ranks.numbers.items) (get_or ranks.places.items k 0) ≡ Some (get_or (numbers_of list.now) k 0)) }
+        → slice_get (ranked_numbers ranks.numbers.items) (get_or ranks.places.items k 0) ≡ Some (get_or (ranked_numbers list.now) k 0)) }
 {
     let entries = sorted_entries(alloc, list)?;
     let mut numbers = Vec::with_capacity(alloc, entries.len())?;
@@ -44,18 +44,18 @@ pub fn rank(alloc: Global, list: &[VertexId]) -> Result<Ranks, AllocError>
 
 /// Adds a number to rising ones that are no greater, if it isn't the last.
 fn add_number(numbers: &mut Vec<VertexId>, number: u32) -> Result<(), AllocError>
-    requires rising { IsStrictlyIncreasing (numbers_of numbers.old.items) }
-    requires least { (k : ℕ) → k < length numbers.old.items → get_or (numbers_of numbers.old.items) k 0 ≤ number }
-    ensures rising { OnOk result (IsStrictlyIncreasing (numbers_of numbers.new.items)) }
+    requires rising { IsStrictlyIncreasing (ranked_numbers numbers.old.items) }
+    requires least { (k : ℕ) → k < length numbers.old.items → get_or (ranked_numbers numbers.old.items) k 0 ≤ number }
+    ensures rising { OnOk result (IsStrictlyIncreasing (ranked_numbers numbers.new.items)) }
     ensures kept { OnOk result ((k : ℕ) → k < length numbers.old.items
-        → slice_get (numbers_of numbers.new.items) k ≡ slice_get (numbers_of numbers.old.items) k) }
-    ensures last { OnOk result (slice_get (numbers_of numbers.new.items) (length numbers.new.items - 1) ≡ Some number) }
+        → slice_get (ranked_numbers numbers.new.items) k ≡ slice_get (ranked_numbers numbers.old.items) k) }
+    ensures last { OnOk result (slice_get (ranked_numbers numbers.new.items) (length numbers.new.items - 1) ≡ Some number) }
     ensures more { OnOk result (length numbers.old.items ≤ length numbers.new.items) }
     ensures few { OnOk result (length numbers.new.items ≤ length numbers.old.items + 1) }
     ensures some { OnOk result (0 < length numbers.new.items) }
-    ensures least { OnOk result ((k : ℕ) → k < length numbers.new.items → get_or (numbers_of numbers.new.items) k 0 ≤ number) }
+    ensures least { OnOk result ((k : ℕ) → k < length numbers.new.items → get_or (ranked_numbers numbers.new.items) k 0 ≤ number) }
     ensures from { OnOk result ((k : ℕ) → k < length numbers.new.items
-        → (k < length numbers.old.items) ⊎ (get_or (numbers_of numbers.new.items) k 0 ≡ number)) }
+        → (k < length numbers.old.items) ⊎ (get_or (ranked_numbers numbers.new.items) k 0 ≡ number)) }
 {
     if numbers.last().copied() != Some(VertexId(number)) {
         numbers.push(VertexId(number))?;

@@ -9,13 +9,13 @@ use Rattle.stream_store.specs.Seats.{SeatView, SessionView, held_graph, held_ver
 use Rattle.version_answers.specs.{Numbered.IsNumberedAnswer, Numbered.named, declared.numbered.NumberedReply.NumberedReply}
 use Rattle.script_lines.specs.{Lines.shown_lines, declared.words.Word.Word}
 use Rattle.feed_csv.specs.declared.command.Command.TheVariants.{Rebase}
-use Rattle.script_commands.specs.{Servers.{EndsAt, IsServer, LacksReader, ReopensIn, ShowsServer}, Slots.{IsEarlier, IsSlot}}
+use Rattle.script_commands.specs.{Servers.{EndsAt, IsServer, LacksReader, ReopensIn, ShowsServer}, Slots.{IsEarlier, IsScriptSlot}}
 use Rattle.script_commands.specs.{Slots.held_of, States.{IsReplied, ServerState, ask_word, version, version_in}}
 use Rattle.script_commands.{specs.declared.server.{Server.Server, Stop.Stop}, proofs.{Commands.held_there, NamesApart.AreApart}}
 use Rattle.script_commands.proofs.Replies.{IsAsked, asked_version, replied_err, replied_ok}
 
 earlier_in : (last : VersionView) (slot : ℕ) (seat : Option SeatView) (session : Option SessionView) (s : SessionView)
-    → IsSlot last slot seat session → session ≡ Some s → IsEarlier last (held_version s)
+    → IsScriptSlot last slot seat session → session ≡ Some s → IsEarlier last (held_version s)
 earlier_in last slot None (Some session) s is same =
     subst (λ (o : Option SessionView). HoldsEarlier o) same is.1 where
       HoldsEarlier : Option SessionView → Type 0

@@ -14,13 +14,13 @@ use Rattle.graph_version.specs.{Kept.edge_total, Versions.content, Versions.layo
 use Rattle.store_steps.specs.Desks.{DeskView, IsCollected, AcceptedCounts, CollectedCounts, births_in, is_retired_by}
 use Rattle.store_steps.{specs.{Opening.opened_desk, Steps.Accepts}, proofs.StatusCounts.{accepted_counts, collected_counts}}
 use Rattle.stream_store.specs.Configs.{ConfigView}
-use Rattle.desk.specs.declared.errors.ApplyError.{ApplyError}
+use Rattle.graph_types.specs.declared.refusals.ApplyError.{ApplyError}
 use Rattle.stream_store.specs.Refusals.{Attempt, BatchRefusal, IsAdmissible, IsWithin, Refuses, attempt_on, block_count}
-use Rattle.desk.specs.declared.errors.ApplyError.TheVariants as refused
+use Rattle.graph_types.specs.declared.refusals.ApplyError.TheVariants as refused
 use Rattle.script_lines.specs.Lines.{collect_line, commit_line, stat_line}
-use Rattle.script_commands.specs.{Servers.ShowsDesk, States.{dates, dropped, floor_of, Dates, IsCommandResult, ServerState}}
-use Rattle.script_commands.specs.States.{after_collect, after_commit, attempt, batch_word, beginning, copy_of, last_version}
-use Rattle.script_commands.specs.States.{left_by_pending, recycled, set_up, taken, used}
+use Rattle.script_commands.specs.{Servers.ShowsDesk, States.{dates, blocks_dropped, floor_in, Dates, IsCommandResult, ServerState}}
+use Rattle.script_commands.specs.States.{after_collect, after_commit, attempt, batch_word, beginning, copy_in, last_version}
+use Rattle.script_commands.specs.States.{left_by_pending, recycled_blocks, set_up, blocks_taken, used}
 
 -- Counts
 
@@ -193,7 +193,7 @@ shows_committed s d e ops shows pending accepts =
     let left = left_is d s ops shows pending in
     let counts : AcceptedCounts d accepts.taken accepts.dropped e =
     accepted_counts d e ops accepts.taken accepts.dropped accepted in
-    let takes : length accepts.taken ≡ taken s =
+    let takes : length accepts.taken ≡ blocks_taken s =
     accepted.layout.taken_are ∙ (λ i. taken_by (pending i) (same i) (shows.layout i) (length (left i).names)) in
     let number : length d.last.batches ≡ length s.batches = ap length shows.batches in
     let births : births_in d ≡ s.births = λ i source. shows.births source i in
@@ -209,7 +209,7 @@ shows_committed s d e ops shows pending accepts =
           ∙ ((λ i. shows.retired q i + accepted.births.dropped_are (λ birth. q birth (length d.last.batches + 1)) i)
           ∙ ((λ i. count_by (λ (x : Dates). q x.birth x.retirement) s.retired + count_by (λ birth. q birth (number i + 1))
           (dropped_births (pending i) (same i) (shows.layout i) (births i) (length (left i).names)))
-          ∙ sym (dated_counts q s.retired (dropped s) (length s.batches + 1))));
+          ∙ sym (dated_counts q s.retired (blocks_dropped s) (length s.batches + 1))));
     }
 
 pub commit_refused : (s : ServerState) (d : DeskView) (ops : List NamedOp) (error : ApplyError) → ShowsDesk d s → ops ≡ s.pending
@@ -232,15 +232,15 @@ shows_given_up s d shows = record {
 
 -- A collection
 
-past_is : (s : ServerState) (d : DeskView) (copy : PinCopy) → ShowsDesk d s → copy ≡ copy_of s
-    → count_by (is_reclaimable copy) d.pool ≡ recycled s
+past_is : (s : ServerState) (d : DeskView) (copy : PinCopy) → ShowsDesk d s → copy ≡ copy_in s
+    → count_by (is_reclaimable copy) d.pool ≡ recycled_blocks s
 past_is s d copy shows same =
     same_counts (is_reclaimable copy) (is_retired_by (λ birth retirement. not (needs copy birth retirement))) (past_any copy) d.pool
     ∙ (shows.retired (λ birth retirement. not (needs copy birth retirement))
     ∙ ap (λ k. count_by (λ (x : Dates). not (needs k x.birth x.retirement)) s.retired) same)
 
 pub shows_collected : (s : ServerState) (d e : DeskView) (copy : PinCopy) → ShowsDesk d s → IsCollected d copy e
-    → ((source : ℕ) → births_in e source ≡ births_in d source) → copy ≡ copy_of s → ShowsDesk e (after_collect s)
+    → ((source : ℕ) → births_in e source ≡ births_in d source) → copy ≡ copy_in s → ShowsDesk e (after_collect s)
 shows_collected s d e copy shows collected births same =
     let counts : CollectedCounts d copy e = collected_counts d e copy collected in
     record {
@@ -253,16 +253,16 @@ shows_collected s d e copy shows collected births same =
       retired = λ q. counts.retired_by q
           ∙ (shows.retired (λ birth retirement. needs copy birth retirement && q birth retirement)
           ∙ (ap (λ k. count_by (λ (x : Dates). needs k x.birth x.retirement && q x.birth x.retirement) s.retired) same
-          ∙ count_filter (λ (x : Dates). needs (copy_of s) x.birth x.retirement) (λ (x : Dates). q x.birth x.retirement) s.retired));
+          ∙ count_filter (λ (x : Dates). needs (copy_in s) x.birth x.retirement) (λ (x : Dates). q x.birth x.retirement) s.retired));
     }
 
 pub collect_done : (s : ServerState) (d e : DeskView) (copy : PinCopy) (floor count left : ℕ) (lines : List ℕ) → ShowsDesk d s
-    → IsCollected d copy e → ((source : ℕ) → births_in e source ≡ births_in d source) → copy ≡ copy_of s → floor ≡ copies.floor_of copy
+    → IsCollected d copy e → ((source : ℕ) → births_in e source ≡ births_in d source) → copy ≡ copy_in s → floor ≡ copies.floor_of copy
     → count ≡ count_by (is_reclaimable copy) d.pool → left ≡ count_by is_retired e.pool
     → lines ≡ collect_line floor count left → IsCommandResult Collect s (Ok lines)
 collect_done s d e copy floor count left lines shows collected births same floor_are count_is left_is lines_are =
-    let low : floor ≡ floor_of s = floor_are ∙ ap copies.floor_of same in
-    let gone : count ≡ recycled s = count_is ∙ past_is s d copy shows same in
+    let low : floor ≡ floor_in s = floor_are ∙ ap copies.floor_of same in
+    let gone : count ≡ recycled_blocks s = count_is ∙ past_is s d copy shows same in
     let stay : left ≡ length (after_collect s).retired =
     left_is ∙ all_retired e (after_collect s) (shows_collected s d e copy shows collected births same) in
     rw (lines_are, low, gone, stay) refl

@@ -19,8 +19,8 @@ use Rattle.store_steps.specs.Steps.{Accepts, IsTaken, TakesAt, past_numbers, pos
 use Rattle.store_steps.proofs.{BoardSteps.shows_floored, BoardSteps.shows_sessions, Reached.same_count}
 use Rattle.store_steps.proofs.Questions.{question_done, question_replies, silent_posting, silent_recycling, then_done}
 use Rattle.stream_store.specs.{Kept.DeskState, Seats.{SessionView, held_graph, held_version}}
-use Rattle.script_commands.specs.Machine.{AddsReplies, AreEventsOf, Continues, IsReplyTo, ShowsMachine, asking, held_at, session_for}
-use Rattle.script_commands.specs.{Servers.{IsServer, pending_of}, Slots.{IsPinned, held_by, held_in, held_of}}
+use Rattle.script_commands.specs.Machine.{AddsReplies, AreEventsOf, ContinuesMachine, IsReplyTo, ShowsMachine, asking, held_at, session_for}
+use Rattle.script_commands.specs.{Servers.{IsServer, pending_of}, Slots.{IsPinnedBySlots, held_by, held_slots, held_of}}
 use Rattle.script_commands.specs.States.{Held, IsReplied, RecordResult, ServerState, answer_result, holding, pins_of, version, version_in}
 use Rattle.script_commands.specs.declared.{server.Server.Server, slots.Slots.Slots}
 use Rattle.script_commands.proofs.{Asking.{asked_there, held_earlier}, Commands.held_there, Replies.{replied_err, replied_ok}}
@@ -45,8 +45,8 @@ pin_of_slot [] slot = refl
 pin_of_slot (s ∷ sessions) zero = pin_for (held_by s)
 pin_of_slot (s ∷ sessions) (suc slot) = pin_of_slot sessions slot
 
-pub board_shown : (last : ℕ) (slots : Slots) (w : World) → IsPinned last slots.board slots.sessions.items → w.floor ≡ slots.board.floor
-    → w.sessions ≡ map session_for (held_in slots) → ShowsBoard slots.board w
+pub board_shown : (last : ℕ) (slots : Slots) (w : World) → IsPinnedBySlots last slots.board slots.sessions.items → w.floor ≡ slots.board.floor
+    → w.sessions ≡ map session_for (held_slots slots) → ShowsBoard slots.board w
 board_shown last slots w pinned floor sessions = record {
   floor = floor;
   pins = λ slot. ap (λ xs. seat_pin (get_or xs slot Idle)) sessions ∙ (pin_of_slot slots.sessions.items slot ∙ sym (pinned.pins slot));
@@ -58,9 +58,9 @@ pins_for [] = refl
 pins_for (h ∷ held) = λ i. pin_for h i ∷ pins_for held i
 
 copy_shown : (server : Server) (w : World) → ShowsMachine server w
-    → present_copy w ≡ copy_of (length server.desk.desk.last.batches) (pins_of (held_in server.slots))
+    → present_copy w ≡ copy_of (length server.desk.desk.last.batches) (pins_of (held_slots server.slots))
 copy_shown server w shows =
-    let held = held_in server.slots in
+    let held = held_slots server.slots in
     let many : length w.sessions ≡ length held = ap length shows.sessions ∙ length-map held session_for in
     λ i. copy_of (same_count server.desk.desk w shows.desk i)
     ((ap (map seat_pin) shows.sessions ∙ pins_for held) i ++ replicate (SEATS - many i) None)
@@ -69,7 +69,7 @@ copy_shown server w shows =
 
 pub nothing_moves : (command : Command) (old new : Server) (outcome : RecordResult) (here : MachineState)
     → AreEventsOf command old outcome new here.world [] → AddsReplies command old outcome here.world here.replies here.replies
-    → new.desk ≡ old.desk → new.slots ≡ old.slots → ShowsMachine old here.world → Continues command old outcome new here
+    → new.desk ≡ old.desk → new.slots ≡ old.slots → ShowsMachine old here.world → ContinuesMachine command old outcome new here
 nothing_moves command old new outcome here none told desk slots shows = record {
   events = [];
   there = here;
@@ -80,7 +80,7 @@ nothing_moves command old new outcome here none told desk slots shows = record {
   shown = record {
     desk = subst (λ (d : DeskState). ShowsWorld d.desk here.world) (sym desk) shows.desk;
     board = subst (λ (s : Slots). ShowsBoard s.board here.world) (sym slots) shows.board;
-    sessions = shows.sessions ∙ ap (λ s. map session_for (held_in s)) (sym slots);
+    sessions = shows.sessions ∙ ap (λ s. map session_for (held_slots s)) (sym slots);
   };
 }
 
@@ -88,14 +88,14 @@ nothing_moves command old new outcome here none told desk slots shows = record {
 
 pub commit_moves : (old new : Server) (batch : List NamedOp) (lines : List ℕ) (here : MachineState) → new.slots ≡ old.slots
     → batch ≡ pending_of old → Accepts old.desk.desk batch new.desk.desk → ShowsMachine old here.world
-    → Continues Commit old (Ok lines) new here
+    → ContinuesMachine Commit old (Ok lines) new here
 commit_moves old new batch lines here slots same accepts shows =
     let a : Accepts old.desk.desk (pending_of old) new.desk.desk =
     subst (λ ops. Accepts old.desk.desk ops new.desk.desk) same accepts in
     let events : List Event = posting new.desk.desk.last (pending_of old) a.taken in
     let t : IsTaken here.world events new.desk.desk = a.steps here.world shows.desk in
-    let sessions : t.after.sessions ≡ map session_for (held_in new.slots) =
-    t.sessions ∙ (shows.sessions ∙ ap (λ s. map session_for (held_in s)) (sym slots)) in
+    let sessions : t.after.sessions ≡ map session_for (held_slots new.slots) =
+    t.sessions ∙ (shows.sessions ∙ ap (λ s. map session_for (held_slots s)) (sym slots)) in
     record {
       events = events;
       there = record { world = t.after; replies = here.replies };
@@ -117,21 +117,21 @@ commit_moves old new batch lines here slots same accepts shows =
 -- A slot that opens or closes
 
 found : (old : Server) (w : World) (slot : ℕ) (held : Option Held) → ShowsMachine old w
-    → slice_get (held_in old.slots) slot ≡ Some held → slice_get w.sessions slot ≡ Some (session_for held)
+    → slice_get (held_slots old.slots) slot ≡ Some held → slice_get w.sessions slot ≡ Some (session_for held)
 found old w slot held shows is =
     ap (λ xs. slice_get xs slot) shows.sessions
-    ∙ (slice_get-map session_for (held_in old.slots) slot ∙ ap (option_map session_for) is)
+    ∙ (slice_get-map session_for (held_slots old.slots) slot ∙ ap (option_map session_for) is)
 
 -- the world with that slot's session changed is shown
 slot_shown : (old new : Server) (w : World) (slot last : ℕ) (held : Option Held) → ShowsMachine old w → new.desk ≡ old.desk
-    → IsPinned last new.slots.board new.slots.sessions.items → new.slots.board.floor ≡ old.slots.board.floor
-    → held_in new.slots ≡ set (held_in old.slots) slot held
+    → IsPinnedBySlots last new.slots.board new.slots.sessions.items → new.slots.board.floor ≡ old.slots.board.floor
+    → held_slots new.slots ≡ set (held_slots old.slots) slot held
     → ShowsMachine new (with_sessions w (set w.sessions slot (session_for held)))
 slot_shown old new w slot last held shows desk pinned floor holds =
     let next : World = with_sessions w (set w.sessions slot (session_for held)) in
-    let sessions : next.sessions ≡ map session_for (held_in new.slots) =
+    let sessions : next.sessions ≡ map session_for (held_slots new.slots) =
     ap (λ xs. set xs slot (session_for held)) shows.sessions
-    ∙ (sym (map-set session_for (held_in old.slots) slot held) ∙ ap (map session_for) (sym holds)) in
+    ∙ (sym (map-set session_for (held_slots old.slots) slot held) ∙ ap (map session_for) (sym holds)) in
     record {
       desk = subst (λ (d : DeskView). ShowsWorld d next) (ap (λ d. d.desk) (sym desk))
           (shows_sessions old.desk.desk w (set w.sessions slot (session_for held)) shows.desk);
@@ -140,10 +140,10 @@ slot_shown old new w slot last held shows desk pinned floor holds =
     }
 
 pub open_moves : (old new : Server) (slot last : ℕ) (held : Held) (lines : List ℕ) (here : MachineState) → new.desk ≡ old.desk
-    → IsPinned last new.slots.board new.slots.sessions.items → new.slots.board.floor ≡ old.slots.board.floor
-    → held.number ≡ length old.desk.desk.last.batches → slice_get (held_in old.slots) slot ≡ Some None
-    → held_in new.slots ≡ set (held_in old.slots) slot (Some held) → ShowsMachine old here.world
-    → Continues (OpenSlot slot) old (Ok lines) new here
+    → IsPinnedBySlots last new.slots.board new.slots.sessions.items → new.slots.board.floor ≡ old.slots.board.floor
+    → held.number ≡ length old.desk.desk.last.batches → slice_get (held_slots old.slots) slot ≡ Some None
+    → held_slots new.slots ≡ set (held_slots old.slots) slot (Some held) → ShowsMachine old here.world
+    → ContinuesMachine (OpenSlot slot) old (Ok lines) new here
 open_moves old new slot last held lines here desk pinned floor number free holds shows =
     let w = here.world in
     let is : last_number w ≡ held.number = same_count old.desk.desk w shows.desk ∙ sym number in
@@ -162,9 +162,9 @@ open_moves old new slot last held lines here desk pinned floor number free holds
     }
 
 pub close_moves : (old new : Server) (slot last : ℕ) (held : Held) (lines : List ℕ) (here : MachineState) → new.desk ≡ old.desk
-    → IsPinned last new.slots.board new.slots.sessions.items → new.slots.board.floor ≡ old.slots.board.floor
-    → slice_get (held_in old.slots) slot ≡ Some (Some held) → held_in new.slots ≡ set (held_in old.slots) slot None
-    → ShowsMachine old here.world → Continues (CloseSlot slot) old (Ok lines) new here
+    → IsPinnedBySlots last new.slots.board new.slots.sessions.items → new.slots.board.floor ≡ old.slots.board.floor
+    → slice_get (held_slots old.slots) slot ≡ Some (Some held) → held_slots new.slots ≡ set (held_slots old.slots) slot None
+    → ShowsMachine old here.world → ContinuesMachine (CloseSlot slot) old (Ok lines) new here
 close_moves old new slot last held lines here desk pinned floor there holds shows =
     let w = here.world in
     let hold : Hold = record { pin = held.number; settled = true; version = held.number } in
@@ -181,18 +181,18 @@ close_moves old new slot last held lines here desk pinned floor there holds show
 -- A collection
 
 pub collect_moves : (old new : Server) (copy : PinCopy) (last : ℕ) (lines : List ℕ) (here : MachineState)
-    → IsPinned last new.slots.board new.slots.sessions.items → new.slots.board.floor ≡ floor_of copy
-    → held_in new.slots ≡ held_in old.slots
-    → copy ≡ copy_of (length old.desk.desk.last.batches) (pins_of (held_in old.slots))
+    → IsPinnedBySlots last new.slots.board new.slots.sessions.items → new.slots.board.floor ≡ floor_of copy
+    → held_slots new.slots ≡ held_slots old.slots
+    → copy ≡ copy_of (length old.desk.desk.last.batches) (pins_of (held_slots old.slots))
     → TakesAt copy old.desk.desk (recycling copy old.desk.desk.pool) new.desk.desk → ShowsMachine old here.world
-    → Continues Collect old (Ok lines) new here
+    → ContinuesMachine Collect old (Ok lines) new here
 collect_moves old new copy last lines here pinned floor holds same takes shows =
     let w = here.world in
     let made : present_copy w ≡ copy = copy_shown old w shows ∙ sym same in
     let events : List Event = recycling copy old.desk.desk.pool in
     let t : IsTaken (floored w) events new.desk.desk =
     (takes (floored w) (shows_floored old.desk.desk w shows.desk) made).0 in
-    let sessions : t.after.sessions ≡ map session_for (held_in new.slots) =
+    let sessions : t.after.sessions ≡ map session_for (held_slots new.slots) =
     t.sessions ∙ (shows.sessions ∙ ap (map session_for) (sym holds)) in
     record {
       events = Floor ∷ events;
@@ -216,7 +216,7 @@ versions_of server = record {
   opening = server.desk.desk.last.opening;
   pending = [];
   batches = server.desk.desk.last.batches;
-  held = held_in server.slots;
+  held = held_slots server.slots;
   layout = λ source. [];
   births = λ source. [];
   blocks = 0;
@@ -241,9 +241,9 @@ world_sound : (start here : MachineState) (events : List Event) → IsStart star
 world_sound start here events is runs = subst IsSound (sym runs.world) (always_sound start events is)
 
 pub question_moves : (server : Server) (slot : ℕ) (request : Request) (held : Held) (outcome : RecordResult)
-    (start here : MachineState) (events : List Event) → slice_get (held_in server.slots) slot ≡ Some (Some held)
+    (start here : MachineState) (events : List Event) → slice_get (held_slots server.slots) slot ≡ Some (Some held)
     → IsReplied slot request (versions_of server) (Ok held) outcome → IsStart start → Runs start events here
-    → ShowsMachine server here.world → Continues (Query slot request) server outcome server here
+    → ShowsMachine server here.world → ContinuesMachine (Query slot request) server outcome server here
 question_moves server slot request held outcome start here events there is is_start runs shows =
     let w = here.world in
     let hold : Hold = record { pin = held.number; settled = true; version = held.number } in
@@ -276,7 +276,7 @@ pub told_ok : (server : Server) (slot : ℕ) (request : Request) (s : SessionVie
     → lines ≡ shown_lines slot (named (held_graph s).names reply)
     → IsReplied slot request (versions_of server) (Ok (held_of (held_version s))) (Ok lines)
 told_ok server slot request s reply lines is there answer shown =
-    let held : version_in (slice_get (held_in server.slots) slot) ≡ Ok (held_of (held_version s)) =
+    let held : version_in (slice_get (held_slots server.slots) slot) ≡ Ok (held_of (held_version s)) =
     ap version_in (held_there server.slots.sessions.items slot s there) in
     subst (λ o. IsReplied slot request (versions_of server) o (Ok lines)) held
     (replied_ok slot request (versions_of server) (held_graph s) (held_of (held_version s)) reply lines held
@@ -289,7 +289,7 @@ pub told_err : (server : Server) (slot : ℕ) (request : Request) (s : SessionVi
     → error ≢ ask.OutOfMemory → word ≡ ask_word error
     → IsReplied slot request (versions_of server) (Ok (held_of (held_version s))) (Err word)
 told_err server slot request s error word is there answer known is_word =
-    let held : version_in (slice_get (held_in server.slots) slot) ≡ Ok (held_of (held_version s)) =
+    let held : version_in (slice_get (held_slots server.slots) slot) ≡ Ok (held_of (held_version s)) =
     ap version_in (held_there server.slots.sessions.items slot s there) in
     subst (λ o. IsReplied slot request (versions_of server) o (Err word)) held
     (replied_err slot request (versions_of server) (held_graph s) (held_of (held_version s)) error word held
@@ -298,7 +298,7 @@ told_err server slot request s error word is there answer known is_word =
 -- a question to a slot that holds nothing
 pub unheld_moves : (server : Server) (slot : ℕ) (request : Request) (word : Word) (here : MachineState)
     → held_at server slot ≡ Err word → ShowsMachine server here.world
-    → Continues (Query slot request) server (Err word) server here
+    → ContinuesMachine (Query slot request) server (Err word) server here
 unheld_moves server slot request word here none shows =
     nothing_moves (Query slot request) server server (Err word) here (ap (asking here.world slot request) (sym none))
     (subst (λ o. IsReplyTo slot request here.world o (Err word) here.replies here.replies) (sym none) refl) refl refl shows

@@ -4,7 +4,7 @@ use Rattle.std.proofs.Common.{map, get_or, bytes_eq, fold, zip, count_by, arith,
 use Rattle.std.proofs.lemmas.{Bool.{cases_lt, false≢true}, Option.slice_get-get_or, Slice.Eq.bytes_eq-Decides, List.length-append}
 use Rattle.std.proofs.{lemmas.List.{Folds.list_any-append, Sums.sum_by-cons}, Math.Nat.eq-or-lt_of_le}
 use Rattle.std.specs.{Prelude.◌⊎◌, Prelude.AllPairs, List.list_any, List.range_with_len}
-use Rattle.graph_types.specs.{Analyses.{AreLabels, IsLabel, Joins}, Answer.names_of, Graph.Graph, Step.with_name}
+use Rattle.graph_types.specs.{Analyses.{AreLabels, IsLabel, Joins}, Answer.names_of_vertices, Graph.Graph, Step.with_name}
 use Rattle.graph_types.{specs.declared.ids.Filter.Filter, proofs.{NameLists.{appears-with_name, stays-with_name}, Walks.joined}}
 use Rattle.script_lines.specs.Lines.{count_different}
 
@@ -137,8 +137,8 @@ own_label f g v u w of_v of_u =
 
 -- of the labels of all vertices, as many are different as vertices are their own label
 pub own_labels : (f : Filter) (g : Graph) (labels : List ℕ) → AllPairs (λ a b. a ≢ b) g.names → AreLabels f g labels
-    → count_by (λ entry. bytes_eq entry.0 entry.1) (zip g.names (names_of g.names labels))
-    ≡ count_different (map (λ entry. entry.1) (zip g.names (names_of g.names labels)))
+    → count_by (λ entry. bytes_eq entry.0 entry.1) (zip g.names (names_of_vertices g.names labels))
+    ≡ count_different (map (λ entry. entry.1) (zip g.names (names_of_vertices g.names labels)))
 own_labels f g labels distinct table =
     rw (rows_from label name 0 g.names labels table.one_each (λ k j is below. ap name (place k j is))
     (λ k j is below. ap label (place k j is)))

@@ -14,7 +14,7 @@ use Rattle.store_steps.specs.{Desks.DeskView, Desks.IsDesk, Desks.birth_at, Desk
 use Rattle.stream_store.specs.Refusals.{block_count}
 use Rattle.script_commands.proofs.{DeskLaws.length-replicate, DeskLaws.none_counted, DeskLaws.parts, HeldBlocks.blocks_counted}
 use Rattle.script_commands.specs.{Servers.ShowsDesk, Slots.held_of}
-use Rattle.script_commands.specs.States.{IsCommandResult, ServerState, after_rebase, version, version_in, blocks_of as held_blocks}
+use Rattle.script_commands.specs.States.{IsCommandResult, ServerState, after_rebase, version, version_in, held_block_count as held_blocks}
 
 -- The pool
 

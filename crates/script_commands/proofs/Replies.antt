@@ -1,10 +1,10 @@
 -- The lines of a reply, from what the reply says.
 use Rattle.std.proofs.Common.{◌≡◌, ◌≢◌, ℕ, List, refl, ◌∙◌, ap, inl, inr}
 use Rattle.std.specs.{Prelude.AllPairs, Prelude.Result, Prelude.Ok, Prelude.Err, Prelude.◌⊎◌, Prelude.slice_get, List.zip}
-use Rattle.graph_types.specs.{Answer.{IsAnswer, IsReply, resolved, degree_table, names_of}, Graph.Graph}
+use Rattle.graph_types.specs.{Answer.{IsAnswer, IsReply, resolved_filter, degree_table, names_of_vertices}, Graph.Graph}
 use Rattle.graph_types.specs.declared.requests.{Request.Request, Reply.Reply, AskError.AskError}
 use Rattle.graph_version.specs.Versions.{IsVersion, VersionView, content}
-use Rattle.edge_block.specs.Batches.{IsWithin}
+use Rattle.edge_block.specs.Batches.{HasEndsWithin}
 use Rattle.graph_types.specs.declared.requests.Request.TheVariants as request
 use Rattle.graph_types.specs.declared.requests.AskError.TheVariants as ask
 use Rattle.version_answers.specs.{Numbered.{IsNumberedAnswer, named}, declared.numbered.NumberedReply.NumberedReply}
@@ -16,7 +16,7 @@ use Rattle.script_commands.specs.States.{Held, IsReplied, ServerState, ask_word,
 -- a graph whose names differ, and whose edges join its vertices
 pub record IsAsked (g : Graph) : Type 0 where
   pub names_distinct : AllPairs (λ a b. a ≢ b) g.names
-  pub within : IsWithin g
+  pub within : HasEndsWithin g
 
 pub asked_version : (v : VersionView) → IsVersion v → AreApart v.opening.names → IsAsked (content v)
 asked_version v version opening = record {
@@ -28,13 +28,13 @@ pub shown_lines-reply : (slot : ℕ) (request : Request) (g : Graph) (reply : Re
     → IsReply request g reply → shown_lines slot reply ≡ reply_lines slot request g reply
 shown_lines-reply slot (request.Levels source filter) g reply valid is = rw is.2 refl
 shown_lines-reply slot (request.Labels filter) g reply valid is =
-    let table = zip g.names (names_of g.names is.0) in
-    let parts = own_labels (resolved g filter) g is.0 valid.names_distinct is.1 in
+    let table = zip g.names (names_of_vertices g.names is.0) in
+    let parts = own_labels (resolved_filter g filter) g is.0 valid.names_distinct is.1 in
     rw is.2 (ap (λ n. label_lines slot n table) parts)
 shown_lines-reply slot (request.Cores filter) g reply valid is = rw is.2 refl
 shown_lines-reply slot (request.Degrees filter) g reply valid is =
-    let table = zip g.names (degree_table (resolved g filter) g) in
-    rw is (ap (λ n. degree_lines slot n table) (edges_in_view (resolved g filter) g valid.within))
+    let table = zip g.names (degree_table (resolved_filter g filter) g) in
+    rw is (ap (λ n. degree_lines slot n table) (edges_in_view (resolved_filter g filter) g valid.within))
 shown_lines-reply slot (request.OneEdge kind source target) g reply valid is = rw is refl
 
 -- a result that isn't want of memory is an answer

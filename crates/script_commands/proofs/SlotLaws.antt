@@ -11,8 +11,8 @@ use Rattle.graph_types.specs.declared.batches.NamedOp.{NamedOp}
 use Rattle.graph_version.specs.Versions.{IsVersion, VersionView}
 use Rattle.block_reclamation.specs.{Board.{BoardState, no_pins, with_pin}, Copies.{copy_of, pin_at}, declared.copies.Pin.Pin}
 use Rattle.block_reclamation.specs.declared.copies.TheConstants.{SEATS}
-use Rattle.stream_store.specs.Seats.{SeatView, SessionView, held_version, lent_to, seat_of}
-use Rattle.script_commands.specs.{Slots.{AreSlots, IsEarlier, IsPinned, IsSlot, held_by, held_of}, States.{holding, pins_of}}
+use Rattle.stream_store.specs.Seats.{SeatView, SessionView, held_version, session_lent, seat_of}
+use Rattle.script_commands.specs.{Slots.{AreSlots, IsEarlier, IsPinnedBySlots, IsScriptSlot, held_by, held_of}, States.{holding, pins_of}}
 
 same_or_not : (a b : ℕ) → (a ≡ b) ⊎ (a ≢ b)
 same_or_not a b = elim (a == b) as (λ t. (a == b) ≡ t → (a ≡ b) ⊎ (a ≢ b)) [
@@ -35,7 +35,7 @@ some_seat [] slot below = absurd (omega arith)
 some_seat (seat ∷ seats) slot below = seat
 
 free_slot : (last : VersionView) (slot : ℕ) (seat : Option SeatView) (session : Option SessionView) (s : SeatView) → seat ≡ Some s
-    → session ≡ None → s.number ≡ slot → IsSlot last slot seat session
+    → session ≡ None → s.number ≡ slot → IsScriptSlot last slot seat session
 free_slot last slot (Some seat) None s is none number = ap (λ (o : Option SeatView). number_or slot o) is ∙ number where
   number_or : ℕ → Option SeatView → ℕ
   number_or d None = d
@@ -76,7 +76,7 @@ slots_first last board seats free sessions new few numbers are_free are_none = r
       ≡ option_map holding (held_by (get_or (replicate (length seats) None) slot None))
   none_at slot = rw (none_or {X = Pin} SEATS slot, none_or {X = SessionView} (length seats) slot) refl
 
-  one : (slot : ℕ) → slot < length seats → IsSlot last slot (get_or free slot None) (get_or sessions slot None)
+  one : (slot : ℕ) → slot < length seats → IsScriptSlot last slot (get_or free slot None) (get_or sessions slot None)
   one slot below =
       let d = some_seat seats slot below in
       free_slot last slot (get_or free slot None) (get_or sessions slot None) (get_or seats slot d)
@@ -87,13 +87,13 @@ slots_first last board seats free sessions new few numbers are_free are_none = r
 -- A slot that changes
 
 seat_number : (last : VersionView) (slot : ℕ) (seat : Option SeatView) (session : Option SessionView) (s : SeatView)
-    → IsSlot last slot seat session → seat ≡ Some s → s.number ≡ slot
+    → IsScriptSlot last slot seat session → seat ≡ Some s → s.number ≡ slot
 seat_number last slot (Some seat) None s is same = subst (λ (o : Option SeatView). IfSome o (λ x. x.number ≡ slot)) same is
 seat_number last slot (Some seat) (Some session) s is same = absurd is
 seat_number last slot None session s is same = cc
 
 session_number : (last : VersionView) (slot : ℕ) (seat : Option SeatView) (session : Option SessionView) (s : SessionView)
-    → IsSlot last slot seat session → session ≡ Some s → s.number ≡ slot
+    → IsScriptSlot last slot seat session → session ≡ Some s → s.number ≡ slot
 session_number last slot None (Some session) s is same =
     subst (λ (o : Option SessionView). IfSome o (λ x. x.number ≡ slot)) same is.0
 session_number last slot (Some seat) (Some session) s is same = absurd is
@@ -101,9 +101,9 @@ session_number last slot seat None s is same = cc
 
 -- the pins with that slot's pin and session changed
 pinned_set : (last : ℕ) (board : BoardState) (sessions : List (Option SessionView)) (slot : ℕ) (pin : Option Pin)
-    (session : Option SessionView) → IsPinned last board sessions → slot < length sessions → length sessions ≤ SEATS
+    (session : Option SessionView) → IsPinnedBySlots last board sessions → slot < length sessions → length sessions ≤ SEATS
     → pin ≡ option_map holding (held_by session)
-    → IsPinned last (with_pin board slot pin) (set sessions slot session)
+    → IsPinnedBySlots last (with_pin board slot pin) (set sessions slot session)
 pinned_set last board sessions slot pin session pinned below few same = record {
   seats = length-set board.pins slot pin ∙ pinned.seats;
   pins = λ other. elim (same_or_not other slot) [
@@ -118,7 +118,7 @@ pinned_set last board sessions slot pin session pinned below few same = record {
 
 slots_set : (last : VersionView) (board : BoardState) (seats : List (Option SeatView)) (sessions : List (Option SessionView))
     (slot : ℕ) (pin : Option Pin) (seat : Option SeatView) (session : Option SessionView) → AreSlots last board seats sessions
-    → slot < length sessions → IsSlot last slot seat session → pin ≡ option_map holding (held_by session)
+    → slot < length sessions → IsScriptSlot last slot seat session → pin ≡ option_map holding (held_by session)
     → AreSlots last (with_pin board slot pin) (set seats slot seat) (set sessions slot session)
 slots_set last board seats sessions slot pin seat session slots below is same = record {
   same_length = length-set seats slot seat ∙ (slots.same_length ∙ sym (length-set sessions slot session));
@@ -146,7 +146,7 @@ earlier_last last version = record {
 pub slots_acquired : (last : VersionView) (board new : BoardState) (seats : List (Option SeatView))
     (sessions : List (Option SessionView)) (slot : ℕ) (seat : SeatView) (session : SessionView)
     → AreSlots last board seats sessions → IsVersion last → slice_get sessions slot ≡ Some None
-    → get_or seats slot None ≡ Some seat → session ≡ lent_to seat last
+    → get_or seats slot None ≡ Some seat → session ≡ session_lent seat last
     → new ≡ with_pin board seat.number (Some (record { number = max board.floor (length last.batches); is_settled = true }))
     → AreSlots last new (set seats slot None) (set sessions slot (Some session))
 slots_acquired last board new seats sessions slot seat session slots version free there lent pinned =
@@ -156,7 +156,7 @@ slots_acquired last board new seats sessions slot seat session slots version fre
     let most : max board.floor (length last.batches) ≡ length last.batches = max-eq_right slots.pinned.floor in
     rw (pinned, number, lent, most)
     (slots_set last board seats sessions slot (Some (record { number = length last.batches; is_settled = true })) None
-    (Some (lent_to seat last)) slots below (number, earlier_last last version) refl)
+    (Some (session_lent seat last)) slots below (number, earlier_last last version) refl)
 
 pub slots_released : (last : VersionView) (board new : BoardState) (seats : List (Option SeatView))
     (sessions : List (Option SessionView)) (slot : ℕ) (seat : SeatView) (session : SessionView)
@@ -183,8 +183,8 @@ earlier_more last new v batch opening batches earlier = record {
 }
 
 slot_more : (last new : VersionView) (batch : List NamedOp) (slot : ℕ) (seat : Option SeatView) (session : Option SessionView)
-    → new.opening ≡ last.opening → new.batches ≡ last.batches ++ batch ∷ [] → IsSlot last slot seat session
-    → IsSlot new slot seat session
+    → new.opening ≡ last.opening → new.batches ≡ last.batches ++ batch ∷ [] → IsScriptSlot last slot seat session
+    → IsScriptSlot new slot seat session
 slot_more last new batch slot (Some seat) None opening batches is = is
 slot_more last new batch slot (Some seat) (Some session) opening batches is = is
 slot_more last new batch slot None None opening batches is = is
@@ -222,7 +222,7 @@ pins_are (p ∷ pins) (s ∷ sessions) free long same =
     ap₂ (λ x xs. x ∷ xs) (same 0) (pins_are pins sessions free (omega arith) (λ slot. same (suc slot)))
 
 -- the board's copy is that of the held versions
-pub copy_is : (last number : ℕ) (board : BoardState) (sessions : List (Option SessionView)) → IsPinned last board sessions
+pub copy_is : (last number : ℕ) (board : BoardState) (sessions : List (Option SessionView)) → IsPinnedBySlots last board sessions
     → length sessions ≤ SEATS → copy_of number board.pins ≡ copy_of number (pins_of (map held_by sessions))
 copy_is last number board sessions pinned few =
     let many : length (map held_by sessions) ≡ length sessions = length-map sessions held_by in
@@ -259,9 +259,9 @@ slots_back last board now seats sessions slot taken seat back are at same unchan
     (subst (λ (ss : List (Option SeatView)). AreSlots last board ss sessions) (sym put) are)
 
 pub held_acquired : (sessions : List (Option SessionView)) (slot : ℕ) (seat : SeatView) (session : SessionView)
-    (last : VersionView) → session ≡ lent_to seat last
+    (last : VersionView) → session ≡ session_lent seat last
     → map held_by (set sessions slot (Some session)) ≡ set (map held_by sessions) slot (Some (held_of last))
-held_acquired sessions slot seat session last lent = rw lent (map-set held_by sessions slot (Some (lent_to seat last)))
+held_acquired sessions slot seat session last lent = rw lent (map-set held_by sessions slot (Some (session_lent seat last)))
 
 pub held_released : (sessions : List (Option SessionView)) (slot : ℕ)
     → map held_by (set sessions slot None) ≡ set (map held_by sessions) slot None

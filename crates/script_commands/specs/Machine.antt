@@ -4,14 +4,14 @@ use Rattle.std.specs.Prelude.{Option, None, Some, true}
 use Rattle.block_reclamation.specs.Copies as copies
 use Rattle.epoch_core.specs.declared.events.Event.{Event, TheVariants.{Floor, Pin, Enter, Settle, Ask, Read, Reply, Release}}
 use Rattle.epoch_core.specs.declared.session_states.SessionState.{SessionState, TheVariants.{Idle, Holding}}
-use Rattle.epoch_core.specs.{Runs.{AllReplies, Runs}, Versions.{blocks_at, graph_at, opening_graph}}
+use Rattle.epoch_core.specs.{Runs.{AllReplies, Runs}, Versions.{blocks_at, graph_at, graph_of_opening}}
 use Rattle.epoch_core.specs.Worlds.{Answer, IsStart, MachineState, World, start_in}
 use Rattle.feed_csv.specs.declared.command.Command.{Command, TheVariants.{Commit, OpenSlot, CloseSlot, Query, Collect, Rebase}}
 use Rattle.graph_types.specs.declared.requests.Request.{Request}
 use Rattle.script_lines.specs.declared.words.Word.{Word}
 use Rattle.store_steps.specs.{Boards.ShowsBoard, Shown.ShowsWorld, Steps.{all_done, posting, recycling}}
 use Rattle.stream_store.specs.Configs.{ConfigView}
-use Rattle.script_commands.specs.{Servers.{pending_of, result_of}, Slots.held_in, declared.server.{Server.Server, Response.Response}}
+use Rattle.script_commands.specs.{Servers.{pending_of, result_of}, Slots.held_slots, declared.server.{Server.Server, Response.Response}}
 use Rattle.script_commands.specs.States.{Held, RecordResult, answer_result, pins_of, version_in}
 
 -- between two commands the session of a slot is idle, or it holds the slot's version and has told its number
@@ -23,11 +23,11 @@ session_for (Some held) = Holding (record { pin = held.number; settled = true; v
 pub record ShowsMachine (server : Server) (w : World) : Type 0 where
   pub desk : ShowsWorld server.desk.desk w
   pub board : ShowsBoard server.slots.board w
-  pub sessions : w.sessions ≡ map session_for (held_in server.slots)
+  pub sessions : w.sessions ≡ map session_for (held_slots server.slots)
 
 -- the version that a slot holds
 abbrev pub held_at : Server → ℕ → Result Held Word
-held_at server slot = version_in (slice_get (held_in server.slots) slot)
+held_at server slot = version_in (slice_get (held_slots server.slots) slot)
 
 -- The events
 
@@ -38,9 +38,9 @@ asking w slot request (Ok held) =
 asking w slot request (Err word) = []
 
 -- a collection: Floor, and Recycle of each block that the copy of the pins doesn't need
-abbrev pub collecting : Server → List Event
-collecting server =
-    Floor ∷ recycling (copies.copy_of (length server.desk.desk.last.batches) (pins_of (held_in server.slots))) server.desk.desk.pool
+abbrev pub collecting_by : Server → List Event
+collecting_by server =
+    Floor ∷ recycling (copies.copy_of (length server.desk.desk.last.batches) (pins_of (held_slots server.slots))) server.desk.desk.pool
 
 -- the events of a command that came to this, in a world that the old server shows
 abbrev pub AreEventsOf : Command → Server → RecordResult → Server → World → List Event → Type 0
@@ -49,7 +49,7 @@ AreEventsOf Commit old (Ok lines) new w events =
 AreEventsOf (OpenSlot slot) old (Ok lines) new w events = events ≡ Pin slot ∷ Enter slot ∷ Settle slot ∷ []
 AreEventsOf (CloseSlot slot) old (Ok lines) new w events = events ≡ Release slot ∷ []
 AreEventsOf (Query slot request) old outcome new w events = events ≡ asking w slot request (held_at old slot)
-AreEventsOf Collect old (Ok lines) new w events = events ≡ collecting old
+AreEventsOf Collect old (Ok lines) new w events = events ≡ collecting_by old
 AreEventsOf command old outcome new w events = events ≡ []
 
 -- What they reply
@@ -70,7 +70,7 @@ AddsReplies command server outcome w old new = new ≡ old
 -- The run
 
 -- the machine goes on from here by the events of the command, each of them done, to a world that the new server shows
-pub record Continues (command : Command) (old : Server) (outcome : RecordResult) (new : Server) (here : MachineState) : Type 0 where
+pub record ContinuesMachine (command : Command) (old : Server) (outcome : RecordResult) (new : Server) (here : MachineState) : Type 0 where
   pub events : List Event
   pub there : MachineState
   pub are : AreEventsOf command old outcome new here.world events
@@ -82,14 +82,14 @@ pub record Continues (command : Command) (old : Server) (outcome : RecordResult)
 -- the new server shows a start of the machine, over what the batches up to the held version leave
 abbrev pub Restarts : Result Held Word → Server → World → Type 0
 Restarts (Ok held) new w =
-    (start : MachineState) × IsStart start × (opening_graph start.world.opening ≡ graph_at w.opening w.versions held.number)
+    (start : MachineState) × IsStart start × (graph_of_opening start.world.opening ≡ graph_at w.opening w.versions held.number)
     × ShowsMachine new start.world
 Restarts (Err word) new w = ⊥
 
 -- a rebase starts anew, and each other command goes on
 abbrev pub Moves : Command → Server → RecordResult → Server → MachineState → Type 0
 Moves (Rebase slot) old (Ok lines) new here = Restarts (held_at old slot) new here.world
-Moves command old outcome new here = Continues command old outcome new here
+Moves command old outcome new here = ContinuesMachine command old outcome new here
 
 -- what the server did for the command the machine does too, from the end of each run of it whose world the old server shows
 abbrev pub MovesMachine : Command → Server → Response → List ℕ → Server → Type 0

@@ -5,7 +5,7 @@ use Rattle.block_reclamation.specs.Status.{is_free}
 use Rattle.store_steps.specs.Desks.{DeskView, births_in, is_retired_by}
 use Rattle.feed_csv.specs.declared.command.Command.{Command}
 use Rattle.graph_types.specs.declared.batches.NamedOp.{NamedOp}
-use Rattle.script_commands.specs.{Slots.{AreFew, AreSlotsOf, held_in}, States.{Dates, IsCommandResult, RecordResult, Reopens}}
+use Rattle.script_commands.specs.{Slots.{AreFew, AreSlotsOf, held_slots}, States.{Dates, IsCommandResult, RecordResult, Reopens}}
 use Rattle.script_commands.specs.{States.{ServerState, after_command}, declared.server.{Server.Server, Response.Response}}
 use Rattle.script_commands.specs.declared.server.{Response.TheVariants.{Lines, Refused}, Stop.{Stop, TheVariants.{Memory, Start}}}
 use Rattle.stream_store.specs.declared.opening.OpenError.{OpenError}
@@ -22,7 +22,7 @@ pub record IsServer (server : Server) : Type 0 where
   pub slots : AreSlotsOf server.desk.desk.last server.slots
   pub few : AreFew server.config.blocks server.slots
   pub blocks : length server.desk.desk.pool ≡ server.config.blocks
-  pub seats : length (held_in server.slots) ≡ server.config.seats
+  pub seats : length (held_slots server.slots) ≡ server.config.seats
 
 -- the desk's last version is that of the state, its blocks have the births that the state says, and as many blocks are free, and
 -- retired with each birth and retirement, as the state says
@@ -39,7 +39,7 @@ pub record ShowsDesk (d : DeskView) (s : ServerState) : Type 0 where
 pub record ShowsServer (server : Server) (s : ServerState) : Type 0 where
   pub pending : server.pending ≡ s.pending
   pub desk : ShowsDesk server.desk.desk s
-  pub held : held_in server.slots ≡ s.held
+  pub held : held_slots server.slots ≡ s.held
 
 -- what a record came to, with the lines in the buffer
 abbrev pub result_of : Response → List ℕ → RecordResult

@@ -14,8 +14,8 @@ held_of v = record { number = length v.batches; layout = layout_of v.rows }
 abbrev pub held_by : Option SessionView → Option Held
 held_by session = option_map (λ s. held_of (held_version s)) session
 
-abbrev pub held_in : Slots → List (Option Held)
-held_in slots = map held_by slots.sessions.items
+abbrev pub held_slots : Slots → List (Option Held)
+held_slots slots = map held_by slots.sessions.items
 
 -- the last version, or one before it: what the first of the last version's batches left
 pub record IsEarlier (last v : VersionView) : Type 0 where
@@ -25,13 +25,13 @@ pub record IsEarlier (last v : VersionView) : Type 0 where
   pub batches : v.batches ≡ take (length v.batches) last.batches
 
 -- a slot has its seat, or a session of it that holds the last version or one before it
-abbrev pub IsSlot : VersionView → ℕ → Option SeatView → Option SessionView → Type 0
-IsSlot last slot (Some seat) None = seat.number ≡ slot
-IsSlot last slot None (Some session) = (session.number ≡ slot) × IsEarlier last (held_version session)
-IsSlot last slot _ _ = ⊥
+abbrev pub IsScriptSlot : VersionView → ℕ → Option SeatView → Option SessionView → Type 0
+IsScriptSlot last slot (Some seat) None = seat.number ≡ slot
+IsScriptSlot last slot None (Some session) = (session.number ≡ slot) × IsEarlier last (held_version session)
+IsScriptSlot last slot _ _ = ⊥
 
 -- the pins on the board are those of the held versions, and the floor is at most the last version's number
-pub record IsPinned (last : ℕ) (board : BoardState) (sessions : List (Option SessionView)) : Type 0 where
+pub record IsPinnedBySlots (last : ℕ) (board : BoardState) (sessions : List (Option SessionView)) : Type 0 where
   pub seats : length board.pins ≡ SEATS
   pub pins : (slot : ℕ) → pin_at board.pins slot ≡ option_map holding (held_by (slice_index_or sessions slot None))
   pub floor : board.floor ≤ last
@@ -41,8 +41,8 @@ pub record AreSlots (last : VersionView) (board : BoardState) (seats : List (Opt
   pub same_length : length seats ≡ length sessions
   pub few : length sessions ≤ SEATS
   pub each : (slot : ℕ) → slot < length sessions
-      → IsSlot last slot (slice_index_or seats slot None) (slice_index_or sessions slot None)
-  pub pinned : IsPinned (length last.batches) board sessions
+      → IsScriptSlot last slot (slice_index_or seats slot None) (slice_index_or sessions slot None)
+  pub pinned : IsPinnedBySlots (length last.batches) board sessions
 
 -- no held version has more blocks than there are
 abbrev pub AreFew : ℕ → Slots → Type 0

@@ -7,7 +7,7 @@ use Rattle.block_reclamation.specs.{declared.copies.{Pin.Pin, PinCopy.PinCopy, T
 use Rattle.block_reclamation.specs.Copies as copies
 use Rattle.batch_shards.specs.Births.{births_after, dropped_births}
 use Rattle.graph_types.specs.{Graph.Graph, Step.{after_all, empty_graph_in, left_by, outcomes}, View.in_view, Valid.push_refusal}
-use Rattle.graph_types.specs.{Answer.{IsAnswer, resolved}, declared.batches.{NamedOp.NamedOp, PushError.PushError}}
+use Rattle.graph_types.specs.{Answer.{IsAnswer, resolved_filter}, declared.batches.{NamedOp.NamedOp, PushError.PushError}}
 use Rattle.graph_types.specs.declared.requests.{Request.Request, Reply.Reply, AskError.AskError}
 use Rattle.graph_types.specs.declared.batches.PushError.TheVariants as push
 use Rattle.graph_types.specs.declared.requests.Request.TheVariants as request
@@ -17,8 +17,8 @@ use Rattle.feed_csv.specs.declared.command.Command.{Command, TheVariants.{Op, Co
 use Rattle.feed_csv.specs.declared.command.{Command.TheVariants.Rebase, FeedWord.FeedWord}
 use Rattle.feed_csv.specs.declared.command.FeedWord.TheVariants as feed
 use Rattle.stream_store.specs.{Configs.ConfigView, Refusals.{Attempt, BatchRefusal, IsAdmissible}}
-use Rattle.desk.specs.declared.errors.ApplyError.{ApplyError}
-use Rattle.desk.specs.declared.errors.ApplyError.TheVariants as refused
+use Rattle.graph_types.specs.declared.refusals.ApplyError.{ApplyError}
+use Rattle.graph_types.specs.declared.refusals.ApplyError.TheVariants as refused
 use Rattle.script_lines.specs.declared.words.Word.{Word, TheVariants.{Feed, NotOpen, AlreadyOpen, BadWindow, NoKind, NoVertex}}
 use Rattle.script_lines.specs.declared.words.Word.TheVariants.{BatchFull, BatchLimit, NamesFull, KindsFull, PoolEmpty}
 use Rattle.script_lines.specs.Lines.{close_line, collect_line, commit_line, core_lines, count_different, degree_lines, edge_line}
@@ -132,12 +132,12 @@ abbrev pub left_by_pending : ServerState → Graph
 left_by_pending s = after_all s.pending (last_version s)
 
 -- how many blocks the pending batch takes, by the layout rule
-abbrev pub taken : ServerState → ℕ
-taken s = taken_by s.pending (last_version s) s.layout (length (left_by_pending s).names)
+abbrev pub blocks_taken : ServerState → ℕ
+blocks_taken s = taken_by s.pending (last_version s) s.layout (length (left_by_pending s).names)
 
 -- the births of those that it drops
-abbrev pub dropped : ServerState → List ℕ
-dropped s = dropped_births s.pending (last_version s) s.layout s.births (length (left_by_pending s).names)
+abbrev pub blocks_dropped : ServerState → List ℕ
+blocks_dropped s = dropped_births s.pending (last_version s) s.layout s.births (length (left_by_pending s).names)
 
 -- how many blocks are used: neither free nor retired, they are the last version's
 abbrev pub used : ServerState → ℕ
@@ -169,8 +169,8 @@ after_commit s = record s {
   batches = s.batches ++ s.pending ∷ [];
   layout = layout_after s.pending (last_version s) s.layout;
   births = births_after (length s.batches + 1) s.pending (last_version s) s.layout s.births;
-  free = s.free - taken s;
-  retired = s.retired ++ map (λ birth. dates birth (length s.batches + 1)) (dropped s);
+  free = s.free - blocks_taken s;
+  retired = s.retired ++ map (λ birth. dates birth (length s.batches + 1)) (blocks_dropped s);
 }
 
 -- the pins of held versions, one for each seat: a session that holds a version has told its number
@@ -181,20 +181,20 @@ abbrev pub pins_of : List (Option Held) → List (Option Pin)
 pins_of held = map (option_map holding) held ++ replicate (SEATS - length held) None
 
 -- the copy of these pins, and the floor: the least of the last version's number and all held numbers
-abbrev pub copy_of : ServerState → PinCopy
-copy_of s = copies.copy_of (length s.batches) (pins_of s.held)
+abbrev pub copy_in : ServerState → PinCopy
+copy_in s = copies.copy_of (length s.batches) (pins_of s.held)
 
-abbrev pub floor_of : ServerState → ℕ
-floor_of s = copies.floor_of (copy_of s)
+abbrev pub floor_in : ServerState → ℕ
+floor_in s = copies.floor_of (copy_in s)
 
 -- how many blocks a collection frees: the retired ones that the copy doesn't need
-abbrev pub recycled : ServerState → ℕ
-recycled s = count_by (λ (d : Dates). not (needs (copy_of s) d.birth d.retirement)) s.retired
+abbrev pub recycled_blocks : ServerState → ℕ
+recycled_blocks s = count_by (λ (d : Dates). not (needs (copy_in s) d.birth d.retirement)) s.retired
 
 abbrev pub after_collect : ServerState → ServerState
 after_collect s = record s {
-  free = s.free + recycled s;
-  retired = filter (λ (d : Dates). needs (copy_of s) d.birth d.retirement) s.retired;
+  free = s.free + recycled_blocks s;
+  retired = filter (λ (d : Dates). needs (copy_in s) d.birth d.retirement) s.retired;
 }
 
 abbrev pub op_refusal : Option PushError → Option Word
@@ -218,8 +218,8 @@ close_result slot (Ok held) = Ok (close_line slot)
 close_result slot (Err word) = Err word
 
 -- how many blocks a held version has: those in the rows of its vertices
-abbrev pub blocks_of : Held → ServerState → ℕ
-blocks_of held s = sum_below (length (version held.number s).names) (λ source. length (held.layout source))
+abbrev pub held_block_count : Held → ServerState → ℕ
+held_block_count held s = sum_below (length (version held.number s).names) (λ source. length (held.layout source))
 
 -- A store is opened with the graph of a held version, which is laid out as it was there: the blocks are born with version 0, and
 -- all others are free. No batch is accepted, no slot is open, and what was pending still is.
@@ -230,14 +230,14 @@ after_rebase held s = record s {
   held = replicate (length s.held) None;
   layout = held.layout;
   births = λ source. map (λ (b : Shape). 0) (held.layout source);
-  free = s.blocks - blocks_of held s;
+  free = s.blocks - held_block_count held s;
   retired = [];
 }
 
 -- the line tells the new version 0
 abbrev pub rebase_result : ServerState → Result Held Word → RecordResult
 rebase_result s (Ok held) =
-    let g = version held.number s in Ok (rebase_line 0 (length g.names) (len g.edges) (blocks_of held s))
+    let g = version held.number s in Ok (rebase_line 0 (length g.names) (len g.edges) (held_block_count held s))
 rebase_result s (Err word) = Err word
 
 abbrev pub rebased : ServerState → Result Held Word → ServerState
@@ -252,7 +252,7 @@ reply_lines slot (request.Labels filter) g (reply.Labels entries_of) =
     label_lines slot (count_different (map (λ entry. entry.1) entries_of)) entries_of
 reply_lines slot (request.Cores filter) g (reply.Cores entries_of) = core_lines slot entries_of
 reply_lines slot (request.Degrees filter) g (reply.Degrees entries_of) =
-    degree_lines slot (count_by (in_view (resolved g filter)) (entries g.edges)) entries_of
+    degree_lines slot (count_by (in_view (resolved_filter g filter)) (entries g.edges)) entries_of
 reply_lines slot (request.OneEdge kind source target) g (reply.OneEdge shown) = edge_line slot shown
 reply_lines slot asked g other = []
 
@@ -275,7 +275,7 @@ IsCommandResult (OpenSlot slot) s outcome = outcome
     ≡ lines_unless (open_refusal (slice_get s.held slot)) (open_line slot (length s.batches))
 IsCommandResult (CloseSlot slot) s outcome = outcome ≡ close_result slot (version_in (slice_get s.held slot))
 IsCommandResult (Query slot request) s outcome = IsReplied slot request s (version_in (slice_get s.held slot)) outcome
-IsCommandResult Collect s outcome = outcome ≡ Ok (collect_line (floor_of s) (recycled s) (length (after_collect s).retired))
+IsCommandResult Collect s outcome = outcome ≡ Ok (collect_line (floor_in s) (recycled_blocks s) (length (after_collect s).retired))
 IsCommandResult Stat s outcome = outcome ≡ Ok (stat_line (length s.batches) (length (last_version s).names)
     (len (last_version s).edges) s.free (length s.retired) (used s))
 IsCommandResult (Rebase slot) s outcome = outcome ≡ rebase_result s (version_in (slice_get s.held slot))

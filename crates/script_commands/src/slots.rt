@@ -8,7 +8,7 @@ ghost use Rattle.block_reclamation.specs.Board.{no_pins};
 ghost use Rattle.block_reclamation.specs.Copies.{copy_of, floor_of};
 ghost use Rattle.stream_store.specs.Refusals.{block_count};
 ghost use Rattle.stream_store.specs.Seats.{SeatView, SessionView};
-ghost use Rattle.script_commands.specs.Slots.{AreFew, AreSlotsOf, held_in, held_of};
+ghost use Rattle.script_commands.specs.Slots.{AreFew, AreSlotsOf, held_slots, held_of};
 ghost use Rattle.script_commands.specs.States as states;
 
 use block_reclamation::{Board, PinCopy};
@@ -34,7 +34,7 @@ impl Slots {
         requires numbers { map (λ (s : SeatView). s.number) seats.items ≡ range_with_len 0 (length seats.items) }
         ensures slots { IfOk result (λ slots. (last : VersionView) → AreSlotsOf last slots) }
         ensures few { IfOk result (λ slots. (blocks : ℕ) → AreFew blocks slots) }
-        ensures none { IfOk result (λ slots. held_in slots ≡ replicate (length seats.items) None) }
+        ensures none { IfOk result (λ slots. held_slots slots ≡ replicate (length seats.items) None) }
         ensures floor { IfOk result (λ slots. slots.board.floor ≡ 0) }
     {
         let mut free = Vec::new(alloc);
@@ -53,7 +53,7 @@ impl Slots {
     /// The session in a slot, or why there is none.
     pub(crate) fn session(&self, slot: u8) -> Result<&Session, Word>
         ensures session { IfOk result (λ s. slice_get self.now.sessions.items slot ≡ Some (Some s.now)) }
-        ensures refused { IfErr result (λ word. states.version_in (slice_get (held_in self.now) slot) ≡ Err word) }
+        ensures refused { IfErr result (λ word. states.version_in (slice_get (held_slots self.now) slot) ≡ Err word) }
     {
         match self.sessions.get(usize::from(slot)) {
             None => Err(Word::Feed(FeedWord::BadSlot)),
@@ -68,11 +68,11 @@ impl Slots {
         requires version { IsVersion desk.now.desk.last }
         requires free { slice_get self.old.sessions.items slot ≡ Some None }
         ensures slots { AreSlotsOf desk.now.desk.last self.new }
-        ensures held { OnOk result (held_in self.new
-            ≡ slice_set (held_in self.old) slot (Some (held_of desk.now.desk.last))) }
+        ensures held { OnOk result (held_slots self.new
+            ≡ slice_set (held_slots self.old) slot (Some (held_of desk.now.desk.last))) }
         ensures few { (blocks : ℕ) → block_count desk.now.desk.last ≤ blocks → AreFew blocks self.old → AreFew blocks self.new }
         ensures floor { OnOk result (self.new.board.floor ≡ self.old.board.floor) }
-        ensures unchanged { OnErr result (held_in self.new ≡ held_in self.old) }
+        ensures unchanged { OnErr result (held_slots self.new ≡ held_slots self.old) }
     {
         let slot = usize::from(slot);
         let Some(seat) = self.seats[slot].take() else {
@@ -97,7 +97,7 @@ impl Slots {
         ensures slots { (last : VersionView) → AreSlotsOf last self.old → AreSlotsOf last self.new }
         ensures few { (blocks : ℕ) → AreFew blocks self.old → AreFew blocks self.new }
         ensures released { (last : VersionView) → AreSlotsOf last self.old
-            → held_in self.new ≡ slice_set (held_in self.old) slot None }
+            → held_slots self.new ≡ slice_set (held_slots self.old) slot None }
         ensures floor { self.new.board.floor ≡ self.old.board.floor }
     {
         let slot = usize::from(slot);
@@ -112,8 +112,8 @@ impl Slots {
         requires { AreSlotsOf desk.now.desk.last self.old }
         ensures slots { AreSlotsOf desk.now.desk.last self.new }
         ensures few { (blocks : ℕ) → AreFew blocks self.old → AreFew blocks self.new }
-        ensures held { held_in self.new ≡ held_in self.old }
-        ensures copy { result ≡ copy_of (length desk.now.desk.last.batches) (states.pins_of (held_in self.old)) }
+        ensures held { held_slots self.new ≡ held_slots self.old }
+        ensures copy { result ≡ copy_of (length desk.now.desk.last.batches) (states.pins_of (held_slots self.old)) }
         ensures floor { self.new.board.floor ≡ floor_of result }
     {
         let last = desk.last().number();

@@ -7,8 +7,8 @@ use Rattle.std.proofs.lemmas.{Bool.cases_lt, Bool.false≢true, Bool.Decides.eqb
 use Rattle.std.proofs.lemmas.List.{map_more, get_or_default, get_or_past, Elements.All-get_or, Sums.fold-append, Sums.sum_by-append}
 use Rattle.std.specs.Prelude.{IsTrue, Option, None, Some, sum_by, count_by, zip, ◌==◌, is_some}
 use Rattle.std.specs.{List.flat_map, List.filter_map, Option.option_to_list}
-use Rattle.graph_types.specs.{Answer.{level_row, names_of}, Valid.is_name, declared.ids.{Degree.Degree, VertexId.VertexId}}
-use Rattle.graph_levels.specs.Reached.{numbers_of}
+use Rattle.graph_types.specs.{Answer.{level_row, names_of_vertices}, Valid.is_name, declared.ids.{Degree.Degree, VertexId.VertexId}}
+use Rattle.graph_levels.specs.Reached.{vertex_numbers}
 use Rattle.vertex_names.specs.Book.{Book, IsBook}
 use Rattle.version_answers.proofs.NamedRows.{label_at, length-labels, level_rows_more, next_row, rows_all}
 use Rattle.script_lines.specs.Lines.{greatest, number_line}
@@ -112,17 +112,17 @@ bool_value false = refl
 
 -- how many of one row more are of a vertex that is its own label
 pub own_more : (book : Book) (labels : List VertexId) (own k : ℕ) (d : VertexId) → IsBook book
-    → own ≡ count_by (λ entry. bytes_eq entry.0 entry.1) (take k (zip book.names (names_of book.names (numbers_of labels))))
+    → own ≡ count_by (λ entry. bytes_eq entry.0 entry.1) (take k (zip book.names (names_of_vertices book.names (vertex_numbers labels))))
     → k < min (length book.names) (length labels)
     → own + bool_byte ((get_or labels k d).0 == k)
-    ≡ count_by (λ entry. bytes_eq entry.0 entry.1) (take (k + 1) (zip book.names (names_of book.names (numbers_of labels))))
+    ≡ count_by (λ entry. bytes_eq entry.0 entry.1) (take (k + 1) (zip book.names (names_of_vertices book.names (vertex_numbers labels))))
 own_more book labels own k d is counted within =
     let names = book.names in
     let y = get_or names (get_or labels k d).0 [] in
-    let all : k < min (length names) (length (names_of names (numbers_of labels))) = omega (arith, length-labels names labels) in
+    let all : k < min (length names) (length (names_of_vertices names (vertex_numbers labels))) = omega (arith, length-labels names labels) in
     ap (λ n. own + n) (bool_value ((get_or labels k d).0 == k))
     ∙ ap (λ b. own + cond b 1 0) (sym (own_text book k (get_or labels k d).0 is (omega arith)))
-    ∙ sum_more names (names_of names (numbers_of labels)) (λ entry. cond (bytes_eq entry.0 entry.1) 1 0) own k
+    ∙ sum_more names (names_of_vertices names (vertex_numbers labels)) (λ entry. cond (bytes_eq entry.0 entry.1) 1 0) own k
     (get_or names k []) [] y counted all refl (label_at names labels k d y (omega arith) refl)
 
 pub at_most_one : (b : Bool) → bool_byte b ≤ 1

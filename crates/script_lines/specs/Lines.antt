@@ -2,10 +2,10 @@
 use Rattle.std.specs.Prelude.{ℕ, ℤ, Bool, true, false, codes, decimal, zero, suc, List, [], ◌++◌, length, max, fold, count_by}
 use Rattle.std.specs.{Prelude.{Option, None, Some, bytes_eq, sum_by, ◌==◌, if◌then◌else◌}, Fmt.signed_decimal, List.flat_map}
 use Rattle.std.specs.List.{list_any}
-use Rattle.graph_types.specs.{Step.with_name, declared.{ids.Degree.Degree, batches.Outcome.{Outcome, TheVariants.Inserted}}}
+use Rattle.graph_types.specs.{Outcomes.expired_in, Step.with_name, declared.{ids.Degree.Degree, batches.Outcome.{Outcome, TheVariants.Inserted}}}
 use Rattle.graph_types.specs.declared.batches.Outcome.TheVariants.{Updated, Removed, Absent, Overflow, Expired}
 use Rattle.graph_types.specs.declared.requests.Reply.{Reply, TheVariants.{Cores, Degrees, Labels, Levels, OneEdge}}
-use Rattle.feed_csv.specs.Commands.{word_text as feed_word_text}
+use Rattle.feed_csv.specs.Commands.{feed_word_text}
 use Rattle.script_lines.specs.declared.words.Word.{Word, TheVariants.{Feed, NotOpen, AlreadyOpen, BadWindow, NoKind, NoVertex}}
 use Rattle.script_lines.specs.declared.words.Word.TheVariants.{BatchFull, BatchLimit, NamesFull, KindsFull, PoolEmpty, Start}
 
@@ -37,11 +37,6 @@ is_outcome Absent Absent = true
 is_outcome Overflow Overflow = true
 is_outcome (Expired a) (Expired b) = a == b
 is_outcome wanted other = false
-
--- how many edges an outcome says that an expiry removed
-abbrev pub expired_in : Outcome → ℕ
-expired_in (Expired count) = count
-expired_in other = 0
 
 abbrev pub is_expired : Outcome → Bool
 is_expired (Expired count) = true

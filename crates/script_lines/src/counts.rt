@@ -3,7 +3,8 @@
 ghost use Rattle.std.specs.Prelude.{◌≡◌, ◌+◌, ◌<◌, ◌^◌, ◌||◌, count_by, if◌then◌else◌, sum_by};
 ghost use Rattle.std.specs.List.{list_any};
 ghost use Rattle.graph_types.specs.declared.batches.Outcome.TheVariants.{Inserted, Updated, Removed, Absent, Overflow};
-ghost use Rattle.script_lines.specs.Lines.{expired_in, is_expired, is_outcome};
+ghost use Rattle.graph_types.specs.Outcomes.{expired_in};
+ghost use Rattle.script_lines.specs.Lines.{is_expired, is_outcome};
 
 use graph_types::Outcome;
 

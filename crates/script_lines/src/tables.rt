@@ -5,8 +5,8 @@ ghost use Rattle.std.specs.Prelude.{◌≡◌, ◌++◌, [], OnOk, bytes_eq, cou
 ghost use Rattle.std.specs.Prelude.{string_bytes, sum_by, zip};
 ghost use Rattle.std.specs.List.{flat_map};
 ghost use Rattle.std.specs.Option.{option_to_list};
-ghost use Rattle.graph_levels.specs.Reached.{numbers_of};
-ghost use Rattle.graph_types.specs.Answer.{level_row, names_of, reached};
+ghost use Rattle.graph_levels.specs.Reached.{vertex_numbers};
+ghost use Rattle.graph_types.specs.Answer.{level_row, names_of_vertices, reached};
 ghost use Rattle.script_lines.specs.Lines as lines_of;
 ghost use Rattle.version_answers.specs.Numbered.{named};
 
@@ -175,7 +175,7 @@ fn label_lines(
     names: &NameBook,
     labels: &[VertexId],
 ) -> Result<(), AllocError>
-    ensures { OnOk result (let entries = zip names.now.names (names_of names.now.names (numbers_of labels.now)) in
+    ensures { OnOk result (let entries = zip names.now.names (names_of_vertices names.now.names (vertex_numbers labels.now)) in
         string_bytes lines.new ≡ string_bytes lines.old
         ++ lines_of.label_lines slot (count_by (λ entry. bytes_eq entry.0 entry.1) entries) entries) }
 {
@@ -187,7 +187,7 @@ fn label_lines(
 /// A line for each vertex with the name of its label.
 fn label_rows(lines: &mut String, names: &NameBook, labels: &[VertexId]) -> Result<(), AllocError>
     ensures { OnOk result (string_bytes lines.new ≡ string_bytes lines.old
-        ++ flat_map lines_of.label_line (zip names.now.names (names_of names.now.names (numbers_of labels.now)))) }
+        ++ flat_map lines_of.label_line (zip names.now.names (names_of_vertices names.now.names (vertex_numbers labels.now)))) }
 {
     let count = names.len().min(labels.len());
     let mut page = ArrayString::new();
@@ -202,7 +202,7 @@ fn label_rows(lines: &mut String, names: &NameBook, labels: &[VertexId]) -> Resu
 /// How many vertices are their own label.
 fn own_labels(names: &NameBook, labels: &[VertexId]) -> usize
     ensures { result ≡ count_by (λ entry. bytes_eq entry.0 entry.1)
-        (zip names.now.names (names_of names.now.names (numbers_of labels.now))) }
+        (zip names.now.names (names_of_vertices names.now.names (vertex_numbers labels.now))) }
 {
     let count = names.len().min(labels.len());
     let mut own = 0;

@@ -6,8 +6,8 @@ use Rattle.feed_csv.specs.declared.command.Command.TheVariants.{Op, Commit, Open
 use Rattle.graph_types.{proofs.OneAnswer.one_answer, specs.declared.requests.Request.Request}
 use Rattle.script_lines.specs.{declared.words.Word.Word, Lines.end_line}
 use Rattle.stream_store.specs.Refusals.{Attempt, BatchRefusal, IsAdmissible}
-use Rattle.desk.specs.declared.errors.ApplyError.{ApplyError}
-use Rattle.desk.specs.declared.errors.ApplyError.TheVariants as refused
+use Rattle.graph_types.specs.declared.refusals.ApplyError.{ApplyError}
+use Rattle.graph_types.specs.declared.refusals.ApplyError.TheVariants as refused
 use Rattle.script_commands.specs.States.{IsCommitted, attempt, batch_word, answer_result, beginning, printed, version, version_in}
 use Rattle.script_commands.specs.States.{Held, IsRecordResult, IsReplied, Progress, RecordResult, Setup, ServerState, after_record}
 use Rattle.script_server.specs.Executions.{Executes, IsFullText}

@@ -6,7 +6,7 @@ use Rattle.script_server.specs.declared.script.{Run.Run, ServeFault.{ServeFault,
 use Rattle.script_server.specs.declared.script.Summary.{Summary}
 use Rattle.script_server.specs.Runs.{ExecutesRecord, FailsToWrite}
 use Rattle.script_commands.specs.Servers.{pending_of}
-use Rattle.script_server.specs.Runs.{HasCause, IsReady, IsTurn, ReopensAfter, done_by, is_start, is_write}
+use Rattle.script_server.specs.Runs.{HasCause, IsReadyRun, IsTurn, ReopensAfter, done_by, is_start, is_write}
 
 -- a turn ended the run
 pub cause_stopped : (feed feed' : Script) (run run' : Run) (now after : Option (List ℕ)) (failed : Bool) (fault : ServeFault)
@@ -21,7 +21,7 @@ cause_stopped feed feed' run run' now after failed Write turned marked = marked
 -- the feed met the end of the input, and the run was finished
 pub cause_ended : (feed feed' : Script) (run run' : Run) (now mid : Option (List ℕ)) (failed : Bool)
     (result : Result Summary ServeFault)
-    → IsReady feed run → IsTurn feed run now (Ok false) feed' run' mid
+    → IsReadyRun feed run → IsTurn feed run now (Ok false) feed' run' mid
     → IfOk result
     (λ summary. summary ≡ record { records = run'.records; errors = run'.errors; pending = length (pending_of run'.server) })
     → IfErr result (λ fault. fault ≡ Write) → failed ≡ is_err result → HasCause feed' failed result
@@ -35,7 +35,7 @@ cause_ended feed feed' run run' now mid failed (Err error) ready turned counts f
 
 -- a record broke a run off
 pub turn_broken : (command : Command) (field : Option Command) (feed feed' : Script) (run run' : Run)
-    (before after : Option (List ℕ)) (fault : ServeFault) → IsReady feed run → field ≡ Some command
+    (before after : Option (List ℕ)) (fault : ServeFault) → IsReadyRun feed run → field ≡ Some command
     → NextStep feed (Ok field) feed' → ExecutesRecord (Ok command) run before (Err fault) run' after
     → IsTurn feed run before (Err fault) feed' run' after
 turn_broken command field feed feed' run run' before after Read ready is step does = absurd does

@@ -1,8 +1,8 @@
 -- How far a run has come: the records that were given, and their lines, which were written.
 use Rattle.std.proofs.Common.{◌≡◌, ℕ, ◌+◌, ◌<◌, List, [], ◌∷◌, ◌++◌, append_assoc, append-nil, arith, refl, sym, ◌∙◌, ap}
 use Rattle.std.specs.{Prelude.true, Prelude.Option, Prelude.None, Prelude.Some, Prelude.Ok, Io.KnownBytes.Appends}
-use Rattle.feed_csv.specs.{Commands.item_of, Records.Row, Records.Takes, Records.record_limit, Script.IsOpen, Script.Script}
-use Rattle.script_server.specs.{declared.script.Run.Run, Runs.{IsReady, ShowsRun, IsTurn}, Executions.Executes}
+use Rattle.feed_csv.specs.{Commands.item_of, Records.Row, Records.TakesRecord, Records.record_limit, Script.IsOpen, Script.Script}
+use Rattle.script_server.specs.{declared.script.Run.Run, Runs.{IsReadyRun, ShowsRun, IsTurn}, Executions.Executes}
 use Rattle.script_commands.specs.States.{IsRecordResult, Progress, RecordResult, Setup, after_record, beginning, printed}
 use Rattle.script_commands.specs.Servers.{result_of}
 use Rattle.script_server.proofs.Writing.{appends_nothing, appends_then}
@@ -18,7 +18,7 @@ leaves-none None = tt
 leaves-none (Some rows) = refl
 
 pub leaves-append : (first : Option (List Row)) (given : List Row) (row : Row) (left rest : Option (List Row))
-    → Leaves first given left → Takes left row rest → Leaves first (given ++ row ∷ []) rest
+    → Leaves first given left → TakesRecord left row rest → Leaves first (given ++ row ∷ []) rest
 leaves-append None given row left rest leaves takes = tt
 leaves-append (Some rows) given row None rest leaves takes = absurd leaves
 leaves-append (Some rows) given row (Some more) None leaves takes = absurd takes
@@ -81,9 +81,9 @@ reaches_more setup first feed feed' run run' before now after reached turned =
     }
 
 -- a run is ready for the next record again
-pub ready_more : (feed feed' : Script) (run run' : Run) (now after : Option (List ℕ)) → IsReady feed run
+pub ready_more : (feed feed' : Script) (run run' : Run) (now after : Option (List ℕ)) → IsReadyRun feed run
     → IsTurn feed run now (Ok true) feed' run' after
-    → IsReady feed' run'
+    → IsReadyRun feed' run'
 ready_more feed feed' run run' now after ready turned = record {
   server = turned.2.server;
   reading = turned.1.reading;
@@ -92,5 +92,5 @@ ready_more feed feed' run run' now after ready turned = record {
   errors = omega (arith, turned.2.errors, turned.2.records, ready.errors);
 }
 
-pub few_given : (feed : Script) (run : Run) → IsReady feed run → IsOpen feed → run.records < record_limit
+pub few_given : (feed : Script) (run : Run) → IsReadyRun feed run → IsOpen feed → run.records < record_limit
 few_given feed run ready is_open = rw ready.records is_open.room

@@ -2,11 +2,11 @@
 use Rattle.std.proofs.Common.{◌≡◌, ℕ, ◌+◌, ◌<◌, List, [], ◌∷◌, ◌++◌, length, append_assoc, append-nil, arith, refl, sym, ◌∙◌, ap}
 use Rattle.std.{proofs.Common.{subst, inl, inr}, specs.Prelude.{false, Option, None, Some, Result, Ok, Err, IfErr, IfOk, IfSome}}
 use Rattle.std.specs.{Prelude.{OnErr, OnOk, option_map}, Io.KnownBytes.Appends}
-use Rattle.feed_csv.specs.{Commands.item_of, Records.IsOver, Records.Row, Records.Takes, Records.record_limit, Records.records_of}
+use Rattle.feed_csv.specs.{Commands.item_of, Records.IsOver, Records.Row, Records.TakesRecord, Records.record_limit, Records.records_of}
 use Rattle.feed_csv.specs.{Script.MeetsEnd, Script.Script, Script.TakesRow}
 use Rattle.feed_csv.specs.declared.command.FeedWord.TheVariants as feed_word
 use Rattle.script_server.specs.declared.script.{Run.Run, ServeFault.{ServeFault, TheVariants.{Read, Memory, Start, Write}}}
-use Rattle.script_server.specs.{declared.script.Summary.Summary, Runs.{FailsToWrite, IsFresh, IsReady, ShowsRun, IsStartup}}
+use Rattle.script_server.specs.{declared.script.Summary.Summary, Runs.{FailsToWrite, IsFresh, IsReadyRun, ShowsRun, IsStartup}}
 use Rattle.script_server.specs.Runs.{IsTurn, records_done}
 use Rattle.script_commands.specs.States.{IsRecordResult, RecordResult, Reopens, Setup, after_record}
 use Rattle.script_server.specs.Executions.{ExecutesPrefix, IsFullText}
@@ -40,7 +40,7 @@ cut_of setup rows left run before now word count reached same = (
 -- the text so far, and then the error line of a rebase
 unopened_of : (setup : Setup) (rows : List Row) (row : Row) (left rest : Option (List Row)) (run : Run)
     (before now : Option (List ℕ)) (count : ℕ)
-    → (reached : Reaches setup (Some rows) left run before now) → Takes left row rest → Reopens (item_of row) reached.here.state
+    → (reached : Reaches setup (Some rows) left run before now) → TakesRecord left row rest → Reopens (item_of row) reached.here.state
     → count ≡ run.records
     → IsTextToRebase setup rows count (reached.lines ++ error_line (run.records + 1) told.Start)
 unopened_of setup rows row None rest run before now count reached takes reopens same = absurd reached.leaves
@@ -78,7 +78,7 @@ part_of setup rows left run before now after next count reached wanted part = (
 -- the run breaks off in what a record prints
 started_with : (setup : Setup) (rows : List Row) (row : Row) (left rest : Option (List Row)) (run : Run)
     (before now : Option (List ℕ)) (outcome : RecordResult)
-    → (reached : Reaches setup (Some rows) left run before now) → Takes left row rest
+    → (reached : Reaches setup (Some rows) left run before now) → TakesRecord left row rest
     → IsRecordResult (item_of row) reached.here.state outcome
     → ExecutesPrefix setup rows (reached.lines ++ printed (reached.here.records + 1) outcome)
     (after_record (item_of row) outcome reached.here)
@@ -226,7 +226,7 @@ unstarted_part setup rows before after count part = (
 )
 
 -- at the end of the input each record that was given was done
-pub done_ended : (feed feed' : Script) (run : Run) → IsReady feed run → MeetsEnd feed feed' → records_done feed' ≡ run.records
+pub done_ended : (feed feed' : Script) (run : Run) → IsReadyRun feed run → MeetsEnd feed feed' → records_done feed' ≡ run.records
 done_ended feed feed' run ready meets = rw meets.ended (meets.given ∙ sym ready.records)
 
 -- what a run's finish answers
@@ -240,7 +240,7 @@ pub record Finishes (run : Run) (mid after : Option (List ℕ)) (result : Result
 -- the end of the input
 pub whole_or_part : (setup : Setup) (rows : List Row) (feed feed' : Script) (run run' : Run)
     (before now mid after : Option (List ℕ))
-    (result : Result Summary ServeFault) → IsReady feed run → Reaches setup (Some rows) feed.left run before now
+    (result : Result Summary ServeFault) → IsReadyRun feed run → Reaches setup (Some rows) feed.left run before now
     → IsTurn feed run now (Ok false) feed' run' mid
     → Finishes run' mid after result
     → AppendsSome before after (IsText setup rows (records_done feed') result)
@@ -271,7 +271,7 @@ all_stopped (Some rows) feed feed' start run run' before now after fault reached
     stopped setup rows feed feed' run run' before now after fault (reached setup shows) turned
 
 pub all_ended : (first : Option (List Row)) (feed feed' : Script) (start run run' : Run) (before now mid after : Option (List ℕ))
-    (result : Result Summary ServeFault) → IsReady feed run
+    (result : Result Summary ServeFault) → IsReadyRun feed run
     → ((setup : Setup) → ShowsRun start (beginning setup) → Reaches setup first feed.left run before now)
     → IsTurn feed run now (Ok false) feed' run' mid
     → Finishes run' mid after result

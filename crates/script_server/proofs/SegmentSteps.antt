@@ -8,13 +8,13 @@ use Rattle.feed_csv.specs.declared.command.Command.TheVariants.{Op, Commit, Open
 use Rattle.graph_types.specs.declared.requests.Request.{Request}
 use Rattle.epoch_core.specs.{Machine.Question, Versions.graph_at, Worlds.{Answer, IsStart, MachineState, World}}
 use Rattle.script_lines.specs.declared.words.Word.{Word}
-use Rattle.script_commands.specs.Machine.{AddsReplies, Continues, IsReplyTo, Moves, Restarts, ShowsMachine, held_at, session_for}
-use Rattle.script_commands.specs.{Servers.{ShowsServer, result_of}, Slots.held_in, declared.server.{Server.Server, Response.Response}}
+use Rattle.script_commands.specs.Machine.{AddsReplies, ContinuesMachine, IsReplyTo, Moves, Restarts, ShowsMachine, held_at, session_for}
+use Rattle.script_commands.specs.{Servers.{ShowsServer, result_of}, Slots.held_slots, declared.server.{Server.Server, Response.Response}}
 use Rattle.script_commands.specs.declared.server.Response.TheVariants.{Lines, Refused}
 use Rattle.script_commands.specs.States.{Held, IsRecordResult, RecordResult, Reopens, ServerState, after_item, answer_result}
 use Rattle.script_commands.specs.States.{rebase_result, rebased, version, version_in}
 use Rattle.script_commands.proofs.MachineMoves.{graph_shown}
-use Rattle.script_server.specs.Segments.{question_in, question_to}
+use Rattle.script_server.specs.Segments.{question_held, question_to}
 
 -- The answers
 
@@ -50,7 +50,7 @@ module _ (slot other : ℕ) (request : Request) (s : ServerState) (w : World) (o
     (shows : ShowsVersions w s) (many : length old ≡ length s.held) where
   asked_same : (r : Result Held Word) → version_in (slice_get s.held other) ≡ r → other ≡ slot
       → IsReplyTo other request w r outcome old new
-      → Answered slot (question_in s r request) outcome (get_or old slot []) (get_or new slot [])
+      → Answered slot (question_held s r request) outcome (get_or old slot []) (get_or new slot [])
   asked_same (Err word) is same told = unanswered slot outcome _ _ (ap (λ xs. get_or xs slot []) told)
   asked_same (Ok held) is same told =
       let low : other < length old =
@@ -73,11 +73,11 @@ module _ (slot other : ℕ) (request : Request) (s : ServerState) (w : World) (o
       (ap (λ xs. get_or xs slot []) told.1 ∙ get_or-set_other old other slot (get_or old other [] ++ told.0 ∷ []) [] ne)
 
   asked : (t : Bool) → other == slot ≡ t → IsReplyTo other request w (version_in (slice_get s.held other)) outcome old new
-      → Answered slot (if t then question_in s (version_in (slice_get s.held slot)) request else []) outcome
+      → Answered slot (if t then question_held s (version_in (slice_get s.held slot)) request else []) outcome
       (get_or old slot []) (get_or new slot [])
   asked true is told =
       let same : other ≡ slot = eqb-true other slot is in
-      subst (λ k. Answered slot (question_in s (version_in (slice_get s.held k)) request) outcome (get_or old slot []) (get_or new slot []))
+      subst (λ k. Answered slot (question_held s (version_in (slice_get s.held k)) request) outcome (get_or old slot []) (get_or new slot []))
       same (asked_same (version_in (slice_get s.held other)) refl same told)
   asked false is told = asked_else (version_in (slice_get s.held other)) (λ e. eqb-false other slot is (sym e)) told
 
@@ -152,13 +152,13 @@ pub start_many : (start : MachineState) (server : Server) (s : ServerState) → 
     → ShowsMachine server start.world → length start.replies ≡ length s.held
 start_many start server s is shows machine =
     ap length is.replies ∙ (length-replicate (length start.world.sessions) []
-    ∙ (ap length machine.sessions ∙ (length-map (held_in server.slots) session_for ∙ ap length shows.held)))
+    ∙ (ap length machine.sessions ∙ (length-map (held_slots server.slots) session_for ∙ ap length shows.held)))
 
 -- Going on, or opening anew
 
 -- what a record does, in a state that the old server shows
 abbrev pub GoesOn : Command → Server → RecordResult → Server → MachineState → ServerState → Type 0
-GoesOn command old outcome new here s = (Reopens (Ok command) s → ⊥) × Continues command old outcome new here
+GoesOn command old outcome new here s = (Reopens (Ok command) s → ⊥) × ContinuesMachine command old outcome new here
 
 abbrev pub OpensAnew : Command → Server → Server → MachineState → ServerState → Type 0
 OpensAnew command old new here s =

@@ -7,7 +7,7 @@ use Rattle.feed_csv.specs.declared.command.{Command.Command, FeedWord.FeedWord}
 use Rattle.feed_csv.specs.declared.command.FeedWord.TheVariants as feed_word
 use Rattle.epoch_core.specs.{Runs.{AllReplies, Runs}, Worlds.{IsStart, MachineState, replies_of}, declared.events.Event.Event}
 use Rattle.store_steps.specs.Steps.{all_done}
-use Rattle.script_commands.specs.{Machine.{Continues, ShowsMachine}, Servers.{IsServer, ShowsServer, pending_of, result_of}}
+use Rattle.script_commands.specs.{Machine.{ContinuesMachine, ShowsMachine}, Servers.{IsServer, ShowsServer, pending_of, result_of}}
 use Rattle.script_commands.specs.declared.server.{Response.Response, Server.Server}
 use Rattle.script_commands.specs.States.{IsRecordResult, Progress, RecordResult, Reopens, Setup, after_item, after_record}
 use Rattle.script_commands.specs.States.{beginning, printed}
@@ -15,7 +15,7 @@ use Rattle.script_lines.specs.{Lines.{end_line, error_line}, declared.words.Word
 use Rattle.script_lines.specs.declared.words.Word.TheVariants as line_word
 use Rattle.script_server.specs.declared.script.{Run.Run, ServeFault.{ServeFault, TheVariants.{Read, Memory, Start, Write}}}
 use Rattle.script_server.specs.{declared.script.Summary.Summary, Writes.AppendsSome}
-use Rattle.script_server.specs.Runs.{IsFresh, IsReady, IsStartup, IsTurn, MovesRecord, ShowsRun, ShowsStart, is_write, records_done}
+use Rattle.script_server.specs.Runs.{IsFresh, IsReadyRun, IsStartup, IsTurn, MovesRecord, ShowsRun, ShowsStart, is_write, records_done}
 use Rattle.script_server.specs.Segments.{AreEventsOfRecord, AreSegments, Does, IsMachineText, IsSegment, IsShown, Segment}
 use Rattle.script_server.specs.Segments.{question_to, stand}
 use Rattle.script_server.proofs.{RunSoFar.{Reaches, reaches_more, reaches_nothing}, RunTexts.{Finishes, done_ended, done_none}}
@@ -159,7 +159,7 @@ module _ (setup : Setup) (given : List Row) (lines : List ℕ) (here : Progress)
       → GoesOn command old outcome new joined.segment.end here.state → Next
   joined_goes command is goes =
       let s = joined.segment in
-      let step : Continues command old outcome new s.end = goes.1 in
+      let step : ContinuesMachine command old outcome new s.end = goes.1 in
       goes_on setup given lines here old new row outcome joined kept result after step.events step.there
       (subst (λ i. Reopens i here.state → ⊥) (sym is) goes.0)
       (subst (λ i. AreEventsOfRecord i old outcome new s.end.world step.events) (sym is) step.are) step.shown step.done step.replies
@@ -286,7 +286,7 @@ joined_stopped (Some rows) feed feed' start run run' before now after fault so_f
 
 -- the end of the input
 finished : (setup : Setup) (rows : List Row) (feed feed' : Script) (run run' : Run) (before now mid after : Option (List ℕ))
-    (result : Result Summary ServeFault) → IsReady feed run → Together setup (Some rows) feed.left run before now
+    (result : Result Summary ServeFault) → IsReadyRun feed run → Together setup (Some rows) feed.left run before now
     → IsTurn feed run now (Ok false) feed' run' mid → Finishes run' mid after result
     → AppendsSome before after (IsMachineText setup rows (records_done feed') result)
 finished setup rows feed feed' run run' before now mid after (Ok summary) ready so_far turned ends =
@@ -299,7 +299,7 @@ finished setup rows feed feed' run run' before now mid after (Err fault) ready s
     (λ whole. done_ended feed feed' run ready turned.0)
 
 pub joined_ended : (first : Option (List Row)) (feed feed' : Script) (start run run' : Run) (before now mid after : Option (List ℕ))
-    (result : Result Summary ServeFault) → IsReady feed run
+    (result : Result Summary ServeFault) → IsReadyRun feed run
     → ((setup : Setup) → ShowsRun start (beginning setup) → ShowsStart start.server → Together setup first feed.left run before now)
     → IsTurn feed run now (Ok false) feed' run' mid → Finishes run' mid after result
     → IfSome first (λ rows. (setup : Setup) → ShowsRun start (beginning setup) → ShowsStart start.server

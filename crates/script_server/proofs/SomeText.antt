@@ -15,12 +15,12 @@ use Rattle.graph_types.specs.declared.requests.{Request.Request, Reply.Reply, As
 use Rattle.script_lines.specs.{declared.words.Word.Word, declared.words.Word.TheVariants.Feed, Lines.end_line, Lines.commit_line}
 use Rattle.script_lines.specs.Lines.{open_line, collect_line}
 use Rattle.stream_store.specs.Refusals.{asked}
-use Rattle.desk.specs.declared.errors.ApplyError.TheVariants as refused
+use Rattle.graph_types.specs.declared.refusals.ApplyError.TheVariants as refused
 use Rattle.script_server.specs.Executions.{Executes, IsFullText}
 use Rattle.script_commands.specs.States.{Held, IsCommitted, IsRecordResult, IsReplied}
 use Rattle.script_commands.specs.States.{Progress, RecordResult, ServerState, Setup, after_collect, after_commit, after_item}
-use Rattle.script_commands.specs.States.{after_record, answer_result, batch_word, beginning, close_result, floor_of, last_version}
-use Rattle.script_commands.specs.States.{lines_unless, op_refusal, open_refusal, printed, rebase_result, rebased, recycled, used}
+use Rattle.script_commands.specs.States.{after_record, answer_result, batch_word, beginning, close_result, floor_in, last_version}
+use Rattle.script_commands.specs.States.{lines_unless, op_refusal, open_refusal, printed, rebase_result, rebased, recycled_blocks, used}
 use Rattle.script_commands.{specs.States.{version, version_in}, proofs.ContentsKept.{HasContent, content_after_all}}
 
 -- each version that the batches of a state leave is that of a content, and what is pending is valid
@@ -118,7 +118,7 @@ module _ (l : LimitsView) (are : AreLimits l) where
       (lines_unless (open_refusal (slice_get s.held slot)) (open_line slot (length s.batches)), refl)
   some_outcome (Ok (CloseSlot slot)) s sound = (close_result slot (version_in (slice_get s.held slot)), refl)
   some_outcome (Ok (Query slot request)) s sound = some_replied slot request s (version_in (slice_get s.held slot)) sound
-  some_outcome (Ok Collect) s sound = (Ok (collect_line (floor_of s) (recycled s) (length (after_collect s).retired)), refl)
+  some_outcome (Ok Collect) s sound = (Ok (collect_line (floor_in s) (recycled_blocks s) (length (after_collect s).retired)), refl)
   some_outcome (Ok Stat) s sound = (_, refl)
   some_outcome (Ok (Rebase slot)) s sound = (rebase_result s (version_in (slice_get s.held slot)), refl)
 

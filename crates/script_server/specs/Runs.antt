@@ -27,7 +27,7 @@ pub record IsFresh (feed : Script) : Type 0 where
   pub given : feed.given ≡ 0
 
 -- a run that may take the next record: as many records as the feed gave, and no more error lines
-pub record IsReady (feed : Script) (run : Run) : Type 0 where
+pub record IsReadyRun (feed : Script) (run : Run) : Type 0 where
   pub server : IsServer run.server
   pub reading : feed.phase ≡ Reading
   pub works : feed.failed ≡ false

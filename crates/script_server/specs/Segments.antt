@@ -5,7 +5,7 @@ use Rattle.std.specs.{List.AllZip}
 use Rattle.feed_csv.specs.{Commands.item_of, Records.Row}
 use Rattle.feed_csv.specs.declared.{command.Command.{Command, TheVariants.Query}, command.FeedWord.FeedWord}
 use Rattle.graph_types.specs.declared.requests.Request.{Request}
-use Rattle.epoch_core.specs.{Machine.Question, Runs.Runs, Versions.opening_graph, declared.events.Event.Event}
+use Rattle.epoch_core.specs.{Machine.Question, Runs.Runs, Versions.graph_of_opening, declared.events.Event.Event}
 use Rattle.epoch_core.specs.Worlds.{Answer, IsStart, MachineState, World, replies_of}
 use Rattle.script_lines.specs.declared.words.Word.{Word}
 use Rattle.store_steps.specs.Steps.{all_done}
@@ -18,13 +18,13 @@ use Rattle.script_server.specs.declared.script.{ServeFault.ServeFault, Summary.S
 -- The answers
 
 -- the question that a record asks of the version that this slot holds: its request, over what the batches up to the version leave
-abbrev pub question_in : ServerState → Result Held Word → Request → List Question
-question_in s (Ok held) request = record { request = request; graph = version held.number s } ∷ []
-question_in s (Err word) request = []
+abbrev pub question_held : ServerState → Result Held Word → Request → List Question
+question_held s (Ok held) request = record { request = request; graph = version held.number s } ∷ []
+question_held s (Err word) request = []
 
 abbrev pub question_to : ℕ → ServerState → Result Command FeedWord → List Question
 question_to slot s (Ok (Query other request)) =
-    if other == slot then question_in s (version_in (slice_get s.held slot)) request else []
+    if other == slot then question_held s (version_in (slice_get s.held slot)) request else []
 question_to slot s _ = []
 
 -- the records, executed one after another, print this text and bring a run from here to there; and each that asks the slot's version
@@ -91,7 +91,7 @@ pub record Segment : Type 0 where
 -- the events of each record, to replies that are, for each session, the answers that the slot of its number prints
 pub record IsSegment (s : Segment) (rows : List Row) (here : Progress) (text : List ℕ) (there : Progress) : Type 0 where
   pub start : IsStart s.start
-  pub opening : opening_graph s.start.world.opening ≡ here.state.opening
+  pub opening : graph_of_opening s.start.world.opening ≡ here.state.opening
   pub shown : IsShown (stand here s.opened s.start.world)
   pub does : DoesAll rows (stand here s.opened s.start.world) text s.events (stand there s.left s.end.world)
   pub runs : Runs s.start s.events s.end

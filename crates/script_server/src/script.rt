@@ -9,7 +9,7 @@ ghost use Rattle.script_lines.specs.Lines.{end_line, error_line};
 ghost use Rattle.script_commands.specs.States.{Setup, beginning, printed, set_up};
 ghost use Rattle.script_commands.specs.Servers.{IsServer, ShowsServer, pending_of, result_of};
 ghost use Rattle.script_server.specs.Texts.{IsText};
-ghost use Rattle.script_server.specs.Runs.{CountsRecord, ExecutesRecord, HasCause, IsFresh, IsReady, IsStartup, IsTurn};
+ghost use Rattle.script_server.specs.Runs.{CountsRecord, ExecutesRecord, HasCause, IsFresh, IsReadyRun, IsStartup, IsTurn};
 ghost use Rattle.script_server.specs.Runs.{ShowsRun, ShowsStart, TellsStop, is_start, is_write, records_done};
 ghost use Rattle.script_server.specs.Segments.{IsMachineText};
 ghost use Rattle.script_server.specs.Writes.{AppendsPart, AppendsSome, held};
@@ -300,7 +300,7 @@ fn turn_all<P: Threads + Wait + Sync, R: Read, W: Write>(
     run: &mut Run,
     sink: &mut Sink<'_, W>,
 ) -> Result<Summary, ServeFault>
-    requires ready { IsReady feed.old run.old }
+    requires ready { IsReadyRun feed.old run.old }
     requires working { sink.old.failed ≡ false }
     ensures same_writer { sink.new.writer.ghost_name ≡ sink.old.writer.ghost_name }
     ensures cause { HasCause feed.new sink.new.failed result }
@@ -328,7 +328,7 @@ fn turn<P: Threads + Wait + Sync, R: Read, W: Write>(
     run: &mut Run,
     sink: &mut Sink<'_, W>,
 ) -> Result<bool, ServeFault>
-    requires ready { IsReady feed.old run.old }
+    requires ready { IsReadyRun feed.old run.old }
     requires working { sink.old.failed ≡ false }
     ensures same_writer { sink.new.writer.ghost_name ≡ sink.old.writer.ghost_name }
     ensures failed { sink.new.failed ≡ is_write result }

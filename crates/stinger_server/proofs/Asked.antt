@@ -7,7 +7,7 @@ use Rattle.clap.specs.Walk.{Names, Rule, Text, Walk, idle, nothing_held, subcomm
 use Rattle.clap.specs.declared.error.kind.ErrorKind.TheVariants.{DisplayHelp, InvalidSubcommand, MissingRequiredArgument}
 use Rattle.clap.specs.declared.error.kind.ErrorKind.TheVariants.{MissingSubcommand, UnknownArgument}
 use Rattle.clap.proofs.OnLiterals.{clap_on_literals}
-use Rattle.stinger_server.specs.Program.{Asked, Drive, Help, RunView, Serve, Usage, Version, asked, asked_by, asked_of_command}
+use Rattle.stinger_server.specs.Program.{Asked, Drive, Help, RunView, Serve, Usage, Version, asked_with, asked_by, asked_of_command}
 use Rattle.stinger_server.specs.Program.{asked_of_subcommand, asks_for_help, begins_with_option, default_run, help_words}
 use Rattle.stinger_server.specs.Program.{is_drive_option, is_option, is_version, plainly_asked, plainly_asked_of_command}
 use Rattle.stinger_server.specs.Program.{plainly_asked_of_drive, plainly_asked_of_run, program, without_help}
@@ -232,7 +232,7 @@ by_kinds Help kinds found has serves = rw has refl
 by_kinds Version kinds found has serves = absurd has
 by_kinds Usage kinds found has serves = rw (has.2, has.3) refl
 
-pub reads_plainly : (arguments : List Text) → begins_with_option arguments ≡ false → asked arguments ≡ plainly_asked arguments
+pub reads_plainly : (arguments : List Text) → begins_with_option arguments ≡ false → asked_with arguments ≡ plainly_asked arguments
 reads_plainly arguments plain = go (is_version arguments)
   where
     go : (b : Bool) → (if b then Version else asked_of_command arguments)

@@ -6,7 +6,7 @@ use Rattle.std.specs.{Option.option_map_or, Str.bytes_eq}
 use Rattle.clap.specs.{Faults.fault_of, Kinds.IsAmong, Kinds.Kinds, Simple.subcommand_of, Walk.Row, Walk.Text, Walk.one_of}
 use Rattle.clap.specs.declared.error.kind.ErrorKind.{ErrorKind, TheVariants.OutOfMemory}
 use Rattle.stinger_server.proofs.{OneFault.fault_meaning, Options.number_limits, Options.sizes_limits}
-use Rattle.stinger_server.specs.Program.{Asked, Drive, Help, RunView, Serve, Usage, Version, asked, asked_by, asked_by_kind}
+use Rattle.stinger_server.specs.Program.{Asked, Drive, Help, RunView, Serve, Usage, Version, asked_with, asked_by, asked_by_kind}
 use Rattle.stinger_server.specs.Program.{asked_for, asked_of_command, asked_of_subcommand, is_quiet, is_version, is_wish_for_help}
 use Rattle.stinger_server.specs.{Program.{program, readers_of, sizes_of, without_help}, declared.arguments.Order.Order}
 use Rattle.stream_store.specs.Configs.{AreSizesWithin, ConfigView}
@@ -53,7 +53,7 @@ by_limits : (kinds : Kinds) (found : Asked) → HasLimits found → HasLimits (a
 by_limits [] found limits = limits
 by_limits (k ∷ ks) found limits = kind_limits (is_wish_for_help k)
 
-asked_limits : (arguments : List Text) → HasLimits (asked arguments)
+asked_limits : (arguments : List Text) → HasLimits (asked_with arguments)
 asked_limits arguments = go (is_version arguments)
   where
     go : (b : Bool) → HasLimits (if b then Version else asked_of_command arguments)
@@ -62,11 +62,11 @@ asked_limits arguments = go (is_version arguments)
         (asked_of_subcommand (subcommand_of program (without_help arguments)))
         (found_limits (subcommand_of program (without_help arguments)))
 
-pub serves_within : (arguments : List Text) (run : RunView) → asked arguments ≡ Serve run
+pub serves_within : (arguments : List Text) (run : RunView) → asked_with arguments ≡ Serve run
     → AreSizesWithin run.sizes.workers run.sizes.blocks run.sizes.seats
 serves_within arguments run e = subst HasLimits e (asked_limits arguments)
 
-pub drives_within : (arguments : List Text) (readers : ℕ) → asked arguments ≡ Drive readers → IsReaderCount readers
+pub drives_within : (arguments : List Text) (readers : ℕ) → asked_with arguments ≡ Drive readers → IsReaderCount readers
 drives_within arguments readers e = subst HasLimits e (asked_limits arguments)
 
 -- clap found nothing wrong

@@ -15,7 +15,7 @@ use Rattle.script_server.specs.declared.script.{ServeFault.{ServeFault, TheVaria
 use Rattle.script_server.specs.Texts.{IsText}
 use Rattle.script_server.specs.Writes.{AppendsPart, AppendsSome}
 use Rattle.script_commands.specs.States.{set_up}
-use Rattle.store_drive.specs.{Reports.{IsReaderCount, IsReport, word_text}, declared.reports.DriveFault.DriveFault}
+use Rattle.store_drive.specs.{Reports.{IsReaderCount, IsReport, drive_word_text}, declared.reports.DriveFault.DriveFault}
 use Rattle.store_drive.specs.declared.reports.DriveReport.{DriveReport}
 
 -- a run: its sizes, and whether no progress is to be shown
@@ -141,8 +141,8 @@ asked_by_kind kind = if is_wish_for_help kind then Help else Usage
 
 -- a command line without an error asks for what its subcommand does
 abbrev pub asked_by : Kinds → Asked → Asked
-asked_by [] asked = asked
-asked_by (kind ∷ more) asked = asked_by_kind kind
+asked_by [] asked_with = asked_with
+asked_by (kind ∷ more) asked_with = asked_by_kind kind
 
 -- what the arguments ask of the command `stinger`, as `clap` reads a command line
 abbrev pub asked_of_command : List (List ℕ) → Asked
@@ -155,8 +155,8 @@ is_version [] = false
 is_version (argument ∷ rest) = bytes_eq (codes "--version") argument || bytes_eq (codes "-V") argument
 
 -- what the arguments after the program's name ask for
-abbrev pub asked : List (List ℕ) → Asked
-asked arguments = if is_version arguments then Version else asked_of_command arguments
+abbrev pub asked_with : List (List ℕ) → Asked
+asked_with arguments = if is_version arguments then Version else asked_of_command arguments
 
 -- what the options of a run, a configuration and an order of the program stand for
 abbrev pub sizes_in : RunOptions → ConfigView
@@ -240,16 +240,16 @@ begins_with_option arguments = false
 
 -- all other arguments are read as if there were no options
 abbrev pub ReadsPlainly : Type 0
-ReadsPlainly = (arguments : List (List ℕ)) → begins_with_option arguments ≡ false → asked arguments ≡ plainly_asked arguments
+ReadsPlainly = (arguments : List (List ℕ)) → begins_with_option arguments ≡ false → asked_with arguments ≡ plainly_asked arguments
 
 -- a script is served with sizes within their limits alone
 abbrev pub ServesWithinLimits : Type 0
-ServesWithinLimits = (arguments : List (List ℕ)) → (run : RunView) → asked arguments ≡ Serve run
+ServesWithinLimits = (arguments : List (List ℕ)) → (run : RunView) → asked_with arguments ≡ Serve run
     → AreSizesWithin run.sizes.workers run.sizes.blocks run.sizes.seats
 
 -- and a drive has one to four readers
 abbrev pub DrivesWithinLimits : Type 0
-DrivesWithinLimits = (arguments : List (List ℕ)) → (readers : ℕ) → asked arguments ≡ Drive readers → IsReaderCount readers
+DrivesWithinLimits = (arguments : List (List ℕ)) → (readers : ℕ) → asked_with arguments ≡ Drive readers → IsReaderCount readers
 
 -- the arguments of a line, which single blanks part
 abbrev pub arguments_from : List ℕ → List ℕ → List (List ℕ)
@@ -263,7 +263,7 @@ arguments_of line = arguments_from [] line
 -- each of these lists of arguments asks for that
 abbrev pub EachAsks : Asked → List (List (List ℕ)) → Type 0
 EachAsks wanted [] = Unit {0}
-EachAsks wanted (arguments ∷ more) = (asked arguments ≡ wanted) × EachAsks wanted more
+EachAsks wanted (arguments ∷ more) = (asked_with arguments ≡ wanted) × EachAsks wanted more
 
 -- the arguments of each of these lines ask for a script served with so many workers, blocks and seats, with its progress
 abbrev pub EachServes : ℕ → ℕ → ℕ → List (List ℕ) → Type 0
@@ -288,9 +288,9 @@ EachIsRefused lines = EachAsks Usage (map arguments_of lines)
 -- ---- what is done and told
 
 -- the status of a run: 0 where it came to the end of the script without an error line
-abbrev pub status_of : Result Summary ServeFault → ℕ
-status_of (Ok summary) = if summary.errors == 0 then 0 else 1
-status_of (Err fault) = 1
+abbrev pub exit_status : Result Summary ServeFault → ℕ
+exit_status (Ok summary) = if summary.errors == 0 then 0 else 1
+exit_status (Err fault) = 1
 
 -- what is said on standard error of a run that came to this: these lines where the output could not be written, where the
 -- store was not opened, and where the input could not be read or had a record too many
@@ -301,25 +301,25 @@ fault_line unwritten unopened unread (Err Write) = Some unwritten
 fault_line unwritten unopened unread _ = None
 
 -- standard error is as it was; or, where there is a line to say, it grew by a first part of that
-abbrev pub IsNoted : {F : Type 0} → (F → Option (List ℕ)) → Option (List ℕ) → F → F → Type 0
-IsNoted contents None old new = new ≡ old
-IsNoted contents (Some line) old new = AppendsPart (contents old) (contents new) line
+abbrev pub IsNotedLine : {F : Type 0} → (F → Option (List ℕ)) → Option (List ℕ) → F → F → Type 0
+IsNotedLine contents None old new = new ≡ old
+IsNotedLine contents (Some line) old new = AppendsPart (contents old) (contents new) line
 
 -- the bytes that were to be read were served, in a run of these sizes: the run came to this, with its status, its text, and
 -- its line on standard error
 pub record IsServed {F : Type 0} (sizes : ConfigView) (remaining : Option (List ℕ)) (status : ℕ) (old new : Option (List ℕ))
     (contents : F → Option (List ℕ)) (line_of : Result Summary ServeFault → Option (List ℕ)) (faults faults' : F) : Type 0 where
   pub outcome : Result Summary ServeFault
-  pub ends : status ≡ status_of outcome
+  pub ends : status ≡ exit_status outcome
   pub text : IfSome remaining (λ bytes. (done : ℕ) × AppendsSome old new (IsText (set_up sizes) (records_of bytes) done outcome))
-  pub noted : IsNoted contents (line_of outcome) faults faults'
+  pub noted : IsNotedLine contents (line_of outcome) faults faults'
 
 abbrev pub EndsWith : List ℕ → List ℕ → Type 0
 EndsWith end text = (front : List ℕ) × (text ≡ front ++ end)
 
 -- such a text was told, with the status for it; or a part of one, with status 1
-abbrev pub IsTold : (List ℕ → Type 0) → ℕ → ℕ → Option (List ℕ) → Option (List ℕ) → Type 0
-IsTold IsSaid told status old new =
+abbrev pub IsToldFault : (List ℕ → Type 0) → ℕ → ℕ → Option (List ℕ) → Option (List ℕ) → Type 0
+IsToldFault IsSaid told status old new =
     ((status ≡ told) × AppendsSome old new IsSaid)
     ⊎ ((status ≡ 1) × ((text : List ℕ) × IsSaid text × AppendsPart old new text))
 
@@ -331,7 +331,7 @@ drive_line (Ok report) =
     ++ (codes " checked=" ++ (decimal report.checked
     ++ (codes " wrong=" ++ (decimal report.wrong
     ++ (codes " last=" ++ (decimal report.last ++ codes "\n")))))))))
-drive_line (Err fault) = codes "drive fault " ++ (word_text fault.word ++ codes "\n")
+drive_line (Err fault) = codes "drive fault " ++ (drive_word_text fault.word ++ codes "\n")
 
 -- its status: 0 where no answer was wrong and the last batch was seen
 abbrev pub drive_status : Result DriveReport DriveFault → ℕ
@@ -344,5 +344,5 @@ pub record IsDriven {F : Type 0} (readers status : ℕ) (old new : Option (List 
     (unwritten : List ℕ) (faults faults' : F) : Type 0 where
   pub outcome : Result DriveReport DriveFault
   pub report : IfOk outcome (IsReport readers)
-  pub told : IsTold (λ text. text ≡ drive_line outcome) (drive_status outcome) status old new
+  pub told : IsToldFault (λ text. text ≡ drive_line outcome) (drive_status outcome) status old new
   pub noted : (faults' ≡ faults) ⊎ ((status ≡ 1) × AppendsPart (contents faults) (contents faults') unwritten)

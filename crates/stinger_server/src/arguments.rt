@@ -4,7 +4,7 @@ ghost use Rattle.std.specs.Prelude.{◌≡◌, ◌≢◌, false, IfOk, map, OnOk
 ghost use Rattle.std.specs.Option.{option_map_or};
 ghost use Rattle.stream_store.specs.Configs.{standard_limits};
 ghost use Rattle.clap.specs.Words.{kind_of, subcommand_rows_of};
-ghost use Rattle.stinger_server.specs.Program.{asked, asked_by_kind, asked_for, asked_if_any, asked_of_command};
+ghost use Rattle.stinger_server.specs.Program.{asked_with, asked_by_kind, asked_for, asked_if_any, asked_of_command};
 ghost use Rattle.stinger_server.specs.Program.{asked_of_subcommand};
 ghost use Rattle.stinger_server.specs.Program.{help_words, is_quiet, is_version, readers_of, run_in, sizes_given, sizes_of};
 ghost use Rattle.stinger_server.specs.Program.{without_help};
@@ -45,7 +45,7 @@ pub(crate) fn read_arguments<'a, A: AllocGlobal>(
     rt: &A,
     arguments: &'a [&'a str],
 ) -> Result<Order, AllocError>
-    ensures { IfOk result (λ order. asked_for order ≡ asked (map (λ argument. argument.now) arguments.now)) }
+    ensures { IfOk result (λ order. asked_for order ≡ asked_with (map (λ argument. argument.now) arguments.now)) }
 {
     if is_version(arguments) {
         return Ok(Order::Version);

@@ -1,7 +1,7 @@
 //! The program over its arguments.
 
 ghost use Rattle.std.specs.Prelude.{◌≡◌, ◌⊎◌, ◌++◌, ℕ, IfOk, map, Ok, Err, string_bytes};
-ghost use Rattle.stinger_server.specs.Program.{Asked, EndsWith, IsDriven, IsServed, IsTold, RunView, asked, drive_line};
+ghost use Rattle.stinger_server.specs.Program.{Asked, EndsWith, IsDriven, IsServed, IsToldFault, RunView, asked_with, drive_line};
 ghost use Rattle.stinger_server.specs.Program.{drive_status};
 ghost use Rattle.stinger_server.specs.Program.{fault_line, is_served, shows_progress, sizes_in};
 ghost use Rattle.stinger_server.specs.declared.texts.TheConstants.{FORMATS, HINT, NOT_TEXT, UNOPENED, UNREAD, UNWRITTEN, VERSION};
@@ -45,23 +45,23 @@ pub fn stinger<'a, A: AllocGlobal + Threads + Wait + Sync, R: Read + Drop, W: Wr
     writer: &mut W,
     faults: &mut F,
 ) -> u8
-    ensures served { (run : RunView) → asked (map (λ argument. argument.now) arguments.now) ≡ Asked.Serve run
+    ensures served { (run : RunView) → asked_with (map (λ argument. argument.now) arguments.now) ≡ Asked.Serve run
         → ((result ≡ 1) × (writer.new ≡ writer.old) × (faults.new ≡ faults.old))
         ⊎ IsServed run.sizes (R.remaining reader) result (W.contents writer.old) (W.contents writer.new)
         F.contents (fault_line UNWRITTEN.now UNOPENED.now UNREAD.now) faults.old faults.new }
-    ensures driven { (readers : ℕ) → asked (map (λ argument. argument.now) arguments.now) ≡ Asked.Drive readers
+    ensures driven { (readers : ℕ) → asked_with (map (λ argument. argument.now) arguments.now) ≡ Asked.Drive readers
         → ((result ≡ 1) × (writer.new ≡ writer.old) × (faults.new ≡ faults.old))
         ⊎ IsDriven readers result (W.contents writer.old) (W.contents writer.new) F.contents UNWRITTEN.now faults.old faults.new }
-    ensures helped { asked (map (λ argument. argument.now) arguments.now) ≡ Asked.Help
-        → IsTold (EndsWith FORMATS.now) 0 result (W.contents writer.old) (W.contents writer.new) }
-    ensures version { asked (map (λ argument. argument.now) arguments.now) ≡ Asked.Version
-        → IsTold (λ text. text ≡ VERSION.now) 0 result (W.contents writer.old) (W.contents writer.new) }
-    ensures noted { (asked (map (λ argument. argument.now) arguments.now) ≡ Asked.Help)
-        ⊎ (asked (map (λ argument. argument.now) arguments.now) ≡ Asked.Version)
+    ensures helped { asked_with (map (λ argument. argument.now) arguments.now) ≡ Asked.Help
+        → IsToldFault (EndsWith FORMATS.now) 0 result (W.contents writer.old) (W.contents writer.new) }
+    ensures version { asked_with (map (λ argument. argument.now) arguments.now) ≡ Asked.Version
+        → IsToldFault (λ text. text ≡ VERSION.now) 0 result (W.contents writer.old) (W.contents writer.new) }
+    ensures noted { (asked_with (map (λ argument. argument.now) arguments.now) ≡ Asked.Help)
+        ⊎ (asked_with (map (λ argument. argument.now) arguments.now) ≡ Asked.Version)
         → (faults.new ≡ faults.old)
         ⊎ ((result ≡ 1) × AppendsPart (F.contents faults.old) (F.contents faults.new) UNWRITTEN.now) }
-    ensures refused { asked (map (λ argument. argument.now) arguments.now) ≡ Asked.Usage
-        → (writer.new ≡ writer.old) × IsTold (EndsWith HINT.now) 2 result (F.contents faults.old) (F.contents faults.new) }
+    ensures refused { asked_with (map (λ argument. argument.now) arguments.now) ≡ Asked.Usage
+        → (writer.new ≡ writer.old) × IsToldFault (EndsWith HINT.now) 2 result (F.contents faults.old) (F.contents faults.new) }
 {
     match read_arguments(rt, arguments) {
         Ok(Order::Serve(options)) => run_sizes(rt, options, reader, writer, faults),
@@ -75,7 +75,7 @@ pub fn stinger<'a, A: AllocGlobal + Threads + Wait + Sync, R: Read + Drop, W: Wr
 
 /// Whether the arguments have a script served; an error where they can't be read for want of memory.
 pub fn serves<'a, A: AllocGlobal>(rt: &A, arguments: &'a [&'a str]) -> Result<bool, AllocError>
-    ensures { IfOk result (λ yes. yes ≡ is_served (asked (map (λ argument. argument.now) arguments.now))) }
+    ensures { IfOk result (λ yes. yes ≡ is_served (asked_with (map (λ argument. argument.now) arguments.now))) }
 {
     match read_arguments(rt, arguments)? {
         Order::Serve(_) => Ok(true),
@@ -89,7 +89,7 @@ pub fn shows_progress<'a, A: AllocGlobal>(
     rt: &A,
     arguments: &'a [&'a str],
 ) -> Result<bool, AllocError>
-    ensures { IfOk result (λ yes. yes ≡ shows_progress (asked (map (λ argument. argument.now) arguments.now))) }
+    ensures { IfOk result (λ yes. yes ≡ shows_progress (asked_with (map (λ argument. argument.now) arguments.now))) }
 {
     match read_arguments(rt, arguments)? {
         Order::Serve(options) => Ok(!options.quiet),
@@ -100,7 +100,7 @@ pub fn shows_progress<'a, A: AllocGlobal>(
 /// Says on `faults` that an argument is not UTF-8, and answers the status for wrong arguments, 2; or 1, where that
 /// could not be written.
 pub fn refuse_arguments<F: Write>(faults: &mut F) -> u8
-    ensures { IsTold (λ text. text ≡ NOT_TEXT.now ++ HINT.now) 2 result (F.contents faults.old) (F.contents faults.new) }
+    ensures { IsToldFault (λ text. text ≡ NOT_TEXT.now ++ HINT.now) 2 result (F.contents faults.old) (F.contents faults.new) }
 {
     tell(faults, NOT_TEXT, HINT, USAGE)
 }
@@ -214,7 +214,7 @@ fn word_line(word: DriveWord) -> &'static str
 /// Writes a text that was asked for, and then its end: the status is this one; or 1 where a write failed, and then a line on
 /// `faults` says so.
 fn show<W: Write, F: Write>(writer: &mut W, faults: &mut F, text: &str, end: &str, status: u8) -> u8
-    ensures told { IsTold (λ told. told ≡ text.now ++ end.now) status result (W.contents writer.old) (W.contents writer.new) }
+    ensures told { IsToldFault (λ told. told ≡ text.now ++ end.now) status result (W.contents writer.old) (W.contents writer.new) }
     ensures noted { (faults.new ≡ faults.old)
         ⊎ ((result ≡ 1) × AppendsPart (F.contents faults.old) (F.contents faults.new) UNWRITTEN.now) }
 {
@@ -229,7 +229,7 @@ fn show<W: Write, F: Write>(writer: &mut W, faults: &mut F, text: &str, end: &st
 
 /// Writes a text and then its end: the status is this one, or 1 where a write failed.
 fn tell<W: Write>(writer: &mut W, text: &str, end: &str, status: u8) -> u8
-    ensures { IsTold (λ told. told ≡ text.now ++ end.now) status result (W.contents writer.old) (W.contents writer.new) }
+    ensures { IsToldFault (λ told. told ≡ text.now ++ end.now) status result (W.contents writer.old) (W.contents writer.new) }
 {
     match write_text(writer, text, end) {
         Ok(()) => status,

@@ -18,59 +18,59 @@ abbrev pub kind_name : ℕ → List ℕ
 kind_name n = codes "k" ++ decimal n
 
 -- the names and the weight at a place of a batch
-abbrev pub source_at : ℕ → ℕ → List ℕ
-source_at batch place = vertex_name ((3 * batch + place) % 24)
+abbrev pub load_source : ℕ → ℕ → List ℕ
+load_source batch place = vertex_name ((3 * batch + place) % 24)
 
 abbrev pub target_at : ℕ → ℕ → List ℕ
 target_at batch place = vertex_name ((5 * batch + 2 * place) % 24)
 
-abbrev pub kind_at : ℕ → List ℕ
-kind_at place = kind_name (place % 3)
+abbrev pub load_kind : ℕ → List ℕ
+load_kind place = kind_name (place % 3)
 
-abbrev pub weight_at : ℕ → ℕ → ℤ
-weight_at batch place = pos (1 + (batch + place) % 5)
+abbrev pub load_weight : ℕ → ℕ → ℤ
+load_weight batch place = pos (1 + (batch + place) % 5)
 
 -- the operation at a place of a batch, at the time that is the batch's number: the places 3 and 6 add to a weight, the place 7
 -- removes an edge, and all others insert one
-abbrev pub operation_at : ℕ → ℕ → NamedOp
-operation_at batch place =
+abbrev pub load_operation : ℕ → ℕ → NamedOp
+load_operation batch place =
     if (place == 3) || (place == 6)
-    then Incr (kind_at place) (source_at batch place) (target_at batch place) (weight_at batch place) batch
+    then Incr (load_kind place) (load_source batch place) (target_at batch place) (load_weight batch place) batch
     else (if place == 7
-    then Remove (kind_at place) (source_at batch place) (target_at batch place)
-    else Insert (kind_at place) (source_at batch place) (target_at batch place) (weight_at batch place) batch)
+    then Remove (load_kind place) (load_source batch place) (target_at batch place)
+    else Insert (load_kind place) (load_source batch place) (target_at batch place) (load_weight batch place) batch)
 
 -- the batch of a number: eight operations
 abbrev pub batch_at : ℕ → List NamedOp
-batch_at batch = map (operation_at batch) (range_with_len 0 8)
+batch_at batch = map (load_operation batch) (range_with_len 0 8)
 
 -- the edges of a kind, or of any, whose recent time is in a window
-abbrev pub filter_of : Option (List ℕ) → ℕ → ℕ → NamedFilter
-filter_of kind lo hi = record { kind = kind; lo = lo; hi = hi }
+abbrev pub named_filter : Option (List ℕ) → ℕ → ℕ → NamedFilter
+named_filter kind lo hi = record { kind = kind; lo = lo; hi = hi }
 
 -- what each version is asked: by walks over it, and of its edges one by one
 abbrev pub walks : List Request
 walks =
-    Levels (vertex_name 3) (filter_of None 0 64)
-    ∷ Labels (filter_of None 0 64)
-    ∷ Cores (filter_of (Some (kind_name 0)) 0 32)
+    Levels (vertex_name 3) (named_filter None 0 64)
+    ∷ Labels (named_filter None 0 64)
+    ∷ Cores (named_filter (Some (kind_name 0)) 0 32)
     ∷ []
 
 abbrev pub requests : List Request
 requests =
     walks
-    ++ Degrees (filter_of None 16 48)
+    ++ Degrees (named_filter None 16 48)
     ∷ OneEdge (kind_name 1) (vertex_name 4) (vertex_name 7)
     ∷ []
 
 -- the number and the outcomes are those of a receipt of the load's batch of this number
-pub record IsAnswered (batch : ℕ) (answered : Answered) : Type 0 where
+pub record IsBatchAnswered (batch : ℕ) (answered : Answered) : Type 0 where
   pub told : ToldView
   pub receipt_is : IsReceiptOf (batch_at batch) answered.number answered.outcomes told
 
 -- each at its place, the first of which is that of batch 1
 abbrev pub AreAnswered : List Answered → Type 0
-AreAnswered list = (place : ℕ) → IfSome (slice_get list place) (IsAnswered (place + 1))
+AreAnswered list = (place : ℕ) → IfSome (slice_get list place) (IsBatchAnswered (place + 1))
 
 -- the version of this number is neither the empty one nor that behind all 64 batches
 abbrev pub lies_between : ℕ → Bool

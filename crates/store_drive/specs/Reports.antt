@@ -1,20 +1,18 @@
 -- What a drive tells.
 use Rattle.std.specs.Prelude.{◌≡◌, ℕ, ◌*◌, ◌≤◌, List, codes}
-use Rattle.desk.specs.declared.errors.ApplyError.{ApplyError}
-use Rattle.desk.specs.declared.errors.ApplyError.TheVariants as errors
-use Rattle.graph_model.specs.declared.apply.PlainError.{PlainError}
-use Rattle.graph_model.specs.declared.apply.PlainError.TheVariants as plain
+use Rattle.graph_types.specs.declared.refusals.ApplyError.{ApplyError}
+use Rattle.graph_types.specs.declared.refusals.ApplyError.TheVariants as errors
 use Rattle.store_drive.specs.declared.reports.{DriveCounts.DriveCounts, DriveReport.DriveReport, DriveWord.DriveWord}
 use Rattle.store_drive.specs.declared.reports.DriveWord.TheVariants.{Start, Memory, BatchLimit, NamesFull, KindsFull, PoolEmpty}
 
 -- a word as the program writes it
-abbrev pub word_text : DriveWord → List ℕ
-word_text Start = codes "Start"
-word_text Memory = codes "Memory"
-word_text BatchLimit = codes "BatchLimit"
-word_text NamesFull = codes "NamesFull"
-word_text KindsFull = codes "KindsFull"
-word_text PoolEmpty = codes "PoolEmpty"
+abbrev pub drive_word_text : DriveWord → List ℕ
+drive_word_text Start = codes "Start"
+drive_word_text Memory = codes "Memory"
+drive_word_text BatchLimit = codes "BatchLimit"
+drive_word_text NamesFull = codes "NamesFull"
+drive_word_text KindsFull = codes "KindsFull"
+drive_word_text PoolEmpty = codes "PoolEmpty"
 
 -- the word of a refused batch
 abbrev pub word_of : ApplyError → DriveWord
@@ -23,12 +21,6 @@ word_of errors.NamesFull = NamesFull
 word_of errors.KindsFull = KindsFull
 word_of (errors.PoolEmpty needed free) = PoolEmpty
 word_of errors.OutOfMemory = Memory
-
--- the word of a batch that the plain application refused
-abbrev pub plain_word : PlainError → DriveWord
-plain_word plain.NamesFull = NamesFull
-plain_word plain.KindsFull = KindsFull
-plain_word plain.OutOfMemory = Memory
 
 -- one to four threads read
 pub record IsReaderCount (readers : ℕ) : Type 0 where

@@ -5,26 +5,13 @@ ghost use Rattle.graph_types.specs.Graph.{graph_of, IsContentIn};
 ghost use Rattle.graph_types.specs.Limits.{standard_limits};
 ghost use Rattle.graph_types.specs.Step.{empty_graph, left_by};
 ghost use Rattle.graph_version.specs.BatchLending.{batches_left};
-ghost use Rattle.store_drive.specs.Reports.{plain_word};
 
 use crate::reports::DriveWord;
-use graph_model::{PlainError, plain_apply};
+use graph_model::plain_apply;
 use graph_types::{Batch, Content, List};
 use graph_version::Version;
 use std::alloc::Global;
 use version_pages::BatchIter;
-
-impl From<PlainError> for DriveWord {
-    ghost from_gives = { λ error e. e ≡ plain_word error };
-
-    fn from(error: PlainError) -> DriveWord {
-        match error {
-            PlainError::NamesFull => DriveWord::NamesFull,
-            PlainError::KindsFull => DriveWord::KindsFull,
-            PlainError::OutOfMemory => DriveWord::Memory,
-        }
-    }
-}
 
 /// The content without names and edges.
 #[tactic(auto, using(graph_types::proofs::Empty::empty_content_in))]

@@ -2,7 +2,7 @@
 
 ghost use Rattle.std.specs.Prelude.{◌≡◌, ◌≤◌, ◌*◌, All, length, IfOk};
 ghost use Rattle.graph_types.specs.Step.{empty_graph};
-ghost use Rattle.stream_store.specs.Stores.{IsOfOpening, IsSeatOf};
+ghost use Rattle.stream_store.specs.Stores.{IsOfOpening, IsSeatOfOpening};
 ghost use Rattle.store_drive.specs.Reports.{AreCounts, IsReaderCount, IsReport};
 
 use crate::feeder::{Fed, FedLoad, feed};
@@ -48,7 +48,7 @@ fn read_all<J: Naming + Send + Sync, R: Threads + Wait + Sync>(
     pace: &Pace,
     seats: Vec<Seat>,
 ) -> Result<Vec<Result<Reading<J>, DriveWord>>, DriveWord>
-    requires { All (IsSeatOf J.book empty_graph) seats.items }
+    requires { All (IsSeatOfOpening J.book empty_graph) seats.items }
     ensures { IfOk result (λ readings. length readings.items ≡ length seats.items) }
 {
     let readings = map_vec(
@@ -72,7 +72,7 @@ fn read_and_fed<J: Naming + Send + Sync, R: Threads + Wait + Sync>(
     Result<Vec<Result<Reading<J>, DriveWord>>, DriveWord>,
     Result<FedLoad<J>, DriveWord>,
 )
-    requires { All (IsSeatOf J.book empty_graph) seats.items }
+    requires { All (IsSeatOfOpening J.book empty_graph) seats.items }
     ensures readings { IfOk result.0 (λ readings. length readings.items ≡ length seats.items) }
     ensures fed { IfOk result.1 (λ feed. length feed.earlier.items ≡ 63) }
 {
@@ -81,7 +81,7 @@ fn read_and_fed<J: Naming + Send + Sync, R: Threads + Wait + Sync>(
     join(
         rt,
         || -> Result<Vec<Result<Reading<J>, DriveWord>>, DriveWord>
-            requires { All (IsSeatOf J.book empty_graph) seats.items }
+            requires { All (IsSeatOfOpening J.book empty_graph) seats.items }
             ensures { IfOk result (λ readings. length readings.items ≡ length seats.items) }
         { read_all(rt, alloc, store, &pace, seats) },
         || -> Result<FedLoad<J>, DriveWord>
@@ -153,7 +153,7 @@ fn drive_over<J: Naming + Send + Sync, R: Threads + Wait + Sync>(
     requires book { desk.book ≡ J.book }
     requires opening { desk.desk.last.opening ≡ J.opening }
     requires empty { J.opening ≡ empty_graph }
-    requires seats { All (IsSeatOf J.book empty_graph) seats.items }
+    requires seats { All (IsSeatOfOpening J.book empty_graph) seats.items }
     requires readers { IsReaderCount (length seats.items) }
     ensures { IfOk result (AreCounts (length seats.items)) }
 {

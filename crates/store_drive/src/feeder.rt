@@ -4,7 +4,7 @@ ghost use Rattle.std.specs.Prelude.{◌≡◌, ◌≤◌, length, IfOk};
 ghost use Rattle.std.specs.Coded.{codes};
 ghost use Rattle.graph_types.specs.Coded.{graph_code};
 ghost use Rattle.stream_store.specs.Stores.{IsReceiptOf};
-ghost use Rattle.store_drive.specs.Load.{AreAnswered, IsAnswered};
+ghost use Rattle.store_drive.specs.Load.{AreAnswered, IsBatchAnswered};
 ghost use Rattle.store_drive.specs.Load as load;
 
 use crate::load::{BATCHES, batch_of};

@@ -40,7 +40,7 @@ fn kind(alloc: Global, number: u32) -> Result<Name, AllocError>
 fn operation(alloc: Global, batch: u32, place: u32) -> Result<NamedOp, AllocError>
     requires batch { batch ≤ 64 }
     requires place { place < 8 }
-    ensures { IfOk result (λ op. op ≡ load.operation_at batch place) }
+    ensures { IfOk result (λ op. op ≡ load.load_operation batch place) }
 {
     let kind = kind(alloc, place % KINDS)?;
     let source = vertex(alloc, (3 * batch + place) % VERTICES)?;
@@ -97,7 +97,7 @@ pub(crate) fn batch_of(alloc: Global, number: u32) -> Result<Batch, AllocError>
 
 /// The edges of any kind with a recent time in a window.
 fn any(lo: u64, hi: u64) -> NamedFilter
-    ensures { result ≡ load.filter_of None lo hi }
+    ensures { result ≡ load.named_filter None lo hi }
 {
     NamedFilter { kind: None, lo, hi }
 }

@@ -1,7 +1,7 @@
 //! What a drive tells.
 
 ghost use Rattle.std.specs.Prelude.{◌≡◌};
-ghost use Rattle.store_drive.specs.Reports.{word_of, word_text};
+ghost use Rattle.store_drive.specs.Reports.{word_of, drive_word_text};
 ghost use Rattle.store_drive.specs.declared.reports.DriveWord.TheVariants.{Memory};
 
 use std::alloc::{AllocError, AllocFailed};
@@ -60,7 +60,7 @@ pub struct DriveFault {
 impl DriveFault {
     /// The word as the program writes it: its variant's name. It takes no memory.
     pub fn word(&self) -> &'static str
-        ensures { result.now ≡ word_text self.now.word }
+        ensures { result.now ≡ drive_word_text self.now.word }
     {
         match self.word {
             DriveWord::Start => "Start",

@@ -6,7 +6,7 @@ use Rattle.std.specs.declared.option.Option.{Option, TheVariants.None, TheVarian
 use Rattle.block_pool.{proofs.Grants.length-marked, specs.Pools.{retired, is_free_at, marked, is_used_at}}
 use Rattle.edge_block.specs.Slots.{BlockView}
 use Rattle.graph_version.specs.Rows.{row_of, blocks_of, numbers_of}
-use Rattle.block_reclamation.specs.{Status.is_listed, Status.is_used, Status.is_at, declared.status.BlockStatus.TheVariants.Used}
+use Rattle.block_reclamation.specs.{Status.is_among, Status.is_used, Status.is_at, declared.status.BlockStatus.TheVariants.Used}
 use Rattle.epoch_core.specs.Blocks.{all_differ}
 use Rattle.store_steps.specs.Journal.{Entry, Ledger, opened_ledger, is_legal, after_entry, entered, replay}
 use Rattle.store_steps.specs.Desks.{IsDesk, IsAccepted, FollowsBirths, birth_at, last_numbers, ledger_of}
@@ -43,7 +43,7 @@ is_legal_in a =
     rw (free, apart, born, different) refl
 
 -- a block of the next version that isn't a taken one is a block of the last
-kept_before : (a : Application) (b : BlockView) → Contains (blocks_of a.version.rows) b → is_listed b.number a.taken ≡ false
+kept_before : (a : Application) (b : BlockView) → Contains (blocks_of a.version.rows) b → is_among b.number a.taken ≡ false
     → Contains (blocks_of a.old.last.rows) b
 kept_before a b there apart =
     let p : BlockView → Bool = λ x. same_block x b in
@@ -55,8 +55,8 @@ kept_before a b there apart =
       | zero ↦ λ none. listed b (blocks_of a.old.last.rows) (omega arith)
       | suc n ↦ λ some.
           (let fresh : Contains a.applied.exchanged.fresh b = listed b a.applied.exchanged.fresh (omega arith) in
-          let taken : is_listed b.number a.taken ≡ true =
-          ap (is_listed b.number) (sym a.applied.exchanged.taken_are)
+          let taken : is_among b.number a.taken ≡ true =
+          ap (is_among b.number) (sym a.applied.exchanged.taken_are)
           ∙ number_in a.applied.exchanged.fresh b fresh.0 fresh.1 fresh.2 in
           absurd (true≢false (sym taken ∙ apart)))
     ] refl
@@ -67,25 +67,25 @@ default_same bs k d h = grind (arith, common_steps)
 -- Births
 
 birth_next : (a : Application) (m : ℕ) → birth_at (next_desk a).pool m
-    ≡ birth_in (number_after (number_in_desk a) (slice_get a.old.pool m) (is_listed m a.taken) (is_listed m (dropped_numbers a)))
+    ≡ birth_in (number_after (number_in_desk a) (slice_get a.old.pool m) (is_among m a.taken) (is_among m (dropped_numbers a)))
 birth_next a m =
     birth_from (next_desk a).pool m
     ∙ ap birth_in (exchanged_at (number_in_desk a) a.taken (dropped_numbers a) a.old.pool m (dropped_differ a))
 
-taken_born : (a : Application) (m : ℕ) → is_listed m a.taken ≡ true → birth_at (next_desk a).pool m ≡ number_in_desk a
+taken_born : (a : Application) (m : ℕ) → is_among m a.taken ≡ true → birth_at (next_desk a).pool m ≡ number_in_desk a
 taken_born a m is =
     birth_next a m
-    ∙ ap (λ t. birth_in (number_after (number_in_desk a) (slice_get a.old.pool m) t (is_listed m (dropped_numbers a)))) is
-    ∙ birth_taken (number_in_desk a) (slice_get a.old.pool m) (is_listed m (dropped_numbers a))
+    ∙ ap (λ t. birth_in (number_after (number_in_desk a) (slice_get a.old.pool m) t (is_among m (dropped_numbers a)))) is
+    ∙ birth_taken (number_in_desk a) (slice_get a.old.pool m) (is_among m (dropped_numbers a))
     (granted_free a.old.pool a.numbers m a.applied.free (taken_granted a m is))
 
-listed_born : (a : Application) (m : ℕ) → is_listed m (last_numbers a.old) ≡ true
+listed_born : (a : Application) (m : ℕ) → is_among m (last_numbers a.old) ≡ true
     → birth_at (next_desk a).pool m ≡ birth_at a.old.pool m
 listed_born a m listed =
-    let none : is_listed m a.taken ≡ false = not_taken a m (not_granted a.old a.numbers m a.before a.applied.free listed) in
+    let none : is_among m a.taken ≡ false = not_taken a m (not_granted a.old a.numbers m a.before a.applied.free listed) in
     birth_next a m
-    ∙ ap (λ t. birth_in (number_after (number_in_desk a) (slice_get a.old.pool m) t (is_listed m (dropped_numbers a)))) none
-    ∙ birth_stays (number_in_desk a) (slice_get a.old.pool m) (is_listed m (dropped_numbers a)) ∙ sym (birth_from a.old.pool m)
+    ∙ ap (λ t. birth_in (number_after (number_in_desk a) (slice_get a.old.pool m) t (is_among m (dropped_numbers a)))) none
+    ∙ birth_stays (number_in_desk a) (slice_get a.old.pool m) (is_among m (dropped_numbers a)) ∙ sym (birth_from a.old.pool m)
 
 births_followed : (a : Application) → FollowsBirths a.old a.ops (dropped_numbers a) (next_desk a)
 births_followed a = record {

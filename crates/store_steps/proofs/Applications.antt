@@ -4,9 +4,9 @@ use Rattle.std.{proofs.lemmas.Grind.common_steps, specs.Prelude.slice_get, specs
 use Rattle.graph_types.specs.declared.batches.NamedOp.{NamedOp}
 use Rattle.edge_block.specs.Slots.{BlockView}
 use Rattle.graph_version.specs.{Rows.blocks_of, Rows.numbers_of, Versions.VersionView}
-use Rattle.block_reclamation.specs.{Status.is_listed, declared.status.BlockStatus.BlockStatus}
+use Rattle.block_reclamation.specs.{Status.is_among, declared.status.BlockStatus.BlockStatus}
 use Rattle.block_reclamation.specs.declared.status.BlockStatus.TheVariants.{Free, Granted, Used}
-use Rattle.block_pool.specs.Pools.{retired, is_free_at, marked, changed, AreFree, is_used_at}
+use Rattle.block_pool.specs.Pools.{retired, is_free_at, marked, changed_numbers, AreFree, is_used_at}
 use Rattle.epoch_core.{specs.Blocks.all_differ, proofs.Lists.all_listed}
 use Rattle.store_steps.specs.{Journal.{Entry, Applied, exchanged}, Desks.{DeskView, IsDesk, IsAppliedTo, desk_after}}
 use Rattle.store_steps.{specs.Desks.last_numbers, proofs.{NumberLists.{all_from, differ_from}, ChangedLists.marked_at}}
@@ -74,11 +74,11 @@ handed_once a m =
     let same = handed_times a m in omega arith
 
 -- numbers that were granted are free
-pub granted_free : (pool : List BlockStatus) (numbers : List ℕ) (m : ℕ) → AreFree pool numbers → is_listed m numbers ≡ true
+pub granted_free : (pool : List BlockStatus) (numbers : List ℕ) (m : ℕ) → AreFree pool numbers → is_among m numbers ≡ true
     → is_free_at pool m ≡ true
 granted_free pool numbers m free is = all_listed (is_free_at pool) numbers m (all_from (is_free_at pool) numbers free.free) is
 
-pub in_numbers : (a : Application) (m : ℕ) → is_listed m a.numbers ≡ is_some_times (times m a.taken + times m a.unused)
+pub in_numbers : (a : Application) (m : ℕ) → is_among m a.numbers ≡ is_some_times (times m a.taken + times m a.unused)
 in_numbers a m = in_times m a.numbers ∙ ap is_some_times (handed_times a m)
 
 in_before : (a : Application) (m : ℕ) → is_used_at a.old.pool m ≡ is_some_times (kept_times a m + dropped_times a m)
@@ -98,23 +98,23 @@ some_either a b e = grind (arith, common_steps)
 pub dropped_differ : (a : Application) → all_differ (dropped_numbers a) ≡ true
 dropped_differ a = apart_if (dropped_numbers a) (λ m. let once = before_once a m in omega arith)
 
-pub dropped_born : (a : Application) (m : ℕ) → is_listed m (dropped_numbers a) ≡ true → is_used_at a.old.pool m ≡ true
+pub dropped_born : (a : Application) (m : ℕ) → is_among m (dropped_numbers a) ≡ true → is_used_at a.old.pool m ≡ true
 dropped_born a m is = in_before a m ∙ some_either (kept_times a m) (dropped_times a m) (sym (in_times m (dropped_numbers a)) ∙ is)
 
 -- The pool, at one number
 
 pub exchanged_at : (number : ℕ) (taken dropped : List ℕ) (pool : List BlockStatus) (m : ℕ) → all_differ dropped ≡ true
-    → slice_get (exchanged number taken dropped pool) m ≡ number_after number (slice_get pool m) (is_listed m taken) (is_listed m dropped)
+    → slice_get (exchanged number taken dropped pool) m ≡ number_after number (slice_get pool m) (is_among m taken) (is_among m dropped)
 exchanged_at number taken dropped pool m apart =
     changed_at (retired number) dropped (marked taken (Used number) pool) m apart
-    ∙ ap (λ o. if is_listed m dropped then option_map (retired number) o else o) (marked_at taken (Used number) pool m)
+    ∙ ap (λ o. if is_among m dropped then option_map (retired number) o else o) (marked_at taken (Used number) pool m)
 
 pub next_at : (a : Application) (m : ℕ) → slice_get (next_desk a).pool m
     ≡ number_after (number_in_desk a) (slice_get a.old.pool m) (is_some_times (times m a.taken))
     (is_some_times (dropped_times a m))
 next_at a m =
     exchanged_at (number_in_desk a) a.taken (dropped_numbers a) a.old.pool m (dropped_differ a)
-    ∙ ap (λ t. number_after (number_in_desk a) (slice_get a.old.pool m) t (is_listed m (dropped_numbers a))) (in_times m a.taken)
+    ∙ ap (λ t. number_after (number_in_desk a) (slice_get a.old.pool m) t (is_among m (dropped_numbers a))) (in_times m a.taken)
     ∙ ap (number_after (number_in_desk a) (slice_get a.old.pool m) (is_some_times (times m a.taken)))
     (in_times m (dropped_numbers a))
 
@@ -126,18 +126,18 @@ abbrev pub born_pool : Application → List BlockStatus
 born_pool a = marked a.taken (Used (number_in_desk a)) (granted_pool a)
 
 abbrev pub retired_pool : Application → List BlockStatus
-retired_pool a = changed (retired (number_in_desk a)) (dropped_numbers a) (born_pool a)
+retired_pool a = changed_numbers (retired (number_in_desk a)) (dropped_numbers a) (born_pool a)
 
 retired_at : (a : Application) (m : ℕ) → slice_get (retired_pool a) m ≡ number_after (number_in_desk a)
     (marked_if Granted (is_some_times (times m a.taken + times m a.unused)) (slice_get a.old.pool m))
     (is_some_times (times m a.taken)) (is_some_times (dropped_times a m))
 retired_at a m =
     exchanged_at (number_in_desk a) a.taken (dropped_numbers a) (granted_pool a) m (dropped_differ a)
-    ∙ ap (λ o. number_after (number_in_desk a) o (is_listed m a.taken) (is_listed m (dropped_numbers a)))
+    ∙ ap (λ o. number_after (number_in_desk a) o (is_among m a.taken) (is_among m (dropped_numbers a)))
     (marked_at a.numbers Granted a.old.pool m ∙ ap (λ t. marked_if Granted t (slice_get a.old.pool m)) (in_numbers a m))
     ∙ ap (λ t. number_after (number_in_desk a)
     (marked_if Granted (is_some_times (times m a.taken + times m a.unused)) (slice_get a.old.pool m)) t
-    (is_listed m (dropped_numbers a))) (in_times m a.taken) ∙ ap (number_after (number_in_desk a)
+    (is_among m (dropped_numbers a))) (in_times m a.taken) ∙ ap (number_after (number_in_desk a)
     (marked_if Granted (is_some_times (times m a.taken + times m a.unused)) (slice_get a.old.pool m))
     (is_some_times (times m a.taken))) (in_times m (dropped_numbers a))
 

@@ -4,8 +4,8 @@ use Rattle.std.specs.{Prelude.if◌then◌else◌, declared.option.Option.TheVar
 use Rattle.graph_types.specs.declared.batches.NamedOp.{NamedOp}
 use Rattle.edge_block.specs.Slots.{BlockView}
 use Rattle.graph_version.specs.{Rows.numbers_of, Versions.VersionView}
-use Rattle.block_reclamation.specs.{Status.is_listed, declared.status.BlockStatus.TheVariants.{Free, Granted, Used}}
-use Rattle.block_pool.specs.Pools.{retired, is_free_at, marked, changed, is_used_at}
+use Rattle.block_reclamation.specs.{Status.is_among, declared.status.BlockStatus.TheVariants.{Free, Granted, Used}}
+use Rattle.block_pool.specs.Pools.{retired, is_free_at, marked, changed_numbers, is_used_at}
 use Rattle.epoch_core.proofs.Lists.{all_listed}
 use Rattle.store_steps.specs.Journal.{Entry, Applied, Ledger, is_legal, after_entry, entered}
 use Rattle.store_steps.specs.Desks.{DeskView, IsDesk, IsAppliedTo, IsAccepted, desk_after}
@@ -20,11 +20,11 @@ not_if : (b : Bool) → (b ≡ true → false ≡ true) → b ≡ false
 not_if b h = grind (arith, common_steps)
 
 -- a batch that takes what isn't free, or drops what isn't the last version's, isn't entered
-pub taken_is_free : (l : Ledger) (batch : List NamedOp) (taken dropped : List ℕ) (n : ℕ) → is_listed n taken ≡ true
+pub taken_is_free : (l : Ledger) (batch : List NamedOp) (taken dropped : List ℕ) (n : ℕ) → is_among n taken ≡ true
     → is_free_at l.pool n ≡ false → entered l (Applied batch taken dropped) ≡ None
 taken_is_free l batch taken dropped n is none = grind (arith, common_steps, not_entered, not_if, all_listed, legal_batch)
 
-pub dropped_is_born : (l : Ledger) (batch : List NamedOp) (taken dropped : List ℕ) (n : ℕ) → is_listed n dropped ≡ true
+pub dropped_is_born : (l : Ledger) (batch : List NamedOp) (taken dropped : List ℕ) (n : ℕ) → is_among n dropped ≡ true
     → is_used_at l.pool n ≡ false → entered l (Applied batch taken dropped) ≡ None
 dropped_is_born l batch taken dropped n is none = grind (arith, common_steps, not_entered, not_if, all_listed, legal_batch)
 
@@ -51,7 +51,7 @@ module _ (old : DeskView) (ops : List NamedOp) (numbers : List ℕ) (version : V
   applied_desk = made_desk application
 
   pub applied_moves :
-      marked unused Free (changed (retired (length old.last.batches + 1)) (numbers_of dropped)
+      marked unused Free (changed_numbers (retired (length old.last.batches + 1)) (numbers_of dropped)
       (marked taken (Used (length old.last.batches + 1)) (marked numbers Granted old.pool)))
       ≡ (desk_after old ops version taken dropped).pool
   applied_moves = moves_left application

@@ -4,7 +4,7 @@ use Rattle.std.{proofs.{Common.arith, lemmas.{Grind.common_steps, Bool.{eq-eqb, 
 use Rattle.std.specs.declared.option.Option.{Option, TheVariants.{None, Some}}
 use Rattle.edge_block.specs.Slots.{BlockView}
 use Rattle.graph_version.specs.Rows.{row_of, blocks_of, numbers_of}
-use Rattle.block_reclamation.specs.{Status.is_listed, Status.is_free, Status.is_at, declared.status.BlockStatus.BlockStatus}
+use Rattle.block_reclamation.specs.{Status.is_among, Status.is_free, Status.is_at, declared.status.BlockStatus.BlockStatus}
 use Rattle.store_steps.{specs.Desks.birth_of, specs.Desks.birth_at, proofs.OneNumber.number_after}
 
 -- One number
@@ -34,23 +34,23 @@ pub births_of : (pool : List BlockStatus) (bs : List BlockView)
 births_of pool [] = refl
 births_of pool (b ∷ bs) = ap (λ births. birth_at pool b.number ∷ births) (births_of pool bs)
 
-in_first : (m : ℕ) (bs cs : List BlockView) → is_listed m (numbers_of bs) ≡ true → is_listed m (numbers_of (bs ++ cs)) ≡ true
+in_first : (m : ℕ) (bs cs : List BlockView) → is_among m (numbers_of bs) ≡ true → is_among m (numbers_of (bs ++ cs)) ≡ true
 in_first m bs cs is = grind (arith, common_steps)
 
-in_second : (m : ℕ) (bs cs : List BlockView) → is_listed m (numbers_of cs) ≡ true → is_listed m (numbers_of (bs ++ cs)) ≡ true
+in_second : (m : ℕ) (bs cs : List BlockView) → is_among m (numbers_of cs) ≡ true → is_among m (numbers_of (bs ++ cs)) ≡ true
 in_second m bs cs is = grind (arith, common_steps)
 
 -- the number of a block of a row is one of all rows
 pub number_of_row : (bs : List BlockView) (k : ℕ) (d : BlockView) → k < length bs
-    → is_listed (get_or bs k d).number (numbers_of bs) ≡ true
+    → is_among (get_or bs k d).number (numbers_of bs) ≡ true
 number_of_row [] k d h = absurd (omega arith)
 number_of_row (b ∷ bs) zero d h = let same : (b.number == b.number) ≡ true = eq-eqb b.number b.number refl in rw same refl
 number_of_row (b ∷ bs) (suc k) d h =
-    or_right (b.number == (get_or bs k d).number) (is_listed (get_or bs k d).number (numbers_of bs))
+    or_right (b.number == (get_or bs k d).number) (is_among (get_or bs k d).number (numbers_of bs))
     (number_of_row bs k d (omega arith))
 
-pub row_listed : (rows : List (List BlockView)) (source m : ℕ) → is_listed m (numbers_of (row_of rows source)) ≡ true
-    → is_listed m (numbers_of (blocks_of rows)) ≡ true
+pub row_listed : (rows : List (List BlockView)) (source m : ℕ) → is_among m (numbers_of (row_of rows source)) ≡ true
+    → is_among m (numbers_of (blocks_of rows)) ≡ true
 row_listed [] source m is = cc
 row_listed (row ∷ rows) zero m is = in_first m row (blocks_of rows) is
 row_listed (row ∷ rows) (suc source) m is = in_second m row (blocks_of rows) (row_listed rows source m is)

@@ -1,7 +1,7 @@
 -- One block after another is given back or retired.
 use Rattle.std.proofs.{Common.{◌≡◌, ℕ, ◌==◌, true, false, List, [], ◌∷◌, set, refl, sym, ap, ◌∙◌}, lemmas.Bool.{eq-eqb, or_parts, true≢false}}
 use Rattle.std.specs.{List.list_all, Prelude.{slice_get, Bool}}
-use Rattle.block_reclamation.specs.{declared.status.BlockStatus.BlockStatus, Status.is_at, Status.is_listed}
+use Rattle.block_reclamation.specs.{declared.status.BlockStatus.BlockStatus, Status.is_at, Status.is_among}
 use Rattle.epoch_core.{specs.Blocks.all_differ, proofs.Lists.{set_else, and_left, and_right}}
 use Rattle.store_steps.proofs.NumberLists.{differ_head, differ_tail}
 
@@ -12,11 +12,11 @@ pub record AreMovable (test : BlockStatus → Bool) (ns : List ℕ) (pool : List
 
 -- numbers that pass and are different do so yet, once another one was moved
 still_pass : (test : BlockStatus → Bool) (n : ℕ) (ns : List ℕ) (s : BlockStatus) (pool : List BlockStatus)
-    → list_all (λ m. is_at test (slice_get pool m)) ns ≡ true → is_listed n ns ≡ false
+    → list_all (λ m. is_at test (slice_get pool m)) ns ≡ true → is_among n ns ≡ false
     → list_all (λ m. is_at test (slice_get (set pool n s) m)) ns ≡ true
 still_pass test n [] s pool pass apart = refl
 still_pass test n (m ∷ ns) s pool pass apart =
-    let parts : ((m == n) ≡ false) × (is_listed n ns ≡ false) = or_parts (m == n) (is_listed n ns) apart in
+    let parts : ((m == n) ≡ false) × (is_among n ns ≡ false) = or_parts (m == n) (is_among n ns) apart in
     let same : is_at test (slice_get (set pool n s) m) ≡ is_at test (slice_get pool m) =
     ap (is_at test) (set_else pool n m s (λ e. absurd (true≢false (sym (eq-eqb m n e) ∙ parts.0)))) in
     let here : is_at test (slice_get (set pool n s) m) ≡ true = same ∙ and_left _ _ pass in

@@ -3,8 +3,8 @@ use Rattle.std.proofs.Common.{◌≡◌, ℕ, zero, suc, ◌==◌, Bool, true, f
 use Rattle.std.proofs.{Common.subst, Common.◌∙◌, Common.arith, lemmas.Bool.eqb-true, lemmas.List.length-set}
 use Rattle.std.{proofs.lemmas.Grind.common_steps, specs.Option.option_map, specs.Prelude.slice_get, specs.Prelude.if◌then◌else◌}
 use Rattle.std.specs.declared.option.Option.{Option, TheVariants.None, TheVariants.Some}
-use Rattle.block_reclamation.specs.{Status.is_listed, declared.status.BlockStatus.{BlockStatus, TheVariants.Granted}}
-use Rattle.block_pool.specs.Pools.{marked, changed}
+use Rattle.block_reclamation.specs.{Status.is_among, declared.status.BlockStatus.{BlockStatus, TheVariants.Granted}}
+use Rattle.block_pool.specs.Pools.{marked, changed_numbers}
 use Rattle.epoch_core.specs.Blocks.{all_differ}
 use Rattle.store_steps.proofs.NumberLists.{apart_test, differ_head, differ_tail}
 
@@ -34,11 +34,11 @@ twice a b x o = grind (arith, common_steps)
 
 -- what stands at a place, once some are marked
 pub marked_at : {A : Type 0} (ns : List ℕ) (x : A) (xs : List A) (n : ℕ)
-    → slice_get (marked ns x xs) n ≡ (if is_listed n ns then option_map (λ _. x) (slice_get xs n) else slice_get xs n)
+    → slice_get (marked ns x xs) n ≡ (if is_among n ns then option_map (λ _. x) (slice_get xs n) else slice_get xs n)
 marked_at [] x xs n = refl
 marked_at (m ∷ ns) x xs n =
-    marked_at ns x (set xs m x) n ∙ ap (changed_if (λ _. x) (is_listed n ns)) (set_at (λ _. x) xs m n x)
-    ∙ twice (m == n) (is_listed n ns) x (slice_get xs n)
+    marked_at ns x (set xs m x) n ∙ ap (changed_if (λ _. x) (is_among n ns)) (set_at (λ _. x) xs m n x)
+    ∙ twice (m == n) (is_among n ns) x (slice_get xs n)
 
 once : {A : Type 0} (f : A → A) (a b : Bool) (o : Option A) → (a ≡ true → b ≡ false)
     → changed_if f b (changed_if f a o) ≡ changed_if f (a || b) o
@@ -46,15 +46,15 @@ once f a b o apart = grind (arith, common_steps)
 
 -- what stands at a number, once different numbers' statuses are changed
 pub changed_at : (f : BlockStatus → BlockStatus) (ns : List ℕ) (pool : List BlockStatus) (n : ℕ) → all_differ ns ≡ true
-    → slice_get (changed f ns pool) n ≡ (if is_listed n ns then option_map f (slice_get pool n) else slice_get pool n)
+    → slice_get (changed_numbers f ns pool) n ≡ (if is_among n ns then option_map f (slice_get pool n) else slice_get pool n)
 changed_at f [] pool n apart = refl
 changed_at f (m ∷ ns) pool n apart =
     changed_at f ns (set pool m (f (get_or pool m Granted))) n (differ_tail m ns apart)
-    ∙ ap (changed_if f (is_listed n ns)) (set_at f pool m n Granted)
-    ∙ once f (m == n) (is_listed n ns) (slice_get pool n) (λ e. subst (λ x. is_listed x ns
+    ∙ ap (changed_if f (is_among n ns)) (set_at f pool m n Granted)
+    ∙ once f (m == n) (is_among n ns) (slice_get pool n) (λ e. subst (λ x. is_among x ns
     ≡ false) (eqb-true m n e) (differ_head m ns apart))
 
-pub length-changed : (f : BlockStatus → BlockStatus) (ns : List ℕ) (pool : List BlockStatus) → length (changed f ns pool) ≡ length pool
+pub length-changed : (f : BlockStatus → BlockStatus) (ns : List ℕ) (pool : List BlockStatus) → length (changed_numbers f ns pool) ≡ length pool
 length-changed f [] pool = refl
 length-changed f (m ∷ ns) pool = length-changed f ns (set pool m (f (get_or pool m Granted)))
     ∙ length-set pool m (f (get_or pool m Granted))

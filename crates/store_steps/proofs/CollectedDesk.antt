@@ -5,7 +5,7 @@ use Rattle.std.{proofs.lemmas.{List.{append-nil, length-map}, Bool.{eq-eqb, or_r
 use Rattle.std.specs.{declared.option.Option.TheVariants.Some, Prelude.{slice_get, if◌then◌else◌}, Option.option_map}
 use Rattle.edge_block.{specs.Slots.BlockView, proofs.Counts.count_more}
 use Rattle.graph_version.specs.{Rows.row_of, Rows.numbers_of, Versions.VersionView}
-use Rattle.block_reclamation.specs.Status.{is_listed, is_retired, is_reclaimable, is_used, is_at, recycled}
+use Rattle.block_reclamation.specs.Status.{is_among, is_retired, is_reclaimable, is_used, is_at, recycled}
 use Rattle.block_reclamation.specs.declared.{copies.PinCopy.PinCopy, status.BlockStatus.{BlockStatus, TheVariants.Free}}
 use Rattle.store_steps.specs.Journal.{Collected, Ledger, opened_ledger, is_legal, replay}
 use Rattle.store_steps.specs.Desks.{DeskView, IsDesk, IsCollected, birth_at, births_in, collections}
@@ -78,13 +78,13 @@ birth_recycled : (copy : PinCopy) (p : Option BlockStatus) → is_at is_used p �
 birth_recycled copy p born = grind (arith, common_steps)
 
 same_births : (p q : List BlockStatus) (bs : List BlockView)
-    → ((m : ℕ) → is_listed m (numbers_of bs) ≡ true → birth_at p m ≡ birth_at q m)
+    → ((m : ℕ) → is_among m (numbers_of bs) ≡ true → birth_at p m ≡ birth_at q m)
     → map (λ b. birth_at p b.number) bs ≡ map (λ b. birth_at q b.number) bs
 same_births p q [] same = refl
 same_births p q (b ∷ bs) same =
     let here : (b.number == b.number) ≡ true = eq-eqb b.number b.number refl in
     ap₂ (λ x xs. x ∷ xs) (same b.number (rw here refl))
-    (same_births p q bs (λ m is. same m (or_right (b.number == m) (is_listed m (numbers_of bs)) is)))
+    (same_births p q bs (λ m is. same m (or_right (b.number == m) (is_among m (numbers_of bs)) is)))
 
 pub births_collected : (d e : DeskView) (copy : PinCopy) → IsDesk d → IsCollected d copy e
     → (source : ℕ) → births_in e source ≡ births_in d source

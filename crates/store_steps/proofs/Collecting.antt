@@ -4,9 +4,9 @@ use Rattle.std.proofs.{Common.{ap, ◌∙◌, arith}, lemmas.{Grind.common_steps
 use Rattle.std.{proofs.lemmas.Option.slice_get-map, specs.{Prelude.{slice_get, if◌then◌else◌, filter}, List.enumerate_from}}
 use Rattle.std.specs.{Option.{option_map, option_and_then, is_some}, declared.option.Option.{Option, TheVariants.{None, Some}}}
 use Rattle.block_pool.{proofs.Grants.length-marked, specs.Pools.marked}
-use Rattle.block_reclamation.specs.{Status.is_listed, Status.is_reclaimable, Status.is_at, declared.copies.PinCopy.PinCopy}
+use Rattle.block_reclamation.specs.{Status.is_among, Status.is_reclaimable, Status.is_at, declared.copies.PinCopy.PinCopy}
 use Rattle.block_reclamation.specs.declared.status.BlockStatus.{BlockStatus, TheVariants.Free}
-use Rattle.epoch_core.specs.{Blocks.put, Blocks.all_differ, Blocks.reclaimed, declared.events.Event.TheVariants.Recycle}
+use Rattle.epoch_core.specs.{Blocks.put_if_some, Blocks.all_differ, Blocks.reclaimed, declared.events.Event.TheVariants.Recycle}
 use Rattle.epoch_core.{specs.Worlds.World, specs.Machine.step, specs.Machine.with_status, proofs.Lists.set_else}
 use Rattle.store_steps.specs.{Desks.{DeskView, IsCollected}, Shown.ShowsWorld, Steps.{all_done, past_numbers, recycling, TakesAt}}
 use Rattle.store_steps.proofs.NumberLists.{apart_test, differ_head, differ_tail}
@@ -22,14 +22,14 @@ goes_free copy o is = grind (arith, common_steps)
 
 recycle_done : (w : World) (n : ℕ) → goes w.copy (slice_get w.status n) ≡ true
     → step w (Recycle n) ≡ Some (with_status w (set w.status n Free))
-recycle_done w n is = ap (λ o. option_map (with_status w) (put w.status n o)) (goes_free w.copy (slice_get w.status n) is)
+recycle_done w n is = ap (λ o. option_map (with_status w) (put_if_some w.status n o)) (goes_free w.copy (slice_get w.status n) is)
 
 -- what doesn't go isn't recycled
 recycle_skipped : (w : World) (n : ℕ) → goes w.copy (slice_get w.status n) ≡ false → step w (Recycle n) ≡ None
 recycle_skipped w n is = grind (arith, common_steps)
 
 -- Recycle of different blocks that go
-recycles : (ns : List ℕ) (w : World) → ((n : ℕ) → is_listed n ns ≡ true → goes w.copy (slice_get w.status n) ≡ true)
+recycles : (ns : List ℕ) (w : World) → ((n : ℕ) → is_among n ns ≡ true → goes w.copy (slice_get w.status n) ≡ true)
     → all_differ ns ≡ true → all_done (map Recycle ns) w ≡ Some (with_status w (marked ns Free w.status))
 recycles [] w go apart = refl
 recycles (n ∷ ns) w go apart =
@@ -37,8 +37,8 @@ recycles (n ∷ ns) w go apart =
     let w1 : World = with_status w (set w.status n Free) in
     step_then (Recycle n) (map Recycle ns) w w1 (recycle_done w n (go n (rw here refl))) ∙ recycles ns w1
     (λ m is.
-    let ne : m ≢ n = λ e. absurd (true≢false (sym is ∙ ap (λ x. is_listed x ns) e ∙ differ_head n ns apart)) in
-    ap (goes w.copy) (set_else w.status n m Free ne) ∙ go m (or_right (n == m) (is_listed m ns) is))
+    let ne : m ≢ n = λ e. absurd (true≢false (sym is ∙ ap (λ x. is_among x ns) e ∙ differ_head n ns apart)) in
+    ap (goes w.copy) (set_else w.status n m Free ne) ∙ go m (or_right (n == m) (is_among m ns) is))
     (differ_tail n ns apart)
 
 -- The numbers that the copy frees
@@ -47,8 +47,8 @@ abbrev past_from : PinCopy → ℕ → List BlockStatus → List ℕ
 past_from copy k pool = map (λ p. p.0) (filter (λ p. is_reclaimable copy p.1) (enumerate_from k pool))
 
 in_cond : (t : Bool) (k n : ℕ) (rest : List (ℕ × BlockStatus)) (s : BlockStatus)
-    → is_listed n (map (λ p. p.0) (if t then (k, s) ∷ rest else rest))
-    ≡ (if t then (k == n) || is_listed n (map (λ p. p.0) rest) else is_listed n (map (λ p. p.0) rest))
+    → is_among n (map (λ p. p.0) (if t then (k, s) ∷ rest else rest))
+    ≡ (if t then (k == n) || is_among n (map (λ p. p.0) rest) else is_among n (map (λ p. p.0) rest))
 in_cond t k n rest s = grind (arith, common_steps)
 
 skip : (t u r : Bool) → u ≡ false → (if t then u || r else r) ≡ r
@@ -57,7 +57,7 @@ skip t u r e = grind (arith, common_steps)
 hit : (t u r : Bool) → u ≡ true → r ≡ false → (if t then u || r else r) ≡ t
 hit t u r e f = grind (arith, common_steps)
 
-past_below : (copy : PinCopy) (k n : ℕ) (pool : List BlockStatus) → n < k → is_listed n (past_from copy k pool) ≡ false
+past_below : (copy : PinCopy) (k n : ℕ) (pool : List BlockStatus) → n < k → is_among n (past_from copy k pool) ≡ false
 past_below copy k n [] h = refl
 past_below copy k n (s ∷ pool) h =
     in_cond (is_reclaimable copy s) k n (filter (λ p. is_reclaimable copy p.1) (enumerate_from (k + 1) pool)) s
@@ -65,7 +65,7 @@ past_below copy k n (s ∷ pool) h =
     ∙ past_below copy (k + 1) n pool (omega arith)
 
 past_at : (copy : PinCopy) (k n j : ℕ) (pool : List BlockStatus) → n ≡ k + j
-    → is_listed n (past_from copy k pool) ≡ is_at (is_reclaimable copy) (slice_get pool j)
+    → is_among n (past_from copy k pool) ≡ is_at (is_reclaimable copy) (slice_get pool j)
 past_at copy k n j [] e = refl
 past_at copy k n zero (s ∷ pool) e =
     in_cond (is_reclaimable copy s) k n (filter (λ p. is_reclaimable copy p.1) (enumerate_from (k + 1) pool)) s
@@ -113,7 +113,7 @@ shows_collected old new copy w collected shows =
 pub collected_takes : (old new : DeskView) (copy : PinCopy) → IsCollected old copy new
     → TakesAt copy old (recycling copy old.pool) new
 collected_takes old new copy collected w shows at =
-    let go : (n : ℕ) → is_listed n (past_numbers copy old.pool) ≡ true → goes w.copy (slice_get w.status n) ≡ true =
+    let go : (n : ℕ) → is_among n (past_numbers copy old.pool) ≡ true → goes w.copy (slice_get w.status n) ≡ true =
     λ n is.
     ap (λ f. goes f (slice_get w.status n)) at ∙ ap (λ pool. goes copy (slice_get pool n)) shows.status
     ∙ goes_is copy (slice_get old.pool n) ∙ sym (past_at copy 0 n n old.pool (omega arith)) ∙ is in (

@@ -7,7 +7,7 @@ use Rattle.std.specs.declared.option.Option.{Option, TheVariants.None, TheVarian
 use Rattle.epoch_core.specs.{Blocks.all_differ, Posting.same_stamp}
 use Rattle.edge_block.{specs.Slots.{BlockView, Slot}, proofs.Counts.count_more}
 use Rattle.graph_version.specs.Rows.{numbers_of}
-use Rattle.block_reclamation.specs.Status.{is_listed}
+use Rattle.block_reclamation.specs.Status.{is_among}
 use Rattle.store_steps.proofs.NumberLists.{differ_head, differ_tail}
 
 -- how often a number stands in a list
@@ -18,10 +18,10 @@ abbrev pub is_some_times : ℕ → Bool
 is_some_times zero = false
 is_some_times (suc n) = true
 
-pub in_times : (m : ℕ) (ns : List ℕ) → is_listed m ns ≡ is_some_times (times m ns)
+pub in_times : (m : ℕ) (ns : List ℕ) → is_among m ns ≡ is_some_times (times m ns)
 in_times m [] = refl
 in_times m (n ∷ ns) =
-    elim (n == m) as (λ t. (t || is_listed m ns) ≡ is_some_times (cond t 1 0 + times m ns)) [
+    elim (n == m) as (λ t. (t || is_among m ns) ≡ is_some_times (cond t 1 0 + times m ns)) [
       | true ↦ (let one : 1 + times m ns ≡ suc (times m ns) = omega arith in sym (ap is_some_times one))
       | false ↦ (let same : 0 + times m ns ≡ times m ns = omega arith in in_times m ns ∙ sym (ap is_some_times same))
     ] ∙ sym (ap is_some_times (count_more (λ x. x == m) n ns))
@@ -53,7 +53,7 @@ apart_if (n ∷ ns) once =
     let here : (n == n) ≡ true = eq-eqb n n refl in
     let twice : times n (n ∷ ns) ≤ 1 = once n in
     let count : times n (n ∷ ns) ≡ 1 + times n ns = count_more (λ x. x == n) n ns ∙ ap (λ t. cond t 1 0 + times n ns) here in
-    let none : is_listed n ns ≡ false = in_times n ns ∙ zero_times (times n ns) (omega arith) in
+    let none : is_among n ns ≡ false = in_times n ns ∙ zero_times (times n ns) (omega arith) in
     rw none (apart_if ns (λ m. let whole : times m (n ∷ ns) ≤ 1 = once m in let more =
     count_more (λ x. x == m) n ns in omega arith))
 

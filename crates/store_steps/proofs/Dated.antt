@@ -4,23 +4,23 @@ use Rattle.std.proofs.{Common.{length-append, replicate}, lemmas.{Grind.common_s
 use Rattle.std.specs.{Option.{option_map, option_and_then}, Prelude.{slice_get, if◌then◌else◌}, declared.option.Option.Option}
 use Rattle.std.specs.declared.option.Option.TheVariants.{None, Some}
 use Rattle.graph_types.specs.declared.batches.NamedOp.{NamedOp}
-use Rattle.block_reclamation.specs.{Status.{is_listed, is_free, is_used, is_at, recycled}, declared.copies.PinCopy.PinCopy}
+use Rattle.block_reclamation.specs.{Status.{is_among, is_free, is_used, is_at, recycled}, declared.copies.PinCopy.PinCopy}
 use Rattle.block_reclamation.specs.declared.status.BlockStatus.{BlockStatus, TheVariants.{Free, Used}}
 use Rattle.block_pool.specs.Pools.{is_free_at, is_used_at}
 use Rattle.epoch_core.proofs.Lists.{all_listed}
 use Rattle.store_steps.specs.Journal.{Entry, Applied, Collected, Ledger, opened_ledger, is_legal, after_entry, exchanged, replay}
-use Rattle.store_steps.{specs.{Desks.{DeskView, IsDesk, ledger_of}, Dates.{IsDated, AreDated}}, proofs.ChangedLists.marked_at}
+use Rattle.store_steps.{specs.{Desks.{DeskView, IsDesk, ledger_of}, Dates.{IsDatedBlock, AreDated}}, proofs.ChangedLists.marked_at}
 use Rattle.store_steps.proofs.{OneNumber.number_after, Applications.exchanged_at, Posting.{IsLegalBatch, legal_batch}}
 
 -- One number
 
-number_dated : (o : Bool) (last : ℕ) (p : Option BlockStatus) (t d : Bool) → IsDated o last p
+number_dated : (o : Bool) (last : ℕ) (p : Option BlockStatus) (t d : Bool) → IsDatedBlock o last p
     → (t ≡ true → is_at is_free p ≡ true) → (d ≡ true → is_at is_used p ≡ true)
-    → IsDated o (last + 1) (number_after (last + 1) p t d)
+    → IsDatedBlock o (last + 1) (number_after (last + 1) p t d)
 number_dated o last p t d is f g = grind (arith, common_steps)
 
-recycled_dated : (o : Bool) (last : ℕ) (copy : PinCopy) (p : Option BlockStatus) → IsDated o last p
-    → IsDated o last (option_map (recycled copy) p)
+recycled_dated : (o : Bool) (last : ℕ) (copy : PinCopy) (p : Option BlockStatus) → IsDatedBlock o last p
+    → IsDatedBlock o last (option_map (recycled copy) p)
 recycled_dated o last copy p is = grind (arith, common_steps)
 
 -- Entries
@@ -30,9 +30,9 @@ batch_dated : (opened : List ℕ) (l : Ledger) (ops : List NamedOp) (taken dropp
     → AreDated opened (length l.batches + 1) (exchanged (length l.batches + 1) taken dropped l.pool)
 batch_dated opened l ops taken dropped is dated m =
     let legal : IsLegalBatch l.pool taken dropped = legal_batch l ops taken dropped is in
-    subst (IsDated (is_listed m opened) (length l.batches + 1))
+    subst (IsDatedBlock (is_among m opened) (length l.batches + 1))
     (sym (exchanged_at (length l.batches + 1) taken dropped l.pool m legal.dropped_apart))
-    (number_dated (is_listed m opened) (length l.batches) (slice_get l.pool m) (is_listed m taken) (is_listed m dropped) (dated m)
+    (number_dated (is_among m opened) (length l.batches) (slice_get l.pool m) (is_among m taken) (is_among m dropped) (dated m)
     (λ t. all_listed (is_free_at l.pool) taken m legal.free t) (λ t. all_listed (is_used_at l.pool) dropped m legal.born t))
 
 entry_dated : (opened : List ℕ) (l : Ledger) (e : Entry) → is_legal l e ≡ true → AreDated opened (length l.batches) l.pool
@@ -42,8 +42,8 @@ entry_dated opened l (Applied ops taken dropped) is dated =
     subst (λ k. AreDated opened k (exchanged (length l.batches + 1) taken dropped l.pool)) (sym long)
     (batch_dated opened l ops taken dropped is dated)
 entry_dated opened l (Collected copy count) is dated = λ m.
-    subst (IsDated (is_listed m opened) (length l.batches)) (sym (slice_get-map (recycled copy) l.pool m))
-    (recycled_dated (is_listed m opened) (length l.batches) copy (slice_get l.pool m) (dated m))
+    subst (IsDatedBlock (is_among m opened) (length l.batches)) (sym (slice_get-map (recycled copy) l.pool m))
+    (recycled_dated (is_among m opened) (length l.batches) copy (slice_get l.pool m) (dated m))
 
 replay_dated : (opened : List ℕ) (es : List Entry) (l m : Ledger) → AreDated opened (length l.batches) l.pool
     → replay es l ≡ Some m → AreDated opened (length m.batches) m.pool
@@ -58,18 +58,18 @@ replay_dated opened (e ∷ es) l m dated is =
 
 -- at the opening
 
-free_dated : (o : Bool) (blocks m : ℕ) → IsDated o 0 (slice_get (replicate blocks Free) m)
+free_dated : (o : Bool) (blocks m : ℕ) → IsDatedBlock o 0 (slice_get (replicate blocks Free) m)
 free_dated o zero m = tt
 free_dated o (suc blocks) zero = tt
 free_dated o (suc blocks) (suc m) = free_dated o blocks m
 
-one_dated : (o : Bool) (p : Option BlockStatus) → IsDated o 0 p → IsDated o 0 (if o then option_map (λ _. Used 0) p else p)
+one_dated : (o : Bool) (p : Option BlockStatus) → IsDatedBlock o 0 p → IsDatedBlock o 0 (if o then option_map (λ _. Used 0) p else p)
 one_dated o p is = grind (arith, common_steps)
 
 opened_dated : (blocks : ℕ) (opened : List ℕ) → AreDated opened 0 (opened_ledger blocks opened).pool
 opened_dated blocks opened m =
-    subst (IsDated (is_listed m opened) 0) (sym (marked_at opened (Used 0) (replicate blocks Free) m))
-    (one_dated (is_listed m opened) (slice_get (replicate blocks Free) m) (free_dated (is_listed m opened) blocks m))
+    subst (IsDatedBlock (is_among m opened) 0) (sym (marked_at opened (Used 0) (replicate blocks Free) m))
+    (one_dated (is_among m opened) (slice_get (replicate blocks Free) m) (free_dated (is_among m opened) blocks m))
 
 pub desk_dated : (d : DeskView) → IsDesk d → AreDated d.opened (length d.last.batches) d.pool
 desk_dated d desk =

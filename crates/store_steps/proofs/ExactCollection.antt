@@ -3,7 +3,7 @@ use Rattle.std.proofs.Common.{◌≡◌, ℕ, ◌<◌, ◌≤◌, List, true, fa
 use Rattle.std.proofs.lemmas.{Grind.common_steps, Option.slice_get-map}
 use Rattle.std.specs.{Prelude.slice_get, Option.option_map, declared.option.Option.{Option, TheVariants.Some}}
 use Rattle.block_reclamation.specs.declared.{status.BlockStatus.{BlockStatus, TheVariants.Retired}, copies.PinCopy.PinCopy}
-use Rattle.block_reclamation.specs.{Status.{is_at, is_listed, is_retired, recycled}, Copies.{copy_of, needs}}
+use Rattle.block_reclamation.specs.{Status.{is_at, is_among, is_retired, recycled}, Copies.{copy_of, needs}}
 use Rattle.epoch_core.specs.{Sound.IsSound, Collections.{HaveSettled, IsHeldBlock}, Worlds.{World, last_blocks, present_copy}}
 use Rattle.epoch_core.proofs.{Steps.always_sound, Sizes.size_run, HeldBlocks.{RetiredThen, held_alone, held_is_retired}}
 use Rattle.epoch_core.proofs.HeldBlocks.{NeedsWhatIsListed, needs_what_is_listed, retired_then, unlisted}
@@ -26,14 +26,14 @@ needed_stays copy o stays = grind (arith, common_steps)
 
 module _ (w : World) (b : ℕ) (sound : IsSound w) (told : HaveSettled w) where
   left_is_held : is_at is_retired (option_map (recycled (present_copy w)) (slice_get w.status b)) ≡ true
-      → IsHeldBlock w b × (is_listed b (last_blocks w) ≡ false)
+      → IsHeldBlock w b × (is_among b (last_blocks w) ≡ false)
   left_is_held still =
       let stays : StaysRetired (present_copy w) (slice_get w.status b) = stays_retired _ _ still in
       let needed : NeedsWhatIsListed w b stays.birth stays.retirement =
       needs_what_is_listed w b stays.birth stays.retirement sound stays.was in
       (held_alone w b told (needed.listed stays.need), unlisted w b sound (ap (is_at is_retired) stays.was))
 
-  held_is_left : IsHeldBlock w b → is_listed b (last_blocks w) ≡ false
+  held_is_left : IsHeldBlock w b → is_among b (last_blocks w) ≡ false
       → is_at is_retired (option_map (recycled (present_copy w)) (slice_get w.status b)) ≡ true
   held_is_left held none =
       let then : RetiredThen (slice_get w.status b) = retired_then _ (held_is_retired w b sound held none) in
@@ -61,8 +61,8 @@ collection_is_exact start events s new is_start few r board told collected b =
     ∙ ap (λ (blocks : List BlockStatus). is_at is_retired (option_map (recycled (raised_store s).copy) (slice_get blocks b)))
     (sym r.desk.status)
     ∙ ap (λ (k : PinCopy). is_at is_retired (option_map (recycled k) (slice_get w.status b))) (sym copy) in
-    let listed : is_listed b (last_blocks w) ≡ is_listed b (last_numbers new) =
-    ap (is_listed b) (r.desk.blocks ∙ sym (ap (λ v. numbers_of (blocks_of v.rows)) collected.last)) in (
+    let listed : is_among b (last_blocks w) ≡ is_among b (last_numbers new) =
+    ap (is_among b) (r.desk.blocks ∙ sym (ap (λ v. numbers_of (blocks_of v.rows)) collected.last)) in (
       λ still. let both = left_is_held w b sound told (sym pool ∙ still) in (both.0, sym listed ∙ both.1),
       λ h. pool ∙ held_is_left w b sound told h.0 (listed ∙ h.1),
     )

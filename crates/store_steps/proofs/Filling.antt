@@ -7,9 +7,9 @@ use Rattle.std.specs.{Prelude.{slice_get, All}, Option.{option_map, option_and_t
 use Rattle.graph_types.specs.declared.ids.Edge.{Edge}
 use Rattle.edge_block.specs.Slots.{BlockView}
 use Rattle.graph_version.specs.{Rows.numbers_of, Edges.edges_in_block, Edges.edges_in_blocks}
-use Rattle.block_reclamation.specs.{Status.is_listed, declared.status.BlockStatus.{BlockStatus, TheVariants.{Free, Granted}}}
+use Rattle.block_reclamation.specs.{Status.is_among, declared.status.BlockStatus.{BlockStatus, TheVariants.{Free, Granted}}}
 use Rattle.block_pool.specs.Pools.{marked}
-use Rattle.epoch_core.specs.{declared.events.Event.{Event, TheVariants.{Take, Fill}}, Blocks.{taken, put, all_differ}}
+use Rattle.epoch_core.specs.{declared.events.Event.{Event, TheVariants.{Take, Fill}}, Blocks.{status_taken, put_if_some, all_differ}}
 use Rattle.epoch_core.specs.{Machine.{step, with_status, with_heap}, Versions.{edges_at, edges_of}, Worlds.World}
 use Rattle.epoch_core.proofs.Lists.{set_same, set_else}
 use Rattle.store_steps.{specs.Steps.all_done, specs.Steps.filling, proofs.NumberLists.differ_head, proofs.NumberLists.differ_tail}
@@ -27,7 +27,7 @@ pub step_then : (e : Event) (es : List Event) (w next : World) → step w e ≡ 
 step_then e es w next is = ap (option_and_then (all_done es)) is
 
 take_done : (w : World) (n : ℕ) → slice_get w.status n ≡ Some Free → step w (Take n) ≡ Some (with_status w (set w.status n Granted))
-take_done w n is = ap (λ o. option_map (with_status w) (put w.status n (option_and_then taken o))) is
+take_done w n is = ap (λ o. option_map (with_status w) (put_if_some w.status n (option_and_then status_taken o))) is
 
 fill_done : (w : World) (n : ℕ) (edges : List Edge) → slice_get w.status n ≡ Some Granted
     → step w (Fill n edges) ≡ Some (with_heap w (set w.heap n edges))
@@ -37,12 +37,12 @@ fill_done w n edges is = grind (arith, common_steps)
 abbrev pub AllAre : BlockStatus → List BlockStatus → List BlockView → Type 0
 AllAre s status bs = All (λ b. slice_get status b.number ≡ Some s) bs
 
-still : (status : List BlockStatus) (s x : BlockStatus) (b : BlockView) (bs : List BlockView) → is_listed b.number (numbers_of bs) ≡ false
+still : (status : List BlockStatus) (s x : BlockStatus) (b : BlockView) (bs : List BlockView) → is_among b.number (numbers_of bs) ≡ false
     → AllAre s status bs → AllAre s (set status b.number x) bs
 still status s x b [] apart all = λ k d h. absurd (omega arith)
 still status s x b (c ∷ cs) apart all =
-    let parts : ((c.number == b.number) ≡ false) × (is_listed b.number (numbers_of cs) ≡ false) =
-    or_parts (c.number == b.number) (is_listed b.number (numbers_of cs)) apart in
+    let parts : ((c.number == b.number) ≡ false) × (is_among b.number (numbers_of cs) ≡ false) =
+    or_parts (c.number == b.number) (is_among b.number (numbers_of cs)) apart in
     All-cons (λ y. slice_get (set status b.number x) y.number ≡ Some s) c cs
     (set_else status b.number c.number x (λ e. absurd (true≢false (sym (eq-eqb c.number b.number e) ∙ parts.0)))
     ∙ All-head (λ y. slice_get status y.number ≡ Some s) c cs all)
@@ -69,12 +69,12 @@ length-heap_with (b ∷ bs) heap = length-heap_with bs (set heap b.number (edges
     ∙ length-set heap b.number (edges_in_block b)
 
 -- other blocks keep their edges
-pub heap_else : (bs : List BlockView) (heap : List (List Edge)) (n : ℕ) → is_listed n (numbers_of bs) ≡ false
+pub heap_else : (bs : List BlockView) (heap : List (List Edge)) (n : ℕ) → is_among n (numbers_of bs) ≡ false
     → edges_at (heap_with bs heap) n ≡ edges_at heap n
 heap_else [] heap n apart = refl
 heap_else (b ∷ bs) heap n apart =
-    let parts : ((b.number == n) ≡ false) × (is_listed n (numbers_of bs) ≡ false) =
-    or_parts (b.number == n) (is_listed n (numbers_of bs)) apart in
+    let parts : ((b.number == n) ≡ false) × (is_among n (numbers_of bs) ≡ false) =
+    or_parts (b.number == n) (is_among n (numbers_of bs)) apart in
     let ne : n ≢ b.number = λ e. absurd (true≢false (sym (eq-eqb b.number n (sym e)) ∙ parts.0)) in
     heap_else bs (set heap b.number (edges_in_block b)) n parts.1 ∙ rw get_or-set_other refl
 

@@ -2,7 +2,7 @@
 use Rattle.std.proofs.Common.{◌≡◌, ℕ, zero, suc, ◌≤◌, Bool, true, false, List, refl, sym, ap, ◌∙◌, arith}
 use Rattle.std.{proofs.lemmas.Grind.common_steps, proofs.lemmas.Bool.true≢false, specs.Option.option_map}
 use Rattle.std.specs.{Prelude.slice_get, Prelude.if◌then◌else◌, declared.option.Option.Option}
-use Rattle.block_reclamation.specs.Status.{is_listed, is_free, is_in_use, is_used, is_at}
+use Rattle.block_reclamation.specs.Status.{is_among, is_free, is_in_use, is_used, is_at}
 use Rattle.block_reclamation.specs.declared.status.BlockStatus.{BlockStatus, TheVariants.{Free, Granted, Used}}
 use Rattle.block_pool.specs.Pools.{retired, is_free_at, marked, AreFree, is_in_use_at, is_used_at}
 use Rattle.store_steps.{specs.Desks.{DeskView, IsDesk, last_numbers}, proofs.NumberLists.{all_by, differ_from}}
@@ -14,7 +14,7 @@ use Rattle.store_steps.proofs.Applications.{some_either, dropped_differ, dropped
 used_marked : (p : Option BlockStatus) → is_at is_free p ≡ true → is_at is_in_use (option_map (λ _. Granted) p) ≡ true
 used_marked p e = grind (arith, common_steps)
 
-granted_used : (pool : List BlockStatus) (numbers : List ℕ) (m : ℕ) → is_free_at pool m ≡ true → is_listed m numbers ≡ true
+granted_used : (pool : List BlockStatus) (numbers : List ℕ) (m : ℕ) → is_free_at pool m ≡ true → is_among m numbers ≡ true
     → is_in_use_at (marked numbers Granted pool) m ≡ true
 granted_used pool numbers m free is =
     ap (is_at is_in_use) (marked_at numbers Granted pool m)
@@ -22,27 +22,27 @@ granted_used pool numbers m free is =
 
 -- what was granted is not the last version's
 pub not_granted : (d : DeskView) (numbers : List ℕ) (m : ℕ) → IsDesk d → AreFree d.pool numbers
-    → is_listed m (last_numbers d) ≡ true → is_listed m numbers ≡ false
+    → is_among m (last_numbers d) ≡ true → is_among m numbers ≡ false
 not_granted d numbers m desk free listed = grind (arith, common_steps, not_both, granted_free)
 
-not_dropped : (a : Application) (m : ℕ) → is_free_at a.old.pool m ≡ true → is_listed m (dropped_numbers a) ≡ false
+not_dropped : (a : Application) (m : ℕ) → is_free_at a.old.pool m ≡ true → is_among m (dropped_numbers a) ≡ false
 not_dropped a m free = grind (arith, common_steps, dropped_numbers, not_both, dropped_born)
 
-pub taken_granted : (a : Application) (m : ℕ) → is_listed m a.taken ≡ true → is_listed m a.numbers ≡ true
+pub taken_granted : (a : Application) (m : ℕ) → is_among m a.taken ≡ true → is_among m a.numbers ≡ true
 taken_granted a m is = grind (arith, common_steps, is_some_times, times, some_either, in_times, in_numbers)
 
-unused_granted : (a : Application) (m : ℕ) → is_listed m a.unused ≡ true → is_listed m a.numbers ≡ true
+unused_granted : (a : Application) (m : ℕ) → is_among m a.unused ≡ true → is_among m a.numbers ≡ true
 unused_granted a m is = in_numbers a m ∙ some_either (times m a.taken) (times m a.unused) (sym (in_times m a.unused) ∙ is)
 
 -- what is born isn't granted, nor taken
-born_ungranted : (a : Application) (m : ℕ) → is_used_at a.old.pool m ≡ true → is_listed m a.numbers ≡ false
+born_ungranted : (a : Application) (m : ℕ) → is_used_at a.old.pool m ≡ true → is_among m a.numbers ≡ false
 born_ungranted a m born = not_granted a.old a.numbers m a.before a.applied.free (sym (a.before.listed m) ∙ born)
 
-pub not_taken : (a : Application) (m : ℕ) → is_listed m a.numbers ≡ false → is_listed m a.taken ≡ false
+pub not_taken : (a : Application) (m : ℕ) → is_among m a.numbers ≡ false → is_among m a.taken ≡ false
 not_taken a m none = grind (arith, common_steps, true≢false, taken_granted)
 
 -- no number is both taken and unused
-unused_untaken : (a : Application) (m : ℕ) → is_listed m a.unused ≡ true → is_listed m a.taken ≡ false
+unused_untaken : (a : Application) (m : ℕ) → is_among m a.unused ≡ true → is_among m a.taken ≡ false
 unused_untaken a m is =
     let once = handed_once a m in
     let some : 1 ≤ times m a.unused = at_least_once (times m a.unused) (sym (in_times m a.unused) ∙ is) in
@@ -60,7 +60,7 @@ unused_untaken a m is =
 pub taken_movable : (a : Application) → AreMovable is_in_use a.taken (granted_pool a)
 taken_movable a = record {
   pass = all_by (is_in_use_at (granted_pool a)) a.taken (λ m is.
-      let granted : is_listed m a.numbers ≡ true = taken_granted a m is in
+      let granted : is_among m a.numbers ≡ true = taken_granted a m is in
       granted_used a.old.pool a.numbers m (granted_free a.old.pool a.numbers m a.applied.free granted) granted);
   apart = apart_if a.taken (λ m. let once = handed_once a m in omega arith);
 }
@@ -69,7 +69,7 @@ pub dropped_movable : (a : Application) → AreMovable is_used (dropped_numbers 
 dropped_movable a = record {
   pass = all_by (is_used_at (born_pool a)) (dropped_numbers a) (λ m is.
       let born : is_used_at a.old.pool m ≡ true = dropped_born a m is in
-      let none : is_listed m a.numbers ≡ false = born_ungranted a m born in
+      let none : is_among m a.numbers ≡ false = born_ungranted a m born in
       ap (is_at is_used) (marked_at a.taken (Used (number_in_desk a)) (granted_pool a) m)
       ∙ ap (λ t. is_at is_used (marked_if (Used (number_in_desk a)) t (slice_get (granted_pool a) m))) (not_taken a m none)
       ∙ ap (is_at is_used) (marked_at a.numbers Granted a.old.pool m)
@@ -80,9 +80,9 @@ dropped_movable a = record {
 pub unused_movable : (a : Application) → AreMovable is_in_use a.unused (retired_pool a)
 unused_movable a = record {
   pass = all_by (is_in_use_at (retired_pool a)) a.unused (λ m is.
-      let granted : is_listed m a.numbers ≡ true = unused_granted a m is in
+      let granted : is_among m a.numbers ≡ true = unused_granted a m is in
       let free : is_free_at a.old.pool m ≡ true = granted_free a.old.pool a.numbers m a.applied.free granted in
-      let stays : is_listed m (dropped_numbers a) ≡ false = not_dropped a m free in
+      let stays : is_among m (dropped_numbers a) ≡ false = not_dropped a m free in
       ap (is_at is_in_use) (changed_at (retired (number_in_desk a)) (dropped_numbers a) (born_pool a) m (dropped_differ a))
       ∙ ap (λ t. is_at is_in_use (if t then option_map (retired (number_in_desk a)) (slice_get (born_pool a) m) else slice_get
       (born_pool a) m)) stays ∙ ap (is_at is_in_use) (marked_at a.taken (Used (number_in_desk a)) (granted_pool a) m)
@@ -119,7 +119,7 @@ born_and_back : (n : ℕ) (g t : Bool) (p : Option BlockStatus) → (g ≡ true 
 born_and_back n g t p f h = grind (arith, common_steps)
 
 pub born_given_back : (pool : List BlockStatus) (numbers taken : List ℕ) (n : ℕ) → AreFree pool numbers
-    → ((m : ℕ) → is_listed m taken ≡ true → is_listed m numbers ≡ true)
+    → ((m : ℕ) → is_among m taken ≡ true → is_among m numbers ≡ true)
     → marked numbers Free (marked taken (Used n) (marked numbers Granted pool)) ≡ pool
 born_given_back pool numbers taken n free within =
     grind (arith, common_steps, same_list, marked_at, marked_if, born_and_back, granted_free)

@@ -3,9 +3,9 @@ use Rattle.std.proofs.{Common.{◌≡◌, ℕ, not, false, take, refl, sym, ap, 
 use Rattle.std.{proofs.lemmas.List.take-map, specs.{Prelude.slice_get, declared.option.Option.{Option, TheVariants.Some}}}
 use Rattle.graph_types.specs.Step.{left_by}
 use Rattle.block_reclamation.specs.declared.{status.BlockStatus.{BlockStatus, TheVariants.Retired}, copies.PinCopy.PinCopy}
-use Rattle.block_reclamation.specs.Status.{is_free, is_reclaimable, is_at, is_listed}
+use Rattle.block_reclamation.specs.Status.{is_free, is_reclaimable, is_at, is_among}
 use Rattle.epoch_core.specs.{declared.session_states.{Hold.Hold, SessionState.SessionState}, Sound.{IsSound, IsSessionSound}}
-use Rattle.epoch_core.specs.{Sound.{IsHeld, IsCovered, IsKeptAt}, Versions.{AreEdgesOf, opening_graph, blocks_at, edges_of}}
+use Rattle.epoch_core.specs.{Sound.{IsHeld, IsCovered, IsKeptAt}, Versions.{AreEdgesOf, graph_of_opening, blocks_at, edges_of}}
 use Rattle.epoch_core.{specs.{Versions.graph_at, Worlds.{World, session_of, held_in}}, proofs.{Steps.always_sound, HeldBlocks.Holder, HeldBlocks.holder_of}}
 use Rattle.store_steps.specs.{Desks.DeskView, Shown.ShowsWorld, Reached.world_by, Held.IsSnapshot}
 use Rattle.store_steps.{specs.Held.HeldIsSnapshot, proofs.Reached.same_count}
@@ -23,7 +23,7 @@ not_reclaimable n copy _ kept covered = refl
 graph_first : (d : DeskView) (w : World) (n : ℕ) → ShowsWorld d w → graph_at w.opening w.versions n
     ≡ left_by (take n d.last.batches) d.last.opening
 graph_first d w n shows =
-    ap (λ bs. left_by bs (opening_graph w.opening)) (sym (take-map (λ v. v.batch) n w.versions) ∙ ap (take n) shows.batches)
+    ap (λ bs. left_by bs (graph_of_opening w.opening)) (sym (take-map (λ v. v.batch) n w.versions) ∙ ap (take n) shows.batches)
     ∙ ap (left_by (take n d.last.batches)) shows.opening
 
 snapshot : (d : DeskView) (w : World) (copy : PinCopy) (session : SessionState) (n : ℕ) → ShowsWorld d w → w.copy ≡ copy
@@ -40,11 +40,11 @@ snapshot d w copy session n shows same holder =
       in_use = λ c is.
           ap (λ (pool : List BlockStatus). is_at is_free (slice_get pool c)) (sym shows.status)
           ∙ not_free holder.hold.version (slice_get w.status c)
-          (holder.held.kept c (ap (λ m. is_listed c (blocks_at w.opening w.versions m)) version ∙ is));
+          (holder.held.kept c (ap (λ m. is_among c (blocks_at w.opening w.versions m)) version ∙ is));
       kept = λ c is.
           ap (λ (pool : List BlockStatus). is_at (is_reclaimable copy) (slice_get pool c)) (sym shows.status)
           ∙ not_reclaimable holder.hold.version copy (slice_get w.status c)
-          (holder.held.kept c (ap (λ m. is_listed c (blocks_at w.opening w.versions m)) version ∙ is)) covered;
+          (holder.held.kept c (ap (λ m. is_among c (blocks_at w.opening w.versions m)) version ∙ is)) covered;
     }
 
 pub held_is_snapshot : HeldIsSnapshot

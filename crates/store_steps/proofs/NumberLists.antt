@@ -5,7 +5,7 @@ use Rattle.std.{proofs.lemmas.Bool.{eq-eqb, or_right}, specs.{Prelude.{if◌then
 use Rattle.graph_types.proofs.Counts.{apart_tail}
 use Rattle.edge_block.specs.Slots.{BlockView}
 use Rattle.graph_version.specs.Rows.{numbers_of}
-use Rattle.block_reclamation.specs.Status.{is_listed}
+use Rattle.block_reclamation.specs.Status.{is_among}
 use Rattle.epoch_core.specs.Blocks.{all_differ}
 
 -- the test of two numbers that differ
@@ -20,19 +20,19 @@ all_from p [] all = refl
 all_from p (x ∷ xs) all = rw (All-head (λ y. p y ≡ true) x xs all) (all_from p xs (All-tail (λ y. p y ≡ true) x xs all))
 
 -- a test that holds of whatever is listed
-pub all_by : (p : ℕ → Bool) (ns : List ℕ) → ((m : ℕ) → is_listed m ns ≡ true → p m ≡ true) → list_all p ns ≡ true
+pub all_by : (p : ℕ → Bool) (ns : List ℕ) → ((m : ℕ) → is_among m ns ≡ true → p m ≡ true) → list_all p ns ≡ true
 all_by p [] each = refl
 all_by p (n ∷ ns) each =
     let here : (n == n) ≡ true = eq-eqb n n refl in
     let first : p n ≡ true = each n (rw here refl) in
-    rw first (all_by p ns (λ m is. each m (or_right (n == m) (is_listed m ns) is)))
+    rw first (all_by p ns (λ m is. each m (or_right (n == m) (is_among m ns) is)))
 
 -- Numbers that differ
 
-not_in : (n : ℕ) (ns : List ℕ) → ((k : ℕ) → k < length ns → n ≢ get_or ns k 0) → is_listed n ns ≡ false
+not_in : (n : ℕ) (ns : List ℕ) → ((k : ℕ) → k < length ns → n ≢ get_or ns k 0) → is_among n ns ≡ false
 not_in n [] apart = refl
 not_in n (m ∷ ns) apart =
-    let rest : is_listed n ns ≡ false = not_in n ns (λ k h. apart (suc k) (omega arith)) in
+    let rest : is_among n ns ≡ false = not_in n ns (λ k h. apart (suc k) (omega arith)) in
     let here : (m == n) ≡ false = apart_test m n (λ e. apart 0 (omega arith) (sym e)) in
     rw (here, rest) refl
 
@@ -42,11 +42,11 @@ apart_head n ns apart k h = apart 0 (suc k) 0 (omega arith) (omega arith)
 pub differ_from : (ns : List ℕ) → AllPairs ◌≢◌ ns → all_differ ns ≡ true
 differ_from [] apart = refl
 differ_from (n ∷ ns) apart =
-    let none : is_listed n ns ≡ false = not_in n ns (apart_head n ns apart) in
+    let none : is_among n ns ≡ false = not_in n ns (apart_head n ns apart) in
     rw none (differ_from ns (apart_tail n ns apart))
 
 -- the first of different numbers is none of the rest
-pub differ_head : (n : ℕ) (ns : List ℕ) → all_differ (n ∷ ns) ≡ true → is_listed n ns ≡ false
+pub differ_head : (n : ℕ) (ns : List ℕ) → all_differ (n ∷ ns) ≡ true → is_among n ns ≡ false
 differ_head n ns is = grind (arith, common_steps)
 
 pub differ_tail : (n : ℕ) (ns : List ℕ) → all_differ (n ∷ ns) ≡ true → all_differ ns ≡ true
@@ -56,11 +56,11 @@ differ_tail n ns is = grind (arith, common_steps)
 
 -- the number of a block that is listed is listed
 pub number_in : (bs : List BlockView) (b : BlockView) (k : ℕ) → k < length bs → get_or bs k b ≡ b
-    → is_listed b.number (numbers_of bs) ≡ true
+    → is_among b.number (numbers_of bs) ≡ true
 number_in [] b k h at = absurd (omega arith)
 number_in (c ∷ cs) b zero h at = let same : (c.number == b.number) ≡ true =
     eq-eqb c.number b.number (ap (λ x. x.number) at) in rw same refl
-number_in (c ∷ cs) b (suc k) h at = or_right (c.number == b.number) (is_listed b.number (numbers_of cs))
+number_in (c ∷ cs) b (suc k) h at = or_right (c.number == b.number) (is_among b.number (numbers_of cs))
     (number_in cs b k (omega arith) at)
 
 pub numbers_all : (p : ℕ → Bool) (bs : List BlockView) → All (λ b. p b.number ≡ true) bs → list_all p (numbers_of bs) ≡ true
@@ -74,7 +74,7 @@ abbrev pub picked : (ℕ → Bool) → List BlockView → List BlockView
 picked p bs = filter (λ b. p b.number) bs
 
 in_cond : (t : Bool) (b : BlockView) (bs : List BlockView) (n : ℕ)
-    → is_listed n (numbers_of (if t then b ∷ bs else bs)) ≡ (if t then (b.number == n) || is_listed n (numbers_of bs) else is_listed n
+    → is_among n (numbers_of (if t then b ∷ bs else bs)) ≡ (if t then (b.number == n) || is_among n (numbers_of bs) else is_among n
     (numbers_of bs))
 in_cond t b bs n = grind (arith, common_steps)
 
@@ -82,7 +82,7 @@ picks : (p : ℕ → Bool) (m n : ℕ) (rest t u : Bool) → p m ≡ t → (m ==
     → (if t then u || rest else rest) ≡ true → p n ≡ true
 picks p m n rest t u e f more is = grind (arith, common_steps)
 
-pub in_picked : (p : ℕ → Bool) (bs : List BlockView) (n : ℕ) → is_listed n (numbers_of (picked p bs)) ≡ true → p n ≡ true
+pub in_picked : (p : ℕ → Bool) (bs : List BlockView) (n : ℕ) → is_among n (numbers_of (picked p bs)) ≡ true → p n ≡ true
 in_picked p [] n is = cc
 in_picked p (b ∷ bs) n is =
     picks p b.number n _ (p b.number) (b.number == n) refl refl (in_picked p bs n) (sym (in_cond (p b.number) b (picked p bs) n)
@@ -92,8 +92,8 @@ picked_by : (p : ℕ → Bool) (m n : ℕ) (rest more t u : Bool) → p m ≡ t 
     → (u || more) ≡ true → (if t then u || rest else rest) ≡ true
 picked_by p m n rest more t u e f pass h is = grind (arith, common_steps)
 
-pub picked_in : (p : ℕ → Bool) (bs : List BlockView) (n : ℕ) → p n ≡ true → is_listed n (numbers_of bs) ≡ true
-    → is_listed n (numbers_of (picked p bs)) ≡ true
+pub picked_in : (p : ℕ → Bool) (bs : List BlockView) (n : ℕ) → p n ≡ true → is_among n (numbers_of bs) ≡ true
+    → is_among n (numbers_of (picked p bs)) ≡ true
 picked_in p [] n pass is = is
 picked_in p (b ∷ bs) n pass is =
     in_cond (p b.number) b (picked p bs) n
@@ -102,8 +102,8 @@ picked_in p (b ∷ bs) n pass is =
 none_of : (t u rest more : Bool) → (more ≡ false → rest ≡ false) → (u || more) ≡ false → (if t then u || rest else rest) ≡ false
 none_of t u rest more h is = grind (arith, common_steps)
 
-not_picked : (p : ℕ → Bool) (bs : List BlockView) (n : ℕ) → is_listed n (numbers_of bs) ≡ false
-    → is_listed n (numbers_of (picked p bs)) ≡ false
+not_picked : (p : ℕ → Bool) (bs : List BlockView) (n : ℕ) → is_among n (numbers_of bs) ≡ false
+    → is_among n (numbers_of (picked p bs)) ≡ false
 not_picked p [] n is = refl
 not_picked p (b ∷ bs) n is = in_cond (p b.number) b (picked p bs) n
     ∙ none_of (p b.number) (b.number == n) _ _ (not_picked p bs n) is

@@ -10,10 +10,10 @@ use Rattle.graph_types.specs.{Step.left_by, declared.ids.Edge.Edge}
 use Rattle.edge_block.specs.Slots.{BlockView}
 use Rattle.graph_version.specs.{Rows.{blocks_of, numbers_of}, Edges.{edges_in_block, edges_in_blocks}, Versions.VersionView}
 use Rattle.graph_version.{specs.Versions.{content, empty_version_in}, proofs.{Empty.is_empty_version_in, Shown.rows_each_once}}
-use Rattle.block_reclamation.specs.{Status.is_listed, Status.is_used, Status.is_at, Copies.pin_at}
+use Rattle.block_reclamation.specs.{Status.is_among, Status.is_used, Status.is_at, Copies.pin_at}
 use Rattle.block_reclamation.specs.declared.status.BlockStatus.{BlockStatus, TheVariants.Free, TheVariants.Used}
 use Rattle.epoch_core.specs.{Versions.{AreEdgesOf, edges_at, edges_of}, Worlds.{seat_pin, IsStart}}
-use Rattle.epoch_core.specs.{declared.session_states.SessionState.TheVariants.Idle, Opened.{Lists, numbers_in, heap_with}}
+use Rattle.epoch_core.specs.{declared.session_states.SessionState.TheVariants.Idle, Opened.{BlockLists, numbers_in, heap_with}}
 use Rattle.epoch_core.{specs.Opened.{status_with, IsOpeningIn}, proofs.Steps.{all_idle, free_at}}
 use Rattle.store_steps.{specs.Desks.IsDesk, specs.Shown.ShowsWorld, proofs.NumberLists.differ_from, proofs.ChangedLists.marked_at}
 use Rattle.store_steps.specs.Opening.{opened_desk, opened_start, lists_of, IsVersionZero, OpensAsMachine, OpensBlank}
@@ -26,10 +26,10 @@ none_born zero m = refl
 none_born (suc n) zero = refl
 none_born (suc n) (suc m) = none_born n m
 
-listed_below : (blocks : ℕ) (ns : List ℕ) (m : ℕ) → All (λ n. n < blocks) ns → is_listed m ns ≡ true → m < blocks
+listed_below : (blocks : ℕ) (ns : List ℕ) (m : ℕ) → All (λ n. n < blocks) ns → is_among m ns ≡ true → m < blocks
 listed_below blocks [] m within is = cc
 listed_below blocks (n ∷ ns) m within is =
-    elim (n == m) as (λ t. n == m ≡ t → (t || is_listed m ns) ≡ true → m < blocks) [
+    elim (n == m) as (λ t. n == m ≡ t → (t || is_among m ns) ≡ true → m < blocks) [
       | true ↦ λ e listed. (let low : n < blocks = All-head (λ k. k < blocks) n ns within in
           let same : n ≡ m = eqb-true n m e in omega arith)
       | false ↦ λ e listed. listed_below blocks ns m (All-tail (λ k. k < blocks) n ns within) listed
@@ -37,10 +37,10 @@ listed_below blocks (n ∷ ns) m within is =
 
 -- the numbers that are marked are those that are born
 born_listed : (blocks : ℕ) (ns : List ℕ) → All (λ n. n < blocks) ns → (m : ℕ)
-    → is_used_at (marked ns (Used 0) (replicate blocks Free)) m ≡ is_listed m ns
+    → is_used_at (marked ns (Used 0) (replicate blocks Free)) m ≡ is_among m ns
 born_listed blocks ns within m =
     ap (is_at is_used) (marked_at ns (Used 0) (replicate blocks Free) m)
-    ∙ (elim (is_listed m ns) as (λ t. is_listed m ns ≡ t → is_at is_used (if t then option_map (λ _. Used 0)
+    ∙ (elim (is_among m ns) as (λ t. is_among m ns ≡ t → is_at is_used (if t then option_map (λ _. Used 0)
     (slice_get (replicate blocks Free) m) else slice_get (replicate blocks Free) m) ≡ t) [
       | true ↦ λ is. ap (λ p. is_at is_used (option_map (λ _. Used 0) p))
           (free_at blocks m (listed_below blocks ns m within is))
@@ -58,7 +58,7 @@ opened_is_desk blocks v zero_is = grind (arith, common_steps, length-opened, bor
 
 -- The blocks, in the machine
 
-abbrev pairs : List BlockView → Lists
+abbrev pairs : List BlockView → BlockLists
 pairs bs = map (λ b. (b.number, edges_in_block b)) bs
 
 numbers_paired : (bs : List BlockView) → numbers_in (pairs bs) ≡ numbers_of bs
@@ -142,13 +142,13 @@ module _ (sessions blocks : ℕ) (v : VersionView) (c : Content) (zero_is : IsVe
     shown = subst (λ edges. AreEdgesOf edges (graph_in v.opening.limits c)) (sym (edges_paired bs)) shown_edges;
   }
 
-  status_start : (b : ℕ) → b < blocks → slice_get status b ≡ Some (if is_listed b (numbers_in (pairs bs)) then Used 0 else Free)
+  status_start : (b : ℕ) → b < blocks → slice_get status b ≡ Some (if is_among b (numbers_in (pairs bs)) then Used 0 else Free)
   status_start b low =
       ap (λ (xs : List BlockStatus). slice_get xs b) (status_paired bs (replicate blocks Free))
       ∙ marked_at (numbers_of bs) (Used 0) (replicate blocks Free) b
-      ∙ ap (λ o. if is_listed b (numbers_of bs) then option_map (λ _. Used 0) o else o) (free_at blocks b low)
-      ∙ used_or_free (is_listed b (numbers_of bs))
-      ∙ ap (λ ns. Some (if is_listed b ns then Used 0 else Free)) (sym (numbers_paired bs))
+      ∙ ap (λ o. if is_among b (numbers_of bs) then option_map (λ _. Used 0) o else o) (free_at blocks b low)
+      ∙ used_or_free (is_among b (numbers_of bs))
+      ∙ ap (λ ns. Some (if is_among b ns then Used 0 else Free)) (sym (numbers_paired bs))
 
   long : length status ≡ blocks
   long = ap length (status_paired bs (replicate blocks Free)) ∙ length-marked (numbers_of bs) (Used 0) (replicate blocks Free)

@@ -11,11 +11,11 @@ use Rattle.graph_types.proofs.{More.left_more, LimitsKept.{limits_after_all, lim
 use Rattle.edge_block.specs.Slots.{BlockView}
 use Rattle.graph_version.specs.{Rows.blocks_of, Rows.numbers_of, Edges.edges_in_block, Edges.edges_in_blocks, Edges.AreEachOnce}
 use Rattle.graph_version.{specs.Versions.content, proofs.Shown.rows_each_once}
-use Rattle.block_reclamation.specs.Status.{is_listed, is_used, is_at, is_granted}
+use Rattle.block_reclamation.specs.Status.{is_among, is_used, is_at, is_granted}
 use Rattle.block_reclamation.specs.declared.status.BlockStatus.{BlockStatus, TheVariants.Free, TheVariants.Granted}
 use Rattle.epoch_core.specs.{declared.{states.Version.Version, events.Event.TheVariants.Post}, Blocks.{all_differ, after_post}}
 use Rattle.epoch_core.specs.{Posts.posted, Worlds.{World, last_blocks}, Versions.{AreEdgesOf, edges_at, edges_of}}
-use Rattle.epoch_core.specs.Versions.{batches_at, graph_at, opening_graph}
+use Rattle.epoch_core.specs.Versions.{batches_at, graph_at, graph_of_opening}
 use Rattle.epoch_core.{specs.Posting.{is_listable, version_by, can_post, graph_after, are_edges_of}, proofs.Lists.all_listed}
 use Rattle.epoch_core.proofs.{Lists.length_enumerated, Edges.Decides-edges, Changes.{version_next, batches_all}, Posted.status_at}
 use Rattle.store_steps.specs.{Journal.{Applied, Ledger, is_legal}, Shown.ShowsWorld, Desks.{DeskView, IsDesk, IsAccepted}}
@@ -65,28 +65,28 @@ legal_in : (a : Acceptance) → IsLegalBatch a.old.pool a.taken a.dropped
 legal_in a = legal_batch (ledger_of a.old) a.ops a.taken a.dropped a.accepted.legal
 
 new_pool : (a : Acceptance) (n : ℕ) → slice_get a.new.pool n ≡ number_after (number_in_desk a) (slice_get a.old.pool n)
-    (is_listed n a.taken) (is_listed n a.dropped)
+    (is_among n a.taken) (is_among n a.dropped)
 new_pool a n = ap (λ l. slice_get l.pool n) a.accepted.ledger
     ∙ exchanged_at (number_in_desk a) a.taken a.dropped a.old.pool n (legal_in a).dropped_apart
 
-taken_free : (a : Acceptance) (n : ℕ) → is_listed n a.taken ≡ true → is_free_at a.old.pool n ≡ true
+taken_free : (a : Acceptance) (n : ℕ) → is_among n a.taken ≡ true → is_free_at a.old.pool n ≡ true
 taken_free a n is = all_listed (is_free_at a.old.pool) a.taken n (legal_in a).free is
 
-dropped_born : (a : Acceptance) (n : ℕ) → is_listed n a.dropped ≡ true → is_used_at a.old.pool n ≡ true
+dropped_born : (a : Acceptance) (n : ℕ) → is_among n a.dropped ≡ true → is_used_at a.old.pool n ≡ true
 dropped_born a n is = all_listed (is_used_at a.old.pool) a.dropped n (legal_in a).born is
 
 -- a taken number is one of the new version's
-taken_listed : (a : Acceptance) (n : ℕ) → is_listed n a.taken ≡ true → is_listed n (last_numbers a.new) ≡ true
+taken_listed : (a : Acceptance) (n : ℕ) → is_among n a.taken ≡ true → is_among n (last_numbers a.new) ≡ true
 taken_listed a n is = grind (arith, common_steps, new_pool, born_mark, taken_free, dropped_born)
 
 -- the numbers of the new blocks are those taken
-fresh_taken : (a : Acceptance) (n : ℕ) → is_listed n (numbers_of (fresh_blocks a)) ≡ is_listed n a.taken
+fresh_taken : (a : Acceptance) (n : ℕ) → is_among n (numbers_of (fresh_blocks a)) ≡ is_among n a.taken
 fresh_taken a n =
-    same_bool _ _ (in_picked (λ m. is_listed m a.taken) (new_blocks a) n)
-    (λ is. picked_in (λ m. is_listed m a.taken) (new_blocks a) n is (taken_listed a n is))
+    same_bool _ _ (in_picked (λ m. is_among m a.taken) (new_blocks a) n)
+    (λ is. picked_in (λ m. is_among m a.taken) (new_blocks a) n is (taken_listed a n is))
 
 fresh_apart : (a : Acceptance) → all_differ (numbers_of (fresh_blocks a)) ≡ true
-fresh_apart a = picked_apart (λ m. is_listed m a.taken) (new_blocks a)
+fresh_apart a = picked_apart (λ m. is_among m a.taken) (new_blocks a)
     (differ_from (numbers_of (new_blocks a)) a.after.version.rows.numbers)
 
 -- The machine beside it
@@ -98,7 +98,7 @@ fresh_free : (a : Acceptance) (w : World) → ShowsWorld a.old w → AllAre Free
 fresh_free a w shows k d h =
     let n : ℕ = (get_or (fresh_blocks a) k d).number in
     ap (λ (pool : List BlockStatus). slice_get pool n) shows.status ∙ free_is (slice_get a.old.pool n)
-    (taken_free a n (picked_all (λ m. is_listed m a.taken) (new_blocks a) k d h))
+    (taken_free a n (picked_all (λ m. is_among m a.taken) (new_blocks a) k d h))
 
 fresh_within : (a : Acceptance) (w : World) → ShowsWorld a.old w → All (λ b. b.number < length w.heap) (fresh_blocks a)
 fresh_within a w shows k d h =
@@ -106,7 +106,7 @@ fresh_within a w shows k d h =
     shows.sizes in omega arith
 
 ready_status : (a : Acceptance) (w : World) (n : ℕ) → slice_get (ready a w).status n
-    ≡ (if is_listed n a.taken then option_map (λ _. Granted) (slice_get w.status n) else slice_get w.status n)
+    ≡ (if is_among n a.taken then option_map (λ _. Granted) (slice_get w.status n) else slice_get w.status n)
 ready_status a w n =
     marked_at (numbers_of (fresh_blocks a)) Granted w.status n
     ∙ ap (λ t. if t then option_map (λ _. Granted) (slice_get w.status n) else slice_get w.status n) (fresh_taken a n)
@@ -117,7 +117,7 @@ pub record IsPlaced (a : Acceptance) (w : World) (b : BlockView) : Type 0 where
   pub listable : is_listable (ready a w).status (last_blocks w) b.number ≡ true
 
 taken_placed : (a : Acceptance) (w : World) → ShowsWorld a.old w → (b : BlockView) → Contains (fresh_blocks a) b
-    → is_listed b.number a.taken ≡ true → IsPlaced a w b
+    → is_among b.number a.taken ≡ true → IsPlaced a w b
 taken_placed a w shows b (k, h, at) is = record {
   edges = subst (λ x. edges_at (ready a w).heap x.number ≡ edges_in_block x) at
       (heap_here (fresh_blocks a) w.heap (fresh_within a w shows) (fresh_apart a) k b h);
@@ -126,7 +126,7 @@ taken_placed a w shows b (k, h, at) is = record {
       ap (λ (pool : List BlockStatus). slice_get pool b.number) shows.status ∙ free_is (slice_get a.old.pool b.number)
       (taken_free a b.number is) in
       let fresh : slice_get (ready a w).status b.number ≡ Some Granted = ready_status a w b.number ∙ rw (is, free) refl in
-      or_left (is_at is_granted (slice_get (ready a w).status b.number)) (is_listed b.number (last_blocks w))
+      or_left (is_at is_granted (slice_get (ready a w).status b.number)) (is_among b.number (last_blocks w))
       (ap (is_at is_granted) fresh);
 }
 
@@ -144,15 +144,15 @@ contains_picked p (c ∷ cs) b (suc k) h at is =
     ]
 
 kept_placed : (a : Acceptance) (w : World) → ShowsWorld a.old w → (b : BlockView) → Contains (blocks_of a.old.last.rows) b
-    → is_listed b.number a.taken ≡ false → IsPlaced a w b
+    → is_among b.number a.taken ≡ false → IsPlaced a w b
 kept_placed a w shows b h is = grind (arith, common_steps, heap_else, fresh_taken, or_right, number_in)
 
 placed : (a : Acceptance) (w : World) → ShowsWorld a.old w → All (IsPlaced a w) (new_blocks a)
 placed a w shows k d h =
     let b : BlockView = get_or (new_blocks a) k d in
     let at : get_or (new_blocks a) k b ≡ b = get_or_default (new_blocks a) k b d h in
-    elim (is_listed b.number a.taken) as (λ t. is_listed b.number a.taken ≡ t → IsPlaced a w b) [
-      | true ↦ λ is. taken_placed a w shows b (contains_picked (λ m. is_listed m a.taken) (new_blocks a) b k h at is) is
+    elim (is_among b.number a.taken) as (λ t. is_among b.number a.taken ≡ t → IsPlaced a w b) [
+      | true ↦ λ is. taken_placed a w shows b (contains_picked (λ m. is_among m a.taken) (new_blocks a) b k h at is) is
       | false ↦ λ is. kept_placed a w shows b (a.accepted.kept k d h is) is
     ] refl
 
@@ -183,7 +183,7 @@ posts a w shows =
     record { once = each.once; same = each.same } in
     let limits : (content a.new.last).limits ≡ w.opening.limits =
     sym (ap (λ (g : Graph). g.limits) graph) ∙ limits_after_all a.ops (graph_at w.opening w.versions (length w.versions))
-    ∙ limits_left_by (batches_at w.versions (length w.versions)) (opening_graph w.opening) in
+    ∙ limits_left_by (batches_at w.versions (length w.versions)) (graph_of_opening w.opening) in
     let most = ap (λ (l : LimitsView). l.batches) limits in
     five _ _ _ _ _ (lt-ltb (length w.versions) w.opening.limits.batches (omega arith))
     (numbers_all (is_listable (ready a w).status (last_blocks w)) (new_blocks a) (λ k d h. (all k d h).listable))
@@ -199,16 +199,16 @@ posted_world a w = posted (ready a w) a.ops (last_numbers a.new)
 status_posted : (a : Acceptance) (w : World) → ShowsWorld a.old w → (n : ℕ)
     → slice_get (posted_world a w).status n ≡ slice_get a.new.pool n
 status_posted a w shows n =
-    let listed : is_listed n (last_numbers a.new) ≡ is_at is_used
-    (number_after (number_in_desk a) (slice_get a.old.pool n) (is_listed n a.taken) (is_listed n a.dropped)) =
+    let listed : is_among n (last_numbers a.new) ≡ is_at is_used
+    (number_after (number_in_desk a) (slice_get a.old.pool n) (is_among n a.taken) (is_among n a.dropped)) =
     sym (a.after.listed n) ∙ ap (is_at is_used) (new_pool a n) in
     status_at (length w.versions + 1) (last_numbers a.new) (ready a w).status n
-    ∙ ap (option_map (after_post (length w.versions + 1) (is_listed n (last_numbers a.new)))) (ready_status a w n)
-    ∙ ap (λ m. status_by (m + 1) (is_listed n (last_numbers a.new)) (slice_get w.status n) (is_listed n a.taken)) (same_count a w shows)
-    ∙ ap (λ t. status_by (number_in_desk a) t (slice_get w.status n) (is_listed n a.taken)) listed
+    ∙ ap (option_map (after_post (length w.versions + 1) (is_among n (last_numbers a.new)))) (ready_status a w n)
+    ∙ ap (λ m. status_by (m + 1) (is_among n (last_numbers a.new)) (slice_get w.status n) (is_among n a.taken)) (same_count a w shows)
+    ∙ ap (λ t. status_by (number_in_desk a) t (slice_get w.status n) (is_among n a.taken)) listed
     ∙ ap (λ (pool : List BlockStatus). status_by (number_in_desk a) (is_at is_used (number_after (number_in_desk a)
-    (slice_get a.old.pool n) (is_listed n a.taken) (is_listed n a.dropped))) (slice_get pool n) (is_listed n a.taken)) shows.status
-    ∙ same_after (number_in_desk a) (slice_get a.old.pool n) (is_listed n a.taken) (is_listed n a.dropped) (taken_free a n)
+    (slice_get a.old.pool n) (is_among n a.taken) (is_among n a.dropped))) (slice_get pool n) (is_among n a.taken)) shows.status
+    ∙ same_after (number_in_desk a) (slice_get a.old.pool n) (is_among n a.taken) (is_among n a.dropped) (taken_free a n)
     (dropped_born a n) ∙ sym (new_pool a n)
 
 shows_posted : (a : Acceptance) (w : World) → ShowsWorld a.old w → ShowsWorld a.new (posted_world a w)
@@ -225,7 +225,7 @@ shows_posted a w shows =
       sizes =
           length-heap_with (fresh_blocks a) w.heap ∙ shows.sizes
           ∙ sym (length-marked (numbers_of (fresh_blocks a)) Granted w.status)
-          ∙ sym (length_enumerated (λ p. after_post (length w.versions + 1) (is_listed p.0 (last_numbers a.new)) p.1) 0
+          ∙ sym (length_enumerated (λ p. after_post (length w.versions + 1) (is_among p.0 (last_numbers a.new)) p.1) 0
           (ready a w).status);
     }
 

@@ -11,7 +11,7 @@ use Rattle.block_reclamation.specs.{declared.copies.Pin.Pin as SeatPin, Copies.p
 use Rattle.epoch_core.specs.{declared.session_states.Hold.Hold, declared.session_states.SessionState.SessionState}
 use Rattle.epoch_core.specs.declared.session_states.SessionState.TheVariants.{Idle, Pinned, Holding, Asking}
 use Rattle.epoch_core.specs.{Worlds.{World, MachineState, IsStart, seat_pin, session_of, held_in, Answer}, Runs.AllReplies}
-use Rattle.epoch_core.specs.{Sound.{IsHeld, IsSound, IsSessionSound}, Versions.{blocks_at, graph_at, opening_graph}}
+use Rattle.epoch_core.specs.{Sound.{IsHeld, IsSound, IsSessionSound}, Versions.{blocks_at, graph_at, graph_of_opening}}
 use Rattle.epoch_core.specs.{declared.events.Event.TheVariants.{Ask, Read, Reply}, declared.events.Event.Event}
 use Rattle.epoch_core.proofs.Steps.{always_sound}
 use Rattle.store_steps.specs.Reached.{world_by}
@@ -60,8 +60,8 @@ posted_graph start end seen desk st n k low =
     ap (λ bs. left_by (take n bs) end.opening) more.batches_are
     ∙ ap (λ bs. left_by bs end.opening) (take-append-le n last.batches more.rest low)
     ∙ ap (left_by (take n last.batches)) (more.opening_is ∙ sym k.reached.desk.opening)
-    ∙ ap (λ bs. left_by (take n bs) (opening_graph w.opening)) (sym k.reached.desk.batches)
-    ∙ ap (λ bs. left_by bs (opening_graph w.opening)) (take-map (λ v. v.batch) n w.versions)
+    ∙ ap (λ bs. left_by (take n bs) (graph_of_opening w.opening)) (sym k.reached.desk.batches)
+    ∙ ap (λ bs. left_by bs (graph_of_opening w.opening)) (take-map (λ v. v.batch) n w.versions)
 
 -- a session whose pin is settled holds a version
 held_now : (last n other : ℕ) (request : Request) (answer : Answer) (cs : List Call) (session : SessionState)

@@ -12,7 +12,7 @@ use Rattle.graph_version.specs.Versions.{VersionView}
 use Rattle.epoch_core.specs.{declared.events.Event.Event, declared.events.Event.TheVariants.{Recycle, Ask, Read, Reply}}
 use Rattle.epoch_core.specs.{declared.session_states.Hold.Hold, declared.session_states.Inquiry.Inquiry}
 use Rattle.epoch_core.specs.declared.session_states.SessionState.{SessionState}
-use Rattle.epoch_core.specs.{declared.session_states.SessionState.TheVariants.{Holding, Asking}, Blocks.put}
+use Rattle.epoch_core.specs.{declared.session_states.SessionState.TheVariants.{Holding, Asking}, Blocks.put_if_some}
 use Rattle.epoch_core.specs.{Worlds.{Answer, World, graph_with}, Versions.{blocks_at, edges_at, edges_of, graph_at, version_at}}
 use Rattle.epoch_core.specs.Machine.{Answers, Question, Replies, is_all_read, move, question_in, question_of, read_on, step}
 use Rattle.epoch_core.specs.Machine.{to_ask, to_read, to_reply, with_sessions}
@@ -68,8 +68,8 @@ pub changed_to : (w : World) (s : ℕ) (change : SessionState → Option Session
     → slice_get w.sessions s ≡ Some session → change session ≡ Some next
     → move w s change ≡ Some (with_sessions w (set w.sessions s next))
 changed_to w s change session next found is =
-    ap (λ o. option_map (with_sessions w) (put w.sessions s (option_and_then change o))) found
-    ∙ ap (λ o. option_map (with_sessions w) (put w.sessions s o)) is
+    ap (λ o. option_map (with_sessions w) (put_if_some w.sessions s (option_and_then change o))) found
+    ∙ ap (λ o. option_map (with_sessions w) (put_if_some w.sessions s o)) is
 
 set_again : {A : Type 0} (xs : List A) (i : ℕ) (x : A) → slice_get xs i ≡ Some x → set xs i x ≡ xs
 set_again [] i x is = cc

@@ -7,7 +7,7 @@ use Rattle.graph_types.specs.Limits.{LimitsView, AreLimits}
 use Rattle.epoch_core.specs.Worlds.{seat_pin, World, MachineState, IsStart, start_world_in, last_number, session_of, held_in}
 use Rattle.epoch_core.specs.declared.events.Event.{Event, TheVariants.{Floor, Pin, Enter, Settle, Ask, Read, Reply, Release}}
 use Rattle.epoch_core.specs.declared.session_states.SessionState.{SessionState, TheVariants.{Idle, Pinned, Holding, Asking}}
-use Rattle.epoch_core.specs.{Epochs.PinsInOrder, Blocks.put, Runs.{run, next_world, is_done}, Machine.{step, move, to_pin}}
+use Rattle.epoch_core.specs.{Epochs.PinsInOrder, Blocks.put_if_some, Runs.{run, next_world, is_done}, Machine.{step, move, to_pin}}
 use Rattle.epoch_core.{specs.Machine.{to_enter, to_settle, with_sessions}, proofs.Moves.{Moved, moved, floored, session_after}}
 use Rattle.epoch_core.proofs.{Steps.{always_sound, idle_at}, Sizes.size_run, Epochs.pins_in_order}
 use Rattle.graph_version.specs.Versions.{empty_version_in}
@@ -96,8 +96,8 @@ move_done : (w : World) (s : ℕ) (change : SessionState → Option SessionState
     → slice_get w.sessions s ≡ Some session → change session ≡ Some next → (after : World) × (move w s change ≡ Some after)
 move_done w s change session next found is = (
   with_sessions w (set w.sessions s next),
-  ap (λ o. option_map (with_sessions w) (put w.sessions s (option_and_then change o))) found
-      ∙ ap (λ o. option_map (with_sessions w) (put w.sessions s o)) is,
+  ap (λ o. option_map (with_sessions w) (put_if_some w.sessions s (option_and_then change o))) found
+      ∙ ap (λ o. option_map (with_sessions w) (put_if_some w.sessions s o)) is,
 )
 
 some_step : (o : Option World) → is_some o ≡ true → (after : World) × (o ≡ Some after)

@@ -1,7 +1,7 @@
 -- How many blocks are retired, and how many free, once some are moved.
 use Rattle.std.proofs.Common.{◌≡◌, ℕ, zero, suc, ◌+◌, ◌≤◌, Bool, cond, List, [], ◌∷◌, length, get_or, set, count_by, sym, ap}
 use Rattle.std.proofs.{Common.arith, lemmas.Grind.common_steps, lemmas.List.length-map}
-use Rattle.block_pool.specs.Pools.{retired, marked, changed}
+use Rattle.block_pool.specs.Pools.{retired, marked, changed_numbers}
 use Rattle.block_reclamation.specs.{declared.status.BlockStatus.BlockStatus, Status.is_retired}
 use Rattle.block_reclamation.specs.declared.status.BlockStatus.TheVariants.{Free, Granted, Used}
 use Rattle.store_steps.proofs.Applications.{Application, next_desk, granted_pool, born_pool, dropped_numbers, number_in_desk}
@@ -20,7 +20,7 @@ one_at_most : (b : Bool) → cond b 1 0 ≤ 1
 one_at_most b = grind (arith, common_steps)
 
 -- each block that is retired is one more at most
-pub retired_more : (ns : List ℕ) (n : ℕ) (xs : List BlockStatus) → count_by is_retired (changed (retired n) ns xs) ≤ count_by
+pub retired_more : (ns : List ℕ) (n : ℕ) (xs : List BlockStatus) → count_by is_retired (changed_numbers (retired n) ns xs) ≤ count_by
     is_retired xs + length ns
 retired_more [] n xs = omega arith
 retired_more (m ∷ ns) n xs =

@@ -9,7 +9,7 @@ use Rattle.block_reclamation.specs.{declared.copies.Pin.Pin as SeatPin, declared
 use Rattle.block_reclamation.specs.{Board.{BoardState, IsBoard, with_pin}, Copies.pin_at}
 use Rattle.epoch_core.specs.{declared.events.Event.Event, declared.session_states.SessionState.SessionState}
 use Rattle.epoch_core.specs.declared.session_states.SessionState.TheVariants.{Idle, Pinned, Holding, Asking}
-use Rattle.epoch_core.specs.{Worlds.{World, session_of, Answer}, Blocks.put, Machine.{step, move, with_sessions}}
+use Rattle.epoch_core.specs.{Worlds.{World, session_of, Answer}, Blocks.put_if_some, Machine.{step, move, with_sessions}}
 use Rattle.epoch_core.specs.Runs.{AllReplies}
 use Rattle.epoch_core.proofs.Moves.{session_after, session_else}
 use Rattle.store_steps.specs.{Steps.all_done, Reached.{Store, IsReached, with_seat, world_by}}
@@ -35,8 +35,8 @@ seated start events e seat change session next moves low is becomes =
     let after : World = with_sessions w (set w.sessions seat next) in
     let found : slice_get w.sessions seat ≡ Some session = slice_get-get_or w.sessions seat Idle low ∙ ap Some is in
     let stepped : step w e ≡ Some after =
-    moves ∙ ap (λ o. option_map (with_sessions w) (put w.sessions seat (option_and_then change o))) found
-    ∙ ap (λ o. option_map (with_sessions w) (put w.sessions seat o)) becomes in
+    moves ∙ ap (λ o. option_map (with_sessions w) (put_if_some w.sessions seat (option_and_then change o))) found
+    ∙ ap (λ o. option_map (with_sessions w) (put_if_some w.sessions seat o)) becomes in
     let there : after ≡ world_by start (events ++ e ∷ []) = run_next events e start after stepped in
     record {
       after = after;

@@ -5,9 +5,9 @@ use Rattle.std.proofs.{Common.{count_by, refl, sym, ap, ◌∙◌, arith, ◌&&�
 use Rattle.std.proofs.lemmas.{Option.{slice_get_within, get_or_from_slice_get}, Grind.common_steps, List.length-map}
 use Rattle.std.specs.{Option.option_map, Prelude.{slice_get, if◌then◌else◌}, declared.option.Option.TheVariants.Some}
 use Rattle.block_pool.{proofs.{Grants.length-marked, Tallies.{count_here, count_true}}, specs.Pools.{retired, is_free_at, marked}}
-use Rattle.block_pool.specs.Pools.{changed, is_used_at}
+use Rattle.block_pool.specs.Pools.{changed_numbers, is_used_at}
 use Rattle.graph_types.specs.declared.batches.NamedOp.{NamedOp}
-use Rattle.block_reclamation.specs.Status.{is_listed, is_free, is_retired, is_reclaimable, recycled}
+use Rattle.block_reclamation.specs.Status.{is_among, is_free, is_retired, is_reclaimable, recycled}
 use Rattle.block_reclamation.specs.{declared.{copies.PinCopy.PinCopy, status.BlockStatus.BlockStatus}, Copies.needs}
 use Rattle.block_reclamation.specs.declared.status.BlockStatus.TheVariants.{Free, Granted, Used}
 use Rattle.epoch_core.{specs.Blocks.all_differ, proofs.Lists.set_else, proofs.Lists.all_listed}
@@ -19,20 +19,20 @@ use Rattle.edge_block.proofs.Counts.{count_more}
 
 -- each of these numbers has this status
 abbrev AllAre : (ℕ → BlockStatus) → List BlockStatus → List ℕ → Type 0
-AllAre of pool ns = (m : ℕ) → is_listed m ns ≡ true → slice_get pool m ≡ Some (of m)
+AllAre of pool ns = (m : ℕ) → is_among m ns ≡ true → slice_get pool m ≡ Some (of m)
 
 -- different numbers change their status: what passes a test afterwards is counted in place of what passed it before
 counts_changed : (p : BlockStatus → Bool) (change : BlockStatus → BlockStatus) (of : ℕ → BlockStatus) (ns : List ℕ)
     (pool : List BlockStatus) → all_differ ns ≡ true → AllAre of pool ns
-    → count_by p (changed change ns pool) + count_by (λ n. p (of n)) ns ≡ count_by p pool + count_by (λ n. p (change (of n))) ns
+    → count_by p (changed_numbers change ns pool) + count_by (λ n. p (of n)) ns ≡ count_by p pool + count_by (λ n. p (change (of n))) ns
 counts_changed p change of [] pool apart are = refl
 counts_changed p change of (n ∷ ns) pool apart are =
-    let here : slice_get pool n ≡ Some (of n) = are n (ap (λ t. t || is_listed n ns) (eq-eqb n n refl)) in
+    let here : slice_get pool n ≡ Some (of n) = are n (ap (λ t. t || is_among n ns) (eq-eqb n n refl)) in
     let was : BlockStatus = get_or pool n Granted in
     let same : was ≡ of n = get_or_from_slice_get pool n (of n) Granted here in
     let behind : AllAre of (set pool n (change was)) ns = λ m is.
-    let ne : m ≢ n = λ e. absurd (true≢false (sym is ∙ ap (λ x. is_listed x ns) e ∙ differ_head n ns apart)) in
-    set_else pool n m (change was) ne ∙ are m (or_right (n == m) (is_listed m ns) is) in
+    let ne : m ≢ n = λ e. absurd (true≢false (sym is ∙ ap (λ x. is_among x ns) e ∙ differ_head n ns apart)) in
+    set_else pool n m (change was) ne ∙ are m (or_right (n == m) (is_among m ns) is) in
     omega (
       arith,
       count_here p pool n (change was) Granted (slice_get_within pool n (of n) here),
@@ -43,7 +43,7 @@ counts_changed p change of (n ∷ ns) pool apart are =
       ap (λ s. cond {A = ℕ} (p (change s)) 1 0) same,
     )
 
-marked_changed : (ns : List ℕ) (s : BlockStatus) (pool : List BlockStatus) → marked ns s pool ≡ changed (λ _. s) ns pool
+marked_changed : (ns : List ℕ) (s : BlockStatus) (pool : List BlockStatus) → marked ns s pool ≡ changed_numbers (λ _. s) ns pool
 marked_changed [] s pool = refl
 marked_changed (n ∷ ns) s pool = marked_changed ns s (set pool n s)
 
@@ -56,13 +56,13 @@ count_none (n ∷ ns) = omega (arith, count_more (λ _. false) n ns, count_none 
 taken_have : (pool : List BlockStatus) (taken dropped : List ℕ) → IsLegalBatch pool taken dropped → AllAre (λ _. Free) pool taken
 taken_have pool taken dropped legal m is = free_is (slice_get pool m) (all_listed (is_free_at pool) taken m legal.free is)
 
-born_in : (pool : List BlockStatus) (taken dropped : List ℕ) → IsLegalBatch pool taken dropped → (m : ℕ) → is_listed m dropped ≡ true
+born_in : (pool : List BlockStatus) (taken dropped : List ℕ) → IsLegalBatch pool taken dropped → (m : ℕ) → is_among m dropped ≡ true
     → is_used_at pool m ≡ true
 born_in pool taken dropped legal m is = all_listed (is_used_at pool) dropped m legal.born is
 
 -- no block is both taken and dropped
-not_taken : (pool : List BlockStatus) (taken dropped : List ℕ) → IsLegalBatch pool taken dropped → (m : ℕ) → is_listed m dropped ≡ true
-    → is_listed m taken ≡ false
+not_taken : (pool : List BlockStatus) (taken dropped : List ℕ) → IsLegalBatch pool taken dropped → (m : ℕ) → is_among m dropped ≡ true
+    → is_among m taken ≡ false
 not_taken pool taken dropped legal m is = grind (arith, common_steps, not_both, all_listed, born_in)
 
 dropped_have : (pool : List BlockStatus) (number : ℕ) (taken dropped : List ℕ) → IsLegalBatch pool taken dropped
@@ -81,8 +81,8 @@ accepted_counts old new ops taken dropped accepted =
     let number : ℕ = length old.last.batches + 1 in
     let granted : List BlockStatus = marked taken (Used number) old.pool in
     let births : ℕ → ℕ = birth_at old.pool in
-    let same : new.pool ≡ changed (retired number) dropped granted = ap (λ l. l.pool) accepted.ledger in
-    let there : granted ≡ changed (λ _. Used number) taken old.pool = marked_changed taken (Used number) old.pool in
+    let same : new.pool ≡ changed_numbers (retired number) dropped granted = ap (λ l. l.pool) accepted.ledger in
+    let there : granted ≡ changed_numbers (λ _. Used number) taken old.pool = marked_changed taken (Used number) old.pool in
     let taking = λ (p : BlockStatus → Bool).
     counts_changed p (λ _. Used number) (λ _. Free) taken old.pool legal.apart (taken_have old.pool taken dropped legal) in
     let dropping = λ (p : BlockStatus → Bool). counts_changed p (retired number) (λ m. Used (births m)) dropped granted

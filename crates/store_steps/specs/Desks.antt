@@ -5,7 +5,7 @@ use Rattle.std.specs.{Prelude.true, Prelude.false, Prelude.◌&&◌, Prelude.if�
 use Rattle.graph_types.specs.{declared.batches.NamedOp.NamedOp, Step.after_all}
 use Rattle.edge_block.specs.{Slots.BlockView, Batches.layout_after, Batches.taken_by, Batches.dropped_by}
 use Rattle.graph_version.specs.{Rows.{row_of, blocks_of, numbers_of}, Versions.{VersionView, IsVersion, content, layout_of}}
-use Rattle.block_reclamation.specs.Status.{is_listed, is_free, is_retired, is_reclaimable, recycled}
+use Rattle.block_reclamation.specs.Status.{is_among, is_free, is_retired, is_reclaimable, recycled}
 use Rattle.block_reclamation.specs.{declared.copies.PinCopy.PinCopy, Copies.needs, declared.status.BlockStatus.BlockStatus}
 use Rattle.block_reclamation.specs.declared.status.BlockStatus.TheVariants.{Granted, Used, Retired}
 use Rattle.block_pool.specs.Pools.{AreFree, is_used_at}
@@ -31,7 +31,7 @@ ledger_of d = record { batches = d.last.batches; pool = d.pool }
 pub record IsDesk (d : DeskView) : Type 0 where
   pub version : IsVersion d.last
   pub replays : replay d.journal (opened_ledger (length d.pool) d.opened) ≡ Some (ledger_of d)
-  pub listed : (n : ℕ) → is_used_at d.pool n ≡ is_listed n (last_numbers d)
+  pub listed : (n : ℕ) → is_used_at d.pool n ≡ is_among n (last_numbers d)
 
 -- the birth of a block of the last version
 abbrev pub birth_of : BlockStatus → ℕ
@@ -94,7 +94,7 @@ pub record IsAccepted (old : DeskView) (ops : List NamedOp) (taken dropped : Lis
   pub legal : is_legal (ledger_of old) (Applied ops taken dropped) ≡ true
   pub ledger : ledger_of new ≡ after_entry (ledger_of old) (Applied ops taken dropped)
   -- blocks that weren't taken are those of the version before, unchanged
-  pub kept : All (λ b. is_listed b.number taken ≡ false → Contains (blocks_of old.last.rows) b) (blocks_of new.last.rows)
+  pub kept : All (λ b. is_among b.number taken ≡ false → Contains (blocks_of old.last.rows) b) (blocks_of new.last.rows)
   pub layout : FollowsLayout old.last ops new.last (length taken) (length dropped)
   pub births : FollowsBirths old ops dropped new
 

@@ -13,7 +13,7 @@ use Rattle.block_reclamation.specs.declared.status.BlockStatus.TheVariants.{Free
 use Rattle.block_reclamation.specs.{declared.copies.PinCopy.PinCopy, Copies.no_copy, Copies.unsettled}
 use Rattle.epoch_core.specs.declared.session_states.SessionState.TheVariants.{Idle, Pinned, Holding}
 use Rattle.epoch_core.specs.declared.events.Event.{Event, TheVariants.{Take, Fill, Post, Recycle, Pin, Enter}}
-use Rattle.epoch_core.specs.Examples.{name_a, name_b, kind_k, put_edge, edge_of, ask_edge}
+use Rattle.epoch_core.specs.Examples.{name_a, name_b, kind_k, one_insertion, example_edge, ask_edge}
 use Rattle.epoch_core.specs.{Runs.run, Worlds.{World, empty_opening, start_world, session_of, held_in}}
 use Rattle.store_steps.specs.Journal.{Entry, Applied, Collected, Ledger, opened_ledger, replay}
 use Rattle.store_steps.specs.{Desks.DeskView, Desks.desk_after, Desks.collections, Steps.all_done, Steps.posting, Steps.recycling}
@@ -27,8 +27,8 @@ abbrev pub unpinned : ℕ → PinCopy
 unpinned last = record no_copy { last = last }
 
 -- a copy with one settled pin, and one with an unsettled pin
-abbrev pub settled_at : ℕ → ℕ → PinCopy
-settled_at last pin = record no_copy { last = last; settled = Some pin ∷ replicate 15 None }
+abbrev pub copy_settled_at : ℕ → ℕ → PinCopy
+copy_settled_at last pin = record no_copy { last = last; settled = Some pin ∷ replicate 15 None }
 
 abbrev pub unsettled_at : ℕ → ℕ → PinCopy
 unsettled_at last pin = record no_copy { last = last; unsettled = Some pin ∷ replicate 15 None }
@@ -40,7 +40,7 @@ four_free = opened_ledger 4 []
 
 -- the first batch takes blocks 0 and 1; the second takes 2 and drops 0, which version 2 so retires
 abbrev pub two_batches : List Entry
-two_batches = Applied (put_edge (pos 1) 1) (0 ∷ 1 ∷ []) [] ∷ Applied (put_edge (pos 2) 2) (2 ∷ []) (0 ∷ []) ∷ []
+two_batches = Applied (one_insertion (pos 1) 1) (0 ∷ 1 ∷ []) [] ∷ Applied (one_insertion (pos 2) 2) (2 ∷ []) (0 ∷ []) ∷ []
 
 -- Desks
 
@@ -52,8 +52,8 @@ block_one = record { number = 1; source = 0; kind = 0; slots = Some (edge_slot 1
 abbrev pub desk_of_edge : DeskView
 desk_of_edge = record {
   opened = [];
-  last = record { opening = empty_graph; batches = put_edge (pos 1) 1 ∷ []; rows = (block_one ∷ []) ∷ [] };
-  journal = Applied (put_edge (pos 1) 1) (1 ∷ []) [] ∷ [];
+  last = record { opening = empty_graph; batches = one_insertion (pos 1) 1 ∷ []; rows = (block_one ∷ []) ∷ [] };
+  journal = Applied (one_insertion (pos 1) 1) (1 ∷ []) [] ∷ [];
   pool = Free ∷ Used 1 ∷ Free ∷ [];
 }
 
@@ -61,9 +61,9 @@ desk_of_edge = record {
 abbrev pub world_of_edge : World
 world_of_edge = record {
   opening = empty_opening;
-  heap = [] ∷ edge_of (pos 1) 1 ∷ [] ∷ [];
+  heap = [] ∷ example_edge (pos 1) 1 ∷ [] ∷ [];
   status = Free ∷ Used 1 ∷ Free ∷ [];
-  versions = record { batch = put_edge (pos 1) 1; blocks = 1 ∷ []; names = name_a ∷ name_b ∷ []; kinds = kind_k ∷ [] } ∷ [];
+  versions = record { batch = one_insertion (pos 1) 1; blocks = 1 ∷ []; names = name_a ∷ name_b ∷ []; kinds = kind_k ∷ [] } ∷ [];
   floor = 0;
   copy = no_copy;
   sessions = Idle ∷ [];
@@ -73,7 +73,7 @@ world_of_edge = record {
 
 -- the edge from a to b as a content, and a version that begins with it, in block 1
 abbrev pub content_of_edge : Content
-content_of_edge = content_of (name_a ∷ name_b ∷ []) (kind_k ∷ []) (edge_of (pos 1) 1)
+content_of_edge = content_of (name_a ∷ name_b ∷ []) (kind_k ∷ []) (example_edge (pos 1) 1)
 
 abbrev pub begins_with_edge : VersionView
 begins_with_edge = record { opening = graph_of content_of_edge; batches = []; rows = (block_one ∷ []) ∷ [] }
@@ -98,7 +98,7 @@ retired_pool = Retired 1 2 ∷ Used 1 ∷ Retired 2 3 ∷ Free ∷ []
 abbrev pub retired_world : World
 retired_world = record (start_world 0 0) {
   status = Retired 1 2 ∷ Used 1 ∷ Retired 2 3 ∷ Free ∷ [];
-  copy = settled_at 3 1;
+  copy = copy_settled_at 3 1;
 }
 
 -- Boards
@@ -148,12 +148,12 @@ pub record AreExamples : Type 0 where
   -- two batches leave block 0 retired with number 2; a collection without pins frees it
   pub batches : replay two_batches four_free
       ≡ Some (record {
-        batches = put_edge (pos 1) 1 ∷ put_edge (pos 2) 2 ∷ [];
+        batches = one_insertion (pos 1) 1 ∷ one_insertion (pos 2) 2 ∷ [];
         pool = Retired 1 2 ∷ Used 1 ∷ Used 2 ∷ Free ∷ [];
       })
   pub collection : replay (two_batches ++ Collected (unpinned 2) 1 ∷ []) four_free
       ≡ Some (record {
-        batches = put_edge (pos 1) 1 ∷ put_edge (pos 2) 2 ∷ [];
+        batches = one_insertion (pos 1) 1 ∷ one_insertion (pos 2) 2 ∷ [];
         pool = Free ∷ Used 1 ∷ Used 2 ∷ Free ∷ [];
       })
   -- no journal: a block taken that is used, or past the last; one taken twice; one dropped that isn't the last version's
@@ -164,7 +164,7 @@ pub record AreExamples : Type 0 where
   -- nor: a collection by a copy made before the block was retired, or with a pin that needs it, one past the last version, one
   -- that recycles nothing
   pub collected_early : replay (two_batches ++ Collected (unpinned 1) 1 ∷ []) four_free ≡ None
-  pub collected_settled : replay (two_batches ++ Collected (settled_at 2 1) 1 ∷ []) four_free ≡ None
+  pub collected_settled : replay (two_batches ++ Collected (copy_settled_at 2 1) 1 ∷ []) four_free ≡ None
   pub collected_unsettled : replay (two_batches ++ Collected (unsettled_at 2 0) 1 ∷ []) four_free ≡ None
   pub collected_late : replay (two_batches ++ Collected (unpinned 3) 1 ∷ []) four_free ≡ None
   pub collected_nothing : replay (two_batches ++ Collected (unpinned 1) 0 ∷ []) four_free ≡ None
@@ -173,27 +173,27 @@ pub record AreExamples : Type 0 where
   pub later : (w : World) → ShowsWorld desk_of_edge (record w { status = Free ∷ Used 2 ∷ Free ∷ [] }) → ⊥
   pub granted : (w : World) → ShowsWorld desk_of_edge (record w { status = Free ∷ Granted ∷ Free ∷ [] }) → ⊥
   -- the events of the batch, of which Take and Fill are done from the start
-  pub posted : posting desk_of_edge.last (put_edge (pos 1) 1) (1 ∷ [])
-      ≡ Take 1 ∷ Fill 1 (edge_of (pos 1) 1) ∷ Post (put_edge (pos 1) 1) (1 ∷ []) ∷ []
-  pub filled : all_done (Take 1 ∷ Fill 1 (edge_of (pos 1) 1) ∷ []) (start_world 1 3)
-      ≡ Some (record (start_world 1 3) { heap = [] ∷ edge_of (pos 1) 1 ∷ [] ∷ []; status = Free ∷ Granted ∷ Free ∷ [] })
+  pub posted : posting desk_of_edge.last (one_insertion (pos 1) 1) (1 ∷ [])
+      ≡ Take 1 ∷ Fill 1 (example_edge (pos 1) 1) ∷ Post (one_insertion (pos 1) 1) (1 ∷ []) ∷ []
+  pub filled : all_done (Take 1 ∷ Fill 1 (example_edge (pos 1) 1) ∷ []) (start_world 1 3)
+      ≡ Some (record (start_world 1 3) { heap = [] ∷ example_edge (pos 1) 1 ∷ [] ∷ []; status = Free ∷ Granted ∷ Free ∷ [] })
   -- a block that was kept is neither taken nor filled again
   pub kept : posting desk_of_edge.last [] [] ≡ Post [] (1 ∷ []) ∷ []
   -- under a pin settled at 1 block 2 alone goes, which was born later; under one settled at 2 block 0 alone, which was retired
   -- by then; under one unsettled at 1 none
-  pub recycled : recycling (settled_at 3 1) retired_pool ≡ Recycle 2 ∷ []
-  pub recycled_behind : recycling (settled_at 3 2) retired_pool ≡ Recycle 0 ∷ []
+  pub recycled : recycling (copy_settled_at 3 1) retired_pool ≡ Recycle 2 ∷ []
+  pub recycled_behind : recycling (copy_settled_at 3 2) retired_pool ≡ Recycle 0 ∷ []
   pub none_recycled : recycling (unsettled_at 3 1) retired_pool ≡ []
-  pub freed : all_done (recycling (settled_at 3 1) retired_pool) retired_world
+  pub freed : all_done (recycling (copy_settled_at 3 1) retired_pool) retired_world
       ≡ Some (record retired_world { status = Retired 1 2 ∷ Used 1 ∷ Free ∷ Free ∷ [] })
-  pub needed : all_done (recycling (settled_at 3 2) retired_pool) retired_world ≡ None
+  pub needed : all_done (recycling (copy_settled_at 3 2) retired_pool) retired_world ≡ None
   -- the batch, applied to the opening, leaves that desk; a collection that recycles nothing has no entry
-  pub accepted : desk_after (opened_desk 3 empty_version) (put_edge (pos 1) 1) desk_of_edge.last (1 ∷ []) [] ≡ desk_of_edge
+  pub accepted : desk_after (opened_desk 3 empty_version) (one_insertion (pos 1) 1) desk_of_edge.last (1 ∷ []) [] ≡ desk_of_edge
   pub entry : collections (unpinned 2) 1 ≡ Collected (unpinned 2) 1 ∷ []
   pub no_entry : collections (unpinned 2) 0 ≡ []
   -- a store that opens with the edge: its block is there with birth 0, and a batch that drops it retires it so
   pub opened : (opened_desk 3 begins_with_edge).pool ≡ Free ∷ Used 0 ∷ Free ∷ []
-  pub opened_edges : (opened_start 1 3 content_of_edge begins_with_edge).world.heap ≡ [] ∷ edge_of (pos 1) 1 ∷ [] ∷ []
+  pub opened_edges : (opened_start 1 3 content_of_edge begins_with_edge).world.heap ≡ [] ∷ example_edge (pos 1) 1 ∷ [] ∷ []
   pub opened_status : (opened_start 1 3 content_of_edge begins_with_edge).world.status ≡ Free ∷ Used 0 ∷ Free ∷ []
   pub opened_dropped : replay (Applied [] (2 ∷ []) (1 ∷ []) ∷ []) (opened_ledger 3 (1 ∷ []))
       ≡ Some (record { batches = [] ∷ []; pool = Free ∷ Retired 0 1 ∷ Used 1 ∷ [] })

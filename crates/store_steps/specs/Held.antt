@@ -1,7 +1,7 @@
 -- What sessions hold, and what a collection leaves of it, where the desk and the board show a run of the machine.
 use Rattle.std.specs.Prelude.{◌≡◌, ◌↔◌, ℕ, ◌≤◌, false, List, length, take, slice_get, Some, IsTrue, IsFalse}
 use Rattle.graph_types.specs.Step.{left_by}
-use Rattle.block_reclamation.specs.{Status.{is_free, is_reclaimable, is_retired, is_at, is_listed}, Board.IsBoard}
+use Rattle.block_reclamation.specs.{Status.{is_free, is_reclaimable, is_retired, is_at, is_among}, Board.IsBoard}
 use Rattle.block_reclamation.specs.declared.copies.{PinCopy.PinCopy, TheConstants.SEATS}
 use Rattle.epoch_core.specs.{declared.events.Event.Event, Versions.AreEdgesOf, Versions.blocks_at, Versions.edges_of}
 use Rattle.epoch_core.specs.Worlds.{World, MachineState, IsStart, session_of, held_in}
@@ -13,8 +13,8 @@ use Rattle.store_steps.specs.{Desks.{DeskView, IsCollected, last_numbers}, Reach
 pub record IsSnapshot (d : DeskView) (copy : PinCopy) (w : World) (n : ℕ) : Type 0 where
   pub within : n ≤ length d.last.batches
   pub shown : AreEdgesOf (edges_of w.heap (blocks_at w.opening w.versions n)) (left_by (take n d.last.batches) d.last.opening)
-  pub in_use : (c : ℕ) → IsTrue (is_listed c (blocks_at w.opening w.versions n)) → is_at is_free (slice_get d.pool c) ≡ false
-  pub kept : (c : ℕ) → IsTrue (is_listed c (blocks_at w.opening w.versions n))
+  pub in_use : (c : ℕ) → IsTrue (is_among c (blocks_at w.opening w.versions n)) → is_at is_free (slice_get d.pool c) ≡ false
+  pub kept : (c : ℕ) → IsTrue (is_among c (blocks_at w.opening w.versions n))
       → is_at (is_reclaimable copy) (slice_get d.pool c) ≡ false
 
 -- whatever the start and the run: the version that a session holds is such a one
@@ -31,4 +31,4 @@ CollectionIsExact =
     → IsReached start.world events s → IsBoard s.board → HaveSettled (world_by start.world events)
     → IsCollected s.desk (raised_store s).copy new → (b : ℕ)
     → IsTrue (is_at is_retired (slice_get new.pool b))
-    ↔ (IsHeldBlock (world_by start.world events) b × IsFalse (is_listed b (last_numbers new)))
+    ↔ (IsHeldBlock (world_by start.world events) b × IsFalse (is_among b (last_numbers new)))

@@ -6,7 +6,7 @@ use Rattle.graph_types.specs.declared.batches.NamedOp.{NamedOp}
 use Rattle.epoch_core.specs.Blocks.{all_differ}
 use Rattle.block_reclamation.specs.{declared.copies.PinCopy.PinCopy, Status.is_reclaimable, Status.recycled}
 use Rattle.block_reclamation.specs.declared.status.BlockStatus.{BlockStatus, TheVariants.Free, TheVariants.Used}
-use Rattle.block_pool.specs.Pools.{is_free_at, retired, marked, changed, is_used_at}
+use Rattle.block_pool.specs.Pools.{is_free_at, retired, marked, changed_numbers, is_used_at}
 
 -- an accepted batch with the numbers of the blocks that it took and dropped, or a collection with its copy of the pins and
 -- how many blocks it recycled
@@ -34,7 +34,7 @@ is_legal l (Collected copy count) = nat_le copy.last (length l.batches) && nat_l
 
 -- the pool after a batch whose version has this number, which is the birth of the blocks taken
 abbrev pub exchanged : ℕ → List ℕ → List ℕ → List BlockStatus → List BlockStatus
-exchanged number taken dropped pool = changed (retired number) dropped (marked taken (Used number) pool)
+exchanged number taken dropped pool = changed_numbers (retired number) dropped (marked taken (Used number) pool)
 
 abbrev pub after_entry : Ledger → Entry → Ledger
 after_entry l (Applied batch taken dropped) =

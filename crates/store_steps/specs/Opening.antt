@@ -6,7 +6,7 @@ use Rattle.graph_version.specs.Versions.{empty_version_in}
 use Rattle.graph_version.specs.Edges.{edges_in_block}
 use Rattle.block_pool.specs.Pools.{marked}
 use Rattle.block_reclamation.specs.{declared.status.BlockStatus.TheVariants.{Free, Used}, Board.no_pins}
-use Rattle.epoch_core.specs.{Worlds.{MachineState, IsStart, start_world_in}, Opened.{Lists, IsOpeningIn, opened_state_in}}
+use Rattle.epoch_core.specs.{Worlds.{MachineState, IsStart, start_world_in}, Opened.{BlockLists, IsOpeningIn, opened_state_in}}
 use Rattle.store_steps.specs.{Desks.DeskView, Desks.IsDesk, Shown.ShowsWorld, Boards.ShowsBoard}
 
 -- version 0, an empty journal, and all blocks free but those of version 0, which have birth 0
@@ -25,7 +25,7 @@ pub record IsVersionZero (blocks : ℕ) (v : VersionView) : Type 0 where
   pub within : All (λ n. n < blocks) (numbers_of (blocks_of v.rows))
 
 -- each block of a version with its edges
-abbrev pub lists_of : VersionView → Lists
+abbrev pub lists_of : VersionView → BlockLists
 lists_of v = map (λ b. (b.number, edges_in_block b)) (blocks_of v.rows)
 
 -- the machine's start over this content, in the blocks of this version and under its limits

@@ -4,7 +4,7 @@ use Rattle.std.specs.declared.option.Option.{Option, TheVariants.{None, Some}}
 use Rattle.graph_types.specs.declared.batches.NamedOp.{NamedOp}
 use Rattle.edge_block.specs.Slots.{BlockView}
 use Rattle.graph_version.specs.{Rows.blocks_of, Rows.numbers_of, Versions.VersionView, Edges.edges_in_block}
-use Rattle.block_reclamation.specs.{Status.is_listed, Status.is_reclaimable, declared.status.BlockStatus.BlockStatus}
+use Rattle.block_reclamation.specs.{Status.is_among, Status.is_reclaimable, declared.status.BlockStatus.BlockStatus}
 use Rattle.block_reclamation.specs.declared.copies.PinCopy.{PinCopy}
 use Rattle.epoch_core.specs.{declared.events.Event.{Event, TheVariants.{Take, Fill, Post, Recycle}}, Worlds.World, Machine.step}
 use Rattle.store_steps.specs.{Desks.DeskView, Desks.IsAccepted, Shown.ShowsWorld}
@@ -20,7 +20,7 @@ filling b = Take b.number ∷ Fill b.number (edges_in_block b) ∷ []
 
 -- the blocks of a version whose numbers are among those taken
 abbrev pub fresh_in : VersionView → List ℕ → List BlockView
-fresh_in v taken = filter (λ b. is_listed b.number taken) (blocks_of v.rows)
+fresh_in v taken = filter (λ b. is_among b.number taken) (blocks_of v.rows)
 
 -- Take and Fill of each taken block, and then one Post of the batch over the blocks of the version
 abbrev pub posting : VersionView → List NamedOp → List ℕ → List Event

@@ -9,10 +9,10 @@ ghost use Rattle.graph_types.specs.declared.batches.NamedOp.{NamedOp};
 ghost use Rattle.edge_block.specs.Slots.{BlockView};
 ghost use Rattle.graph_version.specs.Rows.{numbers_of};
 ghost use Rattle.graph_version.specs.Versions.{VersionView, empty_version_in};
-ghost use Rattle.block_reclamation.specs.Status.{is_listed};
+ghost use Rattle.block_reclamation.specs.Status.{is_among};
 ghost use Rattle.block_reclamation.specs.declared.copies.PinCopy.{PinCopy};
 ghost use Rattle.epoch_core.specs.Worlds.{MachineState, IsStart, start_world_in};
-ghost use Rattle.block_pool.specs.Pools.{retired, is_free_at, marked, changed, is_used_at};
+ghost use Rattle.block_pool.specs.Pools.{retired, is_free_at, marked, changed_numbers, is_used_at};
 ghost use Rattle.block_reclamation.specs.declared.status.BlockStatus.TheVariants.{Free, Granted, Used};
 ghost use Rattle.store_steps.specs.Journal.{Entry, Applied, Ledger, entered, replay};
 ghost use Rattle.store_steps.specs.Desks.{DeskView, IsDesk, IsAppliedTo, IsAccepted, IsCollected, AcceptedCounts};
@@ -36,9 +36,9 @@ pub fn law_journal()
     ensures appended { (es : List Entry) (e : Entry) (l : Ledger) → replay (es ++ e ∷ []) l
         ≡ option_and_then (λ m. entered m e) (replay es l) }
     ensures taken_is_free { (l : Ledger) (batch : List NamedOp) (taken dropped : List ℕ) (n : ℕ)
-        → is_listed n taken ≡ true → is_free_at l.pool n ≡ false → entered l (Applied batch taken dropped) ≡ None }
+        → is_among n taken ≡ true → is_free_at l.pool n ≡ false → entered l (Applied batch taken dropped) ≡ None }
     ensures dropped_is_listed { (l : Ledger) (batch : List NamedOp) (taken dropped : List ℕ) (n : ℕ)
-        → is_listed n dropped ≡ true → is_used_at l.pool n ≡ false → entered l (Applied batch taken dropped) ≡ None }
+        → is_among n dropped ≡ true → is_used_at l.pool n ≡ false → entered l (Applied batch taken dropped) ≡ None }
 {}
 
 /// A batch that was applied to a desk's last version with granted blocks.
@@ -61,7 +61,7 @@ pub fn law_accepted()
         → IsDesk (desk_after old ops version taken dropped) }
     ensures moves { (old : DeskView) (ops : List NamedOp) (numbers : List ℕ) (version : VersionView) (taken : List ℕ)
         (dropped : List BlockView) (unused : List ℕ) → IsDesk old → IsAppliedTo old ops numbers version taken dropped unused
-        → marked unused Free (changed (retired (length old.last.batches + 1)) (numbers_of dropped)
+        → marked unused Free (changed_numbers (retired (length old.last.batches + 1)) (numbers_of dropped)
         (marked taken (Used (length old.last.batches + 1)) (marked numbers Granted old.pool)))
         ≡ (desk_after old ops version taken dropped).pool }
     ensures steps { (old new : DeskView) (ops : List NamedOp) (taken dropped : List ℕ) → IsDesk old → IsDesk new

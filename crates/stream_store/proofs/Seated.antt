@@ -6,7 +6,7 @@ use Rattle.logbook.specs.Pages.{Book}
 use Rattle.graph_types.specs.Graph.{Graph}
 use Rattle.graph_version.specs.Versions.{VersionView}
 use Rattle.version_shelf.specs.Shelves.{ToldView}
-use Rattle.stream_store.specs.{Seats.{SeatView, HasSeen}, Stores.IsSeatOf}
+use Rattle.stream_store.specs.{Seats.{SeatView, HasSeen}, Stores.IsSeatOfOpening}
 
 abbrev IsNew : Book → VersionView → ToldView → Type 0
 IsNew book version x = x ≡ record { book = book; version = version }
@@ -61,7 +61,7 @@ seen_more seats more s x xs ys readers items is cut same = grind (arith, common_
 
 -- seats that have seen one version alone are of the opening with which that began
 pub of_opening : (book here : Book) (opening : Graph) (version : VersionView) (seats : List SeatView) → here ≡ book
-    → version.opening ≡ opening → All (HasSeen here version) seats → All (IsSeatOf book opening) seats
+    → version.opening ≡ opening → All (HasSeen here version) seats → All (IsSeatOfOpening book opening) seats
 of_opening book here opening version seats same began all = λ k d h.
     let seen = all k d h in
     record { book_is = ap (λ (x : ToldView). x.book) seen ∙ same; opening_is = ap (λ (x : ToldView). x.version.opening) seen ∙ began }

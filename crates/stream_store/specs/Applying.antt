@@ -3,7 +3,8 @@ use Rattle.std.specs.Prelude.{◌≡◌, ℕ, ◌+◌, ◌<◌, nat_lt, if◌the
 use Rattle.graph_types.specs.{Step.outcomes, declared.batches.{NamedOp.NamedOp, Outcome.Outcome}}
 use Rattle.graph_version.specs.{Rows.row_of, Versions.VersionView, Versions.content}
 use Rattle.batch_apply.specs.{OldRows.AreOldRows, OldRows.expiry_time, declared.old.OldRow.OldRow}
-use Rattle.batch_apply.specs.{Planned.IsPlan, Planned.MeetsNeitherLimit, declared.plans.Plan.Plan}
+use Rattle.graph_types.specs.Refusals.{MeetsNeitherLimit}
+use Rattle.batch_apply.specs.{Planned.IsPlan, declared.plans.Plan.Plan}
 use Rattle.version_shelf.specs.Shelves.{ToldView}
 use Rattle.stream_store.specs.Kept.{DeskState}
 

@@ -4,7 +4,7 @@ use Rattle.logbook.specs.Pages.{Book}
 use Rattle.graph_version.specs.Versions.{empty_version}
 use Rattle.version_shelf.specs.Shelves.{ShelfView}
 use Rattle.store_steps.specs.{Desks.DeskView, Opening.opened_desk}
-pub use Rattle.desk.specs.Kept.{entry_of}
+pub use Rattle.desk.specs.Kept.{journal_entry}
 
 -- a desk, which history its shelf posts, and how many workers apply a batch
 pub record DeskState : Type 0 where

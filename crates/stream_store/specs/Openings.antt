@@ -10,7 +10,7 @@ store_error (kept.PoolEmpty needed free) = PoolEmpty needed free
 store_error kept.OutOfMemory = OutOfMemory
 
 -- why no store of so many blocks opens with a version that has `needed`; no reader's place, or want of memory, may come at any place
-abbrev pub RefusesOpening : ℕ → ℕ → OpenError → Type 0
-RefusesOpening needed blocks (PoolEmpty told free) = (told ≡ needed) × (free ≡ blocks) × (blocks < needed)
-RefusesOpening needed blocks NoReader = Unit {0}
-RefusesOpening needed blocks OutOfMemory = Unit {0}
+abbrev pub RefusesStore : ℕ → ℕ → OpenError → Type 0
+RefusesStore needed blocks (PoolEmpty told free) = (told ≡ needed) × (free ≡ blocks) × (blocks < needed)
+RefusesStore needed blocks NoReader = Unit {0}
+RefusesStore needed blocks OutOfMemory = Unit {0}

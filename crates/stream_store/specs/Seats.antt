@@ -30,8 +30,8 @@ abbrev pub held_graph : SessionView → Graph
 held_graph s = content (held_version s)
 
 -- the session of a seat to which this version was lent
-abbrev pub lent_to : SeatView → VersionView → SessionView
-lent_to seat version = record { number = seat.number; seen = seat.seen; lent = Some version }
+abbrev pub session_lent : SeatView → VersionView → SessionView
+session_lent seat version = record { number = seat.number; seen = seat.seen; lent = Some version }
 
 -- the seat of a session
 abbrev pub seat_of : SessionView → SeatView

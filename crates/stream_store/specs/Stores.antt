@@ -4,10 +4,11 @@ use Rattle.logbook.specs.Pages.{Book}
 use Rattle.graph_types.specs.Graph.{Graph}
 use Rattle.graph_types.specs.{Step.outcomes, Step.left_by, declared.batches.NamedOp.NamedOp, declared.batches.Outcome.Outcome}
 use Rattle.graph_version.specs.Versions.{VersionView, IsVersion}
-use Rattle.batch_apply.specs.Planned.{MeetsNeitherLimit}
+use Rattle.graph_types.specs.Refusals.{MeetsNeitherLimit}
 use Rattle.version_shelf.specs.Shelves.{ToldView}
 pub use Rattle.desk.specs.Owned.{copied}
-use Rattle.desk.specs.{Refusals.Refuses, declared.errors.ApplyError.ApplyError}
+use Rattle.graph_types.specs.declared.refusals.ApplyError.{ApplyError}
+use Rattle.desk.specs.Refusals.{Refuses}
 use Rattle.stream_store.specs.Seats.{SeatView}
 
 -- a version of the shelf of this book, which began with this graph
@@ -16,8 +17,8 @@ pub record IsOfOpening (book : Book) (opening : Graph) (x : ToldView) : Type 0 w
   pub opening_is : x.version.opening ≡ opening
 
 -- a seat of that shelf
-abbrev pub IsSeatOf : Book → Graph → SeatView → Type 0
-IsSeatOf book opening seat = IsOfOpening book opening seat.seen
+abbrev pub IsSeatOfOpening : Book → Graph → SeatView → Type 0
+IsSeatOfOpening book opening seat = IsOfOpening book opening seat.seen
 
 -- a receipt tells of a version whose batches end with this one and have its number; the outcomes are those of the operation
 -- rule over what the batches before left, at which neither limit of the batch is met, nor that of their number

@@ -13,9 +13,9 @@ ghost use Rattle.desk.specs.Refusals.{Refuses, IsWithin};
 ghost use Rattle.stream_store.specs.Applying.{IsAdmitted, workers_for};
 
 use crate::receipts::Receipt;
-use batch_apply::{Gate, Plan, PlanError, apply_over, old_rows, plan_with};
-use desk::{Accepted, ApplyError, Desk, Load, Ready};
-use graph_types::Batch;
+use batch_apply::{Gate, Plan, apply_over, old_rows, plan_with};
+use desk::{Accepted, Desk, Load, Ready};
+use graph_types::{ApplyError, Batch};
 use graph_version::Version;
 use std::alloc::{AllocError, Global};
 use std::sync::{Arc, Wait};
@@ -39,6 +39,7 @@ fn workers_for(workers: usize, operations: usize, rows: usize) -> usize
 
 /// The plan of a batch after this version, for so many workers, or for one where it is small; what it leaves is the same for
 /// each number.
+#[tactic(auto, using(desk::proofs::Refused::plan_refuses))]
 pub(crate) fn plan_next<R: Threads + Sync>(
     rt: &R,
     alloc: Global,
@@ -55,12 +56,7 @@ pub(crate) fn plan_next<R: Threads + Sync>(
     }
     let old = old_rows(alloc, last, batch)?;
     let workers = workers_for(workers, batch.len(), old.len());
-    match plan_with(rt, alloc, last, batch, &old, workers) {
-        Ok(plan) => Ok(plan),
-        Err(PlanError::NamesFull) => Err(ApplyError::NamesFull),
-        Err(PlanError::KindsFull) => Err(ApplyError::KindsFull),
-        Err(PlanError::OutOfMemory) => Err(ApplyError::OutOfMemory),
-    }
+    Ok(plan_with(rt, alloc, last, batch, &old, workers)?)
 }
 
 /// Grants blocks for a batch of which this is the plan, and has workers make the next version; or gives the desk back as it was.

@@ -7,10 +7,10 @@ ghost use Rattle.graph_version.specs.Versions.{empty_version_in};
 ghost use Rattle.graph_version.specs.Rebased.{IsRebased};
 ghost use Rattle.store_steps.specs.Opening.{IsVersionZero, opened_desk};
 ghost use Rattle.stream_store.specs.Opened.{IsOpeningOf};
-ghost use Rattle.stream_store.specs.Openings.{RefusesOpening};
+ghost use Rattle.stream_store.specs.Openings.{RefusesStore};
 ghost use Rattle.desk.specs.Refusals.{block_count};
 ghost use Rattle.stream_store.specs.Seats.{SeatView, HasSeen, IsNewSeatIn};
-ghost use Rattle.stream_store.specs.Stores.{IsSeatOf};
+ghost use Rattle.stream_store.specs.Stores.{IsSeatOfOpening};
 
 use crate::config::Config;
 use crate::opening::{OpenError, open_parts, open_parts_from};
@@ -69,7 +69,7 @@ impl Store<Brand> {
         ensures board { IfOk result (λ o. o.board ≡ no_pins) }
         ensures seats { IfOk result (λ o. (length o.seats ≡ config.seats) × All (IsNewSeatIn config.limits o.desk.book) o.seats) }
         ensures numbers { IfOk result (λ o. map (λ (s : SeatView). s.number) o.seats ≡ range_with_len 0 (length o.seats)) }
-        ensures refused { IfErr result (RefusesOpening 0 config.blocks) }
+        ensures refused { IfErr result (RefusesStore 0 config.blocks) }
     {
         let (desk, board, seats) = open_parts(rt, alloc, config)?;
         Ok(Opened { desk, board, seats })
@@ -92,7 +92,7 @@ impl Store<Brand> {
         ensures board { IfOk result (λ o. o.board ≡ no_pins) }
         ensures seats { IfOk result (λ o. (length o.seats ≡ config.seats) × All (HasSeen o.desk.book o.desk.desk.last) o.seats) }
         ensures numbers { IfOk result (λ o. map (λ (s : SeatView). s.number) o.seats ≡ range_with_len 0 (length o.seats)) }
-        ensures refused { IfErr result (RefusesOpening (block_count version.now) config.blocks) }
+        ensures refused { IfErr result (RefusesStore (block_count version.now) config.blocks) }
         ensures exact { config.blocks < block_count version.now
             → result ≡ Err (OpenError.PoolEmpty (block_count version.now) config.blocks) }
     {
@@ -106,7 +106,7 @@ impl Opened {
     pub fn named<J: Naming>(self) -> (Store<J>, Vec<Seat>)
         requires { IsOpeningOf J.book J.opening self }
         ensures same { result.1.items ≡ self.seats }
-        ensures seats { All (IsSeatOf J.book J.opening) result.1.items }
+        ensures seats { All (IsSeatOfOpening J.book J.opening) result.1.items }
     {
         let Opened { desk, board, seats } = self;
         (Store::over(desk, board), seats)

@@ -9,7 +9,7 @@ ghost use Rattle.graph_version.specs.Versions.{VersionView, empty_version_in};
 ghost use Rattle.graph_version.specs.Rebased.{IsRebased};
 ghost use Rattle.version_shelf.specs.Shelves.{opened_shelf};
 ghost use Rattle.store_steps.specs.Opening.{IsVersionZero, opened_desk};
-ghost use Rattle.stream_store.specs.Openings.{RefusesOpening};
+ghost use Rattle.stream_store.specs.Openings.{RefusesStore};
 ghost use Rattle.desk.specs.Refusals.{block_count};
 ghost use Rattle.stream_store.specs.Seats.{SeatView, HasSeen, IsNewSeatIn};
 
@@ -71,7 +71,7 @@ pub fn open_parts<R: Wait>(
     ensures board { IfOk result (λ r. r.1 ≡ no_pins) }
     ensures seats { IfOk result (λ r. (length r.2.items ≡ config.seats) × All (IsNewSeatIn config.limits r.0.book) r.2.items) }
     ensures numbers { IfOk result (λ r. map (λ (s : SeatView). s.number) r.2.items ≡ range_with_len 0 (length r.2.items)) }
-    ensures refused { IfErr result (RefusesOpening 0 config.blocks) }
+    ensures refused { IfErr result (RefusesStore 0 config.blocks) }
 {
     open_over(
         rt,
@@ -98,7 +98,7 @@ pub fn open_parts_from<R: Wait>(
     ensures board { IfOk result (λ r. r.1 ≡ no_pins) }
     ensures seats { IfOk result (λ r. (length r.2.items ≡ config.seats) × All (HasSeen r.0.book r.0.desk.last) r.2.items) }
     ensures numbers { IfOk result (λ r. map (λ (s : SeatView). s.number) r.2.items ≡ range_with_len 0 (length r.2.items)) }
-    ensures refused { IfErr result (RefusesOpening (block_count version.now) config.blocks) }
+    ensures refused { IfErr result (RefusesStore (block_count version.now) config.blocks) }
     ensures exact { config.blocks < block_count version.now
         → result ≡ Err (OpenError.PoolEmpty (block_count version.now) config.blocks) }
 {
@@ -119,7 +119,7 @@ fn open_over<R: Wait>(
     ensures seats { IfOk result (λ r. (length r.2.items ≡ config.seats)
         × All (HasSeen r.0.book kept.last) r.2.items) }
     ensures numbers { IfOk result (λ r. map (λ (s : SeatView). s.number) r.2.items ≡ range_with_len 0 (length r.2.items)) }
-    ensures refused { IfErr result (λ e. (needed : ℕ) → RefusesOpening needed config.blocks e) }
+    ensures refused { IfErr result (λ e. (needed : ℕ) → RefusesStore needed config.blocks e) }
 {
     let (writer, seats) = shelf_and_seats(rt, alloc, kept.last(), config.seats())?;
     Ok((Desk::opened(config, kept, writer), Board::new(), seats))
@@ -139,7 +139,7 @@ fn shelf_and_seats<R: Wait>(
     ensures seats { IfOk result (λ r. (length r.1.items ≡ count)
         × All (HasSeen r.0.book (arc_value {X = Version} version.now)) r.1.items) }
     ensures numbers { IfOk result (λ r. map (λ (s : SeatView). s.number) r.1.items ≡ range_with_len 0 (length r.1.items)) }
-    ensures refused { IfErr result (λ e. (needed blocks : ℕ) → RefusesOpening needed blocks e) }
+    ensures refused { IfErr result (λ e. (needed blocks : ℕ) → RefusesStore needed blocks e) }
 {
     let shown = Arc::try_clone(version)?;
     let (writer, readers) = match shelf(rt, alloc, shown, count) {

@@ -17,7 +17,7 @@ ghost use Rattle.store_steps.specs.Desks.{IsDesk, IsCollected, births_in};
 ghost use Rattle.store_steps.specs.Dates.{AreDated};
 ghost use Rattle.store_steps.specs.Opening.{IsVersionZero, opened_desk};
 ghost use Rattle.store_steps.specs.Steps.{Accepts, TakesAt, recycling};
-ghost use Rattle.desk.specs.Kept.{entry_of};
+ghost use Rattle.desk.specs.Kept.{journal_entry};
 ghost use Rattle.desk.specs.Refusals.{Refuses, IsWithin, block_count};
 ghost use Rattle.stream_store.specs.Applying.{IsReceipt};
 ghost use Rattle.stream_store.specs.Kept.{DeskState, IsDeskState, kept_desk};
@@ -221,7 +221,7 @@ impl Desk {
     /// last version's, and the used blocks are those of the last version.
     pub fn journal(&self) -> &[JournalEntry]
         ensures entries { keeps_batches self.now.desk.last.opening.limits ≡ true
-            → map entry_of result.now ≡ self.now.desk.journal }
+            → map journal_entry result.now ≡ self.now.desk.journal }
         ensures replays { IsDesk self.now.desk }
         ensures dated { AreDated self.now.desk.opened (length self.now.desk.last.batches) self.now.desk.pool }
         ensures used { count_by is_in_use self.now.desk.pool ≡ block_count self.now.desk.last }

@@ -13,7 +13,7 @@ ghost use Rattle.block_reclamation.specs.Copies.{pin_at, unsettled, settled};
 ghost use Rattle.graph_version.specs.declared.versions.Version.{Version};
 ghost use Rattle.version_shelf.specs.Shelves.{Begins, IsOfOneShelf};
 ghost use Rattle.version_answers.specs.Numbered.{IsNumberedAnswer};
-ghost use Rattle.stream_store.specs.Seats.{SeatView, SessionView, lent_or_seen, held_version, held_graph, lent_to, seat_of};
+ghost use Rattle.stream_store.specs.Seats.{SeatView, SessionView, lent_or_seen, held_version, held_graph, session_lent, seat_of};
 
 use crate::boards::{KeptBoard, Settled};
 use crate::posting::Desk;
@@ -186,7 +186,7 @@ impl Seat {
     /// A session on the desk's last version, and the seat's pin at the greater of the floor and that version's number. Where
     /// no shared copy of the version is to be had, the seat comes back and the board stays as it was.
     pub fn acquire_lent(self, desk: &Desk, board: &mut Board) -> Result<Session, (Seat, AllocError)>
-        ensures session { IfOk result (λ s. s ≡ lent_to self desk.now.desk.last) }
+        ensures session { IfOk result (λ s. s ≡ session_lent self desk.now.desk.last) }
         ensures pinned { OnOk result (board.new ≡ with_pin board.old self.number
             (Some (record { number = max board.old.floor (length desk.now.desk.last.batches); is_settled = true }))) }
         ensures refused { IfErr result (λ e. e.0 ≡ self) }

@@ -4,9 +4,9 @@ use Rattle.std.proofs.Common.{drop-cons, add-one, Option, Some, None, refl, sym,
 use Rattle.std.proofs.lemmas.List.{take_more, take_all, get_or-map, length-map, get_or_default, Elements.filter_map-append}
 use Rattle.std.proofs.lemmas.{Option.unwrap_or-slice_get, Slice.Zip.length-zip, Slice.Zip.get_or-zip}
 use Rattle.std.specs.{Prelude.zip, List.filter_map, List.slice_get, Option.option_to_list, Option.unwrap_or}
-use Rattle.graph_types.specs.{Answer.{names_of, level_row, reached, IsReply}, declared.ids.{VertexId.VertexId, Filter.Filter}}
+use Rattle.graph_types.specs.{Answer.{names_of_vertices, level_row, reached, IsReply}, declared.ids.{VertexId.VertexId, Filter.Filter}}
 use Rattle.graph_types.{specs.{declared.requests.Request.Request, Analyses.AreLevels, Graph.Graph}, proofs.More.kept_row}
-use Rattle.graph_levels.specs.{Reached.AreReached, Reached.rows_from, Reached.numbers_of}
+use Rattle.graph_levels.specs.{Reached.AreReached, Reached.rows_from, Reached.vertex_numbers}
 use Rattle.graph_types.specs.declared.requests.Reply.TheVariants as replies
 use Rattle.graph_types.specs.declared.requests.Request.TheVariants as request
 use Rattle.version_answers.specs.{Numbered.IsNumberedReply, Numbered.named, declared.numbered.NumberedReply.NumberedReply}
@@ -39,18 +39,18 @@ module _ {A B : Type 0} (xs : List A) (ys : List B) where
   rows_all k end = take_all k (zip xs ys) (omega (arith, length-zip xs ys))
 
 -- as many names as labels
-pub length-labels : (names : List (List ℕ)) (labels : List VertexId) → length (names_of names (numbers_of labels)) ≡ length labels
+pub length-labels : (names : List (List ℕ)) (labels : List VertexId) → length (names_of_vertices names (vertex_numbers labels)) ≡ length labels
 length-labels names labels =
-    length-map (numbers_of labels) (λ v. get_or names v []) ∙ length-map labels (λ (v : VertexId). v.0)
+    length-map (vertex_numbers labels) (λ v. get_or names v []) ∙ length-map labels (λ (v : VertexId). v.0)
 
 -- the name of a vertex's label
 pub label_at : (names : List (List ℕ)) (labels : List VertexId) (k : ℕ) (d : VertexId) (y : List ℕ) → k < length labels
-    → y ≡ get_or names (get_or labels k d).0 [] → y ≡ get_or (names_of names (numbers_of labels)) k y
+    → y ≡ get_or names (get_or labels k d).0 [] → y ≡ get_or (names_of_vertices names (vertex_numbers labels)) k y
 label_at names labels k d y within name =
-    let numbers : get_or (numbers_of labels) k 0 ≡ (get_or labels k d).0 =
+    let numbers : get_or (vertex_numbers labels) k 0 ≡ (get_or labels k d).0 =
     get_or-map (λ (v : VertexId). v.0) labels k d 0 within in
-    let there : k < length (numbers_of labels) = omega (arith, length-map labels (λ (v : VertexId). v.0)) in
-    name ∙ ap (λ v. get_or names v []) (sym numbers) ∙ sym (get_or-map (λ v. get_or names v []) (numbers_of labels) k 0 y there)
+    let there : k < length (vertex_numbers labels) = omega (arith, length-map labels (λ (v : VertexId). v.0)) in
+    name ∙ ap (λ v. get_or names v []) (sym numbers) ∙ sym (get_or-map (λ v. get_or names v []) (vertex_numbers labels) k 0 y there)
 
 -- one row more, where there is a level
 pub level_rows_more : (names : List (List ℕ)) (levels : List (Option ℕ)) (rows new : List (List ℕ × ℕ)) (k : ℕ)
@@ -105,7 +105,7 @@ rows_told f g source rows are = (are.0, are.1, inr (ap Reached are.2))
 pub named_reply : (request : Request) (g : Graph) (reply : NumberedReply) → IsNumberedReply request g reply
     → IsReply request g (named g.names reply)
 named_reply (request.Levels source filter) g reply is = (is.0, is.1, named_levels g.names is.0 reply is.1.one_each is.2)
-named_reply (request.Labels filter) g reply is = (numbers_of is.0, is.1, ap (named g.names) is.2)
+named_reply (request.Labels filter) g reply is = (vertex_numbers is.0, is.1, ap (named g.names) is.2)
 named_reply (request.Cores filter) g reply is = (is.0, is.1, ap (named g.names) is.2)
 named_reply (request.Degrees filter) g reply is = ap (named g.names) is
 named_reply (request.OneEdge kind source target) g reply is = ap (named g.names) is

@@ -3,8 +3,8 @@
 ghost use Rattle.std.specs.Prelude.{◌≡◌, ◌++◌, ℕ, ℤ, [], length, map, zip, IfOk, OnOk, OnErr, slice_index_or};
 ghost use Rattle.std.specs.declared.option.Option.{Option};
 ghost use Rattle.std.specs.Option.{option_to_list};
-ghost use Rattle.graph_types.specs.Answer.{reached, level_row, names_of};
-ghost use Rattle.graph_levels.specs.Reached.{numbers_of};
+ghost use Rattle.graph_types.specs.Answer.{reached, level_row, names_of_vertices};
+ghost use Rattle.graph_levels.specs.Reached.{vertex_numbers};
 ghost use Rattle.graph_version.specs.Versions.{content};
 ghost use Rattle.version_answers.specs.Numbered.{named};
 ghost use Rattle.version_answers.specs.declared.numbered.NumberedReply.TheVariants.{OneEdge};
@@ -82,7 +82,7 @@ fn name_labels(
     names: &NameBook,
     labels: &[VertexId],
 ) -> Result<Vec<(Name, Name)>, AllocError>
-    ensures { IfOk result (λ rows. rows.items ≡ zip names.now.names (names_of names.now.names (numbers_of labels.now))) }
+    ensures { IfOk result (λ rows. rows.items ≡ zip names.now.names (names_of_vertices names.now.names (vertex_numbers labels.now))) }
 {
     let count = names.len().min(labels.len());
     let mut rows = Vec::with_capacity(alloc, count)?;

@@ -3,7 +3,7 @@
 ghost use Rattle.std.specs.Prelude.{◌≡◌, ◌⊎◌, ℕ, List, Err, IfOk, MatchResult, None, Some, true};
 ghost use Rattle.std.specs.Option.{SomeIff, option_map};
 ghost use Rattle.std.specs.FinMap.{get};
-ghost use Rattle.graph_types.specs.Answer.{filter_refusal, resolved, shown, is_listed};
+ghost use Rattle.graph_types.specs.Answer.{filter_refusal, resolved_filter, shown_stamp, is_listed};
 ghost use Rattle.graph_types.specs.Step.{number_of};
 ghost use Rattle.graph_types.specs.declared.requests.Request.TheVariants.{Levels, Labels, Cores, Degrees, OneEdge};
 ghost use Rattle.graph_version.specs.Versions.{content};
@@ -149,7 +149,7 @@ fn edge_marks(
     target: VertexId,
 ) -> Option<(i64, u64, u64)>
     ensures { result
-        ≡ option_map shown (get (content version.now).edges (record { kind = kind.0; source = source.0; target = target.0 })) }
+        ≡ option_map shown_stamp (get (content version.now).edges (record { kind = kind.0; source = source.0; target = target.0 })) }
 {
     let edge = version.edge(kind, source, target)?;
     Some((*edge.weight, *edge.first, *edge.recent))
@@ -169,7 +169,7 @@ fn kind_number(version: &Version, name: &Name) -> Option<KindId>
 
 /// The filter with its kind's number in place of the name. It takes no memory.
 fn resolve(version: &Version, filter: &NamedFilter) -> Result<Filter, AskError>
-    ensures found { IfOk result (λ f. f ≡ resolved (content version.now) filter.now) }
+    ensures found { IfOk result (λ f. f ≡ resolved_filter (content version.now) filter.now) }
     ensures refused { MatchResult result
         (λ _. filter_refusal (content version.now) filter.now true ≡ None)
         (λ e. filter_refusal (content version.now) filter.now true ≡ Some e) }

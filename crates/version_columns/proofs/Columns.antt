@@ -9,7 +9,7 @@ use Rattle.edge_block.specs.{Slots.BlockView, Lending.LentEdge, declared.blocks.
 use Rattle.version_pages.specs.Rows.{row_of, blocks_of}
 use Rattle.graph_version.specs.{Sharing.{block_value, block_values}, Versions.{VersionView, IsVersion}}
 use Rattle.graph_version.proofs.BlockCounts.{few_blocks}
-use Rattle.version_columns.specs.Rows.{Columns, with_edge, with_edges, with_values, block_edges, edges_of, row_edges, rows_from, sources_from, edge_columns}
+use Rattle.version_columns.specs.Rows.{Columns, with_lent_edge, with_edges, with_values, block_edges, lent_edges_of, row_edges, lent_rows_from, sources_from, edge_columns}
 
 -- edges behind others, and values
 pub with_edges-append : (at : ℕ) (xs ys : List LentEdge) (c : Columns)
@@ -17,7 +17,7 @@ pub with_edges-append : (at : ℕ) (xs ys : List LentEdge) (c : Columns)
 with_edges-append at [] ys c = ap (λ n. with_edges n ys c) (sym (add-zero at))
 with_edges-append at (x ∷ xs) ys c =
     let same : (at + 1) + length xs ≡ at + suc (length xs) = omega arith in
-    with_edges-append (at + 1) xs ys (with_edge at x c) ∙ ap (λ n. with_edges n ys (with_edges (at + 1) xs (with_edge at x c))) same
+    with_edges-append (at + 1) xs ys (with_lent_edge at x c) ∙ ap (λ n. with_edges n ys (with_edges (at + 1) xs (with_lent_edge at x c))) same
 
 pub with_values-append : (at : ℕ) (xs ys c : List ℕ)
     → with_values at (xs ++ ys) c ≡ with_values (at + length xs) ys (with_values at xs c)
@@ -28,11 +28,11 @@ with_values-append at (x ∷ xs) ys c =
 
 -- the blocks that are left begin with the next one
 pub next_edges : (f : Filter) (blocks : List (Arc Block Global)) (i : ℕ) (d : Arc Block Global) → i < length blocks
-    → edges_of f (block_values (drop i blocks)) ≡ block_edges f (block_value (get_or blocks i d))
-    ++ edges_of f (block_values (drop (i + 1) blocks))
+    → lent_edges_of f (block_values (drop i blocks)) ≡ block_edges f (block_value (get_or blocks i d))
+    ++ lent_edges_of f (block_values (drop (i + 1) blocks))
 next_edges f blocks i d within =
-    ap (λ (bs : List (Arc Block Global)). edges_of f (block_values bs)) (drop-cons blocks i d within)
-    ∙ ap (λ n. block_edges f (block_value (get_or blocks i d)) ++ edges_of f (block_values (drop n blocks))) (sym (add-one i))
+    ap (λ (bs : List (Arc Block Global)). lent_edges_of f (block_values bs)) (drop-cons blocks i d within)
+    ∙ ap (λ n. block_edges f (block_value (get_or blocks i d)) ++ lent_edges_of f (block_values (drop n blocks))) (sym (add-one i))
 
 -- a row is among all blocks
 row_within : (rows : List (List BlockView)) (source : ℕ) → length (row_of rows source) ≤ length (blocks_of rows)
@@ -45,12 +45,12 @@ few_in_row v source is = omega (arith, few_blocks v is, row_within v.rows source
 
 -- one row more
 pub rows_from-more : (f : Filter) (v : VersionView) (source n : ℕ)
-    → rows_from f v source (suc n) ≡ rows_from f v source n ++ row_edges f v (source + n)
+    → lent_rows_from f v source (suc n) ≡ lent_rows_from f v source n ++ row_edges f v (source + n)
 rows_from-more f v source zero = append-nil _ ∙ ap (row_edges f v) (sym (add-zero source))
 rows_from-more f v source (suc n) =
     let same : (source + 1) + n ≡ source + suc n = omega arith in
-    ap (λ es. row_edges f v source ++ es) (rows_from-more f v (source + 1) n ∙ ap (λ s. rows_from f v (source + 1) n ++ row_edges f v s) same)
-    ∙ sym (append_assoc (row_edges f v source) (rows_from f v (source + 1) n) (row_edges f v (source + suc n)))
+    ap (λ es. row_edges f v source ++ es) (rows_from-more f v (source + 1) n ∙ ap (λ s. lent_rows_from f v (source + 1) n ++ row_edges f v s) same)
+    ∙ sym (append_assoc (row_edges f v source) (lent_rows_from f v (source + 1) n) (row_edges f v (source + suc n)))
 
 pub sources_from-more : (f : Filter) (v : VersionView) (source n : ℕ)
     → sources_from f v source (suc n) ≡ sources_from f v source n ++ replicate (length (row_edges f v (source + n))) (source + n)
@@ -66,21 +66,21 @@ pub degrees_long : (f : Filter) (g : Graph) → length (degree_table f g) ≡ le
 degrees_long f g = length-map-range_with_len (degree_at f g) 0 (length g.names)
 
 -- each edge has a source
-pub sources_long : (f : Filter) (v : VersionView) (source n : ℕ) → length (sources_from f v source n) ≡ length (rows_from f v source n)
+pub sources_long : (f : Filter) (v : VersionView) (source n : ℕ) → length (sources_from f v source n) ≡ length (lent_rows_from f v source n)
 sources_long f v source zero = refl
 sources_long f v source (suc n) =
-    let here = length-append (row_edges f v source) (rows_from f v (source + 1) n) in
+    let here = length-append (row_edges f v source) (lent_rows_from f v (source + 1) n) in
     let each = length-append (replicate (length (row_edges f v source)) source) (sources_from f v (source + 1) n) in
     let long = length-replicate (length (row_edges f v source)) source in
     omega (arith, here, each, long, sources_long f v (source + 1) n)
 
 -- where there are no edges to write, all is as it was
 pub none_written : (f : Filter) (v : VersionView) (source n : ℕ) (old new : Columns) (old_sources new_sources : List ℕ)
-    → length (rows_from f v source n) ≡ 0 → new ≡ with_edges 0 (rows_from f v source n) old
+    → length (lent_rows_from f v source n) ≡ 0 → new ≡ with_edges 0 (lent_rows_from f v source n) old
     → new_sources ≡ with_values 0 (sources_from f v source n) old_sources
     → edge_columns source new_sources new ≡ edge_columns source old_sources old
 none_written f v source n old new old_sources new_sources none edges values =
-    let rows = nil_from_length (rows_from f v source n) none in
+    let rows = nil_from_length (lent_rows_from f v source n) none in
     let sources = nil_from_length (sources_from f v source n) (sources_long f v source n ∙ none) in
     let columns_same : new ≡ old = edges ∙ ap (λ es. with_edges 0 es old) rows in
     let sources_same : new_sources ≡ old_sources = values ∙ ap (λ xs. with_values 0 xs old_sources) sources in

@@ -8,7 +8,7 @@ use Rattle.std.specs.{List.slice_get, Prelude.{All, IsTrue, bytes_eq}, Str.IsUtf
 use Rattle.graph_types.specs.Answer.{is_listed}
 use Rattle.batch_columns.proofs.NameTexts.{name_text, never_true}
 use Rattle.graph_types.specs.Valid.{is_name}
-use Rattle.version_columns.specs.{Lookups.byte_count, Texts.{joined, ends_from, chosen}}
+use Rattle.version_columns.specs.{Lookups.byte_count, Texts.{joined_texts, ends_from, chosen}}
 
 pub name_short : (bytes : List ℕ) → is_name bytes ≡ true → length bytes ≤ 64
 name_short bytes name = grind (arith, nat_tests, and_parts)
@@ -34,8 +34,8 @@ chosen_more names first k name at =
 pub byte_count-more : (texts : List (List ℕ)) (text : List ℕ) → byte_count (texts ++ text ∷ []) ≡ byte_count texts + length text
 byte_count-more texts text = let more = sum_by-append length texts (text ∷ []) in let one = sum_by-cons length text [] in omega (arith, more, one)
 
-pub joined-more : (texts : List (List ℕ)) (text : List ℕ) → joined (texts ++ text ∷ []) ≡ joined texts ++ text
-joined-more texts text = flat_map-append (λ t. t) texts (text ∷ []) ∙ ap (λ bs. joined texts ++ bs) (append-nil text)
+pub joined-more : (texts : List (List ℕ)) (text : List ℕ) → joined_texts (texts ++ text ∷ []) ≡ joined_texts texts ++ text
+joined-more texts text = flat_map-append (λ t. t) texts (text ∷ []) ∙ ap (λ bs. joined_texts texts ++ bs) (append-nil text)
 
 pub ends_from-more : (at : ℕ) (texts : List (List ℕ)) (text : List ℕ)
     → ends_from at (texts ++ text ∷ []) ≡ ends_from at texts ++ (at + byte_count texts + length text) ∷ []

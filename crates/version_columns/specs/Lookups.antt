@@ -28,8 +28,8 @@ marks_of None = Err NoEdge
 marks_of (Some stamp) = Ok (record { weight = stamp.weight; first = stamp.first; recent = stamp.recent })
 
 -- the edge of a kind from a source to a target, by their numbers; or the first refusal that holds
-abbrev pub edge_at : Graph → ℕ → ℕ → ℕ → Result Marks ColumnError
-edge_at g kind source target =
+abbrev pub marks_of_edge : Graph → ℕ → ℕ → ℕ → Result Marks ColumnError
+marks_of_edge g kind source target =
     if nat_lt kind (length g.kinds)
     then (if nat_lt source (length g.names) && nat_lt target (length g.names)
     then marks_of (get g.edges (record { kind = kind; source = source; target = target }))

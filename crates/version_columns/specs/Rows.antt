@@ -7,18 +7,18 @@ use Rattle.version_pages.specs.Rows.{row_of}
 use Rattle.graph_version.specs.{Versions.{VersionView, content}, Shown.shown}
 use Rattle.version_columns.specs.declared.views.{View.View, ColumnError.ColumnError}
 use Rattle.version_columns.specs.declared.views.ColumnError.TheVariants.{NoKind, BadLength}
-use Rattle.version_columns.specs.Views.{filter_of, first_refusal}
+use Rattle.version_columns.specs.Views.{filter_of, first_view_refusal}
 
 -- the edges of a block that a filter lets through, in slot order, and those of blocks
 abbrev pub block_edges : Filter → BlockView → List LentEdge
 block_edges f b = map lent_of (shown f b)
 
-abbrev pub edges_of : Filter → List BlockView → List LentEdge
-edges_of f blocks = flat_map (block_edges f) blocks
+abbrev pub lent_edges_of : Filter → List BlockView → List LentEdge
+lent_edges_of f blocks = flat_map (block_edges f) blocks
 
 -- those of a source, in the order of its row
 abbrev pub row_edges : Filter → VersionView → ℕ → List LentEdge
-row_edges f v source = edges_of f (row_of v.rows source)
+row_edges f v source = lent_edges_of f (row_of v.rows source)
 
 -- the columns that edges are written to
 pub record Columns : Type 0 where
@@ -29,8 +29,8 @@ pub record Columns : Type 0 where
   pub recents : List ℕ
 
 -- with an edge at a place
-abbrev pub with_edge : ℕ → LentEdge → Columns → Columns
-with_edge at e c =
+abbrev pub with_lent_edge : ℕ → LentEdge → Columns → Columns
+with_lent_edge at e c =
     record {
       kinds = slice_set c.kinds at e.kind;
       targets = slice_set c.targets at e.target;
@@ -42,7 +42,7 @@ with_edge at e c =
 -- with edges one after another from a place on, and all else as it was
 abbrev pub with_edges : ℕ → List LentEdge → Columns → Columns
 with_edges at [] c = c
-with_edges at (e ∷ es) c = with_edges (at + 1) es (with_edge at e c)
+with_edges at (e ∷ es) c = with_edges (at + 1) es (with_lent_edge at e c)
 
 abbrev pub columns : List ℕ → List ℕ → List ℤ → List ℕ → List ℕ → Columns
 columns kinds targets weights firsts recents =
@@ -61,9 +61,9 @@ with_values at [] column = column
 with_values at (x ∷ xs) column = with_values (at + 1) xs (slice_set column at x)
 
 -- the edges of so many sources from one on, row after row, and the source of each
-abbrev pub rows_from : Filter → VersionView → ℕ → ℕ → List LentEdge
-rows_from f v source zero = []
-rows_from f v source (suc n) = row_edges f v source ++ rows_from f v (source + 1) n
+abbrev pub lent_rows_from : Filter → VersionView → ℕ → ℕ → List LentEdge
+lent_rows_from f v source zero = []
+lent_rows_from f v source (suc n) = row_edges f v source ++ lent_rows_from f v (source + 1) n
 
 abbrev pub sources_from : Filter → VersionView → ℕ → ℕ → List ℕ
 sources_from f v source zero = []
@@ -77,13 +77,13 @@ fits_row None v source room = true
 fits_row (Some f) v source room = nat_le (length (row_edges f v source)) room
 
 -- a result that is this refusal, if there is one
-abbrev pub outcome : Option ColumnError → Result (Unit {0}) ColumnError
-outcome None = Ok tt
-outcome (Some error) = Err error
+abbrev pub column_outcome : Option ColumnError → Result (Unit {0}) ColumnError
+column_outcome None = Ok tt
+column_outcome (Some error) = Err error
 
 -- the row is written, or refused by the first refusal that holds and then nothing is
 pub record WritesRow (v : VersionView) (view : View) (source : ℕ) (old new : Columns) (result : Result (Unit {0}) ColumnError) : Type 0 where
-  pub answer : result ≡ outcome (first_refusal (filter_of (content v) view) (nat_lt source (length (content v).names))
+  pub answer : result ≡ column_outcome (first_view_refusal (filter_of (content v) view) (nat_lt source (length (content v).names))
       (are_long (length old.kinds) old && fits_row (filter_of (content v) view) v source (length old.kinds)))
   pub written : OnOk result ((f : Filter) × (filter_of (content v) view ≡ Some f) × (new ≡ with_edges 0 (row_edges f v source) old))
   pub same : OnErr result (new ≡ old)
@@ -97,16 +97,16 @@ IsRowCount v view source count = (f : Filter) → filter_of (content v) view ≡
 
 -- the rows of the sources from one to below the next have so many edges, which have room; there are no more sources, or the
 -- next row has none. Where the first is no source, it stays
-pub record AreRows (f : Filter) (v : VersionView) (source next room count : ℕ) : Type 0 where
+pub record AreRowsFrom (f : Filter) (v : VersionView) (source next room count : ℕ) : Type 0 where
   pub onward : source ≤ next
   pub most : (next ≤ length (content v).names) ⊎ (next ≡ source)
-  pub counted : count ≡ length (rows_from f v source (next - source))
+  pub counted : count ≡ length (lent_rows_from f v source (next - source))
   pub fits : count ≤ room
   pub whole : (length (content v).names ≤ next) ⊎ (room < count + length (row_edges f v next))
 
 -- they are written, with their sources
 pub record WrittenRows (f : Filter) (v : VersionView) (source next : ℕ) (old new : Columns) (old_sources new_sources : List ℕ) : Type 0 where
-  pub edges : new ≡ with_edges 0 (rows_from f v source (next - source)) old
+  pub edges : new ≡ with_edges 0 (lent_rows_from f v source (next - source)) old
   pub sources : new_sources ≡ with_values 0 (sources_from f v source (next - source)) old_sources
 
 -- not even the next row that has an edge fits
@@ -114,7 +114,7 @@ pub record IsTooLong (f : Filter) (v : VersionView) (source room count : ℕ) : 
   pub next : ℕ
   pub onward : source ≤ next
   pub there : next < length (content v).names
-  pub empty : rows_from f v source (next - source) ≡ []
+  pub empty : lent_rows_from f v source (next - source) ≡ []
   pub long : room < length (row_edges f v next)
   pub counted : count ≡ length (row_edges f v next)
 
@@ -128,7 +128,7 @@ abbrev pub WritesEdges : VersionView → View → EdgeColumns → EdgeColumns �
 WritesEdges v view old new count (Ok _) =
     (f : Filter) × (filter_of (content v) view ≡ Some f)
     × ((length old.sources == length old.columns.kinds) && are_long (length old.columns.kinds) old.columns ≡ true)
-    × AreRows f v old.source new.source (length old.columns.kinds) count
+    × AreRowsFrom f v old.source new.source (length old.columns.kinds) count
     × WrittenRows f v old.source new.source old.columns new.columns old.sources new.sources
     × ((0 < count) ⊎ (length (content v).names ≤ new.source))
 WritesEdges v view old new count (Err NoKind) = (filter_of (content v) view ≡ None) × (new ≡ old)

@@ -3,23 +3,23 @@ use Rattle.std.specs.Prelude.{◌≡◌, ◌==◌, ◌&&◌, ℕ, ℤ, List, len
 use Rattle.graph_types.specs.{Graph.Graph, Answer.degree_table, Analyses.{AreLevels, AreLabels, AreCoreNumbers}}
 use Rattle.graph_types.specs.declared.ids.Filter.{Filter}
 use Rattle.version_columns.specs.declared.views.{View.View, ColumnError.ColumnError}
-use Rattle.version_columns.specs.Views.{filter_of, first_refusal, no_number, IsWritten}
+use Rattle.version_columns.specs.Views.{filter_of, first_view_refusal, no_number, IsWritten}
 
 -- core numbers, and labels
 abbrev pub WritesCores : Graph → View → List ℕ → List ℕ → Result (Unit {0}) ColumnError → Type 0
 WritesCores g view old new result =
-    IsWritten (first_refusal (filter_of g view) true (length old == length g.names)) old new
+    IsWritten (first_view_refusal (filter_of g view) true (length old == length g.names)) old new
     ((f : Filter) × (filter_of g view ≡ Some f) × AreCoreNumbers f g new) result
 
 abbrev pub WritesLabels : Graph → View → List ℕ → List ℕ → Result (Unit {0}) ColumnError → Type 0
 WritesLabels g view old new result =
-    IsWritten (first_refusal (filter_of g view) true (length old == length g.names)) old new
+    IsWritten (first_view_refusal (filter_of g view) true (length old == length g.names)) old new
     ((f : Filter) × (filter_of g view ≡ Some f) × AreLabels f g new) result
 
 -- levels from a source: a number that is no level where no walk leads
 abbrev pub WritesLevels : Graph → View → ℕ → List ℕ → List ℕ → Result (Unit {0}) ColumnError → Type 0
 WritesLevels g view source old new result =
-    IsWritten (first_refusal (filter_of g view) (nat_lt source (length g.names)) (length old == length g.names)) old new
+    IsWritten (first_view_refusal (filter_of g view) (nat_lt source (length g.names)) (length old == length g.names)) old new
     ((f : Filter) × (filter_of g view ≡ Some f)
     × ((found : List (Option ℕ)) × AreLevels f g source found × (new ≡ map (λ level. unwrap_or level no_number) found))) result
 
@@ -39,6 +39,6 @@ pub record AreDegrees (f : Filter) (g : Graph) (c : DegreeColumns) : Type 0 wher
 
 abbrev pub WritesDegrees : Graph → View → DegreeColumns → DegreeColumns → Result (Unit {0}) ColumnError → Type 0
 WritesDegrees g view old new result =
-    IsWritten (first_refusal (filter_of g view) true ((length old.outgoing == length g.names)
+    IsWritten (first_view_refusal (filter_of g view) true ((length old.outgoing == length g.names)
     && (length old.incoming == length g.names) && (length old.weights == length g.names))) old new
     ((f : Filter) × (filter_of g view ≡ Some f) × AreDegrees f g new) result

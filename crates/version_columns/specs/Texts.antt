@@ -5,8 +5,8 @@ use Rattle.version_columns.specs.declared.names.TextError.TheVariants.{Fewer, No
 use Rattle.version_columns.specs.Lookups.{byte_count}
 
 -- the bytes of texts
-abbrev pub joined : List (List ℕ) → List ℕ
-joined texts = flat_map (λ text. text) texts
+abbrev pub joined_texts : List (List ℕ) → List ℕ
+joined_texts texts = flat_map (λ text. text) texts
 
 -- where texts end that begin at a place
 abbrev pub ends_from : ℕ → List (List ℕ) → List ℕ
@@ -19,7 +19,7 @@ chosen names first count = take count (drop first names)
 
 -- the texts stand at the beginning, and all behind them is as it was; the ends are theirs
 pub record AreTexts (texts : List (List ℕ)) (old new : List ℕ) (ends : List ℕ) : Type 0 where
-  pub bytes : take (byte_count texts) new ≡ joined texts
+  pub bytes : take (byte_count texts) new ≡ joined_texts texts
   pub rest : drop (byte_count texts) new ≡ drop (byte_count texts) old
   pub ends_are : ends ≡ ends_from 0 texts
 

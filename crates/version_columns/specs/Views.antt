@@ -18,11 +18,11 @@ filter_of g view =
     else None)
 
 -- the first refusal that holds, of the kind, the vertex and the lengths
-abbrev pub first_refusal : Option Filter → Bool → Bool → Option ColumnError
-first_refusal None vertex_ok length_ok = Some NoKind
-first_refusal (Some f) false length_ok = Some NoVertex
-first_refusal (Some f) true false = Some BadLength
-first_refusal (Some f) true true = None
+abbrev pub first_view_refusal : Option Filter → Bool → Bool → Option ColumnError
+first_view_refusal None vertex_ok length_ok = Some NoKind
+first_view_refusal (Some f) false length_ok = Some NoVertex
+first_view_refusal (Some f) true false = Some BadLength
+first_view_refusal (Some f) true true = None
 
 -- the result is the refusal, if there is one; else what was to be written is written, or memory was refused. A refusal leaves the
 -- columns as they were

@@ -1,7 +1,7 @@
 //! The edges of many rows in columns.
 
 ghost use Rattle.std.specs.Prelude.{◌≡◌, ◌-◌, ◌≤◌, length, replicate};
-ghost use Rattle.version_columns.specs.Rows.{columns, AreLong, with_values, AreRows, WrittenRows, edge_columns, WritesEdges};
+ghost use Rattle.version_columns.specs.Rows.{columns, AreLong, with_values, AreRowsFrom, WrittenRows, edge_columns, WritesEdges};
 
 use crate::rows::{are_long, count_blocks, write_blocks};
 use crate::views::{ColumnError, View, filter_of};
@@ -40,7 +40,7 @@ fn write_rows(
 ) -> Written
     requires long { AreLong (length kinds.old) (columns kinds.old targets.old weights.old firsts.old recents.old) }
     requires sources { length sources.old ≡ length kinds.old }
-    ensures rows { AreRows view.now version.now source result.next (length kinds.old) result.count }
+    ensures rows { AreRowsFrom view.now version.now source result.next (length kinds.old) result.count }
     ensures written { WrittenRows view.now version.now source result.next
         (columns kinds.old targets.old weights.old firsts.old recents.old)
         (columns kinds.new targets.new weights.new firsts.new recents.new) sources.old sources.new }

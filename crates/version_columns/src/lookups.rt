@@ -5,7 +5,7 @@ ghost use Rattle.std.specs.Option.{SomeIff};
 ghost use Rattle.graph_types.specs.Answer.{is_listed};
 ghost use Rattle.graph_types.specs.Step.{number_of};
 ghost use Rattle.graph_version.specs.Versions.{content};
-ghost use Rattle.version_columns.specs.Lookups.{byte_count, size_of, edge_at};
+ghost use Rattle.version_columns.specs.Lookups.{byte_count, size_of, marks_of_edge};
 
 use crate::views::ColumnError;
 use graph_types::{KindId, VertexId};
@@ -101,7 +101,7 @@ fn number_in(book: &NameBook, name: &[u8]) -> Option<u32>
 
 /// One edge by its numbers: `NoKind`, `NoVertex`, `NoEdge` in this order. It takes no memory.
 pub fn edge(version: &Version, kind: u32, source: u32, target: u32) -> Result<Marks, ColumnError>
-    ensures { result ≡ edge_at (content version.now) kind source target }
+    ensures { result ≡ marks_of_edge (content version.now) kind source target }
 {
     if kind as usize >= version.kinds().len() {
         return Err(ColumnError::NoKind);

@@ -2,7 +2,7 @@
 
 ghost use Rattle.std.specs.Prelude.{◌≡◌, ◌+◌, ◌≤◌, ◌^◌, length};
 ghost use Rattle.version_pages.specs.Sharing.{block_values};
-ghost use Rattle.version_columns.specs.Rows.{block_edges, edges_of, columns, with_edges, AreLong, WritesRow, IsRowCount};
+ghost use Rattle.version_columns.specs.Rows.{block_edges, lent_edges_of, columns, with_edges, AreLong, WritesRow, IsRowCount};
 ghost use Rattle.version_columns.specs.Rows as rows;
 
 use crate::views::{ColumnError, View, filter_of};
@@ -51,10 +51,10 @@ pub(crate) fn write_blocks(
     recents: &mut [u64],
 ) -> usize
     requires long { AreLong (length kinds.old) (columns kinds.old targets.old weights.old firsts.old recents.old) }
-    requires room { at + length (edges_of view.now (block_values blocks.now)) ≤ length kinds.old }
+    requires room { at + length (lent_edges_of view.now (block_values blocks.now)) ≤ length kinds.old }
     ensures columns { columns kinds.new targets.new weights.new firsts.new recents.new
-        ≡ with_edges at (edges_of view.now (block_values blocks.now)) (columns kinds.old targets.old weights.old firsts.old recents.old) }
-    ensures end { result ≡ at + length (edges_of view.now (block_values blocks.now)) }
+        ≡ with_edges at (lent_edges_of view.now (block_values blocks.now)) (columns kinds.old targets.old weights.old firsts.old recents.old) }
+    ensures end { result ≡ at + length (lent_edges_of view.now (block_values blocks.now)) }
 {
     for block in blocks {
         at = write_block(block, view, at, kinds, targets, weights, firsts, recents);
@@ -73,7 +73,7 @@ fn count_block(block: &Block, view: &Filter) -> usize
 /// How many edges of a view blocks have.
 pub(crate) fn count_blocks(blocks: &[Arc<Block>], view: &Filter) -> usize
     requires { length blocks.now ≤ 2 ^ 58 }
-    ensures { result ≡ length (edges_of view.now (block_values blocks.now)) }
+    ensures { result ≡ length (lent_edges_of view.now (block_values blocks.now)) }
 {
     let mut count = 0_usize;
     for block in blocks {

@@ -5,7 +5,7 @@ use Rattle.std.proofs.{lemmas.Bool.cases_lt, lemmas.Bool.Decides.eqb_tells, Math
 use Rattle.std.proofs.lemmas.List.{length-map, get_or-map, map-set, get_or-set_same, get_or-set_other, get_or_default}
 use Rattle.std.proofs.lemmas.List.Edits.{length-insert, get_or-insert_below, get_or-insert_at, get_or-insert_above}
 use Rattle.std.specs.{List.insert, List.AllZip, Map.lookup, declared.sync.Arc.Arc, declared.alloc.Global.Global}
-use Rattle.vertex_names.specs.{declared.piece.Piece.Piece, Order.{firsts, IsRising, last_place, found_in}, Pieces.entries_of}
+use Rattle.vertex_names.specs.{declared.piece.Piece.Piece, Order.{firsts, IsRising, last_place, found_in}, Pieces.piece_entries}
 use Rattle.vertex_names.{specs.Pieces.pieces_of, proofs.Places.{rising-insert, place-before, place-lower, place-upper}}
 use Rattle.vertex_names.proofs.{Places.place-behind, Entries.{Pairs, firsts-insert, first_read, map-insert}}
 
@@ -120,14 +120,14 @@ module _ (vs : Spans) (p m : ℕ) (lower upper : Pairs) (rising : IsRising (firs
   split_here = (split_rising, split_same)
 
 -- copies of pieces
-pub spans_same : (xs ys : List (ℕ × Arc Piece Global)) → AllZip (λ x y. (y.0 ≡ x.0) × (entries_of y.1 ≡ entries_of x.1)) xs ys
+pub spans_same : (xs ys : List (ℕ × Arc Piece Global)) → AllZip (λ x y. (y.0 ≡ x.0) × (piece_entries y.1 ≡ piece_entries x.1)) xs ys
     → pieces_of ys ≡ pieces_of xs
 spans_same [] [] same = refl
 spans_same (x ∷ xs) (y ∷ ys) same =
     let tail : pieces_of ys ≡ pieces_of xs = spans_same xs ys same.1 in
-    let one : y.0 ≡ x.0 = same.0.0 in let two : entries_of y.1 ≡ entries_of x.1 = same.0.1 in
-    ap (λ n. (n, entries_of y.1) ∷ pieces_of ys) one ∙ ap (λ es. (x.0, es) ∷ pieces_of ys) two
-    ∙ ap (λ l. (x.0, entries_of x.1) ∷ l) tail
+    let one : y.0 ≡ x.0 = same.0.0 in let two : piece_entries y.1 ≡ piece_entries x.1 = same.0.1 in
+    ap (λ n. (n, piece_entries y.1) ∷ pieces_of ys) one ∙ ap (λ es. (x.0, es) ∷ pieces_of ys) two
+    ∙ ap (λ l. (x.0, piece_entries x.1) ∷ l) tail
 spans_same _ _ same = absurd same
 
 -- pieces as they are shown
@@ -139,7 +139,7 @@ pub lows_same : (xs ys : List (ℕ × Arc Piece Global)) → pieces_of ys ≡ pi
 lows_same xs ys same = sym (shown_lows ys) ∙ ap (λ (l : Spans). firsts l) same ∙ shown_lows xs
 
 abbrev shown : ℕ × Arc Piece Global → ℕ × Pairs
-shown p = (p.0, entries_of p.1)
+shown p = (p.0, piece_entries p.1)
 
 -- a piece that was read
 read_shown : (ps : List (ℕ × Arc Piece Global)) (p : ℕ) (x : ℕ × Arc Piece Global) → p < length ps → x ≡ get_or ps p x
@@ -148,7 +148,7 @@ read_shown ps p x lt is = get_or-map shown ps p x (0, []) lt ∙ ap shown (sym i
 
 -- what stands at a hash, from the piece that was read
 pub found_read : (ps : List (ℕ × Arc Piece Global)) (q p : ℕ) (x : ℕ × Arc Piece Global) → p ≡ last_place (firsts ps) q
-    → p < length ps → x ≡ get_or ps p x → found_in (pieces_of ps) q ≡ lookup (nat_eq q) (entries_of x.1)
+    → p < length ps → x ≡ get_or ps p x → found_in (pieces_of ps) q ≡ lookup (nat_eq q) (piece_entries x.1)
 found_read ps q p x place lt is =
     found_by (pieces_of ps) q p (ap (λ ns. last_place ns q) (shown_lows ps) ∙ sym place)
     ∙ ap (λ (v : ℕ × Pairs). lookup (nat_eq q) v.1) (read_shown ps p x lt is)
@@ -159,20 +159,20 @@ module _ (ps : List (ℕ × Arc Piece Global)) (p : ℕ) (x : ℕ × Arc Piece G
   long_shown : p < length (pieces_of ps)
   long_shown = let l = length-map ps shown in omega (arith, l, lt)
 
-  set_shown : pieces_of (set ps p (x.0, b)) ≡ changed (pieces_of ps) p (entries_of b) long_shown
+  set_shown : pieces_of (set ps p (x.0, b)) ≡ changed (pieces_of ps) p (piece_entries b) long_shown
   set_shown = map-set shown ps p (x.0, b)
-      ∙ ap (λ (n : ℕ). set (pieces_of ps) p (n, entries_of b)) (ap (λ (v : ℕ × Pairs). v.0) (sym (read_shown ps p x lt is)))
+      ∙ ap (λ (n : ℕ). set (pieces_of ps) p (n, piece_entries b)) (ap (λ (v : ℕ × Pairs). v.0) (sym (read_shown ps p x lt is)))
 
   pub set_lows : firsts (set ps p (x.0, b)) ≡ firsts ps
   set_lows = map-set_same (λ (v : ℕ × Arc Piece Global). v.0) ps p (x.0, b) x (ap (λ (v : ℕ × Arc Piece Global). v.0) is)
 
   pub set_changed : (change : ℕ → Option ℕ → Option ℕ)
-      → ((q : ℕ) → lookup (nat_eq q) (entries_of b) ≡ change q (lookup (nat_eq q) (entries_of x.1)))
+      → ((q : ℕ) → lookup (nat_eq q) (piece_entries b) ≡ change q (lookup (nat_eq q) (piece_entries x.1)))
       → ((q : ℕ) (o : Option ℕ) → last_place (firsts ps) q ≢ p → change q o ≡ o)
       → (q : ℕ) → found_in (pieces_of (set ps p (x.0, b))) q ≡ change q (found_in (pieces_of ps) q)
   set_changed change here elsewhere q =
       ap (λ (vs : Spans). found_in vs q) set_shown
-      ∙ piece_changed (pieces_of ps) p (entries_of b) long_shown change
+      ∙ piece_changed (pieces_of ps) p (piece_entries b) long_shown change
       (λ r. here r ∙ ap (λ (s : ℕ × Pairs). change r (lookup (nat_eq r) s.1)) (sym (read_shown ps p x lt is)))
       (λ r o other. elsewhere r o (λ at. other (ap (λ ns. last_place ns r) (shown_lows ps) ∙ at))) q
 
@@ -180,8 +180,8 @@ module _ (ps : List (ℕ × Arc Piece Global)) (p : ℕ) (x : ℕ × Arc Piece G
 module _ (ps : List (ℕ × Arc Piece Global)) (p m : ℕ) (h x : ℕ × Arc Piece Global) (lower upper : Arc Piece Global)
     (rising : IsRising (firsts ps)) (lt : p < length ps) (h_is : h ≡ get_or ps p h)
     (x_is : x ≡ get_or (insert ps (p + 1) (m, upper)) p x) (over : h.0 < m) (is : last_place (firsts ps) m ≡ p)
-    (left : (q : ℕ) → q < m → lookup (nat_eq q) (entries_of lower) ≡ lookup (nat_eq q) (entries_of h.1))
-    (right : (q : ℕ) → m ≤ q → lookup (nat_eq q) (entries_of upper) ≡ lookup (nat_eq q) (entries_of h.1)) where
+    (left : (q : ℕ) → q < m → lookup (nat_eq q) (piece_entries lower) ≡ lookup (nat_eq q) (piece_entries h.1))
+    (right : (q : ℕ) → m ≤ q → lookup (nat_eq q) (piece_entries upper) ≡ lookup (nat_eq q) (piece_entries h.1)) where
   abbrev pub two : List (ℕ × Arc Piece Global)
   two = set (insert ps (p + 1) (m, upper)) p (x.0, lower)
 
@@ -210,24 +210,24 @@ module _ (ps : List (ℕ × Arc Piece Global)) (p m : ℕ) (h x : ℕ × Arc Pie
   rising_shown : IsRising (firsts (pieces_of ps))
   rising_shown = rw (shown_lows ps) rising
 
-  left_shown : (q : ℕ) → q < m → lookup (nat_eq q) (entries_of lower) ≡ lookup (nat_eq q) (get_or (pieces_of ps) p (0, [])).1
+  left_shown : (q : ℕ) → q < m → lookup (nat_eq q) (piece_entries lower) ≡ lookup (nat_eq q) (get_or (pieces_of ps) p (0, [])).1
   left_shown q less = left q less ∙ ap (λ (v : ℕ × Pairs). lookup (nat_eq q) v.1) (sym old_shown)
 
-  right_shown : (q : ℕ) → m ≤ q → lookup (nat_eq q) (entries_of upper) ≡ lookup (nat_eq q) (get_or (pieces_of ps) p (0, [])).1
+  right_shown : (q : ℕ) → m ≤ q → lookup (nat_eq q) (piece_entries upper) ≡ lookup (nat_eq q) (get_or (pieces_of ps) p (0, [])).1
   right_shown q le = right q le ∙ ap (λ (v : ℕ × Pairs). lookup (nat_eq q) v.1) (sym old_shown)
 
   two_shown : pieces_of two
-      ≡ set (insert (pieces_of ps) (suc p) (m, entries_of upper)) p ((get_or (pieces_of ps) p (0, [])).0, entries_of lower)
+      ≡ set (insert (pieces_of ps) (suc p) (m, piece_entries upper)) p ((get_or (pieces_of ps) p (0, [])).0, piece_entries lower)
   two_shown =
       let next : p + 1 ≡ suc p = omega arith in
       map-set shown (insert ps (p + 1) (m, upper)) p (x.0, lower)
-      ∙ ap (λ (vs : Spans). set vs p (x.0, entries_of lower)) (map-insert shown ps (p + 1) (m, upper)
-      ∙ ap (λ (k : ℕ). insert (pieces_of ps) k (m, entries_of upper)) next)
-      ∙ ap (λ (n : ℕ). set (insert (pieces_of ps) (suc p) (m, entries_of upper)) p (n, entries_of lower)) x_low
+      ∙ ap (λ (vs : Spans). set vs p (x.0, piece_entries lower)) (map-insert shown ps (p + 1) (m, upper)
+      ∙ ap (λ (k : ℕ). insert (pieces_of ps) k (m, piece_entries upper)) next)
+      ∙ ap (λ (n : ℕ). set (insert (pieces_of ps) (suc p) (m, piece_entries upper)) p (n, piece_entries lower)) x_low
 
   pub split_in_two : IsRising (firsts two) × ((q : ℕ) → found_in (pieces_of two) q ≡ found_in (pieces_of ps) q)
   split_in_two =
-      let (rises, same) = split_here (pieces_of ps) p m (entries_of lower) (entries_of upper) rising_shown within_shown over_shown
+      let (rises, same) = split_here (pieces_of ps) p m (piece_entries lower) (piece_entries upper) rising_shown within_shown over_shown
       is_shown left_shown right_shown in (
         rw (sym (shown_lows two) ∙ ap (λ (vs : Spans). firsts vs) two_shown) rises,
         λ q. ap (λ (vs : Spans). found_in vs q) two_shown ∙ same q,

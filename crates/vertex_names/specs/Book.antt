@@ -22,6 +22,6 @@ pub record IsBook (book : Book) : Type 0 where
   pub named : All (λ name. IsTrue (is_name name)) book.names
 
 -- when a name is refused: where the book would have more names than its limit; want of memory may come at any time
-abbrev pub Refuses : AddError → Book → List ℕ → Type 0
-Refuses NamesFull book name = book.limit < length (with_name book.names name)
-Refuses OutOfMemory book name = Unit {0}
+abbrev pub RefusesName : AddError → Book → List ℕ → Type 0
+RefusesName NamesFull book name = book.limit < length (with_name book.names name)
+RefusesName OutOfMemory book name = Unit {0}

@@ -7,5 +7,5 @@ use Rattle.vertex_names.specs.{Order.found_in, declared.part.Part.Part}
 abbrev pub found_on : List (List (ℕ × List (ℕ × ℕ))) → ℕ → Option ℕ
 found_on parts hash = found_in (get_or parts (hash / 32 % 16) []) hash
 
-abbrev pub parts_of : List (Arc Part Global) → List (List (ℕ × List (ℕ × ℕ)))
-parts_of parts = map (λ p. arc_value {X = Part} p) parts
+abbrev pub shelf_parts : List (Arc Part Global) → List (List (ℕ × List (ℕ × ℕ)))
+shelf_parts parts = map (λ p. arc_value {X = Part} p) parts

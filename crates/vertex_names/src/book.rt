@@ -4,7 +4,7 @@ ghost use Rattle.std.specs.Option.{SomeIff};
 ghost use Rattle.graph_types.specs.Step.{with_name, number_of};
 ghost use Rattle.graph_types.specs.Answer.{is_listed};
 ghost use Rattle.graph_types.specs.Valid.{is_name};
-ghost use Rattle.vertex_names.specs.Book.{empty_book, with_entry, IsBook, Refuses};
+ghost use Rattle.vertex_names.specs.Book.{empty_book, with_entry, IsBook, RefusesName};
 ghost use Rattle.vertex_names.specs.Index.{text_hash};
 ghost use Rattle.vertex_names.specs.Lending.{names_left};
 
@@ -205,7 +205,7 @@ impl NameBook {
         // A name that has appeared is never refused, and another one within the limit only for want of memory.
         ensures known { IsTrue (is_listed self.old.names name.now) → IsOk result }
         ensures within { OnOk result (length self.new.names ≤ self.new.limit) }
-        ensures refused { IfErr result (λ error. Refuses error self.old name.now) }
+        ensures refused { IfErr result (λ error. RefusesName error self.old name.now) }
         ensures unchanged { OnErr result (self.new ≡ self.old) }
     {
         let short = short_hash(name);

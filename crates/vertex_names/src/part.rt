@@ -1,7 +1,7 @@
 ghost use Rattle.std.specs.Prelude.{◌≡◌, ◌≤◌, ◌<◌, ℕ, [], length, nat_eq, Some, IfOk, OnOk, OnErr, if◌then◌else◌};
 ghost use Rattle.std.specs.Map.{lookup};
 ghost use Rattle.vertex_names.specs.Order.{firsts, last_place, IsRising, found_in};
-ghost use Rattle.vertex_names.specs.Pieces.{pieces_of, entries_of};
+ghost use Rattle.vertex_names.specs.Pieces.{pieces_of, piece_entries};
 
 use crate::piece::{Piece, guess, last_at};
 use std::alloc::{AllocError, Global};
@@ -140,9 +140,9 @@ fn put_at(
 
 /// Puts a number into a piece, or into a copy of it where others have it.
 fn put_in(piece: &mut Arc<Piece>, hash: u64, number: u32) -> Result<(), AllocError>
-    ensures put { OnOk result ((q : ℕ) → lookup (nat_eq q) (entries_of piece.new)
-        ≡ (if nat_eq hash q then Some number else lookup (nat_eq q) (entries_of piece.old))) }
-    ensures unchanged { OnErr result (entries_of piece.new ≡ entries_of piece.old) }
+    ensures put { OnOk result ((q : ℕ) → lookup (nat_eq q) (piece_entries piece.new)
+        ≡ (if nat_eq hash q then Some number else lookup (nat_eq q) (piece_entries piece.old))) }
+    ensures unchanged { OnErr result (piece_entries piece.new ≡ piece_entries piece.old) }
 {
     Arc::make_mut(piece)?.put(hash, number)
 }

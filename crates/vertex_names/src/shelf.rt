@@ -1,7 +1,7 @@
 //! Shelves of parts of an index.
 
 ghost use Rattle.std.specs.Prelude.{◌≡◌, ◌≤◌, ◌%◌, ◌/◌, ◌<◌, ℕ, [], length, get_or, nat_eq, Some, IfOk, OnOk, OnErr, if◌then◌else◌};
-ghost use Rattle.vertex_names.specs.Shelves.{found_on, parts_of};
+ghost use Rattle.vertex_names.specs.Shelves.{found_on, shelf_parts};
 
 use crate::part::Part;
 use std::alloc::{AllocError, Global};
@@ -32,11 +32,11 @@ impl Drop for Shelf {
 
 impl Model for Shelf {
     ghost use Rattle.std.specs.Prelude.{ℕ, List};
-    ghost use Rattle.vertex_names.specs.Shelves.{parts_of};
+    ghost use Rattle.vertex_names.specs.Shelves.{shelf_parts};
 
     ghost Value = { List (List (ℕ × List (ℕ × ℕ))) };
 
-    ghost view = { λ shelf. parts_of shelf.parts.items };
+    ghost view = { λ shelf. shelf_parts shelf.parts.items };
 }
 
 impl Clone for Shelf {
@@ -79,7 +79,7 @@ impl Shelf {
 /// Makes the parts that are not there.
 fn make_parts(alloc: Global, parts: &mut Vec<Arc<Part>>) -> Result<(), AllocError>
     ensures whole { OnOk result (16 ≤ length parts.new.items) }
-    ensures same { (i : ℕ) → get_or (parts_of parts.new.items) i [] ≡ get_or (parts_of parts.old.items) i [] }
+    ensures same { (i : ℕ) → get_or (shelf_parts parts.new.items) i [] ≡ get_or (shelf_parts parts.old.items) i [] }
 {
     while parts.len() < PARTS {
         let part = Arc::new(alloc, Part::new(alloc))?;
@@ -98,9 +98,9 @@ fn put_in(
 ) -> Result<(), AllocError>
     requires place { place ≡ hash / 32 % 16 }
     requires whole { 16 ≤ length parts.old.items }
-    ensures put { OnOk result ((q : ℕ) → found_on (parts_of parts.new.items) q
-        ≡ (if nat_eq hash q then Some number else found_on (parts_of parts.old.items) q)) }
-    ensures unchanged { OnErr result ((q : ℕ) → found_on (parts_of parts.new.items) q ≡ found_on (parts_of parts.old.items) q) }
+    ensures put { OnOk result ((q : ℕ) → found_on (shelf_parts parts.new.items) q
+        ≡ (if nat_eq hash q then Some number else found_on (shelf_parts parts.old.items) q)) }
+    ensures unchanged { OnErr result ((q : ℕ) → found_on (shelf_parts parts.new.items) q ≡ found_on (shelf_parts parts.old.items) q) }
 {
     Arc::make_mut(&mut parts[place])?.put(alloc, hash, number)
 }

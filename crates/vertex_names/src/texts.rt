@@ -1,6 +1,6 @@
 ghost use Rattle.std.specs.Prelude.{◌≡◌, ◌<◌, ◌^◌, ◌++◌, ◌∷◌, [], length, slice_get};
 ghost use Rattle.std.specs.Prelude.{option_copied, IfOk, OnOk, OnErr, All, IfSome, IfNone, ◌≢◌, Some, ◌↔◌, IsTrue};
-ghost use Rattle.vertex_names.specs.Groups.{in_groups, AreGroups};
+ghost use Rattle.vertex_names.specs.Groups.{in_text_groups, AreTextGroups};
 
 use crate::chunk::Entry;
 use crate::same::is_same_name;
@@ -30,13 +30,13 @@ impl Drop for Texts {
 
 impl Model for Texts {
     ghost use Rattle.std.specs.Prelude.{◌≡◌, ℕ, List, length};
-    ghost use Rattle.vertex_names.specs.Groups.{in_groups, AreGroups};
+    ghost use Rattle.vertex_names.specs.Groups.{in_text_groups, AreTextGroups};
 
     ghost Value = { List (List ℕ) };
 
-    ghost view = { λ t. in_groups t.groups.items };
+    ghost view = { λ t. in_text_groups t.groups.items };
 
-    ghost invariant = { λ t. (length (in_groups t.groups.items) ≡ t.len) × AreGroups t.groups.items };
+    ghost invariant = { λ t. (length (in_text_groups t.groups.items) ≡ t.len) × AreTextGroups t.groups.items };
 }
 
 impl Texts {
@@ -118,11 +118,11 @@ fn add_to_groups(
     len: usize,
     name: Entry,
 ) -> Result<(), AllocError>
-    requires len { length (in_groups groups.old.items) ≡ len }
-    requires groups { AreGroups groups.old.items }
-    ensures added { OnOk result (in_groups groups.new.items ≡ in_groups groups.old.items ++ name ∷ []) }
-    ensures unchanged { OnErr result (in_groups groups.new.items ≡ in_groups groups.old.items) }
-    ensures groups { AreGroups groups.new.items }
+    requires len { length (in_text_groups groups.old.items) ≡ len }
+    requires groups { AreTextGroups groups.old.items }
+    ensures added { OnOk result (in_text_groups groups.new.items ≡ in_text_groups groups.old.items ++ name ∷ []) }
+    ensures unchanged { OnErr result (in_text_groups groups.new.items ≡ in_text_groups groups.old.items) }
+    ensures groups { AreTextGroups groups.new.items }
 {
     if len % GROUP == 0 {
         let group = Arc::new(alloc, TextGroup::of(alloc, name)?)?;

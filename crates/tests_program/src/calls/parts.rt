@@ -3,7 +3,7 @@
 ghost use Rattle.std.specs.Prelude.{◌≡◌, ◌≤◌, length, All, IfSome, IsTrue, true};
 ghost use Rattle.std.specs.Arc.{arc_value};
 ghost use Rattle.graph_types.specs.Valid.{is_name};
-ghost use Rattle.lane_scan.specs.Masks.{IsWeight, selected};
+ghost use Rattle.lane_scan.specs.Masks.{IsLaneWeight, selected};
 ghost use Rattle.edge_block.specs.Slots.{has_room_for};
 ghost use Rattle.edge_block.specs.declared.blocks.Block.{Block};
 ghost use Rattle.block_pool.specs.Pools.{is_in_use_at, is_used_at};
@@ -29,7 +29,7 @@ fn scans(targets: &[u32], live: u32) -> (Option<usize>, bool)
 
 fn sums(weights: &[i64], mask: u32) -> i64
     requires few { length weights.now ≤ 32 }
-    requires counted { All IsWeight (selected mask weights.now) }
+    requires counted { All IsLaneWeight (selected mask weights.now) }
 {
     masked_sum(weights, mask)
 }

@@ -5,7 +5,7 @@ ghost use Rattle.std.specs.List.{sum_by};
 ghost use Rattle.graph_version.specs.Batches.{batch_value};
 ghost use Rattle.graph_version.specs.Rows as rows;
 ghost use Rattle.graph_version.specs.Rows.{row_of};
-ghost use Rattle.batch_shards.specs.RowBlocks.{numbers_of};
+ghost use Rattle.batch_shards.specs.RowBlocks.{shared_numbers};
 ghost use Rattle.graph_version.specs.Versions.{content, is_in};
 ghost use Rattle.graph_version.specs.Drafts.{IsWhole};
 ghost use Rattle.version_pages.specs.Sharing.{block_values};
@@ -103,8 +103,8 @@ fn applies<R: Threads + Sync>(
         (row_of version.now.rows) plan }
     requires few { length version.now.batches < (content version.now).limits.batches }
     requires blocks { sum_by (λ n. n) plan.needs.items ≤ length blocks.items }
-    requires distinct { AllPairs ◌≢◌ (numbers_of blocks.items) }
-    requires unlisted { All (λ n. is_in n (rows.numbers_of (rows.blocks_of version.now.rows)) ≡ false) (numbers_of blocks.items) }
+    requires distinct { AllPairs ◌≢◌ (shared_numbers blocks.items) }
+    requires unlisted { All (λ n. is_in n (rows.numbers_of (rows.blocks_of version.now.rows)) ≡ false) (shared_numbers blocks.items) }
 {
     apply(rt, alloc, &PassAll, version, plan, batch, blocks)
 }

@@ -4,7 +4,7 @@ ghost use Rattle.std.specs.Prelude.{◌≡◌, All};
 ghost use Rattle.graph_version.specs.Versions.{empty_version};
 ghost use Rattle.version_shelf.specs.Shelves.{IsOfOneShelf};
 ghost use Rattle.stream_store.specs.Seats.{IsNewSeat};
-ghost use Rattle.stream_store.specs.Stores.{IsOfOpening, IsSeatOf};
+ghost use Rattle.stream_store.specs.Stores.{IsOfOpening, IsSeatOfOpening};
 
 use super::answers::has_first;
 use super::batches::batch_named;
@@ -138,7 +138,7 @@ pub(super) fn check_learnt_later<J: Naming, R: Threads + Wait + Sync + Abort + P
     store: &Store<J>,
     mut seat: Seat,
 )
-    requires { IsSeatOf J.book J.opening seat }
+    requires { IsSeatOfOpening J.book J.opening seat }
 {
     let wanted = learnt_later(rt, alloc, store, &mut seat);
     let session = seat.pin(rt, store).enter(rt, store);
@@ -228,7 +228,7 @@ fn learnt_over<J: Naming, R: Threads + Wait + Sync>(
     store: &Store<J>,
     mut seat: Seat,
 ) -> Learnt
-    requires { IsSeatOf J.book J.opening seat }
+    requires { IsSeatOfOpening J.book J.opening seat }
 {
     let at_opening = confirms(rt, store, seat.seen(), 0);
     let is_learnt = learns_of_first(rt, alloc, store, &mut seat);
@@ -251,7 +251,7 @@ pub(super) fn check_learnt<J: Naming, R: Threads + Wait + Sync + Abort>(
     store: &Store<J>,
     seat: Seat,
 )
-    requires { IsSeatOf J.book J.opening seat }
+    requires { IsSeatOfOpening J.book J.opening seat }
 {
     let (is_so, held, free, stat) = learnt_over(rt, alloc, store, seat);
     check_so(rt, is_so, "what was confirmed and seen");

@@ -3,7 +3,7 @@
 
 ghost use Rattle.std.specs.Prelude.{All};
 ghost use Rattle.stream_store.specs.Opened.{IsOpeningOf};
-ghost use Rattle.stream_store.specs.Stores.{IsSeatOf};
+ghost use Rattle.stream_store.specs.Stores.{IsSeatOfOpening};
 
 use super::beside::check_beside;
 use super::checks::check_so;
@@ -37,7 +37,7 @@ fn check_seat<J: Naming + Send + Sync, R: Threads + Wait + Sync + Abort + Print>
     seat: Seat,
     story: Story,
 )
-    requires { IsSeatOf J.book J.opening seat }
+    requires { IsSeatOfOpening J.book J.opening seat }
 {
     match story {
         Story::Learnt => check_learnt(rt, alloc, store, seat),
@@ -54,7 +54,7 @@ fn check_seats<J: Naming + Send + Sync, R: Threads + Wait + Sync + Abort + Print
     mut seats: Vec<Seat>,
     story: Story,
 )
-    requires { All (IsSeatOf J.book J.opening) seats.items }
+    requires { All (IsSeatOfOpening J.book J.opening) seats.items }
 {
     if matches!(story, Story::ToldReaders) {
         return check_told_readers(rt, alloc, store, seats);

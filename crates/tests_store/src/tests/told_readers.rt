@@ -3,7 +3,7 @@
 // version go and acquire one.
 
 ghost use Rattle.std.specs.Prelude.{◌≡◌, ◌<◌, All};
-ghost use Rattle.stream_store.specs.Stores.{IsOfOpening, IsSeatOf};
+ghost use Rattle.stream_store.specs.Stores.{IsOfOpening, IsSeatOfOpening};
 
 use super::answers::{Edge, edge_told};
 use super::batches::{Op, batch_of};
@@ -228,7 +228,7 @@ fn read_all<J: Naming + Send + Sync, R: Threads + Wait + Sync>(
     shared: &Shared<J>,
     seats: Vec<Seat>,
 ) -> Result<Vec<Reading>, AllocError>
-    requires { All (IsSeatOf J.book J.opening) seats.items }
+    requires { All (IsSeatOfOpening J.book J.opening) seats.items }
 {
     map_vec(
         rt,
@@ -271,13 +271,13 @@ fn fed_and_read<J: Naming + Send + Sync, R: Threads + Wait + Sync>(
     shared: &Shared<J>,
     seats: Vec<Seat>,
 ) -> Found
-    requires { All (IsSeatOf J.book J.opening) seats.items }
+    requires { All (IsSeatOfOpening J.book J.opening) seats.items }
 {
     let (beside, readings) = join(
         rt,
         || feed_all(rt, alloc, store, shared),
         || -> Result<Vec<Reading>, AllocError>
-            requires { All (IsSeatOf J.book J.opening) seats.items }
+            requires { All (IsSeatOfOpening J.book J.opening) seats.items }
         { read_all(rt, alloc, store, shared, seats) },
     );
     Found {
@@ -305,7 +305,7 @@ pub(super) fn check_told_readers<J: Naming + Send + Sync, R: Threads + Wait + Sy
     store: &Store<J>,
     seats: Vec<Seat>,
 )
-    requires { All (IsSeatOf J.book J.opening) seats.items }
+    requires { All (IsSeatOfOpening J.book J.opening) seats.items }
 {
     match Shared::<J>::new(alloc) {
         Ok(shared) => check_found(rt, fed_and_read(rt, alloc, store, &shared, seats)),

@@ -3,7 +3,7 @@ use Rattle.std.proofs.lemmas.{List.length-map, Result.IfOk-weaker}
 use Rattle.graph_types.specs.Limits.{most_operations}
 use Rattle.edge_block.specs.Batches.{resolved}
 use Rattle.graph_version.specs.{Rows.row_of, Batches.batch_value, Versions.{VersionView, content, layout_of}}
-use Rattle.batch_shards.specs.RowBlocks.{numbers_of}
+use Rattle.batch_shards.specs.RowBlocks.{shared_numbers}
 use Rattle.batch_apply.specs.Gathered.{IsGathered, IsWorked}
 use Rattle.batch_apply.proofs.Dealt.{needs_of, dealt_ready}
 use Rattle.batch_apply.proofs.applied.apply_over.{Given.Over, Goals.In_ok-all}
@@ -22,7 +22,7 @@ work-requires-clause-ready g c κs within = λ jobs dealt.
     dealt
 
 worked : (g : Over) (c : In_ok-all g) → IsWorked c.args.version.now (batch_value c.args.batch) c.args.plan.names c.args.plan.kinds
-    (numbers_of c.args.blocks.items) c.in_ok-all.all
+    (shared_numbers c.args.blocks.items) c.in_ok-all.all
 worked g c = record {
   workers = c.requires.plan.0;
   some = c.requires.plan.1;
@@ -33,14 +33,14 @@ worked g c = record {
   few = c.requires.few;
   short = subst (λ ops. length ops ≤ most_operations) c.deref.ensures c.len.ensures.batch.few;
   gathered = subst (λ n. IsGathered (row_of c.args.version.now.rows) (zip c.args.plan.shards.items c.args.plan.needs.items)
-      (numbers_of c.args.blocks.items) n c.in_ok-all.all) (c.len.ensures.count ∙ ap length c.deref.ensures) c.in_ok-all.ensures;
+      (shared_numbers c.args.blocks.items) n c.in_ok-all.all) (c.len.ensures.count ∙ ap length c.deref.ensures) c.in_ok-all.ensures;
   distinct = c.requires.distinct;
   unlisted = c.requires.unlisted;
 }
 
 pub finish-requires-clause-worked : goal.finish-requires-clause-worked
-finish-requires-clause-worked g c = (numbers_of c.args.blocks.items, worked g (goal.at.finish-requires-clause-worked g c).In_ok-all)
+finish-requires-clause-worked g c = (shared_numbers c.args.blocks.items, worked g (goal.at.finish-requires-clause-worked g c).In_ok-all)
 
 pub returns : goal.returns
-returns g c = IfOk-weaker c.finish.result _ _ (λ a made. made (numbers_of c.args.blocks.items)
+returns g c = IfOk-weaker c.finish.result _ _ (λ a made. made (shared_numbers c.args.blocks.items)
     (worked g (goal.at.returns g c).In_ok-all)) c.finish.ensures

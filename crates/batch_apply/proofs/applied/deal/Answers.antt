@@ -1,7 +1,7 @@
 use Rattle.std.proofs.Common.{◌≡◌, ◌<◌, ◌+◌, ◌++◌, ◌∷◌, [], ℕ, List, flat_map, count_by, length, length-append, zip, take, get_or}
 use Rattle.std.proofs.{Common.{slice_index_or, arith, refl, sym, ap, ◌∙◌, subst}, lemmas.Iterator.Adapters.YieldsList-from_vec}
 use Rattle.std.{proofs.lemmas.{Iterator.Consumers.YieldsList-turn, List.Sums.sum_by-take-le}, specs.List.{sum_by, AllZip}}
-use Rattle.batch_shards.{specs.{RowBlocks.numbers_of, declared.shard.Shard.Shard}, proofs.Places.{count_by-append, one_piece}}
+use Rattle.batch_shards.{specs.{RowBlocks.shared_numbers, declared.shard.Shard.Shard}, proofs.Places.{count_by-append, one_piece}}
 use Rattle.batch_apply.specs.{Gathered.IsDealt, declared.workers.Job.Job}
 use Rattle.batch_apply.proofs.{Dealt.{sum_taken, zip_push}, Halves.zip_more, applied.deal.Goals.After-len-in-loop-shard}
 use Rattle.batch_apply.proofs.applied.deal.Goals as goal
@@ -41,7 +41,7 @@ loop-shard-preserved c =
       shard =
           record c.in-Some.shard { fresh = c.in_ok-fresh.fresh };
     } in
-    let fresh_of : Job → List ℕ = λ j. numbers_of j.shard.fresh.items in
+    let fresh_of : Job → List ℕ = λ j. shared_numbers j.shard.fresh.items in
     record {
       jobs = subst (λ js. AllZip IsDealt (zip (yielded ++ s ∷ []) needs) js) (sym c.in_ok-push.ensures.items)
           (subst (λ ps. AllZip IsDealt ps (c.loop-shard.jobs.items ++ job ∷ [])) (sym (zip_push yielded s needs 0 turn.0))
@@ -68,7 +68,7 @@ loop-shard-preserved c =
       );
       numbers = λ q.
           (let jobs : count_by q (flat_map fresh_of c.push.new.self.items)
-          ≡ count_by q (flat_map fresh_of c.loop-shard.jobs.items) + count_by q (numbers_of c.in_ok-fresh.fresh.items) =
+          ≡ count_by q (flat_map fresh_of c.loop-shard.jobs.items) + count_by q (shared_numbers c.in_ok-fresh.fresh.items) =
           ap (λ js. count_by q (flat_map fresh_of js)) c.in_ok-push.ensures.items
           ∙ ap (count_by q) (one_piece fresh_of c.loop-shard.jobs.items job)
           ∙ count_by-append q (flat_map fresh_of c.loop-shard.jobs.items) (fresh_of job) in

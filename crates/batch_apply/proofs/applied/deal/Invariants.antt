@@ -1,5 +1,5 @@
 use Rattle.std.{proofs.Common.{◌≡◌, ◌+◌, ℕ, Bool, length, flat_map, count_by, zip, take}, specs.List.{sum_by, AllZip}}
-use Rattle.batch_shards.specs.RowBlocks.{numbers_of}
+use Rattle.batch_shards.specs.RowBlocks.{shared_numbers}
 use Rattle.batch_apply.specs.Gathered.{IsDealt}
 use Rattle.batch_apply.proofs.applied.deal.Given as goal
 
@@ -8,6 +8,6 @@ invariant-loop-shard l = record {
   jobs : AllZip IsDealt (zip l.yielded l.needs) l.jobs.items;
   many : length l.jobs.items ≡ length l.yielded;
   left : length l.blocks.items + sum_by (λ n. n) (take (length l.yielded) l.needs) ≡ length l.initial.blocks.items;
-  numbers : (q : ℕ → Bool) → count_by q (flat_map (λ j. numbers_of j.shard.fresh.items) l.jobs.items) + count_by q
-      (numbers_of l.blocks.items) ≡ count_by q (numbers_of l.initial.blocks.items);
+  numbers : (q : ℕ → Bool) → count_by q (flat_map (λ j. shared_numbers j.shard.fresh.items) l.jobs.items) + count_by q
+      (shared_numbers l.blocks.items) ≡ count_by q (shared_numbers l.initial.blocks.items);
 }

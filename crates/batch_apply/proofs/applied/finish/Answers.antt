@@ -1,6 +1,6 @@
 use Rattle.std.proofs.Common.{◌≡◌, ℕ, ◌+◌, ◌%◌, ◌^◌, ◌==◌, List, map, refl, sym, ap, ◌∙◌, subst, rules}
 use Rattle.std.{specs.Prelude.count_by, specs.List.{list_any, sum_by}, specs.FinMap.len}
-use Rattle.graph_types.specs.{Graph.Graph, Step.after_all, Step.outcomes}
+use Rattle.graph_types.specs.{Graph.Graph, Refusals.MeetsNeitherLimit, Step.after_all, Step.outcomes}
 use Rattle.graph_types.specs.declared.batches.{NamedOp.NamedOp}
 use Rattle.graph_version.specs.{Batches.batch_value, Versions.{VersionView, content}, Kept.edge_total}
 use Rattle.graph_version.specs.{Drafts.{DraftView, IsWhole}, Differences.DifferAt, Rows.row_of}
@@ -8,9 +8,9 @@ use Rattle.graph_types.specs.declared.ids.VertexId.{VertexId}
 use Rattle.edge_block.specs.Slots.{BlockView}
 use Rattle.batch_shards.specs.Closing.{row_values}
 use Rattle.batch_apply.proofs.Others.{among_others}
-use Rattle.batch_shards.specs.RowBlocks.{blocks_of, numbers_of}
+use Rattle.batch_shards.specs.RowBlocks.{shared_blocks, shared_numbers}
 use Rattle.batch_apply.specs.Applied.{is_inserted, taken_away, IsApplied, ReplacesRows}
-use Rattle.batch_apply.{specs.{declared.applied.Applied.Applied, Gathered.IsWorked, Planned.MeetsNeitherLimit}, proofs.EdgeCounts.len_after_all}
+use Rattle.batch_apply.{specs.{declared.applied.Applied.Applied, Gathered.IsWorked}, proofs.EdgeCounts.len_after_all}
 use Rattle.batch_apply.proofs.{Left.rows_left, Applying.{next_made, draft_is, draft_among}}
 use Rattle.batch_apply.proofs.{Applying.{draft_whole, edges_left}, applied.finish.Goals.In_ok-draft-2}
 use Rattle.batch_apply.proofs.Leaving.{neither_limit}
@@ -54,7 +54,7 @@ made c numbers w =
           (version ∙ ap (λ (d : DraftView). d.version)
           (draft_is v ops c.args.names c.args.kinds (rows_left a.dones) d1 d2 d3 e1 e2 e3))
           (ap (λ l. l.items) outcomes ∙ a.outcomes_are) (ap (λ l. l.items) taken ∙ a.taken_are)
-          (ap (λ l. blocks_of l.items) dropped ∙ a.dropped_are) (ap (λ l. numbers_of l.items) unused ∙ a.unused_are),
+          (ap (λ l. shared_blocks l.items) dropped ∙ a.dropped_are) (ap (λ l. shared_numbers l.items) unused ∙ a.unused_are),
     )
 
 pub finish_counted-requires-clause-whole : goal.finish_counted-requires-clause-whole

@@ -1,6 +1,6 @@
 use Rattle.std.proofs.{Common.◌++◌, Common.List, Common.replicate, Common.sym, Common.ap, Common.◌∙◌, lemmas.List.append_assoc}
 use Rattle.graph_types.specs.declared.batches.Outcome.TheVariants.{Absent}
-use Rattle.batch_shards.specs.{RowBlocks.blocks_of, RowBlocks.numbers_of, Closing.row_values, declared.shard.ShardDone.ShardDone}
+use Rattle.batch_shards.specs.{RowBlocks.shared_blocks, RowBlocks.shared_numbers, Closing.row_values, declared.shard.ShardDone.ShardDone}
 use Rattle.batch_apply.{specs.Plans.written, proofs.Loops.from_more}
 use Rattle.batch_shards.proofs.Places.{one_piece}
 use Rattle.batch_apply.proofs.applied.gather.Goals as goal
@@ -18,11 +18,11 @@ loop-done-preserved c =
           ∙ sym (one_piece (λ (d : ShardDone). row_values d.rows.items) before d);
       taken = now.taken ∙ ap (λ l. l ++ d.left.taken.items) was.taken
           ∙ sym (one_piece (λ (d : ShardDone). d.left.taken.items) before d);
-      dropped = now.dropped ∙ ap (λ l. l ++ blocks_of d.left.dropped.items) was.dropped
-          ∙ sym (one_piece (λ (d : ShardDone). blocks_of d.left.dropped.items) before d);
+      dropped = now.dropped ∙ ap (λ l. l ++ shared_blocks d.left.dropped.items) was.dropped
+          ∙ sym (one_piece (λ (d : ShardDone). shared_blocks d.left.dropped.items) before d);
       unused =
-          now.unused ∙ ap (λ l. l ++ numbers_of d.left.unused.items) was.unused
-          ∙ append_assoc (numbers_of c.args.unused.items) _ (numbers_of d.left.unused.items)
-          ∙ ap (λ l. numbers_of c.args.unused.items ++ l)
-          (sym (one_piece (λ (d : ShardDone). numbers_of d.left.unused.items) before d));
+          now.unused ∙ ap (λ l. l ++ shared_numbers d.left.unused.items) was.unused
+          ∙ append_assoc (shared_numbers c.args.unused.items) _ (shared_numbers d.left.unused.items)
+          ∙ ap (λ l. shared_numbers c.args.unused.items ++ l)
+          (sym (one_piece (λ (d : ShardDone). shared_numbers d.left.unused.items) before d));
     }

@@ -1,5 +1,5 @@
 use Rattle.std.{proofs.Common.{zip, subst}, specs.List.AllZip}
-use Rattle.batch_shards.specs.RowBlocks.{numbers_of}
+use Rattle.batch_shards.specs.RowBlocks.{shared_numbers}
 use Rattle.batch_apply.specs.Gathered.{IsDealt}
 use Rattle.batch_apply.proofs.applied.work.Goals as goal
 
@@ -12,7 +12,7 @@ pub returns : goal.returns
 returns g c = record {
   jobs = c.in_ok-jobs.jobs.items;
   dones = c.in_ok-dones.dones.items;
-  rest = numbers_of c.deal.new.blocks.items;
+  rest = shared_numbers c.deal.new.blocks.items;
   dealt = subst (λ ns. AllZip IsDealt (zip c.args.load.shards.items ns) c.in_ok-jobs.jobs.items) c.as_slice.ensures.value
       c.in_ok-jobs.ensures.jobs;
   shared_out = c.in_ok-jobs.ensures.numbers;

@@ -1,6 +1,6 @@
 use Rattle.std.proofs.Common.{◌++◌, [], ◌∷◌, zip, refl, sym, ap, ◌∙◌, subst, arith}
 use Rattle.std.{specs.List.AllZip, proofs.lemmas.List.append-nil, proofs.lemmas.List.get_or_read}
-use Rattle.batch_shards.specs.{RowBlocks.blocks_of, RowBlocks.numbers_of, Closing.row_values, declared.shard.Shard.Shard}
+use Rattle.batch_shards.specs.{RowBlocks.shared_blocks, RowBlocks.shared_numbers, Closing.row_values, declared.shard.Shard.Shard}
 use Rattle.batch_apply.specs.{Gathered.IsDealt, Plans.written, declared.workers.Job.Job}
 use Rattle.batch_apply.proofs.{Alone.{only, paired, numbers_one}, applied.work_alone.{Given.Over, Goals.In_ok-fresh}}
 use Rattle.batch_apply.proofs.applied.work_alone.Goals as goal
@@ -36,9 +36,9 @@ returns g c =
     record {
       jobs = alone g f ∷ [];
       dones = c.in_ok-done.done ∷ [];
-      rest = numbers_of c.take_last.new.blocks.items;
+      rest = shared_numbers c.take_last.new.blocks.items;
       dealt = dealt g f;
-      shared_out = λ q. numbers_one q (numbers_of c.in_ok-fresh.fresh.items) _ _ (c.in_ok-fresh.ensures.numbers q);
+      shared_out = λ q. numbers_one q (shared_numbers c.in_ok-fresh.fresh.items) _ _ (c.in_ok-fresh.ensures.numbers q);
       done = (c.in_ok-done.ensures, tt);
       outcomes_are = c.in_ok-add.ensures.outcomes ∙ ap (written c.in_ok-done.done.outcomes.items) c.in_ok-all.ensures.outcomes;
       rows_are = c.in_ok-add.ensures.rows ∙ ap (λ l. row_values l ++ row_values c.in_ok-done.done.rows.items) c.in_ok-all.ensures.rows
@@ -46,10 +46,10 @@ returns g c =
       taken_are = c.in_ok-add.ensures.taken ∙ ap (λ l. l ++ c.in_ok-done.done.left.taken.items) c.in_ok-all.ensures.taken
           ∙ sym (append-nil c.in_ok-done.done.left.taken.items);
       dropped_are = c.in_ok-add.ensures.dropped
-          ∙ ap (λ l. blocks_of l ++ blocks_of c.in_ok-done.done.left.dropped.items) c.in_ok-all.ensures.dropped
-          ∙ sym (append-nil (blocks_of c.in_ok-done.done.left.dropped.items));
+          ∙ ap (λ l. shared_blocks l ++ shared_blocks c.in_ok-done.done.left.dropped.items) c.in_ok-all.ensures.dropped
+          ∙ sym (append-nil (shared_blocks c.in_ok-done.done.left.dropped.items));
       unused_are = c.in_ok-add.ensures.unused
-          ∙ ap (λ b. numbers_of b.items ++ numbers_of c.in_ok-done.done.left.unused.items) c.in_ok-all.ensures.unused
-          ∙ ap (λ l. numbers_of c.take_last.new.blocks.items ++ l)
-          (sym (append-nil (numbers_of c.in_ok-done.done.left.unused.items)));
+          ∙ ap (λ b. shared_numbers b.items ++ shared_numbers c.in_ok-done.done.left.unused.items) c.in_ok-all.ensures.unused
+          ∙ ap (λ l. shared_numbers c.take_last.new.blocks.items ++ l)
+          (sym (append-nil (shared_numbers c.in_ok-done.done.left.unused.items)));
     }

@@ -3,7 +3,8 @@ use Rattle.graph_types.specs.{Graph.Graph, Limits.LimitsView, Valid.IsValid, dec
 use Rattle.vertex_names.specs.Book.{Book}
 use Rattle.edge_block.specs.Batches.{resolved_by}
 use Rattle.graph_version.specs.{Versions.content}
-use Rattle.batch_apply.specs.{Plan.{names_all, kinds_all, with_names, Fits}, Planned.IsPlanRefusal}
+use Rattle.graph_types.specs.{Parts.{names_after_all, kinds_after_all}, Refusals.IsLimitRefusal}
+use Rattle.batch_apply.specs.Plan.{with_names, Fits}
 use Rattle.batch_apply.proofs.{Resolving.as_many_shown, Leaving.{names_book, kinds_book, neither_limit, plan_refused}}
 use Rattle.batch_apply.proofs.Names.{err_then}
 use Rattle.batch_apply.proofs.dividing.name_batch.Goals as goal
@@ -41,13 +42,13 @@ pub returns-clause-names : goal.returns-clause-names
 returns-clause-names c =
     names_book c.args.batch.now (content c.args.version.now) c.in_ok-names.names c.resolve_batch.new.names
     (c.in_ok-names.ensures ∙ c.names.ensures.names) (c.in_ok-ops.ensures.names
-    ∙ ap (λ (os : List NamedOp). with_names c.in_ok-names.names (names_all os c.in_ok-names.names.names)) c.ops.ensures.ops)
+    ∙ ap (λ (os : List NamedOp). with_names c.in_ok-names.names (names_after_all os c.in_ok-names.names.names)) c.ops.ensures.ops)
 
 pub returns-clause-kinds : goal.returns-clause-kinds
 returns-clause-kinds c =
     kinds_book c.args.batch.now (content c.args.version.now) c.in_ok-kinds.kinds c.resolve_batch.new.kinds
     (c.in_ok-kinds.ensures ∙ c.kinds.ensures) (c.in_ok-ops.ensures.kinds
-    ∙ ap (λ (os : List NamedOp). with_names c.in_ok-kinds.kinds (kinds_all os c.in_ok-kinds.kinds.names)) c.ops.ensures.ops)
+    ∙ ap (λ (os : List NamedOp). with_names c.in_ok-kinds.kinds (kinds_after_all os c.in_ok-kinds.kinds.names)) c.ops.ensures.ops)
 
 pub returns-clause-limits : goal.returns-clause-limits
 returns-clause-limits c =
@@ -57,8 +58,8 @@ returns-clause-limits c =
 pub returns-in_err-ops-clause-refused : goal.returns-in_err-ops-clause-refused
 returns-in_err-ops-clause-refused c =
     let g : Graph = content c.args.version.now in
-    err_then c.from_residual-in_err-ops.result (λ error. IsPlanRefusal error c.args.batch.now g) c.in_err-ops.field-0.0
+    err_then c.from_residual-in_err-ops.result (λ error. IsLimitRefusal error c.args.batch.now g) c.in_err-ops.field-0.0
     c.from_residual-in_err-ops.ensures.1
-    (subst (λ (os : List NamedOp). IsPlanRefusal c.in_err-ops.field-0.0 os g) c.ops.ensures.ops
+    (subst (λ (os : List NamedOp). IsLimitRefusal c.in_err-ops.field-0.0 os g) c.ops.ensures.ops
     (plan_refused c.in_err-ops.field-0.0 c.ops.result.now g c.in_ok-names.names c.in_ok-kinds.kinds
     (c.in_ok-names.ensures ∙ c.names.ensures.names) (c.in_ok-kinds.ensures ∙ c.kinds.ensures) c.in_err-ops.ensures.refused))

@@ -4,7 +4,7 @@ use Rattle.std.{proofs.lemmas.List.map-append, specs.{declared.alloc.AllocError.
 use Rattle.std.proofs.lemmas.Iterator.{Adapters.YieldsList-from_vec, Consumers.YieldsList-turn}
 use Rattle.edge_block.specs.Slots.{BlockView}
 use Rattle.batch_shards.specs.{Done.layout_by, Done.sources_in, Spending.needed, declared.shard.Shard.Shard}
-use Rattle.batch_apply.specs.{Plan.shown, Shards.{IsShardOf, latest}, OldRows.AreOldRows, declared.shards.Needing.Needing}
+use Rattle.batch_apply.specs.{Plan.shown_op, Shards.{IsShardOf, latest_expiry}, OldRows.AreOldRows, declared.shards.Needing.Needing}
 use Rattle.batch_apply.proofs.Leaving.{one_more_shard}
 use Rattle.batch_apply.proofs.dividing.shards_at_once.Goals as goal
 
@@ -20,12 +20,12 @@ loop-one-preserved g c rows are =
     let shards : List Shard = c.loop-one.all.shards.items in
     let shard : Shard = c.in_ok-one.field-0.shard in
     let need : Shard → ℕ = λ (s : Shard). min (needed rows (sources_in s) s.steps.items) (2 ^ 64 - 1) in
-    let R : ℕ → Shard → Type 0 = IsShardOf c.args.workers (map shown c.args.ops.now) (layout_by rows) in
+    let R : ℕ → Shard → Type 0 = IsShardOf c.args.workers (map shown_op c.args.ops.now) (layout_by rows) in
     let P : Needing → Type 0 = λ (n : Needing). (rows' : ℕ → List BlockView)
-    → AreOldRows (latest (map shown c.args.ops.now)) rows' c.args.old.now
-    → IsShardOf c.args.workers (map shown c.args.ops.now) (layout_by rows') w n.shard in
+    → AreOldRows (latest_expiry (map shown_op c.args.ops.now)) rows' c.args.old.now
+    → IsShardOf c.args.workers (map shown_op c.args.ops.now) (layout_by rows') w n.shard in
     let Q : Needing → Type 0 = λ (n : Needing). (rows' : ℕ → List BlockView)
-    → AreOldRows (latest (map shown c.args.ops.now)) rows' c.args.old.now
+    → AreOldRows (latest_expiry (map shown_op c.args.ops.now)) rows' c.args.old.now
     → n.blocks ≡ min (needed rows' (sources_in n.shard) n.shard.steps.items) (2 ^ 64 - 1) in
     let is : get_or c.in_ok-planned.planned.items w c.in-Some.one ≡ Ok c.in_ok-one.field-0 = sym turn.1 ∙ c.in_ok-one.was in
     let given : IfOk (get_or c.in_ok-planned.planned.items w c.in-Some.one) P = told.0 in

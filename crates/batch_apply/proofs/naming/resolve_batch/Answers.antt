@@ -1,10 +1,12 @@
-use Rattle.std.proofs.Common.{◌≡◌, ◌∙◌, ◌∷◌, ◌++◌, ◌+◌, ℕ, List, map, drop, drop-cons, add-one, rules, sym, ap, subst}
-use Rattle.std.proofs.lemmas.List.{Elements.All-push}
+use Rattle.std.proofs.Common.{◌≡◌, ◌∙◌, ◌∷◌, ◌++◌, ◌+◌, ◌-◌, ℕ, List, length, map, take, drop, drop-cons, add-one, rules, sym, ap}
+use Rattle.std.proofs.{Common.{subst, arith}, lemmas.{List.Elements.All-push, Grind.common_steps}}
 use Rattle.graph_types.specs.declared.batches.NamedOp.{NamedOp}
-use Rattle.edge_block.specs.{Operations.names_after, Operations.kinds_after, Batches.resolved_by}
+use Rattle.graph_types.specs.Parts.{names_after, kinds_after, names_after_all, kinds_after_all}
+use Rattle.edge_block.specs.Batches.{resolved_by}
 use Rattle.vertex_names.specs.Book.{Book}
-use Rattle.batch_apply.specs.Plan.{names_all, kinds_all, shown, AreFound, IsInRange, IsSeen}
+use Rattle.batch_apply.specs.Plan.{shown_op, AreFound, IsInRange, IsSeen, IsUnplanned}
 use Rattle.batch_apply.proofs.{Found.{all_later, rest_found}, Resolving.{one_more, placed_in, all_resolved}}
+use Rattle.batch_apply.proofs.{Names.err_then, Leaving.unplanned_all}
 use Rattle.batch_apply.proofs.naming.resolve_batch.Goals as goal
 
 pub loop-k-preserved : goal.loop-k-preserved
@@ -19,9 +21,9 @@ loop-k-preserved c =
     let more_names : c.resolve_op.new.names.names ≡ names_after op names = ap (λ (b : Book). b.names) c.in_ok-op.ensures.names in
     let more_kinds : c.resolve_op.new.kinds.names ≡ kinds_after op kinds = ap (λ (b : Book). b.names) c.in_ok-op.ensures.kinds in
     record {
-      names = ap (names_all rest) more_names ∙ ap (λ l. names_all l names) (sym step) ∙ c.loop-k.invariant.names;
-      kinds = ap (kinds_all rest) more_kinds ∙ ap (λ l. kinds_all l kinds) (sym step) ∙ c.loop-k.invariant.kinds;
-      found = (λ i. map shown (c.in-Ok.ensures.items i) ++ resolved_by c.args.most rest (more_names i) (more_kinds i))
+      names = ap (names_after_all rest) more_names ∙ ap (λ l. names_after_all l names) (sym step) ∙ c.loop-k.invariant.names;
+      kinds = ap (kinds_after_all rest) more_kinds ∙ ap (λ l. kinds_after_all l kinds) (sym step) ∙ c.loop-k.invariant.kinds;
+      found = (λ i. map shown_op (c.in-Ok.ensures.items i) ++ resolved_by c.args.most rest (more_names i) (more_kinds i))
           ∙ one_more c.args.most (drop k ops) rest op c.loop-k.found.items c.in_ok-op.op names kinds
           (resolved_by c.args.most ops c.args.names.now.names c.args.kinds.now.names) step c.in_ok-op.ensures.op c.loop-k.invariant.found;
       changes = rw c.in-Ok.ensures.items (All-push IsInRange c.loop-k.found.items c.in_ok-op.op
@@ -47,6 +49,22 @@ resolve_op-requires-clause-found c =
 
 pub returns-clause-placed : goal.returns-clause-placed
 returns-clause-placed c =
-    placed_in c.args.most (map shown c.loop-k.found.items) c.args.ops.now c.args.names.now.names c.args.kinds.now.names
+    placed_in c.args.most (map shown_op c.loop-k.found.items) c.args.ops.now c.args.names.now.names c.args.kinds.now.names
     (all_resolved c.args.most c.args.ops.now c.loop-k.k c.loop-k.found.items c.loop-k.names.names c.loop-k.kinds.names
     (resolved_by c.args.most c.args.ops.now c.args.names.now.names c.args.kinds.now.names) c.loop-k-test.false c.loop-k.invariant.found)
+
+pub returns-in_err-op-clause-refused : goal.returns-in_err-op-clause-refused
+returns-in_err-op-clause-refused c =
+    let k : ℕ = c.loop-k.k in
+    let ops : List NamedOp = c.args.ops.now in
+    let op : NamedOp = c.index-ops-k.result in
+    let behind : take (length ops - (k + 1)) (drop (k + 1) ops) ≡ drop (k + 1) ops = grind (arith, common_steps) in
+    let step : drop k ops ≡ op ∷ take (length ops - (k + 1)) (drop (k + 1) ops) =
+    rw add-one (drop-cons ops k op c.loop-k-test.true) ∙ ap (λ (o : NamedOp). o ∷ drop (k + 1) ops) (sym c.index-ops-k.is)
+    ∙ ap (λ (os : List NamedOp). op ∷ os) (sym behind) in
+    err_then c.from_residual-in_err-op.result (λ error. IsUnplanned error ops c.args.names.now c.args.kinds.now)
+    c.in_err-op.field-0.0 c.from_residual-in_err-op.ensures.1
+    (unplanned_all c.in_err-op.field-0.0 ops (drop k ops) c.args.names.now c.args.kinds.now c.loop-k.names c.loop-k.kinds
+    c.loop-k.invariant.names c.loop-k.invariant.kinds c.loop-k.invariant.limit c.loop-k.invariant.few
+    (subst (λ (os : List NamedOp). IsUnplanned c.in_err-op.field-0.0 os c.loop-k.names c.loop-k.kinds) (sym step)
+    c.in_err-op.ensures.refused))

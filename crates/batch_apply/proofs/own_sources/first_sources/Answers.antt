@@ -4,7 +4,7 @@ use Rattle.std.{proofs.lemmas.List.length-map, specs.{List.list_any, Prelude.sli
 use Rattle.std.specs.declared.option.Option.TheVariants.{Some}
 use Rattle.graph_types.specs.declared.ids.VertexId.{VertexId}
 use Rattle.edge_block.specs.Batches.{Resolved, shard_ops}
-use Rattle.batch_apply.specs.{Plan.shown, OldRows.{old_sources, own_rows}, Shards.source_numbers, FirstSources.{AreFirst, asked}}
+use Rattle.batch_apply.specs.{Plan.shown_op, OldRows.{old_sources, own_rows}, Shards.source_numbers, FirstSources.{AreFirst, asked_sources}}
 use Rattle.batch_apply.specs.declared.{old.OldRow.OldRow, resolve.ResolvedOp.ResolvedOp}
 use Rattle.batch_apply.proofs.{First.{old_first, ranked_first, ranked_next, few_asked}, Listing.own_few}
 use Rattle.batch_apply.proofs.own_sources.first_sources.Goals as goal
@@ -17,24 +17,24 @@ listed_all first kept after list own more first_is kept_is after_is list_is =
 
 -- it is no longer than old rows and operations
 listed_few : (workers w : ℕ) (ops : List ResolvedOp) (old : List OldRow) (list : List VertexId)
-    → source_numbers list ≡ old_sources (own_rows workers w old) ++ asked (shard_ops workers w (map shown ops))
+    → source_numbers list ≡ old_sources (own_rows workers w old) ++ asked_sources (shard_ops workers w (map shown_op ops))
     → length list ≤ length old + length ops
 listed_few workers w ops old list is =
     let own : List ℕ = old_sources (own_rows workers w old) in
-    let more : List ℕ = asked (shard_ops workers w (map shown ops)) in
+    let more : List ℕ = asked_sources (shard_ops workers w (map shown_op ops)) in
     omega (
       arith,
       ap length is,
       length-append own more,
       length-map list (λ (v : VertexId). v.0),
-      length-map ops shown,
-      few_asked workers w (map shown ops),
+      length-map ops shown_op,
+      few_asked workers w (map shown_op ops),
       own_few workers w old,
     )
 
 pub returns-then-saturating_add-le-FEW-clause-sources : goal.returns-then-saturating_add-le-FEW-clause-sources
 returns-then-saturating_add-le-FEW-clause-sources c =
-    let rs : List Resolved = map shown c.args.ops.now in
+    let rs : List Resolved = map shown_op c.args.ops.now in
     subst (λ (l : List ℕ). AreFirst c.args.workers c.args.worker rs c.args.old.now l) (sym c.in_ok-blocks.ensures.own)
     (old_first c.args.workers c.args.worker rs c.args.old.now c.requires.distinct)
 
@@ -51,7 +51,7 @@ rank-requires c =
     let workers : ℕ = c.args.workers in
     let w : ℕ = c.args.worker in
     let all = listed_all c.list_old.new.sources.items c.reserve.new.self.items c.list_asked.new.sources.items c.as_slice.result.now
-    (old_sources (own_rows workers w c.args.old.now)) (asked (shard_ops workers w (map shown c.args.ops.now)))
+    (old_sources (own_rows workers w c.args.old.now)) (asked_sources (shard_ops workers w (map shown_op c.args.ops.now)))
     c.in_ok-blocks.ensures.own c.in_ok-reserve.ensures.items c.in_ok-list_asked.ensures c.as_slice.ensures.value in
     record {
       few = omega (
@@ -66,9 +66,9 @@ pub returns-clause-sources : goal.returns-clause-sources
 returns-clause-sources c =
     let workers : ℕ = c.args.workers in
     let w : ℕ = c.args.worker in
-    let rs : List Resolved = map shown c.args.ops.now in
+    let rs : List Resolved = map shown_op c.args.ops.now in
     let own : List ℕ = old_sources (own_rows workers w c.args.old.now) in
-    let more : List ℕ = asked (shard_ops workers w rs) in
+    let more : List ℕ = asked_sources (shard_ops workers w rs) in
     let all : source_numbers c.as_slice.result.now ≡ own ++ more = listed_all c.list_old.new.sources.items
     c.reserve.new.self.items c.list_asked.new.sources.items c.as_slice.result.now own more c.in_ok-blocks.ensures.own
     c.in_ok-reserve.ensures.items c.in_ok-list_asked.ensures c.as_slice.ensures.value in
@@ -79,9 +79,9 @@ pub returns-clause-places : goal.returns-clause-places
 returns-clause-places c =
     let workers : ℕ = c.args.workers in
     let w : ℕ = c.args.worker in
-    let rs : List Resolved = map shown c.args.ops.now in
+    let rs : List Resolved = map shown_op c.args.ops.now in
     let own : List ℕ = old_sources (own_rows workers w c.args.old.now) in
-    let more : List ℕ = asked (shard_ops workers w rs) in
+    let more : List ℕ = asked_sources (shard_ops workers w rs) in
     let list : List VertexId = c.as_slice.result.now in
     let xs : List ℕ = source_numbers c.in_ok-ranks.ranks.numbers.items in
     let ps : List ℕ = c.in_ok-ranks.ranks.places.items in
@@ -106,6 +106,6 @@ returns-clause-few c =
     let workers : ℕ = c.args.workers in
     let w : ℕ = c.args.worker in
     let all = listed_all c.list_old.new.sources.items c.reserve.new.self.items c.list_asked.new.sources.items c.as_slice.result.now
-    (old_sources (own_rows workers w c.args.old.now)) (asked (shard_ops workers w (map shown c.args.ops.now)))
+    (old_sources (own_rows workers w c.args.old.now)) (asked_sources (shard_ops workers w (map shown_op c.args.ops.now)))
     c.in_ok-blocks.ensures.own c.in_ok-reserve.ensures.items c.in_ok-list_asked.ensures c.as_slice.ensures.value in
     omega (arith, listed_few workers w c.args.ops.now c.args.old.now c.as_slice.result.now all, c.in_ok-ranks.ensures.few)

@@ -1,6 +1,6 @@
 use Rattle.std.proofs.Common.{◌∙◌, map, ap, sym, subst}
 use Rattle.graph_version.specs.{Versions.content, Rows.row_of}
-use Rattle.batch_apply.specs.{Plan.shown, OldRows.{AreOldRows, expiry_time}, declared.plans.Plan.Plan}
+use Rattle.batch_apply.specs.{Plan.shown_op, OldRows.{AreOldRows, expiry_time}, declared.plans.Plan.Plan}
 use Rattle.batch_apply.proofs.{Needs.few_old_rows, Planned.{planned, old_resolved}}
 use Rattle.batch_apply.proofs.Found.{nothing_found}
 use Rattle.batch_apply.proofs.planning.plan.Goals as goal
@@ -28,7 +28,7 @@ shards_for-requires-clause-old c = (
   row_of c.args.version.now.rows,
   old_resolved (content c.args.version.now).limits.weight c.args.batch.now (content c.args.version.now).names
       (content c.args.version.now).kinds c.as_slice.result.now
-      (row_of c.args.version.now.rows) _ (ap (map shown) c.as_slice.ensures.value ∙ c.in_ok-named.ensures.ops)
+      (row_of c.args.version.now.rows) _ (ap (map shown_op) c.as_slice.ensures.value ∙ c.in_ok-named.ensures.ops)
       (subst (AreOldRows (expiry_time c.args.batch.now) (row_of c.args.version.now.rows)) (sym c.as_slice-2.ensures.value)
       c.in_ok-old.ensures),
 )
@@ -39,7 +39,7 @@ returns-clause-plan c =
     planned c.args.version.now c.in_ok-named.ensures.version c.args.workers c.args.batch.now c.as_slice.result.now _
     c.plan_of.result (ap (λ (p : Plan). p.names) is ∙ c.in_ok-named.ensures.names)
     (ap (λ (p : Plan). p.kinds) is ∙ c.in_ok-named.ensures.kinds)
-    (ap (map shown) c.as_slice.ensures.value ∙ c.in_ok-named.ensures.ops)
+    (ap (map shown_op) c.as_slice.ensures.value ∙ c.in_ok-named.ensures.ops)
     (rw c.as_slice.ensures.value c.in_ok-named.ensures.few)
     (subst (AreOldRows (expiry_time c.args.batch.now) (row_of c.args.version.now.rows)) (sym c.as_slice-2.ensures.value)
     c.in_ok-old.ensures)

@@ -1,6 +1,6 @@
 use Rattle.std.proofs.Common.{◌∙◌, map, ap}
 use Rattle.graph_version.specs.{Versions.content, Rows.row_of}
-use Rattle.batch_apply.specs.{Plan.shown, OldRows.expiry_time, declared.plans.Plan.Plan}
+use Rattle.batch_apply.specs.{Plan.shown_op, OldRows.expiry_time, declared.plans.Plan.Plan}
 use Rattle.batch_apply.proofs.{Needs.few_old_rows, Planned.{planned, old_resolved}}
 use Rattle.batch_apply.proofs.planning.plan_with.Goals as goal
 
@@ -23,7 +23,7 @@ shards_at_once-requires-clause-old g c lifetimes outlive = (
   row_of c.args.version.now.rows,
   old_resolved (content c.args.version.now).limits.weight c.args.batch.now (content c.args.version.now).names
       (content c.args.version.now).kinds c.as_slice.result.now
-      (row_of c.args.version.now.rows) _ (ap (map shown) c.as_slice.ensures.value ∙ c.in_ok-named.ensures.ops)
+      (row_of c.args.version.now.rows) _ (ap (map shown_op) c.as_slice.ensures.value ∙ c.in_ok-named.ensures.ops)
       c.requires.old,
 )
 
@@ -33,7 +33,7 @@ returns-clause-plan g c =
     planned c.args.version.now c.in_ok-named.ensures.version c.args.workers c.args.batch.now c.as_slice.result.now _
     c.plan_of.result (ap (λ (p : Plan). p.names) is ∙ c.in_ok-named.ensures.names)
     (ap (λ (p : Plan). p.kinds) is ∙ c.in_ok-named.ensures.kinds)
-    (ap (map shown) c.as_slice.ensures.value ∙ c.in_ok-named.ensures.ops)
+    (ap (map shown_op) c.as_slice.ensures.value ∙ c.in_ok-named.ensures.ops)
     (rw c.as_slice.ensures.value c.in_ok-named.ensures.few)
     c.requires.old
     (λ rows are. rw is (c.in_ok-planned.ensures.shards rows are)) (λ rows are. rw is (c.in_ok-planned.ensures.needs rows are))

@@ -1,5 +1,5 @@
 use Rattle.std.proofs.Common.{◌∙◌, ◌∷◌, ℕ, List, ap}
-use Rattle.edge_block.specs.Operations.{Parts, parts_in, names_after, kinds_after}
+use Rattle.graph_types.specs.Parts.{Parts, parts_in, names_after, kinds_after}
 use Rattle.batch_apply.{specs.{declared.resolve.Ends.Ends, Plan.with_kind}, proofs.{Names.names_refused, Resolving.{ends_over, one_resolved}}}
 use Rattle.batch_apply.proofs.resolve.resolve_op.Goals as goal
 

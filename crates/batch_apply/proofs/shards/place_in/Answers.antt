@@ -4,15 +4,15 @@ use Rattle.std.specs.{List.list_any, Option.option_map, declared.option.Option.{
 use Rattle.graph_types.specs.{Graph.Key, declared.ids.VertexId.VertexId}
 use Rattle.std.specs.Prelude.{IfSome}
 use Rattle.batch_apply.specs.{FirstSources.{AreNext, source_in}, declared.own_sources.Places.Places}
-use Rattle.batch_apply.specs.{Plan.key_of, Shards.{source_numbers, with_number, with_source}, declared.resolve.EdgeKey.EdgeKey}
+use Rattle.batch_apply.specs.{Plan.key_shown, Shards.{source_numbers, with_number, with_source}, declared.resolve.EdgeKey.EdgeKey}
 use Rattle.batch_apply.proofs.shards.place_in.Goals as goal
 
 -- the next place is for the key
 given : (key : Option EdgeKey) (k : EdgeKey) (places : Option Places) (sources rest : List ℕ) → key ≡ Some k
-    → IfSome places (AreNext sources (source_in (option_map key_of key) ++ rest))
+    → IfSome places (AreNext sources (source_in (option_map key_shown key) ++ rest))
     → IfSome places (AreNext sources (k.source ∷ rest))
 given key k places sources rest is are =
-    subst (λ (o : Option EdgeKey). IfSome places (AreNext sources (source_in (option_map key_of o) ++ rest))) is are
+    subst (λ (o : Option EdgeKey). IfSome places (AreNext sources (source_in (option_map key_shown o) ++ rest))) is are
 
 pub place_of-requires : goal.place_of-requires
 place_of-requires c = record {
@@ -41,10 +41,10 @@ returns c =
       next = λ rest are. found.next rest
           (given c.args.key c.in-Some.key c.args.places.now (source_numbers c.args.sources.now.items) rest c.in-Some.is are);
       sources = found.sources
-          ∙ ap (λ (k : Option EdgeKey). with_source (option_map key_of k) (source_numbers old)) (sym c.in-Some.is);
+          ∙ ap (λ (k : Option EdgeKey). with_source (option_map key_shown k) (source_numbers old)) (sym c.in-Some.is);
       key = ap (key_from c.in-Some.key)
           (get_or_from_slice_get (source_numbers new) c.in_ok-row.row c.in-Some.key.source 0 found.place)
-          ∙ ap (option_map key_of) (sym c.in-Some.is);
+          ∙ ap (option_map key_shown) (sym c.in-Some.is);
       place = slice_get_within (source_numbers new) c.in_ok-row.row c.in-Some.key.source found.place;
       few = omega (
         arith,

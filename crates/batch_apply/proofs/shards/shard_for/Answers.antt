@@ -7,8 +7,8 @@ use Rattle.graph_types.specs.declared.changes.EdgeChange.TheVariants.{Insert}
 use Rattle.edge_block.specs.Batches.{Resolved, IsPlaced, is_in_shard, shard_ops}
 use Rattle.batch_shards.specs.{Done.layout_by, Groups.is_expiry, Spending.old_blocks, Spending.latest as latest_step}
 use Rattle.batch_shards.specs.declared.shard.{Act.Act, Step.Step}
-use Rattle.batch_apply.specs.{Plan.shown, Shards.AreShardSteps, Shards.has_old_shape, Shards.latest, Shards.source_numbers}
-use Rattle.batch_apply.specs.{OldRows.{own_rows, blocks_in, old_sources}, FirstSources.{AreNext, asked}}
+use Rattle.batch_apply.specs.{Plan.shown_op, Shards.AreShardSteps, Shards.has_old_shape, Shards.latest_expiry, Shards.source_numbers}
+use Rattle.batch_apply.specs.{OldRows.{own_rows, blocks_in, old_sources}, FirstSources.{AreNext, asked_sources}}
 use Rattle.batch_apply.specs.declared.{old.OldRow.OldRow, resolve.ResolvedOp.ResolvedOp, resolve.ResolvedOp.TheVariants.Edge}
 use Rattle.batch_apply.proofs.{Growth.{passed, added, same_sum}, Listing.{sum_agrees, is_listed, listed_blocks}}
 use Rattle.batch_apply.proofs.Listing.{own_blocks, same_old, same_latest, listed_agrees}
@@ -26,14 +26,14 @@ act_in-requires-clause-next c =
     let worker : ℕ = c.args.worker in
     let i : ℕ = c.loop-k.k in
     let ops : List ResolvedOp = c.args.ops.now in
-    let rs : List Resolved = map shown ops in
+    let rs : List Resolved = map shown_op ops in
     let d : ResolvedOp = Edge None None (Insert (pos 0) 0 0) in
-    let r : Resolved = shown (get_or ops i d) in
+    let r : Resolved = shown_op (get_or ops i d) in
     let lt : i < length ops = omega arith in
-    let long : length rs ≡ length ops = length-map ops shown in
+    let long : length rs ≡ length ops = length-map ops shown_op in
     let mine : is_in_shard workers worker r ≡ true = sym c.is_in_shard.ensures ∙ c.if-is_in_shard.true in (
-      asked (shard_ops workers worker (drop (i + 1) rs)),
-      next_given workers worker rs i (shown d) r (omega arith) (get_or-map shown ops i d (shown d) lt) mine
+      asked_sources (shard_ops workers worker (drop (i + 1) rs)),
+      next_given workers worker rs i (shown_op d) r (omega arith) (get_or-map shown_op ops i d (shown_op d) lt) mine
           (source_numbers c.loop-k.sources.items) c.loop-k.places c.loop-k.invariant.next,
     )
 
@@ -42,7 +42,7 @@ loop-k-init c =
     let workers : ℕ = c.args.workers in
     let worker : ℕ = c.args.worker in
     let old : List OldRow = c.args.old.now in
-    let rs : List Resolved = map shown c.args.ops.now in
+    let rs : List Resolved = map shown_op c.args.ops.now in
     let (rows, is_old) = c.requires.old in
     let sum : ℕ = blocks_in (own_rows workers worker old) in
     let none : sum ≡ sum + 0 = omega arith in
@@ -51,7 +51,7 @@ loop-k-init c =
       steps = (_, (found.sources, rw c.in_ok-steps.ensures.items (start workers worker rs old _ found.sources)));
       next = found.places;
       old_blocks = same_blocks workers worker rs old _ (old_sources (own_rows workers worker old)) found.sources
-          (old_first workers worker rs old is_old.distinct) ∙ own_blocks (latest rs) rows old is_old workers worker;
+          (old_first workers worker rs old is_old.distinct) ∙ own_blocks (latest_expiry rs) rows old is_old workers worker;
       blocks = rw c.in_ok-steps.ensures.items (found.blocks ∙ ap (λ n. min n (2 ^ 64 - 1)) none);
       few = omega (arith, found.few);
     }
@@ -63,14 +63,14 @@ loop-k-preserved c =
     let old : List OldRow = c.args.old.now in
     let i : ℕ = c.loop-k.k in
     let ops : List ResolvedOp = c.args.ops.now in
-    let rs : List Resolved = map shown ops in
+    let rs : List Resolved = map shown_op ops in
     let d : ResolvedOp = Edge None None (Insert (pos 0) 0 0) in
-    let r : Resolved = shown (get_or ops i d) in
+    let r : Resolved = shown_op (get_or ops i d) in
     let lt : i < length ops = omega arith in
-    let long : length rs ≡ length ops = length-map ops shown in
+    let long : length rs ≡ length ops = length-map ops shown_op in
     let within : i < length rs = omega arith in
-    let at : get_or rs i (shown d) ≡ r = get_or-map shown ops i d (shown d) lt in
-    let step : take (i + 1) rs ≡ take i rs ++ r ∷ [] = take_more rs i (shown d) within ∙ ap (λ x. take i rs ++ x ∷ []) at in
+    let at : get_or rs i (shown_op d) ≡ r = get_or-map shown_op ops i d (shown_op d) lt in
+    let step : take (i + 1) rs ≡ take i rs ++ r ∷ [] = take_more rs i (shown_op d) within ∙ ap (λ x. take i rs ++ x ∷ []) at in
     let keys : List ℕ = source_numbers c.loop-k.sources.items in
     let steps : List Step = c.loop-k.steps.items in
     let (first, (are, is)) = c.loop-k.invariant.steps in
@@ -79,7 +79,7 @@ loop-k-preserved c =
     elim c.if-is_in_shard.branch [
       | then-is_in_shard+in_ok-act+in_ok-push w ↦
           let mine : is_in_shard workers worker r ≡ true = sym c.is_in_shard.ensures ∙ w.if-is_in_shard.true in
-          let placed : IsPlaced r = subst IsPlaced at (c.requires.placed i (shown d) within) in
+          let placed : IsPlaced r = subst IsPlaced at (c.requires.placed i (shown_op d) within) in
           let act : Act = w.in_ok-act.act in
           let s : Step = record { op = i; act = act } in
           let next : List ℕ = source_numbers w.act_in.new.sources.items in
@@ -99,8 +99,8 @@ loop-k-preserved c =
           + count_by (λ (t : Step). not (is_expiry t.act)) (steps ++ s ∷ [])) (2 ^ 64 - 1) = omega arith in
           record {
             steps = (first, (are, rw (w.sources-is, w.steps-is, w.in_ok-push.ensures.items, step) done));
-            next = rw (w.sources-is, w.places-is) (w.in_ok-act.ensures.next (asked left)
-                (next_given workers worker rs i (shown d) r within at mine keys c.loop-k.places c.loop-k.invariant.next));
+            next = rw (w.sources-is, w.places-is) (w.in_ok-act.ensures.next (asked_sources left)
+                (next_given workers worker rs i (shown_op d) r within at mine keys c.loop-k.places c.loop-k.invariant.next));
             old_blocks = rw w.sources-is (sums ∙ c.loop-k.invariant.old_blocks);
             blocks = rw (w.blocks-is, w.steps-is, w.in_ok-push.ensures.items) sum;
             few = rw w.sources-is (omega (arith, w.in_ok-act.ensures.few, c.loop-k.invariant.few));
@@ -112,7 +112,7 @@ loop-k-preserved c =
           record {
             steps = (first, (are, rw (w.sources-is, w.steps-is, step) done));
             next = rw (w.sources-is, w.places-is) (subst (λ (l : List ℕ). IfSome c.loop-k.places (AreNext keys l))
-                (next_other workers worker rs i (shown d) r within at other) c.loop-k.invariant.next);
+                (next_other workers worker rs i (shown_op d) r within at other) c.loop-k.invariant.next);
             old_blocks = rw w.sources-is c.loop-k.invariant.old_blocks;
             blocks = rw (w.blocks-is, w.steps-is) c.loop-k.invariant.blocks;
             few = rw w.sources-is (omega (arith, c.loop-k.invariant.few));
@@ -121,24 +121,24 @@ loop-k-preserved c =
 
 pub returns : goal.returns
 returns c =
-    let rs : List Resolved = map shown c.args.ops.now in
+    let rs : List Resolved = map shown_op c.args.ops.now in
     let old : List OldRow = c.args.old.now in
     let sources : List ℕ = source_numbers c.loop-k.sources.items in
     let steps : List Step = c.loop-k.steps.items in
-    let long : length rs ≡ length c.args.ops.now = length-map c.args.ops.now shown in
+    let long : length rs ≡ length c.args.ops.now = length-map c.args.ops.now shown_op in
     let whole : take c.loop-k.k rs ≡ rs = take_all c.loop-k.k rs (omega (arith, long, c.loop-k-test.false)) in
     let (first, (are, is)) = c.loop-k.invariant.steps in
     let done : AreShardSteps c.args.workers rs c.args.worker (is_listed old) sources steps =
     finished c.args.workers c.args.worker rs old first sources steps are (rw (sym whole) is) in
     record {
-      shard = λ rows are. same_old c.args.workers c.args.worker rs (is_listed old) (λ s. has_old_shape (latest rs) (layout_by rows s))
-          sources steps (listed_agrees (latest rs) rows old are) done;
+      shard = λ rows are. same_old c.args.workers c.args.worker rs (is_listed old) (λ s. has_old_shape (latest_expiry rs) (layout_by rows s))
+          sources steps (listed_agrees (latest_expiry rs) rows old are) done;
       blocks = λ rows are.
           let owed : sum_by (λ s. old_blocks (latest_step steps) (rows s)) sources
           ≡ blocks_in (own_rows c.args.workers c.args.worker old) =
           ap (λ t. sum_by (λ s. old_blocks t (rows s)) sources)
           (same_latest c.args.workers c.args.worker rs (is_listed old) sources steps done)
-          ∙ sym (sum_agrees (latest rs) rows old are sources) ∙ c.loop-k.invariant.old_blocks in
+          ∙ sym (sum_agrees (latest_expiry rs) rows old are sources) ∙ c.loop-k.invariant.old_blocks in
           let edges : ℕ = count_by (λ (s : Step). not (is_expiry s.act)) steps in
           let both : blocks_in (own_rows c.args.workers c.args.worker old) + edges
           ≡ edges + sum_by (λ s. old_blocks (latest_step steps) (rows s)) sources = omega arith in

@@ -1,7 +1,7 @@
 use Rattle.std.proofs.{Common.{rules, All, sym, subst}, lemmas.{Result.IfOk-at_ok, List.Elements.{All-take, All-drop}}}
 use Rattle.graph_version.specs.Rows.{row_of}
 use Rattle.batch_shards.specs.{Done.IsShardDone, declared.shard.ShardDone.ShardDone}
-use Rattle.batch_apply.{specs.{Gathered.{IsShard, AreDone}, declared.workers.Job.Job}, proofs.Halves.zip_halves}
+use Rattle.batch_apply.{specs.{Gathered.{IsShard, AreShardsDone}, declared.workers.Job.Job}, proofs.Halves.zip_halves}
 use Rattle.batch_apply.proofs.workers.+do_busy+fn-do_busy-front.Goals as goal
 
 pub returns : goal.returns
@@ -10,8 +10,8 @@ returns g t c =
     let rows = row_of c.args.version.now.rows in
     zip_halves (λ (j : Job) (d : ShardDone). IsShardDone rows j.shard d) _ _ _ _ _ _ _ cut.items cut.tail
     c.in_ok-done.ensures
-    (IfOk-at_ok (λ v. AreDone rows c.split_off.new.self.items v.items) c.in_ok-all.was c.join-b.ensures.second)
-    (IfOk-at_ok (λ v. AreDone rows c.in_ok-high.high.items v.items) c.in_ok-rest.was c.join-b.ensures.first)
+    (IfOk-at_ok (λ v. AreShardsDone rows c.split_off.new.self.items v.items) c.in_ok-all.was c.join-b.ensures.second)
+    (IfOk-at_ok (λ v. AreShardsDone rows c.in_ok-high.high.items v.items) c.in_ok-rest.was c.join-b.ensures.first)
 
 -- the shards of each part of the jobs can be worked on
 pub join-b-requires-after_bounds : goal.join-b-requires-after_bounds

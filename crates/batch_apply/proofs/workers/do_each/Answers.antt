@@ -2,7 +2,7 @@ use Rattle.std.proofs.Common.{◌++◌, ◌∷◌, [], length, sym, ◌∙◌, s
 use Rattle.std.proofs.lemmas.Iterator.{Adapters.YieldsList-from_vec, Consumers.YieldsList-turn}
 use Rattle.graph_version.specs.Rows.{row_of}
 use Rattle.batch_shards.specs.{Done.IsShardDone, declared.shard.ShardDone.ShardDone}
-use Rattle.batch_apply.{specs.{Gathered.{IsShard, AreDone}, declared.workers.Job.Job}, proofs.Halves.zip_more}
+use Rattle.batch_apply.{specs.{Gathered.{IsShard, AreShardsDone}, declared.workers.Job.Job}, proofs.Halves.zip_more}
 use Rattle.batch_apply.proofs.workers.do_each.Goals as goal
 
 pub do_one-requires : goal.do_one-requires
@@ -16,7 +16,7 @@ do_one-requires g c =
 
 pub loop-job-preserved : goal.loop-job-preserved
 loop-job-preserved g c =
-    subst (λ ds. AreDone (row_of c.args.version.now.rows) (c.loop-job.yielded ++ c.in-Some.job ∷ []) ds)
+    subst (λ ds. AreShardsDone (row_of c.args.version.now.rows) (c.loop-job.yielded ++ c.in-Some.job ∷ []) ds)
     (sym c.in_ok-push.ensures.items)
     (zip_more (λ (j : Job) (d : ShardDone). IsShardDone (row_of c.args.version.now.rows) j.shard d) c.loop-job.yielded
     c.loop-job.done.items c.in-Some.job c.in_ok-do_one.field-0

@@ -1,6 +1,6 @@
 use Rattle.graph_version.specs.Rows.{row_of}
-use Rattle.batch_apply.specs.Gathered.{AreDone}
+use Rattle.batch_apply.specs.Gathered.{AreShardsDone}
 use Rattle.batch_apply.proofs.workers.do_each.Given as goal
 
 abbrev pub invariant-loop-job : goal.invariant-loop-job
-invariant-loop-job g l = AreDone (row_of l.version.rows) l.yielded l.done.items
+invariant-loop-job g l = AreShardsDone (row_of l.version.rows) l.yielded l.done.items

@@ -1,15 +1,15 @@
 use Rattle.std.proofs.Common.{◌≡◌, ◌-◌, ◌+◌, ◌<◌, ℕ, List, Some, None, get_or, length, sym, ap, ◌∙◌, subst, arith, rules, set}
 use Rattle.std.proofs.{Math.ListN.length-set, lemmas.Grind.get_or_default_zero}
-use Rattle.batch_shards.specs.{Groups.{is_at, AreGroups}, declared.shard.{Act.TheVariants.{Edge, Expire}, Place.Place, Step.Step}}
+use Rattle.batch_shards.specs.{Groups.{is_on_row, AreStepGroups}, declared.shard.{Act.TheVariants.{Edge, Expire}, Place.Place, Step.Step}}
 use Rattle.batch_shards.proofs.{ShardSteps.first_step, Upcoming.groups_more, Upcoming.groups_pass}
 use Rattle.batch_shards.proofs.groups.groups_of.Goals as goal
 
 -- the groups are those behind the place that the loop comes to
-behind : (steps : List Step) (index : ℕ) (first next : List ℕ) → 0 < index → AreGroups index steps first next
-    → AreGroups (index - 1 + 1) steps first next
+behind : (steps : List Step) (index : ℕ) (first next : List ℕ) → 0 < index → AreStepGroups index steps first next
+    → AreStepGroups (index - 1 + 1) steps first next
 behind steps index first next some x =
     let same : index ≡ index - 1 + 1 = omega arith in
-    subst (λ n. AreGroups n steps first next) same x
+    subst (λ n. AreStepGroups n steps first next) same x
 
 pub loop-index-preserved-in-Edge-Some-default : goal.loop-index-preserved-in-Edge-Some-default
 loop-index-preserved-in-Edge-Some-default c =
@@ -24,7 +24,7 @@ loop-index-preserved-in-Edge-Some-default c =
       within = omega (arith, inside);
       firsts = length-set c.loop-index.first.items p.row i ∙ c.loop-index.invariant.firsts;
       nexts = length-set c.loop-index.next.items i c.index.result.now ∙ c.loop-index.invariant.nexts;
-      groups = subst (λ n. AreGroups i c.args.steps.now (set c.loop-index.first.items p.row i)
+      groups = subst (λ n. AreStepGroups i c.args.steps.now (set c.loop-index.first.items p.row i)
           (set c.loop-index.next.items i n)) (sym was)
           (groups_more c.args.steps.now i c.loop-index.first.items c.loop-index.next.items p c.in-Edge-Some-default.field-1
           inside act row (omega (arith, inside, c.loop-index.invariant.nexts))
@@ -41,7 +41,7 @@ loop-index-preserved-in-Edge-None-default c =
       within = omega (arith, inside);
       firsts = c.loop-index.invariant.firsts;
       nexts = c.loop-index.invariant.nexts;
-      groups = groups_pass c.args.steps.now i c.loop-index.first.items c.loop-index.next.items inside (λ row. ap (is_at row) act)
+      groups = groups_pass c.args.steps.now i c.loop-index.first.items c.loop-index.next.items inside (λ row. ap (is_on_row row) act)
           (behind c.args.steps.now c.loop-index.index c.loop-index.first.items c.loop-index.next.items
           (omega (arith, c.loop-index-test.true)) c.loop-index.invariant.groups);
     }
@@ -55,7 +55,7 @@ loop-index-preserved c =
       within = omega (arith, inside);
       firsts = c.loop-index.invariant.firsts;
       nexts = c.loop-index.invariant.nexts;
-      groups = groups_pass c.args.steps.now i c.loop-index.first.items c.loop-index.next.items inside (λ row. ap (is_at row) act)
+      groups = groups_pass c.args.steps.now i c.loop-index.first.items c.loop-index.next.items inside (λ row. ap (is_on_row row) act)
           (behind c.args.steps.now c.loop-index.index c.loop-index.first.items c.loop-index.next.items
           (omega (arith, c.loop-index-test.true)) c.loop-index.invariant.groups);
     }

@@ -3,10 +3,12 @@ use Rattle.std.proofs.{lemmas.Bool.false≢true, lemmas.List.get_or-set_other, l
 use Rattle.graph_types.specs.declared.{ids.VertexId.VertexId, batches.Outcome.Outcome}
 use Rattle.batch_shards.proofs.{Expiring.not_later, Expiring.spends_least, ShardSteps.first_step, SourceSteps.earlier_next}
 use Rattle.batch_shards.proofs.SourceSteps.{next_from, stepped, outcome_here, left_alone, left_told, skipped_count, at_row, wrote}
-use Rattle.batch_shards.{proofs.SourceSteps.beside, specs.Groups.told, specs.Groups.act_step}
-use Rattle.batch_shards.specs.Groups.{act_outcome, is_at, is_expiry, is_later, does_act, may_change, IsNext, LeadsTo, IsSourceRow}
+use Rattle.batch_shards.{proofs.SourceSteps.beside, specs.Groups.act_step}
+use Rattle.graph_types.specs.Outcomes.{told}
+use Rattle.batch_shards.specs.Groups.{act_outcome, is_on_row, is_expiry, is_later, does_act, may_change, IsNextStep, LeadsToStep, IsSourceRow}
 use Rattle.batch_shards.specs.{Groups.IsOneMore, OpenRows.IsRowOf, RowBlocks.opens, Shards.resolved_in, Spending.latest, declared.shard.Act.Act}
-use Rattle.edge_block.specs.{Batches.rows_all, Batches.together, Rows.OpenBlock, Rows.old_in_row}
+use Rattle.edge_block.specs.{Batches.rows_all, Rows.{OpenBlock, old_in_row}}
+use Rattle.graph_types.specs.Outcomes.{together}
 use Rattle.batch_shards.proofs.open_rows.do_steps.Goals as goal
 
 pub loop-index-init : goal.loop-index-init
@@ -14,11 +16,11 @@ loop-index-init c =
     let e : ℕ = c.first_edge-edge.result in
     let n : ℕ = c.min-index.result in
     let since : ℕ = c.args.opened.now.hints.since in
-    let edge : IsNext (is_at c.args.row) c.args.steps.now 0 e = c.first_edge-edge.ensures in
-    let expiry : LeadsTo (is_later since) is_expiry c.args.steps.now 0 c.later_expiry.result =
+    let edge : IsNextStep (is_on_row c.args.row) c.args.steps.now 0 e = c.first_edge-edge.ensures in
+    let expiry : LeadsToStep (is_later since) is_expiry c.args.steps.now 0 c.later_expiry.result =
     c.later_expiry.ensures in
-    let next : LeadsTo (may_change c.args.row since) (does_act c.args.row) c.args.steps.now 0 n =
-    subst (LeadsTo (may_change c.args.row since) (does_act c.args.row) c.args.steps.now 0) (sym c.min-index.ensures)
+    let next : LeadsToStep (may_change c.args.row since) (does_act c.args.row) c.args.steps.now 0 n =
+    subst (LeadsToStep (may_change c.args.row since) (does_act c.args.row) c.args.steps.now 0) (sym c.min-index.ensures)
     (earlier_next edge expiry) in
     record {
       within = next.within;
@@ -58,11 +60,11 @@ loop-index-preserved c =
     let lt : i < length c.args.steps.now = c.loop-index-test.true in
     let act : Act = (get_or c.args.steps.now i first_step).act in
     let at : does_act c.args.row act ≡ true = c.loop-index.invariant.there first_step lt in
-    let edge : IsNext (is_at c.args.row) c.args.steps.now (i + 1) e = c.edge_behind-edge.ensures in
-    let expiry : LeadsTo (is_later since) is_expiry c.args.steps.now (i + 1) c.later_expiry-in-loop-index.result =
+    let edge : IsNextStep (is_on_row c.args.row) c.args.steps.now (i + 1) e = c.edge_behind-edge.ensures in
+    let expiry : LeadsToStep (is_later since) is_expiry c.args.steps.now (i + 1) c.later_expiry-in-loop-index.result =
     c.later_expiry-in-loop-index.ensures in
-    let next : LeadsTo (may_change c.args.row since) (does_act c.args.row) c.args.steps.now (i + 1) n =
-    subst (LeadsTo (may_change c.args.row since) (does_act c.args.row) c.args.steps.now (i + 1))
+    let next : LeadsToStep (may_change c.args.row since) (does_act c.args.row) c.args.steps.now (i + 1) n =
+    subst (LeadsToStep (may_change c.args.row since) (does_act c.args.row) c.args.steps.now (i + 1))
     (sym c.min-index-in-loop-index.ensures) (earlier_next edge expiry) in
     let r : ℕ × Outcome = c.index.result.now in
     let read : (o : ℕ × Outcome) → r ≡ get_or c.args.outcomes.now.items i o =

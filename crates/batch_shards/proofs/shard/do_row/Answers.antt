@@ -1,20 +1,20 @@
 use Rattle.std.proofs.Common.{◌≡◌, ℕ, ◌++◌, List, [], ◌∷◌, arith, ap, sym, subst, ap₂, ◌∙◌, map, length, get_or, count_by}
 use Rattle.std.proofs.lemmas.List.{get_or-map, length-map, map-append}
 use Rattle.graph_types.specs.declared.ids.VertexId.{VertexId}
-use Rattle.edge_block.specs.{Slots.BlockView, declared.blocks.Block.Block, Rows.{OpenBlock, untouched, shape_of}, Batches.opened}
+use Rattle.edge_block.specs.{Slots.BlockView, declared.blocks.Block.Block, Rows.{OpenBlock, untouched, shape_of}, Batches.opened_rows}
 use Rattle.graph_version.specs.Rows.{row_of}
 use Rattle.batch_shards.proofs.{Beginnings.kept_all, Expiring.opened_owes, Expiring.needed_row, SourceRows.outcomes_more}
 use Rattle.batch_shards.{proofs.SourceRows.row_done, proofs.SourceSteps.past_more, specs.Closing.row_values, specs.Done.layout_by}
-use Rattle.batch_shards.specs.{Groups.IsSourceRow, RowBlocks.blocks_of, RowBlocks.kept_of, RowBlocks.opens, Shards.AreSteps}
+use Rattle.batch_shards.specs.{Groups.IsSourceRow, RowBlocks.shared_blocks, RowBlocks.kept_of, RowBlocks.opens, Shards.AreSteps}
 use Rattle.batch_shards.specs.{Spending.latest, Spending.unspent, Spending.old_blocks, declared.shard.OpenRow.OpenRow}
 use Rattle.std.specs.declared.{sync.Arc.Arc, alloc.Global.Global}
 use Rattle.batch_shards.proofs.shard.do_row.Goals as goal
 
 -- the row that is opened owes its old blocks
 owed : (t : ℕ) (bs : List (Arc Block Global)) (row : List OpenBlock) (blocks : List BlockView) → row ≡ map kept_of bs
-    → blocks_of bs ≡ blocks → unspent t row ≡ old_blocks t blocks
+    → shared_blocks bs ≡ blocks → unspent t row ≡ old_blocks t blocks
 owed t bs row blocks e same =
-    ap (unspent t) (e ∙ kept_all bs) ∙ opened_owes t (blocks_of bs) ∙ ap (old_blocks t) same
+    ap (unspent t) (e ∙ kept_all bs) ∙ opened_owes t (shared_blocks bs) ∙ ap (old_blocks t) same
 
 pub do_steps-requires-clause-fresh : goal.do_steps-requires-clause-fresh
 do_steps-requires-clause-fresh c =
@@ -51,11 +51,11 @@ returns-clause-done c =
       source_is = get_or-map (λ (s : VertexId). s.0) c.args.sources.now c.args.row (record { 0 = 0 }) 0 c.requires.row
           ∙ ap (λ (s : VertexId). s.0) (sym c.in_ok-opened.ensures.of_source.source_is);
     } in
-    let shown : opens start.blocks.items ≡ opened (layout_by v) start.source.0 =
+    let shown : opens start.blocks.items ≡ opened_rows (layout_by v) start.source.0 =
     c.in_ok-opened.ensures.blocks ∙ kept_all c.blocks_at-blocks.result.now
     ∙ ap (λ b. map untouched (map shape_of b))
     (c.blocks_at-blocks.ensures.row ∙ ap (λ (s : VertexId). v s.0) (sym c.in_ok-opened.ensures.of_source.source_is)) in
-    let done = c.in_ok-do_steps.ensures.done sources (opened (layout_by v)) is shown in
+    let done = c.in_ok-do_steps.ensures.done sources (opened_rows (layout_by v)) is shown in
     λ handed. row_done v sources c.args.steps.now c.args.row start r is c.in_ok-do_steps.ensures.of_source handed
     c.args.fresh.now.items c.do_steps.new.fresh.items c.args.done.now _
     done.blocks_are

@@ -2,7 +2,7 @@ use Rattle.std.proofs.Common.{◌≡◌, ◌≤◌, ◌+◌, ◌⊎◌, inl, inr
 use Rattle.std.{proofs.lemmas.List.{length-map, map-append}, specs.declared.{sync.Arc.Arc, alloc.Global.Global}}
 use Rattle.edge_block.specs.{Slots.BlockView, declared.blocks.Block.Block}
 use Rattle.graph_version.specs.Rows.{row_of}
-use Rattle.batch_shards.specs.{RowBlocks.block_of, RowBlocks.numbers_of, Shards.AreSteps, Done.sources_in, Done.AreBlockRows, Progress.AreRowsDone}
+use Rattle.batch_shards.specs.{RowBlocks.block_of, RowBlocks.shared_numbers, Shards.AreSteps, Done.sources_in, Done.AreBlockRows, Progress.AreRowsDone}
 use Rattle.batch_shards.specs.{Spending.needed_past, Spending.IsGrouped, declared.shard.Step.Step, Groups.none_told}
 use Rattle.batch_shards.proofs.{Beginnings.few_past, Beginnings.none_yet, Closed.read_edges, Finish.finish}
 use Rattle.graph_types.specs.declared.{ids.VertexId.VertexId, batches.Outcome.Outcome}
@@ -34,7 +34,7 @@ do_row-requires-clause-fresh c =
 pub loop-row-preserved : goal.loop-row-preserved
 loop-row-preserved c =
     let v : ℕ → List BlockView = row_of c.args.version.now.rows in
-    let handed : List ℕ = numbers_of c.args.shard.fresh.items in
+    let handed : List ℕ = shared_numbers c.args.shard.fresh.items in
     let there = c.as_slice-in-loop-row.ensures.value in
     let here = c.as_slice-in-loop-row-2.ensures.value in
     record {
@@ -65,10 +65,10 @@ returns c =
     finish v c.args.shard c.loop-row.done _ c.loop-row.fresh.items
     (read_edges v (sources_in c.args.shard) (subst (λ n. (n ≡ 0) ⊎ AreBlockRows v) last c.loop-row.invariant.rows))
     (subst (λ n. AreSteps n c.args.shard.steps.items) (sym long) c.requires.steps)
-    (subst (λ n. AreRowsDone v (sources_in c.args.shard) c.args.shard.steps.items (numbers_of c.args.shard.fresh.items) n
+    (subst (λ n. AreRowsDone v (sources_in c.args.shard) c.args.shard.steps.items (shared_numbers c.args.shard.fresh.items) n
     c.loop-row.fresh.items c.loop-row.done) last c.loop-row.invariant.done)
     refl refl refl refl
-    (ap numbers_of c.in_ok-append.ensures.items ∙ map-append (λ (b : Arc Block Global). (block_of b).number)
+    (ap shared_numbers c.in_ok-append.ensures.items ∙ map-append (λ (b : Arc Block Global). (block_of b).number)
     c.loop-row.done.left.unused.items c.loop-row.fresh.items)
 
 pub do_row-requires-clause-groups : goal.do_row-requires-clause-groups

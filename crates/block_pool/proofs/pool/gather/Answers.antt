@@ -3,7 +3,7 @@ use Rattle.std.{proofs.lemmas.{Bool.cases_eq, List.map-append}, specs.{Arc.arc_v
 use Rattle.std.proofs.lemmas.Grind.{common_steps}
 use Rattle.edge_block.specs.declared.blocks.Block.{Block}
 use Rattle.block_reclamation.specs.Status.{is_free}
-use Rattle.block_pool.specs.{declared.numbers.Numbers.Numbers, Kept.{IsNumbers, IsRoomier, IsReady, statuses, popped}, Pools.AreBodies, Paging.HasRoom}
+use Rattle.block_pool.specs.{declared.numbers.Numbers.Numbers, Kept.{IsNumbers, IsRoomier, IsReadyNumber, statuses, popped}, Pools.AreBodies, Paging.HasRoom}
 use Rattle.block_pool.proofs.{Grants.popped_last, Tallies.listed_at, Rooms.{roomier_same, roomier_again}}
 use Rattle.block_pool.proofs.pool.gather.Goals as goal
 
@@ -92,7 +92,7 @@ loop-i-preserved c =
           ∙ ap (λ j. c.loop-i.granted.items ++ j ∷ []) c.in_ok-body.ensures.number
           ∙ sym c.in_ok-push-2.ensures.items;
       ready = λ before low. elim (cases_eq before c.loop-i.i) [
-        | inl e ↦ subst (IsReady c.make_ready.new.self) (sym e) c.in_ok-number.ensures.ready
+        | inl e ↦ subst (IsReadyNumber c.make_ready.new.self) (sym e) c.in_ok-number.ensures.ready
         | inr ne ↦ c.in_ok-number.ensures.same.ready before (inv.ready before (omega arith))
       ];
       taken = λ before low. rw c.in_ok-body.ensures.rooms (elim (cases_eq before c.loop-i.i) [

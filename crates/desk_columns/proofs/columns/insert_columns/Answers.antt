@@ -1,6 +1,6 @@
 use Rattle.std.proofs.Common.{rules, ◌≡◌, length, true, refl, arith}
 use Rattle.desk_counts.specs.Counted.{none_counted}
-use Rattle.desk_columns.specs.Feeding.{are_alike, columns_of, AreIn.More}
+use Rattle.desk_columns.specs.Feeding.{are_alike_columns, columns_of, AreIn.More}
 use Rattle.desk_columns.proofs.Inserted.{begun, refused_at, still_in}
 use Rattle.desk_columns.proofs.columns.insert_columns.Goals as goal
 
@@ -32,7 +32,7 @@ loop-at-preserved c =
 
 pub returns-in-Err : goal.returns-in-Err
 returns-in-Err c =
-    let alike : are_alike (columns_of c.args.insertions.now) ≡ true = search rules in
+    let alike : are_alike_columns (columns_of c.args.insertions.now) ≡ true = search rules in
     record {
       fed = c.loop-at.desk;
       are_in = still_in c.args.desk.now (none_counted (length c.args.desk.now.desk.last.batches))
@@ -44,7 +44,7 @@ returns-in-Err c =
 
 pub returns : goal.returns
 returns c =
-    let alike : are_alike (columns_of c.args.insertions.now) ≡ true = search rules in
+    let alike : are_alike_columns (columns_of c.args.insertions.now) ≡ true = search rules in
     record {
       fed = c.loop-at.desk;
       are_in = still_in c.args.desk.now (none_counted (length c.args.desk.now.desk.last.batches))

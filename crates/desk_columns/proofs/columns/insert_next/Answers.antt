@@ -1,7 +1,7 @@
 use Rattle.std.proofs.Common.{◌≡◌, refl, subst, inl, arith, ◌∙◌}
 use Rattle.desk.specs.Owned.{OwnedView}
 use Rattle.desk_counts.specs.declared.counts.Counts.{Counts}
-use Rattle.desk_columns.specs.Feeding.{Takes}
+use Rattle.desk_columns.specs.Feeding.{TakesFeed}
 use Rattle.desk_columns.proofs.columns.insert_next.Goals as goal
 use Rattle.desk_columns.proofs.columns.insert_next.Goals.{then-not-is_small+then-whole-part+in-Err, then-not-is_small+else-whole-part, else-not-is_small}
 
@@ -18,8 +18,8 @@ returns-clause-taken c =
       | then-not-is_small+else-whole-part w ↦ w.counts-is
       | else-not-is_small w ↦ w.counts-is
     ] in
-    let from : Takes c.args.desk.now c.if-not-is_small.counts ops c.insert_part.new.desk c.insert_part.new.counts =
-    subst (λ (o : OwnedView). Takes o c.if-not-is_small.counts ops c.insert_part.new.desk c.insert_part.new.counts) desk takes in
+    let from : TakesFeed c.args.desk.now c.if-not-is_small.counts ops c.insert_part.new.desk c.insert_part.new.counts =
+    subst (λ (o : OwnedView). TakesFeed o c.if-not-is_small.counts ops c.insert_part.new.desk c.insert_part.new.counts) desk takes in
     record {
       some = omega (arith, c.min-part.ensures);
       parts = 1;
@@ -27,5 +27,5 @@ returns-clause-taken c =
       count_is = c.min-part.ensures;
       ops = ops;
       are = fit;
-      takes = subst (λ (it : Counts). Takes c.args.desk.now it ops c.insert_part.new.desk c.insert_part.new.counts) counts from;
+      takes = subst (λ (it : Counts). TakesFeed c.args.desk.now it ops c.insert_part.new.desk c.insert_part.new.counts) counts from;
     }

@@ -1,6 +1,6 @@
 use Rattle.std.{proofs.Common.{◌≡◌, List, length, refl, sym, ap, subst, ◌∙◌, arith}, specs.Prelude.{IfOk, slice_index_or}}
 use Rattle.graph_types.specs.declared.ids.Edge.{Edge}
-use Rattle.epoch_core.specs.{Blocks.Stepped, Blocks.changed_at, Blocks.taken, Blocks.reclaimed, Worlds.MachineState, Runs.Steps}
+use Rattle.epoch_core.specs.{Blocks.Stepped, Blocks.changed_at, Blocks.status_taken, Blocks.reclaimed, Worlds.MachineState, Runs.Steps}
 use Rattle.epoch_core.specs.{Cores.state_of, declared.events.Event.{TheVariants.Fill, TheVariants.Post}}
 use Rattle.epoch_core.specs.declared.{states.Version.Version, session_states.SessionState.TheVariants.Idle}
 use Rattle.epoch_core.specs.Machine.{ReadsContent, to_ask, to_enter, to_pin, to_read, to_release, to_settle}
@@ -9,7 +9,7 @@ use Rattle.epoch_core.proofs.advancing.advance.Goals as goal
 
 pub returns-in-Take-clause-steps : goal.returns-in-Take-clause-steps
 returns-in-Take-clause-steps c =
-    changed_by (state_of c.args.parts.now) _ _ c.in-Take.block taken _ _ c.in-Take.is refl refl c.take_block.ensures
+    changed_by (state_of c.args.parts.now) _ _ c.in-Take.block status_taken _ _ c.in-Take.is refl refl c.take_block.ensures
 
 pub returns-in-Recycle-clause-steps : goal.returns-in-Recycle-clause-steps
 returns-in-Recycle-clause-steps c =

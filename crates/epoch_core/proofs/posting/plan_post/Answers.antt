@@ -3,7 +3,7 @@ use Rattle.std.proofs.Common.{◌≡◌, ◌∙◌, length, true, Option, Some, 
 use Rattle.std.specs.Prelude.{◌&&◌, nat_lt, MatchOption, IsTrue, IsFalse}
 use Rattle.graph_types.specs.{Graph.{Graph, graph_in, graph_of}, Step.after_all, declared.contents.Content.Content}
 use Rattle.epoch_core.specs.declared.states.{Version.Version, Opening.Opening}
-use Rattle.epoch_core.specs.{Blocks.all_differ, Posting.{IsAppliedTo, all_listable, are_edges_of, graph_after}}
+use Rattle.epoch_core.specs.{Blocks.all_differ, Posting.{IsContentAfter, all_listable, are_edges_of, graph_after}}
 use Rattle.epoch_core.specs.Versions.{blocks_at, edges_of}
 use Rattle.epoch_core.proofs.Read.{content_graph, within_graph}
 use Rattle.epoch_core.proofs.posting.plan_post.Goals as goal
@@ -17,8 +17,8 @@ returns c =
     let g : Graph = graph_after o versions batch in
     let content : Content = c.in-Some.content in
     let edges = edges_of c.args.heap.now blocks in
-    let applied : IsAppliedTo o.limits c.in_ok-last.last batch (Some content) =
-    subst (IsAppliedTo o.limits c.in_ok-last.last batch) c.in-Some.is c.in_ok-content.ensures in
+    let applied : IsContentAfter o.limits c.in_ok-last.last batch (Some content) =
+    subst (IsContentAfter o.limits c.in_ok-last.last batch) c.in-Some.is c.in_ok-content.ensures in
     let same : graph_in o.limits content ≡ g = applied.1
     ∙ ap (λ l. after_all batch (graph_in o.limits l)) c.in_ok-last.ensures ∙ ap (after_all batch) c.requires.graph in
     let made = subst (λ (m : Option Version). MatchOption m (IsFalse (are_edges_of (graph_of content) edges))

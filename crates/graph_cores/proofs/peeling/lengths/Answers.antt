@@ -1,7 +1,7 @@
 use Rattle.std.proofs.Common.{◌≡◌, ◌++◌, ◌∷◌, [], arith, length, ◌∙◌, sym, ap, inl, inr}
 use Rattle.std.proofs.lemmas.{Bool.cases_lt, List.get_or_append_left, List.get_or_at, List.length-append}
 use Rattle.graph_types.specs.Arcs.{at}
-use Rattle.graph_cores.specs.Rows.{row_of}
+use Rattle.graph_cores.specs.Rows.{neighbor_row}
 use Rattle.graph_cores.proofs.peeling.lengths.Goals as goal
 
 pub loop-vertex-preserved : goal.loop-vertex-preserved
@@ -10,7 +10,7 @@ loop-vertex-preserved c =
     let i = c.loop-vertex.vertex in
     let old = c.loop-vertex.degrees.items in
     let x = length c.of.result.now in
-    let e : x ≡ length (row_of rows i) = ap length c.of.ensures in
+    let e : x ≡ length (neighbor_row rows i) = ap length c.of.ensures in
     let new : c.push.new.self.items ≡ old ++ x ∷ [] = c.in_ok-push.ensures.items in
     let long = c.loop-vertex.invariant.long in
     record {
@@ -20,6 +20,6 @@ loop-vertex-preserved c =
             ∙ c.loop-vertex.invariant.each v below
         | inr ge ↦
             let here : v ≡ i = omega arith in
-            ap (λ xs. at xs v) new ∙ get_or_at old x [] 0 v (omega arith) ∙ e ∙ ap (λ w. length (row_of rows w)) (sym here)
+            ap (λ xs. at xs v) new ∙ get_or_at old x [] 0 v (omega arith) ∙ e ∙ ap (λ w. length (neighbor_row rows w)) (sym here)
       ];
     }

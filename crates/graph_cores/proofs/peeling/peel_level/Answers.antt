@@ -1,7 +1,7 @@
 use Rattle.std.proofs.Common.{◌≡◌, ◌<◌, ◌≤◌, ◌+◌, ◌++◌, ◌∷◌, [], ℕ, List, arith, length, set, ◌∙◌, sym, ap, subst, false}
 use Rattle.std.{proofs.lemmas.List.{length-append, Elements.{All-contains, Contains-push}}, specs.Prelude.{All, sum}}
 use Rattle.graph_types.specs.Arcs.{at}
-use Rattle.graph_cores.{specs.{Rows.row_of, Peel.{lowered, IsPeeling}}, proofs.{RowSteps.row_within, Lowered.lowered_sum}}
+use Rattle.graph_cores.{specs.{Rows.neighbor_row, Peel.{lowered, IsPeeling}}, proofs.{RowSteps.row_within, Lowered.lowered_sum}}
 use Rattle.graph_cores.proofs.{Lowered.{lowered_all, lowered_at}, PeelSteps.{take_out, skip, front_low, still}}
 use Rattle.graph_cores.proofs.peeling.peel_level.Goals as goal
 
@@ -22,7 +22,7 @@ lower-requires-clause-within c =
     let n = length c.args.cores.now in
     let rows = c.args.rows.now in
     let v = c.in-Some.vertex in
-    let all : All (λ w. w < n) (row_of rows v) = row_within n rows.starts.items rows.ends.items v c.requires.rows.within in
+    let all : All (λ w. w < n) (neighbor_row rows v) = row_within n rows.starts.items rows.ends.items v c.requires.rows.within in
     λ k d lt.
     let below = subst (All (λ w. w < n)) (sym c.of-neighbors.ensures) all k d lt in
     omega arith
@@ -58,11 +58,11 @@ loop-vertex-preserved-in-Continue-1 c =
     let alive = c.loop-vertex.alive in
     let cores = c.loop-vertex.cores in
     let new = c.lower.new.stack.items in
-    let ws = row_of rows v in
+    let ws = neighbor_row rows v in
     let popped : c.loop-vertex.stack.items ≡ st ++ v ∷ [] = c.in-Some.ensures.items in
     let all : All (λ w. w < n) (st ++ v ∷ []) = subst (All (λ w. w < n)) popped c.loop-vertex.invariant.within in
     let v_lt : v < n = popped_within n v c.loop-vertex.stack.items st popped c.loop-vertex.invariant.within in
-    let rows_in : (u : ℕ) → All (λ w. w < n) (row_of rows u) =
+    let rows_in : (u : ℕ) → All (λ w. w < n) (neighbor_row rows u) =
     λ u. row_within n rows.starts.items rows.ends.items u c.requires.rows.within in
     let e : (c.lower.new.degrees, new) ≡ lowered k ws ds st = c.in_ok-lower.ensures
     ∙ ap (λ xs. lowered k xs ds st) c.of-neighbors.ensures in
@@ -77,10 +77,10 @@ loop-vertex-preserved-in-Continue-1 c =
           let down = before.1 in
           ((λ h. before.0 (still alive v w h)), omega arith);
       peeling = λ f g nb start.
-          let before = subst (λ xs. IsPeeling f g n (row_of rows) alive ds cores xs k) popped
+          let before = subst (λ xs. IsPeeling f g n (neighbor_row rows) alive ds cores xs k) popped
           (c.loop-vertex.invariant.peeling f g nb start) in
-          subst (λ (r : List ℕ × List ℕ). IsPeeling f g n (row_of rows) (set alive v false) r.0 (set cores v k) r.1 k) (sym e)
-          (take_out f g n (row_of rows) nb rows_in alive ds cores st k v (omega arith) (omega arith)
+          subst (λ (r : List ℕ × List ℕ). IsPeeling f g n (neighbor_row rows) (set alive v false) r.0 (set cores v k) r.1 k) (sym e)
+          (take_out f g n (neighbor_row rows) nb rows_in alive ds cores st k v (omega arith) (omega arith)
           (omega arith) v_lt before c.if-alive-place.true);
     }
 
@@ -96,9 +96,9 @@ loop-vertex-preserved c =
       within = front_low st v (λ w. w < n) (subst (All (λ w. w < n)) popped c.loop-vertex.invariant.within);
       shrinks = c.loop-vertex.invariant.shrinks;
       peeling = λ f g nb start.
-          skip f g n (row_of rows) nb
+          skip f g n (neighbor_row rows) nb
           (λ u. row_within n rows.starts.items rows.ends.items u c.requires.rows.within) c.loop-vertex.alive
           c.loop-vertex.degrees c.loop-vertex.cores st k v
-          (subst (λ xs. IsPeeling f g n (row_of rows) c.loop-vertex.alive c.loop-vertex.degrees c.loop-vertex.cores xs k) popped
+          (subst (λ xs. IsPeeling f g n (neighbor_row rows) c.loop-vertex.alive c.loop-vertex.degrees c.loop-vertex.cores xs k) popped
           (c.loop-vertex.invariant.peeling f g nb start)) c.if-alive-place.false;
     }

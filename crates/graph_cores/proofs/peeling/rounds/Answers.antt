@@ -2,7 +2,7 @@ use Rattle.std.proofs.Common.{◌≡◌, ◌<◌, ◌+◌, ◌++◌, [], ℕ, Li
 use Rattle.std.proofs.lemmas.{Grind.common_steps, Bool.cases_Bool, List.Elements.All-filter, List.Sums.count_by-le-length}
 use Rattle.std.specs.{Prelude.{All, IsTrue, filter}, List.Contains, declared.{alloc.Global.Global, vec.Vec.Vec}}
 use Rattle.graph_types.proofs.Counts.{Contains-nil}
-use Rattle.graph_cores.specs.{Rows.row_of, Peel.is_alive, Peel.is_low, Peel.is_high, Peel.IsPeeling, Peel.IsBetween}
+use Rattle.graph_cores.specs.{Rows.neighbor_row, Peel.is_alive, Peel.is_low, Peel.is_high, Peel.IsPeeling, Peel.IsBetween}
 use Rattle.graph_cores.proofs.{RowSteps.row_within, PeelSteps.round, PeelSteps.after, PeelSteps.none_left, PeelSteps.first}
 use Rattle.graph_cores.proofs.peeling.rounds.Goals as goal
 
@@ -16,7 +16,7 @@ loop-k-init c =
     record {
       empty = c.in_ok-stack.ensures.items;
       within = c.requires.vertices_within;
-      between = λ f g nb. first f g n (row_of rows) nb
+      between = λ f g nb. first f g n (neighbor_row rows) nb
           (λ u. row_within n rows.starts.items rows.ends.items u c.requires.rows.within) c.args.alive.now c.args.degrees.now
           c.args.cores.now c.args.vertices.items c.requires.alive c.requires.degrees c.requires.vertices;
     }
@@ -56,21 +56,21 @@ loop-k-preserved c =
       empty = c.in_ok-peel_level.ensures.empty;
       within = subst (All (λ w. w < n)) (sym swapped) (All-filter high (λ w. w < n) left c.loop-k.invariant.within);
       between = λ f g nb.
-          let rows_in : (u : ℕ) → All (λ w. w < n) (row_of rows u) =
+          let rows_in : (u : ℕ) → All (λ w. w < n) (neighbor_row rows u) =
           λ u. row_within n rows.starts.items rows.ends.items u c.requires.rows.within in
           let i = c.loop-k.invariant.between f g nb in
-          let start : IsPeeling f g n (row_of rows) alive degrees c.loop-k.cores c.split.new.stack.items k =
-          subst (λ xs. IsPeeling f g n (row_of rows) alive degrees c.loop-k.cores xs k) (sym e)
-          (round f g n (row_of rows) nb rows_in alive degrees c.loop-k.cores left k i) in
+          let start : IsPeeling f g n (neighbor_row rows) alive degrees c.loop-k.cores c.split.new.stack.items k =
+          subst (λ xs. IsPeeling f g n (neighbor_row rows) alive degrees c.loop-k.cores xs k) (sym e)
+          (round f g n (neighbor_row rows) nb rows_in alive degrees c.loop-k.cores left k i) in
           let end = c.in_ok-peel_level.ensures.peeling f g nb
-          (subst (λ m. IsPeeling f g m (row_of rows) alive degrees c.loop-k.cores c.split.new.stack.items k)
+          (subst (λ m. IsPeeling f g m (neighbor_row rows) alive degrees c.loop-k.cores c.split.new.stack.items k)
           (sym long) start) in
           let end_n = subst
           (λ m. IsPeeling f g m
-          (row_of rows) c.peel_level.new.alive c.peel_level.new.degrees c.peel_level.new.cores [] k) long end in
-          subst (λ xs. IsBetween f g n (row_of rows) c.peel_level.new.alive c.peel_level.new.degrees c.peel_level.new.cores xs
+          (neighbor_row rows) c.peel_level.new.alive c.peel_level.new.degrees c.peel_level.new.cores [] k) long end in
+          subst (λ xs. IsBetween f g n (neighbor_row rows) c.peel_level.new.alive c.peel_level.new.degrees c.peel_level.new.cores xs
           (k + 1)) (sym swapped)
-          (after f g n (row_of rows) nb rows_in alive c.peel_level.new.alive degrees c.peel_level.new.degrees
+          (after f g n (neighbor_row rows) nb rows_in alive c.peel_level.new.alive degrees c.peel_level.new.degrees
           c.peel_level.new.cores left k end_n i.all c.in_ok-peel_level.ensures.shrinks);
     }
 
@@ -80,7 +80,7 @@ returns-then-is_empty c = λ f g nb.
     let rows = c.args.rows.now in
     let i = c.loop-k.invariant.between f g nb in
     let none : c.loop-k.left.items ≡ [] = grind (arith, common_steps) in
-    none_left f g n (row_of rows) nb
+    none_left f g n (neighbor_row rows) nb
     (λ u. row_within n rows.starts.items rows.ends.items u c.requires.rows.within) c.loop-k.alive c.loop-k.degrees
     c.loop-k.cores c.loop-k.left.items c.loop-k.k (omega arith) i
     (all_gone c.loop-k.alive n (λ v on. Contains-nil v (subst (λ xs. Contains xs v) none (i.all v on))))
@@ -90,12 +90,12 @@ returns c = λ f g nb.
     let n = length c.args.cores.now in
     let rows = c.args.rows.now in
     let i = c.loop-k.invariant.between f g nb in
-    none_left f g n (row_of rows) nb
+    none_left f g n (neighbor_row rows) nb
     (λ u. row_within n rows.starts.items rows.ends.items u c.requires.rows.within) c.loop-k.alive c.loop-k.degrees
     c.loop-k.cores c.loop-k.left.items c.loop-k.k (omega arith) i
     (all_gone c.loop-k.alive n (λ v on.
     let many = i.many v on in
     let count = i.count v in
-    let most = count_by-le-length (is_alive c.loop-k.alive) (row_of rows v) in
+    let most = count_by-le-length (is_alive c.loop-k.alive) (neighbor_row rows v) in
     let short = c.requires.short v in
     omega arith))

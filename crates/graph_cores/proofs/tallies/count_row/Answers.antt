@@ -2,7 +2,7 @@ use Rattle.std.proofs.Common.{◌≡◌, ◌∙◌, ◌+◌, List, [], get_or, d
 use Rattle.std.{proofs.lemmas.List.drop_all, specs.declared.sync.Arc.Arc, specs.declared.alloc.Global.Global}
 use Rattle.edge_block.specs.{Slots.BlockView, declared.blocks.Block.Block}
 use Rattle.graph_version.specs.Sharing.{block_value, block_values}
-use Rattle.graph_cores.specs.Tallies.{shown_block, shown_edges, HasRoomFor, Counts}
+use Rattle.graph_cores.specs.Tallies.{shown_block, shown_edges, HasTallyRoom, Counts}
 use Rattle.graph_cores.proofs.{Blocks.next_block, Parts.begun_room, Parts.begun_more, Parts.begun_end}
 use Rattle.graph_cores.proofs.tallies.count_row.Goals as goal
 
@@ -14,7 +14,7 @@ count_block-requires c =
     let block : Arc Block Global = c.block-item.result in
     let item : block ≡ get_or blocks i block = c.block-item.is in
     let same : block_value (get_or blocks i block) ≡ c.deref.result.now = ap block_value (sym item) ∙ sym c.deref.ensures in
-    subst (λ (b : BlockView). HasRoomFor f (shown_block f b) c.loop-block.table) same
+    subst (λ (b : BlockView). HasTallyRoom f (shown_block f b) c.loop-block.table) same
     (begun_room f (shown_edges f (block_values blocks)) (shown_edges f (block_values (drop i blocks)))
     (shown_block f (block_value (get_or blocks i block))) (shown_edges f (block_values (drop (i + 1) blocks)))
     c.args.table.now c.loop-block.table (next_block f blocks i block c.loop-block-test.true) c.loop-block.auto.table c.requires

@@ -1,6 +1,6 @@
 use Rattle.std.{proofs.Common.{◌≡◌, ◌<◌, ◌+◌, ◌++◌, ◌∙◌, [], arith, length, drop, ap, sym, get_or, ℕ, subst}, specs.{Prelude.All, List.Contains}}
 use Rattle.std.{proofs.lemmas.List.{append-nil, drop_all, length-append}}
-use Rattle.graph_levels.specs.{Reached.{table_of, vertices_of}, Search.IsSearch}
+use Rattle.graph_levels.specs.{Reached.{level_table, vertices_of}, Search.IsSearch}
 use Rattle.graph_types.specs.{Analyses.LeadsTo, declared.ids.VertexId.VertexId}
 use Rattle.graph_levels.proofs.{Frontiers.step, Tables.front_more, Tables.met_rows, Targets.told}
 use Rattle.graph_levels.proofs.distances.advance.Goals as goal
@@ -52,7 +52,7 @@ loop-place-init g c =
       rows = c.requires.rows;
       front = sym (append-nil old) ∙ ap (λ xs. old ++ xs) (sym none);
       search = λ s start. subst (λ xs. IsSearch (g.R.ViewEdges.filter c.args.edges.now) (g.R.ViewEdges.graph c.args.edges.now) s
-          (table_of (length (g.R.ViewEdges.graph c.args.edges.now).names) old) (vertices_of (drop c.args.first old))
+          (level_table (length (g.R.ViewEdges.graph c.args.edges.now).names) old) (vertices_of (drop c.args.first old))
           (vertices_of xs) c.args.depth) (sym none) start;
     }
 
@@ -84,6 +84,6 @@ returns g c =
       rows = c.loop-place.invariant.rows;
       more = omega arith;
       search = λ s start. subst (λ xs. IsSearch (g.R.ViewEdges.filter c.args.edges.now) (g.R.ViewEdges.graph c.args.edges.now) s
-          (table_of (length (g.R.ViewEdges.graph c.args.edges.now).names) rows) (vertices_of xs)
+          (level_table (length (g.R.ViewEdges.graph c.args.edges.now).names) rows) (vertices_of xs)
           (vertices_of (drop (length old) rows)) c.args.depth) none (c.loop-place.invariant.search s start);
     }

@@ -1,5 +1,5 @@
 use Rattle.std.proofs.Common.{◌≡◌, ℕ, ◌*◌, ◌≤◌, ◌++◌, [], length, drop}
-use Rattle.graph_levels.specs.{Reached.AreMarks, Reached.AreRows, Reached.table_of, Reached.vertices_of, Search.IsSearch}
+use Rattle.graph_levels.specs.{Reached.AreVertexMarks, Reached.AreRows, Reached.level_table, Reached.vertices_of, Search.IsSearch}
 use Rattle.graph_levels.proofs.distances.advance.Given as goal
 
 abbrev pub invariant-loop-place : goal.invariant-loop-place
@@ -10,10 +10,10 @@ invariant-loop-place g l =
     let old = l.fn.rows.items in
     record {
       words : n ≤ 64 * length l.marks;
-      marks : AreMarks l.marks l.rows.items;
+      marks : AreVertexMarks l.marks l.rows.items;
       rows : AreRows n l.rows.items;
       front : l.rows.items ≡ old ++ drop (length old) l.rows.items;
-      search : (source : ℕ) → IsSearch f gr source (table_of n old) (vertices_of (drop l.first old)) [] l.depth
-          → IsSearch f gr source (table_of n l.rows.items) (vertices_of (drop l.place old))
+      search : (source : ℕ) → IsSearch f gr source (level_table n old) (vertices_of (drop l.first old)) [] l.depth
+          → IsSearch f gr source (level_table n l.rows.items) (vertices_of (drop l.place old))
           (vertices_of (drop (length old) l.rows.items)) l.depth;
     }

@@ -1,6 +1,6 @@
 use Rattle.std.proofs.Common.{◌≡◌, ◌≤◌, ◌+◌, ◌/◌, ◌∙◌, [], ℕ, arith, length, drop, refl, ap, subst}
 use Rattle.std.{proofs.lemmas.List.length-replicate, specs.Prelude.replicate}
-use Rattle.graph_levels.specs.{Search.IsSearch, Reached.IsMarked, Reached.table_of, Reached.vertices_of}
+use Rattle.graph_levels.specs.{Search.IsSearch, Reached.IsMarked, Reached.level_table, Reached.vertices_of}
 use Rattle.graph_levels.proofs.{Frontiers.begin, Frontiers.deeper, Frontiers.found, Marking.first_marked}
 use Rattle.graph_levels.proofs.Tables.{few_rows, first_rows, length-table, none_left}
 use Rattle.graph_levels.proofs.distances.reach.Goals as goal
@@ -44,8 +44,8 @@ frontiers-preserved g c =
       words = omega (arith, i.words, c.advance.auto.marks);
       marks = c.in_ok-advance.ensures.marks;
       rows = c.in_ok-advance.ensures.rows;
-      search = subst (λ m. IsSearch f gr s (table_of n new) (vertices_of (drop m new)) [] (d + 1)) end
-          (deeper f gr s (table_of n new) (vertices_of (drop (length old) new)) d (c.in_ok-advance.ensures.search s i.search));
+      search = subst (λ m. IsSearch f gr s (level_table n new) (vertices_of (drop m new)) [] (d + 1)) end
+          (deeper f gr s (level_table n new) (vertices_of (drop (length old) new)) d (c.in_ok-advance.ensures.search s i.search));
       room = few_rows n new c.in_ok-advance.ensures.rows;
       deep = omega (arith, i.deep, c.frontiers-test.true, c.len.ensures, c.len-end.ensures);
     }
@@ -59,5 +59,5 @@ returns-clause-levels g c =
     let d = c.frontiers.depth in
     let rows = c.frontiers.rows.items in
     let past : length rows ≤ c.frontiers.first = omega (arith, c.frontiers-test.false, c.len.ensures) in
-    found f gr s (table_of n rows) n d (length-table n rows)
-    (subst (λ vs. IsSearch f gr s (table_of n rows) vs [] d) (none_left c.frontiers.first rows past) c.frontiers.invariant.search)
+    found f gr s (level_table n rows) n d (length-table n rows)
+    (subst (λ vs. IsSearch f gr s (level_table n rows) vs [] d) (none_left c.frontiers.first rows past) c.frontiers.invariant.search)

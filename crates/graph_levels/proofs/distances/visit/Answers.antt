@@ -1,7 +1,7 @@
 use Rattle.std.proofs.Common.{◌≡◌, ◌↔◌, ◌+◌, ◌++◌, ◌∷◌, ◌∙◌, [], List, ℕ, Bool, true, false, cond, drop, get_or, refl, sym, ap, subst, arith}
 use Rattle.std.{proofs.lemmas.{Bool.false≢true, List.{at_drop_all, at_drop_more}}, specs.{Prelude.IsTrue, declared.{vec.Vec.Vec, alloc.Global.Global}}}
 use Rattle.graph_types.specs.declared.ids.VertexId.{VertexId}
-use Rattle.graph_levels.{specs.Reached.{AreMarks, IsMarked, met, stands_in}, proofs.Marking.marks_more}
+use Rattle.graph_levels.{specs.Reached.{AreVertexMarks, IsMarked, met, stands_in}, proofs.Marking.marks_more}
 use Rattle.graph_levels.proofs.distances.visit.Goals as goal
 use Rattle.graph_levels.proofs.distances.visit.Goals.{then-not-is_marked+in_ok-push, else-not-is_marked}
 
@@ -46,10 +46,10 @@ loop-target-preserved c =
       rows = ap (λ xs. met level (drop (i + 1) targets) xs) put
           ∙ sym (at_drop_more (λ xs. met level xs rows) targets i 0 c.loop-target-test.true) ∙ c.loop-target.invariant.rows;
       marks = elim c.if-not-is_marked.branch [
-        | then-not-is_marked+in_ok-push w ↦ subst (λ (m : List ℕ × List (VertexId × ℕ)). AreMarks m.0 m.1)
+        | then-not-is_marked+in_ok-push w ↦ subst (λ (m : List ℕ × List (VertexId × ℕ)). AreVertexMarks m.0 m.1)
             (λ j. (sym w.marks-is j, sym (ap (λ (x : Vec (VertexId × ℕ) Global). x.items) w.rows-is ∙ w.in_ok-push.ensures.items) j))
             (marks_more marks w.mark.new.marks rows level v c.loop-target.invariant.marks w.mark.ensures.marked w.mark.ensures.others)
-        | else-not-is_marked w ↦ subst (λ (m : List ℕ × List (VertexId × ℕ)). AreMarks m.0 m.1)
+        | else-not-is_marked w ↦ subst (λ (m : List ℕ × List (VertexId × ℕ)). AreVertexMarks m.0 m.1)
             (λ j. (sym w.marks-is j, sym (ap (λ (x : Vec (VertexId × ℕ) Global). x.items) w.rows-is) j))
             c.loop-target.invariant.marks
       ];

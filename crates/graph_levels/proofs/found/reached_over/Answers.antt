@@ -1,5 +1,5 @@
 use Rattle.std.proofs.{Common.{◌∙◌, length, rules}, lemmas.List.Sorted.IsNonDecreasingBy-from_sort_by_key}
-use Rattle.graph_levels.{specs.Reached.table_of, proofs.Tables.sorted_rows}
+use Rattle.graph_levels.{specs.Reached.level_table, proofs.Tables.sorted_rows}
 use Rattle.graph_levels.proofs.found.reached_over.Goals as goal
 
 pub returns : goal.returns
@@ -7,7 +7,7 @@ returns g c =
     let n = length (g.R.ViewEdges.graph c.args.edges.now).names in
     let rows = c.in_ok-rows.rows.items in
     let sorted = c.sort_unstable_by_key.new.self.items in (
-      table_of n rows,
+      level_table n rows,
       c.in_ok-rows.ensures.levels,
       c.of-2.ensures
           ∙ sorted_rows n rows sorted c.in_ok-rows.ensures.rows c.sort_unstable_by_key.ensures.permutation

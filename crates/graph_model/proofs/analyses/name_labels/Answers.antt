@@ -1,6 +1,6 @@
 use Rattle.std.proofs.Common.{◌≡◌, ◌<◌, length, sym, subst, ◌∙◌, ◌++◌, ◌∷◌, [], arith}
 use Rattle.std.proofs.lemmas.{List.length_push, List.length-map, Slice.Zip.zip_turn, Slice.Zip.zip_end}
-use Rattle.graph_types.specs.Answer.{names_of}
+use Rattle.graph_types.specs.Answer.{names_of_vertices}
 use Rattle.graph_model.proofs.{ZippedRows.rows_more, ZippedRows.rows_all, AnalysisReplies.label_turn}
 use Rattle.graph_model.proofs.analyses.name_labels.Goals as goal
 
@@ -18,7 +18,7 @@ loop-name-preserved c =
     within c.index-names-label.is in
     c.in_ok-push.ensures.items
     ∙ (λ i. c.loop-name.rows.items ++ (c.in_ok-clone.ensures.cases i, c.in_ok-clone-2.ensures.cases i) ∷ [])
-    ∙ rows_more names (names_of names labels) c.loop-name.rows.items _ _ c.in-Some.name.now c.index-names-label.result
+    ∙ rows_more names (names_of_vertices names labels) c.loop-name.rows.items _ _ c.in-Some.name.now c.index-names-label.result
     c.loop-name.invariant (length_push c.loop-name.yielded _) there
 
 pub returns : goal.returns
@@ -26,6 +26,6 @@ returns c =
     let end =
     zip_end c.args.names.now c.args.labels.now c.loop-name.yielded c.into_iter-name-iterator.result c.loop-name.name-iterator
     c.next.new.self c.next.result (cc) (cc) c.loop-name.yielded_by c.in-None.is c.next.ensures.steps in
-    let long : length (names_of c.args.names.now c.args.labels.now) ≡ length c.args.labels.now = length-map c.args.labels.now _ in
-    rows_all c.args.names.now (names_of c.args.names.now c.args.labels.now) c.loop-name.rows.items _ c.loop-name.invariant
+    let long : length (names_of_vertices c.args.names.now c.args.labels.now) ≡ length c.args.labels.now = length-map c.args.labels.now _ in
+    rows_all c.args.names.now (names_of_vertices c.args.names.now c.args.labels.now) c.loop-name.rows.items _ c.loop-name.invariant
     (omega arith)

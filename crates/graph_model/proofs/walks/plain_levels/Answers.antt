@@ -1,6 +1,6 @@
 use Rattle.std.proofs.{Common.{◌≡◌, length, map, ◌∙◌, sym, ap, ℕ, List, subst, drop, Option}, lemmas.List.take_at}
 use Rattle.std.{proofs.lemmas.Result.IfOk-weaker, specs.declared.{alloc.Global.Global, vec.Vec.Vec}}
-use Rattle.graph_types.specs.{Graph.graph_of, Analyses.AreLevels, Arcs.level_start, Arcs.level_of}
+use Rattle.graph_types.specs.{Graph.graph_of, Analyses.AreLevels, Arcs.level_start, Arcs.level_below}
 use Rattle.graph_model.proofs.Tables.{levels_within, levels_few, levels_done}
 use Rattle.graph_model.proofs.walks.plain_levels.Goals as goal
 
@@ -34,9 +34,9 @@ returns c =
     c.deref-2.ensures.value ∙ take_at c.settle.new.numbers
     (drop (length c.settle.new.numbers) c.in_ok-numbers.numbers.items) c.in_ok-numbers.numbers.len long in
     IfOk-weaker c.reached.result (λ (levels : Vec (Option ℕ) Global). levels.items
-    ≡ map (level_of (length c.as_slice-count.result.now)) c.deref-2.result.now)
+    ≡ map (level_below (length c.as_slice-count.result.now)) c.deref-2.result.now)
     (λ (levels : Vec (Option ℕ) Global). AreLevels f (graph_of content) c.args.source.0 levels.items)
     (λ levels e. subst (AreLevels f (graph_of content) c.args.source.0)
-    (sym (e ∙ ap (map (level_of (length c.as_slice-count.result.now))) read
-    ∙ ap (λ n. map (level_of n) c.settle.new.numbers) count)) done)
+    (sym (e ∙ ap (map (level_below (length c.as_slice-count.result.now))) read
+    ∙ ap (λ n. map (level_below n) c.settle.new.numbers) count)) done)
     c.reached.ensures

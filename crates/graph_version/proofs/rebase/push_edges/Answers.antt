@@ -3,7 +3,7 @@ use Rattle.std.proofs.lemmas.{Int.to_z-of_z, List.Elements.{All-head, All-tail, 
 use Rattle.graph_types.specs.{Graph.stamp_of, declared.ids.Edge.Edge}
 use Rattle.edge_block.specs.{Slots.IsStamp, Lending.{LentEdge, lent_edge, edges_left}, declared.blocks.BlockIter.BlockIter}
 use Rattle.graph_version.proofs.Rebased.{lent_edges, weight_fits}
-use Rattle.graph_version.specs.LentEdges.{edge_of}
+use Rattle.graph_version.specs.LentEdges.{lent_as_edge}
 use Rattle.graph_version.proofs.rebase.push_edges.Goals as goal
 
 pub loop-edge-init : goal.loop-edge-init
@@ -12,8 +12,8 @@ loop-edge-init c =
     let same : c.into_iter-edge-iterator.result ≡ c.all_edges-edge-items.result = search rules in
     record {
       edges = ap (λ (es : List Edge). c.args.edges.now.items ++ es)
-          (ap (λ (it : BlockIter). map (edge_of source) (edges_left it)) same
-          ∙ ap (map (edge_of source)) c.all_edges-edge-items.ensures.lends ∙ lent_edges c.args.block.now);
+          (ap (λ (it : BlockIter). map (lent_as_edge source) (edges_left it)) same
+          ∙ ap (map (lent_as_edge source)) c.all_edges-edge-items.ensures.lends ∙ lent_edges c.args.block.now);
       stamps = λ all. all;
       left = subst (λ (it : BlockIter). All (λ (e : LentEdge). IsStamp e.stamp) (edges_left it)) (sym same)
           c.all_edges-edge-items.ensures.in_range;
@@ -29,13 +29,13 @@ loop-edge-preserved c =
     let stamp : IsStamp l.stamp = All-head (λ (e : LentEdge). IsStamp e.stamp) l rest stamps in
     let fits = to_z-of_z w64 c.in-Some.edge.weight.now (weight_fits c.in-Some.edge.weight.now stamp.0) in
     let added = (rw fits at c.in_ok-push.ensures.items) in
-    let pushed : c.push.new.self.items ≡ old ++ edge_of source l ∷ [] =
-    added ∙ ap (λ n. old ++ edge_of n l ∷ []) c.source-source.ensures in
+    let pushed : c.push.new.self.items ≡ old ++ lent_as_edge source l ∷ [] =
+    added ∙ ap (λ n. old ++ lent_as_edge n l ∷ []) c.source-source.ensures in
     record {
-      edges = ap (λ es. es ++ map (edge_of source) rest) pushed ∙ append_assoc old (edge_of source l ∷ []) (map (edge_of source) rest)
-          ∙ ap (λ es. old ++ map (edge_of source) es) (sym c.in-Some.ensures.steps) ∙ c.loop-edge.invariant.edges;
+      edges = ap (λ es. es ++ map (lent_as_edge source) rest) pushed ∙ append_assoc old (lent_as_edge source l ∷ []) (map (lent_as_edge source) rest)
+          ∙ ap (λ es. old ++ map (lent_as_edge source) es) (sym c.in-Some.ensures.steps) ∙ c.loop-edge.invariant.edges;
       stamps = λ all. subst (All (λ (e : Edge). IsStamp (stamp_of e))) (sym pushed)
-          (All-append (λ (e : Edge). IsStamp (stamp_of e)) old (edge_of source l ∷ []) (c.loop-edge.invariant.stamps all)
-          (All-cons (λ (e : Edge). IsStamp (stamp_of e)) (edge_of source l) [] stamp (All-nil (λ (e : Edge). IsStamp (stamp_of e)))));
+          (All-append (λ (e : Edge). IsStamp (stamp_of e)) old (lent_as_edge source l ∷ []) (c.loop-edge.invariant.stamps all)
+          (All-cons (λ (e : Edge). IsStamp (stamp_of e)) (lent_as_edge source l) [] stamp (All-nil (λ (e : Edge). IsStamp (stamp_of e)))));
       left = All-tail (λ (e : LentEdge). IsStamp e.stamp) l rest stamps;
     }

@@ -4,7 +4,7 @@ use Rattle.std.proofs.lemmas.{Bool.{eqb-true, eqb-false, eq-eqb}, Map.Keys.any_p
 use Rattle.std.proofs.lemmas.List.{length-set, get_or-set_same, get_or-set_other, get_or_default, Folds.{list_any_at, Any-from_list_any}}
 use Rattle.std.proofs.lemmas.Option.{slice_get_within, get_or_from_slice_get, slice_get-get_or}
 use Rattle.std.specs.{Prelude.slice_get, List.list_any}
-use Rattle.number_ranks.specs.{Sorting.{numbers_of, at}, declared.counting.Entry.Entry}
+use Rattle.number_ranks.specs.{Sorting.{ranked_numbers, entry_at}, declared.counting.Entry.Entry}
 use Rattle.number_ranks.proofs.Vertices.{as_many}
 use Rattle.number_ranks.proofs.ranks.rank.Goals as goal
 
@@ -17,15 +17,15 @@ pub loop-index-preserved : goal.loop-index-preserved
 loop-index-preserved c =
     let z : Entry = record { number = 0; place = 0 } in
     let entries : List Entry = c.in_ok-entries.entries.items in
-    let list : List ℕ = numbers_of c.args.list.now in
-    let old : List ℕ = numbers_of c.loop-index.numbers.items in
-    let new : List ℕ = numbers_of c.add_number.new.numbers.items in
+    let list : List ℕ = ranked_numbers c.args.list.now in
+    let old : List ℕ = ranked_numbers c.loop-index.numbers.items in
+    let new : List ℕ = ranked_numbers c.add_number.new.numbers.items in
     let places : List ℕ = c.loop-index.places.items in
     let i : ℕ = c.loop-index.index in
     let e : Entry = c.index-entry.result.now in
     let add = c.in_ok-add_number.ensures in
     let lt : i < length entries = omega arith in
-    let is : e ≡ at entries i = c.index-entry.ensures ∙ get_or_default entries i e z lt in
+    let is : e ≡ entry_at entries i = c.index-entry.ensures ∙ get_or_default entries i e z lt in
     let at_place = ap (λ (x : Entry). x.place) is in
     let at_number = ap (λ (x : Entry). x.number) is in
     let right = c.in_ok-entries.ensures.are.right i lt in
@@ -49,7 +49,7 @@ loop-index-preserved c =
       few = omega (arith, add.few, c.loop-index.invariant.few);
       long = length-set places e.place v ∙ c.loop-index.invariant.long;
       placed = λ j less.
-          let p : ℕ = (at entries j).place in
+          let p : ℕ = (entry_at entries j).place in
           elim (p == e.place) as (λ t. (p == e.place) ≡ t → slice_get new (get_or (set places e.place v) p 0) ≡ Some (get_or list p 0)) [
             | true ↦ λ t.
                 let same : p ≡ e.place = eqb-true p e.place t in
@@ -59,7 +59,7 @@ loop-index-preserved c =
                 ap (slice_get new) value ∙ add.last ∙ ap (λ n. Some n) (sym there ∙ ap (λ q. get_or list q 0) (sym same))
             | false ↦ λ t.
                 let other : p ≢ e.place = eqb-false p e.place t in
-                let apart : j ≢ i = λ one. other (ap (λ q. (at entries q).place) one ∙ sym at_place) in
+                let apart : j ≢ i = λ one. other (ap (λ q. (entry_at entries q).place) one ∙ sym at_place) in
                 let before : j < i = omega (arith, less, apart) in
                 let stays : get_or (set places e.place v) p 0 ≡ get_or places p 0 = get_or-set_other places e.place p v 0 other in
                 let was = c.loop-index.invariant.placed j before in
@@ -72,13 +72,13 @@ loop-index-preserved c =
 pub returns-clause-places : goal.returns-clause-places
 returns-clause-places c = λ k lt.
     let (i, within, here) = c.in_ok-entries.ensures.are.all k (omega (arith, lt, as_many c.args.list.now)) in
-    subst (λ p. slice_get (numbers_of c.loop-index.numbers.items) (get_or c.loop-index.places.items p 0) ≡ Some (get_or (numbers_of c.args.list.now) p 0)) here
+    subst (λ p. slice_get (ranked_numbers c.loop-index.numbers.items) (get_or c.loop-index.places.items p 0) ≡ Some (get_or (ranked_numbers c.args.list.now) p 0)) here
     (c.loop-index.invariant.placed i (omega (arith, within)))
 
 pub returns-clause-same : goal.returns-clause-same
 returns-clause-same c = λ n.
-    let numbers : List ℕ = numbers_of c.loop-index.numbers.items in
-    let list : List ℕ = numbers_of c.args.list.now in
+    let numbers : List ℕ = ranked_numbers c.loop-index.numbers.items in
+    let list : List ℕ = ranked_numbers c.args.list.now in
     both_ways (list_any (nat_eq n) numbers) (list_any (nat_eq n) list)
     (λ t.
     let (k, x, within, here, same) = Any-from_list_any (nat_eq n) numbers t in

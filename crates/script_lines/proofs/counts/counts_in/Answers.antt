@@ -1,7 +1,8 @@
 use Rattle.std.proofs.Common.{◌≡◌, ◌∙◌, ◌+◌, ◌<◌, ◌||◌, ℕ, Bool, List, length, take, get_or, cond, ap, sym, arith}
 use Rattle.std.{proofs.lemmas.List.{Sums.sum_by_more, Folds.list_any_more}, specs.List.{list_any, sum_by}}
 use Rattle.graph_types.specs.declared.batches.Outcome.{Outcome, TheVariants.{Inserted, Updated, Removed, Absent, Overflow}}
-use Rattle.script_lines.specs.Lines.{expired_in, is_expired, is_outcome}
+use Rattle.graph_types.specs.Outcomes.{expired_in}
+use Rattle.script_lines.specs.Lines.{is_expired, is_outcome}
 use Rattle.script_lines.proofs.counts.counts_in.Goals as goal
 
 -- one more outcome is counted, or its edges are

@@ -1,6 +1,7 @@
 use Rattle.std.{proofs.Common.{◌≡◌, ◌-◌, ◌*◌, ◌^◌, ◌≤◌, take, count_by}, specs.List.{list_any, sum_by}}
 use Rattle.graph_types.specs.declared.batches.Outcome.TheVariants.{Inserted, Updated, Removed, Absent, Overflow}
-use Rattle.script_lines.specs.Lines.{expired_in, is_expired, is_outcome}
+use Rattle.graph_types.specs.Outcomes.{expired_in}
+use Rattle.script_lines.specs.Lines.{is_expired, is_outcome}
 use Rattle.script_lines.proofs.counts.counts_in.Given as goal
 
 abbrev pub invariant-loop-outcome : goal.invariant-loop-outcome

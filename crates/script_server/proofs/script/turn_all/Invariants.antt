@@ -1,6 +1,6 @@
 use Rattle.std.proofs.Common.{◌≡◌, ◌-◌, false}
 use Rattle.feed_csv.specs.Records.{record_limit}
-use Rattle.script_server.specs.Runs.{IsReady, ShowsRun, ShowsStart}
+use Rattle.script_server.specs.Runs.{IsReadyRun, ShowsRun, ShowsStart}
 use Rattle.script_server.specs.Writes.{held}
 use Rattle.script_server.proofs.{RunSoFar.Reaches, SegmentTexts.Together}
 use Rattle.script_commands.specs.States.{Setup, beginning}
@@ -8,7 +8,7 @@ use Rattle.script_server.proofs.script.turn_all.Given as goal
 
 abbrev pub invariant-records : goal.invariant-records
 invariant-records g l = record {
-  ready : IsReady l.feed l.run;
+  ready : IsReadyRun l.feed l.run;
   working : l.sink.failed ≡ false;
   same : l.sink.writer.ghost_name ≡ l.initial.sink.writer.ghost_name;
   reaches : (setup : Setup) → ShowsRun l.initial.run (beginning setup)

@@ -2,7 +2,7 @@ use Rattle.std.proofs.Common.{ℕ, ap, sym, subst, ◌∙◌, All}
 use Rattle.logbook.specs.Pages.{Book}
 use Rattle.graph_version.specs.Versions.{VersionView}
 use Rattle.batch_apply.proofs.Names.{err_then}
-use Rattle.stream_store.specs.{Kept.DeskState, Seats.HasSeen, Openings.RefusesOpening}
+use Rattle.stream_store.specs.{Kept.DeskState, Seats.HasSeen, Openings.RefusesStore}
 use Rattle.stream_store.proofs.opening.open_over.Goals as goal
 
 pub returns-clause-seats : goal.returns-clause-seats
@@ -16,5 +16,5 @@ returns-clause-seats g c = (
 
 pub returns-in_err-writer-clause-refused : goal.returns-in_err-writer-clause-refused
 returns-in_err-writer-clause-refused g c =
-    err_then c.from_residual.result (λ e. (needed : ℕ) → RefusesOpening needed c.args.config.blocks e) c.in_err-writer.field-0.0
+    err_then c.from_residual.result (λ e. (needed : ℕ) → RefusesStore needed c.args.config.blocks e) c.in_err-writer.field-0.0
     c.from_residual.ensures.1 (λ needed. c.in_err-writer.ensures.refused needed c.args.config.blocks)

@@ -1,7 +1,7 @@
 use Rattle.std.{proofs.Common.{◌≡◌, take}, specs.Prelude.zip}
-use Rattle.graph_types.specs.Answer.{names_of}
-use Rattle.graph_levels.specs.Reached.{numbers_of}
+use Rattle.graph_types.specs.Answer.{names_of_vertices}
+use Rattle.graph_levels.specs.Reached.{vertex_numbers}
 use Rattle.version_answers.proofs.naming.name_labels.Given as goal
 
 abbrev pub invariant-loop-vertex : goal.invariant-loop-vertex
-invariant-loop-vertex l = l.rows.items ≡ take l.vertex (zip l.names.names (names_of l.names.names (numbers_of l.labels)))
+invariant-loop-vertex l = l.rows.items ≡ take l.vertex (zip l.names.names (names_of_vertices l.names.names (vertex_numbers l.labels)))

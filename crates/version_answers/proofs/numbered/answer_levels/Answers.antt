@@ -1,5 +1,5 @@
 use Rattle.std.proofs.Common.{◌≡◌, ℕ, rules, inr, subst}
-use Rattle.graph_types.specs.{Analyses.AreLevels, Answer.resolved, Step.number_of, declared.ids.Filter.Filter}
+use Rattle.graph_types.specs.{Analyses.AreLevels, Answer.resolved_filter, Step.number_of, declared.ids.Filter.Filter}
 use Rattle.graph_levels.specs.Reached.{AreReached, TellLevels}
 use Rattle.graph_version.specs.Versions.{content}
 use Rattle.version_answers.proofs.NamedRows.{each_told, rows_told}
@@ -11,8 +11,8 @@ returns-in-Ok-Each c =
     let source : c.in-Some.source ≡ number_of g.names c.args.source.now = search rules in
     inr (
       search rules,
-      each_told (resolved g c.args.filter.now) g (number_of g.names c.args.source.now) c.in-Ok-Each.levels
-          (subst (λ (s : ℕ). AreLevels (resolved g c.args.filter.now) g s c.in-Ok-Each.levels) source
+      each_told (resolved_filter g c.args.filter.now) g (number_of g.names c.args.source.now) c.in-Ok-Each.levels
+          (subst (λ (s : ℕ). AreLevels (resolved_filter g c.args.filter.now) g s c.in-Ok-Each.levels) source
           (subst (λ (f : Filter). AreLevels f g c.in-Some.source c.in-Ok-Each.levels) c.in_ok-view.ensures.found
           (subst (TellLevels c.in_ok-view.view g c.in-Some.source) c.in-Ok-Each.field-0-is c.in-Ok-Each.ensures.levels))),
     )
@@ -23,8 +23,8 @@ returns-in-Ok-Reached c =
     let source : c.in-Some.source ≡ number_of g.names c.args.source.now = search rules in
     inr (
       search rules,
-      rows_told (resolved g c.args.filter.now) g (number_of g.names c.args.source.now) c.in-Ok-Reached.rows
-          (subst (λ (s : ℕ). AreReached (resolved g c.args.filter.now) g s c.in-Ok-Reached.rows) source
+      rows_told (resolved_filter g c.args.filter.now) g (number_of g.names c.args.source.now) c.in-Ok-Reached.rows
+          (subst (λ (s : ℕ). AreReached (resolved_filter g c.args.filter.now) g s c.in-Ok-Reached.rows) source
           (subst (λ (f : Filter). AreReached f g c.in-Some.source c.in-Ok-Reached.rows) c.in_ok-view.ensures.found
           (subst (TellLevels c.in_ok-view.view g c.in-Some.source) c.in-Ok-Reached.field-0-is c.in-Ok-Reached.ensures.levels))),
     )

@@ -2,7 +2,7 @@ use Rattle.std.proofs.Common.{◌≡◌, ◌-◌, ◌<◌, length, inr, ap, ◌�
 use Rattle.std.proofs.lemmas.List.{length-map, nil_from_length}
 use Rattle.graph_version.specs.Sharing.{block_value}
 use Rattle.graph_version.specs.Versions.{content}
-use Rattle.version_columns.specs.Rows.{edges_of, row_edges, rows_from, IsTooLong}
+use Rattle.version_columns.specs.Rows.{lent_edges_of, row_edges, lent_rows_from, IsTooLong}
 use Rattle.version_columns.proofs.Columns.{few_in_row, none_written}
 use Rattle.version_columns.proofs.edges.write_edges.Goals as goal
 
@@ -18,16 +18,16 @@ returns-then-written-len c =
     let n = c.write_rows-written.result.next - source in
     let rows = c.write_rows-written.ensures.rows in
     let written = c.write_rows-written.ensures.written in
-    let none : length (rows_from f v source n) ≡ 0 = omega (arith, rows.counted, c.if-written-eq0.true) in
+    let none : length (lent_rows_from f v source n) ≡ 0 = omega (arith, rows.counted, c.if-written-eq0.true) in
     let next = c.write_rows-written.result.next in
     let there : next < length (content v).names = search rules in
     let counted : c.count_blocks.result ≡ length (row_edges f v next) =
-    c.count_blocks.ensures ∙ ap (λ blocks. length (edges_of f blocks)) c.row_blocks.ensures.blocks in
+    c.count_blocks.ensures ∙ ap (λ blocks. length (lent_edges_of f blocks)) c.row_blocks.ensures.blocks in
     let long : IsTooLong f v source (length c.args.kinds.now) c.count_blocks.result = record {
       next = next;
       onward = rows.onward;
       there = there;
-      empty = nil_from_length (rows_from f v source n) none;
+      empty = nil_from_length (lent_rows_from f v source n) none;
       long = omega (arith, rows.whole, there, c.if-written-eq0.true);
       counted = counted;
     } in

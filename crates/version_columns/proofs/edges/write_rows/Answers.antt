@@ -2,7 +2,7 @@ use Rattle.std.proofs.Common.{◌≡◌, ◌+◌, ◌-◌, ◌++◌, suc, inl, l
 use Rattle.std.proofs.lemmas.List.{length-map}
 use Rattle.version_columns.proofs.Columns.{few_in_row, rows_from-more, sources_from-more, sources_long, with_edges-append, with_values-append}
 use Rattle.graph_version.specs.Sharing.{block_value, block_values}
-use Rattle.version_columns.specs.Rows.{columns, edges_of, row_edges, rows_from, sources_from, with_edges, with_values}
+use Rattle.version_columns.specs.Rows.{columns, lent_edges_of, row_edges, lent_rows_from, sources_from, with_edges, with_values}
 use Rattle.version_columns.proofs.edges.write_rows.Goals as goal
 
 pub count_blocks-requires : goal.count_blocks-requires
@@ -20,15 +20,15 @@ loop-next-preserved c =
     let old = columns c.args.kinds.now c.args.targets.now c.args.weights.now c.args.firsts.now c.args.recents.now in
     let here : source + n ≡ next = omega (arith, so_far.onward) in
     let more : next + 1 - source ≡ suc n = omega (arith, so_far.onward) in
-    let row : edges_of f (block_values c.row_blocks-blocks.result.now) ≡ row_edges f v next = ap (edges_of f) c.row_blocks-blocks.ensures.blocks in
-    let rows : rows_from f v source (next + 1 - source) ≡ rows_from f v source n ++ row_edges f v next =
-    ap (rows_from f v source) more ∙ rows_from-more f v source n ∙ ap (λ s. rows_from f v source n ++ row_edges f v s) here in
+    let row : lent_edges_of f (block_values c.row_blocks-blocks.result.now) ≡ row_edges f v next = ap (lent_edges_of f) c.row_blocks-blocks.ensures.blocks in
+    let rows : lent_rows_from f v source (next + 1 - source) ≡ lent_rows_from f v source n ++ row_edges f v next =
+    ap (lent_rows_from f v source) more ∙ rows_from-more f v source n ∙ ap (λ s. lent_rows_from f v source n ++ row_edges f v s) here in
     let sources : sources_from f v source (next + 1 - source) ≡ sources_from f v source n ++ replicate (length (row_edges f v next)) next =
     ap (sources_from f v source) more ∙ sources_from-more f v source n
     ∙ ap (λ s. sources_from f v source n ++ replicate (length (row_edges f v s)) s) here in
-    let R = rows_from f v source n in
+    let R = lent_rows_from f v source n in
     let S = sources_from f v source n in
-    let piece = edges_of f (block_values c.row_blocks-blocks.result.now) in
+    let piece = lent_edges_of f (block_values c.row_blocks-blocks.result.now) in
     let count = c.loop-next.count in
     let wrote = c.write_blocks-end.ensures.columns in
     let end = c.write_blocks-end.ensures.end in

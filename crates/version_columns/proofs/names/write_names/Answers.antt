@@ -1,6 +1,6 @@
 use Rattle.std.proofs.Common.{◌≡◌, ◌+◌, ◌∷◌, [], ◌++◌, length, take, drop, sym, ap, ◌∙◌, arith}
 use Rattle.std.proofs.lemmas.List.{take_more_set}
-use Rattle.version_columns.specs.{Lookups.byte_count, Texts.{joined, ends_from, chosen}}
+use Rattle.version_columns.specs.{Lookups.byte_count, Texts.{joined_texts, ends_from, chosen}}
 use Rattle.version_columns.proofs.NameTexts.{chosen_more, byte_count-more, joined-more, ends_from-more, fewer_bytes, drop_later}
 use Rattle.version_columns.proofs.names.write_names.Goals as goal
 
@@ -34,7 +34,7 @@ loop-place-preserved c =
       place = at;
       room = omega (arith, put.end, so_far.room, c.if-name-text.false, c.put_text-at.auto.text);
       bytes = ap (λ n. take n new) put.end ∙ put.bytes ∙ ap (λ bs. bs ++ name) so_far.bytes ∙ sym (joined-more before name)
-          ∙ ap joined (sym more);
+          ∙ ap joined_texts (sym more);
       rest = ap (λ n. drop n new) put.end ∙ put.rest ∙ later ∙ ap (λ n. drop n c.args.text.now) (sym put.end);
       ends_are = take_more_set c.loop-place.ends place c.put_text-at.result (omega arith)
           ∙ ap (λ es. es ++ c.put_text-at.result ∷ []) so_far.ends_are ∙ ap (λ n. ends_from 0 before ++ n ∷ []) end

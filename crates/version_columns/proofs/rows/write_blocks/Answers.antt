@@ -2,7 +2,7 @@ use Rattle.std.proofs.Common.{◌≡◌, ◌++◌, ◌+◌, List, length, get_or
 use Rattle.std.specs.declared.{sync.Arc.Arc, alloc.Global.Global}
 use Rattle.edge_block.specs.{Lending.LentEdge, declared.blocks.Block.Block}
 use Rattle.graph_version.specs.Sharing.{block_value, block_values}
-use Rattle.version_columns.specs.Rows.{block_edges, edges_of, columns, with_edges}
+use Rattle.version_columns.specs.Rows.{block_edges, lent_edges_of, columns, with_edges}
 use Rattle.version_columns.proofs.Columns.{next_edges, with_edges-append}
 use Rattle.version_columns.proofs.rows.write_blocks.Goals as goal
 
@@ -19,8 +19,8 @@ loop-block-preserved c =
     let item : block ≡ get_or blocks i block = c.block-item.is in
     let same : block_value (get_or blocks i block) ≡ c.deref.result.now = ap block_value (sym item) ∙ sym c.deref.ensures in
     let piece = block_edges f c.deref.result.now in
-    let rest = edges_of f (block_values (drop (i + 1) blocks)) in
-    let split : edges_of f (block_values (drop i blocks)) ≡ piece ++ rest =
+    let rest = lent_edges_of f (block_values (drop (i + 1) blocks)) in
+    let split : lent_edges_of f (block_values (drop i blocks)) ≡ piece ++ rest =
     next_edges f blocks i block c.loop-block-test.true ∙ ap (λ b. block_edges f b ++ rest) same in
     let wrote = c.write_block-at.ensures.columns in
     let end = c.write_block-at.ensures.end in

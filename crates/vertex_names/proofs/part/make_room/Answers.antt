@@ -1,6 +1,6 @@
 use Rattle.std.proofs.Common.{◌≡◌, ◌∙◌, ◌≤◌, ◌<◌, ◌+◌, ◌/◌, ℕ, List, get_or, refl, sym, ap, subst, arith, nat_eq, rules}
 use Rattle.std.specs.{List.insert, Map.lookup, declared.sync.Arc.Arc, declared.alloc.Global.Global}
-use Rattle.vertex_names.specs.{declared.piece.Piece.Piece, Order.IsRising, Order.firsts, Order.last_place, Pieces.entries_of}
+use Rattle.vertex_names.specs.{declared.piece.Piece.Piece, Order.IsRising, Order.firsts, Order.last_place, Pieces.piece_entries}
 use Rattle.vertex_names.proofs.Splits.{split_in_two}
 use Rattle.vertex_names.proofs.part.make_room.Goals as goal
 
@@ -18,14 +18,14 @@ returns c =
     let is : last_place (firsts ps) m ≡ c.args.place =
     sym (ap (λ (l : List (ℕ × Arc Piece Global)). last_place (firsts l) m) c.deref-else-middle-lowest.ensures.value)
     ∙ sym c.last_at.ensures.place ∙ place in
-    let left : (q : ℕ) → q < m → lookup (nat_eq q) (entries_of c.in_ok-lower.lower) ≡ lookup (nat_eq q) (entries_of h.1) =
+    let left : (q : ℕ) → q < m → lookup (nat_eq q) (piece_entries c.in_ok-lower.lower) ≡ lookup (nat_eq q) (piece_entries h.1) =
     λ q less.
     let middle : m ≡ get_or (firsts c.deref-4.result.now) half 0 =
     c.hash-middle.ensures ∙ ap (λ (es : List (ℕ × ℕ)). get_or (firsts es) half 0) (c.deref-3.ensures ∙ sym c.deref-4.ensures) in
     ap (λ (es : List (ℕ × ℕ)). lookup (nat_eq q) es) c.in_ok-lower.ensures.ok
     ∙ c.in_ok-before.ensures q (subst (λ (n : ℕ). q < n) middle less)
     ∙ ap (λ (es : List (ℕ × ℕ)). lookup (nat_eq q) es) c.deref-4.ensures in
-    let right : (q : ℕ) → m ≤ q → lookup (nat_eq q) (entries_of c.in_ok-upper.upper) ≡ lookup (nat_eq q) (entries_of h.1) =
+    let right : (q : ℕ) → m ≤ q → lookup (nat_eq q) (piece_entries c.in_ok-upper.upper) ≡ lookup (nat_eq q) (piece_entries h.1) =
     λ q le.
     let middle : m ≡ get_or (firsts c.deref-5.result.now) half 0 =
     c.hash-middle.ensures ∙ ap (λ (es : List (ℕ × ℕ)). get_or (firsts es) half 0) (c.deref-3.ensures ∙ sym c.deref-5.ensures) in

@@ -2,7 +2,7 @@ use Rattle.std.proofs.Common.{◌≡◌, ◌+◌, ◌++◌, ◌∷◌, ◌||◌,
 use Rattle.std.proofs.{Common.arith, Common.rules, lemmas.List.map-append}
 use Rattle.std.specs.{Option.is_some, Option.option_to_list, Prelude.Some, declared.sync.Arc.Arc, declared.alloc.Global.Global}
 use Rattle.edge_block.specs.{declared.blocks.Block.Block, Rows.{shape_of, touch}}
-use Rattle.batch_shards.specs.RowBlocks.{block_of, open_of, had_here, numbers_of, own_here}
+use Rattle.batch_shards.specs.RowBlocks.{block_of, open_of, had_here, shared_numbers, own_here}
 use Rattle.batch_shards.{specs.declared.row_blocks.RowBlock.RowBlock, proofs.Places.count_by-append}
 use Rattle.batch_shards.proofs.row_blocks.RowBlock.own.Goals as goal
 
@@ -21,15 +21,15 @@ had_before h untouched = ap (λ t. cond t (map block_of (option_to_list h.before
 -- the fresh block's number is the row's now
 one_taken : (q : ℕ → Bool) (h : RowBlock) (own : Arc Block Global) (fresh rest : List (Arc Block Global)) (number : ℕ)
     → h.touched ≡ false → fresh ≡ rest ++ own ∷ [] → number ≡ (block_of own).number
-    → count_by q (number ∷ []) + count_by q (numbers_of rest) ≡ count_by q (own_here h) + count_by q (numbers_of fresh)
+    → count_by q (number ∷ []) + count_by q (shared_numbers rest) ≡ count_by q (own_here h) + count_by q (shared_numbers fresh)
 one_taken q h own fresh rest number untouched split same =
     let number_of : Arc Block Global → ℕ = λ b. (block_of b).number in
     let none : count_by q (own_here h) ≡ 0 =
     ap (λ t. count_by q (cond t ((block_of h.block).number ∷ []) [])) untouched in
-    let parts : count_by q (numbers_of fresh) ≡ count_by q (numbers_of rest) + count_by q (numbers_of (own ∷ [])) =
-    ap (λ l. count_by q (numbers_of l)) split ∙ ap (count_by q) (map-append number_of rest (own ∷ []))
-    ∙ count_by-append q (numbers_of rest) (numbers_of (own ∷ [])) in
-    let one : count_by q (number ∷ []) ≡ count_by q (numbers_of (own ∷ [])) = ap (λ n. count_by q (n ∷ [])) same in
+    let parts : count_by q (shared_numbers fresh) ≡ count_by q (shared_numbers rest) + count_by q (shared_numbers (own ∷ [])) =
+    ap (λ l. count_by q (shared_numbers l)) split ∙ ap (count_by q) (map-append number_of rest (own ∷ []))
+    ∙ count_by-append q (shared_numbers rest) (shared_numbers (own ∷ [])) in
+    let one : count_by q (number ∷ []) ≡ count_by q (shared_numbers (own ∷ [])) = ap (λ n. count_by q (n ∷ [])) same in
     omega (arith, none, parts, one)
 
 pub returns-clause-touched : goal.returns-clause-touched

@@ -1,6 +1,6 @@
 use Rattle.std.proofs.Common.{◌∙◌, ◌/◌, ◌*◌, ◌+◌, ◌<◌, ap, subst, sym, refl, length, get_or, map, arith}
 use Rattle.std.proofs.lemmas.{List.{map-set, length-map}, Result.on_ok_weaker}
-use Rattle.block_pool.specs.Paging.{HasRoom, in_pages, items_of}
+use Rattle.block_pool.specs.Paging.{HasRoom, item_in_pages, items_of}
 use Rattle.block_pool.proofs.Paging.{seen_length, seen_room, seen_same, same_in, room_made, room_kept, page_read}
 use Rattle.block_pool.proofs.pages.Pages.make_page.Goals as goal
 
@@ -22,7 +22,7 @@ returns-clause-items g c =
     omega (arith, c.self.invariant.0, c.requires, seen_length _ _ _ _ c.self.view_is) in
     let before = page_read vecs (c.args.place / 4096) c.index_mut.result.now c.index_mut.ensures.value within in
     seen_same _ _ _ _ c.self.view_is _
-    (λ j. ap (λ ps. in_pages g.T.Blank.blank ps j) (map-set items_of vecs (c.args.place / 4096) c.fill.new.page)
+    (λ j. ap (λ ps. item_in_pages g.T.Blank.blank ps j) (map-set items_of vecs (c.args.place / 4096) c.fill.new.page)
     ∙ same_in g.T.Blank.blank (map items_of vecs) (c.args.place / 4096) c.fill.new.page.items
     (omega (arith, within, length-map vecs items_of))
     (λ k low. c.fill.ensures.same k

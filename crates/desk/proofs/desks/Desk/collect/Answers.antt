@@ -4,14 +4,14 @@ use Rattle.graph_version.specs.declared.versions.Version.{Version}
 use Rattle.block_reclamation.specs.Status.{is_reclaimable, is_retired}
 use Rattle.store_steps.{specs.{Desks.{DeskView, IsCollected, births_in}, Steps.{TakesAt, recycling}}, proofs.Collecting.collected_takes}
 use Rattle.store_steps.proofs.CollectedDesk.{past_and_left, is_collected, births_collected, desk_collected}
-use Rattle.desk.{specs.{Kept.{IsKept, desk_in, desk_of}, declared.desks.Parts.Parts}, proofs.Collections.collection_kept}
+use Rattle.desk.{specs.{Kept.{IsKeptDesk, desk_in, desk_of}, declared.desks.Parts.Parts}, proofs.Collections.collection_kept}
 use Rattle.desk.proofs.desks.Desk.collect.Goals.{After-recycle-recycled, After-enter_collection}
 use Rattle.desk.proofs.desks.Desk.collect.Goals as goal
 
 -- what is lent of the desk
-kept : (c : After-recycle-recycled) → IsKept (desk_in c.deref_mut-parts.result.now) c.deref_mut-parts.result.now.journal.keeps
+kept : (c : After-recycle-recycled) → IsKeptDesk (desk_in c.deref_mut-parts.result.now) c.deref_mut-parts.result.now.journal.keeps
     c.deref_mut-parts.result.now.journal.room
-kept c = subst (λ (q : Parts). IsKept (desk_in q) q.journal.keeps q.journal.room) (sym c.deref_mut-parts.ensures.value)
+kept c = subst (λ (q : Parts). IsKeptDesk (desk_in q) q.journal.keeps q.journal.room) (sym c.deref_mut-parts.ensures.value)
     c.self.invariant
 
 shown : (c : After-recycle-recycled) → desk_in c.deref_mut-parts.result.now ≡ c.args.self.now

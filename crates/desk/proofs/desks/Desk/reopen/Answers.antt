@@ -5,16 +5,16 @@ use Rattle.graph_version.specs.Rows.{blocks_of, numbers_of}
 use Rattle.block_reclamation.specs.{declared.status.BlockStatus.{BlockStatus, TheVariants.Used}, Status.recycled}
 use Rattle.block_pool.specs.Pools.{marked}
 use Rattle.store_steps.specs.{Desks.{DeskView, last_numbers}, Opening.{IsVersionZero, opened_desk}}
-use Rattle.desk.specs.{Applying.AreUsedOnce, Openings.without_pins, Kept.{IsKept, desk_in, desk_of}, declared.desks.Parts.Parts}
+use Rattle.desk.specs.{Applying.AreUsedOnce, Openings.without_pins, Kept.{IsKeptDesk, desk_in, desk_of}, declared.desks.Parts.Parts}
 use Rattle.desk.proofs.{Collections.{kept_same, opened_kept}, OpenedAnew.{last_used, pool_anew, zero_over}}
 use Rattle.desk.proofs.desks.Desk.reopen.Goals.{After-as_slice, After-drop-numbers-2}
 use Rattle.desk.proofs.desks.Desk.reopen.Goals as goal
 
 -- What is lent of the desk
 
-lent : (c : After-as_slice) → IsKept (desk_in c.deref_mut-parts.result.now) c.deref_mut-parts.result.now.journal.keeps
+lent : (c : After-as_slice) → IsKeptDesk (desk_in c.deref_mut-parts.result.now) c.deref_mut-parts.result.now.journal.keeps
     c.deref_mut-parts.result.now.journal.room
-lent c = subst (λ (q : Parts). IsKept (desk_in q) q.journal.keeps q.journal.room) (sym c.deref_mut-parts.ensures.value)
+lent c = subst (λ (q : Parts). IsKeptDesk (desk_in q) q.journal.keeps q.journal.room) (sym c.deref_mut-parts.ensures.value)
     c.self.invariant
 
 shown : (c : After-as_slice) → desk_in c.deref_mut-parts.result.now ≡ c.args.self.now

@@ -1,7 +1,7 @@
 use Rattle.std.proofs.Common.{◌≡◌, ◌≤◌, length, set, refl, sym, ap, subst, ◌∙◌, arith}
 use Rattle.std.specs.{Prelude.option_map, declared.option.Option.TheVariants.Some}
 use Rattle.block_reclamation.specs.{Board.{BoardState, with_pin}, Copies.{settled}}
-use Rattle.desk.specs.Owned.{OwnedView, IsOwned, IsSeatFor, held_pin, with_seat}
+use Rattle.desk.specs.Owned.{OwnedView, IsOwned, IsSeatFor, held_pin, with_hold}
 use Rattle.desk.proofs.{OwnedLaws.{pin_held, pin_twice, pinned_owned}, owned.OwnedDesk.pin.Goals.After-from}
 use Rattle.desk.proofs.owned.OwnedDesk.pin.Goals as goal
 
@@ -14,7 +14,7 @@ new : (c : After-from) → record {
   counts = set c.self.inside.counts c.from.result c.args.count;
   opening = c.self.inside.opening;
 }
-    ≡ with_seat (old c) c.args.seat (Some (held_pin c.args.number)) c.args.count
+    ≡ with_hold (old c) c.args.seat (Some (held_pin c.args.number)) c.args.count
 new c =
     let o = c.self.inside in
     let low : o.board.floor ≤ c.args.number =
@@ -31,8 +31,8 @@ new c =
 pub invariant_of-self : goal.invariant_of-self
 invariant_of-self c =
     let a = (goal.at.invariant_of-self c).After-from in
-    let same : with_seat (old a) c.args.seat (Some (held_pin c.args.number)) c.args.count
-    ≡ with_seat (old a) c.args.seat (Some (held_pin c.args.number)) c.args.count = refl in
+    let same : with_hold (old a) c.args.seat (Some (held_pin c.args.number)) c.args.count
+    ≡ with_hold (old a) c.args.seat (Some (held_pin c.args.number)) c.args.count = refl in
     let for : IsSeatFor (old a) c.args.number c.args.seat =
     subst (λ o. IsSeatFor o c.args.number c.args.seat) (sym c.self.view_is) c.requires.seat in
     let last = c.requires.number ∙ sym (ap (λ (v : OwnedView). length v.desk.last.batches) c.self.view_is) in
@@ -43,4 +43,4 @@ invariant_of-self c =
 pub returns : goal.returns
 returns c =
     new (goal.at.returns c).After-from
-    ∙ ap (λ o. with_seat o c.args.seat (Some (held_pin c.args.number)) c.args.count) c.self.view_is
+    ∙ ap (λ o. with_hold o c.args.seat (Some (held_pin c.args.number)) c.args.count) c.self.view_is

@@ -2,7 +2,8 @@ use Rattle.std.proofs.Common.{◌≡◌, ◌+◌, ◌%◌, ◌^◌, ◌<◌, ℕ
 use Rattle.std.proofs.lemmas.List.Sums.{sum_by_more, sum_by-cons}
 use Rattle.std.specs.List.{sum_by}
 use Rattle.graph_types.specs.declared.batches.Outcome.{Outcome}
-use Rattle.desk_counts.specs.Counted.{was_inserted, was_updated, was_removed, was_absent, was_overflow, expired_in}
+use Rattle.desk_counts.specs.Counted.{was_inserted, was_updated, was_removed, was_absent, was_overflow}
+use Rattle.graph_types.specs.Outcomes.{expired_in}
 use Rattle.desk_counts.proofs.counts.Counts.with_all.Goals as goal
 
 -- one more is counted, modulo 2^64

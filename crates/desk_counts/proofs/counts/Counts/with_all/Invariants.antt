@@ -1,5 +1,6 @@
 use Rattle.std.proofs.Common.{◌≡◌, ◌+◌, take, count_by, sum_by}
-use Rattle.desk_counts.specs.Counted.{was_inserted, was_updated, was_removed, was_absent, was_overflow, expired_in, wrapped}
+use Rattle.desk_counts.specs.Counted.{was_inserted, was_updated, was_removed, was_absent, was_overflow, wrapped}
+use Rattle.graph_types.specs.Outcomes.{expired_in}
 use Rattle.desk_counts.proofs.counts.Counts.with_all.Given as goal
 
 abbrev pub invariant-loop-outcome : goal.invariant-loop-outcome

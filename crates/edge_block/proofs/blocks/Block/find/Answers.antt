@@ -1,6 +1,6 @@
 use Rattle.std.{proofs.Common.arith, specs.declared.option.Option.TheVariants.{Some, None}}
 use Rattle.lane_scan.specs.Masks.{IsFirstPlaceOf}
-use Rattle.edge_block.specs.{Slots.edge_slot, Slots.slot_at, Columns.slots_of}
+use Rattle.edge_block.specs.{Slots.edge_slot, Slots.stamp_in_slot, Columns.slots_of}
 use Rattle.edge_block.proofs.{Firsts.first_some-by_any, KeptColumns.block_of_columns, Ranges.stamp_in_range}
 use Rattle.edge_block.proofs.Places.{length-slots_of, none_holds, found_at, not_free_at}
 use Rattle.edge_block.proofs.blocks.Block.find.Goals as goal
@@ -9,7 +9,7 @@ pub returns-in_err-place-clause-edge : goal.returns-in_err-place-clause-edge
 returns-in_err-place-clause-edge c =
     let absent : IsFirstPlaceOf c.self.inside.targets c.self.inside.live c.args.target None = c.in_err-place.ensures in
     rw (c.from_residual.ensures, ← c.self.view_is)
-    (first_some-by_any (λ s. slot_at s c.args.target)
+    (first_some-by_any (λ s. stamp_in_slot s c.args.target)
     (slots_of c.self.inside.live c.self.inside.targets c.self.inside.weights c.self.inside.firsts c.self.inside.recents)
     (none_holds c.self.inside.live c.self.inside.targets c.self.inside.weights c.self.inside.firsts c.self.inside.recents
     c.args.target c.self.told.0 absent))

@@ -1,7 +1,7 @@
 use Rattle.std.proofs.Common.{◌≡◌, ◌∙◌, ap, arith, length}
 use Rattle.block_reclamation.specs.declared.copies.PinCopy.{PinCopy}
 use Rattle.block_reclamation.specs.Copies as copies
-use Rattle.script_commands.{specs.States.{copy_of, pins_of}, proofs.DeskLaws.{collect_done, shows_collected}}
+use Rattle.script_commands.{specs.States.{copy_in, pins_of}, proofs.DeskLaws.{collect_done, shows_collected}}
 use Rattle.script_commands.proofs.MachineMoves.{collect_moves}
 use Rattle.script_commands.proofs.server.Server.collect.Goals as goal
 
@@ -14,7 +14,7 @@ collect-collected-requires c =
 
 pub returns-clause-obeys : goal.returns-clause-obeys
 returns-clause-obeys c = λ s shows.
-    let copy : c.copy-copy.result ≡ copy_of s =
+    let copy : c.copy-copy.result ≡ copy_in s =
     c.copy-copy.ensures.copy ∙ (λ i. copies.copy_of (length (shows.desk.batches i)) (pins_of (shows.held i))) in (
       collect_done s c.args.self.now.desk.desk c.collect-collected.new.self.desk c.copy-copy.result
           c.collect-collected.result.floor c.collect-collected.result.recycled c.collect-collected.result.retired _ shows.desk

@@ -2,17 +2,17 @@ use Rattle.std.proofs.Common.{◌≡◌, ℕ, List, ◌∙◌, ◌≤◌, length
 use Rattle.block_pool.specs.{declared.numbers.Numbers.Numbers, Pools.{AreFree, AreBodies, marked}, Kept.{statuses, popped, IsRoomier}, Paging.HasRoom}
 use Rattle.block_reclamation.specs.{declared.status.BlockStatus.TheVariants.Granted, Status.is_free}
 use Rattle.block_pool.proofs.{Grants.{free_listed, popped_free, popped_at, length-popped, length-marked}, Rooms.room_for_marked}
-use Rattle.block_pool.proofs.pool.Pool.grant.Goals as goal
+use Rattle.block_pool.proofs.pool.Pool.grant_of.Goals as goal
 
 pub gather-requires-clause-enough : goal.gather-requires-clause-enough
 gather-requires-clause-enough c =
     let free = free_listed c.self.inside.numbers c.self.invariant.0 in
-    omega (arith, free, ap (count_by is_free) c.self.view_is, c.free-free.ensures, c.if-count-free.false)
+    omega (arith, free, ap (count_by is_free) c.self.view_is, c.free-free.ensures, c.if-asked-free.false, c.requires)
 
 pub use_last-requires-clause-enough : goal.use_last-requires-clause-enough
 use_last-requires-clause-enough c =
     let free = free_listed c.self.inside.numbers c.self.invariant.0 in
-    omega (arith, free, ap (count_by is_free) c.self.view_is, c.free-free.ensures, c.if-count-free.false, c.gather.ensures.same.free_len)
+    omega (arith, free, ap (count_by is_free) c.self.view_is, c.free-free.ensures, c.if-asked-free.false, c.requires, c.gather.ensures.same.free_len)
 
 -- the same numbers are taken of those with memory for more
 taken_alike : (n now : Numbers) → IsRoomier n now → (count : ℕ)
@@ -28,7 +28,7 @@ invariant_of-self-2 c =
     let numbers : List ℕ = popped n.free.items n.free_len count in
     let free = free_listed n c.self.invariant.0 in
     let enough : count ≤ n.free_len =
-    omega (arith, free, ap (count_by is_free) c.self.view_is, c.free-free.ensures, c.if-count-free.false) in
+    omega (arith, free, ap (count_by is_free) c.self.view_is, c.free-free.ensures, c.if-asked-free.false, c.requires) in
     let now = c.use_last.ensures.statuses ∙ taken_alike n c.gather.new.numbers c.gather.ensures.same count in
     let same = sym (ap length now ∙ length-marked numbers Granted (statuses n)) in (
       c.use_last.ensures.kept,
@@ -54,7 +54,7 @@ returns-clause-numbers c =
     let kept = c.self.invariant.0 in
     let free = free_listed n kept in
     let enough : c.args.count ≤ n.free_len =
-    omega (arith, free, ap (count_by is_free) c.self.view_is, c.free-free.ensures, c.if-count-free.false) in (
+    omega (arith, free, ap (count_by is_free) c.self.view_is, c.free-free.ensures, c.if-asked-free.false, c.requires) in (
       subst (AreFree c.args.self.now) (sym c.in_ok-grant.ensures.numbers)
           (subst (λ pool. AreFree pool (popped n.free.items n.free_len c.args.count)) c.self.view_is
           (popped_free (statuses n) n.free_len n.free.items c.args.count kept.free_are

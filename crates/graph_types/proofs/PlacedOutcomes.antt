@@ -2,8 +2,8 @@
 use Rattle.std.proofs.Common.{◌≡◌, ℕ, ◌≤◌, List, [], ◌∷◌, ◌++◌, length, get_or, set, refl, arith}
 use Rattle.std.proofs.lemmas.{List.set_past, Grind.common_steps}
 use Rattle.graph_types.specs.declared.batches.Outcome.{Outcome, TheVariants.Absent}
-use Rattle.edge_block.specs.Batches.{together}
-use Rattle.batch_shards.specs.Groups.{told, written}
+use Rattle.graph_types.specs.Outcomes.{together}
+use Rattle.graph_types.specs.Outcomes.{told, written}
 
 pub written_more : (ps : List (ℕ × Outcome)) (p : ℕ × Outcome) (xs : List Outcome)
     → written (ps ++ p ∷ []) xs ≡ set (written ps xs) p.0 (told (together (get_or (written ps xs) p.0 Absent) p.1))

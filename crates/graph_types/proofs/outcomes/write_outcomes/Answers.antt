@@ -1,9 +1,9 @@
 use Rattle.std.proofs.{Common.{◌≡◌, List, set, get_or, sym, ap, ◌∙◌, arith}, lemmas.List.get_or_default}
 use Rattle.graph_types.specs.declared.batches.Outcome.{Outcome, TheVariants.Absent}
-use Rattle.edge_block.specs.Batches.{together}
-use Rattle.batch_shards.specs.Groups.{told}
-use Rattle.batch_shards.proofs.PlacedOutcomes.{written_more}
-use Rattle.batch_shards.proofs.outcomes.write_outcomes.Goals as goal
+use Rattle.graph_types.specs.Outcomes.{together}
+use Rattle.graph_types.specs.Outcomes.{told}
+use Rattle.graph_types.proofs.PlacedOutcomes.{written_more}
+use Rattle.graph_types.proofs.outcomes.write_outcomes.Goals as goal
 
 pub loop-place-preserved-then-place-len : goal.loop-place-preserved-then-place-len
 loop-place-preserved-then-place-len c =
