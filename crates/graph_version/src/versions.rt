@@ -23,6 +23,7 @@ use crate::opening::Opening;
 use edge_block::{Block, EdgeRef};
 use graph_types::{Batch, Content, KindId, Limits, VertexId};
 use std::alloc::Global;
+use std::fmt;
 use std::marker::Model;
 use std::sync::Arc;
 use version_pages::{BatchIter, Rows};
@@ -39,6 +40,18 @@ pub struct Version {
     pub(crate) batches: BatchLog,
     pub(crate) rows: Rows,
     pub(crate) edges: u64,
+}
+
+// Written by hand: a graph's number and counts, and not its edges.
+impl fmt::Debug for Version {
+    fn fmt<F: fmt::Write>(&self, f: &mut fmt::Formatter<F>) -> fmt::Result {
+        f.debug_struct("Version")
+            .field("number", &self.number())
+            .field("vertices", &self.names.len())
+            .field("kinds", &self.kinds.len())
+            .field("edges", &self.edges)
+            .finish_non_exhaustive()
+    }
 }
 
 // Written by hand: who lets one go rests on this function, and not on how each part is let go.
@@ -232,7 +245,8 @@ impl Version {
 
     /// Lends the edges that leave a vertex: blocks in row order, slots rising.
     pub fn row(&self, source: VertexId) -> RowIter<'_>
-        ensures { row_left result ≡ lent_in_blocks (row_of self.now.rows source.0) }
+        ensures lends { row_left result ≡ lent_in_blocks (row_of self.now.rows source.0) }
+        ensures version { IsVersion self.now }
     {
         RowIter::over(self.rows.row_blocks(source))
     }
