@@ -235,7 +235,7 @@ fn close_one(blocks: RowBlock, left: &mut Leavings) -> Result<Option<Arc<Block>>
     ensures unused { OnOk result (numbers_of left.new.unused.items ≡ numbers_of left.old.unused.items ++ unused_here blocks) }
 {
     let RowBlock {
-        block,
+        mut block,
         touched,
         before,
     } = blocks;
@@ -248,6 +248,9 @@ fn close_one(blocks: RowBlock, left: &mut Leavings) -> Result<Option<Arc<Block>>
     if is_bare(&block) {
         left.unused.push(block)?;
         return Ok(None);
+    }
+    if let Some(own) = Arc::get_mut(&mut block) {
+        own.fit(*left.taken.allocator())?;
     }
     left.taken.push(block.number())?;
     Ok(Some(block))

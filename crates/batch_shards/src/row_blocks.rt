@@ -8,25 +8,29 @@ ghost use Rattle.batch_shards.specs.RowBlocks.{block_of};
 
 use edge_block::Block;
 use graph_types::KindId;
-use std::alloc::AllocError;
+use std::alloc::{AllocError, Global};
 use std::sync::Arc;
 
-/// Has a block take over another one's source, kind and slots.
+/// Has a block take over another one's source, kind and slots, in columns of at least so many places.
 ///
 /// Mostly nobody else holds it. `Arc::make_mut` clears room for a copy of it before it looks, so it is asked last.
-fn copy_into(own: &mut Arc<Block>, other: &Block) -> Result<(), AllocError>
+fn copy_into(
+    alloc: Global,
+    own: &mut Arc<Block>,
+    other: &Block,
+    places: usize,
+) -> Result<(), AllocError>
     ensures { OnOk result (block_of own.new ≡ record other.now { number = (block_of own.old).number }) }
 {
     if let Some(own) = Arc::get_mut(own) {
-        own.copy_from(other);
-        return Ok(());
+        return own.copy_with_room(alloc, other, places);
     }
-    Arc::make_mut(own)?.copy_from(other);
-    Ok(())
+    Arc::make_mut(own)?.copy_with_room(alloc, other, places)
 }
 
 /// Writes an edge into a block, as [`Block::put`]; it looks first whether somebody else holds it, as `copy_into`.
 fn put_into(
+    alloc: Global,
     own: &mut Arc<Block>,
     target: u32,
     weight: i64,
@@ -41,10 +45,13 @@ fn put_into(
         ≡ with_slots (block_of own.old) (put_slot (edge_slot target weight first recent) (block_of own.old).slots)) }
 {
     if let Some(own) = Arc::get_mut(own) {
+        own.make_room(alloc, target)?;
         own.put(target, weight, first, recent);
         return Ok(());
     }
-    Arc::make_mut(own)?.put(target, weight, first, recent);
+    let own = Arc::make_mut(own)?;
+    own.make_room(alloc, target)?;
+    own.put(target, weight, first, recent);
     Ok(())
 }
 
@@ -88,7 +95,7 @@ impl RowBlock {
     }
 
     /// Puts a fresh block in the block's place, with the same edges, where the batch has not yet done so.
-    fn own(&mut self, fresh: &mut Vec<Arc<Block>>) -> Result<(), AllocError>
+    fn own(&mut self, fresh: &mut Vec<Arc<Block>>, places: usize) -> Result<(), AllocError>
         requires { self.old.touched ≡ false → 0 < vec_len fresh.old }
         ensures touched { OnOk result (IsTouched (λ slots. slots) self.old self.new) }
         ensures keeps { OnOk result (KeepsHere (untouched_here self.old) self.old fresh.old self.new fresh.new) }
@@ -99,7 +106,7 @@ impl RowBlock {
         let Some(mut own) = fresh.pop() else {
             return Ok(());
         };
-        copy_into(&mut own, &self.block)?;
+        copy_into(*fresh.allocator(), &mut own, &self.block, places)?;
         let before = std::mem::replace(&mut self.block, own);
         self.before = Some(before);
         self.touched = true;
@@ -123,8 +130,18 @@ impl RowBlock {
         ensures touched { OnOk result (IsTouched (put_slot (edge_slot target weight first recent)) self.old self.new) }
         ensures keeps { OnOk result (KeepsHere 1 self.old fresh.old self.new fresh.new) }
     {
-        self.own(fresh)?;
-        put_into(&mut self.block, target, weight, first, recent)
+        if !self.touched {
+            let places = self.block.places_with(target);
+            self.own(fresh, places)?;
+        }
+        put_into(
+            *fresh.allocator(),
+            &mut self.block,
+            target,
+            weight,
+            first,
+            recent,
+        )
     }
 
     /// Takes the edge to a target out.
@@ -133,7 +150,7 @@ impl RowBlock {
         ensures touched { OnOk result (IsTouched (take_slot target) self.old self.new) }
         ensures keeps { OnOk result (KeepsHere 1 self.old fresh.old self.new fresh.new) }
     {
-        self.own(fresh)?;
+        self.own(fresh, 0)?;
         let _ = Arc::make_mut(&mut self.block)?.take(target);
         Ok(())
     }
@@ -160,7 +177,7 @@ impl RowBlock {
         ensures count { IfOk result (λ n. n ≡ old_in time (block_of self.old.block).slots) }
         ensures keeps { OnOk result (KeepsHere (untouched_here self.old) self.old fresh.old self.new fresh.new) }
     {
-        self.own(fresh)?;
+        self.own(fresh, 0)?;
         let count = Arc::make_mut(&mut self.block)?.expire(time);
         Ok(count)
     }

@@ -203,6 +203,7 @@ fn new_block(
     };
     let own = Arc::make_mut(&mut block)?;
     own.clear_for(source, kind);
+    own.make_room(*fresh.allocator(), target)?;
     own.put(target, marks.weight, marks.first, marks.recent);
     Ok(RowBlock {
         block,

@@ -11,10 +11,11 @@ ghost use Rattle.edge_block.specs.Slots.{IsBlock, IsStamp, edges_in, edge_slot, 
 ghost use Rattle.edge_block.specs.Slots.{slots_since, old_in, has_before, IsOld};
 ghost use Rattle.edge_block.specs.Slots.{has_room_for, put_slot, take_slot, stamp_at, targets_in, with_slots};
 
-use crate::columns::{SLOTS, bounds_without, first_places, places_within, used_places};
+use crate::bodies::{Body, Lent, fitting};
+use crate::columns::{bounds_without, first_places, places_within, used_places};
 use graph_types::{Filter, KindId, VertexId};
 use lane_scan::{equal_columns, find_target, widened};
-use std::alloc::AllocError;
+use std::alloc::{AllocError, Global};
 use std::marker::Model;
 
 /// How many targets are copied at once, and not one by one: for fewer a call of `memcpy` takes longer.
@@ -22,8 +23,8 @@ const RUN: usize = 8;
 
 /// A block: a number, a source and a kind, and 32 slots, each empty or an edge.
 ///
-/// What a search reads lies together and first: a header of the live places, the kind, the source, the number and the
-/// bounds of the recent times, and then the targets. A clone is equal in everything, its number too.
+/// Its columns lie apart, for as many places as its edges ask for: the places behind them are dead. A clone is equal in
+/// everything, its number too.
 #[derive(Debug, Drop)]
 pub struct Block {
     /// Bit `k` is set where slot `k` has an edge.
@@ -33,11 +34,7 @@ pub struct Block {
     number: u32,
     /// The least and the greatest recent time of the edges; where there is no edge, anything.
     times: (u64, u64),
-    /// A dead place has the target 0, so that blocks with the same slots have the same column.
-    targets: [u32; SLOTS],
-    weights: [i64; SLOTS],
-    firsts: [u64; SLOTS],
-    recents: [u64; SLOTS],
+    body: Body,
 }
 
 impl Model for Block {
@@ -63,8 +60,6 @@ impl Clone for Block {
 
     ghost is_clone = { λ block copy. copy ≡ block };
 
-    ghost is_infallible = { λ _. ⊤ };
-
     fn clone(&self) -> Result<Self, AllocError> {
         Ok(Block {
             live: self.live,
@@ -72,10 +67,7 @@ impl Clone for Block {
             source: self.source,
             number: self.number,
             times: self.times,
-            targets: self.targets,
-            weights: self.weights,
-            firsts: self.firsts,
-            recents: self.recents,
+            body: self.body.clone()?,
         })
     }
 }
@@ -107,10 +99,7 @@ impl Block {
             source: VertexId(0),
             number,
             times: (0, 0),
-            targets: [0; SLOTS],
-            weights: [0; SLOTS],
-            firsts: [0; SLOTS],
-            recents: [0; SLOTS],
+            body: Body::Bare,
         }
     }
 
@@ -163,7 +152,7 @@ impl Block {
         ensures in_range { IfSome result (λ edge. IsStamp (lent_edge edge).stamp) }
         ensures block { IsBlock self.now }
     {
-        let place = find_target(&self.targets, self.live, target)?;
+        let place = find_target(self.body.targets(), self.live, target)?;
         Some(self.edge_at(place))
     }
 
@@ -174,7 +163,7 @@ impl Block {
         self.live = 0;
         self.kind = kind;
         self.source = source;
-        self.targets = [0; SLOTS];
+        self.body.clear();
     }
 
     /// Takes over another block's source, kind and slots, and keeps its own number.
@@ -185,11 +174,72 @@ impl Block {
         self.kind = other.kind;
         self.source = other.source;
         self.times = other.times;
-        self.targets = other.targets;
+        self.body.clear();
+        self.body.copy_first(other.body.lend(), used_places(other.live));
+    }
+
+    /// As `copy_from`, in columns of their own that have at least so many places.
+    pub fn copy_with_room(
+        &mut self,
+        alloc: Global,
+        other: &Block,
+        places: usize,
+    ) -> Result<(), AllocError> {
         let used = used_places(other.live);
-        self.weights[..used].copy_from_slice(&other.weights[..used]);
-        self.firsts[..used].copy_from_slice(&other.firsts[..used]);
-        self.recents[..used].copy_from_slice(&other.recents[..used]);
+        let places = places.max(used);
+        if fitting(places) == self.body.places() {
+            self.copy_from(other);
+            return Ok(());
+        }
+        let body = Body::of(alloc, places, other.body.lend(), used)?;
+        self.live = other.live;
+        self.kind = other.kind;
+        self.source = other.source;
+        self.times = other.times;
+        self.body = body;
+        Ok(())
+    }
+
+    /// How many places the columns have to have for a `put` of this target.
+    pub fn places_with(&self, target: u32) -> usize {
+        let used = used_places(self.live);
+        let free = self.live.trailing_ones() as usize;
+        if free < used {
+            used
+        } else {
+            match find_target(self.body.targets(), self.live, target) {
+                Some(_) => used,
+                None => free + 1,
+            }
+        }
+    }
+
+    /// Makes room in the columns for a `put` of this target.
+    #[inline]
+    pub fn make_room(&mut self, alloc: Global, target: u32) -> Result<(), AllocError> {
+        if (self.live.trailing_ones() as usize) < self.body.places() {
+            return Ok(());
+        }
+        self.grow(alloc, target)
+    }
+
+    fn grow(&mut self, alloc: Global, target: u32) -> Result<(), AllocError> {
+        let places = self.places_with(target);
+        if places > self.body.places() {
+            let body = Body::of(alloc, places, self.body.lend(), used_places(self.live))?;
+            self.body = body;
+        }
+        Ok(())
+    }
+
+    /// Puts the edges into columns of fewer places, where those have them all.
+    pub fn fit(&mut self, alloc: Global) -> Result<(), AllocError> {
+        let used = used_places(self.live);
+        if fitting(used) < self.body.places() {
+            let body = Body::of(alloc, used, self.body.lend(), used)?;
+            self.body = body;
+        }
+        Ok(())
     }
 
     /// Writes an edge over the slot of its target or, where there is none, into the lowest free slot.
@@ -203,13 +253,10 @@ impl Block {
         ensures { self.new ≡ with_slots self.old (put_slot (edge_slot target weight first recent) self.old.slots) }
     {
         let place = self.place_for(target);
-        let others = bounds_without(&self.recents, self.live, self.times, place);
+        let others = bounds_without(self.body.recents(), self.live, self.times, place);
         let times = widened(others, recent);
         self.times = times;
-        self.targets[place] = target;
-        self.weights[place] = weight;
-        self.firsts[place] = first;
-        self.recents[place] = recent;
+        self.body.write(place, target, weight, first, recent);
         self.live |= 1 << place;
     }
 
@@ -218,14 +265,14 @@ impl Block {
         ensures slots { self.new ≡ with_slots self.old (take_slot target self.old.slots) }
         ensures taken { result ≡ list_any (holds target) self.old.slots }
     {
-        let Some(place) = find_target(&self.targets, self.live, target) else {
+        let Some(place) = find_target(self.body.targets(), self.live, target) else {
             return false;
         };
-        let others = bounds_without(&self.recents, self.live, self.times, place);
+        let others = bounds_without(self.body.recents(), self.live, self.times, place);
         let times = others.unwrap_or(self.times);
         self.times = times;
         self.live &= !(1 << place);
-        self.targets[place] = 0;
+        self.body.write_target(place, 0);
         true
     }
 
@@ -267,7 +314,9 @@ impl Block {
     pub fn same_targets(&self, other: &Block) -> bool
         ensures { IsTrue result ↔ (targets_in self.now.slots ≡ targets_in other.now.slots) }
     {
-        self.live == other.live && equal_columns(&self.targets, &other.targets)
+        let used = used_places(self.live);
+        self.live == other.live
+            && equal_columns(&self.body.targets()[..used], &other.body.targets()[..used])
     }
 
     /// The least and the greatest recent time, or `None` where the block has no edge.
@@ -299,9 +348,15 @@ impl Block {
         ensures in_range { All (λ edge. IsStamp edge.stamp) (edges_left result) }
         ensures block { IsBlock self.now }
     {
+        self.lend_places(self.places_of(view) & self.live)
+    }
+
+    /// Lends the edges at these places, which are live.
+    fn lend_places(&self, mask: u32) -> BlockIter<'_> {
         BlockIter {
-            block: self,
-            mask: self.places_of(view),
+            kind: self.kind,
+            mask,
+            lent: self.body.lend(),
         }
     }
 
@@ -315,9 +370,9 @@ impl Block {
         let mask = self.places_of(view);
         let used = used_places(mask & self.live);
         if used >= RUN && mask & self.live == first_places(used) {
-            targets.extend_from_slice(&self.targets[..used])?;
+            targets.extend_from_slice(&self.body.targets()[..used])?;
         } else {
-            for edge in (BlockIter { block: self, mask }) {
+            for edge in self.lend_places(mask & self.live) {
                 targets.push(*edge.target)?;
             }
         }
@@ -333,7 +388,7 @@ impl Block {
         ensures block { IsBlock self.now }
     {
         if takes(view, self.kind) {
-            places_within(&self.recents, self.live, self.times, view.lo, view.hi)
+            places_within(self.body.recents(), self.live, self.times, view.lo, view.hi)
         } else {
             0
         }
@@ -346,7 +401,7 @@ impl Block {
         ensures puts { (weight : ℤ) (first recent : ℕ) → put_slot (edge_slot target weight first recent) self.now.slots
             ≡ slice_set self.now.slots result (Some (edge_slot target weight first recent)) }
     {
-        match find_target(&self.targets, self.live, target) {
+        match find_target(self.body.targets(), self.live, target) {
             Some(place) => place,
             None => self.live.trailing_ones() as usize,
         }
@@ -360,12 +415,13 @@ impl Block {
         ensures edge { slice_index_or self.now.slots place None
             ≡ Some (edge_slot result.target.now result.weight.now result.first.now result.recent.now) }
     {
+        let lent = self.body.lend();
         EdgeRef {
             kind: self.kind,
-            target: &self.targets[place],
-            weight: &self.weights[place],
-            first: &self.firsts[place],
-            recent: &self.recents[place],
+            target: &lent.targets[place],
+            weight: &lent.weights[place],
+            first: &lent.firsts[place],
+            recent: &lent.recents[place],
         }
     }
 }
@@ -383,9 +439,10 @@ fn takes(view: &Filter, kind: KindId) -> bool
 /// The edges of a view that a block has still to lend, in slot order.
 #[derive(Clone, Debug, Drop)]
 pub struct BlockIter<'a> {
-    block: &'a Block,
-    /// Of the places in the mask, those that are live are still to come.
+    kind: KindId,
+    /// The places that are still to come.
     mask: u32,
+    lent: Lent<'a>,
 }
 
 impl<'a> Iterator for BlockIter<'a> {
@@ -399,13 +456,20 @@ impl<'a> Iterator for BlockIter<'a> {
     ghost remaining = { item_count edges_left };
 
     fn next(&mut self) -> Option<EdgeRef<'a>> {
-        let block = self.block;
-        let due = self.mask & block.live;
+        let due = self.mask;
         if due == 0 {
             return None;
         }
         let place = due.trailing_zeros();
         self.mask = due & !(1 << place);
-        Some(block.edge_at(place as usize))
+        let place = place as usize;
+        let lent = self.lent;
+        Some(EdgeRef {
+            kind: self.kind,
+            target: &lent.targets[place],
+            weight: &lent.weights[place],
+            first: &lent.firsts[place],
+            recent: &lent.recents[place],
+        })
     }
 }

@@ -31,7 +31,7 @@ pub(crate) fn first_places(count: usize) -> u32
 /// A window that misses the times' bounds has none of them, and one that covers the bounds has all: then the times
 /// themselves are not read.
 pub(crate) fn places_within(
-    recents: &[u64; SLOTS],
+    recents: &[u64],
     live: u32,
     times: (u64, u64),
     lo: u64,
@@ -54,7 +54,7 @@ pub(crate) fn places_within(
 ///
 /// They are read anew only where the place may have one of the bounds.
 pub(crate) fn bounds_without(
-    recents: &[u64; SLOTS],
+    recents: &[u64],
     live: u32,
     times: (u64, u64),
     place: usize,

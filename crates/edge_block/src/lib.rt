@@ -5,6 +5,7 @@
 #![tactic(auto)]
 
 mod blocks;
+mod bodies;
 mod columns;
 mod laws;
 mod layout_laws;

@@ -71,7 +71,8 @@ impl Version {
             numbers_of (block_values copies.items) ≡ map (λ b. (block_value b).number) blocks.items) }
     {
         let held = blocks_in(*blocks.allocator(), &self.rows)?;
-        copy_each(blocks.as_mut_slice(), held.as_slice())?;
+        let alloc = *blocks.allocator();
+        copy_each(alloc, blocks.as_mut_slice(), held.as_slice())?;
         Ok(blocks)
     }
 
@@ -148,13 +149,17 @@ fn push_blocks(blocks: &mut Vec<Arc<Block>>, row: &[Arc<Block>]) -> Result<(), A
 }
 
 /// Gives each block what the one at its place holds; each keeps its number.
-fn copy_each(blocks: &mut [Arc<Block>], held: &[Arc<Block>]) -> Result<(), AllocError>
+fn copy_each(
+    alloc: Global,
+    blocks: &mut [Arc<Block>],
+    held: &[Arc<Block>],
+) -> Result<(), AllocError>
     requires { length held.now ≡ length blocks.old }
     ensures same { OnOk result (map unnumbered (block_values blocks.new) ≡ map unnumbered (block_values held.now)) }
     ensures numbers { OnOk result (numbers_of (block_values blocks.new) ≡ numbers_of (block_values blocks.old)) }
 {
     for place in 0..held.len() {
-        Arc::make_mut(&mut blocks[place])?.copy_from(&held[place]);
+        Arc::make_mut(&mut blocks[place])?.copy_with_room(alloc, &held[place], 0)?;
     }
     Ok(())
 }

@@ -35,6 +35,10 @@ fn target_mask(targets: &[u32], live: u32, target: u32) -> u32
         equal_lanes_4(targets, target) & live
     } else if targets.len() == 32 {
         equal_lanes_32(targets, target) & live
+    } else if targets.len() == 8 {
+        equal_lanes_8(targets, target) & live
+    } else if targets.len() == 16 {
+        equal_lanes_16(targets, target) & live
     } else {
         target_mask_one_by_one(targets, live, target)
     }
@@ -48,6 +52,20 @@ fn equal_lanes_4(targets: &[u32], target: u32) -> u32
 {
     let column = u32x4::from_slice(targets);
     column.simd_eq(u32x4::splat(target)).to_bitmask() as u32
+}
+
+/// Which of 8 places hold the target, as a mask.
+#[inline(always)]
+fn equal_lanes_8(targets: &[u32], target: u32) -> u32 {
+    let column = u32x8::from_slice(targets);
+    column.simd_eq(u32x8::splat(target)).to_bitmask() as u32
+}
+
+/// Which of 16 places hold the target, as a mask.
+#[inline(always)]
+fn equal_lanes_16(targets: &[u32], target: u32) -> u32 {
+    let column = u32x16::from_slice(targets);
+    column.simd_eq(u32x16::splat(target)).to_bitmask() as u32
 }
 
 /// Which of 32 places hold the target, as a mask.
@@ -83,6 +101,8 @@ pub fn window_mask(times: &[u64], live: u32, lo: u64, hi: u64) -> u32
         window_lanes_8(times, lo, hi) & live
     } else if times.len() == 32 {
         window_lanes_32(times, lo, hi) & live
+    } else if times.len() == 16 {
+        window_lanes_16(times, lo, hi) & live
     } else {
         window_mask_one_by_one(times, live, lo, hi)
     }
@@ -98,6 +118,15 @@ fn window_lanes_8(times: &[u64], lo: u64, hi: u64) -> u32
     let column = u64x8::from_slice(times);
     let from = u64x8::splat(lo).simd_le(column).to_bitmask() as u32;
     let to = column.simd_le(u64x8::splat(hi)).to_bitmask() as u32;
+    from & to
+}
+
+/// Which of 16 places have a value in `lo..=hi`, as a mask.
+#[inline(always)]
+fn window_lanes_16(times: &[u64], lo: u64, hi: u64) -> u32 {
+    let column = u64x16::from_slice(times);
+    let from = u64x16::splat(lo).simd_le(column).to_bitmask() as u32;
+    let to = column.simd_le(u64x16::splat(hi)).to_bitmask() as u32;
     from & to
 }
 
