@@ -91,10 +91,10 @@ class Following(Case):
     def test_a_file_that_grows(self):
         rows = some_rows(600)
         text, path = text_of(rows), self.file("grows.csv", "")
-        followed, model, written = self.follow(path, every=0.02), Model(rows), []
+        followed, model, written, seen = self.follow(path, every=0.02), Model(rows), [], threading.Semaphore(0)
 
         def write():
-            made = random.Random(1)
+            made, quarter = random.Random(1), len(text) // 4
             with open(path, "a", newline="") as file:
                 while sum(written) < len(text):
                     at = sum(written)
@@ -102,12 +102,17 @@ class Following(Case):
                     file.write(text[at:at + written[-1]])
                     file.flush()
                     time.sleep(0.005)
+                    # Each quarter waits for a step more, so that there are four also on a slow machine.
+                    if at // quarter < sum(written) // quarter:
+                        seen.acquire(timeout=60)
         thread = threading.Thread(target=write)
         thread.start()
         steps = [next(followed)]
         while steps[-1].rows < len(rows):
+            seen.release()
             self.check(steps[-1], followed, model)
             steps.append(next(followed))
+        seen.release()
         thread.join()
         self.check(steps[-1], followed, model)
         self.assertEqual((steps[-1].line, steps[-1].bad, steps[-1].rows), (600, 0, 600))
