@@ -111,7 +111,8 @@ class Lines:
         for number in (1, 0):
             yield from self.opened(number)
         yield "fresh 0"
-        yield from self.opened(0)
+        for _ in range(2):
+            yield from self.opened(0)
 
     def opened(self, number: int) -> Iterator[str]:
         yield self.edges(self.left)
