@@ -23,11 +23,10 @@ use crate::workers::{Gate, Job, PassAll, do_all, do_alone};
 use batch_shards::{Leavings, Shard, ShardDone};
 use edge_block::Block;
 use graph_types::{Batch, Outcome, VertexId, write_outcomes};
-use graph_version::{RowTable, Version, VersionDraft};
+use graph_version::{Row, RowTable, Version, VersionDraft};
 use std::alloc::{AllocError, Global};
 use std::sync::Arc;
 use std::thread::Threads;
-use version_pages::Row;
 use vertex_names::NameBook;
 
 /// What a batch leaves of a version.

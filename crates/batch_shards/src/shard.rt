@@ -16,10 +16,9 @@ use crate::row_blocks::RowBlock;
 use crate::rows::Hints;
 use edge_block::Block;
 use graph_types::{EdgeChange, KindId, Outcome, VertexId};
-use graph_version::Version;
+use graph_version::{Row, Version};
 use std::alloc::{AllocError, Global};
 use std::sync::Arc;
-use version_pages::Row;
 
 /// The row of a source while a batch goes on.
 #[derive(Drop)]

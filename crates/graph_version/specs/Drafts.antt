@@ -3,7 +3,7 @@ use Rattle.std.specs.Prelude.{◌≡◌, List, ℕ, ◌++◌, ◌∷◌, [], ◌
 use Rattle.graph_types.specs.declared.{batches.NamedOp.NamedOp, ids.VertexId.VertexId}
 use Rattle.edge_block.specs.Slots.{BlockView}
 use Rattle.vertex_names.specs.Book.{Book}
-use Rattle.version_pages.specs.Rows.{row_of, Replaces}
+use Rattle.graph_version.specs.Rows.{row_of, Replaces}
 use Rattle.graph_version.specs.{Versions.{VersionView, content, IsVersion}, Kept.{vertex_book, kind_book}}
 
 -- the two books, and what the version would be now

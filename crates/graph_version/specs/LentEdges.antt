@@ -2,7 +2,7 @@
 use Rattle.std.specs.Prelude.{ℕ, List, ◌++◌, map, drop}
 use Rattle.graph_types.specs.declared.ids.{Edge.Edge, VertexId.VertexId}
 use Rattle.edge_block.specs.{Slots.BlockView, Lending.{LentEdge, lent_edge}, declared.blocks.EdgeRef.EdgeRef}
-use Rattle.version_pages.specs.{Rows.blocks_of, Sharing.block_values}
+use Rattle.graph_version.specs.{Rows.blocks_of, Sharing.block_values}
 use Rattle.graph_version.specs.{Edges.edges_in_blocks, Lending.left_in}
 use Rattle.graph_version.specs.declared.edges.{RowBlocks.RowBlocks, EdgeIter.EdgeIter}
 

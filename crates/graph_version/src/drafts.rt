@@ -1,15 +1,17 @@
 //! The draft of a version.
 
 ghost use Rattle.std.specs.Prelude.{◌≡◌, ◌%◌, ◌^◌, ◌<◌, length, IfOk, IfSome};
-ghost use Rattle.version_pages.specs.Batches.{batch_value};
-ghost use Rattle.version_pages.specs.Rows.{blocks_of};
-ghost use Rattle.version_pages.specs.Sharing.{block_values};
+ghost use Rattle.graph_version.specs.Batches.{batch_value};
+ghost use Rattle.graph_version.specs.Rows.{blocks_of};
+ghost use Rattle.graph_version.specs.Sharing.{block_values};
 ghost use Rattle.graph_version.specs.Edges.{edges_in_blocks};
 ghost use Rattle.graph_version.specs.Kept.{edge_total};
 ghost use Rattle.graph_version.specs.Drafts.{drafted_over, with_batch, row_values, ReplacesRow, ReplacesRows, IsWhole};
 
 use crate::batch_log::BatchLog;
 use crate::opening::Opening;
+use crate::row::Row;
+use crate::rows::Rows;
 use crate::tables::RowTable;
 use crate::versions::Version;
 use edge_block::Block;
@@ -17,7 +19,6 @@ use graph_types::{Batch, VertexId};
 use std::alloc::AllocError;
 use std::marker::Model;
 use std::sync::Arc;
-use version_pages::{Row, Rows};
 use vertex_names::NameBook;
 
 /// A version that is being made over another one, from which it takes all that isn't set or replaced.

@@ -1,14 +1,14 @@
 //! All edges of a version, as it lends them.
 
 ghost use Rattle.std.specs.Prelude.{◌≡◌};
-ghost use Rattle.version_pages.specs.Rows.{blocks_of};
+ghost use Rattle.graph_version.specs.Rows.{blocks_of};
 ghost use Rattle.graph_version.specs.Edges.{edges_in_blocks};
 
 use crate::lending::{all_edges, next_in};
+use crate::rows::Rows;
 use edge_block::{Block, BlockIter, EdgeRef};
 use graph_types::VertexId;
 use std::sync::Arc;
-use version_pages::Rows;
 
 /// The blocks of rows that are still to be lent, row by row.
 #[derive(Drop)]

@@ -6,9 +6,9 @@ ghost use Rattle.graph_types.specs.Graph.{IsContentIn, graph_in};
 ghost use Rattle.graph_types.specs.Limits.{AreLimits};
 ghost use Rattle.graph_types.specs.declared.batches.NamedOp.{NamedOp};
 ghost use Rattle.edge_block.specs.Lending.{lent_edge};
-ghost use Rattle.version_pages.specs.Rows.{row_of, blocks_of, numbers_of};
-ghost use Rattle.version_pages.specs.Sharing.{block_values};
-ghost use Rattle.version_pages.specs.Ages.{IsNextOld};
+ghost use Rattle.graph_version.specs.Rows.{row_of, blocks_of, numbers_of};
+ghost use Rattle.graph_version.specs.Sharing.{block_values};
+ghost use Rattle.graph_version.specs.Ages.{IsNextOld};
 ghost use Rattle.graph_version.specs.Versions.{IsVersion, empty_version, empty_version_in, content};
 ghost use Rattle.edge_block.specs.Rows.{shape_of, block_at};
 ghost use Rattle.graph_version.specs.Edges.{lent_to, edges_in_blocks, AreEachOnce};
@@ -17,16 +17,17 @@ ghost use Rattle.graph_version.specs.Kept.{vertex_book, kind_book, edge_total};
 ghost use Rattle.graph_version.specs.Logs.{keeps_batches};
 
 use crate::batch_log::{BatchLog, keeps_batches};
+use crate::batches::BatchIter;
 use crate::edges::EdgeIter;
 use crate::lending::{BlockNumbers, RowIter};
 use crate::opening::Opening;
+use crate::rows::Rows;
 use edge_block::{Block, EdgeRef};
 use graph_types::{Batch, Content, KindId, Limits, VertexId};
 use std::alloc::Global;
 use std::fmt;
 use std::marker::Model;
 use std::sync::Arc;
-use version_pages::{BatchIter, Rows};
 use vertex_names::NameBook;
 
 /// A graph after some batches. It never changes.
@@ -85,7 +86,7 @@ impl Model for Version {
 }
 
 impl Version {
-    ghost use Rattle.version_pages.specs.BatchLending.{batches_left};
+    ghost use Rattle.graph_version.specs.BatchLending.{batches_left};
     ghost use Rattle.graph_version.specs.Lending.{lent_at, lent_in_blocks, row_left, numbers_left};
 
     /// The version without batches, under the standard limits: no name, no kind, no edge. It takes no memory.
