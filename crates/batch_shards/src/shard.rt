@@ -65,7 +65,7 @@ impl Step {
     }
 
     /// Whether it takes out old edges.
-    pub fn is_expiry(&self) -> bool
+    pub(crate) fn is_expiry(&self) -> bool
         ensures { result ≡ is_expiry self.now.act }
     {
         match self.act {
@@ -75,7 +75,7 @@ impl Step {
     }
 
     /// The time of an expiry, 0 of an operation on an edge.
-    pub fn expiry_time(&self) -> u64
+    pub(crate) fn expiry_time(&self) -> u64
         ensures { result ≡ act_time self.now.act }
     {
         match self.act {
