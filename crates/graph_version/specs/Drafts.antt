@@ -39,6 +39,13 @@ pub record ReplacesRows (rows : List (ℕ × List BlockView)) (before after : Dr
   pub rows_are : (source : ℕ) → row_of after.version.rows source ≡ row_among rows source (row_of before.version.rows source)
   pub rest : after ≡ record before { version = record before.version { rows = after.version.rows } }
 
+-- the draft of the version after this one: with these books, where these rows took their places, and with one more batch
+pub record IsNextDraft (v : VersionView) (names kinds : Book) (rows : List (ℕ × List BlockView)) (batch : List NamedOp)
+    (d : DraftView) : Type 0 where
+  pub put : DraftView
+  pub rows_are : ReplacesRows rows (record (drafted_over v) { names = names; kinds = kinds }) put
+  pub draft_is : d ≡ with_batch put batch
+
 -- a draft that is a version: its rows have what its batches leave, and its books have the names
 pub record IsWhole (d : DraftView) : Type 0 where
   pub names_are : d.names ≡ vertex_book (content d.version)
