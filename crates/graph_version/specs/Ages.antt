@@ -1,5 +1,5 @@
 -- Rows by when their edges were last touched.
-use Rattle.std.specs.{Prelude.{◌≡◌, ◌+◌, ◌<◌, ◌≤◌, ℕ, List, length, All, Bool, true, false}, List.list_any}
+use Rattle.std.specs.{Prelude.{◌≡◌, ◌+◌, ◌<◌, ◌≤◌, ℕ, List, length, All, Bool, true, false, count_by}, List.list_any}
 use Rattle.std.specs.declared.option.Option.{Option, TheVariants.{None, Some}}
 use Rattle.graph_types.specs.declared.ids.VertexId.{VertexId}
 use Rattle.edge_block.specs.Slots.{BlockView, has_before}
@@ -8,6 +8,10 @@ use Rattle.graph_version.specs.Rows.{row_of}
 -- whether a row has a block with an edge that was last touched before a time
 abbrev pub is_old_row : ℕ → List BlockView → Bool
 is_old_row time row = list_any (λ b. has_before time b.slots) row
+
+-- how many of a row's blocks have one
+abbrev pub old_blocks : ℕ → List BlockView → ℕ
+old_blocks time row = count_by (λ b. has_before time b.slots) row
 
 -- no row is one with an edge from before a time
 abbrev pub AreSince : ℕ → List (List BlockView) → Type 0

@@ -4,7 +4,7 @@ ghost use Rattle.std.specs.Prelude.{◌≡◌, [], IfOk, false};
 ghost use Rattle.std.specs.Option.{option_to_list};
 ghost use Rattle.edge_block.specs.Slots.{has_before};
 ghost use Rattle.graph_version.specs.Sharing.{block_values, row_block_values};
-ghost use Rattle.graph_version.specs.Ages.{is_old_row};
+ghost use Rattle.graph_version.specs.Ages.{is_old_row, old_blocks};
 
 use edge_block::Block;
 use std::alloc::{AllocError, Global};
@@ -89,6 +89,19 @@ fn any_before(blocks: &[Arc<Block>], time: u64) -> bool
         }
     }
     false
+}
+
+/// How many blocks have an edge that was last touched before a time.
+pub(crate) fn old_blocks_in(blocks: &[Arc<Block>], time: u64) -> usize
+    ensures { result ≡ old_blocks time (block_values blocks.now) }
+{
+    let mut count = 0_usize;
+    for block in blocks {
+        if block.has_before(time) {
+            count += 1;
+        }
+    }
+    count
 }
 
 /// A source's row, and since when its edges have been touched.

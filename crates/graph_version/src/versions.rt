@@ -1,6 +1,6 @@
 //! The version and its calls.
 
-ghost use Rattle.std.specs.Prelude.{◌≡◌, ◌%◌, ◌^◌, ◌++◌, ◌∷◌, [], true, List, length, MatchOption};
+ghost use Rattle.std.specs.Prelude.{◌≡◌, ◌%◌, ◌^◌, ◌++◌, ◌∷◌, [], true, List, length, IfSome, MatchOption};
 ghost use Rattle.std.specs.Option.{option_map};
 ghost use Rattle.graph_types.specs.Graph.{IsContentIn, graph_in};
 ghost use Rattle.graph_types.specs.Limits.{AreLimits};
@@ -8,7 +8,7 @@ ghost use Rattle.graph_types.specs.declared.batches.NamedOp.{NamedOp};
 ghost use Rattle.edge_block.specs.Lending.{lent_edge};
 ghost use Rattle.graph_version.specs.Rows.{row_of, blocks_of, numbers_of};
 ghost use Rattle.graph_version.specs.Sharing.{block_values};
-ghost use Rattle.graph_version.specs.Ages.{IsNextOld};
+ghost use Rattle.graph_version.specs.Ages.{IsNextOld, old_blocks};
 ghost use Rattle.graph_version.specs.Versions.{IsVersion, empty_version, empty_version_in, content};
 ghost use Rattle.edge_block.specs.Rows.{shape_of, block_at};
 ghost use Rattle.graph_version.specs.Edges.{lent_to, edges_in_blocks, AreEachOnce};
@@ -21,6 +21,7 @@ use crate::batches::BatchIter;
 use crate::edges::EdgeIter;
 use crate::lending::{BlockNumbers, RowIter};
 use crate::opening::Opening;
+use crate::row::old_blocks_in;
 use crate::rows::Rows;
 use edge_block::{Block, EdgeRef};
 use graph_types::{Batch, Content, KindId, Limits, VertexId};
@@ -269,6 +270,21 @@ impl Version {
         ensures { IsNextOld time self.now.rows from.0 result }
     {
         self.rows.next_old(from, time)
+    }
+
+    /// The next vertex as [`Version::next_old`] finds it, and how many blocks of its row have such an edge.
+    pub fn next_old_row(&self, from: VertexId, time: u64) -> Option<(VertexId, usize)>
+        ensures next { IsNextOld time self.now.rows from.0 (option_map (λ r. r.0) result) }
+        ensures blocks { IfSome result (λ r. r.1 ≡ old_blocks time (row_of self.now.rows r.0.0)) }
+        ensures version { IsVersion self.now }
+    {
+        match self.rows.next_old(from, time) {
+            None => None,
+            Some(source) => {
+                let blocks = old_blocks_in(self.rows.row_blocks(source), time);
+                Some((source, blocks))
+            }
+        }
     }
 
     /// The numbers of the blocks, row by row.
