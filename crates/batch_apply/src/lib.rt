@@ -29,7 +29,7 @@ pub use laws::{
     law_sum_all, law_worker_rows,
 };
 pub use old::{OldRow, old_rows};
-pub use planning::{plan, plan_with};
+pub use planning::{plan, plan_shared, plan_with};
 pub use plans::Plan;
 pub use ranks::{Ranks, rank};
 pub use source_laws::law_sources_within;

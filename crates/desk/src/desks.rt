@@ -179,16 +179,14 @@ impl Desk {
 
     /// Grants blocks for a batch that was planned over the last version; or refuses it, and gives the desk back as it was. What is
     /// then needed to apply the batch goes to whoever does that, with workers or without; [`Granted::ready`] takes what comes of
-    /// it. Who wants a refused batch back keeps a shared copy of it.
+    /// it.
     ///
     /// `PoolEmpty` where fewer blocks are free than the batch asks for, and `OutOfMemory` where a growth was refused.
-    ///
-    /// ```
-    /// let (granted, Load { plan, batch, blocks, table }) = desk.grant(batch, plan)?;
-    /// let rewritten = apply_over(rt, alloc, &PassAll, granted.last(), plan, batch, blocks, table);
-    /// let ready = granted.ready(rewritten)?;
-    /// ```
-    pub fn grant(self, batch: Arc<Batch>, plan: Plan) -> Result<(Granted, Load), (Desk, ApplyError)>
+    pub(crate) fn grant(
+        self,
+        batch: Arc<Batch>,
+        plan: Plan,
+    ) -> Result<(Granted, Load), (Desk, ApplyError)>
         requires planned { (workers : ℕ) × IsPlanned self.last workers (batch_value batch) plan }
         ensures granted { IfOk result (λ r. r.0
             ≡ record { old = self; ops = batch_value batch; numbers = shared_numbers r.1.blocks.items }) }

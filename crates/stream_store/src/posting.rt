@@ -22,7 +22,7 @@ ghost use Rattle.desk.specs.Refusals.{Refuses, IsWithin, block_count};
 ghost use Rattle.stream_store.specs.Applying.{IsReceipt};
 ghost use Rattle.stream_store.specs.Kept.{DeskState, IsDeskState, kept_desk};
 
-use crate::applying::{make_ready, plan_next, post_and_finish};
+use crate::applying::post_and_finish;
 use crate::config::Config;
 use crate::receipts::Receipt;
 use batch_apply::Gate;
@@ -116,21 +116,12 @@ impl Desk {
         ensures within { OnOk result (IsWithin self.old.desk.last (count_by is_free self.old.desk.pool) batch) }
         ensures refused { IfErr result (λ e. Refuses self.old.desk.last (count_by is_free self.old.desk.pool) batch e) }
         ensures unchanged { OnErr result (self.new ≡ self.old) }
+        ensures used { count_by is_in_use self.old.desk.pool ≡ block_count self.old.desk.last }
     {
-        let plan = plan_next(
-            rt,
-            self.kept().allocator(),
-            self.last(),
-            &batch,
-            self.workers,
-        )?;
-        let Ok(batch) = Arc::new(self.kept().allocator(), batch) else {
-            return Err(ApplyError::OutOfMemory);
-        };
         let Some(kept) = self.kept.take() else {
             unreachable!()
         };
-        let ready = match make_ready(rt, gate, kept, batch, plan) {
+        let ready = match kept.begin_at_once(rt, gate, batch, self.workers) {
             Ok(ready) => ready,
             Err((kept, error)) => {
                 self.kept = Some(kept);
