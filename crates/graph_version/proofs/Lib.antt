@@ -11,3 +11,4 @@ pub mod Arcs
 pub mod Members
 pub mod Rows
 pub mod Targets
+pub mod Into

@@ -6,6 +6,7 @@ pub mod Kept
 pub mod Drafts
 pub mod Lending
 pub mod LentEdges
+pub mod InEdges
 pub mod Rebased
 pub use Rattle.version_pages.specs.Rows
 pub mod Listed

@@ -11,6 +11,7 @@
 mod batch_log;
 mod drafts;
 mod edges;
+mod in_edges;
 mod laws;
 mod lending;
 mod listed;
@@ -27,6 +28,7 @@ mod versions;
 
 pub use drafts::VersionDraft;
 pub use edges::EdgeIter;
+pub use in_edges::InEdgeIter;
 pub use laws::{law_empty_version, law_rows_each_once};
 pub use lending::{BlockNumbers, RowIter};
 pub use listed_arcs::ListedArcs;

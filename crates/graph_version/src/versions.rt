@@ -13,11 +13,13 @@ ghost use Rattle.graph_version.specs.Versions.{IsVersion, empty_version, empty_v
 ghost use Rattle.edge_block.specs.Rows.{shape_of, block_at};
 ghost use Rattle.graph_version.specs.Edges.{lent_to, edges_in_blocks, AreEachOnce};
 ghost use Rattle.graph_version.specs.LentEdges.{edges_to_come};
+ghost use Rattle.graph_version.specs.InEdges.{edges_into, into_left};
 ghost use Rattle.graph_version.specs.Kept.{vertex_book, kind_book, edge_total};
 ghost use Rattle.graph_version.specs.Logs.{keeps_batches};
 
 use crate::batch_log::{BatchLog, keeps_batches};
 use crate::edges::EdgeIter;
+use crate::in_edges::InEdgeIter;
 use crate::lending::{BlockNumbers, RowIter};
 use crate::opening::Opening;
 use edge_block::{Block, EdgeRef};
@@ -228,12 +230,12 @@ impl Version {
         None
     }
 
-    /// Lends all edges, each with its source: sources rising, and those of one source as [`Version::row`] lends them. It
-    /// takes no memory, and time by the vertices and edges.
+    /// All edges by value: sources rising, and those of one source as [`Version::row`] lends them. It takes no memory, and time
+    /// by the vertices and edges.
     ///
     /// ```
-    /// for (source, edge) in version.edges() {
-    ///     println!(&rt; "{} {} {}", source.0, edge.target, edge.weight)?;
+    /// for edge in version.edges() {
+    ///     println!(&rt; "{} {} {}", edge.source.0, edge.target.0, edge.weight)?;
     /// }
     /// ```
     pub fn edges(&self) -> EdgeIter<'_>
@@ -241,6 +243,33 @@ impl Version {
         ensures each_once { AreEachOnce (edges_to_come result) (content self.now) }
     {
         EdgeIter::over(&self.rows)
+    }
+
+    /// The edges that leave a vertex by value, as [`Version::row`] lends them. It takes no memory.
+    ///
+    /// ```
+    /// let edges = Vec::from_iter(alloc, version.out_edges(source))?;
+    /// ```
+    pub fn out_edges(&self, source: VertexId) -> EdgeIter<'_>
+        ensures edges { edges_to_come result ≡ edges_in_blocks (row_of self.now.rows source.0) }
+        ensures version { IsVersion self.now }
+    {
+        EdgeIter::of_row(&self.rows, source)
+    }
+
+    /// The edges that lead to a vertex, in the order of [`Version::edges`]. It takes no memory. Blocks are kept by sources alone,
+    /// so it looks once into each block of the version, however few of its edges lead there.
+    ///
+    /// ```
+    /// for edge in version.in_edges(target) {
+    ///     println!(&rt; "{} {}", edge.source.0, edge.weight)?;
+    /// }
+    /// ```
+    pub fn in_edges(&self, target: VertexId) -> InEdgeIter<'_>
+        ensures edges { into_left result ≡ edges_into target.0 (edges_in_blocks (blocks_of self.now.rows)) }
+        ensures version { IsVersion self.now }
+    {
+        InEdgeIter::over(&self.rows, target)
     }
 
     /// Lends the edges that leave a vertex: blocks in row order, slots rising.

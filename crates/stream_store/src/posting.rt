@@ -30,6 +30,7 @@ use block_reclamation::PinCopy;
 use desk::{ApplyError, Collected, JournalEntry, Stat};
 use graph_types::Batch;
 use graph_version::Version;
+use std::fmt;
 use std::marker::Model;
 use std::sync::{Arc, Wait};
 use std::thread::Threads;
@@ -49,6 +50,16 @@ pub struct Desk {
     kept: Option<desk::Desk>,
     workers: usize,
     shelf: ShelfWriter,
+}
+
+// Written by hand: its counts, and neither the last version's graph nor the journal.
+impl fmt::Debug for Desk {
+    fn fmt<F: fmt::Write>(&self, f: &mut fmt::Formatter<F>) -> fmt::Result {
+        f.debug_struct("Desk")
+            .field("workers", &self.workers)
+            .field("stat", &self.stat())
+            .finish_non_exhaustive()
+    }
 }
 
 // Written by hand: who lets one go rests on this function, and not on how each part is let go.

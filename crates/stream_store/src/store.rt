@@ -29,6 +29,7 @@ use desk::{ApplyError, Collected, Stat};
 use graph_types::Batch;
 use graph_version::Version;
 use std::alloc::AllocError;
+use std::fmt;
 use std::marker::{Brand, Model, PhantomData};
 use std::sync::{Arc, Mutex, MutexGuard, Wait};
 use std::thread::Threads;
@@ -150,6 +151,13 @@ impl<J: Naming> NamedDesk<J> {
 pub struct Store<J: Naming> {
     desk: Mutex<NamedDesk<J>>,
     board: Mutex<KeptBoard>,
+}
+
+// Written by hand: it takes no lock, so it shows nothing that a lock guards.
+impl<J: Naming> fmt::Debug for Store<J> {
+    fn fmt<F: fmt::Write>(&self, f: &mut fmt::Formatter<F>) -> fmt::Result {
+        f.debug_struct("Store").finish_non_exhaustive()
+    }
 }
 
 impl<J: Naming> Store<J> {
