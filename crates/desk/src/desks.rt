@@ -17,7 +17,8 @@ ghost use Rattle.block_reclamation.specs.Copies.{floor_of};
 ghost use Rattle.store_steps.specs.Desks.{IsDesk, IsCollected, births_in, collections};
 ghost use Rattle.store_steps.specs.Dates.{AreDated};
 ghost use Rattle.store_steps.specs.Opening.{IsVersionZero, opened_desk};
-ghost use Rattle.store_steps.specs.Steps.{Accepts, TakesAt, recycling};
+ghost use Rattle.store_steps.specs.Acceptances.{Accepts};
+ghost use Rattle.store_steps.specs.Steps.{SimulatesAt, recycling};
 ghost use Rattle.batch_shards.specs.RowBlocks.{shared_numbers};
 ghost use Rattle.desk.specs.Ready.{IsLoad};
 ghost use Rattle.desk.specs.Refusals.{Refuses, IsWithin, IsPlanned, block_count};
@@ -279,7 +280,7 @@ impl Desk {
         requires { copy.now.last ≤ length self.old.last.batches }
         ensures collected { IsCollected self.old copy.now self.new }
         ensures births { (source : ℕ) → births_in self.new source ≡ births_in self.old source }
-        ensures steps { TakesAt copy.now self.old (recycling copy.now self.old.pool) self.new }
+        ensures steps { SimulatesAt copy.now self.old (recycling copy.now self.old.pool) self.new }
         ensures floor { result.floor ≡ floor_of copy.now }
         ensures recycled { result.recycled ≡ count_by (is_reclaimable copy.now) self.old.pool }
         ensures retired { result.retired ≡ count_by is_retired self.new.pool }

@@ -13,7 +13,7 @@ ghost use Rattle.batch_apply.specs.Rewritten.{IsRewritten};
 ghost use Rattle.block_reclamation.specs.Status.{is_free, is_retired};
 ghost use Rattle.block_reclamation.specs.declared.status.BlockStatus.TheVariants as statuses;
 ghost use Rattle.block_pool.specs.Pools.{AreFree, marked};
-ghost use Rattle.store_steps.specs.Steps.{Accepts};
+ghost use Rattle.store_steps.specs.Acceptances.{Accepts};
 ghost use Rattle.store_steps.specs.Desks.{IsDesk};
 ghost use Rattle.desk.specs.Applying.{IsPrepared};
 ghost use Rattle.desk.specs.Kept.{desk_in};

@@ -4,7 +4,7 @@ use Rattle.graph_types.specs.declared.batches.NamedOp.{NamedOp}
 use Rattle.graph_version.specs.Versions.{VersionView}
 use Rattle.batch_apply.specs.declared.plans.Plan.{Plan}
 use Rattle.version_shelf.specs.Shelves.{ShelfView, IsNext}
-use Rattle.store_steps.specs.{Desks.DeskView, Journal.Ledger, Steps.Accepts}
+use Rattle.store_steps.specs.{Desks.DeskView, Journal.Ledger, Acceptances.Accepts}
 use Rattle.desk.specs.Refusals.{IsPlanned}
 use Rattle.stream_store.specs.{Applying.{IsAdmitted, workers_for}, Kept.{DeskState, IsDeskState}}
 

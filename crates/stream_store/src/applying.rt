@@ -7,7 +7,7 @@ ghost use Rattle.graph_version.specs.Batches.{batch_value};
 ghost use Rattle.graph_version.specs.Versions.{content};
 ghost use Rattle.graph_version.specs.declared.versions.Version.{Version};
 ghost use Rattle.block_reclamation.specs.Status.{is_free};
-ghost use Rattle.store_steps.specs.Steps.{Accepts};
+ghost use Rattle.store_steps.specs.Acceptances.{Accepts};
 ghost use Rattle.version_shelf.specs.Shelves.{IsNext};
 ghost use Rattle.desk.specs.Refusals.{Refuses, IsWithin};
 ghost use Rattle.stream_store.specs.Applying.{IsAdmitted, workers_for};

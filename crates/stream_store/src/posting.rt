@@ -16,7 +16,8 @@ ghost use Rattle.version_shelf.specs.Shelves.{opened_shelf};
 ghost use Rattle.store_steps.specs.Desks.{IsDesk, IsCollected, births_in};
 ghost use Rattle.store_steps.specs.Dates.{AreDated};
 ghost use Rattle.store_steps.specs.Opening.{IsVersionZero, opened_desk};
-ghost use Rattle.store_steps.specs.Steps.{Accepts, TakesAt, recycling};
+ghost use Rattle.store_steps.specs.Acceptances.{Accepts};
+ghost use Rattle.store_steps.specs.Steps.{SimulatesAt, recycling};
 ghost use Rattle.desk.specs.Kept.{journal_entry};
 ghost use Rattle.desk.specs.Refusals.{Refuses, IsWithin, block_count};
 ghost use Rattle.stream_store.specs.Applying.{IsReceipt};
@@ -157,7 +158,7 @@ impl Desk {
         ensures workers { self.new.workers ≡ self.old.workers }
         ensures collected { IsCollected self.old.desk copy.now self.new.desk }
         ensures births { (source : ℕ) → births_in self.new.desk source ≡ births_in self.old.desk source }
-        ensures steps { TakesAt copy.now self.old.desk (recycling copy.now self.old.desk.pool) self.new.desk }
+        ensures steps { SimulatesAt copy.now self.old.desk (recycling copy.now self.old.desk.pool) self.new.desk }
         ensures floor { result.floor ≡ floor_of copy.now }
         ensures recycled { result.recycled ≡ count_by (is_reclaimable copy.now) self.old.desk.pool }
         ensures retired { result.retired ≡ count_by is_retired self.new.desk.pool }

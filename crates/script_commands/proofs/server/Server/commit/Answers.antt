@@ -1,5 +1,5 @@
 use Rattle.std.proofs.Common.{rules, refl, ◌≡◌, ◌∙◌, List, [], ap, sym, subst}
-use Rattle.store_steps.specs.{Desks.DeskView, Steps.Accepts}
+use Rattle.store_steps.specs.{Desks.DeskView, Acceptances.Accepts}
 use Rattle.stream_store.specs.Kept.{DeskState}
 use Rattle.script_commands.specs.{Servers.ShowsDesk, Servers.IsServer, declared.server.Server.Server}
 use Rattle.graph_types.specs.{Graph.Graph, declared.batches.NamedOp.NamedOp}
