@@ -9,17 +9,18 @@ use Rattle.graph_version.specs.{declared.versions.Version.Version, Versions.Vers
 use Rattle.block_reclamation.specs.{Status.{is_among, is_free, is_retired, is_in_use}, declared.status.BlockStatus.BlockStatus}
 use Rattle.block_reclamation.specs.declared.status.BlockStatus.TheVariants.{Free, Granted, Used}
 use Rattle.block_pool.specs.Pools.{retired, marked, changed_numbers, AreFree}
-use Rattle.store_steps.{specs.{Journal.Entry, Desks.{DeskView, IsDesk, FollowsLayout}, Steps.Accepts}, proofs.BatchLaws.accepted_steps}
-use Rattle.store_steps.proofs.Applications.{Application, next_desk, born_pool, retired_pool, moves_left}
-use Rattle.store_steps.proofs.{Accepting.{made_accepted, made_desk}, RetiredCounts.retired_room, GrantedBlocks.taken_granted}
+use Rattle.store_steps.specs.{Journal.Entry, Desks.{DeskView, IsDesk}, Acceptances.{Accepts, IsAppliedTo}}
+use Rattle.store_steps.proofs.{BatchLaws.made_accepts, Accepting.made_desk, RetiredCounts.retired_room}
+use Rattle.store_steps.proofs.Applications.{DeskApplication, next_desk, born_pool, retired_pool, moves_left}
+use Rattle.store_steps.proofs.GrantedBlocks.{taken_granted}
 use Rattle.store_steps.proofs.GrantedBlocks.{taken_movable, dropped_movable, unused_movable, granted_movable, given_back}
 use Rattle.store_steps.proofs.{GrantedBlocks.{born_movable, born_given_back}, ChangedLists.length-changed}
 use Rattle.block_pool.proofs.Grants.{length-marked}
 use Rattle.batch_apply.{specs.declared.plans.Plan.Plan, proofs.Asked.needs_within}
 use Rattle.graph_types.specs.declared.refusals.ApplyError.{ApplyError}
 use Rattle.desk.specs.declared.entries.JournalEntry.{JournalEntry}
-use Rattle.desk.specs.{declared.applying.Prepared.Prepared, Kept.{IsKeptDesk, desk_of, journal_entry}, Applying.IsPrepared}
-use Rattle.desk.specs.{Applying.{AreUsedOnce, AreBornOnce}, Refusals.{Refuses, RefusesGrant, IsPlanned, IsWithin, asked}}
+use Rattle.desk.specs.{declared.applying.Prepared.Prepared, Kept.{IsKeptDesk, desk_of, journal_entry}}
+use Rattle.desk.specs.{Applying.{AreUsedOnce, AreBornOnce, IsPrepared, application_of}, Refusals.{Refuses, RefusesGrant, IsPlanned, IsWithin, asked}}
 use Rattle.desk.{specs.Refusals.block_count, proofs.UsedBlocks.used_blocks}
 use Rattle.graph_version.specs.Rows as rows
 use Rattle.desk.specs.declared.entries.JournalEntry.TheVariants as entries
@@ -44,27 +45,13 @@ numbers_mapped (b ∷ bs) = ap (λ ns. (block_of b).number ∷ ns) (numbers_mapp
 abbrev pub version_of : Handing → VersionView
 version_of h = arc_value {X = Version} h.prepared.version
 
-abbrev pub application : Handing → Application
+abbrev pub application : Handing → DeskApplication
 application h = record {
   old = h.old;
-  ops = h.ops;
-  numbers = h.numbers;
-  version = version_of h;
-  taken = h.prepared.taken;
-  dropped = shared_blocks h.prepared.dropped.items;
-  unused = shared_numbers h.prepared.unused.items;
+  made = application_of h.ops h.numbers h.prepared;
   before = h.before;
-  applied = record {
-    free = h.free;
-    version_is = h.is_prepared.version_is;
-    opening = h.is_prepared.opening;
-    batches = h.is_prepared.batches;
-    exchanged = h.is_prepared.exchanged;
-    handed = λ q. h.is_prepared.handed q ∙ ap (count_by q) h.same;
-    layout = subst (FollowsLayout h.old.last h.ops (version_of h) (length h.prepared.taken))
-        (sym (length-map h.prepared.dropped.items block_of)) h.is_prepared.layout;
-    births = h.is_prepared.births;
-  };
+  free = h.free;
+  applied = subst (λ ns. IsAppliedTo h.old.last (application_of h.ops ns h.prepared)) h.same h.is_prepared.applied;
 }
 
 -- The grant is within what is asked for, since the used blocks are the last version's
@@ -162,11 +149,11 @@ end_pool h number born end is made moved =
 -- The desk afterwards
 
 -- it has as many blocks
-next_long : (a : Application) → length (next_desk a).pool ≡ length a.old.pool
+next_long : (a : DeskApplication) → length (next_desk a).pool ≡ length a.old.pool
 next_long a =
-    length-changed (retired (length a.old.last.batches + 1)) (rows.numbers_of a.dropped)
-    (marked a.taken (Used (length a.old.last.batches + 1)) a.old.pool)
-    ∙ length-marked a.taken (Used (length a.old.last.batches + 1)) a.old.pool
+    length-changed (retired (length a.old.last.batches + 1)) (rows.numbers_of a.made.dropped)
+    (marked a.made.taken (Used (length a.old.last.batches + 1)) a.old.pool)
+    ∙ length-marked a.made.taken (Used (length a.old.last.batches + 1)) a.old.pool
 
 abbrev pub entry_in : Handing → JournalEntry
 entry_in h = entries.Applied h.prepared.batch h.prepared.taken h.prepared.dropped_numbers
@@ -179,15 +166,7 @@ end_desk h opened last entries old_entries pool same_opened before same_last sam
     grind (arith, common_steps, dropped_is)
 
 pub end_accepts : (h : Handing) (new : DeskView) → new ≡ next_desk (application h) → Accepts h.old h.ops new
-end_accepts h new is =
-    let a : Application = application h in
-    let dropped : List ℕ = rows.numbers_of a.dropped in
-    subst (Accepts h.old h.ops) (sym is) (record {
-      taken = a.taken;
-      dropped = dropped;
-      accepted = made_accepted a;
-      steps = accepted_steps h.old (next_desk a) h.ops a.taken dropped h.before (made_desk a) (made_accepted a);
-    })
+end_accepts h new is = subst (Accepts h.old h.ops) (sym is) (made_accepts (application h))
 
 pub end_room : (h : Handing) (end : List BlockStatus) → end ≡ (next_desk (application h)).pool
     → count_by is_retired end ≤ count_by is_retired h.pool + length h.prepared.dropped.items
@@ -214,7 +193,7 @@ end_kept h new keeps room is some kept fits = record {
       let same = ap (λ (d : DeskView). length d.pool) is in
       let as_many = next_long (application h) in
       omega arith;
-  keeps_are = kept ∙ ap (λ (g : Graph). keeps_batches g.limits) (sym h.is_prepared.opening)
+  keeps_are = kept ∙ ap (λ (g : Graph). keeps_batches g.limits) (sym h.is_prepared.applied.opening)
       ∙ ap (λ (d : DeskView). keeps_batches d.last.opening.limits) (sym is);
   room_is = fits;
 }

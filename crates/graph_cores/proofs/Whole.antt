@@ -14,7 +14,7 @@ use Rattle.graph_types.proofs.{Counts.Contains-first, Arcs.contains_map, Folds.{
 use Rattle.edge_block.specs.Slots.{Slot, BlockView, is_free_slot, edges_in, entry_in}
 use Rattle.graph_version.specs.{Rows.{row_of, blocks_of}, Versions.{VersionView, content, IsVersion, IsBlockOf}}
 use Rattle.graph_version.{specs.Edges.{AreEachOnce, edges_in_blocks}, proofs.{Shown.rows_each_once, Totals.same_blocks}}
-use Rattle.graph_version.proofs.{Members.in_rows, Rows.stands}
+use Rattle.graph_version.proofs.{Members.in_rows, RowTargets.stands}
 use Rattle.graph_cores.{specs.Tallies.{passes, shown_edges, IsCounted, AreViewEdges}, proofs.Parts.first_edges}
 
 -- Degrees over the edges shown are those over the content

@@ -2,7 +2,7 @@
 use Rattle.std.proofs.Common.{◌≡◌, ℕ, suc, ◌≤◌, ◌^◌, false, List, [], ◌∷◌, length, Option, Some, None, arith, All, length-append}
 use Rattle.std.{proofs.lemmas.{List.Elements.{All-head, All-tail, All-append}, Grind.common_steps}, specs.List.list_all}
 use Rattle.edge_block.specs.Slots.{Slot, BlockView, is_free_slot, edges_in}
-use Rattle.version_pages.specs.Rows.{row_of, blocks_of}
+use Rattle.graph_version.specs.Rows.{row_of, blocks_of}
 use Rattle.graph_version.specs.{Versions.VersionView, Versions.IsVersion, Edges.edges_in_block, Edges.edges_in_blocks}
 use Rattle.graph_version.proofs.{Few.count_is_total, Few.few_total, Totals.count_one}
 

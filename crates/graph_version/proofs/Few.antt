@@ -5,7 +5,7 @@ use Rattle.std.{specs.{Prelude.count_by, Option.is_some, FinMap.get}, proofs.lem
 use Rattle.graph_types.{specs.{Graph.{key_of, Key}, declared.ids.Edge.Edge}, proofs.DegreeBounds.{crowd, crowd_of_edges, one_where}}
 use Rattle.graph_types.{specs.Limits.{most_names, most_kinds, most_places}, proofs.LimitsKept.places_few}
 use Rattle.graph_types.proofs.Keys.{HasKeysOnce, is_key_of, is_key_of_at, count_key, get_listed, len_once}
-use Rattle.version_pages.specs.Rows.{blocks_of}
+use Rattle.graph_version.specs.Rows.{blocks_of}
 use Rattle.graph_version.specs.{Versions.{VersionView, content, IsVersion}, Edges.edges_in_blocks, Kept.edge_total}
 use Rattle.graph_version.proofs.Shown.{rows_each_once}
 

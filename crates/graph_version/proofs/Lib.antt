@@ -1,3 +1,7 @@
+pub mod Ages
+pub mod Copies
+pub mod Places
+mod ShownHalls
 pub mod Shown
 pub mod Empty
 pub mod Looks
@@ -9,5 +13,6 @@ pub mod BlockCounts
 pub mod Rebased
 pub mod Arcs
 pub mod Members
-pub mod Rows
+pub mod RowTargets
 pub mod Targets
+pub mod Into

@@ -4,7 +4,7 @@ use Rattle.std.{proofs.Common.{refl, sym, ap, ◌∙◌, arith}, specs.{Option.{
 use Rattle.std.{specs.{declared.alloc.Global.Global, FinMap.get}, proofs.lemmas.Grind.common_steps}
 use Rattle.graph_types.specs.Graph.{Stamp}
 use Rattle.edge_block.specs.{Slots.first_some, Lending.LentEdge, declared.blocks.Block.Block, Rows.{shape_of, block_at, row_at}}
-use Rattle.version_pages.specs.{Rows.row_of, Sharing.block_value, Sharing.block_values}
+use Rattle.graph_version.specs.{Rows.row_of, Sharing.block_value, Sharing.block_values}
 use Rattle.graph_version.specs.{Versions.VersionView, Versions.content, Versions.IsVersion, Edges.lent_to, Lending.lent_at}
 
 -- what a shared block has at a kind and a target

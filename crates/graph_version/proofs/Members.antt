@@ -4,7 +4,7 @@ use Rattle.std.proofs.lemmas.List.Elements.{Contains-append_left, Contains-appen
 use Rattle.std.specs.{Prelude.flat_map, List.Contains}
 use Rattle.graph_types.proofs.Counts.{Contains-cons_cases, Contains-nil, Contains-first, Contains-cons}
 use Rattle.edge_block.specs.Slots.{BlockView}
-use Rattle.version_pages.specs.Rows.{row_of, blocks_of}
+use Rattle.graph_version.specs.Rows.{row_of, blocks_of}
 
 module _ {X A : Type 0} (h : X → List A) where
   pub contains_flat : (xs : List X) (x : X) (y : A) → Contains xs x → Contains (h x) y → Contains (flat_map h xs) y

@@ -11,7 +11,7 @@ use Rattle.graph_types.{specs.Limits.AreLimits, proofs.{LimitsKept.{limits_left_
 use Rattle.edge_block.specs.{Slots.{IsStamp, Slot, BlockView, entry_in, entries_of, edges_in}, Lending.{LentEdge, lent_of}}
 use Rattle.edge_block.specs.{declared.blocks.Block.Block, Rows.shape_of, Batches.{IsLayoutOf, HasEndsWithin}}
 use Rattle.vertex_names.specs.Book.{Book}
-use Rattle.version_pages.specs.{Rows.{row_of, blocks_of, numbers_of, Replaces}, Sharing.{block_value, block_values}}
+use Rattle.graph_version.specs.{Rows.{row_of, blocks_of, numbers_of, Replaces}, Sharing.{block_value, block_values}}
 use Rattle.graph_version.specs.{Versions.{VersionView, IsBlockOf, AreRowsOf, IsVersion, content, layout_of}, Edges.edge_from}
 use Rattle.graph_version.specs.{Edges.{edges_in_block, edges_in_blocks}, Kept.{vertex_book, kind_book, version_of, IsSummary}, Logs.keeps_batches}
 use Rattle.graph_version.specs.LentEdges.{lent_as_edge}

@@ -3,7 +3,7 @@ use Rattle.std.proofs.Common.{◌≡◌, ◌≢◌, ◌==◌, ℕ, zero, suc, �
 use Rattle.std.proofs.{Common.{◌∙◌, arith, length-append, inl, inr, if◌then◌else◌}, lemmas.Grind.{flat_map-append, common_steps}}
 use Rattle.std.{proofs.lemmas.{List.length-map, Bool.Decides.eqb_tells}, specs.declared.{sync.Arc.Arc, alloc.Global.Global}}
 use Rattle.edge_block.specs.{Slots.BlockView, Slots.entry_in, Slots.entries_of, Slots.edges_in, declared.blocks.Block.Block}
-use Rattle.version_pages.specs.{Rows.row_of, Rows.blocks_of, Sharing.block_value, Sharing.block_values}
+use Rattle.graph_version.specs.{Rows.row_of, Rows.blocks_of, Sharing.block_value, Sharing.block_values}
 use Rattle.graph_version.specs.Edges.{edge_from, edges_in_block, edges_in_blocks}
 
 abbrev pub count_in : List BlockView → ℕ

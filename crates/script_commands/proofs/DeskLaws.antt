@@ -11,8 +11,8 @@ use Rattle.block_reclamation.specs.Copies as copies
 use Rattle.feed_csv.specs.declared.command.Command.TheVariants.{Collect, Commit, Stat}
 use Rattle.graph_types.specs.{Step.{after_all, left_by, outcomes}, declared.batches.{NamedOp.NamedOp, Outcome.Outcome}}
 use Rattle.graph_version.specs.{Kept.edge_total, Versions.content, Versions.layout_of, Versions.empty_version_in}
-use Rattle.store_steps.specs.Desks.{DeskView, IsCollected, AcceptedCounts, CollectedCounts, births_in, is_retired_by}
-use Rattle.store_steps.{specs.{Opening.opened_desk, Steps.Accepts}, proofs.StatusCounts.{accepted_counts, collected_counts}}
+use Rattle.store_steps.specs.{Desks.{DeskView, IsCollected, CollectedCounts, births_in, is_retired_by}, Acceptances.Accepts}
+use Rattle.store_steps.{specs.Opening.opened_desk, proofs.StatusCounts.collected_counts}
 use Rattle.stream_store.specs.Configs.{ConfigView}
 use Rattle.graph_types.specs.declared.refusals.ApplyError.{ApplyError}
 use Rattle.stream_store.specs.Refusals.{Attempt, BatchRefusal, IsAdmissible, IsWithin, Refuses, attempt_on, block_count}
@@ -39,11 +39,11 @@ retired_any Granted = refl
 retired_any (Used birth) = refl
 retired_any (Retired birth retirement) = refl
 
-past_any : (copy : PinCopy) (s : BlockStatus) → is_reclaimable copy s ≡ is_retired_by (λ birth retirement. not (needs copy birth retirement)) s
-past_any copy Free = refl
-past_any copy Granted = refl
-past_any copy (Used birth) = refl
-past_any copy (Retired birth retirement) = refl
+reclaimable_any : (copy : PinCopy) (s : BlockStatus) → is_reclaimable copy s ≡ is_retired_by (λ birth retirement. not (needs copy birth retirement)) s
+reclaimable_any copy Free = refl
+reclaimable_any copy Granted = refl
+reclaimable_any copy (Used birth) = refl
+reclaimable_any copy (Retired birth retirement) = refl
 
 -- each block is free, retired or used
 parts_one : (s : BlockStatus) → (let n : ℕ = cond (is_free s) 1 0 in n) + cond (is_retired s) 1 0 + cond (is_in_use s) 1 0 ≡ 1
@@ -167,10 +167,7 @@ pub opening_after : (d e : DeskView) (ops : List NamedOp) → Accepts d ops e �
 opening_after d e ops accepts = accepts.accepted.opening
 
 pub blocks_after : (d e : DeskView) (ops : List NamedOp) → Accepts d ops e → length e.pool ≡ length d.pool
-blocks_after d e ops accepts =
-    let counts : AcceptedCounts d accepts.taken accepts.dropped e =
-    accepted_counts d e ops accepts.taken accepts.dropped accepts.accepted in
-    counts.blocks
+blocks_after d e ops accepts = accepts.accepted.counts.blocks
 
 pub commit_done : (s : ServerState) (d e : DeskView) (ops : List NamedOp) (number : ℕ) (results : List Outcome) (lines : List ℕ)
     → ShowsDesk d s → ops ≡ s.pending → count_by is_in_use d.pool ≡ block_count d.last
@@ -191,22 +188,21 @@ shows_committed s d e ops shows pending accepts =
     let accepted = accepts.accepted in
     let same = content_is d s shows in
     let left = left_is d s ops shows pending in
-    let counts : AcceptedCounts d accepts.taken accepts.dropped e =
-    accepted_counts d e ops accepts.taken accepts.dropped accepted in
+    let counts = accepted.counts in
     let takes : length accepts.taken ≡ blocks_taken s =
-    accepted.layout.taken_are ∙ (λ i. taken_by (pending i) (same i) (shows.layout i) (length (left i).names)) in
+    accepted.taken_are ∙ (λ i. taken_by (pending i) (same i) (shows.layout i) (length (left i).names)) in
     let number : length d.last.batches ≡ length s.batches = ap length shows.batches in
     let births : births_in d ≡ s.births = λ i source. shows.births source i in
     record {
       opening = accepted.opening ∙ shows.opening;
       batches = batches_after d e ops accepts ∙ (λ i. shows.batches i ++ pending i ∷ []);
-      layout = (λ i source. accepted.layout.rows source i) ∙ (λ i. layout_after (pending i) (same i) (shows.layout i));
-      births = λ source. accepted.births.rows source
+      layout = (λ i source. accepted.layout source i) ∙ (λ i. layout_after (pending i) (same i) (shows.layout i));
+      births = λ source. accepted.births source
           ∙ (λ i. births_after (number i + 1) (pending i) (same i) (shows.layout i) (births i) source);
       blocks = counts.blocks ∙ shows.blocks;
       free = omega (arith, counts.free, takes, shows.free);
       retired = λ q. counts.retired_by q
-          ∙ ((λ i. shows.retired q i + accepted.births.dropped_are (λ birth. q birth (length d.last.batches + 1)) i)
+          ∙ ((λ i. shows.retired q i + accepted.dropped_births (λ birth. q birth (length d.last.batches + 1)) i)
           ∙ ((λ i. count_by (λ (x : Dates). q x.birth x.retirement) s.retired + count_by (λ birth. q birth (number i + 1))
           (dropped_births (pending i) (same i) (shows.layout i) (births i) (length (left i).names)))
           ∙ sym (dated_counts q s.retired (blocks_dropped s) (length s.batches + 1))));
@@ -232,10 +228,10 @@ shows_given_up s d shows = record {
 
 -- A collection
 
-past_is : (s : ServerState) (d : DeskView) (copy : PinCopy) → ShowsDesk d s → copy ≡ copy_in s
+reclaimable_is : (s : ServerState) (d : DeskView) (copy : PinCopy) → ShowsDesk d s → copy ≡ copy_in s
     → count_by (is_reclaimable copy) d.pool ≡ recycled_blocks s
-past_is s d copy shows same =
-    same_counts (is_reclaimable copy) (is_retired_by (λ birth retirement. not (needs copy birth retirement))) (past_any copy) d.pool
+reclaimable_is s d copy shows same =
+    same_counts (is_reclaimable copy) (is_retired_by (λ birth retirement. not (needs copy birth retirement))) (reclaimable_any copy) d.pool
     ∙ (shows.retired (λ birth retirement. not (needs copy birth retirement))
     ∙ ap (λ k. count_by (λ (x : Dates). not (needs k x.birth x.retirement)) s.retired) same)
 
@@ -249,7 +245,7 @@ shows_collected s d e copy shows collected births same =
       layout = ap (λ v. layout_of v.rows) collected.last ∙ shows.layout;
       births = λ source. births source ∙ shows.births source;
       blocks = counts.blocks ∙ shows.blocks;
-      free = omega (arith, counts.free, past_is s d copy shows same, shows.free);
+      free = omega (arith, counts.free, reclaimable_is s d copy shows same, shows.free);
       retired = λ q. counts.retired_by q
           ∙ (shows.retired (λ birth retirement. needs copy birth retirement && q birth retirement)
           ∙ (ap (λ k. count_by (λ (x : Dates). needs k x.birth x.retirement && q x.birth x.retirement) s.retired) same
@@ -262,7 +258,7 @@ pub collect_done : (s : ServerState) (d e : DeskView) (copy : PinCopy) (floor co
     → lines ≡ collect_line floor count left → IsCommandResult Collect s (Ok lines)
 collect_done s d e copy floor count left lines shows collected births same floor_are count_is left_is lines_are =
     let low : floor ≡ floor_in s = floor_are ∙ ap copies.floor_of same in
-    let gone : count ≡ recycled_blocks s = count_is ∙ past_is s d copy shows same in
+    let gone : count ≡ recycled_blocks s = count_is ∙ reclaimable_is s d copy shows same in
     let stay : left ≡ length (after_collect s).retired =
     left_is ∙ all_retired e (after_collect s) (shows_collected s d e copy shows collected births same) in
     rw (lines_are, low, gone, stay) refl

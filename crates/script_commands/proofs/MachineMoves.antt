@@ -15,7 +15,7 @@ use Rattle.graph_types.specs.{Graph.Graph, Step.left_by, declared.{batches.Named
 use Rattle.graph_types.specs.Answer.{IsAnswer}
 use Rattle.script_lines.specs.declared.words.Word.{Word}
 use Rattle.store_steps.specs.{Boards.ShowsBoard, Desks.DeskView, Shown.ShowsWorld}
-use Rattle.store_steps.specs.Steps.{Accepts, IsTaken, TakesAt, past_numbers, posting, recycling}
+use Rattle.store_steps.specs.{Acceptances.Accepts, Steps.{SimulatesIn, SimulatesAt, reclaimable_numbers, posting, recycling}}
 use Rattle.store_steps.proofs.{BoardSteps.shows_floored, BoardSteps.shows_sessions, Reached.same_count}
 use Rattle.store_steps.proofs.Questions.{question_done, question_replies, silent_posting, silent_recycling, then_done}
 use Rattle.stream_store.specs.{Kept.DeskState, Seats.{SessionView, held_graph, held_version}}
@@ -93,7 +93,7 @@ commit_moves old new batch lines here slots same accepts shows =
     let a : Accepts old.desk.desk (pending_of old) new.desk.desk =
     subst (λ ops. Accepts old.desk.desk ops new.desk.desk) same accepts in
     let events : List Event = posting new.desk.desk.last (pending_of old) a.taken in
-    let t : IsTaken here.world events new.desk.desk = a.steps here.world shows.desk in
+    let t : SimulatesIn here.world events new.desk.desk = a.accepted.steps here.world shows.desk in
     let sessions : t.after.sessions ≡ map session_for (held_slots new.slots) =
     t.sessions ∙ (shows.sessions ∙ ap (λ s. map session_for (held_slots s)) (sym slots)) in
     record {
@@ -184,14 +184,14 @@ pub collect_moves : (old new : Server) (copy : PinCopy) (last : ℕ) (lines : Li
     → IsPinnedBySlots last new.slots.board new.slots.sessions.items → new.slots.board.floor ≡ floor_of copy
     → held_slots new.slots ≡ held_slots old.slots
     → copy ≡ copy_of (length old.desk.desk.last.batches) (pins_of (held_slots old.slots))
-    → TakesAt copy old.desk.desk (recycling copy old.desk.desk.pool) new.desk.desk → ShowsMachine old here.world
+    → SimulatesAt copy old.desk.desk (recycling copy old.desk.desk.pool) new.desk.desk → ShowsMachine old here.world
     → ContinuesMachine Collect old (Ok lines) new here
-collect_moves old new copy last lines here pinned floor holds same takes shows =
+collect_moves old new copy last lines here pinned floor holds same simulates shows =
     let w = here.world in
     let made : present_copy w ≡ copy = copy_shown old w shows ∙ sym same in
     let events : List Event = recycling copy old.desk.desk.pool in
-    let t : IsTaken (floored w) events new.desk.desk =
-    (takes (floored w) (shows_floored old.desk.desk w shows.desk) made).0 in
+    let t : SimulatesIn (floored w) events new.desk.desk =
+    (simulates (floored w) (shows_floored old.desk.desk w shows.desk) made).0 in
     let sessions : t.after.sessions ≡ map session_for (held_slots new.slots) =
     t.sessions ∙ (shows.sessions ∙ ap (map session_for) (sym holds)) in
     record {
@@ -199,7 +199,7 @@ collect_moves old new copy last lines here pinned floor holds same takes shows =
       there = record { world = t.after; replies = here.replies };
       are = ap (λ c. Floor ∷ recycling c old.desk.desk.pool) same;
       done = then_done Floor events w (floored w) t.after refl t.done;
-      replies = (here.replies, refl, silent_recycling (past_numbers copy old.desk.desk.pool) (floored w) here.replies);
+      replies = (here.replies, refl, silent_recycling (reclaimable_numbers copy old.desk.desk.pool) (floored w) here.replies);
       told = refl;
       shown = record {
         desk = t.shown;

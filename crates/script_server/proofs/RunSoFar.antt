@@ -2,7 +2,8 @@
 use Rattle.std.proofs.Common.{◌≡◌, ℕ, ◌+◌, ◌<◌, List, [], ◌∷◌, ◌++◌, append_assoc, append-nil, arith, refl, sym, ◌∙◌, ap}
 use Rattle.std.specs.{Prelude.true, Prelude.Option, Prelude.None, Prelude.Some, Prelude.Ok, Io.KnownBytes.Appends}
 use Rattle.feed_csv.specs.{Commands.item_of, Records.Row, Records.TakesRecord, Records.record_limit, Script.IsOpen, Script.Script}
-use Rattle.script_server.specs.{declared.script.Run.Run, Runs.{IsReadyRun, ShowsRun, IsTurn}, Executions.Executes}
+use Rattle.script_server.specs.{declared.script.Run.Run, Executions.Executes, Runs.{IsReadyRun, IsTurn, ShowsRun, moment}}
+use Rattle.script_server.specs.Writes.{output}
 use Rattle.script_commands.specs.States.{IsRecordResult, Progress, RecordResult, Setup, after_record, beginning, printed}
 use Rattle.script_commands.specs.Servers.{result_of}
 use Rattle.script_server.proofs.Writing.{appends_nothing, appends_then}
@@ -65,7 +66,7 @@ reaches_nothing setup first run before shows = record {
 
 abbrev pub reaches_more : (setup : Setup) (first : Option (List Row)) (feed feed' : Script) (run run' : Run)
     (before now after : Option (List ℕ))
-    → Reaches setup first feed.left run before now → IsTurn feed run now (Ok true) feed' run' after
+    → Reaches setup first feed.left run before now → IsTurn (moment feed run) (Ok true) (moment feed' run') (output now after)
     → Reaches setup first feed'.left run' before after
 reaches_more setup first feed feed' run run' before now after reached turned =
     let outcome = result_of turned.2.response turned.2.lines in
@@ -82,7 +83,7 @@ reaches_more setup first feed feed' run run' before now after reached turned =
 
 -- a run is ready for the next record again
 pub ready_more : (feed feed' : Script) (run run' : Run) (now after : Option (List ℕ)) → IsReadyRun feed run
-    → IsTurn feed run now (Ok true) feed' run' after
+    → IsTurn (moment feed run) (Ok true) (moment feed' run') (output now after)
     → IsReadyRun feed' run'
 ready_more feed feed' run run' now after ready turned = record {
   server = turned.2.server;

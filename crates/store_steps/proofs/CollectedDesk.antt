@@ -12,20 +12,20 @@ use Rattle.store_steps.specs.Desks.{DeskView, IsDesk, IsCollected, birth_at, bir
 use Rattle.store_steps.proofs.{NumberLists.apart_test, Births.{birth_in, birth_from, row_listed}, Accepting.replay_more}
 
 -- one status is freed, or retired still, or was never retired
-past_one : (copy : PinCopy) (x : BlockStatus) → cond (is_reclaimable copy x) 1 0 + cond (is_retired (recycled copy x)) 1 0
+one_recycled : (copy : PinCopy) (x : BlockStatus) → cond (is_reclaimable copy x) 1 0 + cond (is_retired (recycled copy x)) 1 0
     ≡ cond (is_retired x) 1 0
-past_one copy x = grind (arith, common_steps)
+one_recycled copy x = grind (arith, common_steps)
 
 -- what is freed and what is left are the retired blocks
-pub past_and_left : (copy : PinCopy) (xs : List BlockStatus) → count_by (is_reclaimable copy) xs + count_by is_retired (map (recycled copy) xs)
+pub recycled_and_left : (copy : PinCopy) (xs : List BlockStatus) → count_by (is_reclaimable copy) xs + count_by is_retired (map (recycled copy) xs)
     ≡ count_by is_retired xs
-past_and_left copy [] = omega arith
-past_and_left copy (x ∷ xs) =
+recycled_and_left copy [] = omega arith
+recycled_and_left copy (x ∷ xs) =
     let a = count_more (is_reclaimable copy) x xs in
     let b = count_more is_retired (recycled copy x) (map (recycled copy) xs) in
     let c = count_more is_retired x xs in
-    let rest = past_and_left copy xs in
-    let one = past_one copy x in
+    let rest = recycled_and_left copy xs in
+    let one = one_recycled copy x in
     omega arith
 
 same_if_none : (copy : PinCopy) (xs : List BlockStatus) → count_by (is_reclaimable copy) xs ≡ 0 → map (recycled copy) xs ≡ xs

@@ -4,11 +4,11 @@ use Rattle.std.proofs.lemmas.{Grind.common_steps, Option.slice_get-map}
 use Rattle.std.specs.{Prelude.slice_get, Option.option_map, declared.option.Option.{Option, TheVariants.Some}}
 use Rattle.block_reclamation.specs.declared.{status.BlockStatus.{BlockStatus, TheVariants.Retired}, copies.PinCopy.PinCopy}
 use Rattle.block_reclamation.specs.{Status.{is_at, is_among, is_retired, recycled}, Copies.{copy_of, needs}}
-use Rattle.epoch_core.specs.{Sound.IsSound, Collections.{HaveSettled, IsHeldBlock}, Worlds.{World, last_blocks, present_copy}}
+use Rattle.epoch_core.specs.{Sound.IsSound, Collections.{HaveSettled, IsHeldBlock}, Runs.run, Worlds.{World, last_blocks, present_copy}}
 use Rattle.epoch_core.proofs.{Steps.always_sound, Sizes.size_run, HeldBlocks.{RetiredThen, held_alone, held_is_retired}}
 use Rattle.epoch_core.proofs.HeldBlocks.{NeedsWhatIsListed, needs_what_is_listed, retired_then, unlisted}
 use Rattle.graph_version.specs.Rows.{blocks_of, numbers_of}
-use Rattle.store_steps.specs.{Desks.last_numbers, Reached.{raised_store, world_by}, Held.CollectionIsExact}
+use Rattle.store_steps.specs.{Desks.last_numbers, Reached.raised_store, Held.CollectionIsExact}
 use Rattle.store_steps.proofs.{Reached.same_count, BoardSteps.copies_same}
 
 -- what is still retired was retired and is needed
@@ -48,7 +48,7 @@ module _ (w : World) (b : ℕ) (sound : IsSound w) (told : HaveSettled w) where
 
 pub collection_is_exact : CollectionIsExact
 collection_is_exact start events s new is_start few r board told collected b =
-    let w : World = world_by start.world events in
+    let w : World = run events start.world in
     let sound : IsSound w = always_sound start events is_start in
     let same_sessions : length w.sessions ≡ length start.world.sessions = (size_run events start.world).sessions in
     let copy : present_copy w ≡ (raised_store s).copy =

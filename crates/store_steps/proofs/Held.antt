@@ -6,9 +6,9 @@ use Rattle.block_reclamation.specs.declared.{status.BlockStatus.{BlockStatus, Th
 use Rattle.block_reclamation.specs.Status.{is_free, is_reclaimable, is_at, is_among}
 use Rattle.epoch_core.specs.{declared.session_states.{Hold.Hold, SessionState.SessionState}, Sound.{IsSound, IsSessionSound}}
 use Rattle.epoch_core.specs.{Sound.{IsHeld, IsCovered, IsKeptAt}, Versions.{AreEdgesOf, graph_of_opening, blocks_at, edges_of}}
-use Rattle.epoch_core.{specs.{Versions.graph_at, Worlds.{World, session_of, held_in}}, proofs.{Steps.always_sound, HeldBlocks.Holder, HeldBlocks.holder_of}}
-use Rattle.store_steps.specs.{Desks.DeskView, Shown.ShowsWorld, Reached.world_by, Held.IsSnapshot}
-use Rattle.store_steps.{specs.Held.HeldIsSnapshot, proofs.Reached.same_count}
+use Rattle.epoch_core.{specs.{Versions.graph_at, Runs.run, Worlds.{World, session_of, held_in}}, proofs.{Steps.always_sound, HeldBlocks.Holder, HeldBlocks.holder_of}}
+use Rattle.store_steps.specs.{Desks.DeskView, Shown.ShowsWorld, Held.{IsSnapshot, HeldIsSnapshot}}
+use Rattle.store_steps.proofs.Reached.{same_count}
 
 -- a block that is kept for the holders of a version is neither free nor freed by a copy that covers it
 not_free : (n : ℕ) (s : Option BlockStatus) → IsKeptAt n s → is_at is_free s ≡ false
@@ -49,6 +49,6 @@ snapshot d w copy session n shows same holder =
 
 pub held_is_snapshot : HeldIsSnapshot
 held_is_snapshot start events s seat n is_start r held =
-    let w : World = world_by start.world events in
+    let w : World = run events start.world in
     let sound : IsSound w = always_sound start events is_start in
     snapshot s.desk w s.copy (session_of w seat) n r.desk r.copied_is (holder_of w (session_of w seat) n (sound.sessions seat) held)

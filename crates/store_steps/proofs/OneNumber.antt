@@ -17,11 +17,19 @@ number_after n p t d = if d then option_map (retired n) (marked_if (Used n) t p)
 abbrev pub number_moved : ℕ → Option BlockStatus → Bool → Bool → Bool → Bool → Option BlockStatus
 number_moved n p g t d u = marked_if Free u (number_after n (marked_if Granted g p) t d)
 
-pub record OneNumber (n : ℕ) (p : Option BlockStatus) (kept dropped taken unused : ℕ) : Type 0 where
+-- how often a batch kept a number, dropped it, took it, and left it unused
+pub record NumberTimes : Type 0 where
+  pub kept : ℕ
+  pub dropped : ℕ
+  pub taken : ℕ
+  pub unused : ℕ
+
+pub record OneNumber (n : ℕ) (p : Option BlockStatus) (m : NumberTimes) : Type 0 where
   pub moved :
-      number_moved n p (is_some_times (taken + unused)) (is_some_times taken) (is_some_times dropped) (is_some_times unused)
-      ≡ number_after n p (is_some_times taken) (is_some_times dropped)
-  pub born : is_at is_used (number_after n p (is_some_times taken) (is_some_times dropped)) ≡ is_some_times (kept + taken)
+      number_moved n p (is_some_times (m.taken + m.unused)) (is_some_times m.taken) (is_some_times m.dropped)
+      (is_some_times m.unused) ≡ number_after n p (is_some_times m.taken) (is_some_times m.dropped)
+  pub born : is_at is_used (number_after n p (is_some_times m.taken) (is_some_times m.dropped))
+      ≡ is_some_times (m.kept + m.taken)
 
 pub free_is : (p : Option BlockStatus) → is_at is_free p ≡ true → p ≡ Some Free
 free_is p e = grind (arith, common_steps)
@@ -35,5 +43,5 @@ not_both p e f = grind (arith, common_steps)
 
 pub one_number : (n : ℕ) (p : Option BlockStatus) (kept dropped taken unused : ℕ) → kept + dropped ≤ 1 → taken + unused ≤ 1
     → is_at is_used p ≡ is_some_times (kept + dropped) → (is_some_times (taken + unused) ≡ true → is_at is_free p ≡ true)
-    → OneNumber n p kept dropped taken unused
+    → OneNumber n p (record { kept = kept; dropped = dropped; taken = taken; unused = unused })
 one_number n p kept dropped taken unused h g born free = grind (arith, common_steps)

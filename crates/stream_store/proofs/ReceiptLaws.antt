@@ -2,7 +2,7 @@
 use Rattle.std.{proofs.{Common.{ℕ, List, Result, arith}, lemmas.Grind.common_steps}, specs.Prelude.{IfOk, OnOk}}
 use Rattle.graph_types.specs.declared.batches.{NamedOp.NamedOp, Outcome.Outcome}
 use Rattle.version_shelf.specs.Shelves.{ToldView}
-use Rattle.store_steps.specs.Steps.{Accepts}
+use Rattle.store_steps.specs.Acceptances.{Accepts}
 use Rattle.stream_store.specs.{Applying.IsReceipt, Kept.DeskState, Refusals.IsWithin, Stores.IsReceiptOf}
 
 -- what is true of a value, by what is true of it and of the call

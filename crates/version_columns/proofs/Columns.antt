@@ -6,7 +6,7 @@ use Rattle.std.specs.declared.{sync.Arc.Arc, alloc.Global.Global}
 use Rattle.graph_types.specs.declared.ids.Filter.{Filter}
 use Rattle.graph_types.specs.{Graph.Graph, Answer.{degree_at, degree_table}}
 use Rattle.edge_block.specs.{Slots.BlockView, Lending.LentEdge, declared.blocks.Block.Block}
-use Rattle.version_pages.specs.Rows.{row_of, blocks_of}
+use Rattle.graph_version.specs.Rows.{row_of, blocks_of}
 use Rattle.graph_version.specs.{Sharing.{block_value, block_values}, Versions.{VersionView, IsVersion}}
 use Rattle.graph_version.proofs.BlockCounts.{few_blocks}
 use Rattle.version_columns.specs.Rows.{Columns, with_lent_edge, with_edges, with_values, block_edges, lent_edges_of, row_edges, lent_rows_from, sources_from, edge_columns}

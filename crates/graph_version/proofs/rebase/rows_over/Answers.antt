@@ -1,5 +1,5 @@
 use Rattle.std.proofs.{Common.{◌≡◌, ◌∙◌, length, take, drop, sym, ap, arith}, lemmas.List.length-map}
-use Rattle.version_pages.specs.{Rows.row_of, Sharing.block_value, Sharing.block_values}
+use Rattle.graph_version.specs.{Rows.row_of, Sharing.block_value, Sharing.block_values}
 use Rattle.graph_version.proofs.Rebased.{row_more, all_made, map_take, map_drop}
 use Rattle.graph_version.proofs.rebase.rows_over.Goals as goal
 
