@@ -1,30 +1,14 @@
 -- Rows by when their edges were last touched: earlier times, rows in pieces, and bounds of the times.
-use Rattle.std.proofs.{Common.{flat_map, map, refl, sym, ap, ap₂, ◌∙◌, arith, subst, All, ltb, replicate}, Common.{◌≡◌, ℕ, ◌+◌}}
-use Rattle.std.proofs.Common.{◌-◌, ◌*◌, ◌<◌, ◌≤◌, ◌||◌, Bool, true, false, List, [], ◌∷◌, length, get_or, take, set}
-use Rattle.std.proofs.lemmas.{Bool.{le-ltb, ltb-true, ltb-false, or_from, or_parts}, List.{take_more, Folds.list_any_none}}
-use Rattle.std.proofs.lemmas.List.Elements.{All-nil, All-push, All-append, All-head, All-tail, All-weaker, All-set, All-replicate}
-use Rattle.std.{proofs.Math.{ListN.get_or-eq_default, Nat.mul-le-mul_right}, specs.List.list_any}
-use Rattle.graph_types.specs.Step.{is_before}
-use Rattle.edge_block.specs.Slots.{BlockView, Slot, edges_in, has_before}
+use Rattle.std.proofs.Common.{flat_map, map, refl, ap, ◌∙◌, arith, All, ltb, replicate, ◌≡◌, ℕ, ◌+◌}
+use Rattle.std.proofs.Common.{◌-◌, ◌*◌, ◌<◌, ◌≤◌, true, false, List, [], ◌∷◌, length, get_or, set}
+use Rattle.std.proofs.lemmas.{Bool.{ltb-true, ltb-false, or_from}, List.Folds.list_any_none}
+use Rattle.std.proofs.lemmas.List.Elements.{All-nil, All-append, All-head, All-tail, All-weaker, All-set, All-replicate}
+use Rattle.std.proofs.Math.{ListN.get_or-eq_default, Nat.mul-le-mul_right}
+use Rattle.graph_types.proofs.Searches.{any_fewer}
+use Rattle.edge_block.specs.Slots.{BlockView, edges_in, has_before}
 use Rattle.list_pieces.{specs.Pieces.{AreFull, padded}, proofs.{Full.{long, at_piece}, Padded.{padded_at, padded_long}}}
+use Rattle.edge_block.proofs.OldSlots.{earlier_block, none_before_zero}
 use Rattle.graph_version.specs.{Ages.is_old_row, Ages.AreSince, Ages.AreYoung, Rows.row_of}
-
-any_fewer : {X : Type 0} (p q : X → Bool) → ((x : X) → q x ≡ false → p x ≡ false) → (xs : List X)
-    → list_any q xs ≡ false → list_any p xs ≡ false
-any_fewer p q fewer [] none = refl
-any_fewer p q fewer (x ∷ xs) none =
-    let both = or_parts (q x) (list_any q xs) none in
-    ap₂ (λ a b. a || b) (fewer x both.0) (any_fewer p q fewer xs both.1)
-
--- what is not from before a time is from before no earlier one
-earlier_edges : (s t : ℕ) → s ≤ t → (es : List Slot) → list_any (λ e. is_before t e.stamp) es ≡ false
-    → list_any (λ e. is_before s e.stamp) es ≡ false
-earlier_edges s t le es none =
-    any_fewer (λ (e : Slot). is_before s e.stamp) (λ (e : Slot). is_before t e.stamp)
-    (λ e late. let at = ltb-false e.stamp.recent t late in le-ltb e.stamp.recent s (omega arith)) es none
-
-pub earlier_block : (s t : ℕ) (b : BlockView) → s ≤ t → has_before t b.slots ≡ false → has_before s b.slots ≡ false
-earlier_block s t b le none = earlier_edges s t le (edges_in b.slots) none
 
 pub earlier_row : (s t : ℕ) (row : List BlockView) → s ≤ t → is_old_row t row ≡ false → is_old_row s row ≡ false
 earlier_row s t row le none =
@@ -35,10 +19,6 @@ pub earlier_rows : (s t : ℕ) (rows : List (List BlockView)) → s ≤ t → Ar
 earlier_rows s t rows le none =
     All-weaker (λ (row : List BlockView). is_old_row t row ≡ false) (λ (row : List BlockView). is_old_row s row ≡ false)
     (λ row late. earlier_row s t row le late) rows none
-
--- nothing is from before the time 0
-pub none_before_zero : (es : List Slot) → list_any (λ e. is_before 0 e.stamp) es ≡ false
-none_before_zero es = list_any_none (λ (e : Slot). is_before 0 e.stamp) es (λ i e lt. le-ltb (get_or es i e).stamp.recent 0 (omega arith))
 
 row_before_zero : (row : List BlockView) → is_old_row 0 row ≡ false
 row_before_zero row = list_any_none (λ (b : BlockView). has_before 0 b.slots) row
@@ -54,14 +34,6 @@ bounded_row f t [] all = refl
 bounded_row f t (x ∷ xs) all =
     or_from (has_before t (f x).slots) (is_old_row t (map f xs)) (All-head (λ x. has_before t (f x).slots ≡ false) x xs all)
     (bounded_row f t xs (All-tail (λ x. has_before t (f x).slots ≡ false) x xs all))
-
--- one more piece, and a bound that is no greater than those before and its own
-pub bounded_more : {X : Type 0} (P : ℕ → X → Type 0) → ((s t : ℕ) (x : X) → s ≤ t → P t x → P s x) → (s t u : ℕ) (xs : List X)
-    (k : ℕ) (x : X) → k < length xs → s ≤ t → s ≤ u → All (P t) (take k xs) → P u (get_or xs k x) → All (P s) (take (k + 1) xs)
-bounded_more P earlier s t u xs k x lt le le' all one =
-    subst (All (P s)) (sym (take_more xs k x lt))
-    (All-push (P s) (take k xs) (get_or xs k x) (All-weaker (P t) (P s) (λ y p. earlier s t y le p) (take k xs) all)
-    (earlier s u (get_or xs k x) le' one))
 
 -- a row written, under a bound of the others and its own
 pub bounded_set : (s t u : ℕ) (rows : List (List BlockView)) (i : ℕ) (row : List BlockView) → s ≤ t → s ≤ u

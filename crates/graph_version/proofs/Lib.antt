@@ -1,6 +1,4 @@
 pub mod Ages
-pub mod Copies
-pub mod Places
 mod ShownHalls
 pub mod Shown
 pub mod Empty
@@ -8,7 +6,6 @@ pub mod Looks
 pub mod Totals
 pub mod Few
 pub mod Drafting
-pub mod Lent
 pub mod BlockCounts
 pub mod Rebased
 pub mod Arcs
@@ -16,3 +13,9 @@ pub mod Members
 pub mod RowTargets
 pub mod Targets
 pub mod Into
+pub mod Drafted
+pub mod OldBlocks
+pub mod NumbersIn
+pub mod RowBlocks
+pub mod ListedNumbers
+pub mod RowsAmong

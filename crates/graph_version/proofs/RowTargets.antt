@@ -4,15 +4,13 @@ use Rattle.std.specs.{Prelude.IsTrue, Prelude.◌↔◌, List.Contains, FinMap.g
 use Rattle.graph_types.specs.{Graph.{Graph, Key, Stamp, key_of, stamp_of, map_of}, View.in_view, Analyses.LeadsTo}
 use Rattle.graph_types.{specs.declared.ids.{Edge.Edge, Filter.Filter}, proofs.Arcs.{contains_map, map_contains}}
 use Rattle.graph_types.proofs.{Counts.{contains_filter, filter_contains}, Keys.{get_is, get_listed, find_listed}}
-use Rattle.edge_block.specs.Slots.{BlockView, edges_in, entry_in, entries_of}
+use Rattle.graph_types.proofs.Elements.{contains_flat, flat_contains}
+use Rattle.edge_block.specs.Slots.{BlockView, entries_of}
+use Rattle.edge_block.proofs.LentEntries.{of_source}
 use Rattle.graph_version.specs.Rows.{row_of, blocks_of}
 use Rattle.graph_version.specs.{Versions.{AreRowsOf, IsBlockOf}, Edges.{edge_from, edges_in_block, edges_in_blocks}, Shown.shown}
-use Rattle.graph_version.{specs.Shown.{shown_in, targets_of}, proofs.{Shown.rows_each_once, Members.contains_flat}}
-use Rattle.graph_version.proofs.Members.{flat_contains, in_rows, row_with}
-
--- the entries of a block are of its source
-pub of_source : (b : BlockView) (e : Key × Stamp) → Contains (entries_of b) e → e.0.source ≡ b.source
-of_source b e c = let r = map_contains (entry_in b) (edges_in b.slots) e c in ap (λ (x : Key × Stamp). x.0.source) (sym r.2)
+use Rattle.graph_version.{specs.Shown.{shown_in, targets_of}, proofs.Shown.rows_each_once}
+use Rattle.graph_version.proofs.Members.{in_rows, row_with}
 
 module _ (g : Graph) (rows : List (List BlockView)) (is : AreRowsOf g rows) (f : Filter) where
   block_source : (source : ℕ) (b : BlockView) → Contains (row_of rows source) b → b.source ≡ source

@@ -3,8 +3,8 @@ use Rattle.std.proofs.Common.{◌≡◌, ℕ, ◌+◌, ◌<◌, List, string_byt
 use Rattle.std.specs.{Prelude.{Option, Some, Result, Ok, Err, IfOk}, Io.KnownBytes.Appends}
 use Rattle.epoch_core.specs.Worlds.{start_in}
 use Rattle.stream_store.specs.Configs.{ConfigView}
-use Rattle.feed_csv.specs.{Records.record_limit, Script.{FaultStep, RefusesRow, Script}, declared.command.Command.Command}
-use Rattle.feed_csv.specs.declared.command.FeedWord.{FeedWord, TheVariants.Read, TheVariants.Memory}
+use Rattle.feed_csv.specs.{Records.record_limit, declared.command.Command.Command}
+use Rattle.feed_csv.specs.declared.command.FeedWord.{FeedWord}
 use Rattle.script_server.specs.declared.script.{Run.Run, ServeFault.{ServeFault, TheVariants.Write}}
 use Rattle.script_commands.specs.declared.server.{Server.Server, Stop.Stop}
 use Rattle.script_commands.specs.declared.server.Response.TheVariants.{Refused}
@@ -14,13 +14,6 @@ use Rattle.script_server.specs.Ends.{NoMemory, NoStore, TellsEnd, Unwritten}
 use Rattle.script_server.specs.Runs.{CompletesRecord, CountsRecord, EndsRun, ShowsRun, ShowsStart}
 use Rattle.script_server.specs.Writes.{AppendsPart, output}
 use Rattle.script_lines.specs.declared.words.Word.TheVariants.{Feed}
-
--- a word of the feed that ends nothing refuses a record
-pub fault_row : (word : FeedWord) (old new : Script) → (word ≡ Read → ⊥) → (word ≡ Memory → ⊥) → FaultStep word old new
-    → RefusesRow old word new
-fault_row Read old new read memory step = absurd (read refl)
-fault_row Memory old new read memory step = absurd (memory refl)
-fault_row _ old new read memory step = step
 
 -- a record that is no command was refused
 pub refused : (row_item : Result Command FeedWord) (word : FeedWord) (old new : Run) (before after : Option (List ℕ))

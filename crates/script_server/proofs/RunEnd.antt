@@ -3,14 +3,15 @@ use Rattle.std.proofs.Common.{◌≡◌, ◌≢◌, ℕ, ◌+◌, ◌<◌, List,
 use Rattle.std.{proofs.lemmas.Bool.true≢false, specs.Io.KnownBytes.Appends}
 use Rattle.std.specs.Prelude.{◌⊎◌, Bool, false, true, Option, None, Some, Result, Ok, Err, IfErr, IfOk, is_err}
 use Rattle.feed_csv.specs.{Commands.item_of, Records.Row, Records.record_limit}
-use Rattle.feed_csv.specs.Script.{FaultStep, LacksMemory, NextStep, ReadStopsIn, RefusesRow, Script, StopsAt, TakesRow}
+use Rattle.feed_csv.specs.Script.{FaultStep, NextStep, ReadStopsIn, RefusesRow, Script, StopsAt, TakesRow}
 use Rattle.feed_csv.specs.declared.{command.{Command.Command, FeedWord.FeedWord}, phase.Phase.TheVariants.{Reading, Stopped}}
 use Rattle.feed_csv.specs.declared.command.FeedWord.TheVariants as feed_word
+use Rattle.feed_csv.proofs.Faults.{lacks}
 use Rattle.script_server.specs.declared.script.{Run.Run, ServeFault.{ServeFault, TheVariants.{Read, Start, Write}}}
 use Rattle.script_server.specs.declared.script.Summary.{Summary}
 use Rattle.script_server.specs.Ends.{CanEnd, End, HasCause, NoMemory, NoStore, TellsEnd, Unread, Unwritten, done_by, fault_of}
 use Rattle.script_server.specs.Ends.{is_start, is_write, outcome_of, records_done}
-use Rattle.script_server.specs.Runs.{EndsRun, EndsTurn, IsFresh, IsReadyRun, IsStartup, IsTurn, ShowsRun, moment}
+use Rattle.script_server.specs.Runs.{EndsRun, EndsTurn, IsFresh, IsReadyRun, IsStartup, IsTurn, ShowsRun, fed}
 use Rattle.script_server.specs.Writes.{AppendsPart, output}
 use Rattle.script_commands.specs.States.{Progress, Setup, printed}
 use Rattle.script_commands.specs.Servers.{pending_of}
@@ -28,13 +29,13 @@ cause_told feed end records fault before after cause (inr part) = subst (λ (f :
 
 -- a turn ended the run
 pub cause_stopped : (feed feed' : Script) (run : Run) (now after : Option (List ℕ)) (fault : ServeFault)
-    → EndsTurn (moment feed run) fault feed' (output now after) → HasCause feed' (Err fault)
+    → EndsTurn (fed feed run) fault feed' (output now after) → HasCause feed' (Err fault)
 cause_stopped feed feed' run now after fault turned =
     cause_told feed' turned.ends.end run.records fault now after turned.cause turned.ends.told
 
 -- the feed met the end of the input, and the run was finished
 pub cause_ended : (feed feed' : Script) (run run' : Run) (now mid : Option (List ℕ)) (result : Result Summary ServeFault)
-    → IsReadyRun feed run → IsTurn (moment feed run) (Ok false) (moment feed' run') (output now mid)
+    → IsReadyRun feed run → IsTurn (fed feed run) (Ok false) (fed feed' run') (output now mid)
     → IfOk result
     (λ summary. summary ≡ record { records = run'.records; errors = run'.errors; pending = length (pending_of run'.server) })
     → IfErr result (λ fault. fault ≡ Write) → HasCause feed' result
@@ -52,10 +53,6 @@ pub finish_failed : (failed : Bool) (result : Result Summary ServeFault) → IfE
 finish_failed failed (Ok summary) fault marked = marked
 finish_failed failed (Err error) fault marked =
     subst (λ (f : ServeFault). failed ≡ is_write {T = Summary} (Err f)) (sym fault) marked
-
--- csv's reader works, so it did not fail for want of anything else
-lacks : (feed : Script) → feed.failed ≡ false → LacksMemory feed
-lacks feed works = λ failed. absurd (true≢false (sym failed ∙ works))
 
 -- a run before its first record has done none
 pub done_none : (feed : Script) → IsFresh feed → records_done feed ≡ 0
@@ -95,7 +92,7 @@ given_cause feed (Unwritten outcome) given few reading works = tt
 -- it broke the run off
 broken_at : (row : Row) (feed feed' : Script) (run : Run) (before after : Option (List ℕ)) (fault : ServeFault)
     → IsReadyRun feed run → TakesRow feed row feed' → EndsRun (Some (item_of row)) run fault (output before after)
-    → EndsTurn (moment feed run) fault feed' (output before after)
+    → EndsTurn (fed feed run) fault feed' (output before after)
 broken_at row feed feed' run before after fault ready takes ends =
     let done : records_done feed' ≡ run.records = done_given feed feed' run row ready takes in
     let few : run.records < record_limit = few_given feed run ready takes.open_before in
@@ -112,7 +109,7 @@ broken_at row feed feed' run before after fault ready takes ends =
 pub turn_broken : (command : Command) (field : Option Command) (feed feed' : Script) (run : Run)
     (before after : Option (List ℕ)) (fault : ServeFault) → IsReadyRun feed run → field ≡ Some command
     → NextStep feed (Ok field) feed' → EndsRun (Some (Ok command)) run fault (output before after)
-    → EndsTurn (moment feed run) fault feed' (output before after)
+    → EndsTurn (fed feed run) fault feed' (output before after)
 turn_broken command field feed feed' run before after fault ready is step ends =
     let taken : NextStep feed (Ok (Some command)) feed' = rw is at step in
     broken_at taken.0 feed feed' run before after fault ready taken.2 (record {
@@ -125,7 +122,7 @@ turn_broken command field feed feed' run before after fault ready is step ends =
 -- a record that is no command, in whose error line a write failed
 pub turn_unwritten : (word : FeedWord) (feed feed' : Script) (run : Run) (before after : Option (List ℕ))
     → IsReadyRun feed run → RefusesRow feed word feed' → AppendsPart before after (printed (run.records + 1) (Err (Feed word)))
-    → EndsTurn (moment feed run) Write feed' (output before after)
+    → EndsTurn (fed feed run) Write feed' (output before after)
 turn_unwritten word feed feed' run before after ready refuses part =
     broken_at refuses.0 feed feed' run before after Write ready refuses.2 (record {
       end = Unwritten (Err (Feed word));
@@ -150,7 +147,7 @@ stopped_at : (end : End) (number : ℕ) (feed feed' : Script) (run : Run) (befor
     → IsReadyRun feed run → StopsAt feed feed' → number ≡ feed.given + 1 → fault_of end ≢ Write
     → ((here : Progress) → ShowsRun run here → CanEnd end None here) → HasCause feed' (Err (fault_of end))
     → TellsAt end number fault before after
-    → EndsTurn (moment feed run) fault feed' (output before after)
+    → EndsTurn (fed feed run) fault feed' (output before after)
 stopped_at end number feed feed' run before after fault ready stops same given can cause told = record {
   row = None;
   gives = stops;
@@ -174,7 +171,7 @@ read_cause old new reading (inr (inr there)) stops = absurd (let no : Reading �
 pub turn_unread : (number : ℕ) (feed feed' : Script) (run : Run) (before after : Option (List ℕ)) (fault : ServeFault)
     → IsReadyRun feed run → FaultStep feed_word.Read feed feed' → number ≡ feed.given + 1
     → TellsAt Unread number fault before after
-    → EndsTurn (moment feed run) fault feed' (output before after)
+    → EndsTurn (fed feed run) fault feed' (output before after)
 turn_unread number feed feed' run before after fault ready step same told =
     stopped_at Unread number feed feed' run before after fault ready step.1 same (λ same. cc) (λ here shows. tt)
     (read_cause feed feed' ready.reading step.0 step.1) told
@@ -183,7 +180,7 @@ turn_unread number feed feed' run before after fault ready step same told =
 pub turn_unfed : (number : ℕ) (feed feed' : Script) (run : Run) (before after : Option (List ℕ)) (fault : ServeFault)
     → IsReadyRun feed run → FaultStep feed_word.Memory feed feed' → number ≡ feed.given + 1
     → TellsAt NoMemory number fault before after
-    → EndsTurn (moment feed run) fault feed' (output before after)
+    → EndsTurn (fed feed run) fault feed' (output before after)
 turn_unfed number feed feed' run before after fault ready step same told =
     let few : run.records < record_limit = few_given feed run ready step.0 in
     stopped_at NoMemory number feed feed' run before after fault ready step.1 same (λ same. cc)

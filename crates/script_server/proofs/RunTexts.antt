@@ -2,15 +2,16 @@
 use Rattle.std.proofs.Common.{◌≡◌, ℕ, ◌<◌, List, [], ◌++◌, length, append_assoc, append-nil, arith, refl, sym, ◌∙◌, ap}
 use Rattle.std.{proofs.Common.{subst, inl, inr}, specs.Prelude.{false, Option, None, Some, Result, Ok, Err, IfErr, IfOk, IfSome}}
 use Rattle.std.specs.{Prelude.{OnErr, OnOk, option_map, slice_get}, Io.KnownBytes.Appends}
+use Rattle.graph_types.proofs.Prefixes.{appends_then, appends_nothing}
 use Rattle.feed_csv.specs.{Commands.item_of, Records.IsOver, Records.Row, Records.TakesRecord, Records.record_limit, Records.records_of}
 use Rattle.feed_csv.specs.{Script.MeetsEnd, Script.Script, declared.command.Command.Command, declared.command.FeedWord.FeedWord}
 use Rattle.script_server.specs.declared.script.{Run.Run, ServeFault.{ServeFault, TheVariants.Write}, Summary.Summary}
 use Rattle.script_server.specs.Ends.{CanEnd, End, NoMemory, NoStore, TellsEnd, Unread, Unwritten, last_text, records_done}
 use Rattle.script_server.specs.{Executions.{IsFullText, input}, Texts.{IsIntendedText, IsText, IsTextTo}}
-use Rattle.script_server.specs.Runs.{EndsTurn, GivesRow, IsFresh, IsReadyRun, IsStartup, IsTurn, ShowsRun, moment}
+use Rattle.script_server.specs.Runs.{EndsTurn, GivesRow, IsFresh, IsReadyRun, IsStartup, IsTurn, ShowsRun, fed}
 use Rattle.script_server.specs.Writes.{AppendsPart, AppendsSome, output}
 use Rattle.script_commands.specs.{States.{Progress, Setup, beginning}, Servers.pending_of}
-use Rattle.script_server.proofs.Writing.{appends_nothing, appends_then, part_then}
+use Rattle.script_server.proofs.Writing.{part_then}
 use Rattle.script_server.proofs.{RunEnd.done_none, RunSoFar.{Reaches, few_given}}
 use Rattle.script_lines.specs.Lines.{end_line}
 
@@ -88,7 +89,7 @@ told_of setup rows left run before now after end count fault reached is same (in
 -- a turn that ended the run
 pub stopped : (setup : Setup) (rows : List Row) (feed feed' : Script) (run : Run) (before now after : Option (List ℕ))
     (fault : ServeFault) → Reaches setup (Some rows) feed.left run before now
-    → EndsTurn (moment feed run) fault feed' (output now after)
+    → EndsTurn (fed feed run) fault feed' (output now after)
     → AppendsSome before after (IsText (input setup rows) (records_done feed') (Err fault))
 stopped setup rows feed feed' run before now after fault reached turned =
     let end : End = turned.ends.end in
@@ -157,7 +158,7 @@ pub record Finishes (run : Run) (mid after : Option (List ℕ)) (result : Result
 pub whole_or_part : (setup : Setup) (rows : List Row) (feed feed' : Script) (run run' : Run)
     (before now mid after : Option (List ℕ))
     (result : Result Summary ServeFault) → IsReadyRun feed run → Reaches setup (Some rows) feed.left run before now
-    → IsTurn (moment feed run) (Ok false) (moment feed' run') (output now mid)
+    → IsTurn (fed feed run) (Ok false) (fed feed' run') (output now mid)
     → Finishes run' mid after result
     → AppendsSome before after (IsText (input setup rows) (records_done feed') result)
 whole_or_part setup rows feed feed' run run' before now mid after (Ok summary) ready reached turned ends =
@@ -179,7 +180,7 @@ whole_or_part setup rows feed feed' run run' before now mid after (Err error) re
 pub all_stopped : (first : Option (List Row)) (feed feed' : Script) (start run : Run) (before now after : Option (List ℕ))
     (fault : ServeFault)
     → ((setup : Setup) → ShowsRun start (beginning setup) → Reaches setup first feed.left run before now)
-    → EndsTurn (moment feed run) fault feed' (output now after)
+    → EndsTurn (fed feed run) fault feed' (output now after)
     → IfSome first (λ rows. (setup : Setup) → ShowsRun start (beginning setup)
     → AppendsSome before after (IsText (input setup rows) (records_done feed') (Err fault)))
 all_stopped None feed feed' start run before now after fault reached turned = tt
@@ -189,7 +190,7 @@ all_stopped (Some rows) feed feed' start run before now after fault reached turn
 pub all_ended : (first : Option (List Row)) (feed feed' : Script) (start run run' : Run) (before now mid after : Option (List ℕ))
     (result : Result Summary ServeFault) → IsReadyRun feed run
     → ((setup : Setup) → ShowsRun start (beginning setup) → Reaches setup first feed.left run before now)
-    → IsTurn (moment feed run) (Ok false) (moment feed' run') (output now mid)
+    → IsTurn (fed feed run) (Ok false) (fed feed' run') (output now mid)
     → Finishes run' mid after result
     → IfSome first (λ rows. (setup : Setup) → ShowsRun start (beginning setup)
     → AppendsSome before after (IsText (input setup rows) (records_done feed') result))

@@ -2,26 +2,29 @@
 use Rattle.std.proofs.Common.{◌≡◌, ℕ, ◌+◌, List, [], ◌∷◌, ◌++◌, length, append_assoc, append-nil, refl, sym, ◌∙◌, ap, subst}
 use Rattle.std.proofs.Common.{inl, inr}
 use Rattle.std.specs.{Prelude.{false, true, Option, None, Some, Result, Ok, Err, IfSome, MatchResult, OnOk}, Io.KnownBytes.Appends}
+use Rattle.graph_types.proofs.Prefixes.{appends_then, appends_nothing}
 use Rattle.feed_csv.specs.{Commands.item_of, Records.{IsOver, Row}, Script.Script}
 use Rattle.feed_csv.specs.declared.command.{Command.Command, FeedWord.FeedWord}
 use Rattle.epoch_core.specs.{Runs.{AllReplies, Runs}, Worlds.{IsStart, MachineState, replies_of}, declared.events.Event.Event}
 use Rattle.store_steps.specs.Steps.{all_done}
+use Rattle.store_steps.proofs.SessionRuns.{runs_append}
 use Rattle.script_commands.specs.{Machine.{ContinuesMachine, MovesMachine, ShowsMachine}, Servers.{IsServer, ShowsServer, pending_of, result_of}}
 use Rattle.script_commands.specs.declared.server.{Response.Response, Server.Server}
 use Rattle.script_commands.specs.States.{IsRecordResult, Progress, RecordResult, Reopens, Setup, after_item, after_record}
 use Rattle.script_commands.specs.States.{beginning, printed}
 use Rattle.script_lines.specs.Lines.{end_line}
+use Rattle.script_commands.proofs.{ServerMoves.{start_many, replies_many}, SlotResults.{slots_many, never_reopens}}
+use Rattle.script_commands.proofs.ServerMoves.{GoesOn, versions_shown, OpensAnew, moved}
 use Rattle.script_server.specs.declared.script.{Run.Run, ServeFault.ServeFault, Summary.Summary}
 use Rattle.script_server.specs.{Ends.{End, NoMemory, TellsEnd, is_write, last_text, records_done}, Executions.input}
-use Rattle.script_server.specs.{Runs.{EndsTurn, IsFresh, IsReadyRun, IsStartup, IsTurn, ShowsRun, ShowsStart, moment}}
+use Rattle.script_server.specs.{Runs.{EndsTurn, IsFresh, IsReadyRun, IsStartup, IsTurn, ShowsRun, ShowsStart, fed}}
 use Rattle.script_server.specs.Writes.{AppendsSome, output}
 use Rattle.script_server.specs.Segments.{AreEventsOfRecord, AreSegments, Does, IsMachineText, IsSegment, IsShown, Segment}
 use Rattle.script_server.specs.Segments.{question_to, stand}
 use Rattle.script_server.proofs.{RunEnd.done_none, RunSoFar.{Reaches, reaches_more, reaches_nothing}, RunTexts.{Finishes, done_ended}}
-use Rattle.script_server.proofs.SegmentRuns.{gone_on, opened, runs_append, segment_more, segment_opened, segments_more}
-use Rattle.script_server.proofs.SegmentSteps.{Answered, GoesOn, OpensAnew, answers_of, moved, never_reopens, replies_many}
-use Rattle.script_server.proofs.SegmentSteps.{slots_many, start_many, unanswered, versions_shown}
-use Rattle.script_server.proofs.Writing.{appends_nothing, appends_then}
+use Rattle.script_server.proofs.SegmentRuns.{gone_on, opened, segment_more, segment_opened, segments_more}
+use Rattle.script_server.proofs.SegmentSteps.{Answered, answers_of}
+use Rattle.script_server.proofs.SegmentSteps.{unanswered}
 
 -- How far they have come
 
@@ -210,7 +213,7 @@ together_nothing setup first run before kept shows starts = record {
 
 pub together_more : (setup : Setup) (first : Option (List Row)) (feed feed' : Script) (run run' : Run)
     (before now after : Option (List ℕ)) → Together setup first feed.left run before now
-    → IsTurn (moment feed run) (Ok true) (moment feed' run') (output now after) → Together setup first feed'.left run' before after
+    → IsTurn (fed feed run) (Ok true) (fed feed' run') (output now after) → Together setup first feed'.left run' before after
 together_more setup first feed feed' run run' before now after so_far turned =
     let reached = so_far.reached in
     let done = turned.2 in
@@ -260,7 +263,7 @@ some_part end records fault before after (inr part) = (part.1.0, part.1.3)
 pub joined_stopped : (first : Option (List Row)) (feed feed' : Script) (start run : Run) (before now after : Option (List ℕ))
     (fault : ServeFault)
     → ((setup : Setup) → ShowsRun start (beginning setup) → ShowsStart start.server → Together setup first feed.left run before now)
-    → EndsTurn (moment feed run) fault feed' (output now after)
+    → EndsTurn (fed feed run) fault feed' (output now after)
     → IfSome first (λ rows. (setup : Setup) → ShowsRun start (beginning setup) → ShowsStart start.server
     → AppendsSome before after (IsMachineText (input setup rows) (records_done feed') (Err fault)))
 joined_stopped None feed feed' start run before now after fault so_far turned = tt
@@ -272,7 +275,7 @@ joined_stopped (Some rows) feed feed' start run before now after fault so_far tu
 -- the end of the input
 finished : (setup : Setup) (rows : List Row) (feed feed' : Script) (run run' : Run) (before now mid after : Option (List ℕ))
     (result : Result Summary ServeFault) → IsReadyRun feed run → Together setup (Some rows) feed.left run before now
-    → IsTurn (moment feed run) (Ok false) (moment feed' run') (output now mid) → Finishes run' mid after result
+    → IsTurn (fed feed run) (Ok false) (fed feed' run') (output now mid) → Finishes run' mid after result
     → AppendsSome before after (IsMachineText (input setup rows) (records_done feed') result)
 finished setup rows feed feed' run run' before now mid after (Ok summary) ready so_far turned ends =
     text_of setup rows feed.left run before now after (records_done feed') (Ok summary) ([] ++ end_line (length (pending_of run'.server)))
@@ -286,7 +289,7 @@ finished setup rows feed feed' run run' before now mid after (Err fault) ready s
 pub joined_ended : (first : Option (List Row)) (feed feed' : Script) (start run run' : Run) (before now mid after : Option (List ℕ))
     (result : Result Summary ServeFault) → IsReadyRun feed run
     → ((setup : Setup) → ShowsRun start (beginning setup) → ShowsStart start.server → Together setup first feed.left run before now)
-    → IsTurn (moment feed run) (Ok false) (moment feed' run') (output now mid) → Finishes run' mid after result
+    → IsTurn (fed feed run) (Ok false) (fed feed' run') (output now mid) → Finishes run' mid after result
     → IfSome first (λ rows. (setup : Setup) → ShowsRun start (beginning setup) → ShowsStart start.server
     → AppendsSome before after (IsMachineText (input setup rows) (records_done feed') result))
 joined_ended None feed feed' start run run' before now mid after result ready so_far turned ends = tt

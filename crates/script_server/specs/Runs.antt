@@ -81,12 +81,12 @@ pub record EndsRun (item : Option (Result Command FeedWord)) (run : Run) (fault 
   pub told : TellsEnd end run.records fault output
 
 -- a run between two records, and its feed
-pub record Moment : Type 0 where
+pub record FedRun : Type 0 where
   pub feed : Script
   pub run : Run
 
-abbrev pub moment : Script → Run → Moment
-moment feed run = record { feed = feed; run = run }
+abbrev pub fed : Script → Run → FedRun
+fed feed run = record { feed = feed; run = run }
 
 -- the feed gave this record; or it stopped, and gave none
 abbrev pub GivesRow : Script → Option Row → Script → Type 0
@@ -94,7 +94,7 @@ GivesRow old (Some row) new = TakesRow old row new
 GivesRow old None new = StopsAt old new
 
 -- a turn that ended the run, for which its feed shows a cause, behind the records that were done before
-pub record EndsTurn (old : Moment) (fault : ServeFault) (feed : Script) (output : Output) : Type 0 where
+pub record EndsTurn (old : FedRun) (fault : ServeFault) (feed : Script) (output : Output) : Type 0 where
   pub row : Option Row
   pub gives : GivesRow old.feed row feed
   pub ends : EndsRun (option_map item_of row) old.run fault output
@@ -102,7 +102,7 @@ pub record EndsTurn (old : Moment) (fault : ServeFault) (feed : Script) (output 
   pub cause : HasCause feed (Err (fault_of ends.end))
 
 -- a turn, by its result: the next record was executed to its end; or there is none; or the run ended
-abbrev pub IsTurn : Moment → Result Bool ServeFault → Moment → Output → Type 0
+abbrev pub IsTurn : FedRun → Result Bool ServeFault → FedRun → Output → Type 0
 IsTurn old (Ok true) new output =
     (row : Row) × TakesRow old.feed row new.feed × CompletesRecord (item_of row) old.run new.run output
 IsTurn old (Ok false) new output = MeetsEnd old.feed new.feed × (new.run ≡ old.run) × Appends output.before output.after []

@@ -12,7 +12,7 @@ ghost use Rattle.script_server.specs.Texts.{IsText};
 ghost use Rattle.script_server.specs.Ends.{HasCause, is_start, is_write, records_done};
 ghost use Rattle.script_server.specs.Executions.{input};
 ghost use Rattle.script_server.specs.Runs.{CompletesRecord, CountsRecord, EndsRun, IsFresh, IsReadyRun, IsStartup, IsTurn};
-ghost use Rattle.script_server.specs.Runs.{ShowsRun, ShowsStart, TellsStop, moment};
+ghost use Rattle.script_server.specs.Runs.{ShowsRun, ShowsStart, TellsStop, fed};
 ghost use Rattle.script_server.specs.Segments.{IsMachineText};
 ghost use Rattle.script_server.specs.Writes.{AppendsPart, AppendsSome, held, output_of};
 ghost use Rattle.script_server.specs.declared.script.ServeFault.TheVariants.{Memory, Write};
@@ -340,7 +340,7 @@ fn turn<P: Threads + Wait + Sync, R: Read, W: Write>(
     ensures same_writer { sink.new.writer.ghost_name ≡ sink.old.writer.ghost_name }
     ensures failed { sink.new.failed ≡ is_write result }
     ensures flushed { OnErr result (sink.new.failed ≡ false → sink.new.flushed ≡ true) }
-    ensures turns { IsTurn (moment feed.old run.old) result (moment feed.new run.new)
+    ensures turns { IsTurn (fed feed.old run.old) result (fed feed.new run.new)
         (output_of W.contents sink.old sink.new) }
 {
     match feed.next() {

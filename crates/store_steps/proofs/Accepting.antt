@@ -1,5 +1,5 @@
 -- A batch that was applied with granted blocks: its entry is legal, births go over as the rule says, and the desk after it is one.
-use Rattle.std.proofs.Common.{◌≡◌, ℕ, zero, suc, ◌<◌, Bool, true, false, List, [], ◌∷◌, ◌++◌, length, get_or, map, count_by, refl}
+use Rattle.std.proofs.Common.{◌≡◌, ℕ, zero, suc, Bool, true, false, List, [], ◌∷◌, ◌++◌, length, get_or, map, count_by, refl}
 use Rattle.std.proofs.{Common.{sym, ap, ◌∙◌, arith}, lemmas.{Grind.common_steps, Bool.true≢false}}
 use Rattle.std.specs.{List.list_all, Option.option_and_then, Prelude.slice_get, Prelude.if◌then◌else◌, Prelude.Contains}
 use Rattle.std.specs.declared.option.Option.{Option, TheVariants.None, TheVariants.Some}
@@ -9,12 +9,17 @@ use Rattle.edge_block.specs.Slots.{BlockView}
 use Rattle.graph_version.specs.{Rows.{row_of, blocks_of, numbers_of}, Versions.{content, layout_of}}
 use Rattle.batch_shards.specs.Births.{births_after, dropped_births}
 use Rattle.block_reclamation.specs.{Status.is_among, Status.is_used, Status.is_at, declared.status.BlockStatus.TheVariants.Used}
+use Rattle.block_reclamation.proofs.ListedNumbers.{all_by}
+use Rattle.graph_types.proofs.Times.{is_some_times}
+use Rattle.edge_block.proofs.BlockCounts.{default_same}
 use Rattle.epoch_core.specs.Blocks.{all_differ}
+use Rattle.block_pool.proofs.Marked.{length-changed}
+use Rattle.block_pool.proofs.OneNumber.{number_after}
 use Rattle.store_steps.specs.Journal.{Entry, Ledger, opened_ledger, is_legal, after_entry, entered, replay}
 use Rattle.store_steps.specs.Desks.{IsDesk, birth_at, births_in, last_numbers, ledger_of}
 use Rattle.store_steps.specs.Acceptances.{KeepsUntaken}
-use Rattle.store_steps.proofs.{NumberLists.all_by, NumberLists.number_in, ChangedLists.length-changed, OneNumber.number_after}
-use Rattle.store_steps.proofs.Counting.{is_some_times, in_times, apart_if, same_block, counted, listed}
+use Rattle.store_steps.proofs.NumberLists.{number_in}
+use Rattle.store_steps.proofs.Counting.{in_times, apart_if, same_block, counted, listed}
 use Rattle.store_steps.proofs.Births.{birth_in, birth_from, birth_taken, birth_stays, births_of, number_of_row, row_listed}
 use Rattle.store_steps.proofs.Applications.{DeskApplication, acceptance, number_in_desk, dropped_numbers, next_desk, entry_in, after_times}
 use Rattle.store_steps.proofs.Applications.{handed_once, granted_free, one, dropped_differ, dropped_born, exchanged_at, next_at}
@@ -63,9 +68,6 @@ kept_before a b there apart =
           ∙ number_in a.applied.exchanged.fresh b fresh.0 fresh.1 fresh.2 in
           absurd (true≢false (sym taken ∙ apart)))
     ] refl
-
-default_same : (bs : List BlockView) (k : ℕ) (d : BlockView) → k < length bs → get_or bs k (get_or bs k d) ≡ get_or bs k d
-default_same bs k d h = grind (arith, common_steps)
 
 pub made_kept : (a : DeskApplication) → KeepsUntaken (acceptance a)
 made_kept a = λ k d h apart. kept_before a (get_or (blocks_of a.made.version.rows) k d)

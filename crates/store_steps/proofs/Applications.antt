@@ -1,17 +1,22 @@
 -- A batch that was applied to a desk with granted blocks: how often it has a number, and what it leaves of the pool.
 use Rattle.std.proofs.Common.{◌≡◌, ℕ, ◌+◌, ◌≤◌, ◌==◌, true, List, length, count_by, sym, ap, ◌∙◌, arith}
-use Rattle.std.{proofs.lemmas.Grind.common_steps, specs.Prelude.slice_get, specs.Prelude.if◌then◌else◌, specs.Option.option_map}
+use Rattle.std.specs.{Prelude.{slice_get, if◌then◌else◌}, Option.option_map}
 use Rattle.edge_block.specs.Slots.{BlockView}
 use Rattle.graph_version.specs.Rows.{blocks_of, numbers_of}
 use Rattle.block_reclamation.specs.{Status.is_among, declared.status.BlockStatus.BlockStatus}
 use Rattle.block_reclamation.specs.declared.status.BlockStatus.TheVariants.{Free, Granted, Used}
+use Rattle.block_reclamation.proofs.OneStatus.{marked_if}
+use Rattle.graph_types.proofs.{ListPlaces.same_list, Searches.all_from, Times.times}
+use Rattle.graph_types.proofs.Times.{is_some_times, some_either}
+use Rattle.graph_version.proofs.ListedNumbers.{times_numbers}
 use Rattle.block_pool.specs.Pools.{retired, is_free_at, marked, changed_numbers, AreFree, is_used_at}
 use Rattle.epoch_core.{specs.Blocks.all_differ, proofs.Lists.all_listed}
+use Rattle.block_pool.proofs.OneNumber.{OneNumber, one_number, number_after}
 use Rattle.store_steps.specs.{Journal.{Entry, Applied, exchanged}, Desks.{DeskView, IsDesk, last_numbers}}
 use Rattle.store_steps.specs.Acceptances.{Application, IsAppliedTo, Acceptance, acceptance_of, desk_after}
-use Rattle.store_steps.proofs.{NumberLists.{all_from, differ_from}, ChangedLists.marked_at}
-use Rattle.store_steps.proofs.{ChangedLists.{changed_at, same_list}, Counting.{times, is_some_times, in_times, times_numbers}}
-use Rattle.store_steps.proofs.{Counting.{once_at_most, apart_if}, OneNumber.{marked_if, number_after, OneNumber, one_number}}
+use Rattle.store_steps.proofs.{NumberLists.differ_from, ChangedLists.marked_at}
+use Rattle.store_steps.proofs.{ChangedLists.changed_at, Counting.in_times}
+use Rattle.store_steps.proofs.Counting.{once_at_most, apart_if}
 
 -- a batch that was applied to a desk's last version, with blocks that are free
 pub record DeskApplication : Type 0 where
@@ -95,9 +100,6 @@ one a m =
     (times m a.made.unused)
     (before_once a m) (handed_once a m) (in_before a m) (λ is. granted_free a.old.pool a.made.granted m a.free
     (in_numbers a m ∙ is))
-
-pub some_either : (a b : ℕ) → is_some_times b ≡ true → is_some_times (a + b) ≡ true
-some_either a b e = grind (arith, common_steps)
 
 pub dropped_differ : (a : DeskApplication) → all_differ (dropped_numbers a) ≡ true
 dropped_differ a = apart_if (dropped_numbers a) (λ m. let once = before_once a m in omega arith)

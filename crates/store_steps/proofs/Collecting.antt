@@ -2,31 +2,17 @@
 use Rattle.std.proofs.Common.{◌≡◌, ◌≢◌, ℕ, zero, suc, ◌+◌, ◌<◌, ◌==◌, Bool, true, false, ◌||◌, List, [], ◌∷◌, map, set, refl, sym}
 use Rattle.std.proofs.{Common.{ap, ◌∙◌, arith}, lemmas.{Grind.common_steps, Bool.{eq-eqb, true≢false, or_right}}}
 use Rattle.std.{proofs.lemmas.Option.slice_get-map, specs.{Prelude.{slice_get, if◌then◌else◌, filter}, List.enumerate_from}}
-use Rattle.std.specs.{Option.{option_map, option_and_then, is_some}, declared.option.Option.{Option, TheVariants.{None, Some}}}
+use Rattle.std.specs.{Option.option_map, declared.option.Option.TheVariants.Some}
 use Rattle.block_pool.{proofs.Grants.length-marked, specs.Pools.marked}
 use Rattle.block_reclamation.specs.{Status.is_among, Status.is_reclaimable, Status.is_at, declared.copies.PinCopy.PinCopy}
 use Rattle.block_reclamation.specs.declared.status.BlockStatus.{BlockStatus, TheVariants.Free}
-use Rattle.epoch_core.specs.{Blocks.put_if_some, Blocks.all_differ, Blocks.reclaimed, declared.events.Event.TheVariants.Recycle}
-use Rattle.epoch_core.{specs.Worlds.World, specs.Machine.step, specs.Machine.with_status, proofs.Lists.set_else}
+use Rattle.block_reclamation.proofs.Recycling.{in_cond}
+use Rattle.graph_types.proofs.{ListPlaces.{set_else, same_list}, Numbers.apart_test}
+use Rattle.epoch_core.specs.{Blocks.all_differ, declared.events.Event.TheVariants.Recycle}
+use Rattle.epoch_core.specs.{Worlds.World, Machine.with_status}
+use Rattle.epoch_core.proofs.BlockSteps.{differ_head, differ_tail, goes, recycle_done, goes_is, recycle_skipped, none_goes}
 use Rattle.store_steps.specs.{Desks.{DeskView, IsCollected}, Shown.ShowsWorld, Steps.{all_done, reclaimable_numbers, recycling, SimulatesAt}}
-use Rattle.store_steps.proofs.NumberLists.{apart_test, differ_head, differ_tail}
-use Rattle.store_steps.proofs.{Filling.step_then, ChangedLists.marked_at, ChangedLists.same_list}
-
--- whether the machine recycles a block by the copy
-abbrev goes : PinCopy → Option BlockStatus → Bool
-goes copy o = is_some (option_and_then (reclaimed copy) o)
-
--- what goes is free then
-goes_free : (copy : PinCopy) (o : Option BlockStatus) → goes copy o ≡ true → option_and_then (reclaimed copy) o ≡ Some Free
-goes_free copy o is = grind (arith, common_steps)
-
-recycle_done : (w : World) (n : ℕ) → goes w.copy (slice_get w.status n) ≡ true
-    → step w (Recycle n) ≡ Some (with_status w (set w.status n Free))
-recycle_done w n is = ap (λ o. option_map (with_status w) (put_if_some w.status n o)) (goes_free w.copy (slice_get w.status n) is)
-
--- what doesn't go isn't recycled
-recycle_skipped : (w : World) (n : ℕ) → goes w.copy (slice_get w.status n) ≡ false → step w (Recycle n) ≡ None
-recycle_skipped w n is = grind (arith, common_steps)
+use Rattle.store_steps.proofs.{Filling.step_then, ChangedLists.marked_at}
 
 -- Recycle of different blocks that go
 recycles : (ns : List ℕ) (w : World) → ((n : ℕ) → is_among n ns ≡ true → goes w.copy (slice_get w.status n) ≡ true)
@@ -45,11 +31,6 @@ recycles (n ∷ ns) w go apart =
 
 abbrev reclaimable_from : PinCopy → ℕ → List BlockStatus → List ℕ
 reclaimable_from copy k pool = map (λ p. p.0) (filter (λ p. is_reclaimable copy p.1) (enumerate_from k pool))
-
-in_cond : (t : Bool) (k n : ℕ) (rest : List (ℕ × BlockStatus)) (s : BlockStatus)
-    → is_among n (map (λ p. p.0) (if t then (k, s) ∷ rest else rest))
-    ≡ (if t then (k == n) || is_among n (map (λ p. p.0) rest) else is_among n (map (λ p. p.0) rest))
-in_cond t k n rest s = grind (arith, common_steps)
 
 skip : (t u r : Bool) → u ≡ false → (if t then u || r else r) ≡ r
 skip t u r e = grind (arith, common_steps)
@@ -86,15 +67,6 @@ reclaimable_apart copy k (s ∷ pool) =
     ]
 
 -- One number
-
--- exactly what the copy frees goes
-goes_is : (copy : PinCopy) (o : Option BlockStatus) → goes copy o ≡ is_at (is_reclaimable copy) o
-goes_is copy o = grind (arith, common_steps)
-
--- nothing goes any more
-none_goes : (copy : PinCopy) (o : Option BlockStatus)
-    → goes copy (if is_at (is_reclaimable copy) o then option_map (λ _. Free) o else o) ≡ false
-none_goes copy o = grind (arith, common_steps)
 
 -- the world after a collection
 abbrev collected_world : PinCopy → DeskView → World → World

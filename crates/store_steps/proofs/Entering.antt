@@ -1,58 +1,17 @@
 -- A pinned session enters the last version, if that is the one that it settles at.
-use Rattle.std.proofs.Common.{◌≡◌, ℕ, ◌<◌, ◌≤◌, Bool, false, inl, inr, List, [], ◌∷◌, ◌++◌, refl, Option, Some, None}
-use Rattle.std.proofs.Common.{IfSome, sym, ap, subst, ◌∙◌, arith}
+use Rattle.std.proofs.Common.{◌≡◌, ℕ, ◌<◌, ◌≤◌, false, inl, inr, List, [], ◌∷◌, ◌++◌, refl, Option, Some, None}
+use Rattle.std.proofs.Common.{sym, ap, subst, ◌∙◌, arith}
 use Rattle.std.proofs.lemmas.Bool.{cases_eq}
-use Rattle.std.specs.Prelude.{option_map}
-use Rattle.block_reclamation.specs.{declared.copies.Pin.Pin as SeatPin, Copies.settled}
+use Rattle.graph_types.proofs.Cases.{none_not, unsome}
 use Rattle.epoch_core.specs.{declared.events.Event.TheVariants.Enter, declared.session_states.Hold.Hold}
-use Rattle.epoch_core.specs.{declared.session_states.Inquiry.Inquiry, declared.session_states.SessionState.SessionState}
+use Rattle.epoch_core.specs.declared.session_states.SessionState.{SessionState}
 use Rattle.epoch_core.specs.declared.session_states.SessionState.TheVariants.{Idle, Pinned, Holding, Asking}
 use Rattle.epoch_core.specs.{Runs.run, Worlds.{World, IsStart, last_number}, Machine.to_enter}
+use Rattle.epoch_core.proofs.SessionSteps.{within, pinned_not_idle, holding_not, idle_not, asking_not}
 use Rattle.store_steps.specs.{Reached.IsReached, Merges.{Call, Enters}}
 use Rattle.store_steps.proofs.{SeatCalls.{entry_of, place_on}, Reached.{stays_reached, same_count}}
-use Rattle.store_steps.proofs.Stages.{Seated, seated, within, Stands, Merging, IsOneSeat, Stage, last_of, session_at, view_of}
+use Rattle.store_steps.proofs.Stages.{Seated, seated, Stands, Merging, IsOneSeat, Stage, last_of, session_at, view_of}
 use Rattle.store_steps.proofs.Stages.{seat_view, IsStage, Onward}
-
--- States and numbers that differ
-
-pub idle_not : (pin : ℕ) → Idle ≡ Pinned pin → ⊥
-idle_not pin e = cc
-
-pub holding_not : (hold : Hold) (pin : ℕ) → Holding hold ≡ Pinned pin → ⊥
-holding_not hold pin e = cc
-
-pub asking_not : (hold : Hold) (inquiry : Inquiry) (pin : ℕ) → Asking hold inquiry ≡ Pinned pin → ⊥
-asking_not hold inquiry pin e = cc
-
-pub holding_not_idle : (hold : Hold) → Holding hold ≡ Idle → ⊥
-holding_not_idle hold e = cc
-
-pub pinned_not_idle : (pin : ℕ) → Pinned pin ≡ Idle → ⊥
-pinned_not_idle pin e = cc
-
-pub none_not : (n : ℕ) → None ≡ Some n → ⊥
-none_not n e = cc
-
-pub some_same : (m n : ℕ) → Some m ≡ Some n → m ≡ n
-some_same m n e = cc
-
-pub idle_unpinned : (pin : SeatPin) → None ≡ Some pin → ⊥
-idle_unpinned pin e = cc
-
--- a pin's number
-abbrev pub number_of : Option SeatPin → ℕ
-number_of None = 0
-number_of (Some pin) = pin.number
-
--- whether a pin is settled
-abbrev pub told : Option SeatPin → Bool
-told None = false
-told (Some pin) = pin.is_settled
-
-pub settled_above : (n floor : ℕ) (pin : Option SeatPin) → IfSome pin (λ p. floor ≤ p.number)
-    → IfSome (option_map (settled n) pin) (λ p. floor ≤ p.number)
-settled_above n floor None above = tt
-settled_above n floor (Some pin) above = omega (arith, above)
 
 -- An entry
 
@@ -158,5 +117,5 @@ enter_if m seat st is_start k =
           | inl now ↦ entering m seat st pin is_start k is (next ∙ ap Some now)
           | inr later ↦
               not_entering m seat st k
-              (λ other pinned n at. let same : number ≡ n = some_same number n (sym next ∙ at) in omega (arith, low, later, same))
+              (λ other pinned n at. let same : number ≡ n = unsome number n (sym next ∙ at) in omega (arith, low, later, same))
         ]

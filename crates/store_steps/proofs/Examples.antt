@@ -1,18 +1,19 @@
 -- Small stores, computed.
-use Rattle.std.proofs.Common.{◌≡◌, ℕ, zero, suc, Bool, true, false, List, [], ◌∷◌, refl, sym, ap, subst, arith}
+use Rattle.std.proofs.Common.{◌≡◌, ℕ, zero, suc, true, false, List, [], ◌∷◌, refl, sym, ap, subst, arith}
 use Rattle.std.proofs.{lemmas.Grind.common_steps, lemmas.Bool.{true≢false, ne_eqb}}
-use Rattle.std.specs.Prelude.{filter, ◌==◌, All, slice_get, Option, Some, None}
+use Rattle.std.specs.Prelude.{filter, ◌==◌, All, slice_get}
 use Rattle.graph_types.specs.{declared.batches.NamedOp.NamedOp, Limits.standard_limits}
-use Rattle.graph_types.proofs.Keys.{once_none}
-use Rattle.graph_version.specs.{Edges.edges_in_block, Versions.{VersionView, IsVersion, empty_version}}
-use Rattle.graph_version.proofs.Empty.{is_empty_version, standard_are_limits}
-use Rattle.block_reclamation.specs.{Copies.{pin_at, unsettled}, declared.copies.Pin.Pin as SeatPin, Board.{no_pins, with_pin}}
+use Rattle.graph_version.specs.{Edges.edges_in_block, Versions.empty_version}
+use Rattle.block_reclamation.specs.Copies.{pin_at}
 use Rattle.block_reclamation.specs.Status.{is_at, is_granted}
-use Rattle.epoch_core.specs.{Runs.run, Worlds.{seat_pin, start_world, session_of, World, empty_opening}}
-use Rattle.epoch_core.specs.{declared.events.Event.TheVariants.{Pin, Post, Enter, Settle, Floor}, Versions.{edges_at, left}}
+use Rattle.block_reclamation.proofs.SeatPins.{is_told}
+use Rattle.graph_types.proofs.ChangedContents.{standard_are_limits}
+use Rattle.graph_version.proofs.Empty.{blank_is_version}
+use Rattle.epoch_core.specs.Worlds.{seat_pin, start_world, session_of, World}
+use Rattle.epoch_core.specs.{declared.events.Event.TheVariants.{Post, Enter, Settle, Floor}, Versions.edges_at}
 use Rattle.epoch_core.specs.{declared.events.Event.Event, declared.session_states.SessionState.TheVariants.{Pinned, Holding}}
-use Rattle.epoch_core.specs.{Posting.{can_post, are_edges_of}, Posts.posted}
-use Rattle.epoch_core.proofs.Edges.{Decides-edges}
+use Rattle.epoch_core.specs.{Posting.can_post, Posts.posted}
+use Rattle.epoch_core.proofs.Examples.{pin_shown, shows_none}
 use Rattle.store_steps.specs.{Desks.{birth_at, IsDesk}, Steps.all_done, Acceptances.{Acceptance, IsAccepted, KeepsUntaken}}
 use Rattle.store_steps.specs.Opening.{opened_desk}
 use Rattle.store_steps.specs.Examples.{blank_desk, crossed_copy, crossed_desk, crossed_board, AreExamples, block_one}
@@ -26,23 +27,11 @@ edges_shown = grind (arith, common_steps)
 pins_shown : (s : ℕ) → seat_pin (session_of world_of_two s) ≡ pin_at board_of_two.pins s
 pins_shown s = grind (arith, common_steps)
 
-pin_shown : (s : ℕ) → seat_pin (session_of (run (Pin 0 ∷ []) (start_world 1 3)) s)
-    ≡ pin_at (with_pin no_pins 0 (Some (unsettled 0))).pins s
-pin_shown s = grind (arith, common_steps)
-
-abbrev is_settled_in : Option SeatPin → Bool
-is_settled_in None = false
-is_settled_in (Some p) = p.is_settled
-
 -- a Post that is done, and those after it
 posts : (w : World) (batch : List NamedOp) (blocks : List ℕ) (rest : List Event)
     → can_post w.opening w.heap w.status w.versions batch blocks ≡ true
     → all_done (Post batch blocks ∷ rest) w ≡ all_done rest (posted w batch blocks)
 posts w batch blocks rest can = grind (arith, common_steps)
-
--- the opening has no edges
-no_edges_shown : are_edges_of (left empty_opening []) [] ≡ true
-no_edges_shown = (Decides-edges (left empty_opening []) []).1 (record { once = once_none; same = refl })
 
 -- seat 1 has entered, and seat 0 is pinned
 abbrev before_post : World
@@ -51,22 +40,6 @@ before_post = record (start_world 2 3) {
 }
 
 -- The batch without operations
-
-abbrev blank_version : VersionView
-blank_version = record empty_version { batches = [] ∷ [] }
-
-blank_is_version : IsVersion blank_version
-blank_is_version = record {
-  rows = is_empty_version.rows;
-  within = is_empty_version.within;
-  small = record {
-    names = omega arith;
-    kinds = omega arith;
-    count = omega arith;
-    limits = is_empty_version.small.limits;
-    weights = is_empty_version.small.weights;
-  };
-}
 
 blank_is_desk : IsDesk blank_desk
 blank_is_desk = record { version = blank_is_version; replays = refl; listed = (opens_blank standard_limits standard_are_limits 0 3).desk.listed }
@@ -164,11 +137,11 @@ are_examples = record {
   pinned = record { floor = refl; pins = pin_shown };
   entered = refl;
   board = record { floor = refl; pins = pins_shown };
-  settled = λ w shows. true≢false (sym (ap is_settled_in (shows.pins 1)));
+  settled = λ w shows. true≢false (sym (ap is_told (shows.pins 1)));
   crossed = crossed_locks;
   crossed_desks = refl;
   crossed_seats = (refl, refl);
-  crossed_done = posts before_post [] [] (Enter 0 ∷ Settle 0 ∷ Floor ∷ []) no_edges_shown;
+  crossed_done = posts before_post [] [] (Enter 0 ∷ Settle 0 ∷ Floor ∷ []) shows_none;
   entered_below = λ are. absurd (omega (arith, are.0));
   entered_back = λ are. absurd (omega (arith, are.2.0));
   entered_early = λ are. absurd (omega (arith, are.1));

@@ -1,18 +1,20 @@
 -- The blocks that a batch was granted can be born, and given back.
-use Rattle.std.proofs.Common.{◌≡◌, ℕ, zero, suc, ◌≤◌, Bool, true, false, List, refl, sym, ap, ◌∙◌, arith}
+use Rattle.std.proofs.Common.{◌≡◌, ℕ, zero, suc, ◌≤◌, true, false, List, refl, sym, ap, ◌∙◌, arith}
 use Rattle.std.{proofs.lemmas.Grind.common_steps, proofs.lemmas.Bool.true≢false, specs.Option.option_map}
-use Rattle.std.specs.{Prelude.slice_get, Prelude.if◌then◌else◌, declared.option.Option.Option}
-use Rattle.block_reclamation.specs.Status.{is_among, is_free, is_in_use, is_used, is_at}
+use Rattle.std.specs.Prelude.{slice_get, if◌then◌else◌}
+use Rattle.block_reclamation.specs.Status.{is_among, is_in_use, is_used, is_at}
 use Rattle.block_reclamation.specs.declared.status.BlockStatus.{BlockStatus, TheVariants.{Free, Granted, Used}}
+use Rattle.block_reclamation.proofs.{ListedNumbers.all_by, OneStatus.{used_marked, not_both}}
+use Rattle.block_reclamation.proofs.OneStatus.{marked_if, there_and_back, used_born, born_and_back}
+use Rattle.graph_types.proofs.{ListPlaces.same_list, Times.times}
+use Rattle.graph_types.proofs.Times.{is_some_times, some_either}
+use Rattle.epoch_core.proofs.BlockSteps.{AreMovable}
 use Rattle.block_pool.specs.Pools.{retired, is_free_at, marked, AreFree, is_in_use_at, is_used_at}
-use Rattle.store_steps.{specs.Desks.{DeskView, IsDesk, last_numbers}, proofs.NumberLists.{all_by, differ_from}}
-use Rattle.store_steps.proofs.{OneNumber.{marked_if, not_both}, ChangedLists.{marked_at, changed_at, same_list}}
-use Rattle.store_steps.proofs.{BlockMoves.AreMovable, Counting.{times, is_some_times, in_times, apart_if, listed}}
+use Rattle.store_steps.{specs.Desks.{DeskView, IsDesk, last_numbers}, proofs.NumberLists.differ_from}
+use Rattle.store_steps.proofs.ChangedLists.{marked_at, changed_at}
+use Rattle.store_steps.proofs.Counting.{in_times, apart_if, listed}
 use Rattle.store_steps.proofs.Applications.{DeskApplication, number_in_desk, dropped_numbers, handed_once, granted_free, in_numbers}
-use Rattle.store_steps.proofs.Applications.{some_either, dropped_differ, dropped_born, granted_pool, born_pool, retired_pool}
-
-used_marked : (p : Option BlockStatus) → is_at is_free p ≡ true → is_at is_in_use (option_map (λ _. Granted) p) ≡ true
-used_marked p e = grind (arith, common_steps)
+use Rattle.store_steps.proofs.Applications.{dropped_differ, dropped_born, granted_pool, born_pool, retired_pool}
 
 granted_used : (pool : List BlockStatus) (numbers : List ℕ) (m : ℕ) → is_free_at pool m ≡ true → is_among m numbers ≡ true
     → is_in_use_at (marked numbers Granted pool) m ≡ true
@@ -96,27 +98,16 @@ pub granted_movable : (pool : List BlockStatus) (numbers : List ℕ) → AreFree
     → AreMovable is_in_use numbers (marked numbers Granted pool)
 granted_movable pool numbers free = grind (arith, common_steps, all_by, granted_used, granted_free, differ_from)
 
-there_and_back : (t : Bool) (p : Option BlockStatus) → (t ≡ true → is_at is_free p ≡ true)
-    → marked_if Free t (marked_if Granted t p) ≡ p
-there_and_back t p f = grind (arith, common_steps)
-
 pub given_back : (pool : List BlockStatus) (numbers : List ℕ) → AreFree pool numbers
     → marked numbers Free (marked numbers Granted pool) ≡ pool
 given_back pool numbers free = grind (arith, common_steps, same_list, marked_at, marked_if, there_and_back, granted_free)
 
 -- and so it can where some of them were born meanwhile
 
-used_born : (n : ℕ) (t : Bool) (p : Option BlockStatus) → is_at is_in_use p ≡ true → is_at is_in_use (marked_if (Used n) t p) ≡ true
-used_born n t p is = grind (arith, common_steps)
-
 pub born_movable : (pool : List BlockStatus) (numbers taken : List ℕ) (n : ℕ) → AreFree pool numbers
     → AreMovable is_in_use numbers (marked taken (Used n) (marked numbers Granted pool))
 born_movable pool numbers taken n free =
     grind (arith, common_steps, all_by, marked_at, used_born, granted_used, granted_free, differ_from)
-
-born_and_back : (n : ℕ) (g t : Bool) (p : Option BlockStatus) → (g ≡ true → is_at is_free p ≡ true) → (t ≡ true → g ≡ true)
-    → marked_if Free g (marked_if (Used n) t (marked_if Granted g p)) ≡ p
-born_and_back n g t p f h = grind (arith, common_steps)
 
 pub born_given_back : (pool : List BlockStatus) (numbers taken : List ℕ) (n : ℕ) → AreFree pool numbers
     → ((m : ℕ) → is_among m taken ≡ true → is_among m numbers ≡ true)

@@ -2,12 +2,13 @@
 use Rattle.std.proofs.Common.{◌≡◌, ℕ, ◌<◌, ◌≤◌, inl, inr, List, [], ◌∷◌, length, refl, Option, Some, sym, subst, ◌∙◌}
 use Rattle.std.specs.Prelude.{◌⊎◌}
 use Rattle.block_reclamation.specs.{declared.copies.Pin.Pin as SeatPin, declared.copies.TheConstants.SEATS, Copies.unsettled}
+use Rattle.block_reclamation.proofs.SeatPins.{none_not}
 use Rattle.epoch_core.specs.{declared.session_states.Hold.Hold, declared.session_states.SessionState.SessionState}
 use Rattle.epoch_core.specs.declared.session_states.SessionState.TheVariants.{Idle, Pinned, Holding, Asking}
 use Rattle.epoch_core.specs.Worlds.{IsStart, seat_pin}
 use Rattle.store_steps.specs.Merges.{Call, Applies, Collects, Raises, Pins, Enters, Settles, Unpins, Asks}
 use Rattle.store_steps.proofs.{SeatCalls.IsWaiting, Stages.{Stands, Merging, Stage, last_of, session_at, IsStage, Onward, onward_both}}
-use Rattle.store_steps.proofs.Entering.{idle_unpinned, Awaits, Entered, enter_if}
+use Rattle.store_steps.proofs.Entering.{Awaits, Entered, enter_if}
 use Rattle.store_steps.proofs.{Seating.{at_calls, pinning, settling, unpinning}, Questioning.questioning}
 
 -- The seat's calls, one after another
@@ -40,7 +41,7 @@ waiting m seat st cs is e waits = record {
 settle_now : (last n other : ℕ) (cs : List Call) (session : SessionState) (pin : Option SeatPin) → seat_pin session ≡ pin
     → (floor : ℕ) → pin ≡ Some (unsettled floor) → Stands last (Settles other n ∷ cs) session
     → Awaits last (Settles other n ∷ cs) session → (last < n) ⊎ ((hold : Hold) × (session ≡ Holding hold))
-settle_now last n other cs Idle pin shown floor had stands awaits = absurd (idle_unpinned (unsettled floor) (shown ∙ had))
+settle_now last n other cs Idle pin shown floor had stands awaits = absurd (none_not (unsettled floor) (shown ∙ had))
 settle_now last n other cs (Pinned number) pin shown floor had stands awaits = inl (awaits number refl n refl)
 settle_now last n other cs (Holding hold) pin shown floor had stands awaits = inr (hold, refl)
 settle_now last n other cs (Asking hold inquiry) pin shown floor had stands awaits = absurd stands

@@ -1,30 +1,33 @@
 -- The desk's calls with the seats' calls between them: one order of both, and a run of the machine.
 use Rattle.std.proofs.Common.{◌≡◌, ℕ, zero, suc, ◌+◌, ◌<◌, ◌≤◌, true, false, inl, inr, List, [], ◌∷◌, ◌++◌, length, map, get_or}
-use Rattle.std.proofs.Common.{refl, Option, Some, None, IfSome, sym, ap, subst, ◌∙◌, arith}
+use Rattle.std.proofs.Common.{refl, Option, Some, None, sym, ap, subst, ◌∙◌, arith}
 use Rattle.std.proofs.lemmas.Bool.{cases_lt, cases_eq, cond-true, cond-false}
 use Rattle.std.proofs.{lemmas.List.{length-map, length-append, length-replicate}, Math.ListN.get_or-map}
 use Rattle.std.specs.Prelude.{filter}
 use Rattle.graph_version.specs.Versions.{VersionView}
 use Rattle.block_reclamation.specs.{declared.copies.PinCopy.PinCopy, declared.copies.Pin.Pin as SeatPin}
-use Rattle.block_reclamation.specs.{declared.copies.TheConstants.SEATS, Board.{IsBoard, no_pins}}
+use Rattle.block_reclamation.specs.{declared.copies.TheConstants.SEATS, Board.no_pins}
 use Rattle.block_reclamation.specs.Copies.{pin_at, copy_of, floor_of, settled_number, unsettled_number}
 use Rattle.block_reclamation.proofs.Copied.{floor_is_least}
+use Rattle.block_reclamation.proofs.SeatPins.{pin_beyond, no_pins_board, CopiesPin}
+use Rattle.graph_types.proofs.ListPlaces.{same_elements}
 use Rattle.epoch_core.specs.{declared.events.Event.Event, declared.events.Event.TheVariants.Floor}
 use Rattle.epoch_core.specs.declared.session_states.SessionState.TheVariants.{Idle}
 use Rattle.epoch_core.specs.{Worlds.{World, MachineState, IsStart, session_of, Answer}, Runs.{AllReplies, run}}
 use Rattle.epoch_core.proofs.{Steps.idle_at, Moves.floored}
+use Rattle.epoch_core.proofs.RunsTogether.{run_more, run_next, AreSilent, silent_recycling}
 use Rattle.store_steps.specs.{Desks.{DeskView, IsCollected}, Boards.raised_board}
 use Rattle.store_steps.specs.{Steps.{SimulatesIn, posting, recycling, reclaimable_numbers}, Acceptances.{Acceptance, IsAccepted}}
 use Rattle.store_steps.specs.Reached.{Store, IsReached, opened_store}
 use Rattle.store_steps.specs.Merges.{Asks, desk_by, next_replies, Call, Applies, Collects, Raises, Pins, Enters, Settles}
 use Rattle.store_steps.specs.Merges.{Unpins, is_desks, is_of, is_raise, next_store, AreDeskCalls, events_of, AreDone, AreRun}
 use Rattle.store_steps.specs.Merges.{LocksAreOneRun, Holds, AreBoardCalls, IsOneRun, board_by}
-use Rattle.store_steps.proofs.Questions.{AreSilent, silent_posting, silent_recycling}
-use Rattle.store_steps.proofs.SeatCalls.{CopiesPin, ready_next, seat_calls, raises_of, pin_beyond, place_on}
+use Rattle.store_steps.proofs.Questions.{silent_posting}
+use Rattle.store_steps.proofs.SeatCalls.{ready_next, seat_calls, raises_of, place_on}
 use Rattle.store_steps.proofs.Stages.{Stage, Stands, Merging, IsOneSeat, IsStage, IsOrdered, last_of, session_at, moment}
 use Rattle.store_steps.proofs.Stages.{seat_view, view_of}
-use Rattle.store_steps.proofs.{Laps.{IsStuck, Lapped, lap}, Reached.{stays_reached, run_more, simulated_reached, run_next}}
-use Rattle.store_steps.proofs.{Histories.done_is_run, OpeningShown.no_pin, Collecting.collection_simulates, BoardSteps.same_elements}
+use Rattle.store_steps.proofs.{Laps.{IsStuck, Lapped, lap}, Reached.{stays_reached, simulated_reached}}
+use Rattle.store_steps.proofs.{Histories.done_is_run, Collecting.collection_simulates}
 use Rattle.store_steps.proofs.SameBoards.{MakesCopies, makes_copies, boards_same, desk_left, board_left}
 use Rattle.store_steps.proofs.Waits.{seat_later, raise_next, none_left, stands_behind, seat_beyond}
 
@@ -311,9 +314,6 @@ ordered start end seen (Enters seat ∷ desk) st is_start few k stuck = absurd k
 ordered start end seen (Settles seat n ∷ desk) st is_start few k stuck = absurd k.desk_calls.0
 ordered start end seen (Asks seat n request answer ∷ desk) st is_start few k stuck = absurd k.desk_calls.0
 ordered start end seen (Unpins seat ∷ desk) st is_start few k stuck = absurd k.desk_calls.0
-
-no_pins_board : IsBoard no_pins
-no_pins_board = record { seats = length-replicate {A = Option SeatPin} 16 None; below_pins = λ seat. subst (λ o. IfSome o (λ p. 0 ≤ p.number)) (sym (no_pin 16 seat)) tt }
 
 abbrev opened_stage : DeskView → List Call → Stage
 opened_stage d board = record { events = []; store = opened_store d; calls = λ seat. filter (is_of seat) board }

@@ -13,17 +13,22 @@ use Rattle.graph_version.specs.{Rows.blocks_of, Rows.numbers_of, Edges.edges_in_
 use Rattle.graph_version.{specs.Versions.content, proofs.Shown.rows_each_once}
 use Rattle.block_reclamation.specs.Status.{is_among, is_used, is_at, is_granted}
 use Rattle.block_reclamation.specs.declared.status.BlockStatus.{BlockStatus, TheVariants.Free, TheVariants.Granted}
+use Rattle.block_reclamation.proofs.OneStatus.{free_is}
+use Rattle.graph_types.proofs.{Cases.same_bool, Joined.length_enumerated, ListPlaces.same_list}
+use Rattle.graph_version.proofs.ListedNumbers.{numbers_all}
 use Rattle.epoch_core.specs.{declared.{states.Version.Version, events.Event.TheVariants.Post}, Blocks.{all_differ, after_post}}
 use Rattle.epoch_core.specs.{Posts.posted, Worlds.{World, last_blocks}, Versions.{AreEdgesOf, edges_at, edges_of}}
 use Rattle.epoch_core.specs.Versions.{batches_at, graph_at, graph_of_opening}
 use Rattle.epoch_core.{specs.Posting.{is_listable, version_by, can_post, graph_after, are_edges_of}, proofs.Lists.all_listed}
-use Rattle.epoch_core.proofs.{Lists.length_enumerated, Edges.Decides-edges, Changes.{version_next, batches_all}, Posted.status_at}
+use Rattle.epoch_core.proofs.{Edges.Decides-edges, Changes.{version_next, batches_all}, Posted.status_at}
+use Rattle.epoch_core.proofs.BlockSteps.{status_by}
+use Rattle.block_pool.proofs.OneNumber.{number_after, born_mark}
 use Rattle.store_steps.specs.{Journal.{Applied, Ledger, is_legal, after_entry}, Shown.ShowsWorld, Desks.{IsDesk, last_numbers, ledger_of}}
 use Rattle.store_steps.specs.{Steps.{fresh_in, posting, Simulates}, Acceptances.{Acceptance, KeepsUntaken, applied_entry}}
-use Rattle.store_steps.proofs.NumberLists.{same_bool, differ_from, number_in, numbers_all, picked, in_picked, picked_in}
-use Rattle.store_steps.proofs.{NumberLists.picked_apart, NumberLists.picked_all, OneNumber.number_after, OneNumber.free_is, Filling.edges_from}
-use Rattle.store_steps.proofs.{ChangedLists.marked_at, ChangedLists.same_list, Applications.exchanged_at}
-use Rattle.store_steps.proofs.OneStatus.{status_by, same_after, born_mark}
+use Rattle.store_steps.proofs.NumberLists.{differ_from, number_in, picked, in_picked, picked_in}
+use Rattle.store_steps.proofs.{NumberLists.{picked_apart, picked_all}, Filling.edges_from}
+use Rattle.store_steps.proofs.{ChangedLists.marked_at, Applications.exchanged_at}
+use Rattle.store_steps.proofs.OneStatus.{same_after}
 use Rattle.store_steps.proofs.Filling.{filled_world, fills_done, step_then, AllAre, length-heap_with, heap_else, heap_here}
 
 -- what a legal batch asks of the pool

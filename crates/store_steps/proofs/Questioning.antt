@@ -8,20 +8,22 @@ use Rattle.graph_types.specs.{Graph.Graph, Step.left_by, Answer.IsAnswer, declar
 use Rattle.graph_types.specs.declared.requests.Request.{Request}
 use Rattle.graph_version.specs.Versions.{VersionView}
 use Rattle.block_reclamation.specs.{declared.copies.Pin.Pin as SeatPin, declared.copies.PinCopy.PinCopy}
+use Rattle.block_reclamation.proofs.SeatPins.{none_not, is_told, pin_number}
 use Rattle.epoch_core.specs.{declared.session_states.Hold.Hold, declared.session_states.SessionState.SessionState}
 use Rattle.epoch_core.specs.declared.session_states.SessionState.TheVariants.{Idle, Pinned, Holding, Asking}
 use Rattle.epoch_core.specs.{Worlds.{World, IsStart, seat_pin, session_of, held_in, Answer}, Runs.{AllReplies, run}}
 use Rattle.epoch_core.specs.{Sound.{IsHeld, IsSound, IsSessionSound}, Versions.{blocks_at, graph_at, graph_of_opening}}
 use Rattle.epoch_core.specs.{declared.events.Event.TheVariants.{Ask, Read, Reply}, declared.events.Event.Event}
 use Rattle.epoch_core.proofs.Steps.{always_sound}
+use Rattle.epoch_core.proofs.{RunsTogether.run_more, SessionSteps.{within, holding_not_idle}}
 use Rattle.store_steps.specs.Merges.{Call, Applies, Collects, Raises, Pins, Enters, Settles, Unpins, Asks, AreDeskCalls}
 use Rattle.store_steps.specs.Merges.{desk_by, graph_of_version, is_raise, is_of}
 use Rattle.store_steps.specs.{Desks.DeskView, Shown.ShowsWorld, Steps.all_done, Boards.ShowsBoard}
-use Rattle.store_steps.proofs.{SeatCalls.{ready_next, place_on}, Reached.{same_count, run_more}, Histories.done_is_run}
+use Rattle.store_steps.proofs.{SeatCalls.{ready_next, place_on}, Reached.same_count, Histories.done_is_run}
 use Rattle.store_steps.proofs.Questions.{question_done, question_replies}
-use Rattle.store_steps.proofs.Stages.{with_calls, calls_here, calls_else, within, Stands, Merging, IsOneSeat, Stage, last_of}
+use Rattle.store_steps.proofs.Stages.{with_calls, calls_here, calls_else, Stands, Merging, IsOneSeat, Stage, last_of}
 use Rattle.store_steps.proofs.Stages.{view_of, IsStage, Onward}
-use Rattle.store_steps.proofs.{Entering.{holding_not_idle, idle_unpinned, number_of, told}, Seating.at_calls}
+use Rattle.store_steps.proofs.Seating.{at_calls}
 
 -- a later desk of the same opening, with more batches
 record IsGrown (old new : VersionView) : Type 0 where
@@ -67,10 +69,10 @@ held_now : (last n other : ℕ) (request : Request) (answer : Answer) (cs : List
     → Stands last (Asks other n request answer ∷ cs) session
     → (hold : Hold) × (session ≡ Holding hold) × (hold.settled ≡ true) × (hold.pin ≡ n)
 held_now last n other request answer cs Idle pin shown had stands =
-    absurd (idle_unpinned (record { number = n; is_settled = true }) (shown ∙ had))
-held_now last n other request answer cs (Pinned number) pin shown had stands = absurd (true≢false (sym (ap told (shown ∙ had))))
+    absurd (none_not (record { number = n; is_settled = true }) (shown ∙ had))
+held_now last n other request answer cs (Pinned number) pin shown had stands = absurd (true≢false (sym (ap is_told (shown ∙ had))))
 held_now last n other request answer cs (Holding hold) pin shown had stands =
-    (hold, refl, ap told (shown ∙ had), ap number_of (shown ∙ had))
+    (hold, refl, ap is_told (shown ∙ had), ap pin_number (shown ∙ had))
 held_now last n other request answer cs (Asking hold inquiry) pin shown had stands = absurd stands
 
 pub questioning : (m : Merging) (seat other n : ℕ) (request : Request) (answer : Answer) (st : Stage) (cs : List Call)

@@ -1,31 +1,26 @@
 -- The desk and the board beside a run of the machine.
-use Rattle.std.proofs.Common.{◌≡◌, ℕ, zero, suc, ◌<◌, true, List, [], ◌∷◌, ◌++◌, length, get_or, set, refl, sym, ap, subst, ◌∙◌}
+use Rattle.std.proofs.Common.{◌≡◌, ℕ, ◌<◌, true, List, [], ◌∷◌, ◌++◌, length, get_or, refl, sym, ap, subst, ◌∙◌}
 use Rattle.std.proofs.{Common.arith, lemmas.Grind.common_steps, lemmas.List.length-map, lemmas.Option.slice_get-get_or}
-use Rattle.std.specs.{Option.unwrap_or, Option.option_map, Option.option_and_then, Prelude.slice_get, Prelude.is_some}
-use Rattle.std.specs.declared.option.Option.{Option, TheVariants.None, TheVariants.Some}
+use Rattle.std.specs.Option.{unwrap_or, option_map}
+use Rattle.std.specs.declared.option.Option.TheVariants.{None, Some}
 use Rattle.graph_types.specs.Limits.{LimitsView, AreLimits}
 use Rattle.epoch_core.specs.Worlds.{seat_pin, World, MachineState, IsStart, start_world_in, last_number, session_of, held_in}
 use Rattle.epoch_core.specs.declared.events.Event.{Event, TheVariants.{Floor, Pin, Enter, Settle, Ask, Read, Reply, Release}}
-use Rattle.epoch_core.specs.declared.session_states.SessionState.{SessionState, TheVariants.{Idle, Pinned, Holding, Asking}}
-use Rattle.epoch_core.specs.{Epochs.PinsInOrder, Blocks.put_if_some, Runs.{run, next_world, is_done}, Machine.{step, move, to_pin}}
-use Rattle.epoch_core.{specs.Machine.{to_enter, to_settle, with_sessions}, proofs.Moves.{Moved, moved, floored, session_after}}
+use Rattle.epoch_core.specs.declared.session_states.SessionState.TheVariants.{Idle, Pinned}
+use Rattle.epoch_core.specs.{Epochs.PinsInOrder, Runs.{run, is_done}, Machine.{step, to_pin}}
+use Rattle.epoch_core.{specs.Machine.to_enter, proofs.Moves.{Moved, moved, floored, session_after}}
 use Rattle.epoch_core.proofs.{Steps.{always_sound, idle_at}, Sizes.size_run, Epochs.pins_in_order}
 use Rattle.graph_version.specs.Versions.{empty_version_in}
 use Rattle.block_reclamation.specs.{declared.copies.PinCopy.PinCopy, Board.BoardState, Board.with_pin}
 use Rattle.block_reclamation.specs.Copies.{pin_at, unsettled, settled, copy_of}
+use Rattle.block_reclamation.proofs.SeatPins.{no_pin}
+use Rattle.epoch_core.proofs.RunsTogether.{run_more, run_next, some_step}
+use Rattle.epoch_core.proofs.SessionSteps.{idle_if, move_done, held_entered, settle_done}
 use Rattle.store_steps.specs.{Desks.DeskView, Shown.ShowsWorld, Histories.IsUnseen, Steps.SimulatesIn, Opening.opened_desk}
 use Rattle.store_steps.specs.Boards.{ShowsBoard, ShowsIfDone, raised_board}
 use Rattle.store_steps.specs.Reached.{Store, opened_store, IsReached, Leads, IsReaders, StaysReached}
 use Rattle.store_steps.proofs.BoardSteps.{pins_as_machine, settles_as_machine, unpins_as_machine, raises_as_machine}
-use Rattle.store_steps.proofs.{Histories.done_is_run, Histories.readers_are_unseen, OpeningShown.no_pin, OpeningShown.opens_blank}
-
-pub run_more : (es fs : List Event) (w : World) → run (es ++ fs) w ≡ run fs (run es w)
-run_more [] fs w = refl
-run_more (e ∷ es) fs w = run_more es fs (next_world w e)
-
--- one event more
-pub run_next : (es : List Event) (e : Event) (w after : World) → step (run es w) e ≡ Some after → after ≡ run (es ++ e ∷ []) w
-run_next es e w after is = sym (run_more es (e ∷ []) w ∙ ap (λ o. unwrap_or o (run es w)) is)
+use Rattle.store_steps.proofs.{Histories.{done_is_run, readers_are_unseen}, OpeningShown.opens_blank}
 
 -- what the simulating events leave is reached, and the board shows it as before
 pub simulated_reached : (start : World) (s : Store) (new : DeskView) (events more : List Event)
@@ -97,20 +92,6 @@ reader_reached start event hidden s events r =
 
 -- Steps that are done
 
-move_done : (w : World) (s : ℕ) (change : SessionState → Option SessionState) (session next : SessionState)
-    → slice_get w.sessions s ≡ Some session → change session ≡ Some next → (after : World) × (move w s change ≡ Some after)
-move_done w s change session next found is = (
-  with_sessions w (set w.sessions s next),
-  ap (λ o. option_map (with_sessions w) (put_if_some w.sessions s (option_and_then change o))) found
-      ∙ ap (λ o. option_map (with_sessions w) (put_if_some w.sessions s o)) is,
-)
-
-some_step : (o : Option World) → is_some o ≡ true → (after : World) × (o ≡ Some after)
-some_step o is = grind (arith, common_steps)
-
-pub idle_if : (session : SessionState) → seat_pin session ≡ None → session ≡ Idle
-idle_if session is = grind (arith, common_steps)
-
 pin_done : (start : World) (s : Store) (seat : ℕ) (events : List Event) → IsReached start events s
     → seat < length start.sessions → pin_at s.board.pins seat ≡ None
     → (after : World) × (step (run events start) (Pin seat) ≡ Some after)
@@ -120,33 +101,6 @@ pin_done start s seat events r low none =
     let idle : session_of w seat ≡ Idle = idle_if (session_of w seat) (r.board.pins seat ∙ none) in
     move_done w seat (to_pin w.floor) Idle (Pinned w.floor) (slice_get-get_or w.sessions seat Idle (omega arith) ∙ ap Some idle)
     refl
-
-held_settles : (session : SessionState) (n : ℕ) → held_in session ≡ Some n
-    → (next : SessionState) × (to_settle session ≡ Some next)
-held_settles Idle n held = cc
-held_settles (Pinned pin) n held = cc
-held_settles (Holding hold) n held = (Holding (record { pin = hold.version; settled = true; version = hold.version }), refl)
-held_settles (Asking hold inquiry) n held = (
-  Asking (record {
-    pin = hold.version;
-    settled = true;
-    version = hold.version;
-  }) inquiry,
-  refl,
-)
-
-found_at : (xs : List SessionState) (s n : ℕ) → held_in (get_or xs s Idle) ≡ Some n → slice_get xs s ≡ Some (get_or xs s Idle)
-found_at [] s n held = cc
-found_at (x ∷ xs) zero n held = refl
-found_at (x ∷ xs) (suc s) n held = found_at xs s n held
-
-settle_done : (w : World) (s n : ℕ) → held_in (session_of w s) ≡ Some n → (after : World) × (step w (Settle s) ≡ Some after)
-settle_done w s n held =
-    let next = held_settles (session_of w s) n held in
-    move_done w s to_settle (session_of w s) next.0 (found_at w.sessions s n held) next.1
-
-held_entered : (last : ℕ) (session next : SessionState) → to_enter last session ≡ Some next → held_in next ≡ Some last
-held_entered last session next is = grind (arith, common_steps)
 
 pub same_count : (d : DeskView) (w : World) → ShowsWorld d w → last_number w ≡ length d.last.batches
 same_count d w shows = sym (length-map w.versions (λ v. v.batch)) ∙ ap length shows.batches

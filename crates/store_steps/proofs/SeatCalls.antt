@@ -1,24 +1,17 @@
 -- The calls of one seat among those of the board.
-use Rattle.std.proofs.Common.{◌≡◌, ℕ, ◌<◌, ◌≤◌, Bool, true, false, inl, inr, List, [], ◌∷◌, length, get_or, set, refl, sym, ap}
-use Rattle.std.proofs.Common.{subst, ◌∙◌, Option, Some, None, arith, get_or-set_same, get_or-set_other}
-use Rattle.std.proofs.{Math.ListN.get_or-map, lemmas.Grind.common_steps}
-use Rattle.std.proofs.lemmas.Bool.{cases_Bool, cond-true, cond-false, eqb-true, eqb-false, cases_lt}
-use Rattle.std.proofs.lemmas.List.{length-set, length-map}
+use Rattle.std.proofs.Common.{◌≡◌, ℕ, ◌<◌, ◌≤◌, Bool, true, false, inl, inr, List, [], ◌∷◌, length, refl, sym, ap}
+use Rattle.std.proofs.Common.{subst, ◌∙◌, Option, Some, None, arith}
+use Rattle.std.proofs.lemmas.Bool.{cases_Bool, cond-true, cond-false, eqb-true, eqb-false}
+use Rattle.std.proofs.lemmas.List.{length-set}
 use Rattle.std.specs.Prelude.{max, cond, filter, option_map}
 use Rattle.graph_types.specs.Answer.{IsAnswer}
 use Rattle.graph_version.specs.Versions.{VersionView}
 use Rattle.block_reclamation.specs.{declared.copies.PinCopy.PinCopy, declared.copies.Pin.Pin as SeatPin}
 use Rattle.block_reclamation.specs.{declared.copies.TheConstants.SEATS, Board.BoardState}
-use Rattle.block_reclamation.specs.Copies.{pin_at, unsettled, settled, copy_of, floor_of, settled_number, unsettled_number}
+use Rattle.block_reclamation.specs.Copies.{pin_at, unsettled, settled, floor_of}
+use Rattle.block_reclamation.proofs.SeatPins.{set_own, set_else, seat_low, CopiesPin, copied_pin}
 use Rattle.store_steps.specs.Merges.{Call, Asks, graph_of_version, Applies, Collects, Raises, Pins, Enters, Settles, Unpins}
 use Rattle.store_steps.specs.Merges.{is_of, is_raise, next_board, IsBoardCall, AreBoardCalls, EntersInOrder, posted_by}
-
--- the copy has this pin at the seat
-pub record CopiesPin (copy : PinCopy) (seat : ℕ) (pin : Option SeatPin) : Type 0 where
-  pub settled_is : get_or copy.settled seat None ≡ settled_number pin
-  pub unsettled_is : get_or copy.unsettled seat None ≡ unsettled_number pin
-  pub settled_seats : length copy.settled ≡ SEATS
-  pub unsettled_seats : length copy.unsettled ≡ SEATS
 
 -- a seat on the board: its number, the floor, and its pin
 pub record SeatPlace : Type 0 where
@@ -71,37 +64,6 @@ record AtSeat (sessions : ℕ) (end : VersionView) (x : BoardCall) : Type 0 wher
       × ((next_board x.board x.call).floor ≡ next_floor x.board.floor x.call)
   others : is_of x.seat x.call ≡ false → (pin_at (next_board x.board x.call).pins x.seat ≡ pin_at x.board.pins x.seat)
       × ((next_board x.board x.call).floor ≡ x.board.floor)
-
-pub pin_beyond : (pins : List (Option SeatPin)) (seat : ℕ) → length pins ≤ seat → pin_at pins seat ≡ None
-pin_beyond pins seat high = grind (arith, common_steps)
-
-none_not : (pin : SeatPin) → None ≡ Some pin → ⊥
-none_not pin e = cc
-
-pub seat_low : (pins : List (Option SeatPin)) (seat : ℕ) (pin : SeatPin) → pin_at pins seat ≡ Some pin → seat < length pins
-seat_low pins seat pin is =
-    elim (cases_lt seat (length pins)) [
-      | inl low ↦ low
-      | inr high ↦ absurd (none_not pin (sym (pin_beyond pins seat high) ∙ is))
-    ]
-
-copied_pin : (copy : PinCopy) (pins : List (Option SeatPin)) (seat : ℕ) → length pins ≡ SEATS → copy ≡ copy_of copy.last pins
-    → CopiesPin copy seat (pin_at pins seat)
-copied_pin copy pins seat long is = record {
-  settled_is = ap (λ c. get_or c.settled seat None) is ∙ get_or-map settled_number pins seat None;
-  unsettled_is = ap (λ c. get_or c.unsettled seat None) is ∙ get_or-map unsettled_number pins seat None;
-  settled_seats = ap (λ c. length c.settled) is ∙ length-map pins settled_number ∙ long;
-  unsettled_seats = ap (λ c. length c.unsettled) is ∙ length-map pins unsettled_number ∙ long;
-}
-
--- a seat's pin that is set, at that seat and at others
-set_own : (pins : List (Option SeatPin)) (seat other : ℕ) (pin : Option SeatPin) → other ≡ seat → other < length pins
-    → pin_at (set pins other pin) seat ≡ pin
-set_own pins seat other pin same low = ap (pin_at (set pins other pin)) (sym same) ∙ get_or-set_same pins other pin None low
-
-set_else : (pins : List (Option SeatPin)) (seat other : ℕ) (pin : Option SeatPin) → (other ≡ seat → ⊥)
-    → pin_at (set pins other pin) seat ≡ pin_at pins seat
-set_else pins seat other pin differ = get_or-set_other pins other seat pin None (λ e. differ (sym e))
 
 at_seat : (sessions : ℕ) (end : VersionView) (seat : ℕ) (b : BoardState) (c : Call) → sessions ≤ SEATS → length b.pins ≡ SEATS → IsBoardCall sessions end b c
     → AtSeat sessions end (record { board = b; call = c; seat = seat })

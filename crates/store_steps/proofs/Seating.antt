@@ -5,17 +5,19 @@ use Rattle.std.proofs.lemmas.Bool.{true≢false}
 use Rattle.std.specs.Prelude.{max, option_map, is_some}
 use Rattle.block_reclamation.specs.{declared.copies.Pin.Pin as SeatPin, declared.copies.TheConstants.SEATS}
 use Rattle.block_reclamation.specs.Copies.{pin_at, unsettled, settled}
+use Rattle.block_reclamation.proofs.SeatPins.{seat_low, settled_above, none_not, is_told}
+use Rattle.graph_types.proofs.Cases.{unsome}
 use Rattle.epoch_core.specs.{declared.events.Event.TheVariants.{Pin, Settle, Release}, declared.session_states.Hold.Hold}
 use Rattle.epoch_core.specs.declared.session_states.SessionState.{SessionState}
 use Rattle.epoch_core.specs.declared.session_states.SessionState.TheVariants.{Idle, Pinned, Holding, Asking}
 use Rattle.epoch_core.specs.{Runs.run, Worlds.{World, IsStart, seat_pin, session_of, held_in}}
 use Rattle.epoch_core.specs.Machine.{to_pin, to_settle, to_release, settled_at}
 use Rattle.epoch_core.proofs.Sizes.{size_run}
+use Rattle.epoch_core.proofs.SessionSteps.{idle_if, within, holding_not_idle}
 use Rattle.store_steps.specs.{Reached.{IsReached, with_seat}, Merges.{Call, Pins, Settles, Unpins}}
-use Rattle.store_steps.proofs.{SeatCalls.{ready_next, entry_after, seat_low, place_on}, Reached.{stays_reached, idle_if}}
-use Rattle.store_steps.proofs.Stages.{Seated, seated, within, Stands, Merging, IsOneSeat, Stage, last_of, session_at, view_of}
+use Rattle.store_steps.proofs.{SeatCalls.{ready_next, entry_after, place_on}, Reached.stays_reached}
+use Rattle.store_steps.proofs.Stages.{Seated, seated, Stands, Merging, IsOneSeat, Stage, last_of, session_at, view_of}
 use Rattle.store_steps.proofs.Stages.{IsStage, Onward, calls_here, after_call, seat_call}
-use Rattle.store_steps.proofs.Entering.{holding_not_idle, some_same, idle_unpinned, told, settled_above}
 
 -- a session that isn't idle lets go
 releases : (last : ℕ) (cs : List Call) (session : SessionState) → (session ≡ Idle → ⊥) → Stands last cs session
@@ -78,8 +80,9 @@ settling m seat other n st cs hold is_start k is holds =
     let had : pin_at pins seat ≡ Some old = mine.are.0.2 in
     let shown : Some (record { number = hold.pin; is_settled = hold.settled }) ≡ Some old =
     sym (ap seat_pin holds) ∙ k.reached.board.pins seat ∙ had in
-    let open_yet : hold.settled ≡ false = ap told shown in
-    let same : n ≡ hold.version = some_same n hold.version (subst (Stands (last_of st) (Settles other n ∷ cs)) holds mine.stands open_yet) in
+    let open_yet : hold.settled ≡ false = ap is_told shown in
+    let same : n ≡ hold.version =
+    unsome n hold.version (subst (Stands (last_of st) (Settles other n ∷ cs)) holds mine.stands open_yet) in
     let held : held_in (session_of w seat) ≡ Some n = ap held_in holds ∙ ap Some (sym same) in
     let low : seat < SEATS = low_seat m seat st old k had in
     let done : Seated m.start.world
@@ -112,7 +115,8 @@ unpinning m seat other st cs is_start k is =
     let w : World = run st.events m.start.world in
     let had : pin_at st.store.board.pins seat ≡ Some mine.are.0.1 = mine.are.0.2 in
     let low : seat < SEATS = low_seat m seat st mine.are.0.1 k had in
-    let busy : session_of w seat ≡ Idle → ⊥ = λ idle. idle_unpinned mine.are.0.1 (sym (ap seat_pin idle) ∙ k.reached.board.pins seat ∙ had) in
+    let busy : session_of w seat ≡ Idle → ⊥ = λ idle.
+    none_not mine.are.0.1 (sym (ap seat_pin idle) ∙ k.reached.board.pins seat ∙ had) in
     let done : Seated m.start.world (record { events = st.events; event = Release seat; seat = seat; next = Idle }) =
     seated m.start.world st.events (Release seat) seat to_release (session_of w seat) Idle refl (within w seat busy) refl
     (releases (last_of st) (Unpins other ∷ cs) (session_of w seat) busy mine.stands) in

@@ -1,23 +1,25 @@
 -- Stages on the way to one order: events so far, a store that they reach, and each seat's calls that are left.
-use Rattle.std.proofs.Common.{◌≡◌, ℕ, ◌<◌, ◌≤◌, false, inl, inr, List, [], ◌∷◌, ◌++◌, length, get_or, set, refl, Option, Some}
+use Rattle.std.proofs.Common.{◌≡◌, ℕ, ◌<◌, ◌≤◌, false, inl, inr, List, [], ◌∷◌, ◌++◌, length, set, refl, Option, Some}
 use Rattle.std.proofs.Common.{None, IfSome, sym, ap, subst, ◌∙◌, arith, get_or-set_same, get_or-set_other}
-use Rattle.std.proofs.{lemmas.Grind.common_steps, lemmas.Option.slice_get-get_or, lemmas.List.length-set}
-use Rattle.std.proofs.lemmas.Bool.{cases_eq, cases_lt, cond-true, cond-false, eq-eqb, ne_eqb}
+use Rattle.std.proofs.lemmas.Option.{slice_get-get_or}
+use Rattle.std.proofs.lemmas.Bool.{cases_eq, cond-true, cond-false, eq-eqb, ne_eqb}
 use Rattle.std.specs.{Prelude.{◌≢◌, ◌==◌, filter, slice_get, option_map, if◌then◌else◌}, Option.option_and_then}
 use Rattle.graph_version.specs.Versions.{VersionView}
 use Rattle.block_reclamation.specs.{declared.copies.Pin.Pin as SeatPin, declared.copies.TheConstants.SEATS}
-use Rattle.block_reclamation.specs.{Board.{BoardState, IsBoard, with_pin}, Copies.pin_at}
+use Rattle.block_reclamation.specs.{Board.IsBoard, Copies.pin_at}
+use Rattle.block_reclamation.proofs.SeatPins.{board_with}
 use Rattle.epoch_core.specs.{declared.events.Event.Event, declared.session_states.SessionState.SessionState}
 use Rattle.epoch_core.specs.declared.session_states.SessionState.TheVariants.{Idle, Pinned, Holding, Asking}
 use Rattle.epoch_core.specs.{Worlds.{World, MachineState, session_of, Answer}, Blocks.put_if_some}
 use Rattle.epoch_core.specs.Machine.{step, move, with_sessions}
 use Rattle.epoch_core.specs.Runs.{AllReplies, run}
 use Rattle.epoch_core.proofs.Moves.{session_after, session_else}
+use Rattle.epoch_core.proofs.RunsTogether.{run_next}
 use Rattle.store_steps.specs.{Steps.all_done, Reached.{Store, IsReached, with_seat}}
 use Rattle.store_steps.specs.Merges.{desk_by, next_replies, Call, is_desks, is_of, is_raise, next_store, AreDeskCalls}
 use Rattle.store_steps.specs.Merges.{EntersInOrder, events_of, Holds, AreDone, AreRun, Moment}
 use Rattle.store_steps.proofs.SeatCalls.{AreSeatCalls, IsReady, SeatPlace, entry_of, place_on}
-use Rattle.store_steps.proofs.{Reached.run_next, SameBoards.MakesCopies}
+use Rattle.store_steps.proofs.SameBoards.{MakesCopies}
 
 -- One event of a session's that is done
 
@@ -55,17 +57,6 @@ seated start events e seat change session next moves low is becomes =
       here = ap (λ v. session_of v seat) (sym there) ∙ session_after w seat session next found;
       others = λ t differ. ap (λ v. session_of v t) (sym there) ∙ session_else w seat t next differ;
     }
-
-beyond : (xs : List SessionState) (s : ℕ) → length xs ≤ s → get_or xs s Idle ≡ Idle
-beyond xs s high = grind (arith, common_steps)
-
--- a session that isn't idle is one
-pub within : (w : World) (seat : ℕ) → (session_of w seat ≡ Idle → ⊥) → seat < length w.sessions
-within w seat busy =
-    elim (cases_lt seat (length w.sessions)) [
-      | inl low ↦ low
-      | inr high ↦ absurd (busy (beyond w.sessions seat high))
-    ]
 
 -- What is known on the way
 
@@ -199,23 +190,6 @@ pub record IsOwn (s : Store) (x : SeatCall) : Type 0 where
   pub silent : (replies : List (List Answer)) → next_replies replies x.call ≡ replies
   pub makes : (cs : List Call) → MakesCopies (next_store s x.call).board cs → MakesCopies s.board (x.call ∷ cs)
   pub quiet : (w : World) (replies : List (List Answer)) → AllReplies w (x.event ∷ []) replies replies
-
-board_with : (b : BoardState) (seat : ℕ) (pin : Option SeatPin) → IsBoard b → seat < SEATS
-    → IfSome pin (λ p. b.floor ≤ p.number) → IsBoard (with_pin b seat pin)
-board_with b seat pin board low above = record {
-  seats = length-set b.pins seat pin ∙ board.seats;
-  below_pins = λ t. elim (cases_eq t seat) [
-    | inl same ↦
-        subst (λ o. IfSome o (λ p. b.floor ≤ p.number)) (sym (pin_here b seat t pin board low same)) above
-    | inr differ ↦
-        subst (λ o. IfSome o (λ p. b.floor ≤ p.number)) (sym (get_or-set_other b.pins seat t pin None differ)) (board.below_pins t)
-  ];
-}
-  where
-    pin_here : (b : BoardState) (seat t : ℕ) (pin : Option SeatPin) → IsBoard b → seat < SEATS → t ≡ seat
-        → pin_at (set b.pins seat pin) t ≡ pin
-    pin_here b seat t pin board low same = ap (pin_at (set b.pins seat pin)) same
-        ∙ get_or-set_same b.pins seat pin None (omega (arith, low, board.seats))
 
 abbrev pub after_call : Stage → ℕ → Event → Option SeatPin → List Call → Stage
 after_call st seat e pin cs = record {

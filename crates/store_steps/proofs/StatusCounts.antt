@@ -1,21 +1,22 @@
 -- How many blocks are free, and how many retired, after a batch and after a collection.
-use Rattle.batch_shards.proofs.Places.{count_map}
 use Rattle.std.proofs.Common.{◌≡◌, ◌≢◌, ℕ, ◌+◌, ◌==◌, Bool, true, false, cond, ◌||◌, List, [], ◌∷◌, length, get_or, map, set}
 use Rattle.std.proofs.{Common.{count_by, refl, sym, ap, ◌∙◌, arith, ◌&&◌}, lemmas.Bool.{eq-eqb, true≢false, or_right}}
 use Rattle.std.proofs.lemmas.{Option.{slice_get_within, get_or_from_slice_get}, Grind.common_steps, List.length-map}
 use Rattle.std.specs.{Option.option_map, Prelude.{slice_get, if◌then◌else◌}, declared.option.Option.TheVariants.Some}
-use Rattle.block_pool.{proofs.{Grants.length-marked, Tallies.{count_here, count_true}}, specs.Pools.{retired, is_free_at, marked}}
+use Rattle.block_pool.{proofs.Grants.length-marked, specs.Pools.{retired, is_free_at, marked}}
 use Rattle.block_pool.specs.Pools.{changed_numbers, is_used_at}
 use Rattle.block_reclamation.specs.Status.{is_among, is_free, is_retired, is_reclaimable, recycled}
 use Rattle.block_reclamation.specs.{declared.{copies.PinCopy.PinCopy, status.BlockStatus.BlockStatus}, Copies.needs}
 use Rattle.block_reclamation.specs.declared.status.BlockStatus.TheVariants.{Free, Granted, Used}
-use Rattle.epoch_core.{specs.Blocks.all_differ, proofs.Lists.set_else, proofs.Lists.all_listed}
+use Rattle.block_reclamation.proofs.{OneStatus.{free_is, not_both, born_is}, Recycling.free_one}
+use Rattle.graph_types.proofs.{ListPlaces.set_else, Sums.{count_here, count_more, count_none, count_true, count_map}}
+use Rattle.epoch_core.{specs.Blocks.all_differ, proofs.Lists.all_listed}
+use Rattle.epoch_core.proofs.BlockSteps.{differ_head, differ_tail}
+use Rattle.block_pool.proofs.Marked.{marked_changed, length-changed}
 use Rattle.store_steps.specs.Desks.{DeskView, IsCollected, CollectedCounts, is_retired_by, birth_of, birth_at, ledger_of}
 use Rattle.store_steps.specs.{Journal.{is_legal, after_entry}, Acceptances.{Acceptance, AcceptedCounts, applied_entry}}
-use Rattle.store_steps.proofs.NumberLists.{differ_head, differ_tail}
-use Rattle.store_steps.proofs.{CollectedDesk.recycled_and_left, ChangedLists.{marked_at, length-changed}, Posting.IsLegalBatch}
-use Rattle.store_steps.proofs.{Posting.legal_batch, OneNumber.{free_is, born_is, not_both}}
-use Rattle.edge_block.proofs.Counts.{count_more}
+use Rattle.store_steps.proofs.{CollectedDesk.recycled_and_left, ChangedLists.marked_at, Posting.IsLegalBatch}
+use Rattle.store_steps.proofs.Posting.{legal_batch}
 
 -- each of these numbers has this status
 abbrev AllAre : (ℕ → BlockStatus) → List BlockStatus → List ℕ → Type 0
@@ -42,14 +43,6 @@ counts_changed p change of (n ∷ ns) pool apart are =
       ap (λ s. cond {A = ℕ} (p s) 1 0) same,
       ap (λ s. cond {A = ℕ} (p (change s)) 1 0) same,
     )
-
-marked_changed : (ns : List ℕ) (s : BlockStatus) (pool : List BlockStatus) → marked ns s pool ≡ changed_numbers (λ _. s) ns pool
-marked_changed [] s pool = refl
-marked_changed (n ∷ ns) s pool = marked_changed ns s (set pool n s)
-
-count_none : (ns : List ℕ) → count_by (λ _. false) ns ≡ 0
-count_none [] = refl
-count_none (n ∷ ns) = omega (arith, count_more (λ _. false) n ns, count_none ns)
 
 -- A batch
 
@@ -121,10 +114,6 @@ accepted_counts a legal_is ledger =
     }
 
 -- A collection
-
-free_one : (copy : PinCopy) (s : BlockStatus) → cond {A = ℕ} (is_free (recycled copy s)) 1 0
-    ≡ cond (is_free s) 1 0 + cond (is_reclaimable copy s) 1 0
-free_one copy s = grind (arith, common_steps)
 
 free_more : (copy : PinCopy) (pool : List BlockStatus) → count_by is_free (map (recycled copy) pool)
     ≡ count_by is_free pool + count_by (is_reclaimable copy) pool

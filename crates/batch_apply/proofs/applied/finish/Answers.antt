@@ -7,14 +7,14 @@ use Rattle.graph_version.specs.{Batches.batch_value, Versions.{VersionView, IsVe
 use Rattle.graph_version.specs.{Drafts.{DraftView, IsWhole, IsNextDraft, drafted_over}, Differences.DifferAt, Rows.row_of}
 use Rattle.graph_types.specs.declared.ids.VertexId.{VertexId}
 use Rattle.edge_block.specs.Slots.{BlockView}
+use Rattle.graph_version.proofs.{Drafted.{draft_among, draft_whole, edges_left, draft_is, among_others}, NumbersIn.neither_limit}
 use Rattle.batch_shards.specs.Closing.{row_values}
-use Rattle.batch_apply.proofs.Others.{among_others}
 use Rattle.batch_shards.specs.RowBlocks.{shared_blocks, shared_numbers}
+use Rattle.batch_shards.proofs.Left.{rows_left}
 use Rattle.batch_apply.specs.{Applied.{is_inserted, taken_away, IsApplied, ReplacesRows}, Plan.Fits}
 use Rattle.batch_apply.{specs.{declared.applied.{Applied.Applied, Gathered.Gathered}, Gathered.IsWorked}, proofs.EdgeCounts.len_after_all}
-use Rattle.batch_apply.proofs.{Left.rows_left, Applying.{next_made, draft_is, draft_among}}
-use Rattle.batch_apply.proofs.{Applying.{draft_whole, edges_left}, applied.finish.Goals.In_ok-next}
-use Rattle.batch_apply.proofs.Leaving.{neither_limit}
+use Rattle.batch_apply.proofs.Applying.{next_made}
+use Rattle.batch_apply.proofs.applied.finish.Goals.{In_ok-next}
 use Rattle.batch_apply.proofs.applied.finish.Goals as goal
 
 -- the draft is whole, what the operations come to is told, and the draft's version is what the batch leaves

@@ -1,17 +1,13 @@
-use Rattle.std.proofs.Common.{◌≡◌, ◌≢◌, ◌<◌, ◌-◌, ◌==◌, ℕ, Bool, List, length, get_or, set, Some, nat_eq, true, false, arith, ap}
+use Rattle.std.proofs.Common.{◌≡◌, ◌≢◌, ◌<◌, ◌-◌, ◌==◌, ℕ, List, length, get_or, set, Some, nat_eq, true, false, arith, ap}
 use Rattle.std.proofs.Common.{sym, refl, subst, ◌∙◌, inl, inr}
 use Rattle.std.proofs.lemmas.{Bool.{eqb-true, eqb-false, eq-eqb}, Map.Keys.any_passes_from_place}
 use Rattle.std.proofs.lemmas.List.{length-set, get_or-set_same, get_or-set_other, get_or_default, Folds.{list_any_at, Any-from_list_any}}
 use Rattle.std.proofs.lemmas.Option.{slice_get_within, get_or_from_slice_get, slice_get-get_or}
 use Rattle.std.specs.{Prelude.slice_get, List.list_any}
+use Rattle.graph_types.proofs.Cases.{same_bool}
 use Rattle.batch_apply.specs.{Sorting.{ranked_numbers, entry_at}, declared.counting.Entry.Entry}
 use Rattle.batch_apply.proofs.Vertices.{as_many}
 use Rattle.batch_apply.proofs.ranks.rank.Goals as goal
-
-both_ways : (a b : Bool) → (a ≡ true → b ≡ true) → (b ≡ true → a ≡ true) → a ≡ b
-both_ways true b to back = sym (to refl)
-both_ways false true to back = back refl
-both_ways false false to back = refl
 
 pub loop-index-preserved : goal.loop-index-preserved
 loop-index-preserved c =
@@ -79,7 +75,7 @@ pub returns-clause-same : goal.returns-clause-same
 returns-clause-same c = λ n.
     let numbers : List ℕ = ranked_numbers c.loop-index.numbers.items in
     let list : List ℕ = ranked_numbers c.args.list.now in
-    both_ways (list_any (nat_eq n) numbers) (list_any (nat_eq n) list)
+    same_bool (list_any (nat_eq n) numbers) (list_any (nat_eq n) list)
     (λ t.
     let (k, x, within, here, same) = Any-from_list_any (nat_eq n) numbers t in
     let value : get_or numbers k 0 ≡ n = get_or_default numbers k 0 x within ∙ here ∙ sym (eqb-true n x same) in

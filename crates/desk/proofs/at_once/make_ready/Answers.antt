@@ -1,7 +1,8 @@
 use Rattle.std.proofs.Common.{sym, ap, length, ◌+◌, ◌∙◌}
 use Rattle.graph_version.specs.Batches.{batch_value}
 use Rattle.batch_apply.specs.Planned.{workers_for}
-use Rattle.desk.{specs.Ready.GrantedView, proofs.Readied.{plan_same, planned}}
+use Rattle.batch_apply.proofs.Planned.{plan_same}
+use Rattle.desk.{specs.Ready.GrantedView, proofs.Readied.planned}
 use Rattle.desk.proofs.at_once.make_ready.Goals as goal
 
 pub grant-requires : goal.grant-requires

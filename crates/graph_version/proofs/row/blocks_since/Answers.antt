@@ -1,8 +1,10 @@
 use Rattle.std.proofs.{Common.{◌≡◌, ℕ, List, false, sym, subst, ap, ◌∙◌, arith, All}, lemmas.List.take_all}
 use Rattle.std.specs.declared.{sync.Arc.Arc, alloc.Global.Global}
+use Rattle.graph_types.proofs.Elements.{bounded_more}
 use Rattle.edge_block.specs.{Slots.BlockView, Slots.has_before, declared.blocks.Block.Block}
+use Rattle.edge_block.proofs.OldSlots.{earlier_block}
 use Rattle.graph_version.specs.Sharing.{block_value}
-use Rattle.graph_version.proofs.Ages.{bounded_more, bounded_row, earlier_block}
+use Rattle.graph_version.proofs.Ages.{bounded_row}
 use Rattle.graph_version.proofs.row.blocks_since.Goals as goal
 
 pub loop-block-preserved : goal.loop-block-preserved

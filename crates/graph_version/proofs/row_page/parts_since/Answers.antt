@@ -1,8 +1,9 @@
 use Rattle.std.proofs.{Common.{ℕ, List, subst, ap, ◌∙◌, arith, All}, lemmas.List.take_all}
 use Rattle.std.specs.declared.{sync.Arc.Arc, alloc.Global.Global}
+use Rattle.graph_types.proofs.Elements.{bounded_more}
 use Rattle.edge_block.specs.Slots.{BlockView}
 use Rattle.graph_version.specs.{Ages.AreSince, Parts.in_part, declared.row_page.Part.Part}
-use Rattle.graph_version.proofs.Ages.{bounded_more, bounded_pieces, earlier_rows}
+use Rattle.graph_version.proofs.Ages.{bounded_pieces, earlier_rows}
 use Rattle.graph_version.proofs.row_page.parts_since.Goals as goal
 
 pub loop-part-preserved : goal.loop-part-preserved

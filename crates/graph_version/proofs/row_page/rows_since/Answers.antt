@@ -1,6 +1,7 @@
 use Rattle.std.proofs.{Common.{◌≡◌, ℕ, List, false, subst, sym, ap, ◌∙◌, arith}, lemmas.List.take_all}
+use Rattle.graph_types.proofs.Elements.{bounded_more}
 use Rattle.edge_block.specs.Slots.{BlockView}
-use Rattle.graph_version.{specs.Ages.{AreSince, is_old_row}, proofs.Ages.{bounded_more, earlier_row}}
+use Rattle.graph_version.{specs.Ages.{AreSince, is_old_row}, proofs.Ages.earlier_row}
 use Rattle.graph_version.proofs.row_page.rows_since.Goals as goal
 
 pub loop-row-preserved : goal.loop-row-preserved

@@ -1,6 +1,7 @@
 use Rattle.std.proofs.{Common.{arith, inl, inr, refl, rules}, lemmas.Grind.common_steps}
+use Rattle.feed_csv.proofs.Faults.{fault_row}
 use Rattle.script_server.specs.declared.script.ServeFault.TheVariants.{Memory, Read, Write}
-use Rattle.script_server.proofs.{OneRecord.{fault_row, refused}, RunEnd.{turn_broken, turn_unfed, turn_unread, turn_unwritten}}
+use Rattle.script_server.proofs.{OneRecord.refused, RunEnd.{turn_broken, turn_unfed, turn_unread, turn_unwritten}}
 use Rattle.script_server.proofs.script.turn.Goals as goal
 
 pub returns-in-Ok-clause-turns : goal.returns-in-Ok-clause-turns

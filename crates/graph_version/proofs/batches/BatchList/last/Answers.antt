@@ -1,5 +1,5 @@
 use Rattle.std.proofs.Common.{arith}
-use Rattle.graph_version.proofs.Places.{last_of, copied_match}
+use Rattle.graph_types.proofs.{Cases.copied_match, ListPlaces.last_of}
 use Rattle.graph_version.proofs.batches.BatchList.last.Goals as goal
 
 pub returns : goal.returns

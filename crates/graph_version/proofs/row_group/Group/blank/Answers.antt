@@ -1,7 +1,7 @@
 use Rattle.std.proofs.Common.{◌≡◌, ◌∙◌, ◌*◌, [], replicate, ap, rules, All}
+use Rattle.graph_types.proofs.Elements.{each_made}
 use Rattle.graph_version.specs.RowPages.{in_page}
 use Rattle.list_pieces.proofs.Full.{blank_pieces, blank_flat}
-use Rattle.graph_version.proofs.Copies.{each_made}
 use Rattle.graph_version.proofs.row_group.Group.blank.Goals as goal
 use Rattle.graph_version.proofs.row_group.Group.blank.Goals.{In_ok-try_map}
 

@@ -1,7 +1,8 @@
 use Rattle.std.proofs.Common.{◌≡◌, ◌∙◌, ◌*◌, [], replicate, sym, subst, ap, rules, All}
+use Rattle.graph_types.proofs.Elements.{each_made}
 use Rattle.graph_version.specs.{Ages.AreSince, Parts.{in_part, in_parts}}
 use Rattle.list_pieces.proofs.Full.{blank_pieces, blank_flat}
-use Rattle.graph_version.proofs.{Ages.bounded_blank, Copies.each_made}
+use Rattle.graph_version.proofs.Ages.{bounded_blank}
 use Rattle.graph_version.proofs.row_page.Page.blank.Goals as goal
 use Rattle.graph_version.proofs.row_page.Page.blank.Goals.{In_ok-try_map}
 

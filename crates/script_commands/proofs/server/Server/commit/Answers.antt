@@ -3,8 +3,10 @@ use Rattle.store_steps.specs.{Desks.DeskView, Acceptances.Accepts}
 use Rattle.stream_store.specs.Kept.{DeskState}
 use Rattle.script_commands.specs.{Servers.ShowsDesk, Servers.IsServer, declared.server.Server.Server}
 use Rattle.graph_types.specs.{Graph.Graph, declared.batches.NamedOp.NamedOp}
-use Rattle.script_commands.proofs.DeskLaws.{batches_after, blocks_after, commit_done, commit_refused, opening_after}
-use Rattle.script_commands.proofs.{DeskLaws.shows_committed, DeskLaws.shows_given_up, NamesApart.AreApart, SlotLaws.slots_more}
+use Rattle.graph_types.proofs.NamesApart.{AreApart}
+use Rattle.store_steps.proofs.AcceptedDesk.{opening_after, batches_after, blocks_after}
+use Rattle.script_commands.proofs.DeskLaws.{commit_done, commit_refused}
+use Rattle.script_commands.proofs.{DeskLaws.{shows_committed, shows_given_up}, SlotLaws.slots_more}
 use Rattle.script_commands.proofs.MachineMoves.{commit_moves, nothing_moves}
 use Rattle.script_commands.proofs.server.Server.commit.Goals as goal
 
