@@ -1,0 +1,73 @@
+"""The first round: whole modules with parameters only."""
+WHOLE_BLOCKS = True
+FORCED = {'store_steps/Counting.times'}
+TARGETS = {'graph_version/Lent.TakesAll': 'edge_block'}
+DUPS = [  # (crate/File.name that goes, crate/File.name that stays)
+  ('batch_apply/Asked.none_before', 'graph_version/Ages.none_before_zero'),
+  ('batch_apply/Placed.times', 'store_steps/Counting.times'),
+  ('graph_cores/Times.times', 'store_steps/Counting.times'),
+  ('batch_apply/Resolving.one_placed', 'edge_block/ShardLaws.placed'),
+  ('store_steps/RetiredCounts.one_at_most', 'batch_apply/Told.at_most_one'),
+  ('batch_apply/Totals.others', 'graph_types/Counts.others'),
+  ('batch_columns/NameTexts.below_128', 'feed_csv/Names.printable-lt'),
+  ('batch_columns/NameTexts.printable_ascii', 'feed_csv/Names.IsAscii-printable'),
+  ('batch_columns/NameTexts.name_text', 'feed_csv/Names.is_name_text'),
+  ('desk/Collections.long_replicate', 'script_commands/DeskLaws.length-replicate'),
+  ('edge_block/Entries.twice', 'graph_types/EdgeLookup.covered'),
+  ('script_server/SegmentRuns.none_told', 'epoch_core/Account.no_replies'),
+  ('store_steps/Examples.no_edges_shown', 'epoch_core/Examples.shows_none'),
+  ('script_server/Writing.on_err', 'epoch_core/Stepping.err_always'),
+  ('batch_apply/ranks/rank/Answers.both_ways', 'store_steps/NumberLists.same_bool'),
+  ('script_server/SegmentSteps.seated_there', 'script_server/SessionLines.found_held'),
+  ('store_steps/Entering.idle_unpinned', 'store_steps/SeatCalls.none_not'),
+]
+RENAMES = {
+ 'batch_apply/Totals.sum_zero': 'sum_absent',
+ 'edge_block/ShardLaws.sum_same': 'sum_same_own',
+ 'script_commands/DeskLaws.count_filter': 'count_filtered',
+ 'script_lines/TableRows.at_most_one': 'byte_at_most_one',
+ 'edge_block/Changes.or_none': 'option_or_none',
+ 'script_server/OpenSlots.neither': 'neither_true',
+ 'desk/OwnedLaws.set_again': 'set_twice',
+ 'graph_version/Rebased.length-drop': 'length_dropped',
+ 'version_columns/Columns.row_within': 'row_within_all',
+ 'batch_apply/OldRows.none_before_zero': 'slots_before_zero',
+ 'graph_version/Arcs.pick': 'picked_either',
+ 'desk_counts/counts/Counts/with_all/Answers.more': 'sum_more',
+ 'script_lines/counts/counts_in/Answers.more': 'sum_next',
+ 'script_lines/counts/counts_in/Answers.count_more': 'count_next',
+ 'script_lines/counts/counts_in/Answers.any_more': 'any_next',
+ 'block_pool/Tallies.born_is': 'used_is',
+ 'graph_version/Rebased.weight_fits': 'weight_fits_word',
+ 'graph_cores/Counting.weights_push': 'weight_sum_push',
+ 'version_answers/NamedRows.level_rows_more': 'named_levels_more',
+ 'version_answers/NamedRows.next_row': 'next_pair',
+ 'version_answers/NamedRows.rows_more': 'pairs_more',
+ 'version_answers/NamedRows.rows_all': 'pairs_all',
+ 'script_commands/DeskLaws.length-replicate': 'length_free',
+}
+PATCHES = [
+("no_pins_board = record { seats = length-replicate {A = Option Pin} 16 None; below_pins = λ seat. subst (λ o. IfSome o (λ p. 0 ≤ p.number)) (sym (no_pin 16 seat)) tt }",
+ "no_pins_board = record {\n  seats = length-replicate {A = Option Pin} 16 None;\n  below_pins = λ seat. subst (λ o. IfSome o (λ p. 0 ≤ p.number)) (sym (no_pin 16 seat)) tt;\n}"),
+("    never_true (bytes_eq bytes name) (λ same. none (subst IsUtf8 (sym ((bytes_eq-Decides bytes name).0 same)) (is_name_text name is)))",
+ "    never_true (bytes_eq bytes name)\n    (λ same. none (subst IsUtf8 (sym ((bytes_eq-Decides bytes name).0 same)) (is_name_text name is)))"),
+("sum_more f xs i d a before after within so_far step = omega (arith, so_far, step, sum_by_more f xs i d within, sum_by-cons f (get_or xs i d) [])",
+ "sum_more f xs i d a before after within so_far step =\n    omega (arith, so_far, step, sum_by_more f xs i d within, sum_by-cons f (get_or xs i d) [])"),
+("    ∙ (λ i. same x (All-head (λ s. own s ≡ true) x xs all) i + sum_same_own own f g same xs (All-tail (λ s. own s ≡ true) x xs all) i)",
+ "    ∙ (λ i. same x (All-head (λ s. own s ≡ true) x xs all) i\n    + sum_same_own own f g same xs (All-tail (λ s. own s ≡ true) x xs all) i)"),
+("present key (y ∷ ys) x (suc k, l, e) same = picked_either (is_key_of key (edge_along y)) _ _ (present key ys x (k, omega arith, e) same)",
+ "present key (y ∷ ys) x (suc k, l, e) same =\n    picked_either (is_key_of key (edge_along y)) _ _ (present key ys x (k, omega arith, e) same)"),
+("          ∙ count_filtered (λ (x : Dates). needs (copy_in s) x.birth x.retirement) (λ (x : Dates). q x.birth x.retirement) s.retired));",
+ "          ∙ count_filtered (λ (x : Dates). needs (copy_in s) x.birth x.retirement) (λ (x : Dates). q x.birth x.retirement)\n          s.retired));"),
+("    (err_always _ _ (part_taken _ _ _ c.loop-at.at c.as_bytes-bytes.result.now c.loop-at.invariant.written c.in_err-at.ensures.bytes))",
+ "    (err_always _ _\n    (part_taken _ _ _ c.loop-at.at c.as_bytes-bytes.result.now c.loop-at.invariant.written c.in_err-at.ensures.bytes))"),
+("returns-in_err-error_line-in-Refused-clause-part g c = rw c.in-Refused.is (err_always _ _ c.in_err-error_line-in-Refused.ensures.part)",
+ "returns-in_err-error_line-in-Refused-clause-part g c =\n    rw c.in-Refused.is (err_always _ _ c.in_err-error_line-in-Refused.ensures.part)"),
+("    let busy : session_of w seat ≡ Idle → ⊥ = λ idle. none_not mine.are.0.1 (sym (ap seat_pin idle) ∙ k.reached.board.pins seat ∙ had) in",
+ "    let busy : session_of w seat ≡ Idle → ⊥ = λ idle.\n    none_not mine.are.0.1 (sym (ap seat_pin idle) ∙ k.reached.board.pins seat ∙ had) in"),
+("    ∙ pairs_more names (names_of_vertices names (vertex_numbers labels)) c.loop-vertex.rows.items k c.in_ok-name.name [] c.in_ok-label.label",
+ "    ∙ pairs_more names (names_of_vertices names (vertex_numbers labels)) c.loop-vertex.rows.items k c.in_ok-name.name []\n    c.in_ok-label.label"),
+]
+def rules(to):
+    a = to('edge_block', 'BatchSums'); a('batch_apply/Kept', 'shift below_plus below_zero')
+    a = to('graph_version', 'BlockCounts'); a('version_columns/Columns', 'few_in_row')
