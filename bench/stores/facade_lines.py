@@ -104,6 +104,7 @@ class Lines:
         old = self.left.table[1][(self.left.table[5] < late) & (self.left.table[1] >= 9)]
         size = sum(len(f"v{it}") for it in range(count))
         yield f"rows {len(even)} {sum_of_edges(even)} true"
+        yield from map(self.ends, (0, 9, count - 1))
         yield f"single true {int(old.min()) if len(old) else (1 << 64) - 1} true"
         yield f"names {count} 1 false {size} true v{count - 1} {count - 1}"
         yield f"batches {self.number + 1} true {self.number + 1} {self.inserted + 2} 2 {count + 1} 0"
@@ -113,6 +114,10 @@ class Lines:
         yield "fresh 0"
         for _ in range(2):
             yield from self.opened(0)
+
+    def ends(self, vertex: int) -> str:
+        out, into = (self.left.only(self.left.table[place] == vertex) for place in (1, 2))
+        return f"ends {vertex} {len(out)} {sum_of_edges(out)} {len(into)} {sum_of_edges(into)}"
 
     def opened(self, number: int) -> Iterator[str]:
         yield self.edges(self.left)

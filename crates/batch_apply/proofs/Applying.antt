@@ -1,42 +1,40 @@
 -- What all shards leave is what the batch leaves of the version.
 use Rattle.std.proofs.Common.{◌≡◌, ◌≢◌, ℕ, ◌+◌, ◌<◌, ◌≤◌, ◌==◌, Bool, true, false, List, [], ◌∷◌, ◌++◌, length, length-append}
-use Rattle.std.proofs.Common.{map, flat_map, zip, count_by, replicate, refl, sym, ap, ◌∙◌, arith, subst, All, AllPairs}
-use Rattle.std.proofs.lemmas.{Bool.{ltb-true, ltb-false}, List.{length-map, FromFn.length-range_with_len, Concat.length-flat_map}}
-use Rattle.std.{proofs.lemmas.{Slice.Zip.AllZip-long, Grind.common_steps}, specs.{List.{range_with_len, AllZip}, FinMap.len}}
+use Rattle.std.proofs.Common.{map, flat_map, zip, count_by, replicate, sym, ap, ◌∙◌, arith, subst, All, AllPairs}
+use Rattle.std.proofs.lemmas.List.{length-map, FromFn.length-range_with_len, Concat.length-flat_map}
+use Rattle.std.{proofs.lemmas.{Slice.Zip.AllZip-long, Grind.common_steps}, specs.List.{range_with_len, AllZip}}
 use Rattle.graph_types.specs.{Graph.{Graph, HasWeights}, Limits.{AreLimits, most_operations}, Step.after_all}
 use Rattle.graph_types.specs.{Step.outcomes, declared.batches.{NamedOp.NamedOp, Outcome.TheVariants.Absent}}
 use Rattle.graph_types.proofs.More.{left_more}
 use Rattle.graph_types.proofs.{LimitsKept.limits_after_all, WeightsKept.HasWeights-after_all}
 use Rattle.edge_block.specs.{Slots.BlockView, Rows.{OpenBlock, shape_of, row_at, IsRow}, Batches.{Resolved, resolved}}
 use Rattle.edge_block.{specs.Batches.{outcomes_all, opened_rows, layout_after, HasEndsWithin, IsLayoutOf}, proofs.GraphLaws.batch_layout}
-use Rattle.vertex_names.specs.Book.{Book}
 use Rattle.graph_version.specs.Rows as rows
 use Rattle.graph_version.specs.{Rows.row_of, Versions.{VersionView, IsVersion, IsBlockOf, AreRowsOf, content, layout_of, is_in}}
-use Rattle.graph_version.specs.{Kept.{vertex_book, kind_book, edge_total}, Drafts.{DraftView, drafted_over}}
-use Rattle.graph_version.{specs.Drafts.with_batch, specs.Drafts.IsWhole, proofs.Few.few_total}
+use Rattle.graph_version.proofs.Few.{few_total}
 use Rattle.batch_shards.specs.{RowBlocks.{block_of, shared_blocks, shared_numbers}, Done.IsShardDone}
 use Rattle.graph_types.specs.Outcomes.{told}
 use Rattle.batch_shards.specs.{Done.Exchanges, Done.sources_in, Done.rows_by, Births.births_end, Births.births_dropped}
 use Rattle.batch_shards.specs.{Births.open_row, Births.births_after, Births.dropped_births, declared.shard.Shard.Shard}
-use Rattle.batch_shards.{specs.declared.shard.ShardDone.ShardDone, proofs.Places.count_by-append}
+use Rattle.batch_shards.specs.declared.shard.ShardDone.{ShardDone}
 use Rattle.graph_types.specs.Refusals.{MeetsNeitherLimit}
-use Rattle.batch_apply.{specs.Shards.IsShardOf, proofs.Resolving.as_many_resolved}
+use Rattle.graph_types.proofs.{Numbers.no_more, Sums.{count_lists, count_by-append, sum_each}, Times.{times, pairs}}
+use Rattle.graph_types.proofs.Times.{apart_times}
+use Rattle.edge_block.proofs.{BlockCounts.{map_same, count_pieces}, ShardResults.as_many_resolved}
+use Rattle.graph_version.proofs.RowsAmong.{among_is}
+use Rattle.batch_shards.proofs.{Exchanged.numbers_once, Untouched.{untouched_births, untouched_dropped, count_births}}
+use Rattle.batch_shards.proofs.Exchanged.{exchanged_all}
+use Rattle.batch_shards.proofs.Left.{rows_left, sources_left, taken_left, dropped_left, blocks_left, exchanged_left, handed_left}
+use Rattle.batch_shards.proofs.{Left.{fresh_all, all_shards, unused_left}, ShardSizes.needs_of}
+use Rattle.batch_apply.specs.Shards.{IsShardOf}
 use Rattle.batch_apply.specs.{Plans.written_all, Shards.ArePlanned, declared.{applied.Applied.Applied, workers.Job.Job}}
-use Rattle.batch_apply.specs.{Applied.{IsApplied, ReplacesRows, row_among, written_from}, Gathered.{IsDealt, AreShardsDone}}
-use Rattle.batch_apply.proofs.{Told.told_exact, Written.all_written, Written.all_sources, Placed.times, Placed.among_is}
-use Rattle.batch_apply.proofs.Together.{all_once, all_within, once, quiet_layout, batch_totals, outcomes_over, quiet_row}
-use Rattle.batch_apply.proofs.{Together.births_sum, Together.together_at, Numbers.numbers_once, Kept.pairs, Kept.exchanged_all}
-use Rattle.batch_apply.proofs.Left.{outcomes_left, sum_each, rows_left, taken_left, dropped_left, unused_left}
-use Rattle.batch_apply.proofs.Left.{fresh_all, sources_left, blocks_left, exchanged_left, handed_left, layouts_left, births_left}
-use Rattle.batch_apply.proofs.Dealt.{shards_in, needs_of, dealt_planned, done_in, fresh_in}
-use Rattle.batch_apply.proofs.BirthCounts.{map_same, untouched_births, untouched_dropped, count_births, count_pieces, count_lists}
-
-all_shards : (shards : List Shard) → all_sources (map sources_in shards) ≡ flat_map sources_in shards
-all_shards [] = refl
-all_shards (s ∷ shards) = ap (λ l. sources_in s ++ l) (all_shards shards)
-
-no_more : (limit n : ℕ) → (limit < n → ⊥) → n ≤ limit
-no_more limit n never = grind (arith, common_steps, ltb-true, ltb-false)
+use Rattle.batch_apply.specs.{Applied.{IsApplied, row_among, written_from}, Gathered.{IsDealt, AreShardsDone}}
+use Rattle.batch_apply.proofs.{Told.told_exact, Written.all_written}
+use Rattle.batch_apply.proofs.Together.{all_once, all_within, quiet_layout, batch_totals, outcomes_over, quiet_row}
+use Rattle.batch_apply.proofs.Together.{births_sum, together_at}
+use Rattle.batch_apply.proofs.Left.{outcomes_left}
+use Rattle.batch_apply.proofs.Left.{layouts_left, births_left}
+use Rattle.batch_apply.proofs.Dealt.{shards_in, dealt_planned, done_in, fresh_in}
 
 -- The next version
 
@@ -128,7 +126,8 @@ module _ (v : VersionView) (ops : List NamedOp) (workers : ℕ) (positive : 0 < 
           pairs (rows.numbers_of (rows.blocks_of after))
           (numbers_once (rows.blocks_of v.rows) (rows.blocks_of after) (taken_left dones) (dropped_left dones) numbers
           exchanged_next
-          (λ m. once m (rows.numbers_of (rows.blocks_of v.rows)) is.rows.numbers) few_taken (λ m. once m numbers distinct)
+          (λ m. apart_times m (rows.numbers_of (rows.blocks_of v.rows)) is.rows.numbers) few_taken
+          (λ m. apart_times m numbers distinct)
           unlisted)
 
       pub version_next : IsVersion (next after)
@@ -252,31 +251,3 @@ module _ (v : VersionView) (ops : List NamedOp) (workers : ℕ) (shards : List S
         applied v ops workers positive is with_fresh planned_jobs dones each after among numbers rest handed_jobs distinct
             unlisted limits few short,
       )
-
--- The drafts of the next version
-
-module _ (v : VersionView) (ops : List NamedOp) (names kinds : Book) (values : List (ℕ × List BlockView))
-    (d1 d2 d3 : DraftView)
-    (e1 : d1 ≡ record (drafted_over v) { names = names; kinds = kinds }) (e2 : ReplacesRows values d1 d2)
-    (e3 : d3 ≡ with_batch d2 ops) where
-  pub draft_is : d3 ≡ record {
-    names = names;
-    kinds = kinds;
-    version =
-        record { opening = v.opening; batches = v.batches ++ ops ∷ []; rows = d2.version.rows };
-  }
-  draft_is =
-      e3 ∙ ap (λ d. with_batch d ops)
-      (e2.rest
-      ∙ ap (λ (d : DraftView). let r : DraftView = record d { version = record d.version { rows = d2.version.rows } } in r)
-      e1)
-
-  pub edges_left : edge_total d3.version ≡ len (after_all ops (content v)).edges
-  edges_left = grind (arith, common_steps, draft_is, left_more)
-
-  pub draft_among : (s : ℕ) → row_of d2.version.rows s ≡ row_among values s (row_of v.rows s)
-  draft_among s = e2.rows_are s ∙ ap (λ (d : DraftView). row_among values s (row_of d.version.rows s)) e1
-
-  pub draft_whole : names ≡ vertex_book (after_all ops (content v)) → kinds ≡ kind_book (after_all ops (content v))
-      → IsVersion (record { opening = v.opening; batches = v.batches ++ ops ∷ []; rows = d2.version.rows }) → IsWhole d3
-  draft_whole n k is = grind (arith, common_steps, draft_is, left_more)

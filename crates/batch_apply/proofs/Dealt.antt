@@ -1,46 +1,17 @@
 -- Shards that have got the fresh blocks which they may take.
-use Rattle.std.proofs.Common.{◌≡◌, ℕ, zero, suc, ◌+◌, ◌<◌, List, [], ◌∷◌, ◌++◌, length, map, flat_map, zip, take, get_or, refl}
-use Rattle.std.proofs.{Common.{ap, ◌∙◌, arith, All}, lemmas.List.{length-map, Sums.sum_by-cons, Elements.{All-nil, All-cons}}}
-use Rattle.std.{specs.List.{sum_by, range_with_len, AllZip}, proofs.lemmas.Grind.common_steps}
+use Rattle.std.proofs.Common.{◌≡◌, ℕ, zero, suc, ◌+◌, List, [], ◌∷◌, ◌++◌, map, flat_map, zip, refl}
+use Rattle.std.proofs.{Common.{ap, arith, All}, lemmas.List.{length-map, Elements.{All-nil, All-cons}}}
+use Rattle.std.{specs.List.{range_with_len, AllZip}, proofs.lemmas.Grind.common_steps}
 use Rattle.edge_block.specs.{Slots.BlockView, Rows.Shape, Batches.Resolved}
-use Rattle.batch_shards.specs.{RowBlocks.shared_numbers, Done.{IsShardDone, sources_in}, Spending.needed, declared.shard.Shard.Shard}
+use Rattle.batch_shards.specs.{RowBlocks.shared_numbers, Done.IsShardDone, declared.shard.Shard.Shard}
 use Rattle.batch_shards.specs.declared.shard.ShardDone.{ShardDone}
+use Rattle.batch_shards.proofs.ShardSizes.{needs_of}
 use Rattle.batch_apply.specs.{Shards.IsShardOf, Gathered.{IsDealt, IsShard, AreShardsDone}, declared.workers.Job.Job}
-
--- Numbers of blocks that are dealt one after another
-
-sum_none : (xs : List ℕ) → sum_by (λ n. n) (take 0 xs) ≡ 0
-sum_none xs = grind (arith, common_steps)
-
-pub sum_taken : (i : ℕ) (xs : List ℕ) (d : ℕ) → i < length xs
-    → sum_by (λ n. n) (take (i + 1) xs) ≡ sum_by (λ n. n) (take i xs) + get_or xs i d
-sum_taken i [] d lt = absurd (omega (arith, lt))
-sum_taken zero (x ∷ xs) d lt = omega (arith, sum_by-cons (λ (n : ℕ). n) x (take 0 xs), sum_none xs)
-sum_taken (suc i) (x ∷ xs) d lt =
-    let next : suc i + 1 ≡ suc (i + 1) = omega arith in
-    ap (λ (m : ℕ). sum_by (λ n. n) (take m (x ∷ xs))) next
-    ∙ omega (
-      arith,
-      sum_by-cons (λ (n : ℕ). n) x (take (i + 1) xs),
-      sum_by-cons (λ (n : ℕ). n) x (take i xs),
-      sum_taken i xs d (omega (arith, lt)),
-    )
-
--- one more pair of two lists, of which the second is given
-pub zip_push : {A B : Type 0} (xs : List A) (x : A) (ys : List B) (d : B) → length xs < length ys
-    → zip (xs ++ x ∷ []) ys ≡ zip xs ys ++ (x, get_or ys (length xs) d) ∷ []
-zip_push xs x [] d lt = absurd (omega (arith, lt))
-zip_push [] x (y ∷ ys) d lt = refl
-zip_push (w ∷ xs) x (y ∷ ys) d lt = ap (λ ps. (w, y) ∷ ps) (zip_push xs x ys d (omega (arith, lt)))
 
 -- The shards of jobs
 
 abbrev pub shards_in : List Job → List Shard
 shards_in jobs = map (λ j. j.shard) jobs
-
--- how many fresh blocks a shard may take of these rows
-abbrev pub needs_of : (ℕ → List BlockView) → Shard → ℕ
-needs_of rows shard = needed rows (sources_in shard) shard.steps.items
 
 module _ (workers : ℕ) (rs : List Resolved) (layout : ℕ → List Shape) where
   dealt_one : (w : ℕ) (p : Shard × ℕ) (j : Job) → IsDealt p j → IsShardOf workers rs layout w p.0

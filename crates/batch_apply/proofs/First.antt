@@ -2,19 +2,21 @@
 use Rattle.std.proofs.Common.{◌≡◌, ◌≢◌, ℕ, suc, ◌+◌, ◌<◌, ◌≤◌, ◌%◌, ◌==◌, ◌||◌, Bool, true, false, cond, List, [], ◌∷◌, ◌++◌}
 use Rattle.std.proofs.Common.{length, length-append, map, take, drop, get_or, refl, sym, ap, subst, ◌∙◌, arith, All, AllPairs, nat_eq}
 use Rattle.std.proofs.Common.{Option, Some, None}
-use Rattle.std.proofs.lemmas.{Bool.{true≢false, eq-eqb, eqb-true}, Grind.{common_steps, flat_map-append}}
-use Rattle.std.proofs.lemmas.List.{append-nil, append_assoc, map-append, take_more, drop_more, get_or-append-add}
+use Rattle.std.proofs.lemmas.{Bool.{true≢false, eq-eqb, eqb-true, or_right}, Grind.{common_steps, flat_map-append}}
+use Rattle.std.proofs.lemmas.List.{append-nil, append_assoc, map-append, take_more, drop_more}
 use Rattle.std.proofs.lemmas.List.{Elements.{filter-append, All-nil, All-cons, All-head, All-tail, All-append}}
 use Rattle.std.proofs.lemmas.List.{Folds.{list_any-append, list_any_at}, Kept.AllPairs-from_increasing}
-use Rattle.std.specs.{List.{list_any, sum_by, Sorted.IsStrictlyIncreasing}, Prelude.{slice_get, IfSome}}
+use Rattle.std.specs.{List.{list_any, sum_by, Sorted.IsStrictlyIncreasing}, Prelude.IfSome}
 use Rattle.graph_types.specs.Graph.{Key}
+use Rattle.graph_types.proofs.{Searches.listed_is, Sums.{sum_same, below_sum}, Times.{times, listed_times}}
+use Rattle.graph_types.proofs.Times.{apart_times}
 use Rattle.edge_block.specs.Batches.{Resolved, AtKey, InAll, is_in_shard, shard_ops, sum_below, IsPlaced}
+use Rattle.edge_block.proofs.BatchSums.{sum_all}
+use Rattle.edge_block.proofs.ShardSteps.{own_key, key_in}
 use Rattle.batch_shards.specs.{Shards.IsAct, declared.shard.Step.Step}
 use Rattle.batch_apply.specs.{Plan.shown_op, OldRows.{old_sources, own_rows}, FirstSources.{AreFirst, AreNext, asked_sources, asked_source}}
 use Rattle.batch_apply.specs.{Shards.{AreShardSteps, IsSourceBelow}, declared.old.OldRow.OldRow}
 use Rattle.batch_apply.specs.declared.{own_sources.Places.Places, resolve.ResolvedOp.ResolvedOp}
-use Rattle.batch_apply.proofs.{Growth.{key_in, own_key}, Placed.{times, listed_times}, Totals.sum_all, Kept.sum_same}
-use Rattle.batch_apply.proofs.{Together.once, Asked.below_sum}
 use Rattle.batch_apply.proofs.Listing.{is_listed, listed_blocks, not_listed, own_distinct, own_listed, own_sources, own_among}
 
 -- what is asked by one operation more: of the worker's, or of another
@@ -64,19 +66,8 @@ asked_own workers w (r ∷ rs) placed =
     one (AtKey source (Some k) change) own = All-cons (λ s. s % workers ≡ w) k.source [] (own k refl) (All-nil (λ s. s % workers ≡ w))
     one (InAll time) own = All-nil (λ s. s % workers ≡ w)
 
-listed_is : (P : ℕ → Type 0) (xs : List ℕ) → All P xs → (s : ℕ) → list_any (nat_eq s) xs ≡ true → P s
-listed_is P [] all s listed = absurd (true≢false (sym listed))
-listed_is P (x ∷ xs) all s listed = elim (s == x) as (λ b. s == x ≡ b → (b || list_any (nat_eq s) xs) ≡ true → P s) [
-  | true ↦ λ same _. subst P (sym (eqb-true s x same)) (All-head P x xs all)
-  | false ↦ λ _ rest. listed_is P xs (All-tail P x xs all) s rest
-] refl listed
-
 either : (a b c e : Bool) → (a ≡ true → c ≡ true) → (b ≡ true → e ≡ true) → (a || b) ≡ true → (c || e) ≡ true
 either a b c e left right some = grind (arith, common_steps)
-
-or_right : (a b : Bool) → b ≡ true → (a || b) ≡ true
-or_right true b e = refl
-or_right false b e = e
 
 -- what the worker's operations ask for is asked for
 asked_from : (workers w : ℕ) (rs : List Resolved) (s : ℕ) → list_any (nat_eq s) (asked_sources (shard_ops workers w rs)) ≡ true
@@ -137,17 +128,6 @@ ranked_first workers w rs old xs placed rising same =
           ∙ ap (λ b. b || list_any (nat_eq s) more) (own_listed workers w old s mine listed);
     }
 
--- where the sources asked for are, in one list after those of the old rows
-pub ranked_next : (own more xs places : List ℕ) → length places ≡ length (own ++ more)
-    → ((k : ℕ) → k < length (own ++ more) → slice_get xs (get_or places k 0) ≡ Some (get_or (own ++ more) k 0))
-    → (length places ≡ length own + length more)
-    × ((k : ℕ) → k < length more → slice_get xs (get_or places (length own + k) 0) ≡ Some (get_or more k 0))
-ranked_next own more xs places long placed =
-    let both : length (own ++ more) ≡ length own + length more = length-append own more in (
-      long ∙ both,
-      λ k lt. placed (length own + k) (omega (arith, both, lt)) ∙ ap (λ n. Some n) (get_or-append-add own more k 0),
-    )
-
 module _ (workers w : ℕ) (rs : List Resolved) (old : List OldRow) where
   abbrev own_blocks_at : ℕ → ℕ
   own_blocks_at s = cond (s % workers == w) (listed_blocks old s) 0
@@ -170,7 +150,7 @@ module _ (workers w : ℕ) (rs : List Resolved) (old : List OldRow) where
   summed xs are n below =
       sum_same (listed_blocks old) own_blocks_at xs (λ k d lt. sym (ap (λ b. cond b (listed_blocks old (get_or xs k d)) 0)
       (ap (λ q. q == w) (are.own k d lt) ∙ eq-eqb w w refl)))
-      ∙ sum_all own_blocks_at n xs (λ m. once m xs are.distinct) below (λ m lt none. quiet xs are m none)
+      ∙ sum_all own_blocks_at n xs (λ m. apart_times m xs are.distinct) below (λ m lt none. quiet xs are m none)
 
   -- all that a worker's shard may begin with has as many old blocks
   pub same_blocks : (xs ys : List ℕ) → AreFirst workers w rs old xs → AreFirst workers w rs old ys

@@ -6,7 +6,8 @@ use Rattle.graph_types.specs.{Step.{with_name, makes_names, number_of}, Answer.i
 use Rattle.graph_types.specs.Parts.{Parts, OfEdge, OfAll, parts_of, names_by, names_after}
 use Rattle.batch_apply.specs.{declared.resolve.Ends.Ends, Plan.{known, ends_by, ends_in, IsFound, AreFound}}
 use Rattle.std.proofs.lemmas.List.{drop-drop}
-use Rattle.batch_apply.proofs.Names.{kept, known_listed}
+use Rattle.graph_types.proofs.ListedNames.{kept}
+use Rattle.batch_apply.proofs.Names.{known_listed}
 
 listed_if : (b : Bool) (n i : ℕ) → (if b then Some n else None) ≡ Some i → IsTrue b
 listed_if true n i is = refl

@@ -1,30 +1,19 @@
 -- A worker's operations as more of the batch are planned.
-use Rattle.std.proofs.Common.{◌≡◌, ◌≢◌, ℕ, zero, suc, ◌+◌, ◌<◌, ◌≤◌, ◌%◌, true, false, cond, List, [], ◌∷◌, ◌++◌, length}
-use Rattle.std.proofs.Common.{length-append, get_or, map, filter, refl, sym, ap, ap₂, ◌∙◌, arith, subst, All, AllPairs, nat_eq}
+use Rattle.std.proofs.Common.{◌≡◌, ◌≢◌, ℕ, ◌<◌, ◌≤◌, ◌%◌, true, false, cond, List, [], ◌∷◌, ◌++◌, length}
+use Rattle.std.proofs.Common.{length-append, map, refl, sym, ap, ap₂, ◌∙◌, arith, subst, All, AllPairs, nat_eq}
 use Rattle.std.proofs.{Common.Bool, lemmas.List.{append-nil, map-append, get_or_append_left, Folds.list_any-append}}
 use Rattle.std.proofs.lemmas.List.{Sums.sum_by_push, Quantifiers.all_pairs_push, Elements.{All-head, All-tail, All-push}}
-use Rattle.std.{proofs.lemmas.{List.Elements.filter-append, Bool.{true≢false, eqb-true, eqb-false}}, specs.Prelude.slice_index}
+use Rattle.std.{proofs.lemmas.{List.Elements.filter-append, Bool.true≢false}, specs.Prelude.slice_index}
 use Rattle.std.specs.{List.{enumerate_from, list_any, sum_by}, declared.option.Option.{Option, TheVariants.{None, Some}}}
 use Rattle.std.proofs.lemmas.Grind.{common_steps}
 use Rattle.graph_types.specs.Graph.{Key}
-use Rattle.edge_block.specs.Batches.{Resolved, AtKey, InAll, IsPlaced, is_in_shard, shard_ops}
+use Rattle.graph_types.proofs.{Elements.{all_left, last_of}, Searches.absent}
+use Rattle.edge_block.specs.Batches.{Resolved, AtKey, IsPlaced, is_in_shard, shard_ops}
+use Rattle.edge_block.proofs.ShardSteps.{next_places, own_numbers, key_in, own_key}
 use Rattle.batch_shards.specs.{Shards.{AreSteps, IsAct, IsPlace, key_at, resolved_at, resolved_in}, declared.shard.Act.Act}
-use Rattle.batch_shards.{specs.declared.shard.{Act.TheVariants.{Edge, Expire}, Place.Place, Step.Step}, proofs.Closed.all_left}
+use Rattle.batch_shards.specs.declared.shard.{Act.TheVariants.{Edge, Expire}, Place.Place, Step.Step}
+use Rattle.batch_shards.proofs.ShardSizes.{steps_wider}
 use Rattle.batch_apply.specs.Shards.{acts, unsourced, IsSourceBelow, AreShardSteps, with_source, with_op}
-
-enumerated_last : {A : Type 0} (k : ℕ) (xs : List A) (x : A) (m : ℕ) → m ≡ length xs + k
-    → enumerate_from k (xs ++ x ∷ []) ≡ enumerate_from k xs ++ (m, x) ∷ []
-enumerated_last k [] x m e = let same : k ≡ m = omega arith in ap (λ n. (n, x) ∷ []) same
-enumerated_last k (y ∷ xs) x m e = ap (λ l. (k, y) ∷ l) (enumerated_last (k + 1) xs x m (omega arith))
-
-last_of : {A : Type 0} (P : A → Type 0) (xs : List A) (x : A) → All P (xs ++ x ∷ []) → P x
-last_of P [] x all = All-head P x [] all
-last_of P (y ∷ xs) x all = last_of P xs x (All-tail P y (xs ++ x ∷ []) all)
-
-absent : (xs : List ℕ) (s : ℕ) → list_any (nat_eq s) xs ≡ false → (i d : ℕ) → i < length xs → get_or xs i d ≡ s → ⊥
-absent [] s none i d lt e = absurd (omega arith)
-absent (x ∷ xs) s none zero d lt e = grind (arith, common_steps, true≢false, eqb-false)
-absent (x ∷ xs) s none (suc i) d lt e = grind (arith, common_steps, true≢false)
 
 more_distinct : (o : Option Key) (sources : List ℕ) → AllPairs (λ a b. a ≢ b) sources
     → AllPairs (λ a b. a ≢ b) (with_source o sources)
@@ -67,24 +56,6 @@ acts_stay o sources (s ∷ steps) all =
       act_stays (Edge place change) is = ap (λ (q : Option Key). AtKey None q change) (key_stays o sources place is.0)
       act_stays (Expire time) is = refl
 
-wider : (n m : ℕ) → n ≤ m → (p : Option Place) → IsPlace n p → IsPlace m p
-wider n m le p h = grind (arith, common_steps)
-
-steps_wider : (n m : ℕ) → n ≤ m → (steps : List Step) → AreSteps n steps → AreSteps m steps
-steps_wider n m le steps all k d lt = grind (arith, common_steps, wider)
-
-abbrev numbers : ℕ → ℕ → List (ℕ × Resolved) → List ℕ
-numbers workers w ps = map (λ (p : ℕ × Resolved). p.0) (filter (λ (p : ℕ × Resolved). is_in_shard workers w p.1) ps)
-
-next_places : (workers w : ℕ) (rs : List Resolved) (r : Resolved) → numbers workers w (enumerate_from 0 (rs ++ r ∷ []))
-    ≡ numbers workers w (enumerate_from 0 rs) ++ numbers workers w ((length rs, r) ∷ [])
-next_places workers w rs r =
-    ap (numbers workers w) (enumerated_last 0 rs r (length rs) (omega arith))
-    ∙ ap (map (λ (p : ℕ × Resolved). p.0)) (filter-append (λ (p : ℕ × Resolved). is_in_shard workers w p.1) (enumerate_from 0 rs)
-    ((length rs, r) ∷ []))
-    ∙ map-append (λ (p : ℕ × Resolved). p.0) (filter (λ (p : ℕ × Resolved). is_in_shard workers w p.1) (enumerate_from 0 rs))
-    (filter (λ (p : ℕ × Resolved). is_in_shard workers w p.1) ((length rs, r) ∷ []))
-
 next_acts : (workers w : ℕ) (rs : List Resolved) (r : Resolved)
     → acts (shard_ops workers w (rs ++ r ∷ [])) ≡ acts (shard_ops workers w rs) ++ acts (shard_ops workers w (r ∷ []))
 next_acts workers w rs r = grind (arith, common_steps, filter-append, map-append)
@@ -94,9 +65,9 @@ pub passed : (workers w : ℕ) (rs : List Resolved) (r : Resolved) (is_old : ℕ
     → AreShardSteps workers rs w is_old sources steps → is_in_shard workers w r ≡ false
     → AreShardSteps workers (rs ++ r ∷ []) w is_old sources steps
 passed workers w rs r is_old sources steps is out = record {
-  places = is.places ∙ sym (next_places workers w rs r ∙ ap (λ b. numbers workers w (enumerate_from 0 rs)
+  places = is.places ∙ sym (next_places workers w rs r ∙ ap (λ b. own_numbers workers w (enumerate_from 0 rs)
       ++ map (λ (p : ℕ × Resolved). p.0) (cond b ((length rs, r) ∷ []) [])) out
-      ∙ append-nil (numbers workers w (enumerate_from 0 rs)));
+      ∙ append-nil (own_numbers workers w (enumerate_from 0 rs)));
   acts_are = is.acts_are ∙ sym (next_acts workers w rs r
       ∙ ap (λ b. acts (shard_ops workers w rs) ++ acts (cond b (r ∷ []) [])) out ∙ append-nil (acts (shard_ops workers w rs)));
   in_range = is.in_range;
@@ -106,17 +77,8 @@ passed workers w rs r is_old sources steps is out = record {
   old_rows = is.old_rows;
 }
 
--- the key of an operation on an edge
-abbrev pub key_in : Resolved → Option Key
-key_in (AtKey source key change) = key
-key_in (InAll time) = None
-
 with_key : (r : Resolved) (sources : List ℕ) → with_op r sources ≡ with_source (key_in r) sources
 with_key r sources = grind (arith, common_steps)
-
-pub own_key : (workers w : ℕ) (r : Resolved) → IsPlaced r → is_in_shard workers w r ≡ true → (k : Key) → key_in r ≡ Some k
-    → k.source % workers ≡ w
-own_key workers w r placed mine k e = grind (arith, common_steps, eqb-true)
 
 below_key : (n : ℕ) (r : Resolved) → IsSourceBelow n r → (k : Key) → key_in r ≡ Some k → k.source < n
 below_key n r below = grind (arith, common_steps)
@@ -144,7 +106,7 @@ module _ (workers w : ℕ) (rs : List Resolved) (r : Resolved) (is_old : ℕ →
         places =
             map-append (λ (t : Step). t.op) steps (s ∷ [])
             ∙ ap₂ (λ a b. a ++ b ∷ []) is.places op_is
-            ∙ sym (next_places workers w rs r ∙ ap (λ b. numbers workers w (enumerate_from 0 rs)
+            ∙ sym (next_places workers w rs r ∙ ap (λ b. own_numbers workers w (enumerate_from 0 rs)
             ++ map (λ (p : ℕ × Resolved). p.0) (cond b ((length rs, r) ∷ []) [])) mine);
         acts_are =
             ap acts (map-append (λ (t : Step). resolved_at more t.act) steps (s ∷ []))

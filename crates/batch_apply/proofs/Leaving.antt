@@ -1,26 +1,13 @@
 -- A plan's names are those that the batch rule leaves, and its refusals the batch rule's.
-use Rattle.std.proofs.Common.{◌≡◌, ◌∙◌, ◌+◌, ◌≤◌, ℕ, zero, suc, List, [], ◌∷◌, ◌++◌, length, refl, sym, ap, subst, arith}
-use Rattle.std.{specs.List.{range_with_len, AllZip}, proofs.lemmas.Grind.common_steps}
+use Rattle.std.proofs.Common.{◌≡◌, ◌∙◌, List, refl, sym, ap, arith}
+use Rattle.std.proofs.lemmas.Grind.{common_steps}
 use Rattle.graph_types.specs.{Graph.Graph, Step.after_all, declared.batches.NamedOp.NamedOp}
 use Rattle.graph_types.proofs.LimitsKept.{limits_after_all}
 use Rattle.graph_types.{specs.Parts.{names_after_all, kinds_after_all}, proofs.OperationParts.{names_of_all, kinds_of_all}}
 use Rattle.vertex_names.specs.Book.{Book}
 use Rattle.graph_version.specs.Kept.{vertex_book, kind_book}
-use Rattle.graph_types.specs.{Refusals.{MeetsNeitherLimit, IsLimitRefusal}, declared.refusals.ApplyError.ApplyError}
+use Rattle.graph_types.specs.{Refusals.IsLimitRefusal, declared.refusals.ApplyError.ApplyError}
 use Rattle.batch_apply.specs.Plan.{with_names, graph_by, IsUnplanned}
-
-one_more : {A : Type 0} (R : ℕ → A → Type 0) (first n : ℕ) (xs : List A) (x : A) → AllZip R (range_with_len first n) xs
-    → R (first + n) x → AllZip R (range_with_len first (suc n)) (xs ++ x ∷ [])
-one_more R first zero [] x so_far is = (subst (λ m. R m x) (omega arith) is, tt)
-one_more R first zero (y ∷ xs) x so_far is = absurd so_far
-one_more R first (suc n) [] x so_far is = absurd so_far
-one_more R first (suc n) (y ∷ xs) x so_far is =
-    (so_far.0, one_more R (first + 1) n xs x so_far.1 (subst (λ m. R m x) (omega arith) is))
-
--- one more worker's shard
-pub one_more_shard : {A : Type 0} (R : ℕ → A → Type 0) (n : ℕ) (xs : List A) (x : A) → AllZip R (range_with_len 0 n) xs → R n x
-    → AllZip R (range_with_len 0 (n + 1)) (xs ++ x ∷ [])
-one_more_shard R n xs x so_far is = grind (arith, common_steps, one_more)
 
 pub names_book : (ops : List NamedOp) (g : Graph) (old new : Book) → old ≡ vertex_book g
     → new ≡ with_names old (names_after_all ops old.names) → new ≡ vertex_book (after_all ops g)
@@ -57,9 +44,3 @@ unplanned_all error ops rest names kinds more_names more_kinds left_names left_k
     let same_kinds : (after_all rest later).kinds ≡ (after_all ops first).kinds =
     sym (kinds_of_all rest later) ∙ left_kinds ∙ kinds_of_all ops first in
     grind (arith, common_steps, same_names, same_kinds, names_few, kinds_few)
-
--- books within their limits are those of a batch that meets neither
-pub neither_limit : (ops : List NamedOp) (g : Graph) (names kinds : Book) → names ≡ vertex_book (after_all ops g)
-    → kinds ≡ kind_book (after_all ops g)
-    → length names.names ≤ names.limit → length kinds.names ≤ kinds.limit → MeetsNeitherLimit ops g
-neither_limit ops g names kinds names_are kinds_are few_names few_kinds = grind (arith, common_steps, limits_after_all)

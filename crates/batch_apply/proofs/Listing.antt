@@ -1,13 +1,15 @@
 -- The old rows of a worker are listed before its first operation.
 use Rattle.graph_types.proofs.Counts.{apart_tail}
-use Rattle.std.proofs.Common.{◌≡◌, ◌≢◌, ℕ, suc, ◌+◌, ◌<◌, ◌≤◌, ◌%◌, ◌==◌, ◌||◌, Bool, true, false, cond, List, [], ◌∷◌, ◌++◌}
+use Rattle.std.proofs.Common.{◌≡◌, ◌≢◌, ℕ, ◌+◌, ◌<◌, ◌≤◌, ◌%◌, ◌==◌, ◌||◌, Bool, true, false, cond, List, [], ◌∷◌, ◌++◌}
 use Rattle.std.proofs.Common.{length, map, take, get_or, refl, sym, ap, ◌∙◌, arith, All, AllPairs, nat_eq, max}
 use Rattle.std.proofs.lemmas.{Bool.{true≢false, eq-eqb, eqb-true}, List.{append-nil, map-append, length-map}}
 use Rattle.std.proofs.lemmas.List.{get_or-map, Sums.sum_by-cons}
 use Rattle.std.proofs.lemmas.List.{Sums.{sum_by_push, length-filter, count_by-le-length}, Elements.{All-head, All-tail}}
 use Rattle.std.{proofs.lemmas.List.Elements.{All-map, All-filter, All-weaker, filter_more, filter_passes}, specs.List.list_any}
 use Rattle.std.{specs.List.sum_by, proofs.lemmas.Grind.common_steps}
+use Rattle.graph_types.proofs.Elements.{pairs_head, pairs_cons}
 use Rattle.edge_block.specs.{Slots.{BlockView, has_before}, Rows.shape_of, Batches.{Resolved, AtKey, InAll, shard_ops}}
+use Rattle.graph_version.proofs.OldBlocks.{counted}
 use Rattle.batch_shards.specs.{Shards.{resolved_at, resolved_in}, Spending.{act_time, old_blocks, latest as latest_step}}
 use Rattle.batch_shards.specs.declared.shard.{Act.Act, Step.Step}
 use Rattle.batch_apply.specs.{Shards.acts, Shards.has_old_shape, Shards.latest_expiry, Shards.AreShardSteps, declared.old.OldRow.OldRow}
@@ -20,12 +22,6 @@ is_listed old s = list_any (nat_eq s) (old_sources old)
 abbrev pub listed_blocks : List OldRow → ℕ → ℕ
 listed_blocks [] s = 0
 listed_blocks (r ∷ old) s = cond (s == r.source.0) r.blocks (listed_blocks old s)
-
-pairs_cons : (x : ℕ) (xs : List ℕ) → All (λ y. x ≢ y) xs → AllPairs (λ a b. a ≢ b) xs → AllPairs (λ a b. a ≢ b) (x ∷ xs)
-pairs_cons x xs first rest is holds d lt within = grind (arith, common_steps)
-
-pub pairs_head : (x : ℕ) (xs : List ℕ) → AllPairs (λ a b. a ≢ b) (x ∷ xs) → All (λ y. x ≢ y) xs
-pairs_head x xs pairs j d lt = pairs 0 (suc j) d (omega arith) (omega arith)
 
 pub own_distinct : (workers w : ℕ) (old : List OldRow) → AllPairs (λ a b. a ≢ b) (old_sources old)
     → AllPairs (λ a b. a ≢ b) (old_sources (own_rows workers w old))
@@ -143,10 +139,6 @@ same_latest workers w rs is_old sources steps is =
 pub same_old : (workers w : ℕ) (rs : List Resolved) (a b : ℕ → Bool) (sources : List ℕ) (steps : List Step)
     → ((s : ℕ) → a s ≡ b s) → AreShardSteps workers rs w a sources steps → AreShardSteps workers rs w b sources steps
 same_old workers w rs a b sources steps agree is = grind (arith, common_steps)
-
-counted : (time : ℕ) (row : List BlockView) (b : BlockView)
-    → old_blocks time (b ∷ row) ≡ cond (has_before time b.slots) 1 0 + old_blocks time row
-counted time row b = sum_by-cons (λ (x : BlockView). cond (has_before time x.slots) 1 0) b row
 
 pub some_old : (time : ℕ) (row : List BlockView) → has_old_shape time (map shape_of row) ≡ true → 0 < old_blocks time row
 some_old time [] old = absurd (true≢false (sym old))

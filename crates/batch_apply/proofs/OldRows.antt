@@ -1,41 +1,24 @@
 -- The rows from which a batch's expiries may take edges.
-use Rattle.std.proofs.Common.{◌≡◌, ◌≢◌, ℕ, ◌+◌, ◌<◌, ◌≤◌, ◌==◌, ◌||◌, Bool, true, false, cond, List, [], ◌∷◌, ◌++◌, map, length}
+use Rattle.std.proofs.Common.{◌≡◌, ◌≢◌, ℕ, ◌+◌, ◌<◌, ◌≤◌, ◌==◌, ◌||◌, true, false, cond, List, [], ◌∷◌, ◌++◌, map, length}
 use Rattle.std.proofs.Common.{get_or, refl, sym, ap, ap₂, ◌∙◌, arith, subst, All, AllPairs, Option, Some, None, ltb, nat_eq}
-use Rattle.std.proofs.lemmas.{Bool.{true≢false, eqb-false, true_from_ne_false, le-ltb, ltb-true, ltb-false}, List.length-map}
+use Rattle.std.proofs.lemmas.{Bool.{true≢false, eqb-false, true_from_ne_false, ltb-true, ltb-false}, List.length-map}
 use Rattle.std.proofs.lemmas.List.{map-append, get_or-map, Folds.list_any-append, Quantifiers.all_pairs_push, Elements.All-nil}
-use Rattle.std.{proofs.lemmas.List.Elements.{All-push, All-weaker}, specs.{List.list_any, Option.{option_or, is_some}}}
-use Rattle.std.{specs.FinMap.get, proofs.lemmas.Grind.common_steps}
+use Rattle.std.{proofs.lemmas.List.Elements.{All-push, All-weaker}, specs.{List.list_any, Option.is_some}}
+use Rattle.std.specs.FinMap.{get}
 use Rattle.graph_types.specs.Graph.{Graph, Key, Stamp}
-use Rattle.edge_block.specs.Slots.{BlockView, Slot, has_before, stamp_at}
+use Rattle.graph_types.proofs.Cases.{option_none, or_true}
+use Rattle.edge_block.specs.Slots.{BlockView, has_before, stamp_at}
 use Rattle.edge_block.specs.{Rows.Shape, Rows.shape_of, Rows.block_at, Rows.row_at, Batches.HasEndsWithin, Batches.IsLayoutOf}
+use Rattle.edge_block.proofs.OldSlots.{slots_before_zero, no_edges}
 use Rattle.graph_version.specs.{Rows.row_of, Versions.{VersionView, content, layout_of, IsVersion}}
 use Rattle.graph_version.specs.Ages as ages
 use Rattle.batch_shards.specs.Spending.{old_blocks}
 use Rattle.batch_apply.specs.{Shards.has_old_shape, OldRows.AreOldRows, OldRows.old_sources, declared.old.OldRow.OldRow}
 use Rattle.batch_apply.proofs.Listing.{none_old_blocks, some_old}
 
--- nothing is from before the time 0
-none_before_zero : (slots : List (Option Slot)) → has_before 0 slots ≡ false
-none_before_zero [] = refl
-none_before_zero (None ∷ slots) = none_before_zero slots
-none_before_zero (Some e ∷ slots) = ap₂ (λ a b. a || b) (le-ltb e.stamp.recent 0 (omega arith)) (none_before_zero slots)
-
 pub none_old : (row : List Shape) → has_old_shape 0 row ≡ false
 none_old [] = refl
-none_old (b ∷ row) = ap₂ (λ a c. a || c) (none_before_zero b.slots) (none_old row)
-
--- slots in which no target has anything have no edge
-no_edges : (time : ℕ) (slots : List (Option Slot)) → ((target : ℕ) → stamp_at slots target ≡ None) → has_before time slots ≡ false
-no_edges time [] none = refl
-no_edges time (None ∷ slots) none = no_edges time slots none
-no_edges time (Some e ∷ slots) none =
-    let here : stamp_at (Some e ∷ slots) e.target ≡ Some e.stamp =
-    ap (λ b. option_or (cond b (Some e.stamp) None) (stamp_at slots e.target)) (true_from_ne_false (e.target == e.target)
-    (λ no. eqb-false e.target e.target no refl)) in
-    absurd (true≢false (ap is_some (sym here ∙ none e.target)))
-
-option_none : {A : Type 0} (a b : Option A) → option_or a b ≡ None → (a ≡ None) × (b ≡ None)
-option_none a b e = grind (arith, common_steps, true≢false)
+none_old (b ∷ row) = ap₂ (λ a c. a || c) (slots_before_zero b.slots) (none_old row)
 
 no_block : (time : ℕ) (row : List Shape) → ((kind target : ℕ) → row_at row (kind, target) ≡ None) → has_old_shape time row ≡ false
 no_block time [] none = refl
@@ -71,9 +54,6 @@ none_counted time row none = none_old_blocks time row (of_shapes time row ∙ no
 
 pub some_counted : (time : ℕ) (row : List BlockView) → ages.is_old_row time row ≡ true → 0 < old_blocks time row
 some_counted time row some = some_old time row (of_shapes time row ∙ some)
-
-or_true : (b : Bool) → (b || true) ≡ true
-or_true b = grind (arith, common_steps)
 
 -- the rows of so many first sources, as far as they are old
 pub record AreFound (time : ℕ) (rows : ℕ → List BlockView) (n : ℕ) (found : List OldRow) : Type 0 where

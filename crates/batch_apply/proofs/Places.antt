@@ -1,15 +1,12 @@
 -- Where a source stands: among few that are looked through, or where the next place says.
-use Rattle.std.proofs.Common.{◌≡◌, ◌<◌, ◌+◌, ◌++◌, ℕ, suc, cond, true, Bool, List, [], ◌∷◌, length, get_or, refl, sym, ap, ◌∙◌, arith, nat_eq, Some, None}
+use Rattle.std.proofs.Common.{◌≡◌, ℕ, suc, ◌+◌, ◌<◌, true, cond, List, [], ◌∷◌, ◌++◌, length, get_or, nat_eq, Some, None, refl}
+use Rattle.std.proofs.Common.{sym, ap, ◌∙◌, arith}
 use Rattle.std.proofs.lemmas.{Bool.{eqb-true, eq-eqb}, Map.Keys.any_passes_from_place, List.{map-append, Quantifiers.position-Some}, Option.slice_get-get_or}
-use Rattle.std.{proofs.lemmas.Option.slice_get-map, specs.{Prelude.{nat_lt, position, slice_get}, List.list_any}}
-use Rattle.std.{specs.{List.position_or_len, Option.option_map}, proofs.lemmas.Grind.common_steps}
+use Rattle.std.{proofs.lemmas.Option.slice_get-map, specs.{Prelude.{position, slice_get}, List.list_any}}
+use Rattle.std.{specs.Option.option_map, proofs.lemmas.Grind.common_steps}
 use Rattle.graph_types.specs.declared.ids.VertexId.{VertexId}
-use Rattle.batch_shards.proofs.Places.{list_any-map}
+use Rattle.graph_types.proofs.Searches.{list_any-map, any_first}
 use Rattle.batch_apply.specs.{Shards.{source_numbers, with_number}, FirstSources.AreNext, declared.own_sources.Places.Places}
-
-any_first : (p : VertexId → Bool) (xs : List VertexId) → list_any p xs ≡ nat_lt (position_or_len p xs) (length xs)
-any_first p [] = refl
-any_first p (x ∷ xs) = let before = any_first p xs in grind arith
 
 -- the sources, where one was found
 pub found_among : (source : ℕ) (xs : List VertexId) (i : ℕ) → position (λ (s : VertexId). nat_eq source s.0) xs ≡ Some i

@@ -39,3 +39,11 @@ planned v is workers ops found old plan names kinds ops_are few are shards needs
           (range_with_len 0 workers) plan.shards.items) ops_are zip;
       needs = needs (row_of v.rows) old_are ∙ exact_needs v is workers rs plan.shards.items few_rs zip;
     }
+
+-- a plan of equal values
+pub plan_same : (workers : ℕ) (v w : VersionView) (ops xs : List NamedOp) (p q : Plan) → v ≡ w → ops ≡ xs → p ≡ q
+    → IsPlan workers ops (content v) (row_of v.rows) p → IsPlan workers xs (content w) (row_of w.rows) q
+plan_same workers v w ops xs p q same_version same_ops same_plan is =
+    subst (λ (x : VersionView). IsPlan workers xs (content x) (row_of x.rows) q) same_version
+    (subst (λ ys. IsPlan workers ys (content v) (row_of v.rows) q) same_ops
+    (subst (λ r. IsPlan workers ops (content v) (row_of v.rows) r) same_plan is))

@@ -1,11 +1,12 @@
 -- The operations of a batch with the numbers of their names.
-use Rattle.std.proofs.Common.{◌≡◌, ℕ, List, [], ◌∷◌, ◌++◌, length, map, Bool, cond, ◌&&◌, refl, sym, subst, All, Some, None}
-use Rattle.std.proofs.{Common.{arith, append_assoc, ◌≤◌, drop}, lemmas.List.{Elements.{All-nil, All-cons}, length-map}}
+use Rattle.std.proofs.Common.{◌≡◌, ℕ, List, [], ◌∷◌, ◌++◌, length, map, Bool, cond, ◌&&◌, Some, None}
+use Rattle.std.proofs.{Common.{arith, append_assoc, ◌≤◌, drop}, lemmas.List.length-map}
 use Rattle.std.proofs.lemmas.{List.{map-append, append-nil, drop_all}, Grind.common_steps}
 use Rattle.graph_types.specs.{Graph.Key, declared.batches.NamedOp.NamedOp}
 use Rattle.graph_types.specs.Parts.{Parts, parts_in, names_after, kinds_after}
-use Rattle.edge_block.specs.Batches.{Resolved, IsPlaced}
+use Rattle.edge_block.specs.Batches.{Resolved}
 use Rattle.edge_block.specs.Batches.{resolve_parts, resolved_by}
+use Rattle.edge_block.proofs.ShardResults.{as_many_resolved}
 use Rattle.batch_apply.specs.{declared.resolve.ResolvedOp.ResolvedOp, Plan.{shown_op, ends_by, ends_in, key_from, with_kind}}
 
 key_cases : (a b c : Bool) (k s t : ℕ)
@@ -21,35 +22,10 @@ one_resolved names kinds op = grind (arith, common_steps, key_cases)
 pub ends_over : (names : List (List ℕ)) (most : ℕ) (op : NamedOp) → ends_in names op ≡ ends_by names (parts_in most op)
 ends_over names most op = grind (arith, common_steps)
 
-pub as_many_resolved : (most : ℕ) (ops : List NamedOp) (names kinds : List (List ℕ))
-    → length (resolved_by most ops names kinds) ≡ length ops
-as_many_resolved most [] names kinds = refl
-as_many_resolved most (op ∷ ops) names kinds =
-    omega (arith, as_many_resolved most ops (names_after op names) (kinds_after op kinds))
-
 -- as many operations are resolved as there are
 pub as_many_shown : (most : ℕ) (found : List ResolvedOp) (ops : List NamedOp) (names kinds : List (List ℕ))
     → map shown_op found ≡ resolved_by most ops names kinds → length found ≡ length ops
 as_many_shown most found ops names kinds are = grind (arith, common_steps, length-map, as_many_resolved)
-
-placed_if : (a b c : Bool) (s : ℕ) (q k : Key) → q.source ≡ s → cond (a && (b && c)) (Some q) None ≡ Some k
-    → cond b (Some s) None ≡ Some k.source
-placed_if a b c s q k own is = grind (arith, common_steps)
-
-one_placed : (names kinds : List (List ℕ)) (op : Parts) → IsPlaced (resolve_parts names kinds op)
-one_placed names kinds op = grind (arith, common_steps, placed_if)
-
--- an operation with a key is on the key's source
-pub placed_in : (most : ℕ) (rs : List Resolved) (ops : List NamedOp) (names kinds : List (List ℕ))
-    → rs ≡ resolved_by most ops names kinds → All IsPlaced rs
-placed_in most rs [] names kinds e = subst (λ ss. All IsPlaced ss) (sym e) (All-nil IsPlaced)
-placed_in most rs (op ∷ ops) names kinds e =
-    let parts : Parts = parts_in most op in
-    let names' : List (List ℕ) = names_after op names in
-    let kinds' : List (List ℕ) = kinds_after op kinds in
-    let rest : List Resolved = resolved_by most ops names' kinds' in
-    subst (λ ss. All IsPlaced ss) (sym e) (All-cons IsPlaced (resolve_parts names' kinds' parts) rest
-    (one_placed names' kinds' parts) (placed_in most rest ops names' kinds' refl))
 
 -- one more operation is resolved
 pub one_more : (most : ℕ) (ops rest : List NamedOp) (op : NamedOp) (found : List ResolvedOp) (r : ResolvedOp)

@@ -1,16 +1,13 @@
 -- An operation's source is one of the vertices that the batch leaves.
-use Rattle.std.proofs.Common.{◌≡◌, ◌<◌, ℕ, List, [], ◌∷◌, length, ◌≤◌, Bool, true, cond, ◌&&◌, ap, subst, All, Some, None, arith}
+use Rattle.std.proofs.Common.{◌≡◌, ◌<◌, ℕ, List, [], ◌∷◌, length, ◌≤◌, ap, subst, All, arith}
 use Rattle.std.proofs.lemmas.{List.Elements.{All-nil, All-cons}, Grind.common_steps}
-use Rattle.graph_types.specs.{Graph.{Graph, Key}, Step.after_all, declared.batches.NamedOp.NamedOp}
+use Rattle.graph_types.specs.{Graph.Graph, Step.after_all, declared.batches.NamedOp.NamedOp}
 use Rattle.graph_types.proofs.{NameLists.number_of-lt, OperationParts.{no_fewer_all, names_of_all}}
 use Rattle.graph_types.specs.Parts.{Parts, OfEdge, OfAll, parts_in, names_after, kinds_after, names_after_all}
+use Rattle.graph_types.proofs.PickedStamps.{below_if}
 use Rattle.edge_block.specs.{Rows.Shape, Batches.{resolve_parts, resolved, resolved_by, HasEndsWithin, IsLayoutOf}}
 use Rattle.batch_shards.specs.{Done.sources_in, declared.shard.Shard.Shard}
 use Rattle.batch_apply.{specs.Shards.{IsSourceBelow, IsShardOf, latest_expiry}, proofs.OldRows.old_within}
-
-below_if : (a b c : Bool) (q k : Key) (n : ℕ) → cond (a && (b && c)) (Some q) None ≡ Some k → (b ≡ true → q.source < n)
-    → k.source < n
-below_if a b c q k n is below = grind (arith, common_steps)
 
 one_below : (names kinds : List (List ℕ)) (op : Parts) (n : ℕ) → length names ≤ n
     → IsSourceBelow n (resolve_parts names kinds op)

@@ -1,47 +1,28 @@
 -- The blocks that all workers take and drop are those of the batch.
-use Rattle.std.proofs.Common.{◌≡◌, ◌≢◌, ℕ, zero, suc, ◌+◌, ◌%◌, ◌<◌, ◌≤◌, ◌==◌, List, [], ◌∷◌, ◌++◌, length, map, flat_map}
-use Rattle.std.proofs.Common.{get_or, true, false, cond, refl, sym, ap, ap₂, ◌∙◌, arith, subst, Option, Some, None, All, AllPairs}
+use Rattle.std.proofs.Common.{◌≡◌, ℕ, zero, suc, ◌+◌, ◌%◌, ◌<◌, ◌≤◌, ◌==◌, List, [], ◌∷◌, ◌++◌, length, map, flat_map}
+use Rattle.std.proofs.Common.{get_or, true, false, refl, sym, ap, ap₂, ◌∙◌, arith, subst, Option, Some, None, All}
 use Rattle.std.proofs.{Common.{mod-lt, zip}, lemmas.Bool.{eq-eqb, eqb-true, eqb-false, false_from_ne_true}}
 use Rattle.std.proofs.lemmas.List.{length-map, get_or-map, Sums.{sum_by-cons, sum_by-append}, Elements.{All-head, All-tail}}
 use Rattle.std.{proofs.lemmas.List.Elements.{All-cons, All-nil, All-append, All-map}, specs.List.{sum_by, range_with_len, AllZip}}
 use Rattle.std.proofs.lemmas.Grind.{common_steps}
 use Rattle.graph_types.specs.{Graph.Graph, Step.after_all, declared.batches.NamedOp.NamedOp, declared.batches.Outcome.Outcome}
+use Rattle.graph_types.proofs.{Sums.{count_by-append, sum_same}, Times.{times, no_times, some_times, listed_times}}
+use Rattle.graph_types.proofs.Times.{apart_times}
 use Rattle.edge_block.specs.{Rows.{Shape, OpenBlock, untouched, taken_in, dropped_in, shape_of, row_end}, Batches.Resolved}
 use Rattle.edge_block.specs.Batches.{AtKey, InAll, resolved, is_in_shard, shard_ops, rows_all, opened_rows, key_is_of, taken_by}
 use Rattle.edge_block.specs.{Batches.{dropped_by, outcomes_all, layout_after, sum_below, HasEndsWithin, IsLayoutOf}, Slots.BlockView}
+use Rattle.edge_block.proofs.{BatchSums.sum_all, ShardResults.placed_in, Untouched.{kept_all, none_taken, none_dropped}}
+use Rattle.edge_block.proofs.Spared.{KeepsOff, Spares, off_all, rows_spared, over_all}
 use Rattle.batch_shards.specs.{Births.births_end, Shards.{IsAct, IsPlace, key_at, resolved_at}, declared.shard.Act.Act}
 use Rattle.batch_shards.specs.declared.shard.{Act.TheVariants.{Edge, Expire}, Shard.Shard, Step.Step, ShardDone.ShardDone}
 use Rattle.batch_shards.specs.{declared.shard.Place.Place, Done.{IsShardDone, sources_in, steps_in, rows_by, layout_by, sum_of}}
-use Rattle.batch_shards.{specs.Closing.row_values, proofs.Places.count_by-append}
+use Rattle.batch_shards.specs.Closing.{row_values}
 use Rattle.graph_version.specs.Versions.{is_in}
 use Rattle.batch_apply.specs.{Shards.{acts, unsourced, latest_expiry, has_old_shape, IsShardOf, ArePlanned}, Plans.{results, told}}
-use Rattle.batch_apply.proofs.{Spared.{Spares, KeepsOff, rows_spared, over_all, all_spare, off_all}, Totals.sum_all}
-use Rattle.batch_apply.proofs.{Totals.{worker_rows, none_taken, none_dropped, same_outcomes}, Kept.{some_times, sum_same}}
-use Rattle.batch_apply.proofs.{Placed.{times, listed_times}, Merge.{same_ops, shard_places, kept_all}, Resolving.placed_in}
+use Rattle.batch_apply.proofs.Spared.{all_spare}
+use Rattle.batch_apply.proofs.Totals.{worker_rows, same_outcomes}
+use Rattle.batch_apply.proofs.Merge.{same_ops, shard_places}
 use Rattle.batch_apply.proofs.Sources.{sources_within}
-use Rattle.edge_block.proofs.Counts.{count_more}
-
-no_times : (m : ℕ) (xs : List ℕ) → All (λ x. x ≡ m → ⊥) xs → times m xs ≡ 0
-no_times m [] none = refl
-no_times m (x ∷ xs) none =
-    let rest = no_times m xs (All-tail (λ x. x ≡ m → ⊥) x xs none) in
-    let c = count_more (λ x. x == m) x xs in
-    let no : (let k : ℕ = cond (x == m) 1 0 in k) ≡ 0 =
-    ap (λ b. cond b 1 0) (false_from_ne_true (x == m) (λ e. All-head (λ x. x ≡ m → ⊥) x xs none (eqb-true x m e))) in
-    omega arith
-
-pub once : (m : ℕ) (xs : List ℕ) → AllPairs (λ a b. a ≢ b) xs → times m xs ≤ 1
-once m [] pairs = omega arith
-once m (x ∷ xs) pairs =
-    let c = count_more (λ x. x == m) x xs in
-    let rest = once m xs (λ i j d lt within. pairs (suc i) (suc j) d (omega arith) (omega arith)) in
-    elim (x == m) as (λ b. x == m ≡ b → times m (x ∷ xs) ≡ cond b 1 0 + times m xs → times m (x ∷ xs) ≤ 1) [
-      | true ↦ λ t z.
-          let same : x ≡ m = eqb-true x m t in
-          let none = no_times m xs (λ k d lt e. pairs 0 (suc k) d (omega arith) (omega arith) (same ∙ sym e)) in
-          omega arith
-      | false ↦ λ t z. omega arith
-    ] refl c
 
 module _ (workers : ℕ) (ops : List NamedOp) (g : Graph) (layout : ℕ → List Shape) where
   abbrev rs : List Resolved
@@ -73,7 +54,7 @@ module _ (workers : ℕ) (ops : List NamedOp) (g : Graph) (layout : ℕ → List
       elim (m % workers == a) as (λ b. m % workers == a ≡ b → times m (sources_in s ++ sources_all shards) ≤ 1) [
         | true ↦ λ t.
             let same : m % workers ≡ a = eqb-true (m % workers) a t in
-            let here = once m (sources_in s) z.0.distinct in
+            let here = apart_times m (sources_in s) z.0.distinct in
             let rest = none_before (a + 1) k m shards z.1 (omega arith) in omega arith
         | false ↦ λ t.
             let here = other_worker a m s z.0 (eqb-false (m % workers) a t) in

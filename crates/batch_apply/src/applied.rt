@@ -23,11 +23,10 @@ use crate::workers::{Gate, Job, PassAll, do_all, do_alone};
 use batch_shards::{Leavings, Shard, ShardDone};
 use edge_block::Block;
 use graph_types::{Batch, Outcome, VertexId, write_outcomes};
-use graph_version::{RowTable, Version, VersionDraft};
+use graph_version::{Row, RowTable, Version};
 use std::alloc::{AllocError, Global};
 use std::sync::Arc;
 use std::thread::Threads;
-use version_pages::Row;
 use vertex_names::NameBook;
 
 /// What a batch leaves of a version.
@@ -193,10 +192,9 @@ fn finish(
 {
     let edges = edges_after(version.edge_count(), &all.outcomes);
     let sources = sources_of(alloc, all.rows.as_slice())?;
-    let draft = VersionDraft::over_table(version, names, kinds, table)?;
-    let draft = draft.put_rows(all.rows)?.push_batch(batch)?;
+    let next = version.after_batch(names, kinds, all.rows, batch, edges, table)?;
     let applied = Applied {
-        version: draft.finish_counted(edges),
+        version: next,
         outcomes: all.outcomes,
         taken: all.left.taken,
         dropped: all.left.dropped,

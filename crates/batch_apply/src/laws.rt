@@ -36,7 +36,7 @@ pub fn law_all_written()
 {}
 
 /// A sum over different numbers below n is one over all numbers below n, where the others add nothing.
-#[tactic(auto, using(crate::proofs::Totals::sum_all))]
+#[tactic(auto, using(edge_block::proofs::BatchSums::sum_all))]
 pub fn law_sum_all()
     ensures { (f : ℕ → ℕ) (n : ℕ) (xs : List ℕ) → ((m : ℕ) → count_by (λ x. x == m) xs ≤ 1) → All (λ x. x < n) xs
         → ((m : ℕ) → m < n → count_by (λ x. x == m) xs ≡ 0 → f m ≡ 0) → sum_by f xs ≡ sum_below n f }

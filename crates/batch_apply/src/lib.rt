@@ -6,6 +6,7 @@
 #![tactic(auto)]
 
 mod applied;
+mod counting;
 mod dividing;
 mod finding;
 mod laws;
@@ -14,6 +15,7 @@ mod old;
 mod own_sources;
 mod planning;
 mod plans;
+mod ranks;
 mod resolve;
 mod shards;
 mod source_laws;
@@ -27,7 +29,8 @@ pub use laws::{
     law_sum_all, law_worker_rows,
 };
 pub use old::{OldRow, old_rows};
-pub use planning::{plan, plan_with};
+pub use planning::{plan, plan_shared, plan_with};
 pub use plans::Plan;
+pub use ranks::{Ranks, rank};
 pub use source_laws::law_sources_within;
 pub use workers::{Gate, Job, PassAll, do_all};

@@ -35,7 +35,7 @@ fn kind_seen<'a>(op: &'a NamedOp, resolved: ResolvedOp) -> Option<SeenKind<'a>>
 ///
 /// What was found of the ends of the first operations spares looking these up. `NamesFull` comes before `KindsFull`. After
 /// an error the books have some of the batch's names.
-#[tactic(auto, using(crate::proofs::Resolving::placed_in))]
+#[tactic(auto, using(edge_block::proofs::ShardResults::placed_in))]
 pub fn resolve_batch(
     alloc: Global,
     names: &mut NameBook,

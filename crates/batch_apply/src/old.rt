@@ -3,15 +3,11 @@
 ghost use Rattle.std.specs.Prelude.{◌≡◌, IfOk};
 ghost use Rattle.graph_types.specs.Parts.{parts_of};
 ghost use Rattle.graph_version.specs.Rows.{row_of};
-ghost use Rattle.graph_version.specs.Sharing.{block_values};
-ghost use Rattle.batch_shards.specs.Spending.{old_blocks};
 ghost use Rattle.batch_apply.specs.OldRows.{AreOldRows, expiry_time, time_in};
 
-use edge_block::Block;
 use graph_types::{Batch, MOST_WEIGHT, NamedOp, OpParts, VertexId, parts_in};
 use graph_version::Version;
 use std::alloc::{AllocError, Global};
-use std::sync::Arc;
 
 /// A row with an edge from before the greatest time of a batch's expiries.
 #[derive(Clone, Copy, Debug)]
@@ -42,19 +38,6 @@ fn expiry_time(ops: &[NamedOp]) -> u64
     time
 }
 
-/// How many blocks of a row have an edge that was last touched before a time.
-fn old_blocks_in(row: &[Arc<Block>], time: u64) -> usize
-    ensures { result ≡ old_blocks time (block_values row.now) }
-{
-    let mut count = 0_usize;
-    for block in row {
-        if block.has_before(time) {
-            count += 1;
-        }
-    }
-    count
-}
-
 /// The rows of a version with an edge from before the greatest time of a batch's expiries, sources rising.
 ///
 /// Of these rows alone headers are read, however many expiries the batch has; none where it has no expiry.
@@ -67,8 +50,7 @@ pub fn old_rows(alloc: Global, version: &Version, batch: &Batch) -> Result<Vec<O
         return Ok(found);
     }
     let mut from = VertexId(0);
-    while let Some(source) = version.next_old(from, time) {
-        let blocks = old_blocks_in(version.row_blocks(source), time);
+    while let Some((source, blocks)) = version.next_old_row(from, time) {
         found.push(OldRow { source, blocks })?;
         from = VertexId(source.0 + 1);
     }

@@ -11,9 +11,9 @@ ghost use Rattle.batch_apply.specs.Shards.{source_numbers};
 ghost use Rattle.batch_apply.specs.FirstSources.{AreFirst, AreNext, asked_sources, asked_source};
 
 use crate::old::OldRow;
+use crate::ranks::rank;
 use crate::resolve::ResolvedOp;
 use graph_types::VertexId;
-use number_ranks::rank;
 use std::alloc::{AllocError, Global};
 
 /// The worker of an operation on an edge: its source's number by the number of workers. One on an unknown source is worker

@@ -1,11 +1,11 @@
 //! The plan of a batch by version, batch and workers.
 
-ghost use Rattle.std.specs.Prelude.{◌≡◌, ◌<◌, IfOk, IfErr, OnOk};
+ghost use Rattle.std.specs.Prelude.{◌≡◌, ◌+◌, ◌<◌, IfOk, IfErr, OnOk};
 ghost use Rattle.graph_version.specs.Versions.{content};
 ghost use Rattle.graph_version.specs.Rows.{row_of};
 ghost use Rattle.batch_apply.specs.OldRows.{AreOldRows, expiry_time};
 ghost use Rattle.graph_types.specs.Refusals.{MeetsNeitherLimit, IsLimitRefusal};
-ghost use Rattle.batch_apply.specs.Planned.{IsPlan};
+ghost use Rattle.batch_apply.specs.Planned.{IsPlan, IsSharedPlan, workers_for};
 
 use crate::dividing::{NamedBatch, Shards, name_batch, shards_at_once, shards_for};
 use crate::finding::look_up;
@@ -63,6 +63,40 @@ pub fn plan_with<R: Threads + Sync>(
     let named = name_batch(alloc, version, batch, &found)?;
     let planned = shards_at_once(rt, alloc, workers, named.ops.as_slice(), old)?;
     Ok(plan_of(named, planned))
+}
+
+/// A batch with fewer operations, and rows to open for its expiries, is one worker's: to start a thread takes as long as some
+/// hundred operations.
+const SHARED_OPERATIONS: usize = 2048;
+
+/// How many of these workers share so many operations and rows.
+fn workers_for(workers: usize, operations: usize, rows: usize) -> usize
+    ensures { result ≡ workers_for workers (operations + rows) }
+{
+    if operations.saturating_add(rows) < SHARED_OPERATIONS {
+        1
+    } else {
+        workers
+    }
+}
+
+/// Plans a batch as [`plan`] does, for as many of these workers as share it: for one if it is small. What it leaves is the same
+/// for each number.
+pub fn plan_shared<R: Threads + Sync>(
+    rt: &R,
+    alloc: Global,
+    version: &Version,
+    batch: &Batch,
+    workers: usize,
+) -> Result<Plan, ApplyError>
+    requires workers { 0 < workers }
+    ensures plan { IfOk result (IsSharedPlan workers batch.now (content version.now) (row_of version.now.rows)) }
+    ensures limits { OnOk result (MeetsNeitherLimit batch.now (content version.now)) }
+    ensures refused { IfErr result (λ error. IsLimitRefusal error batch.now (content version.now)) }
+{
+    let old = old_rows(alloc, version, batch)?;
+    let workers = workers_for(workers, batch.len(), old.len());
+    Ok(plan_with(rt, alloc, version, batch, &old, workers)?)
 }
 
 /// The plan of these names and these shards.

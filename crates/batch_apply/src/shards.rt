@@ -1,13 +1,14 @@
 //! A batch's operations by worker.
 
 ghost use Rattle.std.specs.Prelude.{◌≡◌, ◌+◌, ◌-◌, ◌≤◌, ◌<◌, ◌^◌, ◌∷◌, ◌++◌, ℕ, List, length, map, min, IfOk, OnOk, All};
-ghost use Rattle.std.specs.Prelude.{IfSome, Some, nat_eq, position, slice_get};
+ghost use Rattle.std.specs.Prelude.{IfSome, Some, cond, nat_eq, not, position, slice_get};
 ghost use Rattle.std.specs.Option.{option_map};
 ghost use Rattle.graph_types.specs.Limits.{most_names, most_operations};
 ghost use Rattle.edge_block.specs.Slots.{BlockView};
 ghost use Rattle.edge_block.specs.Batches.{IsPlaced};
 ghost use Rattle.batch_shards.specs.Shards.{IsPlace, IsAct, key_at, resolved_at};
 ghost use Rattle.batch_shards.specs.Done.{layout_by, sources_in};
+ghost use Rattle.batch_shards.specs.Groups.{is_expiry};
 ghost use Rattle.batch_shards.specs.Spending.{needed};
 ghost use Rattle.batch_apply.specs.Plan.{key_shown, shown_op, IsInRange};
 ghost use Rattle.batch_apply.specs.OldRows.{AreOldRows};
@@ -115,6 +116,16 @@ fn act_in(
     }
 }
 
+/// How many fresh blocks an operation may take whatever the rows are: one for an edge.
+fn blocks_for(act: Act) -> usize
+    ensures { result ≡ cond (not (is_expiry act)) 1 0 }
+{
+    match act {
+        Act::Edge(_, _) => 1,
+        Act::Expire(_) => 0,
+    }
+}
+
 /// A shard without fresh blocks, and how many of them it may take.
 #[derive(Drop)]
 pub struct Needing {
@@ -153,7 +164,7 @@ pub fn shard_for(
         if is_in_shard(workers, worker, op) {
             let act = act_in(&mut sources, &mut places, op)?;
             let step = Step { op: k as u32, act };
-            blocks = blocks.saturating_add(usize::from(!step.is_expiry()));
+            blocks = blocks.saturating_add(blocks_for(act));
             steps.push(step)?;
         }
     }

@@ -1,2 +1,1 @@
-pub mod NameTexts
 pub mod OneMore

@@ -1,8 +1,9 @@
 -- One operation more of columns.
 use Rattle.std.proofs.Common.{◌≡◌, ◌≤◌, ℕ, zero, suc, ◌+◌, ◌-◌, List, [], ◌∷◌, ◌++◌, length, Option, Some, None, refl, sym, ap, ◌∙◌, arith}
-use Rattle.std.proofs.Common.{length-append, append_assoc}
+use Rattle.std.proofs.Common.{length-append, append_assoc, add-one}
 use Rattle.std.specs.Prelude.{Ok}
 use Rattle.graph_types.specs.declared.batches.NamedOp.{NamedOp}
+use Rattle.graph_types.specs.Limits.{most_operations}
 use Rattle.batch_columns.specs.{Dictionaries.{joined_operations, in_order, IsInserted}, Operations.{OperationTable, operation_at, operations_from}}
 
 -- the parts of a list that is joined
@@ -48,3 +49,12 @@ extended_more limit t from place old longer new done order (ops, are, is) pushed
     let more = one_more (operation_at t) from (place - from) ops op are (ap (operation_at t) at ∙ here) in
     let n : suc (place - from) ≡ place + 1 - from = omega arith in
     (ops ++ op ∷ [], ap (operations_from t from) (sym n) ∙ more, longer_is ∙ ap (λ l. l ++ op ∷ []) is ∙ append_assoc old ops (op ∷ []))
+
+pub inserted_more : (op_at : ℕ → Option NamedOp) (from place : ℕ) (old new : List NamedOp) (done : Unit {0})
+    → place ≡ from + length old → in_order op_at from (length old) ≡ Some old → IsInserted most_operations (op_at place) old new (Ok done)
+    → in_order op_at from (length new) ≡ Some new
+inserted_more op_at from place old new done at fit pushed =
+    let (op, here, is) = inserted_op most_operations (op_at place) old new done pushed in
+    let longer : length new ≡ suc (length old) = one_longer most_operations (op_at place) old new done pushed ∙ add-one (length old) in
+    let there : op_at (from + length old) ≡ Some op = ap op_at (sym at) ∙ here in
+    ap (in_order op_at from) longer ∙ (one_more op_at from (length old) old op fit there ∙ ap Some (sym is))

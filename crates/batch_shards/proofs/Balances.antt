@@ -1,43 +1,13 @@
 -- What stays, is dropped, is written and is handed back adds up, block by block and row by row.
-use Rattle.std.proofs.Common.{◌≡◌, ℕ, ◌+◌, Bool, cond, not, ◌&&◌, List, [], ◌∷◌, ◌++◌, map, flat_map, count_by, refl, ap, ◌∙◌}
-use Rattle.std.{proofs.{Common.arith, lemmas.{List.map-append, Grind.common_steps}}, specs.Option.option_to_list}
+use Rattle.std.proofs.Common.{◌≡◌, ℕ, ◌+◌, Bool, List, [], map, flat_map, count_by, ap, ◌∙◌}
+use Rattle.std.{proofs.Common.arith, specs.Option.option_to_list}
+use Rattle.graph_types.proofs.{Joined.{map-pieces, none_of}, Sums.{adds_up, balance}}
 use Rattle.edge_block.specs.{Slots.BlockView, Rows.{shape_of, has_none}}
+use Rattle.edge_block.proofs.BlockCounts.{one_before, one_after, one_number}
 use Rattle.batch_shards.specs.{RowBlocks.{block_of, had_here, had_in, own_here, own_in}, Closing.{after_here, stays_here}}
 use Rattle.batch_shards.specs.Closing.{written_here, dropped_here, unused_here, after_of, stays_of, written_of, dropped_of}
 use Rattle.batch_shards.specs.{Closing.{unused_of, stays_all, written_blocks, dropped_all, unused_all}, Shards.{had_all, own_all}}
 use Rattle.batch_shards.specs.declared.{row_blocks.RowBlock.RowBlock, shard.OpenRow.OpenRow}
-
--- what balances in each element balances in the whole list
-pub balance : {X A : Type 0} (p : A → Bool) (a b c d : X → List A)
-    → ((x : X) → count_by p (a x) + count_by p (b x) ≡ count_by p (c x) + count_by p (d x)) → (xs : List X)
-    → count_by p (flat_map a xs) + count_by p (flat_map b xs) ≡ count_by p (flat_map c xs) + count_by p (flat_map d xs)
-balance p a b c d each [] = refl
-balance p a b c d each (x ∷ xs) = grind (arith, common_steps, balance p a b c d each xs)
-
-pub map-pieces : {X A B : Type 0} (f : A → B) (g : X → List A) (xs : List X)
-    → map f (flat_map g xs) ≡ flat_map (λ x. map f (g x)) xs
-map-pieces f g [] = refl
-map-pieces f g (x ∷ xs) = map-append f (g x) (flat_map g xs) ∙ ap (λ r. map f (g x) ++ r) (map-pieces f g xs)
-
-none_of : {X A : Type 0} (xs : List X) → (let f : X → List A = λ _. [] in flat_map f xs) ≡ []
-none_of [] = refl
-none_of (x ∷ xs) = none_of xs
-
--- what adds up in each element adds up in the whole list
-adds_up : {X A : Type 0} (p : A → Bool) (a b c : X → List A)
-    → ((x : X) → count_by p (a x) + count_by p (b x) ≡ count_by p (c x)) → (xs : List X)
-    → count_by p (flat_map a xs) + count_by p (flat_map b xs) ≡ count_by p (flat_map c xs)
-adds_up p a b c each [] = refl
-adds_up p a b c each (x ∷ xs) = grind (arith, common_steps, adds_up p a b c each xs)
-
--- one block: it stays or is dropped, and what stays or is written is there after
-one_before : (t : Bool) (b : BlockView) (o : List BlockView) (p : BlockView → Bool)
-    → count_by p (cond t [] (b ∷ [])) + count_by p (cond t o []) ≡ count_by p (cond t o (b ∷ []))
-one_before t b o p = grind (arith, common_steps)
-
-one_after : (t n : Bool) (b : BlockView) (p : BlockView → Bool)
-    → count_by p (cond t [] (b ∷ [])) + count_by p (cond (t && not n) (b ∷ []) []) ≡ count_by p (cond (t && n) [] (b ∷ []))
-one_after t n b p = grind (arith, common_steps)
 
 row_before : (p : BlockView → Bool) (row : List RowBlock) → count_by p (stays_of row) + count_by p (dropped_of row)
     ≡ count_by p (had_in row)
@@ -58,12 +28,6 @@ pub all_after : (work : List OpenRow) (p : BlockView → Bool) → count_by p (s
     ≡ count_by p (flat_map (λ r. after_of r.blocks.items) work)
 all_after work p = adds_up p (λ (r : OpenRow). stays_of r.blocks.items) (λ (r : OpenRow). written_of r.blocks.items)
     (λ (r : OpenRow). after_of r.blocks.items) (λ r. row_after p r.blocks.items) work
-
--- one block: each number is kept or handed back
-one_number : (t n : Bool) (b : BlockView) (q : ℕ → Bool)
-    → count_by q (map (λ b. b.number) (cond (t && not n) (b ∷ []) [])) + count_by q (cond (t && n) (b.number ∷ []) [])
-    ≡ count_by q (cond t (b.number ∷ []) []) + count_by q []
-one_number t n b q = grind (arith, common_steps)
 
 row_numbers : (q : ℕ → Bool) (row : List RowBlock)
     → count_by q (map (λ b. b.number) (written_of row)) + count_by q (unused_of row) ≡ count_by q (own_in row)

@@ -9,9 +9,10 @@ use Rattle.edge_block.specs.Rows.{shape_of, untouched}
 use Rattle.batch_shards.specs.{RowBlocks.{block_of, shared_blocks, kept_of, opens, had_in, shared_numbers, IsOf}, Closing.row_values}
 use Rattle.batch_shards.specs.{Shards.{resolved_at, resolved_in}, Spending.{needed, needed_past}, Groups.is_past}
 use Rattle.graph_types.specs.Outcomes.{told}
+use Rattle.graph_types.proofs.Sums.{count_wider}
 use Rattle.batch_shards.specs.{Groups.none_told, Done.layout_by, declared.shard.Act.{Act, TheVariants.{Edge, Expire}}}
 use Rattle.batch_shards.specs.{declared.shard.{Step.Step, OpenRow.OpenRow, ShardDone.ShardDone}, Progress.AreOutcomes}
-use Rattle.batch_shards.{specs.Progress.AreRowsDone, proofs.{ShardSteps.first_step, SourceSteps.outcome_of, Expiring.count_wider}}
+use Rattle.batch_shards.{specs.Progress.AreRowsDone, proofs.{ShardSteps.first_step, SourceSteps.outcome_of}}
 use Rattle.graph_version.specs.Versions.{IsBlockOf}
 
 -- the row that is opened

@@ -4,8 +4,9 @@ use Rattle.std.proofs.{Common.{flat_map, refl, sym, ap, ap₂, ◌∙◌, All, l
 use Rattle.std.{proofs.lemmas.List.Elements.{All-head, All-tail, All-cons, All-nil, All-append}, specs.Option.is_some}
 use Rattle.std.specs.{Option.option_to_list, declared.{alloc.Global.Global, option.Option.Option, sync.Arc.Arc}}
 use Rattle.std.proofs.lemmas.Grind.{common_steps}
+use Rattle.graph_types.proofs.{Elements.{all_right, all_left}, Sums.count_more}
 use Rattle.edge_block.specs.{declared.blocks.Block.Block, Slots.BlockView, Rows.{OpenBlock, shape_of, has_none, row_end}}
-use Rattle.edge_block.{specs.Rows.{taken_in, dropped_in}, proofs.Counts.count_more}
+use Rattle.edge_block.specs.Rows.{taken_in, dropped_in}
 use Rattle.batch_shards.specs.RowBlocks.{block_of, open_of, opens, had_here, had_in, IsOf}
 use Rattle.batch_shards.specs.Closing.{written_here, dropped_here, after_of, written_of, dropped_of, closed_rows}
 use Rattle.batch_shards.specs.{Shards.AreOpen, Shards.AreOwn, Shards.sources_of, Shards.had_all, Done.sum_of, Done.AreBlockRows}
@@ -70,15 +71,6 @@ all_layout rows (r ∷ work) all =
 
 abbrev pub HasEdges : BlockView → Type 0
 HasEdges b = has_none (shape_of b) ≡ false
-
--- the parts of a list whose elements all have something
-pub all_left : {A : Type 0} (P : A → Type 0) (xs ys : List A) → All P (xs ++ ys) → All P xs
-all_left P [] ys all = All-nil P
-all_left P (x ∷ xs) ys all = All-cons P x xs (All-head P x (xs ++ ys) all) (all_left P xs ys (All-tail P x (xs ++ ys) all))
-
-pub all_right : {A : Type 0} (P : A → Type 0) (xs ys : List A) → All P (xs ++ ys) → All P ys
-all_right P [] ys all = all
-all_right P (x ∷ xs) ys all = all_right P xs ys (All-tail P x (xs ++ ys) all)
 
 row_blocks : (source : ℕ) (row : List RowBlock) → All (IsOf source) row → All HasEdges (had_in row)
     → All (IsBlockOf source) (after_of row)

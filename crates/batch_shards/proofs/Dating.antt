@@ -1,15 +1,15 @@
 -- The births of a closed row's blocks.
-use Rattle.std.proofs.Common.{◌≡◌, ℕ, Bool, true, cond, not, ◌&&◌, ◌||◌, ◌==◌, List, [], ◌∷◌, ◌++◌, map, flat_map, All, refl, sym}
-use Rattle.std.proofs.{Common.{ap, ap₂, ◌∙◌, subst, arith}, lemmas.{Bool.{eq-eqb, or_right}, List.map-append}}
+use Rattle.std.proofs.Common.{◌≡◌, ℕ, Bool, cond, not, ◌&&◌, ◌||◌, List, [], ◌∷◌, ◌++◌, map, flat_map, All, refl, sym}
+use Rattle.std.proofs.{Common.{ap₂, ◌∙◌, subst, arith}, lemmas.List.map-append}
 use Rattle.std.{proofs.lemmas.List.Elements.{All-head, All-tail, All-cons, All-nil}, specs.Prelude.if◌then◌else◌}
 use Rattle.std.specs.{Option.{is_some, option_to_list}, declared.{alloc.Global.Global, option.Option.Option, sync.Arc.Arc}}
 use Rattle.std.proofs.lemmas.Grind.{common_steps}
+use Rattle.graph_types.proofs.Elements.{all_left, all_right}
 use Rattle.edge_block.specs.{declared.blocks.Block.Block, Slots.BlockView, Rows.{OpenBlock, shape_of, has_none}}
-use Rattle.graph_version.specs.Versions.{is_in}
 use Rattle.batch_shards.specs.{RowBlocks.{block_of, opens, had_here, had_in}, Closing.{written_here, after_of, written_of}}
 use Rattle.batch_shards.specs.{Closing.{dropped_of, closed_rows, written_blocks, dropped_all}, Shards.{AreOpen, sources_of}}
 use Rattle.batch_shards.specs.{Births.{first_birth, left_over, births_end, births_dropped}, declared.row_blocks.RowBlock.RowBlock}
-use Rattle.batch_shards.{specs.declared.shard.OpenRow.OpenRow, proofs.Closed.{all_left, all_right}}
+use Rattle.batch_shards.specs.declared.shard.OpenRow.{OpenRow}
 
 -- a block of the row, by whether it is kept, touched, and was had
 abbrev births_step : Bool → Bool → Bool → ℕ → List OpenBlock → List ℕ → List ℕ
@@ -58,16 +58,6 @@ module _ (f g : BlockView → ℕ) (n : ℕ) where
       (all_births now rows work (All-tail (λ (r : OpenRow). opens r.blocks.items ≡ now r.source.0) r work opened)
       (All-tail (λ (r : OpenRow). had_in r.blocks.items ≡ rows r.source.0) r work had)
       (all_right (λ b. g b ≡ n) (written_of r.blocks.items) (written_blocks work) new))
-
-  -- those with taken numbers
-  pub written_births : (bs : List BlockView) → ((b : BlockView) → is_in b.number (map (λ b. b.number) bs) ≡ true → g b ≡ n)
-      → All (λ b. g b ≡ n) bs
-  written_births [] each = All-nil (λ b. g b ≡ n)
-  written_births (b ∷ bs) each =
-      let numbers : List ℕ = map (λ (b : BlockView). b.number) bs in
-      All-cons (λ b. g b ≡ n) b bs
-      (each b (ap (λ t. t || is_in b.number numbers) (eq-eqb b.number b.number refl)))
-      (written_births bs (λ c is. each c (or_right (b.number == c.number) (is_in c.number numbers) is)))
 
 module _ (f : BlockView → ℕ) where
   one_dropped : (t : Bool) (o : Option (Arc Block Global)) (b : BlockView) (gone had : List BlockView) (row : List OpenBlock)

@@ -3,10 +3,13 @@ use Rattle.std.proofs.Common.{◌≡◌, ℕ, ◌+◌, ◌%◌, ◌^◌, ◌<◌
 use Rattle.std.proofs.{Common.{arith, All}, lemmas.List.{map-set, get_or-map, length-map, Elements.All-set}}
 use Rattle.std.specs.{List.{list_any, sum_by}, declared.option.Option.{Option, TheVariants.{None, Some}}}
 use Rattle.std.proofs.lemmas.{List.Sums.{sum_by_more, sum_by-set}, Grind.common_steps}
+use Rattle.graph_types.proofs.{OutcomeSteps.mod_more, Sums.count_there}
+use Rattle.graph_types.proofs.MappedFirst.{map_first_there, map_first, map_first_more}
 use Rattle.edge_block.specs.{Slots.{slots_since, has_before, old_in, holds}, Rows.{OpenBlock, touch, expire_block, expire_row}}
+use Rattle.edge_block.proofs.OldSlots.{holds_since}
 use Rattle.batch_shards.specs.{RowBlocks.{block_of, open_of, opens, IsOf}, Notes.IsNoted, Spending.{is_unspent, unspent}}
-use Rattle.batch_shards.{specs.declared.{notes.Notes.Notes, row_blocks.RowBlock.RowBlock}, proofs.Expiring.map_first}
-use Rattle.batch_shards.proofs.Expiring.{map_first_more, map_first_there, mod_more, count_there, expired_owes, holds_since}
+use Rattle.batch_shards.specs.declared.{notes.Notes.Notes, row_blocks.RowBlock.RowBlock}
+use Rattle.batch_shards.proofs.Expiring.{expired_owes}
 
 module _ (row : List RowBlock) (k : ℕ) (h : RowBlock) (lt : k < length row) (is : h ≡ get_or row k h) where
   pub open_there : get_or (opens row) k (open_of h) ≡ open_of h
@@ -24,7 +27,7 @@ module _ (row : List RowBlock) (k : ℕ) (h : RowBlock) (lt : k < length row) (i
     first_there = grind (arith, common_steps, map_first_there, open_there)
 
     within : k < length first
-    within = omega (arith, Rattle.batch_shards.proofs.Expiring.map_first_long (expire_block time) k first, ap length done, inside)
+    within = omega (arith, Rattle.graph_types.proofs.MappedFirst.map_first_long (expire_block time) k first, ap length done, inside)
 
     pub set_here : (y : RowBlock) → open_of y ≡ expire_block time (open_of h)
         → opens (set row k y) ≡ map_first (expire_block time) (k + 1) first

@@ -1,6 +1,6 @@
 -- What a shard leaves, from the rows that it has opened, changed and closed.
-use Rattle.std.proofs.Common.{◌≡◌, ℕ, zero, suc, ◌+◌, ◌<◌, false, List, [], ◌∷◌, ◌++◌, length, get_or, take, map, flat_map}
-use Rattle.std.proofs.{Common.{count_by, zip, refl, sym, ap, ap₂, ◌∙◌, arith, subst, All}, lemmas.{Bool.lt-ltb, List.get_or-map}}
+use Rattle.std.proofs.Common.{◌≡◌, ℕ, ◌+◌, false, List, ◌++◌, length, get_or, take, map, flat_map}
+use Rattle.std.proofs.{Common.{count_by, zip, sym, ap, ◌∙◌, arith, subst, All}, lemmas.{Bool.lt-ltb, List.get_or-map}}
 use Rattle.std.{proofs.lemmas.List.{length-map, take_all}, specs.declared.{sync.Arc.Arc, alloc.Global.Global}}
 use Rattle.std.proofs.lemmas.Grind.{common_steps}
 use Rattle.graph_types.specs.declared.batches.Outcome.{Outcome, TheVariants.Absent}
@@ -9,25 +9,17 @@ use Rattle.edge_block.specs.{declared.blocks.Block.Block, Slots.BlockView}
 use Rattle.batch_shards.specs.{RowBlocks.{block_of, shared_blocks, shared_numbers}, Closing.{written_here, dropped_here, closed_rows}}
 use Rattle.batch_shards.specs.{Closing.{row_values, stays_all, written_blocks, dropped_all, unused_all}, Groups.is_past}
 use Rattle.graph_types.specs.Outcomes.{told}
+use Rattle.graph_types.proofs.{OutcomeSteps.zipped, Sums.count_by-append}
+use Rattle.edge_block.proofs.ShardResults.{length-outcomes_all}
 use Rattle.batch_shards.specs.{Groups.outcome_over, Shards.{IsAct, AreSteps, resolved_at, resolved_in, sources_of, had_all}}
 use Rattle.batch_shards.specs.declared.shard.{Act.Act, Step.Step, Shard.Shard, ShardDone.ShardDone, OpenRow.OpenRow}
 use Rattle.batch_shards.specs.{Progress.{AreOutcomes, AreRowsDone}, Births.{births_end, births_dropped}, Done.IsShardDone}
 use Rattle.batch_shards.{specs.Done.{sum_of, layout_by, rows_by, sources_in}, proofs.Dating.{all_births, all_dropped}}
-use Rattle.batch_shards.proofs.{Dating.written_births, Places.count_by-append, ShardSteps.{first_step, length-outcomes_all}}
+use Rattle.batch_shards.proofs.ShardSteps.{first_step}
 use Rattle.batch_shards.proofs.{Balances.{all_before, all_after, all_numbers}, Closed.{length-written, length-dropped, sum_open}}
 use Rattle.batch_shards.proofs.Closed.{same_sources, pieces_closed, all_layout, HasEdges, all_blocks}
 use Rattle.graph_version.specs.Versions.{IsBlockOf, is_in}
-
--- a list of pairs by their parts
-zipped : (outs : List (ℕ × Outcome)) (rs : List Outcome) → length rs ≡ length outs
-    → ((k : ℕ) (o : ℕ × Outcome) → k < length outs → (get_or outs k o).1 ≡ get_or rs k Absent)
-    → outs ≡ zip (map (λ o. o.0) outs) rs
-zipped [] [] e h = refl
-zipped [] (r ∷ rs) e h = absurd (omega arith)
-zipped (o ∷ outs) [] e h = absurd (omega arith)
-zipped (o ∷ outs) (r ∷ rs) e h =
-    ap₂ (λ a b. a ∷ b) (ap (λ x. (o.0, x)) (h zero o (omega arith)))
-    (zipped outs rs (omega arith) (λ k p lt. h (suc k) p (omega arith)))
+use Rattle.graph_version.proofs.NumbersIn.{written_births}
 
 -- every operation is on one of the rows
 all_past : (rows : ℕ) (act : Act) → IsAct rows act → is_past rows act ≡ false

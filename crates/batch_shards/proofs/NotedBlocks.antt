@@ -1,37 +1,12 @@
 -- The notes of a block's targets, edge by edge as it lends them.
-use Rattle.std.proofs.Common.{◌≡◌, ℕ, ◌<◌, ◌==◌, Bool, true, false, List, [], inl, inr, arith, ◌||◌, not, ◌∷◌, ◌++◌, length}
-use Rattle.std.proofs.{Common.{get_or, set, map, refl, sym, ap, ◌∙◌}, lemmas.Bool.{false≢true, eqb-true, eqb-false, eq-eqb}}
-use Rattle.std.proofs.lemmas.{Bool.{or_cases, or_left, or_right, le-leb, and_from}, List.{get_or-map, get_or-set_same}}
-use Rattle.std.proofs.lemmas.List.{get_or-set_other, map-set, Elements.{All-head, All-tail}, Folds.list_any-append}
-use Rattle.std.{proofs.Math.ListN.length-set, specs.{Prelude.{filter, All, nat_lt, nat_le, ◌^◌, ◌-◌}, List.list_any}}
-use Rattle.std.specs.declared.{option.Option.{Option, TheVariants.{None, Some}}, vec.Vec.Vec, alloc.Global.Global}
+use Rattle.std.proofs.Common.{◌≡◌, ℕ, ◌<◌, ◌==◌, true, false, List, [], inl, inr, arith, ◌||◌, not, ◌∷◌, ◌++◌, length}
+use Rattle.std.proofs.{Common.{get_or, set, map, refl, sym, ap, ◌∙◌}, lemmas.Bool.{eqb-true, eqb-false, eq-eqb}}
+use Rattle.std.proofs.lemmas.{Bool.{or_cases, or_left, or_right}, List.{get_or-map, get_or-set_same}}
+use Rattle.std.proofs.lemmas.List.{get_or-set_other, map-set, Folds.list_any-append}
+use Rattle.std.{proofs.Math.ListN.length-set, specs.Prelude.nat_lt}
+use Rattle.std.specs.declared.{vec.Vec.Vec, alloc.Global.Global}
 use Rattle.std.proofs.lemmas.Grind.{common_steps}
-use Rattle.graph_types.specs.{View.in_view, declared.ids.Filter.Filter}
-use Rattle.edge_block.specs.Slots.{Slot, BlockView, holds, edges_in, entry_in, IsSlot}
-use Rattle.edge_block.{specs.Lending.LentEdge, specs.Lending.lent_of, proofs.SlotLaws.target_of_edge}
 use Rattle.batch_shards.specs.{Notes.{may_stand, list_of, places_in, stands, HasMore}, declared.notes.Notes.Notes}
-
--- whether one of these lent edges is one to the target
-abbrev pub lends : ℕ → List LentEdge → Bool
-lends t edges = list_any (λ l. l.target == t) edges
-
--- a view of every edge lends an edge to each of the targets
-pub lent_target : (b : BlockView) (slots : List (Option Slot)) (t : ℕ) → All IsSlot slots → list_any (holds t) slots ≡ true
-    → lends t (map lent_of (filter (in_view (record { kind = None; lo = 0; hi = 2 ^ 64 - 1 }))
-    (map (entry_in b) (edges_in slots)))) ≡ true
-lent_target b [] t all h = absurd (false≢true h)
-lent_target b (None ∷ slots) t all h = lent_target b slots t (All-tail IsSlot None slots all) h
-lent_target b (Some e ∷ slots) t all h =
-    let every : Filter = record { kind = None; lo = 0; hi = 2 ^ 64 - 1 } in
-    let here : IsSlot (Some e) = All-head IsSlot (Some e) slots all in
-    let rest : List LentEdge = map lent_of (filter (in_view every) (map (entry_in b) (edges_in slots))) in
-    let seen : in_view every (entry_in b e) ≡ true =
-    and_from (nat_le 0 e.stamp.recent) (nat_le e.stamp.recent (2 ^ 64 - 1)) (le-leb 0 e.stamp.recent (omega arith))
-    (le-leb e.stamp.recent (2 ^ 64 - 1) (omega (arith, here.2))) in
-    rw seen (elim (or_cases (holds t (Some e)) (list_any (holds t) slots) h) [
-      | inl is ↦ or_left (e.target == t) (lends t rest) (eq-eqb e.target t (sym (target_of_edge e t is)))
-      | inr later ↦ or_right (e.target == t) (lends t rest) (lent_target b slots t (All-tail IsSlot (Some e) slots all) later)
-    ])
 
 -- a place more in one of the lists
 module _ (n : Notes) (list place : ℕ) (v w : Vec ℕ Global) (places : Vec (Vec ℕ Global) Global)

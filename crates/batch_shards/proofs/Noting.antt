@@ -1,27 +1,16 @@
 -- Notes of a row: what an operation leaves of its targets, and the first of the noted places.
-use Rattle.std.proofs.Common.{◌≡◌, ◌⊎◌, ℕ, zero, suc, ◌<◌, ◌≤◌, Bool, true, false, cond, List, [], ◌∷◌, ◌++◌, length, get_or}
-use Rattle.std.proofs.{Common.{set, refl, ap, ◌∙◌, inl, inr, arith}, lemmas.Bool.{false≢true, false_from_ne_true, lt-ltb, le-ltb}}
-use Rattle.std.proofs.lemmas.{Bool.{eqb-true, eqb-false, or_cases, or_left, or_right}, List.{get_or-set_same, get_or-set_other}}
-use Rattle.std.proofs.{lemmas.List.{get_or_default, get_or_append_left, Sums.position_or_len_is}, Math.ListN.length-set}
-use Rattle.std.specs.{Prelude.replicate, List.{list_any, position, position_or_len}, Option.{IfSome, MatchOption}}
+use Rattle.std.proofs.Common.{◌≡◌, ◌⊎◌, ℕ, ◌<◌, ◌≤◌, Bool, true, List, [], ◌∷◌, ◌++◌, length, get_or}
+use Rattle.std.proofs.{Common.{set, ap, ◌∙◌, inl, inr, arith}, lemmas.Bool.false_from_ne_true}
+use Rattle.std.proofs.lemmas.{Bool.{eqb-true, eqb-false, or_cases}, List.{get_or-set_same, get_or-set_other}}
+use Rattle.std.proofs.{lemmas.List.{get_or_default, get_or_append_left}, Math.ListN.length-set}
+use Rattle.std.specs.{List.{list_any, position}, Option.{IfSome, MatchOption}}
 use Rattle.std.{specs.declared.option.Option.{Option, TheVariants.{None, Some}}, proofs.lemmas.Grind.common_steps}
 use Rattle.graph_types.specs.{Graph.Stamp, declared.changes.EdgeChange.EdgeChange}
-use Rattle.edge_block.{specs.{Slots.{Slot, holds, put_slot, take_slot, at_first}, Rows.new_block}, proofs.SlotLaws.target_of_edge}
+use Rattle.graph_types.proofs.Searches.{position_none, position_is}
+use Rattle.edge_block.{specs.{Slots.{Slot, holds, put_slot}, Rows.new_block}, proofs.SlotLaws.target_of_edge}
+use Rattle.edge_block.proofs.SlotTargets.{take_targets, put_targets, no_target}
 use Rattle.batch_shards.specs.{RowBlocks.{open_of, set_slot, IsTouched, IsChanged}, Notes.{has_target, stands, IsNoted, Gains}}
 use Rattle.batch_shards.specs.declared.{notes.Notes.Notes, row_blocks.RowBlock.RowBlock}
-
-pub position_is : {A : Type 0} (p : A → Bool) (xs : List A) (i : ℕ) (d : A) → i < length xs → p (get_or xs i d) ≡ true
-    → ((k : ℕ) → k < i → p (get_or xs k d) ≡ false) → position p xs ≡ Some i
-position_is p xs i d lt here before = grind (arith, common_steps, position_or_len_is, lt-ltb)
-
-pub position_none : {A : Type 0} (p : A → Bool) (xs : List A)
-    → ((i : ℕ) (d : A) → i < length xs → p (get_or xs i d) ≡ true → ⊥) → position p xs ≡ None
-position_none p [] none = refl
-position_none p (x ∷ xs) none =
-    let e : position_or_len p (x ∷ xs) ≡ length (x ∷ xs) =
-    position_or_len_is p (x ∷ xs) (length (x ∷ xs)) x (omega arith)
-    (λ k lt. false_from_ne_true (p (get_or (x ∷ xs) k x)) (none k x lt)) (λ lt. absurd (omega arith)) in
-    rw (e, le-ltb (length (x ∷ xs)) (length (x ∷ xs)) (omega arith)) refl
 
 -- of the places done, the first at which a block passes
 pub record IsFirstOf (p : RowBlock → Bool) (row : List RowBlock) (done : List ℕ) (first : Option ℕ) : Type 0 where
@@ -45,33 +34,6 @@ module _ (p : RowBlock → Bool) (row : List RowBlock) where
 
 -- What a change leaves of the targets of a block
 
-any_at_first : {A : Type 0} (q p : A → Bool) (f : A → A) (xs : List A) → list_any q (at_first p f xs) ≡ true
-    → (list_any q xs ≡ true) ⊎ ((x : A) × (q (f x) ≡ true))
-any_at_first q p f [] h = absurd (false≢true h)
-any_at_first {A} q p f (x ∷ xs) h =
-    elim (p x) as (λ b. list_any q (cond b (f x ∷ xs) (x ∷ at_first p f xs)) ≡ true
-    → (list_any q (x ∷ xs) ≡ true) ⊎ ((x : A) × (q (f x) ≡ true))) [
-      | true ↦ λ h. elim (or_cases (q (f x)) (list_any q xs) h) [
-        | inl here ↦ inr (x, here)
-        | inr rest ↦ inl (or_right (q x) (list_any q xs) rest)
-      ]
-      | false ↦ λ h. elim (or_cases (q x) (list_any q (at_first p f xs)) h) [
-        | inl here ↦ inl (or_left (q x) (list_any q xs) here)
-        | inr rest ↦ elim (any_at_first q p f xs rest) [
-          | inl there ↦ inl (or_right (q x) (list_any q xs) there)
-          | inr new ↦ inr new
-        ]
-      ]
-    ] h
-
-put_targets : (e : Slot) (slots : List (Option Slot)) (t : ℕ) → list_any (holds t) (put_slot e slots) ≡ true
-    → (list_any (holds t) slots ≡ true) ⊎ (t ≡ e.target)
-put_targets e slots t h = grind (arith, common_steps, any_at_first, target_of_edge)
-
-take_targets : (target : ℕ) (slots : List (Option Slot)) (t : ℕ) → list_any (holds t) (take_slot target slots) ≡ true
-    → list_any (holds t) slots ≡ true
-take_targets target slots t h = grind (arith, common_steps, any_at_first, false≢true)
-
 set_targets : (target : ℕ) (o : Option Stamp) (slots : List (Option Slot)) (t : ℕ) → list_any (holds target) slots ≡ true
     → list_any (holds t) (set_slot target o slots) ≡ true → list_any (holds t) slots ≡ true
 set_targets target None slots t has h = take_targets target slots t h
@@ -87,10 +49,6 @@ changed_targets change target h y t is has now = grind (arith, common_steps, set
 pub put_block_targets : (e : Slot) (h y : RowBlock) (t : ℕ) → IsTouched (put_slot e) h y → has_target t y ≡ true
     → (has_target t h ≡ true) ⊎ (t ≡ e.target)
 put_block_targets e h y t is now = grind (arith, common_steps, put_targets)
-
-no_target : (n t : ℕ) → list_any (holds t) (replicate n None) ≡ true → ⊥
-no_target zero t h = false≢true h
-no_target (suc n) t h = no_target n t h
 
 pub new_block_targets : (kind : ℕ) (e : Slot) (y : RowBlock) (t : ℕ) → open_of y ≡ new_block kind e → has_target t y ≡ true
     → t ≡ e.target

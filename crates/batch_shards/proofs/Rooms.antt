@@ -25,5 +25,5 @@ full_all kind row y none = record {
       ap (at_room kind) (get_or_append_left row (y ∷ []) d i below)
       ∙ false_from_ne_true (at_room kind (get_or row i d))
       (λ has. true≢false (sym (Rattle.edge_block.proofs.Firsts.list_any_at (at_room kind) row i d below has)
-      ∙ Rattle.batch_shards.proofs.Places.none_passes (at_room kind) row none));
+      ∙ Rattle.graph_types.proofs.Searches.none_passes (at_room kind) row none));
 }

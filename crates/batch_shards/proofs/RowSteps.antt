@@ -1,32 +1,19 @@
 -- One operation on a row of the program's blocks.
-use Rattle.std.proofs.Common.{◌≡◌, ℕ, ◌<◌, ◌==◌, Bool, true, false, cond, List, [], ◌∷◌, ◌++◌, length, get_or, set, count_by}
-use Rattle.std.proofs.{Common.{refl, sym, ap, ◌∙◌, arith, subst, All}, lemmas.List.{map-append, Elements.{All-head, All-tail}}}
-use Rattle.std.{proofs.lemmas.{List.Quantifiers.position-Some, Bool.{false≢true, and_parts}}, specs.List.{list_any, position}}
+use Rattle.std.proofs.Common.{◌≡◌, ℕ, ◌<◌, Bool, true, false, cond, List, [], ◌∷◌, ◌++◌, length, get_or, set, count_by}
+use Rattle.std.proofs.{Common.{refl, sym, ap, ◌∙◌, arith}, lemmas.List.map-append}
+use Rattle.std.{proofs.lemmas.{List.Quantifiers.position-Some, Bool.and_parts}, specs.List.{list_any, position}}
 use Rattle.std.specs.{Option.{is_some, option_or}, declared.{option.Option.{Option, TheVariants.{None, Some}}, sync.Arc.Arc}}
 use Rattle.std.{specs.declared.{alloc.Global.Global, vec.Vec.Vec}, proofs.lemmas.Grind.common_steps}
-use Rattle.graph_types.specs.{Graph.{Stamp, IsWeight, IsTime}, Step.{stamp_after, outcome_at}}
+use Rattle.graph_types.specs.{Graph.Stamp, Step.{stamp_after, outcome_at}}
 use Rattle.graph_types.specs.declared.changes.EdgeChange.{EdgeChange}
+use Rattle.graph_types.proofs.{Joined.flat_map-set, Searches.{list_any-map, one_passes, none_passes}, Sums.count_by-set}
 use Rattle.edge_block.{proofs.{Entries.list_any-holds, Firsts.first_some-by_any}, specs.Slots.{Slot, holds, stamp_at, put_slot}}
-use Rattle.edge_block.specs.{Slots.{has_room_for, IsSlot, first_some, at_first}, Rows.{OpenBlock, has_edge, has_room, open_at}}
+use Rattle.edge_block.specs.{Slots.{has_room_for, first_some, at_first}, Rows.{OpenBlock, has_edge, has_room, open_at}}
 use Rattle.edge_block.specs.Rows.{edge_at, touch, touches, put_edge, set_edge, new_block, change_row}
 use Rattle.edge_block.specs.declared.blocks.Block.{Block}
+use Rattle.edge_block.proofs.SlotTargets.{edge_kind, first_has, first_changed}
 use Rattle.batch_shards.specs.{RowBlocks.{block_of, open_of, opens, had_here, own_here, set_slot, IsChanged}, OpenRows.KeepsHere}
 use Rattle.batch_shards.specs.{OpenRows.KeepsIn, declared.row_blocks.RowBlock.RowBlock}
-use Rattle.batch_shards.proofs.Places.{list_any-map, none_passes, one_passes, first_changed, first_has, count_by-set, flat_map-set}
-
--- an edge in a slot has a weight and times in range
-pub stamped_at : (slots : List (Option Slot)) (target : ℕ) (s : Stamp) → All IsSlot slots → stamp_at slots target ≡ Some s
-    → IsWeight s.weight × IsTime s.first × IsTime s.recent
-stamped_at [] target s all h = cc
-stamped_at (None ∷ slots) target s all h = stamped_at slots target s (All-tail IsSlot None slots all) h
-stamped_at (Some e ∷ slots) target s all h =
-    let here : IsSlot (Some e) = All-head IsSlot (Some e) slots all in
-    elim (target == e.target) as (λ b. option_or (cond b (Some e.stamp) None) (stamp_at slots target) ≡ Some s
-    → IsWeight s.weight × IsTime s.first × IsTime s.recent) [
-      | true ↦ λ i. let same : e.stamp ≡ s = cc in subst (λ (t : Stamp). IsWeight t.weight × IsTime t.first × IsTime t.recent)
-          same here
-      | false ↦ λ i. stamped_at slots target s (All-tail IsSlot (Some e) slots all) i
-    ] h
 
 abbrev pub at_edge : ℕ → ℕ → RowBlock → Bool
 at_edge kind target h = has_edge (kind, target) (open_of h)
@@ -38,11 +25,6 @@ at_room kind h = has_room kind (open_of h).shape
 pub placed : (p : RowBlock → Bool) {read row : List RowBlock} {place : Option ℕ} → read ≡ row → place ≡ position p read
     → position p row ≡ place
 placed p same found = ap (position p) (sym same) ∙ sym found
-
--- a block with the edge is of the kind, and its slots have it
-edge_kind : (kind target : ℕ) (h : OpenBlock) → has_edge (kind, target) h ≡ true
-    → open_at h (kind, target) ≡ stamp_at h.shape.slots target
-edge_kind kind target h is = grind (arith, common_steps, false≢true)
 
 pub edge_target : (kind target : ℕ) (h : RowBlock) → at_edge kind target h ≡ true
     → list_any (holds target) (block_of h.block).slots ≡ true
@@ -135,13 +117,3 @@ keeps_set most row i y d fresh left lt is keeps = record {
       omega arith;
   few = keeps.few;
 }
-
--- an operation on an edge that is absent
-pub absent_puts : (change : EdgeChange) (place : ℕ × ℕ) (row : List OpenBlock) (s : Stamp) → Some s ≡ stamp_after change None
-    → cond (touches (outcome_at change None)) (set_edge place (stamp_after change None) row) row ≡ put_edge place.0
-    (record { target = place.1; stamp = s }) row
-absent_puts change place row s e = grind (arith, common_steps)
-
-pub absent_stays : (change : EdgeChange) (place : ℕ × ℕ) (row : List OpenBlock) → None ≡ stamp_after change None
-    → cond (touches (outcome_at change None)) (set_edge place (stamp_after change None) row) row ≡ row
-absent_stays change place row e = grind (arith, common_steps)

@@ -11,10 +11,12 @@ use Rattle.batch_shards.specs.{RowBlocks.{shared_blocks, shared_numbers, opens, 
 use Rattle.batch_shards.specs.{Closing.{after_of, written_of, dropped_of, unused_of, written_blocks}, Shards.{key_at, resolved_at}}
 use Rattle.batch_shards.specs.{Shards.{resolved_in, own_all}, Done.layout_by, Groups.{is_past, does_act, outcome_over}}
 use Rattle.graph_types.specs.Outcomes.{told}
+use Rattle.graph_types.proofs.{Joined.one_piece, OutcomeSteps.told_more, Sums.count_by-append}
+use Rattle.edge_block.proofs.ShardResults.{edge_stands}
 use Rattle.batch_shards.specs.{Groups.{IsTold, IsSourceRow, IsOneMore}, OpenRows.{IsRowOf, KeepsOthers}, Progress.AreOutcomes}
 use Rattle.batch_shards.specs.{Progress.AreRowsDone, declared.shard.{OpenRow.OpenRow, ShardDone.ShardDone, Step.Step, Act.Act}}
-use Rattle.batch_shards.{specs.declared.shard.Act.TheVariants.{Edge, Expire}, proofs.Places.{count_by-append, one_piece}}
-use Rattle.batch_shards.proofs.{ShardSteps.first_step, SourceSteps.{outcome_of, past_here}, Expiring.{edge_stands, told_more}}
+use Rattle.batch_shards.specs.declared.shard.Act.TheVariants.{Edge, Expire}
+use Rattle.batch_shards.proofs.{ShardSteps.first_step, SourceSteps.{outcome_of, past_here}}
 
 module _ (rows : ℕ → List BlockView) (sources : List ℕ) (steps : List Step) where
   -- the outcome of an operation with one more row

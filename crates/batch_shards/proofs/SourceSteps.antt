@@ -1,8 +1,8 @@
 -- The operations on one source's row, among those of a shard.
 use Rattle.std.proofs.Common.{◌≡◌, ℕ, zero, suc, ◌+◌, ◌-◌, ◌<◌, ◌≤◌, ◌==◌, Bool, true, false, cond, List, [], ◌∷◌, length, get_or}
-use Rattle.std.proofs.{Common.{set, ◌||◌, min, take, count_by, refl, sym, ap, ◌∙◌, arith, subst}, lemmas.Bool.false≢true}
+use Rattle.std.proofs.{Common.{◌||◌, min, take, count_by, refl, sym, ap, ◌∙◌, arith, subst}, lemmas.Bool.false≢true}
 use Rattle.std.proofs.lemmas.Bool.{or_right, eq-eqb, eqb-true, eqb-false, ne_eqb, ltb-true, ltb-false, le-ltb, or_from}
-use Rattle.std.proofs.lemmas.List.{get_or-set_same, get_or-set_other, Sums.{count_by_more_yes, count_by_more_no, sum_by-cons}}
+use Rattle.std.proofs.lemmas.List.Sums.{count_by_more_yes, count_by_more_no, sum_by-cons}
 use Rattle.std.{specs.{List.sum_by, Prelude.nat_lt, declared.option.Option.TheVariants.Some}, proofs.lemmas.Grind.common_steps}
 use Rattle.graph_types.specs.declared.{batches.Outcome.{Outcome, TheVariants.Expired}, changes.EdgeChange.EdgeChange}
 use Rattle.edge_block.specs.{Rows.{OpenBlock, old_in_row}, Batches.{key_step, rows_step, rows_all, outcome_in}}
@@ -10,9 +10,11 @@ use Rattle.graph_types.specs.Outcomes.{together}
 use Rattle.batch_shards.specs.{Shards.{IsAct, resolved_at, resolved_in}, Spending.takes, Groups.{is_on_row, is_past, does_act}}
 use Rattle.batch_shards.specs.Groups.{may_change, key_placed, IsNextStep, LeadsToStep, IsSourceRow, IsOneMore, IsTold, outcome_over}
 use Rattle.graph_types.specs.Outcomes.{told}
+use Rattle.graph_types.proofs.{Cases.{or_none, or_false}, Elements.apart, Numbers.further, OutcomeSteps.told_none}
+use Rattle.edge_block.proofs.OldSlots.{young_stays, young_before}
 use Rattle.batch_shards.specs.{Groups.{act_step, act_outcome}, declared.shard.Act.{Act, TheVariants.{Edge, Expire}}}
-use Rattle.batch_shards.{specs.declared.shard.{Place.Place, Step.Step}, proofs.ShardSteps.{further, apart, first_step}}
-use Rattle.batch_shards.proofs.{ShardSteps.all_rows_more, Expiring.told_none, Young.{young_before, young_stays}}
+use Rattle.batch_shards.{specs.declared.shard.{Place.Place, Step.Step}, proofs.ShardSteps.first_step}
+use Rattle.batch_shards.proofs.ShardSteps.{all_rows_more}
 
 -- the outcome of an operation is that of the rows which those before it leave
 pub outcome_of : (counted sources : List ℕ) (steps : List Step) (k : ℕ) (rows : ℕ → List OpenBlock) → k < length steps
@@ -23,12 +25,6 @@ outcome_of counted sources [] k rows lt = absurd (omega arith)
 outcome_of counted sources (s ∷ steps) zero rows lt = refl
 outcome_of counted sources (s ∷ steps) (suc k) rows lt =
     outcome_of counted sources steps k (rows_step (resolved_at sources s.act) rows) (omega arith)
-
-or_false : (b : Bool) → (b || false) ≡ true → b ≡ true
-or_false b e = grind (arith, common_steps)
-
-or_none : (b : Bool) → (b || false) ≡ false → b ≡ false
-or_none b e = grind (arith, common_steps)
 
 not_at : (row since : ℕ) (act : Act) → may_change row since act ≡ false → is_on_row row act ≡ false
 not_at row since act e = grind (arith, common_steps, or_none)
@@ -143,11 +139,6 @@ at_row steps row k lt acts = grind (arith, common_steps, first_step, count_by_mo
 -- what is so of each place before one and of each behind it is so of each other place
 pub beside : (P : ℕ → Type 0) (i k : ℕ) → (k < i → P k) → (i + 1 ≤ k → P k) → (k ≡ i → ⊥) → P k
 beside P i k before behind ne = grind (arith, common_steps, ltb-true, ltb-false, further)
-
--- what is so of a written outcome, and of each other one
-pub wrote : (outs : List (ℕ × Outcome)) (i k : ℕ) (w o : ℕ × Outcome) (P : ℕ → Outcome → Type 0) → i < length outs → P i w.1
-    → ((k ≡ i → ⊥) → P k (get_or outs k o).1) → P k (get_or (set outs i w) k o).1
-wrote outs i k w o P lt here there = grind (arith, common_steps, eqb-true, get_or-set_same, get_or-set_other, eqb-false)
 
 -- an operation on an edge of none of so many first rows and the next, but not on the next, is on none of the first
 pub past_here : (row : ℕ) (act : Act) → is_past (row + 1) act ≡ false → does_act row act ≡ false → is_past row act ≡ false

@@ -4,8 +4,9 @@ use Rattle.std.proofs.{Common.subst, Math.ListN.length-set, lemmas.Bool.{eqb-tru
 use Rattle.std.proofs.lemmas.List.{get_or-set_same, get_or-set_other, get_or_default}
 use Rattle.std.{specs.declared.option.Option.TheVariants.Some, proofs.lemmas.Grind.common_steps}
 use Rattle.batch_shards.specs.{Groups.{is_on_row, IsNextStep, AreStepGroups}, declared.shard.{Step.Step, Place.Place, Act.Act}}
-use Rattle.batch_shards.{specs.declared.shard.Act.TheVariants.Edge, proofs.ShardSteps.{first_step, further}}
+use Rattle.batch_shards.{specs.declared.shard.Act.TheVariants.Edge, proofs.ShardSteps.first_step}
 use Rattle.graph_types.specs.declared.changes.EdgeChange.{EdgeChange}
+use Rattle.graph_types.proofs.Numbers.{further}
 
 -- the next operation of a kind is here, or it is the next behind
 module _ (of : Act → Bool) (steps : List Step) (i : ℕ) (lt : i < length steps) where

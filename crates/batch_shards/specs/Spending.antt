@@ -1,7 +1,8 @@
 -- How many fresh blocks operations may need.
 use Rattle.std.specs.Prelude.{◌≡◌, ℕ, ◌+◌, ◌<◌, max, List, [], ◌∷◌, count_by, length, get_or, take, drop, Bool, not, ◌&&◌}
 use Rattle.std.specs.{declared.option.Option.{Option, TheVariants.{None, Some}}, List.sum_by}
-use Rattle.edge_block.specs.{Slots.{BlockView, has_before}, Rows.{OpenBlock, has_old}}
+use Rattle.edge_block.specs.{Slots.BlockView, Rows.{OpenBlock, has_old}}
+pub use Rattle.graph_version.specs.Ages.{old_blocks}
 use Rattle.batch_shards.specs.{Groups.{is_past, is_expiry, AreExpiries, AreStepGroups}, declared.groups.Groups.Groups}
 use Rattle.batch_shards.specs.declared.shard.{Act.{Act, TheVariants.{Edge, Expire}}, Step.Step}
 
@@ -35,10 +36,6 @@ pub record AreListed (rows : ℕ) (steps : List Step) (groups : Groups) : Type 0
 abbrev pub IsGrouped : ℕ → List Step → Option Groups → Type 0
 IsGrouped rows steps None = Unit {0}
 IsGrouped rows steps (Some groups) = AreListed rows steps groups
-
--- the blocks with an edge that was last touched before a time
-abbrev pub old_blocks : ℕ → List BlockView → ℕ
-old_blocks time row = count_by (λ b. has_before time b.slots) row
 
 -- operations on edges of rows that are not among so many first ones, and old blocks in these rows
 abbrev pub needed_past : ℕ → (ℕ → List BlockView) → List ℕ → List Step → ℕ

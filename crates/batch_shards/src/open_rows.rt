@@ -26,9 +26,9 @@ use crate::rows::{Hints, apply_step, expire_blocks, least_time};
 use crate::shard::{Act, Leavings, OpenRow, Place, Step};
 use edge_block::Block;
 use graph_types::{EdgeChange, KindId, Outcome, VertexId, put_together};
+use graph_version::Row;
 use std::alloc::{AllocError, Global};
 use std::sync::Arc;
-use version_pages::Row;
 
 /// Does one operation on its row, and answers its outcome.
 fn do_step(

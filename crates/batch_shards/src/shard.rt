@@ -16,10 +16,9 @@ use crate::row_blocks::RowBlock;
 use crate::rows::Hints;
 use edge_block::Block;
 use graph_types::{EdgeChange, KindId, Outcome, VertexId};
-use graph_version::Version;
+use graph_version::{Row, Version};
 use std::alloc::{AllocError, Global};
 use std::sync::Arc;
-use version_pages::Row;
 
 /// The row of a source while a batch goes on.
 #[derive(Drop)]
@@ -66,7 +65,7 @@ impl Step {
     }
 
     /// Whether it takes out old edges.
-    pub fn is_expiry(&self) -> bool
+    pub(crate) fn is_expiry(&self) -> bool
         ensures { result ≡ is_expiry self.now.act }
     {
         match self.act {
@@ -76,7 +75,7 @@ impl Step {
     }
 
     /// The time of an expiry, 0 of an operation on an edge.
-    pub fn expiry_time(&self) -> u64
+    pub(crate) fn expiry_time(&self) -> u64
         ensures { result ≡ act_time self.now.act }
     {
         match self.act {

@@ -6,8 +6,8 @@ use Rattle.std.proofs.{Math.{ListN.length-set}, lemmas.Grind.common_steps}
 use Rattle.block_pool.specs.{Pools.{marked, AreFree}, Kept.{IsNumbers, statuses, status_of, tally, Lists, popped}}
 use Rattle.block_pool.specs.declared.numbers.Numbers.{Numbers}
 use Rattle.block_reclamation.specs.{declared.status.BlockStatus.BlockStatus, Status.is_free}
-use Rattle.block_pool.proofs.Tallies.{count_at, listed_at, listed_count, lists_room, same_number, passes_at}
-use Rattle.edge_block.proofs.Counts.{count_more}
+use Rattle.graph_types.proofs.Sums.{twice}
+use Rattle.block_pool.proofs.Tallies.{listed_at, listed_count, lists_room, passes_at}
 
 -- the free numbers are as many as the list has, and each that the list has is one of the pool's
 pub free_listed : (n : Numbers) → IsNumbers n → n.free_len ≡ count_by is_free (statuses n)
@@ -56,20 +56,6 @@ popped_last room len (suc k) lt =
     let y : len - 1 - 1 - k ≡ len - 1 - suc k = omega arith in
     ap (popped room len) z ∙ ap (λ ns. get_or room (len - 1) 0 ∷ ns)
     (popped_last room (len - 1) k (omega arith) ∙ ap (λ j. popped room (len - 1) k ++ get_or room j 0 ∷ []) y)
-
-twice : (xs : List ℕ) (a b d : ℕ) → a < b → b < length xs → get_or xs a d ≡ get_or xs b d
-    → 2 ≤ count_by (λ x. x == get_or xs b d) xs
-twice (x ∷ xs) zero (suc b) d lt within e =
-    let m = count_more (λ y. y == get_or xs b d) x xs in
-    let one : (let k : ℕ = cond (x == get_or xs b d) 1 0 in k) ≡ 1 =
-    ap (λ y. cond (y == get_or xs b d) 1 0) e ∙ ap (λ b. cond b 1 0) (same_number (get_or xs b d)) in
-    let more = count_at (λ y. y == get_or xs b d) xs b d (omega arith) (same_number (get_or xs b d)) in
-    omega arith
-twice (x ∷ xs) (suc a) (suc b) d lt within e =
-    let m = count_more (λ y. y == get_or xs b d) x xs in
-    let more = twice xs a b d (omega arith) (omega arith) e in
-    omega arith
-twice _ a b d lt within e = absurd (omega arith)
 
 tally_later : (p : BlockStatus → Bool) (m i : ℕ) (pool : List BlockStatus) → m < i → tally p (λ n. n == m) i pool ≡ 0
 tally_later p m i [] lt = refl

@@ -1,8 +1,9 @@
 pub mod Tallies
 pub mod Grants
 pub mod Stacking
-pub mod Needs
 pub mod StatusReads
 pub mod Links
 pub mod Paging
 pub mod Rooms
+pub mod Marked
+pub mod OneNumber

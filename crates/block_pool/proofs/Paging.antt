@@ -4,6 +4,7 @@ use Rattle.std.proofs.lemmas.{Bool.cases_eq, Bool.cases_lt, List.{get_or-set_sam
 use Rattle.std.proofs.lemmas.List.FromFn.{length-map-range_with_len, get_or-map-range_with_len}
 use Rattle.std.proofs.Math.ListN.{length-set}
 use Rattle.std.specs.declared.{vec.Vec.Vec, alloc.Global.Global}
+use Rattle.graph_types.proofs.ListPlaces.{room_in}
 use Rattle.block_pool.specs.Paging.{Paged, HasRoom, by_place, item_in_pages, items_of, paged}
 
 pub length-by_place : {A : Type 0} (f : ℕ → A) (count : ℕ) → length (by_place f count) ≡ count
@@ -36,10 +37,6 @@ set_by_place f g count place x lt here else =
       | inr ne ↦ at_place g count k d within ∙ else k ne ∙ sym (at_place f count k d within)
           ∙ sym (get_or-set_other (by_place f count) place k x d ne)
     ])
-
--- what each page has room for
-pub room_in : {A : Type 0} (pages : List (List A)) (q : ℕ) → get_or (map length pages) q 0 ≡ length (get_or pages q [])
-room_in pages q = Rattle.std.proofs.Math.ListN.get_or-map length pages q []
 
 -- the pages with an element written
 abbrev pub written : {A : Type 0} → List (List A) → ℕ → A → List (List A)

@@ -1,9 +1,8 @@
 -- Memory for what may be written.
-use Rattle.std.proofs.Common.{◌≡◌, inl, inr, ℕ, zero, suc, ◌+◌, ◌-◌, ◌<◌, ◌≤◌, List, [], ◌∷◌, length, get_or, set, map, replicate}
+use Rattle.std.proofs.Common.{◌≡◌, inl, inr, ℕ, zero, suc, ◌+◌, ◌-◌, ◌<◌, ◌≤◌, List, [], ◌∷◌, length, get_or, set, replicate}
 use Rattle.std.proofs.Common.{true, false, refl, sym, ap, subst, ◌∙◌, arith}
 use Rattle.std.proofs.lemmas.{Bool.cases_eq, Bool.true≢false, List.{get_or-set_same, get_or-set_other, get_or-replicate}}
 use Rattle.std.proofs.{Math.ListN.length-set, lemmas.List.FromFn.{map-range_with_len_more}}
-use Rattle.std.specs.List.{range_with_len}
 use Rattle.block_reclamation.specs.declared.status.BlockStatus.{BlockStatus, TheVariants.{Free, Granted}}
 use Rattle.block_reclamation.specs.Status.{is_free}
 use Rattle.std.specs.{Prelude.{None, IfSome}, Arc.arc_value}
@@ -99,11 +98,6 @@ module _ (n : Numbers) (kept : IsNumbers n) (status : Paged BlockStatus) (retire
       last = more_free _ is.last;
     });
   }
-
--- at first no number is granted, and each place of the list has its own number
-pub all_blank : {A : Type 0} (x : A) (first count : ℕ) → map (λ _. x) (range_with_len first count) ≡ replicate count x
-all_blank x first zero = refl
-all_blank x first (suc count) = ap (λ xs. x ∷ xs) (all_blank x (first + 1) count)
 
 pub listed_first : (count : ℕ) → Lists is_free (replicate count Free) (by_place (λ k. k) count)
 listed_first zero = λ q. refl

@@ -9,11 +9,12 @@ use Rattle.std.proofs.lemmas.Grind.{common_steps}
 use Rattle.block_reclamation.specs.declared.{copies.{PinCopy.PinCopy, TheConstants.SEATS}, status.BlockStatus.BlockStatus}
 use Rattle.block_reclamation.specs.{declared.status.BlockStatus.TheVariants.{Free, Granted}, Status.{is_among, is_retired}}
 use Rattle.block_reclamation.specs.Status.{is_reclaimable}
+use Rattle.block_reclamation.proofs.Recycling.{past_retired}
+use Rattle.graph_types.proofs.{Numbers.same_number, Sums.{count_more, count_true}}
 use Rattle.block_pool.specs.{Chains.{Stacks, stack_of, below_top, AreAbsent}, declared.numbers.{Numbers.Numbers, TheConstants.{LOOSE, LATE}}}
 use Rattle.block_pool.specs.Kept.{IsNumbers, AreRoomy, statuses, status_of, tally, AreNeeded, HasPins, IsSorted, FitsWitness, top_of, put_on, taken_off, moved}
-use Rattle.block_pool.proofs.Tallies.{count_true, count_lt, same_number, tally_at, tally_has_one, tally_true}
-use Rattle.block_pool.proofs.{Tallies.tally_here, Tallies.past_retired, Tallies.none_retired, Grants.tally_once}
-use Rattle.edge_block.proofs.Counts.{count_more}
+use Rattle.block_pool.proofs.Tallies.{count_lt, tally_at, tally_has_one, tally_true}
+use Rattle.block_pool.proofs.{Tallies.{tally_here, none_retired}, Grants.tally_once}
 
 -- what is counted is in the list, and what is in it is counted
 counted_in : (n : ℕ) (ns : List ℕ) → 1 ≤ count_by (λ k. k == n) ns → is_among n ns ≡ true
@@ -297,6 +298,3 @@ restacked n k retired pins least bound rooms seats sorted = record {
   sorted = sorted;
   roomy = subst (λ r. AreRoomy (statuses n) n.free_len n.statuses.rooms r n.free.rooms) (sym rooms) k.roomy;
 }
-
-pub no_number : (ns : List ℕ) → length ns ≤ 0 → ns ≡ []
-no_number h0 le = grind (arith, common_steps)

@@ -1,21 +1,15 @@
 -- Lists of the numbers that have a status.
 use Rattle.std.proofs.Common.{◌≡◌, ℕ, zero, suc, ◌+◌, ◌-◌, ◌<◌, ◌≤◌, ◌==◌, List, [], ◌∷◌, ◌++◌, length, get_or, set, map}
 use Rattle.std.proofs.Common.{subst, replicate, count_by, take, Bool, true, false, cond, ◌&&◌, refl, sym, ap, ap₂, ◌∙◌, arith}
-use Rattle.std.proofs.lemmas.Bool.{false≢true, eqb-true, eqb-false, and_parts, true_from_ne_false}
+use Rattle.std.proofs.lemmas.Bool.{false≢true, eqb-true, and_parts}
 use Rattle.std.specs.Prelude.{slice_get}
 use Rattle.std.proofs.lemmas.Grind.{common_steps}
 use Rattle.block_reclamation.specs.declared.{copies.PinCopy.PinCopy, status.BlockStatus.{BlockStatus, TheVariants.Free}}
 use Rattle.block_reclamation.specs.{declared.status.BlockStatus.TheVariants.{Granted, Used}, Status.{is_free, is_in_use}}
 use Rattle.block_reclamation.specs.Status.{is_used, is_retired, is_reclaimable, recycled, is_at}
+use Rattle.block_reclamation.proofs.OneStatus.{used_not_free, used_not_retired, used_is}
+use Rattle.graph_types.proofs.{Numbers.same_number, Sums.{count_more, count_true, count_last, count_at}}
 use Rattle.block_pool.specs.Kept.{status_of, tally, Lists}
-use Rattle.edge_block.proofs.Counts.{count_more}
-
-pub count_last : {A : Type 0} (p : A → Bool) (xs : List A) (x : A) → count_by p (xs ++ x ∷ []) ≡ count_by p xs + cond (p x) 1 0
-count_last p xs x = grind (arith, common_steps)
-
-pub count_true : {A : Type 0} (xs : List A) → count_by (λ _. true) xs ≡ length xs
-count_true [] = refl
-count_true (x ∷ xs) = let m = count_more (λ _. true) x xs in let rest = count_true xs in omega arith
 
 pub tally_true : (p : BlockStatus → Bool) (i : ℕ) (pool : List BlockStatus) → tally p (λ _. true) i pool ≡ count_by p pool
 tally_true p i [] = refl
@@ -77,10 +71,6 @@ pub tally_here : (p : BlockStatus → Bool) (q : ℕ → Bool) (pool : List Bloc
     → tally p q 0 (set pool k s) + cond (p (status_of pool k) && q k) 1 0 ≡ tally p q 0 pool + cond (p s && q k) 1 0
 tally_here p q pool k s lt = let z : 0 + k ≡ k = omega arith in rw z at (tally_set p q 0 pool k s Granted lt)
 
-pub count_here : {A : Type 0} (p : A → Bool) (pool : List A) (k : ℕ) (s d : A) → k < length pool
-    → count_by p (set pool k s) + cond (p (get_or pool k d)) 1 0 ≡ count_by p pool + cond (p s) 1 0
-count_here p pool k s d lt = Rattle.std.proofs.lemmas.List.Sums.sum_by-set (λ s. cond (p s) 1 0) pool k s d lt
-
 pub count_kept : (p : BlockStatus → Bool) (pool : List BlockStatus) (k : ℕ) (s : BlockStatus) → k < length pool
     → p (status_of pool k) ≡ p s → count_by p (set pool k s) ≡ count_by p pool
 count_kept p pool k s lt same = grind (arith, common_steps)
@@ -102,13 +92,6 @@ module _ (p : BlockStatus → Bool) (pool : List BlockStatus) (ns : List ℕ) (a
 
   pub lists_room : (k : ℕ) → k < length pool → p (status_of pool k) ≡ false → length ns < length pool
   lists_room k lt out = let c = count_lt p pool k Granted lt out in let l = listed_count in omega arith
-
-pub count_at : {A : Type 0} (p : A → Bool) (xs : List A) (i : ℕ) (d : A) → i < length xs → p (get_or xs i d) ≡ true
-    → 1 ≤ count_by p xs
-count_at p xs i d lt e = grind (arith, common_steps)
-
-pub same_number : (a : ℕ) → (a == a) ≡ true
-same_number a = true_from_ne_false (a == a) (λ e. eqb-false a a e refl)
 
 -- a listed number is one of the pool's, and its status passes
 pub listed_at : (p : BlockStatus → Bool) (pool : List BlockStatus) (n : ℕ) (room : List ℕ) → Lists p pool (take n room) → n ≤ length room
@@ -140,12 +123,6 @@ pub tally_has_one : (p : BlockStatus → Bool) (k : ℕ) (pool : List BlockStatu
     → 1 ≤ tally p (λ n. n == k) 0 pool
 tally_has_one p k pool lt e = let z : 0 + k ≡ k = omega arith in rw z at (tally_has p k 0 pool lt e)
 
-pub retired_not_free : (s : BlockStatus) → is_retired s ≡ true → is_free s ≡ false
-retired_not_free h0 e = grind (arith, common_steps)
-
-pub past_retired : (copy : PinCopy) (s : BlockStatus) → is_retired s ≡ false → is_reclaimable copy s ≡ false
-past_retired copy h1 e = grind (arith, common_steps)
-
 -- recycling, one number at a time
 module _ (copy : PinCopy) where
   due_free : (s : BlockStatus) → is_reclaimable copy s ≡ true → recycled copy Free ≡ recycled copy s
@@ -171,9 +148,6 @@ module _ (copy : PinCopy) where
       let c = rest.1 in
       (ap₂ (λ x xs. x ∷ xs) (ap (λ b. cond b Free s) here) rest.0, omega arith)
 
-pub free_not_retired : (s : BlockStatus) → is_free s ≡ true → is_retired s ≡ false
-free_not_retired h0 e = grind (arith, common_steps)
-
 -- a number whose status passes is one of the pool's
 pub within_pool : (p : BlockStatus → Bool) (pool : List BlockStatus) (n : ℕ) → is_at p (slice_get pool n) ≡ true
     → (n < length pool) × (p (status_of pool n) ≡ true)
@@ -187,13 +161,6 @@ passes_at p [] n lt e = absurd (omega arith)
 passes_at p (s ∷ pool) zero lt e = e
 passes_at p (s ∷ pool) (suc n) lt e = passes_at p pool n (omega arith) e
 
--- a used status is neither free nor retired
-pub used_not_free : (s : BlockStatus) → is_in_use s ≡ true → is_free s ≡ false
-used_not_free h0 e = grind (arith, common_steps)
-
-pub used_not_retired : (s : BlockStatus) → is_in_use s ≡ true → is_retired s ≡ false
-used_not_retired h0 e = grind (arith, common_steps)
-
 pub record IsUsedAt (pool : List BlockStatus) (n : ℕ) : Type 0 where
   pub within : n < length pool
   pub not_free : is_free (status_of pool n) ≡ false
@@ -202,12 +169,9 @@ pub record IsUsedAt (pool : List BlockStatus) (n : ℕ) : Type 0 where
 pub used_at : (pool : List BlockStatus) (n : ℕ) → is_at is_in_use (slice_get pool n) ≡ true → IsUsedAt pool n
 used_at pool n e = grind (arith, common_steps, within_pool, used_not_free, used_not_retired)
 
-born_is : (s : BlockStatus) → is_used s ≡ true → (birth : ℕ) × (s ≡ Used birth)
-born_is h0 e = grind (arith, common_steps)
-
 pub born_at : (pool : List BlockStatus) (n : ℕ) → is_at is_used (slice_get pool n) ≡ true
     → (n < length pool) × ((birth : ℕ) × (status_of pool n ≡ Used birth))
-born_at pool n e = let at = within_pool is_used pool n e in (at.0, born_is (status_of pool n) at.1)
+born_at pool n e = let at = within_pool is_used pool n e in (at.0, used_is (status_of pool n) at.1)
 
 pub tally_last : (p : BlockStatus → Bool) (q : ℕ → Bool) (i : ℕ) (pool : List BlockStatus) (s : BlockStatus)
     → tally p q i (pool ++ s ∷ []) ≡ tally p q i pool + cond (p s && q (i + length pool)) 1 0

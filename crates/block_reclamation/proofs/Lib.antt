@@ -2,3 +2,8 @@ pub mod Least
 pub mod Seats
 pub mod Copied
 pub mod Reclaimed
+pub mod Recycling
+pub mod OneStatus
+pub mod StatusCounts
+pub mod SeatPins
+pub mod ListedNumbers

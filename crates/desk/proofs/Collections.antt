@@ -5,19 +5,16 @@ use Rattle.graph_version.specs.{Rows.blocks_of, Rows.numbers_of, Versions.Versio
 use Rattle.block_pool.{specs.Pools.marked, proofs.Grants.length-marked}
 use Rattle.block_reclamation.specs.declared.status.BlockStatus.{BlockStatus, TheVariants.Free, TheVariants.Used}
 use Rattle.block_reclamation.specs.{Status.{is_retired, recycled}, declared.copies.PinCopy.PinCopy}
+use Rattle.block_reclamation.proofs.StatusCounts.{length_free, none_retired}
+use Rattle.graph_types.proofs.Sums.{count_more}
 use Rattle.store_steps.{specs.Opening.IsVersionZero, specs.Opening.opened_desk, specs.Desks.DeskView}
 use Rattle.store_steps.proofs.{OpeningShown.opened_is_desk, CollectedDesk.{desk_collected, is_collected, collected_is_desk}}
 use Rattle.desk.specs.Kept.{IsKeptDesk}
-use Rattle.edge_block.proofs.Counts.{count_more}
 
 -- what is kept holds of equal values too
 pub kept_same : (d e : DeskView) (keeps others : Bool) (room more : ℕ) → IsKeptDesk d keeps room → e ≡ d → others ≡ keeps → room ≤ more
     → IsKeptDesk e others more
 kept_same d e keeps others room more kept same alike grows = grind (arith, common_steps)
-
--- no block is retired at an opening
-none_retired : (n : ℕ) → count_by is_retired (replicate n Free) ≡ 0
-none_retired n = grind (arith, common_steps)
 
 set_unretired : (xs : List BlockStatus) (n : ℕ) → count_by is_retired xs ≡ 0 → count_by is_retired (slice_set xs n (Used 0)) ≡ 0
 set_unretired [] n none = none
@@ -33,16 +30,13 @@ marked_unretired : (ns : List ℕ) (xs : List BlockStatus) → count_by is_retir
 marked_unretired [] xs none = none
 marked_unretired (n ∷ ns) xs none = marked_unretired ns (slice_set xs n (Used 0)) (set_unretired xs n none)
 
-long_replicate : (n : ℕ) → length (replicate n Free) ≡ n
-long_replicate n = grind (arith, common_steps)
-
 -- an opened desk
 pub opened_kept : (blocks : ℕ) (v : VersionView) → IsVersionZero blocks v → 16 ≤ blocks → IsKeptDesk (opened_desk blocks v) (keeps_batches v.opening.limits) 0
 opened_kept blocks v zero_is some = record {
   desk = opened_is_desk blocks v zero_is;
   blocks_some =
       let long : length (marked (numbers_of (blocks_of v.rows)) (Used 0) (replicate blocks Free)) ≡ blocks =
-      length-marked (numbers_of (blocks_of v.rows)) (Used 0) (replicate blocks Free) ∙ long_replicate blocks in
+      length-marked (numbers_of (blocks_of v.rows)) (Used 0) (replicate blocks Free) ∙ length_free blocks in
       omega arith;
   keeps_are = refl;
   room_is = let none = marked_unretired (numbers_of (blocks_of v.rows)) (replicate blocks Free) (none_retired blocks) in omega

@@ -1,27 +1,28 @@
 -- A batch handed over: what the desk's call does with what was made of it.
-use Rattle.std.proofs.Common.{◌≡◌, ℕ, ◌+◌, ◌≤◌, Bool, true, false, List, [], ◌∷◌, ◌++◌, length, refl, sym, ap, subst, ◌∙◌, arith}
+use Rattle.std.proofs.Common.{◌≡◌, ℕ, ◌+◌, ◌≤◌, Bool, true, List, [], ◌∷◌, ◌++◌, length, sym, ap, subst, ◌∙◌, arith}
 use Rattle.std.proofs.{Common.{count_by, vec_len}, lemmas.{Grind.common_steps, List.length-map}}
-use Rattle.std.specs.{declared.{sync.Arc.Arc, alloc.Global.Global}, Prelude.All, List.sum_by, Arc.arc_value}
+use Rattle.std.specs.{List.sum_by, Arc.arc_value}
 use Rattle.graph_types.specs.{Graph.Graph, declared.batches.NamedOp.NamedOp}
-use Rattle.edge_block.specs.declared.blocks.Block.{Block}
 use Rattle.batch_shards.specs.RowBlocks.{block_of, shared_blocks, shared_numbers}
 use Rattle.graph_version.specs.{declared.versions.Version.Version, Versions.VersionView, Versions.content, Logs.keeps_batches}
 use Rattle.block_reclamation.specs.{Status.{is_among, is_free, is_retired, is_in_use}, declared.status.BlockStatus.BlockStatus}
 use Rattle.block_reclamation.specs.declared.status.BlockStatus.TheVariants.{Free, Granted, Used}
 use Rattle.block_pool.specs.Pools.{retired, marked, changed_numbers, AreFree}
-use Rattle.store_steps.{specs.{Journal.Entry, Desks.{DeskView, IsDesk, FollowsLayout}, Steps.Accepts}, proofs.BatchLaws.accepted_steps}
-use Rattle.store_steps.proofs.Applications.{Application, next_desk, born_pool, retired_pool, moves_left}
-use Rattle.store_steps.proofs.{Accepting.{made_accepted, made_desk}, RetiredCounts.retired_room, GrantedBlocks.taken_granted}
-use Rattle.store_steps.proofs.GrantedBlocks.{taken_movable, dropped_movable, unused_movable, granted_movable, given_back}
-use Rattle.store_steps.proofs.{GrantedBlocks.{born_movable, born_given_back}, ChangedLists.length-changed}
-use Rattle.block_pool.proofs.Grants.{length-marked}
+use Rattle.store_steps.specs.{Journal.Entry, Desks.{DeskView, IsDesk}, Acceptances.{Accepts, IsAppliedTo}}
+use Rattle.store_steps.proofs.{BatchLaws.made_accepts, Accepting.made_desk, RetiredCounts.retired_room}
+use Rattle.store_steps.proofs.Applications.{DeskApplication, next_desk, born_pool, retired_pool, moves_left}
+use Rattle.store_steps.proofs.GrantedBlocks.{taken_granted}
+use Rattle.store_steps.proofs.GrantedBlocks.{taken_movable, dropped_movable, unused_movable, granted_movable}
+use Rattle.store_steps.proofs.GrantedBlocks.{born_movable, born_given_back}
 use Rattle.batch_apply.{specs.declared.plans.Plan.Plan, proofs.Asked.needs_within}
 use Rattle.graph_types.specs.declared.refusals.ApplyError.{ApplyError}
 use Rattle.desk.specs.declared.entries.JournalEntry.{JournalEntry}
-use Rattle.desk.specs.{declared.applying.Prepared.Prepared, Kept.{IsKeptDesk, desk_of, journal_entry}, Applying.IsPrepared}
-use Rattle.desk.specs.{Applying.{AreUsedOnce, AreBornOnce}, Refusals.{Refuses, RefusesGrant, IsPlanned, IsWithin, asked}}
+use Rattle.desk.specs.{declared.applying.Prepared.Prepared, Kept.{IsKeptDesk, desk_of, journal_entry}}
+use Rattle.desk.specs.{Applying.{AreUsedOnce, AreBornOnce, IsPrepared, application_of}, Refusals.{Refuses, RefusesGrant, IsPlanned, IsWithin, asked}}
 use Rattle.desk.{specs.Refusals.block_count, proofs.UsedBlocks.used_blocks}
 use Rattle.graph_version.specs.Rows as rows
+use Rattle.batch_shards.proofs.SharedNumbers.{numbers_mapped}
+use Rattle.store_steps.proofs.Handover.{next_long}
 use Rattle.desk.specs.declared.entries.JournalEntry.TheVariants as entries
 
 pub record Handing : Type 0 where
@@ -37,34 +38,16 @@ pub record Handing : Type 0 where
   pub is_prepared : IsPrepared old.last ops handed prepared
   pub granted : pool ≡ marked numbers Granted old.pool
 
-numbers_mapped : (bs : List (Arc Block Global)) → rows.numbers_of (shared_blocks bs) ≡ shared_numbers bs
-numbers_mapped [] = refl
-numbers_mapped (b ∷ bs) = ap (λ ns. (block_of b).number ∷ ns) (numbers_mapped bs)
-
 abbrev pub version_of : Handing → VersionView
 version_of h = arc_value {X = Version} h.prepared.version
 
-abbrev pub application : Handing → Application
+abbrev pub application : Handing → DeskApplication
 application h = record {
   old = h.old;
-  ops = h.ops;
-  numbers = h.numbers;
-  version = version_of h;
-  taken = h.prepared.taken;
-  dropped = shared_blocks h.prepared.dropped.items;
-  unused = shared_numbers h.prepared.unused.items;
+  made = application_of h.ops h.numbers h.prepared;
   before = h.before;
-  applied = record {
-    free = h.free;
-    version_is = h.is_prepared.version_is;
-    opening = h.is_prepared.opening;
-    batches = h.is_prepared.batches;
-    exchanged = h.is_prepared.exchanged;
-    handed = λ q. h.is_prepared.handed q ∙ ap (count_by q) h.same;
-    layout = subst (FollowsLayout h.old.last h.ops (version_of h) (length h.prepared.taken))
-        (sym (length-map h.prepared.dropped.items block_of)) h.is_prepared.layout;
-    births = h.is_prepared.births;
-  };
+  free = h.free;
+  applied = subst (λ ns. IsAppliedTo h.old.last (application_of h.ops ns h.prepared)) h.same h.is_prepared.applied;
 }
 
 -- The grant is within what is asked for, since the used blocks are the last version's
@@ -76,21 +59,12 @@ grant_within d v workers ops plan desk last admitted =
     subst (λ n. sum_by (λ n. n) plan.needs.items ≤ asked ops n) used
     (needs_within workers ops (content v) v.rows plan admitted.planned)
 
--- as many blocks were granted as numbers
-pub granted_many : (blocks : List (Arc Block Global)) (numbers : List ℕ) (n : ℕ) → shared_numbers blocks ≡ numbers
-    → length numbers ≡ n → n ≤ length blocks
-granted_many blocks numbers n same many = grind (arith, common_steps)
-
 -- The grant is given back
 
 pub back_used : (pool new : List BlockStatus) (numbers : List ℕ) → AreFree pool numbers → new ≡ marked numbers Granted pool
     → AreUsedOnce numbers new
 back_used pool new numbers free is =
     let m = granted_movable pool numbers free in subst (AreUsedOnce numbers) (sym is) (record { pass = m.pass; apart = m.apart })
-
-pub back_same : (pool new end : List BlockStatus) (numbers : List ℕ) → AreFree pool numbers → new ≡ marked numbers Granted pool
-    → end ≡ marked numbers Free new → end ≡ pool
-back_same pool new end numbers free is after = after ∙ ap (marked numbers Free) is ∙ given_back pool numbers free
 
 -- and so it is where some of the granted numbers were born meanwhile
 
@@ -109,12 +83,6 @@ pub born_same : (h : Handing) (number : ℕ) (new end : List BlockStatus) → ne
 born_same h number new end is after =
     after ∙ ap (marked h.numbers Free) (is ∙ ap (marked h.prepared.taken (Used number)) h.granted)
     ∙ born_given_back h.old.pool h.numbers h.prepared.taken number h.free (taken_within h)
-
--- The granted blocks are none of the last version's
-
-pub unlisted : (d : DeskView) (numbers handed : List ℕ) (v : VersionView) → IsDesk d → AreFree d.pool numbers → handed ≡ numbers
-    → v ≡ d.last → All (λ n. is_among n (rows.numbers_of (rows.blocks_of v.rows)) ≡ false) handed
-unlisted d numbers handed v desk free same at k e h = grind (arith, common_steps)
 
 -- The blocks' moves
 
@@ -161,13 +129,6 @@ end_pool h number born end is made moved =
 
 -- The desk afterwards
 
--- it has as many blocks
-next_long : (a : Application) → length (next_desk a).pool ≡ length a.old.pool
-next_long a =
-    length-changed (retired (length a.old.last.batches + 1)) (rows.numbers_of a.dropped)
-    (marked a.taken (Used (length a.old.last.batches + 1)) a.old.pool)
-    ∙ length-marked a.taken (Used (length a.old.last.batches + 1)) a.old.pool
-
 abbrev pub entry_in : Handing → JournalEntry
 entry_in h = entries.Applied h.prepared.batch h.prepared.taken h.prepared.dropped_numbers
 
@@ -179,15 +140,7 @@ end_desk h opened last entries old_entries pool same_opened before same_last sam
     grind (arith, common_steps, dropped_is)
 
 pub end_accepts : (h : Handing) (new : DeskView) → new ≡ next_desk (application h) → Accepts h.old h.ops new
-end_accepts h new is =
-    let a : Application = application h in
-    let dropped : List ℕ = rows.numbers_of a.dropped in
-    subst (Accepts h.old h.ops) (sym is) (record {
-      taken = a.taken;
-      dropped = dropped;
-      accepted = made_accepted a;
-      steps = accepted_steps h.old (next_desk a) h.ops a.taken dropped h.before (made_desk a) (made_accepted a);
-    })
+end_accepts h new is = subst (Accepts h.old h.ops) (sym is) (made_accepts (application h))
 
 pub end_room : (h : Handing) (end : List BlockStatus) → end ≡ (next_desk (application h)).pool
     → count_by is_retired end ≤ count_by is_retired h.pool + length h.prepared.dropped.items
@@ -214,7 +167,7 @@ end_kept h new keeps room is some kept fits = record {
       let same = ap (λ (d : DeskView). length d.pool) is in
       let as_many = next_long (application h) in
       omega arith;
-  keeps_are = kept ∙ ap (λ (g : Graph). keeps_batches g.limits) (sym h.is_prepared.opening)
+  keeps_are = kept ∙ ap (λ (g : Graph). keeps_batches g.limits) (sym h.is_prepared.applied.opening)
       ∙ ap (λ (d : DeskView). keeps_batches d.last.opening.limits) (sym is);
   room_is = fits;
 }

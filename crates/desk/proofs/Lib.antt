@@ -1,6 +1,7 @@
 pub mod Collections
 pub mod Filling
 pub mod Handing
+pub mod Made
 pub mod Moving
 pub mod OwnedLaws
 pub mod UsedBlocks

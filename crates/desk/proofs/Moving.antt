@@ -1,23 +1,17 @@
 -- The last of some blocks is moved, and then the rest.
 use Rattle.std.proofs.Common.{◌≡◌, ℕ, ◌≤◌, Bool, true, List, [], ◌∷◌, ◌++◌, get_or, set, sym, ap, subst, ◌∙◌, arith}
-use Rattle.std.{proofs.lemmas.Grind.common_steps, proofs.lemmas.List.map-append, specs.declared.sync.Arc.Arc}
-use Rattle.std.specs.{Prelude.slice_get, Prelude.if◌then◌else◌, Option.option_map, declared.alloc.Global.Global}
-use Rattle.edge_block.specs.declared.blocks.Block.{Block}
-use Rattle.batch_shards.specs.RowBlocks.{block_of, shared_numbers}
-use Rattle.block_reclamation.specs.Status.{is_among, is_in_use, is_used, is_at}
+use Rattle.std.proofs.lemmas.Grind.{common_steps}
+use Rattle.std.specs.Prelude.{slice_get}
+use Rattle.block_reclamation.specs.Status.{is_in_use, is_used, is_at}
 use Rattle.block_reclamation.specs.declared.status.BlockStatus.{BlockStatus, TheVariants.Granted}
+use Rattle.block_reclamation.proofs.ListedNumbers.{all_by}
+use Rattle.graph_types.proofs.Times.{turned_times}
 use Rattle.block_pool.specs.Pools.{marked, changed_numbers, retired, is_in_use_at, is_used_at}
-use Rattle.epoch_core.{specs.Blocks.all_differ, proofs.Lists.all_listed}
-use Rattle.store_steps.proofs.{NumberLists.all_by, ChangedLists.{marked_at, changed_at, same_list}, Counting.times}
-use Rattle.store_steps.proofs.{Counting.{is_some_times, in_times, once_at_most, apart_if}, BlockMoves.{AreMovable, moving}}
+use Rattle.epoch_core.proofs.Lists.{all_listed}
+use Rattle.epoch_core.proofs.BlockSteps.{AreMovable}
+use Rattle.store_steps.proofs.{Counting.{once_at_most, apart_if}, BlockMoves.moving}
+use Rattle.store_steps.proofs.Handover.{turned_in, turned_marks, turned_changes}
 use Rattle.desk.specs.Applying.{AreOnce, AreUsedOnce, AreBornOnce}
-
--- a list with its last number first has each number as often
-turned_times : (m n : ℕ) (ns : List ℕ) → times m (ns ++ n ∷ []) ≡ times m (n ∷ ns)
-turned_times m n ns = grind (arith, common_steps)
-
-turned_in : (m n : ℕ) (ns : List ℕ) → is_among m (ns ++ n ∷ []) ≡ is_among m (n ∷ ns)
-turned_in m n ns = in_times m (ns ++ n ∷ []) ∙ ap is_some_times (turned_times m n ns) ∙ sym (in_times m (n ∷ ns))
 
 turned : (test : BlockStatus → Bool) (n : ℕ) (ns : List ℕ) (pool : List BlockStatus) → AreOnce test (ns ++ n ∷ []) pool
     → AreMovable test (n ∷ ns) pool
@@ -27,19 +21,6 @@ turned test n ns pool once = record {
   apart = apart_if (n ∷ ns)
       (λ m. subst (λ k. k ≤ 1) (turned_times m n ns) (once_at_most m (ns ++ n ∷ []) once.apart));
 }
-
-turned_marks : (n : ℕ) (ns : List ℕ) (s : BlockStatus) (pool : List BlockStatus) → marked ns s (set pool n s) ≡ marked (ns ++ n ∷ []) s pool
-turned_marks n ns s pool = same_list _ _ (λ m.
-    marked_at (n ∷ ns) s pool m
-    ∙ ap (λ t. if t then option_map (λ _. s) (slice_get pool m) else slice_get pool m) (sym (turned_in m n ns))
-    ∙ sym (marked_at (ns ++ n ∷ []) s pool m))
-
-turned_changes : (f : BlockStatus → BlockStatus) (n : ℕ) (ns : List ℕ) (pool : List BlockStatus) → all_differ (ns ++ n ∷ []) ≡ true
-    → all_differ (n ∷ ns) ≡ true → changed_numbers f (n ∷ ns) pool ≡ changed_numbers f (ns ++ n ∷ []) pool
-turned_changes f n ns pool apart first = same_list _ _ (λ m.
-    changed_at f (n ∷ ns) pool m first
-    ∙ ap (λ t. if t then option_map f (slice_get pool m) else slice_get pool m) (sym (turned_in m n ns))
-    ∙ sym (changed_at f (ns ++ n ∷ []) pool m apart))
 
 -- what stays to be moved, and what the pool will be
 pub record IsMoving (numbers : List ℕ) (s : BlockStatus) (pool end : List BlockStatus) : Type 0 where
@@ -79,8 +60,3 @@ rest_retiring old ns n number pool next end is moved m =
       ends = ap (changed_numbers (retired number) ns) moved ∙ turned_changes (retired number) n ns pool once.apart first.apart
           ∙ ap (λ xs. changed_numbers (retired number) xs pool) (sym is) ∙ m.ends;
     }
-
--- the numbers of blocks whose last one is taken off
-pub last_number : (old bs : List (Arc Block Global)) (b : Arc Block Global) → old ≡ bs ++ b ∷ []
-    → shared_numbers old ≡ shared_numbers bs ++ (block_of b).number ∷ []
-last_number old bs b is = ap shared_numbers is ∙ map-append (λ (x : Arc Block Global). (block_of x).number) bs (b ∷ [])

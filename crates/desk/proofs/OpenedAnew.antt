@@ -1,27 +1,21 @@
 -- A desk that opens anew over its last version.
-use Rattle.std.proofs.Common.{◌≡◌, ℕ, zero, suc, ◌<◌, ◌≤◌, ◌==◌, Bool, true, false, List, [], ◌∷◌, All, replicate, length, map, refl, sym, ap}
-use Rattle.std.proofs.{Common.{◌∙◌, subst, arith}, lemmas.{Bool.{eq-eqb, or_right, true≢false}, Option.slice_get-map}}
-use Rattle.std.proofs.lemmas.{Grind.common_steps, List.Elements.{All-cons, All-nil}}
-use Rattle.std.specs.{Prelude.{slice_get, nat_lt, if◌then◌else◌}, List.list_any, Option.option_map}
+use Rattle.std.proofs.Common.{◌≡◌, ℕ, ◌≤◌, Bool, true, false, List, replicate, length, map, refl, sym, ap}
+use Rattle.std.proofs.{Common.◌∙◌, lemmas.{Bool.true≢false, Option.slice_get-map}}
+use Rattle.std.specs.{Prelude.{slice_get, if◌then◌else◌}, Option.option_map}
 use Rattle.edge_block.specs.Slots.{BlockView}
 use Rattle.std.specs.declared.option.Option.{Option, TheVariants.{None, Some}}
-use Rattle.graph_version.specs.{Rows.{blocks_of, numbers_of}, Versions.{VersionView, IsVersion}, Rebased.IsRebased}
+use Rattle.graph_version.specs.{Rows.{blocks_of, numbers_of}, Versions.VersionView, Rebased.IsRebased}
 use Rattle.block_reclamation.specs.{declared.status.BlockStatus.BlockStatus, Copies.{needs, is_between, is_pin_before}}
 use Rattle.block_reclamation.specs.declared.status.BlockStatus.TheVariants.{Free, Granted, Used, Retired}
 use Rattle.block_reclamation.specs.Status.{is_at, is_in_use, is_among, is_used, recycled}
-use Rattle.block_pool.specs.Pools.{is_used_at, marked}
-use Rattle.store_steps.specs.{Dates.IsDatedBlock, Desks.{DeskView, IsDesk, last_numbers}, Opening.{IsVersionZero, opened_desk}}
-use Rattle.store_steps.proofs.{ChangedLists.{marked_at, same_list}, Dated.desk_dated, NumberLists.{all_by, differ_from}}
+use Rattle.block_reclamation.proofs.{ListedNumbers.all_by, OneStatus.{pool_like, in_use}}
+use Rattle.graph_types.proofs.{ListPlaces.same_list, Numbers.not_past, Searches.any_none}
+use Rattle.block_pool.specs.Pools.{marked}
+use Rattle.store_steps.specs.{Dates.IsDatedBlock, Desks.{DeskView, IsDesk, last_numbers}, Opening.opened_desk}
+use Rattle.store_steps.proofs.{ChangedLists.marked_at, Dated.desk_dated, NumberLists.differ_from}
 use Rattle.desk.specs.{Applying.AreUsedOnce, Openings.without_pins}
 
 -- No pin
-
-any_none : (p : Option ℕ → Bool) → p None ≡ false → (n : ℕ) → list_any p (replicate n None) ≡ false
-any_none p none zero = refl
-any_none p none (suc n) = rw (none, any_none p none n) refl
-
-not_past : (m n : ℕ) → n ≤ m → nat_lt m n ≡ false
-not_past m n le = grind (arith, common_steps)
 
 -- without a pin no block is needed that was retired by the last version
 unneeded : (last birth retirement : ℕ) → retirement ≤ last → needs (without_pins last) birth retirement ≡ false
@@ -29,11 +23,6 @@ unneeded last birth retirement le =
     rw (not_past last retirement le, any_none (is_between birth retirement) refl 16, any_none (is_pin_before retirement) refl 16) refl
 
 -- Each number
-
-pool_like : (pool : List BlockStatus) (m : ℕ) → slice_get (replicate (length pool) Free) m ≡ option_map (λ _. Free) (slice_get pool m)
-pool_like [] m = refl
-pool_like (s ∷ pool) zero = refl
-pool_like (s ∷ pool) (suc m) = pool_like pool m
 
 one_reset : (last : ℕ) (opened t : Bool) (o : Option BlockStatus) → IsDatedBlock opened last o → is_at is_used o ≡ t
     → option_map (recycled (without_pins last)) (if t then option_map (λ _. Used 0) o else o)
@@ -61,41 +50,11 @@ reset_pool d desk = same_list _ _ (λ m.
 
 -- Their numbers
 
-used_below : (pool : List BlockStatus) (n : ℕ) → is_used_at pool n ≡ true → n < length pool
-used_below [] n is = cc
-used_below (s ∷ pool) zero is = omega arith
-used_below (s ∷ pool) (suc n) is = let rest = used_below pool n is in omega arith
-
-all_below : (pool : List BlockStatus) (ns : List ℕ) → ((m : ℕ) → is_among m ns ≡ true → is_used_at pool m ≡ true)
-    → All (λ n. n < length pool) ns
-all_below pool [] each = All-nil (λ n. n < length pool)
-all_below pool (n ∷ ns) each =
-    let here : (n == n) ≡ true = eq-eqb n n refl in
-    All-cons (λ k. k < length pool) n ns (used_below pool n (each n (rw here refl)))
-    (all_below pool ns (λ m is. each m (or_right (n == m) (is_among m ns) is)))
-
-in_use : (o : Option BlockStatus) → is_at is_used o ≡ true → is_at is_in_use o ≡ true
-in_use None is = cc
-in_use (Some Free) is = cc
-in_use (Some Granted) is = refl
-in_use (Some (Used birth)) is = refl
-in_use (Some (Retired birth retirement)) is = cc
-
 pub last_used : (d : DeskView) → IsDesk d → AreUsedOnce (last_numbers d) d.pool
 last_used d desk = record {
   pass = all_by (λ n. is_at is_in_use (slice_get d.pool n)) (last_numbers d)
       (λ m is. in_use (slice_get d.pool m) (desk.listed m ∙ is));
   apart = differ_from (last_numbers d) desk.version.rows.numbers;
-}
-
--- a version over the very rows is one to open with
-pub zero_over : (d : DeskView) (z : VersionView) → IsDesk d → IsVersion z → IsRebased d.last z → z.rows ≡ d.last.rows
-    → IsVersionZero (length d.pool) z
-zero_over d z desk is rebased very = record {
-  version = is;
-  alone = rebased.batches;
-  within = subst (λ (rows : List (List BlockView)). All (λ n. n < length d.pool) (numbers_of (blocks_of rows))) (sym very)
-      (all_below d.pool (last_numbers d) (λ m listed. desk.listed m ∙ listed));
 }
 
 -- and so its pool is the one of the opening

@@ -1,10 +1,12 @@
 -- A desk's owner: what is held stays counted, each number at one seat.
-use Rattle.std.proofs.Common.{◌≡◌, ℕ, zero, suc, ◌<◌, ◌≤◌, ◌==◌, true, false, List, [], ◌∷◌, length, replicate, inl, inr, refl, sym, ap, subst, ◌∙◌, arith}
+use Rattle.std.proofs.Common.{◌≡◌, ℕ, zero, ◌<◌, ◌≤◌, true, false, List, length, replicate, ◌==◌, inl, inr, refl, sym, ap, subst}
+use Rattle.std.proofs.Common.{◌∙◌, arith}
 use Rattle.std.proofs.lemmas.{Bool.{eq-eqb, eqb-true, true≢false}, Grind.common_steps}
 use Rattle.std.proofs.lemmas.List.{get_or-set_same, get_or-set_other, get_or-replicate, length-replicate}
 use Rattle.std.proofs.Math.ListN.{length-set}
 use Rattle.std.specs.{Prelude.{slice_set}, declared.option.Option.{Option, TheVariants.{None, Some}}}
 use Rattle.block_reclamation.specs.{declared.copies.{Pin.Pin, TheConstants.SEATS}, Board.{BoardState, no_pins, with_pin}, Copies.{pin_at, settled, unsettled}}
+use Rattle.graph_types.proofs.ListPlaces.{set_twice}
 use Rattle.store_steps.specs.Desks.{DeskView}
 use Rattle.desk.specs.Owned.{OwnedView, IsOwned, IsHoldCounted, IsSeatFor, count_at, held_pin, opened_owned, with_hold}
 
@@ -102,14 +104,8 @@ pinned_owned o number seat count is for low some =
 
 -- The board
 
--- a place set twice
-set_again : {X : Type 0} (xs : List X) (i : ℕ) (x y : X) → slice_set (slice_set xs i x) i y ≡ slice_set xs i y
-set_again [] i x y = refl
-set_again (z ∷ zs) zero x y = refl
-set_again (z ∷ zs) (suc i) x y = ap (λ ws. z ∷ ws) (set_again zs i x y)
-
 pub pin_twice : (b : BoardState) (s : ℕ) (x y : Option Pin) → with_pin (with_pin b s x) s y ≡ with_pin b s y
-pin_twice b s x y = λ i. record { floor = b.floor; pins = set_again b.pins s x y i }
+pin_twice b s x y = λ i. record { floor = b.floor; pins = set_twice b.pins s x y i }
 
 -- a pin at a floor that is no more than a number, settled at it
 pub pin_held : (floor number : ℕ) → floor ≤ number → settled number (unsettled floor) ≡ held_pin number

@@ -1,14 +1,14 @@
 -- A batch that is ready, as one handed over.
-use Rattle.std.proofs.Common.{◌≡◌, ℕ, ◌+◌, ◌≤◌, List, refl, sym, ap, subst, ◌∙◌, count_by, vec_len}
+use Rattle.std.proofs.Common.{◌≡◌, ℕ, ◌+◌, ◌≤◌, List, length, refl, sym, ap, subst, ◌∙◌, count_by, vec_len}
 use Rattle.std.specs.Arc.{arc_value}
 use Rattle.graph_types.specs.declared.batches.NamedOp.{NamedOp}
-use Rattle.graph_version.specs.{declared.versions.Version.Version, Rows.row_of, Versions.{VersionView, content}}
-use Rattle.batch_apply.specs.{Planned.IsPlan, declared.plans.Plan.Plan}
+use Rattle.graph_version.specs.{declared.versions.Version.Version, Versions.VersionView}
+use Rattle.batch_apply.specs.{Planned.workers_for, declared.plans.Plan.Plan}
 use Rattle.block_reclamation.specs.{Status.is_retired, declared.status.BlockStatus.{BlockStatus, TheVariants.{Free, Granted}}}
 use Rattle.block_pool.specs.Pools.{marked, AreFree}
 use Rattle.store_steps.{specs.Desks.DeskView, proofs.GrantedBlocks.given_back}
 use Rattle.desk.specs.{Applying.IsPrepared, Kept.{IsKeptDesk, desk_in}, Journals.JournalView, declared.{applying.Prepared.Prepared, desks.Parts.Parts}}
-use Rattle.desk.specs.Ready.{IsGranted, IsReady, old_of, ops_of}
+use Rattle.desk.specs.{Ready.{IsGranted, IsReady, old_of, ops_of}, Refusals.{IsAdmitted, IsPlanned}}
 use Rattle.desk.proofs.{Handing.Handing, Collections.kept_same}
 
 abbrev pub handing_of : (parts : Parts) (numbers : List ℕ) (p : Prepared) → IsReady parts numbers p → Handing
@@ -78,10 +78,7 @@ module _ (p q : Parts) (numbers : List ℕ) (free : AreFree p.pool numbers) (gra
     granted = granted ∙ ap (marked numbers Granted) (sym back);
   }
 
--- a plan of equal values
-pub plan_same : (workers : ℕ) (v w : VersionView) (ops xs : List NamedOp) (p q : Plan) → v ≡ w → ops ≡ xs → p ≡ q
-    → IsPlan workers ops (content v) (row_of v.rows) p → IsPlan workers xs (content w) (row_of w.rows) q
-plan_same workers v w ops xs p q same_version same_ops same_plan is =
-    subst (λ (x : VersionView). IsPlan workers xs (content x) (row_of x.rows) q) same_version
-    (subst (λ ys. IsPlan workers ys (content v) (row_of v.rows) q) same_ops
-    (subst (λ r. IsPlan workers ops (content v) (row_of v.rows) r) same_plan is))
+-- a plan for as many of these workers as share the batch
+pub planned : (v : VersionView) (workers : ℕ) (ops : List NamedOp) (plan : Plan) (a : IsAdmitted v workers ops plan)
+    → IsPlanned v (workers_for workers (length ops + length a.shared.old)) ops plan
+planned v workers ops plan a = record { few = a.few; limits = a.limits; some = a.shared.some; planned = a.shared.planned }

@@ -1,27 +1,30 @@
 -- What is made of a batch.
-use Rattle.std.specs.{Prelude.{◌≡◌, ℕ, ◌+◌, List, [], ◌∷◌, ◌++◌, length, count_by, Bool, true, slice_get}, Arc.arc_value}
+use Rattle.std.specs.{Prelude.{◌≡◌, ℕ, List, Bool, true, slice_get}, Arc.arc_value}
 use Rattle.std.specs.List.{list_all}
 use Rattle.graph_types.specs.{Step.outcomes, declared.batches.{Batch.Batch, NamedOp.NamedOp}}
-use Rattle.batch_shards.specs.{RowBlocks.shared_blocks, RowBlocks.shared_numbers, Births.CarriesBirths, Done.Exchanges}
-use Rattle.graph_version.specs.{declared.versions.Version.Version, Versions.VersionView, Versions.IsVersion, Versions.content}
-use Rattle.store_steps.specs.Desks.{FollowsLayout}
+use Rattle.batch_shards.specs.RowBlocks.{shared_blocks, shared_numbers}
+use Rattle.graph_version.specs.{declared.versions.Version.Version, Versions.{VersionView, content}}
+use Rattle.store_steps.specs.Acceptances.{Application, IsAppliedTo}
 use Rattle.desk.specs.declared.applying.Prepared.{Prepared}
-use Rattle.graph_version.specs.Rows as rows
 use Rattle.graph_version.specs.Differences.{DifferAt}
 use Rattle.epoch_core.specs.Blocks.{all_differ}
 use Rattle.block_reclamation.specs.{declared.status.BlockStatus.BlockStatus, Status.is_in_use, Status.is_used, Status.is_at}
 
--- the next version was made of this version and batch, from blocks of these numbers
+-- what was made, as an application of these operations with granted blocks of these numbers
+abbrev pub application_of : List NamedOp → List ℕ → Prepared → Application
+application_of ops numbers p = record {
+  batch = ops;
+  granted = numbers;
+  version = arc_value {X = Version} p.version;
+  taken = p.taken;
+  dropped = shared_blocks p.dropped.items;
+  unused = shared_numbers p.unused.items;
+}
+
+-- the operations were applied to this version, and what else their acceptance needs was made
 pub record IsPrepared (v : VersionView) (ops : List NamedOp) (numbers : List ℕ) (p : Prepared) : Type 0 where
-  pub version_is : IsVersion (arc_value {X = Version} p.version)
-  pub opening : (arc_value {X = Version} p.version).opening ≡ v.opening
-  pub batches : (arc_value {X = Version} p.version).batches ≡ v.batches ++ ops ∷ []
+  pub applied : IsAppliedTo v (application_of ops numbers p)
   pub outcomes_are : p.outcomes ≡ outcomes ops (content v)
-  pub exchanged : Exchanges (rows.blocks_of v.rows) (rows.blocks_of (arc_value {X = Version} p.version).rows) p.taken
-      (shared_blocks p.dropped.items)
-  pub handed : (q : ℕ → Bool) → count_by q p.taken + count_by q (shared_numbers p.unused.items) ≡ count_by q numbers
-  pub layout : FollowsLayout v ops (arc_value {X = Version} p.version) (length p.taken) (length p.dropped.items)
-  pub births : CarriesBirths v ops (arc_value {X = Version} p.version) p.taken (shared_blocks p.dropped.items)
   pub batch_is : arc_value {X = Batch} p.batch ≡ ops
   pub dropped_are : p.dropped_numbers ≡ shared_numbers p.dropped.items
   pub rows_are : DifferAt p.sources.items v.rows (arc_value {X = Version} p.version).rows

@@ -2,13 +2,14 @@
 use Rattle.std.specs.{Prelude.{◌≡◌, ◌≢◌, ℕ, ◌+◌, ◌≤◌, List, length, count_by, vec_len, All, AllPairs, false}, Arc.arc_value}
 use Rattle.std.specs.List.{sum_by}
 use Rattle.graph_types.specs.declared.batches.{Batch.Batch, NamedOp.NamedOp}
-use Rattle.graph_version.specs.{Batches.batch_value, declared.versions.Version.Version, Versions.{VersionView, is_in}}
+use Rattle.graph_version.specs.{Batches.batch_value, Versions.{VersionView, is_in}}
 use Rattle.batch_apply.specs.declared.plans.Plan.{Plan}
-use Rattle.batch_shards.specs.RowBlocks.{shared_blocks, shared_numbers}
+use Rattle.batch_shards.specs.RowBlocks.{shared_numbers}
 use Rattle.block_reclamation.specs.{Status.is_retired, declared.status.BlockStatus.TheVariants.{Free, Granted}}
 use Rattle.block_pool.specs.Pools.{marked, AreFree}
-use Rattle.store_steps.specs.Desks.{DeskView, desk_after}
-use Rattle.desk.specs.{Applying.IsPrepared, Tables.IsTableOf, Kept.{IsKeptDesk, desk_with}, declared.{applying.Prepared.Prepared, desks.Parts.Parts, ready.Load.Load}}
+use Rattle.store_steps.specs.{Desks.DeskView, Acceptances.desk_after}
+use Rattle.desk.specs.{Applying.{IsPrepared, application_of}, Tables.IsTableOf, Kept.{IsKeptDesk, desk_with}}
+use Rattle.desk.specs.declared.{applying.Prepared.Prepared, desks.Parts.Parts, ready.Load.Load}
 use Rattle.graph_version.specs.Rows as rows
 
 -- Granted
@@ -50,12 +51,12 @@ pub record ReadyView : Type 0 where
 abbrev pub ops_of : Prepared → List NamedOp
 ops_of p = arc_value {X = Batch} p.batch
 
-abbrev pub new_of : DeskView → Prepared → DeskView
-new_of old p = desk_after old (ops_of p) (arc_value {X = Version} p.version) p.taken (shared_blocks p.dropped.items)
-
 abbrev pub ready_of : Parts → List ℕ → Prepared → ReadyView
-ready_of parts numbers p =
-    record { old = old_of parts numbers; ops = ops_of p; new = new_of (old_of parts numbers) p }
+ready_of parts numbers p = record {
+  old = old_of parts numbers;
+  ops = ops_of p;
+  new = desk_after (old_of parts numbers) (application_of (ops_of p) numbers p);
+}
 
 -- blocks were granted, the next version was prepared from them, and the journal has room for its entry, and then for as many as
 -- blocks are retired

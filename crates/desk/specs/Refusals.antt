@@ -4,7 +4,7 @@ use Rattle.graph_types.specs.{Graph.Graph, Step.is_expire, declared.batches.Name
 use Rattle.graph_version.specs.{Rows.blocks_of, Rows.row_of, Versions.VersionView, Versions.content}
 use Rattle.graph_types.specs.{Refusals.{MeetsNeitherLimit, IsLimitRefusal}, declared.refusals.ApplyError.ApplyError}
 use Rattle.graph_types.specs.declared.refusals.ApplyError.TheVariants.{BatchLimit, NamesFull, KindsFull, PoolEmpty, OutOfMemory}
-use Rattle.batch_apply.specs.{Planned.IsPlan, declared.plans.Plan.Plan}
+use Rattle.batch_apply.specs.{Planned.{IsPlan, IsSharedPlan}, declared.plans.Plan.Plan}
 
 -- how many blocks a batch asks for behind a version with so many blocks: one for each operation, and where an operation expires
 -- edges, as many more as the version has. They must be free, though fewer may be granted, and fewer taken
@@ -58,6 +58,12 @@ pub record IsPlanned (v : VersionView) (workers : ℕ) (ops : List NamedOp) (pla
   pub limits : MeetsNeitherLimit ops (content v)
   pub some : 0 < workers
   pub planned : IsPlan workers ops (content v) (row_of v.rows) plan
+
+-- a batch that the version's limits admit, and its plan for as many of these workers as share it
+pub record IsAdmitted (v : VersionView) (workers : ℕ) (ops : List NamedOp) (plan : Plan) : Type 0 where
+  pub few : length v.batches < (content v).limits.batches
+  pub limits : MeetsNeitherLimit ops (content v)
+  pub shared : IsSharedPlan workers ops (content v) (row_of v.rows) plan
 
 -- why none were granted of so many blocks that were asked for, where so many are free
 abbrev pub RefusesGrant : ℕ → ℕ → ApplyError → Type 0

@@ -13,15 +13,16 @@ ghost use Rattle.block_reclamation.specs.Status.{is_among, is_free, is_in_use, m
 ghost use Rattle.block_pool.specs.Pools.{AreFree, marked};
 ghost use Rattle.block_reclamation.specs.declared.status.BlockStatus.TheVariants.{Granted};
 ghost use Rattle.desk.specs.Applying.{IsPrepared};
-ghost use Rattle.desk.specs.Refusals.{Refuses, RefusesGrant, IsPlanned, asked};
+ghost use Rattle.desk.specs.Refusals.{Refuses, RefusesGrant, IsAdmitted, IsPlanned, asked};
 
-use batch_apply::{Applied, Plan, Rewritten, plan};
+use batch_apply::{Applied, Plan, Rewritten, plan, plan_shared};
 use block_pool::{Grant, Pool};
 use edge_block::Block;
 use graph_types::{ApplyError, Batch, List, Outcome, VertexId};
 use graph_version::Version;
 use std::alloc::{AllocError, Global};
 use std::sync::Arc;
+use std::thread::Threads;
 
 /// The plan of a batch after this version, for one worker.
 #[tactic(auto, using(crate::proofs::Refused::plan_refuses))]
@@ -33,6 +34,25 @@ pub(crate) fn plan_next(alloc: Global, last: &Version, batch: &Batch) -> Result<
         return Err(ApplyError::BatchLimit);
     }
     Ok(plan(alloc, last, batch, 1)?)
+}
+
+/// The plan of a batch after this version, for so many workers, or for one if it is small.
+#[tactic(auto, using(crate::proofs::Refused::plan_refuses))]
+pub(crate) fn plan_at_once<R: Threads + Sync>(
+    rt: &R,
+    alloc: Global,
+    last: &Version,
+    batch: &Batch,
+    workers: usize,
+) -> Result<Plan, ApplyError>
+    requires workers { 0 < workers }
+    ensures admitted { IfOk result (IsAdmitted last.now workers batch.now) }
+    ensures refused { IfErr result (λ e. (free : ℕ) → Refuses last.now free batch.now e) }
+{
+    if last.number() >= u64::from(last.limits().batches()) {
+        return Err(ApplyError::BatchLimit);
+    }
+    Ok(plan_shared(rt, alloc, last, batch, workers)?)
 }
 
 /// How many blocks a batch asks for behind a version that uses so many.

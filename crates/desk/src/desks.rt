@@ -17,7 +17,8 @@ ghost use Rattle.block_reclamation.specs.Copies.{floor_of};
 ghost use Rattle.store_steps.specs.Desks.{IsDesk, IsCollected, births_in, collections};
 ghost use Rattle.store_steps.specs.Dates.{AreDated};
 ghost use Rattle.store_steps.specs.Opening.{IsVersionZero, opened_desk};
-ghost use Rattle.store_steps.specs.Steps.{Accepts, TakesAt, recycling};
+ghost use Rattle.store_steps.specs.Acceptances.{Accepts};
+ghost use Rattle.store_steps.specs.Steps.{SimulatesAt, recycling};
 ghost use Rattle.batch_shards.specs.RowBlocks.{shared_numbers};
 ghost use Rattle.desk.specs.Ready.{IsLoad};
 ghost use Rattle.desk.specs.Refusals.{Refuses, IsWithin, IsPlanned, block_count};
@@ -179,16 +180,14 @@ impl Desk {
 
     /// Grants blocks for a batch that was planned over the last version; or refuses it, and gives the desk back as it was. What is
     /// then needed to apply the batch goes to whoever does that, with workers or without; [`Granted::ready`] takes what comes of
-    /// it. Who wants a refused batch back keeps a shared copy of it.
+    /// it.
     ///
     /// `PoolEmpty` where fewer blocks are free than the batch asks for, and `OutOfMemory` where a growth was refused.
-    ///
-    /// ```
-    /// let (granted, Load { plan, batch, blocks, table }) = desk.grant(batch, plan)?;
-    /// let rewritten = apply_over(rt, alloc, &PassAll, granted.last(), plan, batch, blocks, table);
-    /// let ready = granted.ready(rewritten)?;
-    /// ```
-    pub fn grant(self, batch: Arc<Batch>, plan: Plan) -> Result<(Granted, Load), (Desk, ApplyError)>
+    pub(crate) fn grant(
+        self,
+        batch: Arc<Batch>,
+        plan: Plan,
+    ) -> Result<(Granted, Load), (Desk, ApplyError)>
         requires planned { (workers : ℕ) × IsPlanned self.last workers (batch_value batch) plan }
         ensures granted { IfOk result (λ r. r.0
             ≡ record { old = self; ops = batch_value batch; numbers = shared_numbers r.1.blocks.items }) }
@@ -279,7 +278,7 @@ impl Desk {
         requires { copy.now.last ≤ length self.old.last.batches }
         ensures collected { IsCollected self.old copy.now self.new }
         ensures births { (source : ℕ) → births_in self.new source ≡ births_in self.old source }
-        ensures steps { TakesAt copy.now self.old (recycling copy.now self.old.pool) self.new }
+        ensures steps { SimulatesAt copy.now self.old (recycling copy.now self.old.pool) self.new }
         ensures floor { result.floor ≡ floor_of copy.now }
         ensures recycled { result.recycled ≡ count_by (is_reclaimable copy.now) self.old.pool }
         ensures retired { result.retired ≡ count_by is_retired self.new.pool }

@@ -1,9 +1,9 @@
 //! The desk, where batches are applied and blocks collected: the last version, the pool of blocks, and the journal. It has no
-//! lock, starts no thread and waits for nobody.
+//! lock and waits for nobody, and only [`Desk::begin_at_once`] starts threads.
 //!
 //! A batch is applied in two steps: [`Desk::begin`] plans it and makes the next version, with all the memory that its
 //! acceptance takes; [`Ready::finish`] accepts it, or [`Ready::cancel`] leaves the desk of before. Who has workers for it begins
-//! with [`Desk::grant`], and has them plan and apply it. [`OwnedDesk`] is a desk for one owner, who holds versions by their
+//! with [`Desk::begin_at_once`]. [`OwnedDesk`] is a desk for one owner, who holds versions by their
 //! numbers.
 //!
 //! The store is STINGER's (Ediger, McColl, Riedy, Bader; IEEE HPEC 2012) with held versions as Aspen has them (Dhulipala,
@@ -11,6 +11,7 @@
 #![tactic(auto)]
 
 mod applying;
+mod at_once;
 mod copies;
 mod desks;
 mod entries;
@@ -32,4 +33,4 @@ pub use entries::JournalEntry;
 pub use errors::{HoldError, OpenError, ReleaseError};
 pub use graph_types::ApplyError;
 pub use owned::{Held, Hold, OwnedDesk};
-pub use ready::{Accepted, Granted, Load, Ready};
+pub use ready::{Accepted, Ready};

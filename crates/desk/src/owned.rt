@@ -12,7 +12,8 @@ ghost use Rattle.block_reclamation.specs.Board.{IsLeast};
 ghost use Rattle.store_steps.specs.Boards.{raised_board};
 ghost use Rattle.store_steps.specs.Desks.{IsCollected, births_in};
 ghost use Rattle.store_steps.specs.Opening.{IsVersionZero, opened_desk};
-ghost use Rattle.store_steps.specs.Steps.{Accepts, TakesAt, recycling};
+ghost use Rattle.store_steps.specs.Acceptances.{Accepts};
+ghost use Rattle.store_steps.specs.Steps.{SimulatesAt, recycling};
 ghost use Rattle.desk.specs.Owned.{opened_owned, HoldsOnce, RefusesHold, IsReleased, RefusesRelease, copied};
 ghost use Rattle.desk.specs.Owned.{IsSeatFor, IsSeatOf, ReleasesOnce, count_at, held_pin, with_hold};
 ghost use Rattle.desk.specs.Refusals.{Refuses, IsWithin};
@@ -140,7 +141,7 @@ impl OwnedDesk {
         ensures collected { IsCollected self.old.desk (copied self.old.desk self.old.board) self.new.desk }
         ensures births { (source : ℕ) → births_in self.new.desk source ≡ births_in self.old.desk source }
         ensures steps { let copy = copied self.old.desk self.old.board in
-            TakesAt copy self.old.desk (recycling copy self.old.desk.pool) self.new.desk }
+            SimulatesAt copy self.old.desk (recycling copy self.old.desk.pool) self.new.desk }
         ensures board { self.new.board ≡ raised_board (length self.old.desk.last.batches) self.old.board }
         ensures held { (self.new.counts ≡ self.old.counts) × (self.new.opening ≡ self.old.opening) }
         ensures recycled { result.recycled

@@ -13,7 +13,7 @@ ghost use Rattle.batch_apply.specs.Rewritten.{IsRewritten};
 ghost use Rattle.block_reclamation.specs.Status.{is_free, is_retired};
 ghost use Rattle.block_reclamation.specs.declared.status.BlockStatus.TheVariants as statuses;
 ghost use Rattle.block_pool.specs.Pools.{AreFree, marked};
-ghost use Rattle.store_steps.specs.Steps.{Accepts};
+ghost use Rattle.store_steps.specs.Acceptances.{Accepts};
 ghost use Rattle.store_steps.specs.Desks.{IsDesk};
 ghost use Rattle.desk.specs.Applying.{IsPrepared};
 ghost use Rattle.desk.specs.Kept.{desk_in};
@@ -35,17 +35,17 @@ use std::sync::Arc;
 
 /// What is needed to apply a batch to the desk's last version.
 #[derive(Drop)]
-pub struct Load {
-    pub plan: Plan,
-    pub batch: Arc<Batch>,
+pub(crate) struct Load {
+    pub(crate) plan: Plan,
+    pub(crate) batch: Arc<Batch>,
     /// As many fresh blocks as the plan's shards may take.
-    pub blocks: Vec<Arc<Block>>,
+    pub(crate) blocks: Vec<Arc<Block>>,
     /// A table with the last version's rows, if there is one: the next version is made in it.
-    pub table: Option<RowTable>,
+    pub(crate) table: Option<RowTable>,
 }
 
 /// A desk that has granted blocks for a batch. It ends in [`ready`](Granted::ready); where it is dropped, so is the desk.
-pub struct Granted {
+pub(crate) struct Granted {
     parts: Box<Parts>,
     numbers: Vec<u32>,
     batch: Arc<Batch>,
@@ -145,7 +145,7 @@ impl Granted {
     }
 
     /// The desk's last version, to which the batch is applied.
-    pub fn last(&self) -> &Version
+    pub(crate) fn last(&self) -> &Version
         ensures { result.now ≡ self.now.old.last }
     {
         self.parts.last.version()
@@ -153,7 +153,7 @@ impl Granted {
 
     /// Takes what the batch left of the last version, and makes room for its acceptance. Where memory was wanting, for that or
     /// before, the desk comes back as it was.
-    pub fn ready(self, rewritten: Result<Rewritten, AllocError>) -> Result<Ready, Desk>
+    pub(crate) fn ready(self, rewritten: Result<Rewritten, AllocError>) -> Result<Ready, Desk>
         requires { IfOk rewritten (IsRewritten self.old.last self.ops self.numbers) }
         ensures begun { IfOk result (λ r. (r.old ≡ self.old) × (r.ops ≡ self.ops)) }
         ensures accepts { IfOk result (λ r. Accepts self.old self.ops r.new) }

@@ -1,27 +1,17 @@
 -- A batch with one insertion more, and a refusal of a part as one of the whole.
-use Rattle.std.proofs.Common.{◌≡◌, ℕ, ◌+◌, ◌<◌, suc, List, length, count_by, Option, Some, true, refl, sym, ap, subst, inl, inr, ◌∙◌, add-one}
+use Rattle.std.proofs.Common.{◌≡◌, ℕ, ◌<◌, List, length, count_by, true, refl, sym, ap, subst, inl, inr, ◌∙◌}
 use Rattle.std.specs.Prelude.{Result, Ok, Err}
-use Rattle.graph_types.specs.{Limits.most_operations, declared.batches.NamedOp.NamedOp}
+use Rattle.graph_types.specs.declared.batches.NamedOp.{NamedOp}
 use Rattle.block_reclamation.specs.Status.{is_free}
 use Rattle.desk.specs.{Owned.OwnedView, Refusals.Refuses}
 use Rattle.graph_types.specs.declared.refusals.ApplyError.{ApplyError}
 use Rattle.desk.specs.declared.ready.Accepted.{Accepted}
 use Rattle.graph_types.specs.declared.refusals.ApplyError.TheVariants.{BatchLimit, NamesFull, KindsFull, PoolEmpty, OutOfMemory as ApplyOutOfMemory}
-use Rattle.batch_columns.specs.Dictionaries.{in_order, Insertions, IsInserted}
-use Rattle.batch_columns.proofs.OneMore.{one_more, inserted_op, one_longer}
+use Rattle.batch_columns.specs.Dictionaries.{Insertions}
 use Rattle.desk_counts.specs.{declared.counts.Counts.Counts, Counted.with_outcomes}
 use Rattle.desk_columns.specs.Feeding.{are_alike_columns, AreIn, AreIn.Begin, CollectsFor, Collects, ComesBefore, IsFeedApplied, IsTried, RefusesBatch, RefusesPart, RefusesRest, TakesFeed}
 use Rattle.desk_columns.specs.declared.columns.InsertColumnsError.{InsertColumnsError}
 use Rattle.desk_columns.specs.declared.columns.InsertColumnsError.TheVariants.{BadLength, BadInsertion, Refused, OutOfMemory}
-
-pub inserted_more : (op_at : ℕ → Option NamedOp) (from place : ℕ) (old new : List NamedOp) (done : Unit {0})
-    → place ≡ from + length old → in_order op_at from (length old) ≡ Some old → IsInserted most_operations (op_at place) old new (Ok done)
-    → in_order op_at from (length new) ≡ Some new
-inserted_more op_at from place old new done at fit pushed =
-    let (op, here, is) = inserted_op most_operations (op_at place) old new done pushed in
-    let longer : length new ≡ suc (length old) = one_longer most_operations (op_at place) old new done pushed ∙ add-one (length old) in
-    let there : op_at (from + length old) ≡ Some op = ap op_at (sym at) ∙ here in
-    ap (in_order op_at from) longer ∙ (one_more op_at from (length old) old op fit there ∙ ap Some (sym is))
 
 -- a collection may come before each answer, and nothing before all but one
 pub collected_before : (old from : OwnedView) (ops : List NamedOp) (answer : Result Accepted ApplyError) → CollectsFor ops old from

@@ -3,7 +3,7 @@ use Rattle.std.specs.Prelude.{◌≡◌, ◌⊎◌, ◌+◌, ◌-◌, ◌*◌, �
 use Rattle.graph_types.specs.{Limits.{most_operations, operation_limit}, Step.outcomes, Valid.IsBatch, declared.batches.NamedOp.NamedOp}
 use Rattle.graph_version.specs.Versions.{content}
 use Rattle.block_reclamation.specs.{Status.is_free}
-use Rattle.store_steps.specs.{Boards.raised_board, Desks.IsCollected, Steps.Accepts}
+use Rattle.store_steps.specs.{Boards.raised_board, Desks.IsCollected, Acceptances.Accepts}
 use Rattle.desk.specs.{Owned.{OwnedView, copied}, Refusals.{Refuses, IsWithin}, declared.ready.Accepted.Accepted}
 use Rattle.graph_types.specs.declared.refusals.ApplyError.{ApplyError}
 use Rattle.graph_types.specs.declared.refusals.ApplyError.TheVariants.{PoolEmpty}

@@ -3,20 +3,12 @@ use Rattle.std.proofs.Common.{◌≡◌, List, [], ◌∷◌, ◌++◌, Bool, tr
 use Rattle.std.proofs.{Common.{None, is_some, ◌⊎◌, inl, inr, All}, lemmas.{Bool.false≢true, List.Elements.All-head}}
 use Rattle.std.{proofs.lemmas.List.Elements.All-tail, specs.{List.list_any, Option.option_or}}
 use Rattle.std.proofs.{Common.arith, lemmas.Grind.common_steps}
+use Rattle.graph_types.proofs.Cases.{option_or_none, some_not_none, none_is}
 use Rattle.edge_block.specs.Slots.{first_some, NoKeyTwice, at_first}
-
-pub or_none : {B : Type 0} (o : Option B) → option_or o None ≡ o
-or_none h0 = grind (arith, common_steps)
-
-pub none_is : {B : Type 0} (o : Option B) → is_some o ≡ false → o ≡ None
-none_is h0 h = grind (arith, common_steps)
-
-pub some_not_none : {B : Type 0} (o : Option B) → is_some o ≡ true → o ≡ None → ⊥
-some_not_none o h e = false≢true (sym (ap is_some e) ∙ h)
 
 first_append : {A B : Type 0} (g : A → Option B) (xs : List A) (y : A)
     → first_some g (xs ++ y ∷ []) ≡ option_or (first_some g xs) (g y)
-first_append g [] y = or_none (g y)
+first_append g [] y = option_or_none (g y)
 first_append g (x ∷ xs) y = ap (option_or (g x)) (first_append g xs y) ∙ assoc (g x) (first_some g xs) (g y) where
   assoc : {B : Type 0} (a b c : Option B) → option_or a (option_or b c) ≡ option_or (option_or a b) c
   assoc None b c = refl
@@ -129,7 +121,7 @@ module _ {A K B : Type 0} (at : A → K → Option B) (same : K → K → Bool) 
   -- an element at the end, where no element has the key
   pub set_last : (xs : List A) (y : A) → chain xs k ≡ None → ((q : K) → at y q ≡ cond (same q k) o None) → (q : K)
       → chain (xs ++ y ∷ []) q ≡ cond (same q k) o (chain xs q)
-  set_last xs y none is q = grind (arith, common_steps, first_append, or_skip, chain_key, or_none)
+  set_last xs y none is q = grind (arith, common_steps, first_append, or_skip, chain_key, option_or_none)
 
   pub unique_last : (xs : List A) (y : A) → chain xs k ≡ None → ((q : K) → at y q ≡ cond (same q k) o None) → NoKeyTwice at xs
       → NoKeyTwice at (xs ++ y ∷ [])

@@ -1,24 +1,12 @@
 -- Columns that were copied up to the highest live place.
-use Rattle.std.proofs.Common.{◌≡◌, ℕ, ◌<◌, ◌≤◌, ℤ, pos, List, ◌++◌, length, get_or, take, drop, sym, ◌∙◌, inl, inr, arith}
+use Rattle.std.proofs.Common.{◌≡◌, ℕ, ◌<◌, ℤ, pos, List, length, get_or, sym, ◌∙◌, inl, inr, arith}
 use Rattle.std.proofs.lemmas.List.{ext_get_or}
-use Rattle.std.proofs.lemmas.{Bool.cases_lt, Grind.common_steps}
+use Rattle.std.proofs.lemmas.Grind.{common_steps}
 use Rattle.std.specs.{Prelude.slice_index, declared.option.Option.{Option, TheVariants.{None, Some}}}
 use Rattle.lane_scan.specs.Masks.{InMask, selected}
+use Rattle.lane_scan.proofs.{MaskPlaces.lives_or_not, Selected.selected_agree}
 use Rattle.edge_block.specs.{Slots.Slot, Slots.BlockView, Slots.edge_slot, Columns.slots_of, Columns.AreColumns, Columns.AreTimes}
-use Rattle.edge_block.proofs.{Places.{length-slots_of, slot_live, slot_dead, lives_or_not}, Times.selected_agree}
-
--- a live place is below the end of the places that are used
-pub below_used : (live n k : ℕ) → ((place : ℕ) → n ≤ place → InMask live place → ⊥) → InMask live k → k < n
-below_used live n k past lives = elim (cases_lt k n) [ inl below ↦ below | inr above ↦ absurd (past k above lives) ]
-
--- an item of the copied part
-pub copied_at : {X : Type 0} (xs new rest : List X) (n k : ℕ) (d : X) → new ≡ take n xs → n ≤ length xs → k < n
-    → get_or (new ++ rest) k d ≡ get_or xs k d
-copied_at xs new rest n k d is few below = grind (arith, common_steps)
-
-pub length-copied : {X : Type 0} (xs ys new : List X) (n : ℕ) → new ≡ take n xs → length xs ≡ 32 → length ys ≡ 32 → n ≤ 32
-    → length (new ++ drop n ys) ≡ 32
-length-copied xs ys new n is long long' few = grind (arith, common_steps)
+use Rattle.edge_block.proofs.Places.{length-slots_of, slot_live, slot_dead}
 
 -- the same slots
 pub slots_copied : (live : ℕ) (ts : List ℕ) (ws ws' : List ℤ) (fs fs' rs rs' : List ℕ) →

@@ -1,17 +1,15 @@
 -- What a search for a target finds: after a put, after a take, and among a block's entries.
-use Rattle.std.proofs.Common.{◌≡◌, ℕ, ◌<◌, ◌==◌, ◌↔◌, List, [], ◌∷◌, length, get_or, Bool, true, false, cond}
+use Rattle.std.proofs.Common.{◌≡◌, ℕ, ◌<◌, ◌==◌, ◌↔◌, List, [], ◌∷◌, length, get_or, true, false, cond}
 use Rattle.std.proofs.{Common.{refl, sym, ap, ◌∙◌, subst, arith, inl, inr}, lemmas.Bool.{eqb-true, eq-eqb}}
 use Rattle.std.proofs.lemmas.{Bool.{ne_eqb, cases_eq, cases_Bool}, List.{length-map, get_or-map, Elements.Contains-get_or}}
 use Rattle.std.specs.{Prelude.◌||◌, Prelude.Contains, List.list_any, Option.is_some, Option.option_or}
 use Rattle.std.specs.declared.option.Option.{Option, TheVariants.None, TheVariants.Some}
 use Rattle.std.proofs.lemmas.Grind.{common_steps}
 use Rattle.graph_types.{specs.Graph.{Key, Stamp}, proofs.{Arcs.contains_map, Counts.{Contains-cons, Contains-cons_cases}}}
+use Rattle.graph_types.proofs.Cases.{none_is}
 use Rattle.edge_block.specs.Slots.{Slot, BlockView, at_first, stamp_in_slot, stamp_at, holds, is_free_slot, has_room_for, AreDistinct}
 use Rattle.edge_block.specs.{Slots.put_slot, Slots.take_slot, Slots.edges_in, Slots.entry_in, Slots.entries_of, Laws.StandsIn}
-use Rattle.edge_block.proofs.{Firsts.at_first-none, Changes.{set_first, set_unique, Fits, Puts, fits_key, fits_room, any_key, none_is}}
-
-twice : {A : Type 0} (b : Bool) (x y z : A) → cond b x (cond b y z) ≡ cond b x z
-twice h0 x y z = grind (arith, common_steps)
+use Rattle.edge_block.proofs.{Firsts.at_first-none, Changes.{set_first, set_unique, Fits, Puts, fits_key, fits_room, any_key}}
 
 -- a slot with an edge, in place of another to the same target
 over : (e : Slot) (s : Option Slot) → holds e.target s ≡ true → Puts stamp_in_slot ◌==◌ eqb-true e.target (Some e.stamp) (Some e) s
@@ -20,9 +18,6 @@ over e h1 h q = grind (arith, common_steps)
 -- a slot with an edge, in place of a free one
 into : (e : Slot) (s : Option Slot) → is_free_slot s ≡ true → Puts stamp_in_slot ◌==◌ eqb-true e.target (Some e.stamp) (Some e) s
 into e h1 h q = grind (arith, common_steps)
-
-none_there : (b : Bool) (x : Option Stamp) → None ≡ cond b None (cond b x None)
-none_there h0 x = grind (arith, common_steps)
 
 -- a free slot, in place of one with an edge to the target
 out_of : (target : ℕ) (s : Option Slot) → holds target s ≡ true → Puts stamp_in_slot ◌==◌ eqb-true target None None s

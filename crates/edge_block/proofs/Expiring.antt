@@ -1,11 +1,13 @@
 -- What taking an old edge leaves of the old ones.
-use Rattle.std.proofs.Common.{◌≡◌, ℕ, ◌+◌, ◌-◌, ◌≤◌, ◌==◌, ◌&&◌, ◌||◌, List, [], ◌∷◌, Bool, true, false, cond, map, filter}
+use Rattle.std.proofs.Common.{◌≡◌, ℕ, ◌+◌, ◌-◌, ◌≤◌, ◌==◌, List, [], ◌∷◌, Bool, true, false, cond, map, filter}
 use Rattle.std.proofs.{Common.{length, refl, sym, ap, ◌∙◌, arith, Option, Some, None, is_some}, lemmas.Bool.{false≢true, eq-eqb}}
-use Rattle.std.proofs.lemmas.{Bool.Decides.nat_tests, Option.same_Some, List.{Sums.sum_by-cons, Folds.{list_any_at, list_any_none}}}
-use Rattle.std.specs.{Option.option_or, Prelude.nat_le, Prelude.nat_lt, List.list_any}
+use Rattle.std.proofs.lemmas.{Bool.Decides.nat_tests, Option.same_Some, List.Sums.sum_by-cons}
+use Rattle.std.specs.{Option.option_or, Prelude.nat_lt, List.list_any}
 use Rattle.std.proofs.lemmas.Grind.{common_steps}
 use Rattle.lane_scan.specs.Masks.{IsLeastOf}
 use Rattle.graph_types.specs.{Graph.Key, Graph.Stamp, Step.is_before, View.in_view, declared.ids.Filter.Filter}
+use Rattle.graph_types.proofs.{Numbers.in_window, Searches.any_mapped}
+use Rattle.lane_scan.proofs.MaskPlaces.{least_tells}
 use Rattle.edge_block.specs.Slots.{Slot, stamp_at, take_slot, edges_in, AreDistinct, BlockView, entry_in, slots_since, old_in}
 use Rattle.edge_block.specs.{Slots.{has_before, entries_of}, Lending.{LentEdge, lent_of}}
 
@@ -114,10 +116,6 @@ module _ (p : Key × Stamp → Bool) (b : BlockView) where
             let rest = none_stands time slots same h in omega arith
       ] refl is
 
--- the window from 0 to before a time has the edges that are old at that time
-in_window : (time recent : ℕ) → (time ≡ 0 → ⊥) → (nat_le 0 recent && nat_le recent (time - 1)) ≡ nat_lt recent time
-in_window time recent some = grind (arith, nat_tests)
-
 abbrev pub before : ℕ → Filter
 before time = record { kind = None; lo = 0; hi = time - 1 }
 
@@ -159,20 +157,6 @@ none_at_zero (Some e ∷ slots) =
     let rest = none_at_zero slots in omega arith
 
 -- The least of the recent times tells whether an edge is old
-
-any_mapped : {A B : Type 0} (p : B → Bool) (f : A → B) (xs : List A) → list_any p (map f xs) ≡ list_any (λ x. p (f x)) xs
-any_mapped p f [] = refl
-any_mapped p f (x ∷ xs) = ap (λ b. p (f x) || b) (any_mapped p f xs)
-
-least_tells : (time least : ℕ) (values : List ℕ) → IsLeastOf values least
-    → nat_lt least time ≡ list_any (λ value. nat_lt value time) values
-least_tells time least values is =
-    let (place, within, at) = is.reached in
-    elim (nat_lt least time) as (λ b. nat_lt least time ≡ b → b ≡ list_any (λ value. nat_lt value time) values) [
-      | true ↦ λ t. sym (list_any_at (λ value. nat_lt value time) values place least within (ap (λ v. nat_lt v time) at ∙ t))
-      | false ↦ λ t. sym (list_any_none (λ value. nat_lt value time) values
-          (λ k d l. let bound = is.bound k d l in grind (arith, nat_tests, bound, t)))
-    ] refl
 
 pub bounds_tell : (time : ℕ) (slots : List (Option Slot)) (least : ℕ)
     → IsLeastOf (map (λ e. e.stamp.recent) (edges_in slots)) least → nat_lt least time ≡ has_before time slots

@@ -1,20 +1,13 @@
 -- What an expiry changes in slots, in blocks and in a source's row.
-use Rattle.std.proofs.Common.{◌≡◌, ℕ, List, [], ◌∷◌, Bool, true, false, cond, ◌||◌, refl, sym, ap, ◌∙◌, map, All, Option}
+use Rattle.std.proofs.Common.{◌≡◌, ℕ, List, [], ◌∷◌, true, false, cond, ◌||◌, refl, sym, ap, ◌∙◌, map, All, Option}
 use Rattle.std.proofs.{Common.{arith, Some, None, is_some, get_or}, lemmas.{Bool.true≢false, List.Elements.{All-head, All-tail}}}
 use Rattle.std.{proofs.lemmas.List.Elements.{All-map, All-weaker}, specs.Option.option_or}
 use Rattle.std.proofs.lemmas.Grind.{common_steps}
 use Rattle.graph_types.specs.{Graph.Stamp, Step.is_before, Step.stays_from}
+use Rattle.graph_types.proofs.PickedStamps.{stays_or, was_there, within_kind}
 use Rattle.edge_block.specs.Slots.{Slot, stamp_in_slot, stamp_at, AreDistinct, NoKeyTwice, first_some, slot_since, slots_since}
 use Rattle.edge_block.specs.{Slots.has_before, Rows.{OpenBlock, open_at, edge_at, expire_block, expire_row}}
 use Rattle.edge_block.proofs.RowLaws.{IsOpenRow, Within}
-
--- what stays is there before
-pub was_there : (time : ℕ) (o : Option Stamp) → is_some (stays_from time o) ≡ true → is_some o ≡ true
-was_there time h1 is = grind (arith, common_steps)
-
-stays_or : (time : ℕ) (a b : Option Stamp) → (is_some a ≡ true → b ≡ None)
-    → option_or (stays_from time a) (stays_from time b) ≡ stays_from time (option_or a b)
-stays_or time h1 b alone = grind (arith, common_steps)
 
 -- elements of which each has what stays of what it had
 module _ {A K : Type 0} (at : A → K → Option Stamp) (f : A → A) (time : ℕ) where
@@ -66,10 +59,6 @@ slots_kept time (Some e ∷ slots) none =
     ] refl none
 
 -- Blocks
-
-within_kind : (time : ℕ) (b : Bool) (o : Option Stamp)
-    → cond b (stays_from time o) None ≡ stays_from time (cond b o None)
-within_kind time h1 o = grind (arith, common_steps)
 
 expired_slots : (time : ℕ) (b : OpenBlock) → (expire_block time b).shape.slots ≡ slots_since time b.shape.slots
 expired_slots time b = grind (arith, common_steps, slots_kept)

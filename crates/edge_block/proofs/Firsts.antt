@@ -1,10 +1,10 @@
 -- The first element of a list that passes a test.
 use Rattle.std.proofs.Common.{◌≡◌, ℕ, zero, suc, ◌<◌, Bool, true, false, cond, List, [], ◌∷◌, length, get_or, set, refl, sym, ap}
 use Rattle.std.proofs.{Common.{◌∙◌, arith}, lemmas.{Bool.{or_parts, true≢false}, List.Elements.{All-cons, All-head, All-tail}}}
-use Rattle.std.specs.{Prelude.All, List.list_any, Option.{is_some, option_or}, declared.option.Option.{Option, TheVariants.{None, Some}}}
-use Rattle.std.proofs.lemmas.Grind.{common_steps}
+use Rattle.std.specs.{Prelude.All, List.list_any, Option.is_some, declared.option.Option.{Option, TheVariants.{None, Some}}}
 use Rattle.edge_block.specs.Slots.{first_some, at_first}
 pub use Rattle.std.proofs.lemmas.List.Folds.{list_any_at}
+use Rattle.graph_types.proofs.Cases.{none_or, none_by_test}
 
 -- the first that passes stands at i
 pub at_first-set : {A : Type 0} (p : A → Bool) (f : A → A) (xs : List A) (i : ℕ) (d : A) → i < length xs
@@ -40,12 +40,6 @@ first_some_at f (x ∷ xs) zero d y within e before = rw e
 first_some_at f (x ∷ xs) (suc i) d y within e before =
     let none : f x ≡ None = before 0 (omega arith) in
     rw none (first_some_at f xs i d y (omega arith) e (λ k below. before (suc k) (omega arith)))
-
-none_or : {B : Type 0} (a b : Option B) → a ≡ None → b ≡ None → option_or a b ≡ None
-none_or a b e h = rw e h
-
-pub none_by_test : {B : Type 0} (a : Option B) → (is_some a ≡ true → ⊥) → a ≡ None
-none_by_test h0 h = grind (arith, common_steps)
 
 pub first_some-by_any : {A B : Type 0} (f : A → Option B) (xs : List A) → list_any (λ x. is_some (f x)) xs ≡ false
     → first_some f xs ≡ None

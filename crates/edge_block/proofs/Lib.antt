@@ -4,7 +4,6 @@ pub mod Places
 pub mod KeptColumns
 pub mod Selections
 pub mod Targets
-pub mod Counts
 pub mod Views
 pub mod Runs
 pub mod Room
@@ -20,3 +19,14 @@ pub mod ListedRows
 pub mod OperationLaws
 pub mod GraphLaws
 pub mod ShardLaws
+pub mod BlockCounts
+pub mod BatchSums
+pub mod ShardResults
+pub mod Untouched
+pub mod OldSlots
+pub mod FreeSlots
+pub mod SlotTargets
+pub mod YoungSlots
+pub mod LentEntries
+pub mod ShardSteps
+pub mod Spared

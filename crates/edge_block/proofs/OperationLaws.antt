@@ -1,24 +1,26 @@
 -- The rows that operations leave have the edges that the operation rule leaves, and the outcomes are the rule's.
 use Rattle.std.proofs.Common.{◌≡◌, ℕ, ◌<◌, ◌==◌, List, [], ◌∷◌, length, Bool, true, false, cond, ◌&&◌, ◌≤◌, arith}
 use Rattle.std.proofs.Common.{refl, sym, ap, ◌∙◌, subst, Option, Some, None, is_some}
-use Rattle.std.proofs.lemmas.{Bool.{true≢false, false≢true, eqb-true, lt-ltb}, List.Elements.All-map, Grind.common_steps}
+use Rattle.std.proofs.lemmas.{Bool.{eqb-true, lt-ltb}, List.Elements.All-map, Grind.common_steps}
 use Rattle.std.specs.{List.range_with_len, Option.option_or, Ordering.eq_by_cmp}
 use Rattle.std.specs.{Cmp.Equal-is, FinMap.FinMap, FinMap.get}
 use Rattle.graph_types.specs.{Graph.{Graph, Key, Stamp, key_cmp}, Step.{after_all, set_at, stamp_after, outcome_at, changed}}
-use Rattle.graph_types.specs.Step.{changed_key, change_outcome, outcome, outcomes, with_name, names_made}
+use Rattle.graph_types.specs.Step.{changed_key, change_outcome, outcome, outcomes, names_made}
 use Rattle.graph_types.specs.{Step.{kinds_made, expired, count_before}, Answer.is_listed}
 use Rattle.graph_types.specs.declared.batches.{NamedOp.NamedOp, Outcome.Outcome}
 use Rattle.graph_types.specs.declared.{batches.Outcome.TheVariants.{Absent, Expired}, changes.EdgeChange.EdgeChange}
-use Rattle.graph_types.specs.declared.changes.EdgeChange.TheVariants.{Insert as ToInsert, Incr as ToIncr, Remove as ToRemove}
 use Rattle.graph_types.specs.Parts.{Parts, OfEdge, OfAll, names_by, kinds_by, names_after, kinds_after}
 use Rattle.edge_block.specs.{Slots.{NoKeyTwice, AreDistinct}, Rows.{OpenBlock, block_at, row_at, open_at, edge_at, IsRow}}
 use Rattle.edge_block.specs.{Rows.{change_row, shapes}, Batches.{Resolved, InAll, resolve_parts, resolved, resolved_by, key_is_of, key_step}}
 use Rattle.edge_block.specs.Batches.{rows_step, HasEndsWithin, rows_all, key_outcome, outcome_in, outcomes_all, IsLayoutOf}
 use Rattle.graph_types.proofs.{Keys.exact_keys, NameLists.length-after_all-names, Expiry.get-expired, WeightsKept.set_at_get}
 use Rattle.graph_types.proofs.OperationParts.{after_parts, outcome_parts, parts_over, after_is, outcome_is, names_over, kinds_over}
-use Rattle.graph_types.proofs.NameLists.{any_before_end, appears-with_name, stays-with_name, named, length-names_made, length-kinds_made}
-use Rattle.edge_block.proofs.{RowLaws.{IsOpenRow, change_sets}, ListedRows.{tests, tied, count_shown}, ExpiryLaws.expire_stays}
-use Rattle.edge_block.proofs.{ExpiryLaws.{expire_open, was_there}, Changes.none_is}
+use Rattle.graph_types.proofs.NameLists.{any_before_end, length-names_made, length-kinds_made}
+use Rattle.graph_types.proofs.{Cases.none_is, EdgeMaps.set_none, ListedNames.{all_appear, all_known}}
+use Rattle.graph_types.proofs.{OperationParts.{names_left, kinds_left, limits_left}, PickedStamps.{was_there, lies}}
+use Rattle.graph_types.proofs.PickedStamps.{tests_of_key, tied}
+use Rattle.edge_block.proofs.{RowLaws.{IsOpenRow, change_sets}, ListedRows.count_shown, ExpiryLaws.expire_stays}
+use Rattle.edge_block.proofs.ExpiryLaws.{expire_open}
 
 -- the rows have the map's edges, and no others
 abbrev pub Shows : (ℕ → List OpenBlock) → FinMap key_cmp Stamp → Type 0
@@ -36,27 +38,16 @@ shows_key : (change : EdgeChange) (k : Key) (rows : ℕ → List OpenBlock) (edg
     → Shows rows edges
     → (q : Key) → edge_at (cond (q.source == k.source) (change_row change (k.kind, k.target) (rows q.source)) (rows q.source))
     (q.kind, q.target) ≡ get (set_at edges k (stamp_after change (get edges k))) q
-shows_key change k rows edges u s q = grind (arith, common_steps, tests, eqb-true, change_sets, never, set_at_get, tied)
+shows_key change k rows edges u s q = grind (arith, common_steps, tests_of_key, eqb-true, change_sets, never, set_at_get, tied)
 
 rows_key : (change : EdgeChange) (k : Key) (rows : ℕ → List OpenBlock) → AreOpenRows rows → (source : ℕ)
     → IsOpenRow (cond (source == k.source) (change_row change (k.kind, k.target) (rows source)) (rows source))
 rows_key change k rows u source = grind (arith, common_steps, IsOpenRow, change_sets)
 
-all_known : (a b c : Bool) → a ≡ true → b ≡ true → c ≡ true → (a && (b && c)) ≡ false → ⊥
-all_known a b c p q r h = true≢false ((λ i. sym p i && (sym q i && sym r i)) ∙ h)
-
 abbrev knows : EdgeChange → List ℕ → List ℕ → List ℕ → Graph → Bool
 knows change kind source target g =
     is_listed (kinds_made change kind g.kinds) kind
     && (is_listed (names_made change source target g.names) source && is_listed (names_made change source target g.names) target)
-
--- the names that an operation makes are known
-all_appear : (names kinds : List (List ℕ)) (kind source target : List ℕ) →
-    let all = with_name (with_name names source) target in
-    (is_listed (with_name kinds kind) kind && (is_listed all source && is_listed all target)) ≡ false → ⊥
-all_appear names kinds kind source target =
-    all_known _ _ _ (appears-with_name kinds kind) (stays-with_name _ target source (appears-with_name names source))
-    (appears-with_name _ target)
 
 -- an operation with an unknown name is a removal, and nothing is at its key
 unknown_none : (change : EdgeChange) (kind source target : List ℕ) (g : Graph) → HasEndsWithin g
@@ -64,14 +55,6 @@ unknown_none : (change : EdgeChange) (kind source target : List ℕ) (g : Graph)
     → (get g.edges (changed_key change kind source target g) ≡ None) × (stamp_after change None ≡ None)
     × (outcome_at change None ≡ Absent)
 unknown_none h0 kind source target g w h = grind (arith, common_steps, all_appear, none_is, any_before_end, lt-ltb, all_known)
-
-set_none : (m : FinMap key_cmp Stamp) (k : Key) → get m k ≡ None → (q : Key) → get m q ≡ get (set_at m k None) q
-set_none m k none q =
-    elim (eq_by_cmp key_cmp q k) as (λ b. eq_by_cmp key_cmp q k ≡ b → get m q ≡ cond b None (get m q)) [
-      | true ↦ λ t. ap (get m) (exact_keys q k ((Equal-is (key_cmp q k)).0 t)) ∙ none
-      | false ↦ λ t. refl
-    ] refl
-    ∙ sym (set_at_get m k None q)
 
 module _ (change : EdgeChange) (kind source target : List ℕ) (g : Graph) where
   abbrev key : Key
@@ -106,16 +89,6 @@ module _ (change : EdgeChange) (kind source target : List ℕ) (g : Graph) where
               sym (ap (outcome_at change) none.0 ∙ none.2),
             )
       ] refl
-
-lies : (change : EdgeChange) (kind source target : List ℕ) (g : Graph) (before : Option Stamp)
-    → is_some (stamp_after change before) ≡ true
-    → let k = changed_key change kind source target g in (k.kind < length (kinds_made change kind g.kinds))
-    × (k.source < length (names_made change source target g.names)) × (k.target < length (names_made change source target g.names))
-lies (ToInsert weight time most) kind source target g before is =
-    let n = named g.names g.kinds kind source target in (n.kind, n.source, n.target)
-lies (ToIncr amount time most) kind source target g before is =
-    let n = named g.names g.kinds kind source target in (n.kind, n.source, n.target)
-lies ToRemove kind source target g before is = absurd (false≢true is)
 
 pub step_within : (op : Parts) (g : Graph) → HasEndsWithin g → HasEndsWithin (after_parts op g)
 step_within (OfAll time) g w q is = w q (was_there time (get g.edges q) (ap is_some (sym (get-expired time g.edges q)) ∙ is))
@@ -173,15 +146,6 @@ step_shows (OfAll time) g rows n w u s few =
 -- an operation by the names and kinds that it leaves of the graph's
 abbrev by_left : NamedOp → Graph → Resolved
 by_left op g = resolve_parts (names_after op g.names) (kinds_after op g.kinds) (parts_over op g)
-
-names_left : (parts : Parts) (g : Graph) → (after_parts parts g).names ≡ names_by parts g.names
-names_left h0 g = grind (arith, common_steps)
-
-kinds_left : (parts : Parts) (g : Graph) → (after_parts parts g).kinds ≡ kinds_by parts g.kinds
-kinds_left h0 g = grind (arith, common_steps)
-
-limits_left : (parts : Parts) (g : Graph) → (after_parts parts g).limits ≡ g.limits
-limits_left h0 g = grind (arith, common_steps)
 
 -- the operation over a graph
 one_shows : (op : NamedOp) (g : Graph) (rows : ℕ → List OpenBlock) (n : ℕ) → HasEndsWithin g → AreOpenRows rows → Shows rows g.edges

@@ -1,5 +1,5 @@
 -- The slots that columns make, place by place.
-use Rattle.std.proofs.Common.{◌≡◌, ◌≢◌, ◌⊎◌, ℕ, ◌+◌, ◌-◌, ◌*◌, ◌%◌, ◌^◌, ◌<◌, ◌≤◌, ℤ, pos, true, false, not, List, length, get_or}
+use Rattle.std.proofs.Common.{◌≡◌, ◌≢◌, ℕ, ◌+◌, ◌-◌, ◌*◌, ◌%◌, ◌^◌, ◌<◌, ◌≤◌, ℤ, pos, true, false, not, List, length, get_or}
 use Rattle.std.proofs.{Common.{replicate, set, sym, ap, ◌∙◌, inl, inr, arith}, lemmas.Bool.{eq-eqb, ne_eqb, cases_eq, cases_lt, true≢false}}
 use Rattle.std.proofs.lemmas.List.{ext_get_or, length-set, get_or-set_same, get_or-set_other, get_or-replicate, get_or_past}
 use Rattle.std.proofs.lemmas.List.{FromFn.{length-map-range_with_len, get_or-map-range_with_len}, Elements.All-from_get_or}
@@ -8,10 +8,12 @@ use Rattle.std.proofs.lemmas.Nat.Bits.{bit_at_clear_same, bit_at_clear_other, bi
 use Rattle.std.specs.{Prelude.◌==◌, List.list_any, Int.{bit_at, w32, bit_not, trailing_ones, RustNames.bit_or}}
 use Rattle.std.specs.{Int.RustNames.bit_and, declared.option.Option.{Option, TheVariants.{None, Some}}}
 use Rattle.std.proofs.lemmas.Grind.{common_steps}
+use Rattle.graph_types.proofs.Cases.{none_by_test}
 use Rattle.lane_scan.specs.Masks.{InMask, IsPlaceOf}
+use Rattle.lane_scan.proofs.MaskPlaces.{lives_or_not}
 use Rattle.edge_block.specs.Slots.{Slot, edge_slot, at_first, holds, is_free_slot, stamp_in_slot, put_slot, take_slot, has_room_for}
 use Rattle.edge_block.specs.{Slots.stamp_at, Columns.slots_of, Columns.slot_from, Columns.column_slot}
-use Rattle.edge_block.proofs.{Firsts.at_first-set, Firsts.first_some_at, Firsts.none_by_test, SlotLaws.target_of_edge}
+use Rattle.edge_block.proofs.{Firsts.{at_first-set, first_some_at}, SlotLaws.target_of_edge}
 
 pub length-slots_of : (live : ℕ) (ts : List ℕ) (ws : List ℤ) (fs rs : List ℕ) → length (slots_of live ts ws fs rs) ≡ 32
 unfolding slots_of
@@ -31,9 +33,6 @@ slot_live live ts ws fs rs i d within lives = rw (get_or-slots_of live ts ws fs 
 pub slot_dead : (live : ℕ) (ts : List ℕ) (ws : List ℤ) (fs rs : List ℕ) (i : ℕ) (d : Option Slot) → i < 32 → (InMask live i → ⊥) →
     get_or (slots_of live ts ws fs rs) i d ≡ None
 slot_dead live ts ws fs rs i d within dead = rw (get_or-slots_of live ts ws fs rs i d within, ne_eqb (bit_at live i) 1 dead)
-
-pub lives_or_not : (live i : ℕ) → InMask live i ⊎ (InMask live i → ⊥)
-lives_or_not live i = cases_eq (bit_at live i) 1
 
 -- no place is live
 pub slots_of-none : (ts : List ℕ) (ws : List ℤ) (fs rs : List ℕ) → slots_of 0 ts ws fs rs ≡ replicate 32 None

@@ -1,32 +1,25 @@
 -- What one operation changes in a source's row.
-use Rattle.std.proofs.Common.{◌≡◌, ℕ, zero, suc, ◌==◌, List, [], ◌∷◌, ◌++◌, Bool, true, false, cond, ◌&&◌, refl, sym, ◌∙◌}
+use Rattle.std.proofs.Common.{◌≡◌, ℕ, zero, suc, ◌==◌, List, [], ◌∷◌, ◌++◌, Bool, true, false, cond, refl, sym, ◌∙◌}
 use Rattle.std.proofs.{Common.{subst, Option, Some, None, is_some, All, replicate}, lemmas.Bool.false≢true}
 use Rattle.std.proofs.lemmas.{Bool.{and_parts, eqb-true, or_left, or_right}, List.Elements.{All-push, All-weaker}}
 use Rattle.std.specs.List.{list_any}
 use Rattle.std.proofs.{Common.arith, lemmas.Grind.common_steps}
 use Rattle.graph_types.specs.{Graph.Stamp, Step.stamp_after, Step.outcome_at}
 use Rattle.graph_types.specs.declared.changes.EdgeChange.{EdgeChange}
+use Rattle.graph_types.proofs.Cases.{none_is}
+use Rattle.graph_types.proofs.PairOrder.{same_place, pair_same}
 use Rattle.edge_block.specs.Slots.{Slot, at_first, stamp_in_slot, stamp_at, holds, is_free_slot, AreDistinct, NoKeyTwice, put_slot}
 use Rattle.edge_block.specs.{Slots.take_slot, Rows.{OpenBlock, open_at, edge_at, has_edge, has_room, touch, new_block, put_edge}}
 use Rattle.edge_block.{specs.Rows.{set_edge, touches, change_row}, proofs.Changes.{set_first, set_unique}}
-use Rattle.edge_block.proofs.Changes.{set_last, unique_last, Fits, Puts, fits_key, fits_room, any_key, none_is}
+use Rattle.edge_block.proofs.Changes.{set_last, unique_last, Fits, Puts, fits_key, fits_room, any_key}
 use Rattle.edge_block.proofs.{Entries.{stamp_at-put_slot, stamp_at-take_slot, AreDistinct-put_slot, AreDistinct-take_slot}, KeptColumns.distinct_none}
 use Rattle.edge_block.proofs.Firsts.{All-at_first, at_first-none}
-
-abbrev pub same_place : ℕ × ℕ → ℕ × ℕ → Bool
-same_place a b = (a.0 == b.0) && (a.1 == b.1)
-
-pub place_is : (a b : ℕ × ℕ) → same_place a b ≡ true → a ≡ b
-place_is a b h = grind (arith, common_steps)
-
-both : (a b : Bool) (x y : Option Stamp) → cond a (cond b x y) None ≡ cond (a && b) x (cond a y None)
-both h0 b x y = grind (arith, common_steps)
 
 -- a block of the kind whose slots take this at the target
 touch_puts : (place : ℕ × ℕ) (o : Option Stamp) (f : List (Option Slot) → List (Option Slot)) (h : OpenBlock)
     → place.0 ≡ h.shape.kind
     → ((target : ℕ) → stamp_at (f h.shape.slots) target ≡ cond (target == place.1) o (stamp_at h.shape.slots target))
-    → Puts open_at same_place place_is place o (touch f h) h
+    → Puts open_at same_place pair_same place o (touch f h) h
 touch_puts place o f h kind is q = grind (arith, common_steps)
 
 -- a block with an edge of a kind is of the kind, and has the target
@@ -53,7 +46,7 @@ abbrev pub Sets : ℕ × ℕ → Option Stamp → List OpenBlock → List OpenBl
 Sets place o row next = ((q : ℕ × ℕ) → edge_at next q ≡ cond (same_place q place) o (edge_at row q)) × IsOpenRow next
 
 any_at : (place : ℕ × ℕ) (o : Option Stamp) (row : List OpenBlock) → list_any (has_edge place) row ≡ is_some (edge_at row place)
-any_at place o row = any_key open_at same_place place_is place o row
+any_at place o row = any_key open_at same_place pair_same place o row
 
 pub empty_at : (n target : ℕ) → stamp_at (replicate n None) target ≡ None
 empty_at zero target = refl
@@ -72,17 +65,17 @@ module _ (place : ℕ × ℕ) (row : List OpenBlock) (u : IsOpenRow row) where
     put_over : list_any (has_edge place) row ≡ true
         → Sets place (Some stamp) row (at_first (has_edge place) (touch (put_slot e)) row)
     put_over h =
-        let fits : Fits open_at same_place place_is place (Some stamp) (has_edge place) (touch (put_slot e)) row =
-        fits_key open_at same_place place_is place (Some stamp) (touch (put_slot e)) row h u.between
+        let fits : Fits open_at same_place pair_same place (Some stamp) (has_edge place) (touch (put_slot e)) row =
+        fits_key open_at same_place pair_same place (Some stamp) (touch (put_slot e)) row h u.between
         (All-weaker Within (λ x. has_edge place x ≡ true
-        → Puts open_at same_place place_is place (Some stamp) (touch (put_slot e) x) x)
+        → Puts open_at same_place pair_same place (Some stamp) (touch (put_slot e) x) x)
         (λ x d i. touch_puts place (Some stamp) (put_slot e) x (edge_kind place x i).0
         (stamp_at-put_slot e x.shape.slots d (or_left _ (list_any is_free_slot x.shape.slots) (edge_kind place x i).1))) row u.within) in (
-          set_first open_at same_place place_is place (Some stamp) (has_edge place) (touch (put_slot e)) row fits,
+          set_first open_at same_place pair_same place (Some stamp) (has_edge place) (touch (put_slot e)) row fits,
           record {
             within = All-at_first Within (has_edge place) (touch (put_slot e)) row u.within
                 (λ x i d. AreDistinct-put_slot e x.shape.slots d);
-            between = set_unique open_at same_place place_is place (Some stamp) (has_edge place)
+            between = set_unique open_at same_place pair_same place (Some stamp) (has_edge place)
                 (touch (put_slot e)) row fits u.between;
           },
         )
@@ -93,17 +86,17 @@ module _ (place : ℕ × ℕ) (row : List OpenBlock) (u : IsOpenRow row) where
         let room : OpenBlock → Bool = λ x. has_room place.0 x.shape in
         let parts : (x : OpenBlock) → room x ≡ true → (place.0 == x.shape.kind ≡ true) × (list_any is_free_slot x.shape.slots ≡ true) =
         λ x i. and_parts (place.0 == x.shape.kind) (list_any is_free_slot x.shape.slots) i in
-        let fits : Fits open_at same_place place_is place (Some stamp) room (touch (put_slot e)) row =
-        fits_room open_at same_place place_is place (Some stamp) room (touch (put_slot e)) row h none
+        let fits : Fits open_at same_place pair_same place (Some stamp) room (touch (put_slot e)) row =
+        fits_room open_at same_place pair_same place (Some stamp) room (touch (put_slot e)) row h none
         (All-weaker Within (λ x. room x ≡ true → open_at x place ≡ None
-        → Puts open_at same_place place_is place (Some stamp) (touch (put_slot e) x) x)
+        → Puts open_at same_place pair_same place (Some stamp) (touch (put_slot e) x) x)
         (λ x d i n. touch_puts place (Some stamp) (put_slot e) x (eqb-true place.0 x.shape.kind (parts x i).0)
         (stamp_at-put_slot e x.shape.slots d (or_right (list_any (holds place.1) x.shape.slots) _ (parts x i).1))) row u.within) in (
-          set_first open_at same_place place_is place (Some stamp) room (touch (put_slot e)) row fits,
+          set_first open_at same_place pair_same place (Some stamp) room (touch (put_slot e)) row fits,
           record {
             within = All-at_first Within room (touch (put_slot e)) row u.within
                 (λ x i d. AreDistinct-put_slot e x.shape.slots d);
-            between = set_unique open_at same_place place_is place (Some stamp) room (touch (put_slot e)) row fits u.between;
+            between = set_unique open_at same_place pair_same place (Some stamp) room (touch (put_slot e)) row fits u.between;
           },
         )
 
@@ -112,10 +105,10 @@ module _ (place : ℕ × ℕ) (row : List OpenBlock) (u : IsOpenRow row) where
 
     put_last : edge_at row place ≡ None → Sets place (Some stamp) row (row ++ new_block place.0 e ∷ [])
     put_last none = (
-      set_last open_at same_place place_is place (Some stamp) row (new_block place.0 e) none new_at,
+      set_last open_at same_place pair_same place (Some stamp) row (new_block place.0 e) none new_at,
       record {
         within = All-push Within row (new_block place.0 e) u.within (λ k i. empty_at 31 k, distinct_none 31);
-        between = unique_last open_at same_place place_is place (Some stamp) row (new_block place.0 e) none new_at u.between;
+        between = unique_last open_at same_place pair_same place (Some stamp) row (new_block place.0 e) none new_at u.between;
       },
     )
 
@@ -133,17 +126,17 @@ module _ (place : ℕ × ℕ) (row : List OpenBlock) (u : IsOpenRow row) where
       elim (list_any (has_edge place) row) as (λ b. list_any (has_edge place) row ≡ b
       → Sets place None row (set_edge place None row)) [
         | true ↦ λ t.
-            let fits : Fits open_at same_place place_is place None (has_edge place) (touch (take_slot place.1)) row =
-            fits_key open_at same_place place_is place None (touch (take_slot place.1)) row t u.between
+            let fits : Fits open_at same_place pair_same place None (has_edge place) (touch (take_slot place.1)) row =
+            fits_key open_at same_place pair_same place None (touch (take_slot place.1)) row t u.between
             (All-weaker Within (λ x. has_edge place x ≡ true
-            → Puts open_at same_place place_is place None (touch (take_slot place.1) x) x)
+            → Puts open_at same_place pair_same place None (touch (take_slot place.1) x) x)
             (λ x d i. touch_puts place None (take_slot place.1) x (edge_kind place x i).0 (stamp_at-take_slot place.1 x.shape.slots d))
             row u.within) in (
-              set_first open_at same_place place_is place None (has_edge place) (touch (take_slot place.1)) row fits,
+              set_first open_at same_place pair_same place None (has_edge place) (touch (take_slot place.1)) row fits,
               record {
                 within = All-at_first Within (has_edge place) (touch (take_slot place.1)) row u.within
                     (λ x i d. AreDistinct-take_slot place.1 x.shape.slots d);
-                between = set_unique open_at same_place place_is place None (has_edge place)
+                between = set_unique open_at same_place pair_same place None (has_edge place)
                     (touch (take_slot place.1)) row fits u.between;
               },
             )

@@ -6,8 +6,9 @@ use Rattle.std.specs.{Option.option_map, declared.option.Option.{Option, TheVari
 use Rattle.std.proofs.lemmas.Grind.{common_steps}
 use Rattle.graph_types.specs.Graph.{Key, Stamp}
 use Rattle.lane_scan.specs.Masks.{InMask, selected_from, selected}
+use Rattle.lane_scan.proofs.MaskPlaces.{due_lives}
 use Rattle.edge_block.specs.{Slots.{Slot, BlockView, edges_in}, Columns.slots_of, Lending.{LentEdge, lent_in, lent_of}}
-use Rattle.edge_block.proofs.{Places.length-slots_of, Places.slot_live, Views.edges_due, Views.due_lives}
+use Rattle.edge_block.proofs.{Places.{length-slots_of, slot_live}, Views.edges_due}
 
 -- one edge more in front
 more_targets : (s : Option Slot) (t n : ℕ) (chosen : List (Option Slot)) (ts : List ℕ)

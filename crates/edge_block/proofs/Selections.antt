@@ -8,8 +8,9 @@ use Rattle.std.specs.{Int.RustNames.count_ones, Option.option_map, declared.opti
 use Rattle.std.proofs.lemmas.Grind.{common_steps}
 use lib.Lanes.{mask_l}
 use Rattle.lane_scan.specs.Masks.{selected_from, selected}
+use Rattle.lane_scan.proofs.MaskPlaces.{lives_or_not}
 use Rattle.edge_block.specs.{Slots.Slot, Slots.is_free_slot, Slots.edges_in, Columns.slots_of}
-use Rattle.edge_block.proofs.Places.{length-slots_of, slot_live, slot_dead, lives_or_not}
+use Rattle.edge_block.proofs.Places.{length-slots_of, slot_live, slot_dead}
 
 abbrev pub is_taken : Option Slot → Bool
 is_taken s = not (is_free_slot s)

@@ -1,8 +1,7 @@
 -- The operations of some sources alone leave those sources' rows, and their outcomes, as all operations do.
-use Rattle.std.proofs.{Common.{◌∙◌, Some, None, All, filter, get_or}, Common.{◌≡◌, ℕ, ◌+◌, ◌%◌, ◌==◌, List, [], ◌∷◌, ◌++◌}}
+use Rattle.std.proofs.Common.{◌∙◌, Some, None, All, filter, get_or, ◌≡◌, ℕ, ◌%◌, ◌==◌, List, [], ◌∷◌, ◌++◌}
 use Rattle.std.proofs.Common.{Bool, true, false, cond, refl, sym, ap}
-use Rattle.std.proofs.lemmas.{Bool.eq-eqb, List.{Elements.{All-head, All-tail, All-nil, All-cons}, Sums.sum_by-cons}}
-use Rattle.std.specs.List.{sum_by}
+use Rattle.std.proofs.lemmas.{Bool.eq-eqb, List.Elements.{All-head, All-tail, All-nil, All-cons}}
 use Rattle.std.proofs.{Common.arith, lemmas.Grind.common_steps}
 use Rattle.graph_types.specs.Graph.{Key}
 use Rattle.graph_types.specs.declared.batches.NamedOp.{NamedOp}
@@ -12,15 +11,8 @@ use Rattle.edge_block.specs.Rows.{OpenBlock}
 use Rattle.edge_block.specs.{Rows.old_in_row, Batches.{Resolved, AtKey, InAll, key_is_of, acts_on, row_step}}
 use Rattle.edge_block.specs.Batches.{key_outcome, outcome_in, rows_step, rows_all, outcomes_all, picked}
 use Rattle.graph_types.specs.Outcomes.{together, joined}
+use Rattle.graph_types.proofs.Sums.{sum_same_own}
 use Rattle.edge_block.specs.Batches.{IsPlaced, is_in_shard, shard_ops, resolve_parts, resolved_by}
-
-sum_same : (own : ℕ → Bool) (f g : ℕ → ℕ) → ((s : ℕ) → own s ≡ true → f s ≡ g s) → (xs : List ℕ)
-    → All (λ s. own s ≡ true) xs → sum_by f xs ≡ sum_by g xs
-sum_same own f g same [] all = refl
-sum_same own f g same (x ∷ xs) all =
-    sum_by-cons f x xs
-    ∙ (λ i. same x (All-head (λ s. own s ≡ true) x xs all) i + sum_same own f g same xs (All-tail (λ s. own s ≡ true) x xs all) i)
-    ∙ sym (sum_by-cons g x xs)
 
 -- p takes the operations of the sources that pass, and each expiry
 module _ (p : Resolved → Bool) (own : ℕ → Bool) where
@@ -45,7 +37,7 @@ module _ (p : Resolved → Bool) (own : ℕ → Bool) where
   same_outcome sources all (AtKey of (Some k) change) h is rows others a =
       ap (λ row. key_outcome change (Some k) (λ _. row)) (a k.source (sym (h k refl) ∙ is))
   same_outcome sources all (InAll time) h is rows others a =
-      ap (λ n. Expired n) (sum_same own _ _ (λ s t. ap (old_in_row time) (a s t)) sources all)
+      ap (λ n. Expired n) (sum_same_own own _ _ (λ s t. ap (old_in_row time) (a s t)) sources all)
 
   pub own_rows : (rs : List Resolved) → All Follows rs → (rows others : ℕ → List OpenBlock) → Agree rows others
       → Agree (rows_all (filter p rs) rows) (rows_all rs others)
@@ -83,7 +75,7 @@ source_row rs rows source = own_rows (acts_on source) (λ other. source == other
       follows (AtKey of key change) = λ k e. ap (key_is_of source) e
       follows (InAll time) = refl
 
-placed : (names kinds : List (List ℕ)) (op : Parts) → IsPlaced (resolve_parts names kinds op)
+pub placed : (names kinds : List (List ℕ)) (op : Parts) → IsPlaced (resolve_parts names kinds op)
 placed names kinds h2 = grind (arith, common_steps)
 
 all_placed : (most : ℕ) (ops : List NamedOp) (names kinds : List (List ℕ)) → All IsPlaced (resolved_by most ops names kinds)

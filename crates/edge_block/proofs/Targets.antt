@@ -3,8 +3,9 @@ use Rattle.std.proofs.{Common.{◌≡◌, ℕ, ◌^◌, ◌<◌, ℤ, List, leng
 use Rattle.std.proofs.lemmas.{List.{length-map, get_or-map}, Nat.Bits.{same_from_bits_below, bit_at-lt}}
 use Rattle.std.specs.{Prelude.slice_index, Int.bit_at, declared.option.Option.{Option, TheVariants.{None, Some}}}
 use Rattle.lane_scan.specs.Masks.{InMask}
+use Rattle.lane_scan.proofs.MaskPlaces.{lives_or_not}
 use Rattle.edge_block.specs.{Slots.slot_target, Slots.targets_in, Columns.slots_of, Columns.AreColumns}
-use Rattle.edge_block.proofs.Places.{length-slots_of, slot_live, slot_dead, lives_or_not}
+use Rattle.edge_block.proofs.Places.{length-slots_of, slot_live, slot_dead}
 
 -- the target at a live place, and at a dead one
 target_live : (live : ℕ) (ts : List ℕ) (ws : List ℤ) (fs rs : List ℕ) (i : ℕ) → i < 32 → InMask live i →

@@ -1,5 +1,5 @@
 -- The least and the greatest of the times at the places in a mask.
-use Rattle.std.proofs.Common.{◌≡◌, ◌≢◌, ℕ, suc, ◌+◌, ◌*◌, ◌%◌, ◌^◌, ◌<◌, ◌≤◌, List, [], ◌∷◌, ◌++◌, length, get_or, set}
+use Rattle.std.proofs.Common.{◌≡◌, ◌≢◌, ℕ, ◌+◌, ◌*◌, ◌%◌, ◌^◌, ◌<◌, ◌≤◌, List, [], ◌∷◌, ◌++◌, length, set}
 use Rattle.std.proofs.{Common.{refl, sym, ap, ◌∙◌, subst, ◌⊎◌, inl, inr, arith}, lemmas.Bool.{eq-eqb, ne_eqb, cases_eq, cases_lt}}
 use Rattle.std.proofs.lemmas.List.{length-set, get_or-set_same, get_or-set_other, Elements.{Contains-append_left, All-contains}}
 use Rattle.std.proofs.lemmas.List.Elements.{Contains-get_or, Contains-push, Contains-push_cases}
@@ -9,23 +9,16 @@ use Rattle.std.specs.{Option.unwrap_or, Prelude.{slice_index, Contains}, Int.{bi
 use Rattle.std.specs.{Int.RustNames.bit_or, declared.option.Option.{Option, TheVariants.{None, Some}}}
 use lib.Bits.{and_le_l}
 use Rattle.lane_scan.specs.Masks.{InMask, IsPlaceWithin, AreBoundsOf, selected_from, selected}
-use Rattle.lane_scan.proofs.Selected.{selected_from_contains}
+use Rattle.lane_scan.proofs.Selected.{selected_from_contains, has_later}
 use Rattle.graph_types.proofs.Counts.{Contains-cons_cases}
-use Rattle.edge_block.{specs.Columns.{AreTimes, cleared_at}, proofs.Views.selected_none}
+use Rattle.lane_scan.proofs.MaskPlaces.{some_live, bounds_of_members}
+use Rattle.edge_block.specs.Columns.{AreTimes, cleared_at}
 
 -- a place in a mask that has a time
 pub record HasAt (mask : ℕ) (xs : List ℕ) (time place : ℕ) : Type 0 where
   pub within : place < length xs
   pub lives : InMask mask place
   pub is : slice_index xs place ≡ time
-
--- what is selected stands at a place in the mask, and the other way round
-has_later : (mask : ℕ) (xs : List ℕ) (time x place n : ℕ)
-    → (k : ℕ) × (k < length xs) × InMask mask (n + 1 + k) × (slice_index xs k ≡ time) →
-    (k : ℕ) × (k < length (x ∷ xs)) × InMask mask (n + k) × (slice_index (x ∷ xs) k ≡ time)
-has_later mask xs time x place n (k, within, lives, is) =
-    let same : n + 1 + k ≡ n + suc k = omega arith in
-    (suc k, omega arith, rw same at lives, is)
 
 selected_stands : (mask n : ℕ) (xs : List ℕ) (time : ℕ) → Contains (selected_from mask n xs) time →
     (k : ℕ) × (k < length xs) × InMask mask (n + k) × (slice_index xs k ≡ time)
@@ -52,23 +45,6 @@ selected_place mask xs time place at =
     subst (λ t. Contains (selected mask xs) t) at.is
     (selected_from_contains mask 0 xs place 0 place at.within (omega arith) at.lives)
 
--- bounds depend on the members alone
-pub bounds_of_members : (xs ys : List ℕ) (times : ℕ × ℕ) → ((t : ℕ) → Contains xs t → Contains ys t)
-    → ((t : ℕ) → Contains ys t → Contains xs t) →
-    AreBoundsOf xs (Some times) → AreBoundsOf ys (Some times)
-bounds_of_members xs ys times to from h = (
-  record {
-    reached = to times.0 h.0.reached;
-    bound = λ k d within. All-contains (λ t. times.0 ≤ t) xs (get_or ys k d) h.0.bound
-        (from (get_or ys k d) (Contains-get_or ys k d within));
-  },
-  record {
-    reached = to times.1 h.1.reached;
-    bound = λ k d within. All-contains (λ t. t ≤ times.1) xs (get_or ys k d) h.1.bound
-        (from (get_or ys k d) (Contains-get_or ys k d within));
-  },
-)
-
 -- a time at a place in the mask is within the bounds
 pub bounded_at : (mask : ℕ) (xs : List ℕ) (times : ℕ × ℕ) (place : ℕ) → AreBoundsOf (selected mask xs) (Some times)
     → place < length xs → InMask mask place →
@@ -79,10 +55,6 @@ bounded_at mask xs times place h within lives =
       All-contains (λ t. times.0 ≤ t) (selected mask xs) (slice_index xs place) h.0.bound there,
       All-contains (λ t. t ≤ times.1) (selected mask xs) (slice_index xs place) h.1.bound there,
     )
-
--- a word with a bit is not 0
-pub some_live : (live place : ℕ) → InMask live place → 0 < live
-some_live live place lives = grind (arith, common_steps)
 
 -- a window that misses the bounds, and one that covers them
 pub window_misses : (live : ℕ) (rs : List ℕ) (times : ℕ × ℕ) (lo hi place : ℕ) → AreTimes live rs times
@@ -119,10 +91,6 @@ not_cleared live i place few lives same =
 
 pub live_with_others : (live i : ℕ) → (cleared_at live i ≡ 0 → ⊥) → 0 < live
 live_with_others live i some = grind (arith, common_steps)
-
--- no other place
-pub bounds_alone : (rs : List ℕ) (others : ℕ) → others ≡ 0 → selected others rs ≡ []
-bounds_alone rs others none = rw none (selected_none 0 rs)
 
 -- the place has neither bound
 pub bounds_inside : (live : ℕ) (rs : List ℕ) (times : ℕ × ℕ) (i : ℕ) → i < 32 → length rs ≡ 32
@@ -231,17 +199,3 @@ times_taken live rs i None times fits long h some =
     (trailing_zeros w32 (cleared_at live i)) (record { within = omega arith; lives = low.1; is = refl }) in
     let nowhere : Contains [] (slice_index rs (trailing_zeros w32 (cleared_at live i))) = rw h at there in
     absurd (omega (arith, nowhere.1))
-
--- columns that agree at the live places
-pub selected_agree : {X : Type 0} (mask n : ℕ) (xs ys : List X) (d : X) → length xs ≡ length ys
-    → ((k m : ℕ) → k < length xs → n + k ≡ m → InMask mask m → get_or xs k d ≡ get_or ys k d) →
-    selected_from mask n xs ≡ selected_from mask n ys
-selected_agree mask n [] [] d long same = refl
-selected_agree mask n (x ∷ xs) (y ∷ ys) d long same =
-    let rest : selected_from mask (n + 1) xs ≡ selected_from mask (n + 1) ys =
-    selected_agree mask (n + 1) xs ys d (omega arith) (λ k m within e set. same (suc k) m (omega arith) (omega arith) set) in
-    elim (cases_eq (bit_at mask n) 1) [
-      | inl set ↦ (let here : x ≡ y = same 0 n (omega arith) (omega arith) set in rw (eq-eqb (bit_at mask n) 1 set, here, rest))
-      | inr clear ↦ rw (ne_eqb (bit_at mask n) 1 clear, rest)
-    ]
-selected_agree mask n _ _ d long same = absurd (omega arith)

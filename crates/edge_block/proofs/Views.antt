@@ -1,55 +1,17 @@
 -- The edges of a view, one after another.
-use Rattle.std.proofs.Common.{◌≡◌, ◌≢◌, ℕ, zero, suc, ◌+◌, ◌*◌, ◌%◌, ◌^◌, ◌<◌, ◌≤◌, ℤ, Bool, true, false, List, [], ◌∷◌, length}
+use Rattle.std.proofs.Common.{◌≡◌, ℕ, suc, ◌+◌, ◌*◌, ◌%◌, ◌^◌, ◌<◌, ◌≤◌, ℤ, Bool, true, false, List, [], ◌∷◌, length}
 use Rattle.std.proofs.Common.{get_or, map, refl, sym, ap, ◌∙◌, arith, cond}
-use Rattle.std.proofs.lemmas.{Bool.{eq-eqb, ne_eqb}, Grind.common_steps}
+use Rattle.std.proofs.lemmas.Grind.{common_steps}
 use Rattle.std.proofs.lemmas.Nat.Bits.{bit_at-zero, bit_at-lt, bit_at_and, bit_at-trailing_zeros, bit_at_clear_same}
 use Rattle.std.proofs.lemmas.{Nat.Bits.bit_at_clear_other, List.length-map, List.Sums.length-filter, List.Sums.count_by-le-length}
-use Rattle.std.specs.{Prelude.{◌==◌, ◌&&◌, nat_le, if◌then◌else◌, filter, slice_index, ◌↔◌}, Int.{bit_at, w32, bit_not}}
+use Rattle.std.specs.{Prelude.{◌==◌, if◌then◌else◌, filter, ◌↔◌}, Int.{bit_at, w32, bit_not}}
 use Rattle.std.specs.{Int.{trailing_zeros, RustNames.bit_and}, declared.option.Option.{Option, TheVariants.{None, Some}}}
-use lib.Bits.{and_le_r}
 use Rattle.graph_types.specs.{Graph.Key, Graph.Stamp, View.in_view, View.takes_kind, declared.ids.Filter.Filter}
 use Rattle.lane_scan.specs.Masks.{InMask, IsPlaceWithin, selected_from, selected}
+use Rattle.lane_scan.proofs.{MaskPlaces.{lives_or_not, in_window}, Selected.{selected_none, selected_next}}
 use Rattle.edge_block.specs.{Slots.{Slot, BlockView, edges_in, entry_in, entries_of}, Columns.{slots_of, column_slot}}
 use Rattle.edge_block.{specs.Lending.{LentEdge, lent_of, lent_in}, proofs.Places.{length-slots_of, slot_live, slot_dead}}
-use Rattle.edge_block.proofs.{Places.lives_or_not, Selections.{edges_filtered, edges_few}}
-
--- an empty mask selects nothing
-pub selected_none : {X : Type 0} (place : ℕ) (xs : List X) → selected_from 0 place xs ≡ []
-selected_none place [] = refl
-selected_none place (x ∷ xs) =
-    let clear : bit_at 0 place ≡ 1 → ⊥ = λ set. omega (arith, bit_at-zero place) in
-    rw (ne_eqb (bit_at 0 place) 1 clear) (selected_none (place + 1) xs)
-
--- masks that agree select the same
-selected_same : {X : Type 0} (mask mask' place : ℕ) (xs : List X)
-    → ((k n : ℕ) → k < length xs → place + k ≡ n → bit_at mask n ≡ bit_at mask' n) →
-    selected_from mask place xs ≡ selected_from mask' place xs
-selected_same mask mask' place [] same = refl
-selected_same mask mask' place (x ∷ xs) same =
-    let here : bit_at mask place ≡ bit_at mask' place = same 0 place (omega arith) (omega arith) in
-    let rest : selected_from mask (place + 1) xs ≡ selected_from mask' (place + 1) xs =
-    selected_same mask mask' (place + 1) xs (λ k n within e. same (suc k) n (omega arith) (omega arith)) in
-    rw (here, rest)
-
--- the first selected item, and what a mask without its place selects
-pub selected_next : {X : Type 0} (mask mask' place : ℕ) (xs : List X) (i n : ℕ) (d : X) → i < length xs → place + i ≡ n
-    → InMask mask n →
-    ((m : ℕ) → m < n → InMask mask m → ⊥) → (InMask mask' n → ⊥)
-    → ((k m : ℕ) → k < length xs → place + k ≡ m → m ≢ n → bit_at mask m ≡ bit_at mask' m) →
-    selected_from mask place xs ≡ get_or xs i d ∷ selected_from mask' place xs
-selected_next mask mask' place [] i n d within e set first clear others = absurd (omega arith)
-selected_next mask mask' place (x ∷ xs) zero n d within e set first clear others =
-    let here : place ≡ n = omega arith in
-    rw (here, eq-eqb (bit_at mask n) 1 set, ne_eqb (bit_at mask' n) 1 clear)
-    (ap (λ ys. x ∷ ys) (selected_same mask mask' (n + 1) xs
-    (λ k m at f. others (suc k) m (omega arith) (omega arith) (omega arith))))
-selected_next mask mask' place (x ∷ xs) (suc i) n d within e set first clear others =
-    let before : bit_at mask place ≡ 1 → ⊥ = first place (omega arith) in
-    let same : bit_at mask place ≡ bit_at mask' place = others 0 place (omega arith) (omega arith) (omega arith) in
-    let before' : bit_at mask' place ≡ 1 → ⊥ = λ set'. before (same ∙ set') in
-    rw (ne_eqb (bit_at mask place) 1 before, ne_eqb (bit_at mask' place) 1 before')
-    (selected_next mask mask' (place + 1) xs i n d (omega arith) (omega arith) set first clear
-    (λ k m at f ne. others (suc k) m (omega arith) (omega arith) ne))
+use Rattle.edge_block.proofs.Selections.{edges_filtered, edges_few}
 
 -- masks that agree at the slots with an edge
 edges_after : (b b' : Bool) (s : Option Slot) (xs ys : List (Option Slot)) → ((e : Slot) → s ≡ Some e → b ≡ b')
@@ -123,12 +85,6 @@ lent_view b f (e ∷ es) =
     lent_one b e (in_view f (entry_in b e)) (filter (λ x. in_view f (entry_in b x)) es) (filter (in_view f) (map (entry_in b) es))
     (lent_view b f es)
 
--- a time is in the window exactly where its place is in the window's mask
-in_window : (mask live lo hi n time : ℕ) (rs : List ℕ) → (InMask mask n ↔ IsPlaceWithin rs live lo hi n) → n < length rs
-    → InMask live n → time ≡ slice_index rs n →
-    (bit_at mask n == 1) ≡ (nat_le lo time && nat_le time hi)
-in_window mask live lo hi n time rs says within lives e = grind (arith, common_steps)
-
 -- a view lends no more edges than there are slots
 pub lent_few : (b : BlockView) (f : Filter) → length b.slots ≡ 32 → length (map lent_of (filter (in_view f) (entries_of b))) ≤ 32
 lent_few b f places = grind (arith, common_steps, edges_few, length-map, length-filter, count_by-le-length)
@@ -162,15 +118,8 @@ lent_none number source kind live ts ws fs rs f takes =
     (λ k n e within at is. rw (takes, bit_at-zero n)))
     ∙ lent_view b f (edges_in b.slots)
 
--- a place that is due is live
-pub due_lives : (mask live i : ℕ) → InMask (bit_and mask live) i → InMask live i
-due_lives mask live i due = omega (arith, bit_at_and mask live i, bit_at-lt live i)
-
 -- the first edge lent, and the rest
 pub lent_next : (b : BlockView) (kind : ℕ) (e : Slot) (xs ys : List Slot) → kind ≡ b.kind → xs ≡ e ∷ ys →
     map (lent_in b) xs ≡ (let first : LentEdge = record { kind = kind; target = e.target; stamp = e.stamp } in first)
     ∷ map (lent_in b) ys
 lent_next b kind e xs ys k h = rw (k, h) refl
-
-pub due_fits : (mask live : ℕ) → live < 2 ^ 32 → bit_and mask live < 2 ^ 32
-due_fits mask live fits = omega (arith, and_le_r mask live)

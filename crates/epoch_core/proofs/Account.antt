@@ -17,8 +17,9 @@ use Rattle.epoch_core.specs.{Machine.{to_release, to_reply, to_settle, with_heap
 use Rattle.epoch_core.specs.Holdings.{Released, Replied, answered_first, holdings, holdings_of, observations, observed_at}
 use Rattle.epoch_core.specs.Holdings.{questions, request_in}
 use Rattle.epoch_core.proofs.{Changes.graph_before, Steps.{sound_next, sound_start, idle_at}, Moves.{Moved, moved, session_after}}
-use Rattle.epoch_core.proofs.{Moves.session_else, Answering.{asked, all_asked, Adds, adds_all, same_answers, other}}
+use Rattle.epoch_core.proofs.{Moves.session_else, Answering.{asked, all_asked, Adds, adds_all, same_answers}}
 use Rattle.block_reclamation.specs.declared.status.BlockStatus.{BlockStatus}
+use Rattle.graph_types.proofs.Numbers.{other}
 
 abbrev question_on : Graph → Request → Question
 question_on g request = record { request = request; graph = g }
@@ -239,7 +240,7 @@ asked_in_holdings start s events is =
     account s start.world events (sound_start start is)
     ∙ ap (λ p. owed start.world.opening start.world.versions (held_in p) (observations s start.world events)) (idle_at start s is)
 
-no_replies : (n s : ℕ) → get_or {A = List Answer} (replicate n []) s [] ≡ []
+pub no_replies : (n s : ℕ) → get_or {A = List Answer} (replicate n []) s [] ≡ []
 no_replies n s = grind (arith, common_steps)
 
 pub replies_are_answers : (start end : MachineState) (events : List Event) (s : ℕ) → IsStart start → Runs start events end

@@ -1,14 +1,15 @@
 -- Replies are the answers to what a session asks in a run.
-use Rattle.std.proofs.Common.{◌≡◌, ◌≢◌, ℕ, ◌<◌, true, false, inl, inr, List, [], ◌∷◌, ◌++◌, length, get_or, refl, sym, ap, subst}
+use Rattle.std.proofs.Common.{◌≡◌, ℕ, ◌<◌, true, false, inl, inr, List, [], ◌∷◌, ◌++◌, length, get_or, refl, sym, ap, subst}
 use Rattle.std.proofs.{Common.{◌∙◌, arith, eqb}, lemmas.{Grind.common_steps, Bool.{eq-eqb, cases_eq, Decides.Decides-eqb}}}
 use Rattle.std.proofs.lemmas.{Option.slice_get_within, List.{append-nil, append_assoc, get_or-set_same, get_or-set_other}}
 use Rattle.std.{proofs.lemmas.List.length-set, specs.{Option.option_to_list, Prelude.{slice_get, if◌then◌else◌, MatchOption}}}
 use Rattle.std.specs.{Prelude.◌==◌, List.AllZip, declared.option.Option.TheVariants.{None, Some}}
 use Rattle.graph_types.proofs.OneAnswer.{one_answer}
+use Rattle.graph_types.proofs.{Cases.and_then_some, Numbers.other}
 use Rattle.epoch_core.specs.declared.events.Event.{Event, TheVariants.{Settle, Ask, Read, Reply, Release, Take, Fill, Post}}
 use Rattle.epoch_core.specs.{declared.events.Event.TheVariants.{Floor, Recycle, Pin, Enter}, Worlds.{Answer, World}}
 use Rattle.epoch_core.specs.{Runs.{AllReplies, next_world}, Machine.{Answers, IsAnswered, Question, Replies, question_in}}
-use Rattle.epoch_core.{specs.Machine.question_of, proofs.{Lists.and_then_some, Sizes.size_next}}
+use Rattle.epoch_core.{specs.Machine.question_of, proofs.Sizes.size_next}
 
 pub same_answers : (qs : List Question) (xs ys : List Answer) → AllZip Answers qs xs → AllZip Answers qs ys → xs ≡ ys
 same_answers [] [] [] a b = refl
@@ -46,9 +47,6 @@ pub record Adds (s : ℕ) (qs : List Question) (old new : List (List Answer)) : 
 
 adds_none : (s : ℕ) (old new : List (List Answer)) → new ≡ old → Adds s [] old new
 adds_none s old new same = grind (arith, common_steps)
-
-pub other : (t s : ℕ) → t ≢ s → eqb t s ≡ false
-other t s ne = grind (arith, common_steps)
 
 -- the session of a question is there
 asks_within : (w : World) (s : ℕ) (q : Question) → question_of w s ≡ Some q → s < length w.sessions

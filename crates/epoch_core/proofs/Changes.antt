@@ -1,22 +1,14 @@
 -- Versions, and what a new one leaves of the older.
-use Rattle.std.proofs.Common.{◌≡◌, ℕ, zero, suc, ◌<◌, ◌≤◌, List, [], ◌∷◌, ◌++◌, length, map, refl, ap, ◌∙◌, arith, add-one}
+use Rattle.std.proofs.Common.{◌≡◌, ℕ, zero, suc, ◌≤◌, List, [], ◌∷◌, ◌++◌, length, map, refl, ap, ◌∙◌, arith, add-one}
 use Rattle.std.proofs.lemmas.{List.{take-append-le, take_all, map-append, length_push}, Grind.common_steps}
-use Rattle.std.specs.{Prelude.slice_get, declared.option.Option.TheVariants.Some, Option.unwrap_or}
+use Rattle.std.specs.Option.{unwrap_or}
 use Rattle.graph_types.{specs.Step.after_all, proofs.More.left_more}
+use Rattle.graph_types.proofs.ListPlaces.{get_before, get_last}
 use Rattle.epoch_core.specs.declared.states.{Version.Version, Opening.Opening}
 use Rattle.epoch_core.specs.Versions.{batches_at, graph_at, left, version_at, version_zero}
 
 pub length_next : (vs : List Version) (v : Version) → length (vs ++ v ∷ []) ≡ suc (length vs)
 length_next vs v = length_push vs v ∙ add-one (length vs)
-
-get_before : {A : Type 0} (xs ys : List A) (n : ℕ) → n < length xs → slice_get (xs ++ ys) n ≡ slice_get xs n
-get_before [] ys n h = absurd (omega arith)
-get_before (x ∷ xs) ys zero h = refl
-get_before (x ∷ xs) ys (suc n) h = get_before xs ys n (omega arith)
-
-get_last : {A : Type 0} (xs : List A) (x : A) → slice_get (xs ++ x ∷ []) (length xs) ≡ Some x
-get_last [] x = refl
-get_last (y ∷ ys) x = get_last ys x
 
 pub version_before : (o : Opening) (vs : List Version) (v : Version) (n : ℕ) → n ≤ length vs → version_at o (vs ++ v ∷ []) n
     ≡ version_at o vs n

@@ -1,17 +1,19 @@
 -- What a whole collection leaves.
-use Rattle.std.proofs.Common.{◌≡◌, ℕ, zero, suc, ◌≤◌, Bool, true, false, ◌||◌, inl, inr, List, [], ◌∷◌, ◌++◌, map, replicate}
+use Rattle.std.proofs.Common.{◌≡◌, ℕ, suc, ◌≤◌, Bool, true, false, ◌||◌, inl, inr, List, [], ◌∷◌, ◌++◌, map, replicate}
 use Rattle.std.proofs.{Common.{get_or, set, refl, sym, ap, subst, ◌∙◌, arith, eqb}, lemmas.{Grind.common_steps, Bool.{cases_eq, or_cases}}}
 use Rattle.std.{proofs.lemmas.Bool.Decides.nat_tests, specs.{Prelude.slice_get, List.list_any, Option.unwrap_or}}
 use Rattle.std.specs.declared.option.Option.{Option, TheVariants.{None, Some}}
 use Rattle.block_reclamation.specs.declared.{copies.{PinCopy.PinCopy, Pin.Pin}, status.BlockStatus.BlockStatus}
 use Rattle.block_reclamation.specs.{declared.status.BlockStatus.TheVariants.{Free, Retired}, Status.{is_at, is_among}}
 use Rattle.block_reclamation.specs.{Status.is_retired, Copies.{needs, is_between, is_pin_before, settled_number, unsettled_number}}
+use Rattle.block_reclamation.proofs.{OneStatus.not_retired, SeatPins.none_there}
+use Rattle.graph_types.proofs.{Cases.{option_map_some, some_pin}, ListPlaces.{set_same, set_else}}
 use Rattle.epoch_core.specs.declared.session_states.SessionState.{SessionState, TheVariants.Idle}
 use Rattle.epoch_core.specs.{declared.events.Event.TheVariants.Recycle, Blocks.reclaimed, Collections.LeavesNoneUnpinned}
 use Rattle.epoch_core.specs.{Collections.{IsSettledNeed, IsUnsettledNeed, IsPinned, collecting, LeavesWhatPinsNeed}, Worlds.World}
 use Rattle.epoch_core.specs.{Worlds.{last_number, session_of, pin_in, present_copy, seat_pin}, Machine.{step, with_status}}
-use Rattle.epoch_core.{specs.{Runs.{next_world, run}, Sound.{IsDatedAt, IsSound}}, proofs.Lists.{option_map_some, ChangedAt}}
-use Rattle.epoch_core.proofs.{Lists.{changed_at-some, set_same, set_else}, Moves.{floored, settled_needs, unsettled_needs}}
+use Rattle.epoch_core.{specs.{Runs.{next_world, run}, Sound.{IsDatedAt, IsSound}}, proofs.Lists.ChangedAt}
+use Rattle.epoch_core.proofs.{Lists.changed_at-some, Moves.{floored, settled_needs, unsettled_needs}}
 
 -- a block was born and retired with these numbers
 abbrev pub IsRetiredAt : World → ℕ → ℕ → ℕ → Type 0
@@ -101,15 +103,6 @@ record Found (number : Option Pin → Option ℕ) (p : Option ℕ → Bool) (sta
   at : number (seat_pin (get_or states session Idle)) ≡ Some pin
   holds : p (Some pin) ≡ true
 
-none_there : (number : Option Pin → Option ℕ) (p : Option ℕ → Bool) (k : ℕ) → p (number None) ≡ false
-    → list_any p (map number (replicate k None)) ≡ false
-none_there number p zero never = refl
-none_there number p (suc k) never =
-    ap (λ t. t || list_any p (map number (replicate k None))) never ∙ none_there number p k never
-
-some_pin : (p : Option ℕ → Bool) (o : Option ℕ) → p None ≡ false → p o ≡ true → (n : ℕ) × (o ≡ Some n) × (p (Some n) ≡ true)
-some_pin p o never holds = grind (arith, common_steps)
-
 found : (number : Option Pin → Option ℕ) (p : Option ℕ → Bool) (sessions : List SessionState) (k : ℕ) → p None ≡ false
     → number None ≡ None → list_any p (map number (map seat_pin sessions ++ replicate k None)) ≡ true → Found number p sessions
 found number p [] k never none is =
@@ -153,9 +146,6 @@ leaves_what_pins_need w sound blocks all b birth retirement = (
 
 no_need : (w : World) (birth retirement : ℕ) → ((s : ℕ) → pin_in (session_of w s) ≡ None) → IsPinned w birth retirement → ⊥
 no_need w birth retirement none h = grind (arith, common_steps)
-
-not_retired : (o : Option BlockStatus) → ((birth retirement : ℕ) → o ≡ Some (Retired birth retirement) → ⊥) → is_at is_retired o ≡ false
-not_retired o never = grind (arith, common_steps)
 
 pub leaves_none_unpinned : (w : World) → IsSound w → LeavesNoneUnpinned w
 leaves_none_unpinned w sound blocks all none b =

@@ -1,5 +1,5 @@
 -- Steps of the whole state.
-use Rattle.std.proofs.Common.{◌≡◌, ℕ, zero, suc, ◌+◌, ◌≤◌, min, inl, inr, List, [], ◌∷◌, ◌++◌, length, refl, sym, ap, subst, ◌∙◌}
+use Rattle.std.proofs.Common.{◌≡◌, ℕ, zero, suc, ◌+◌, ◌≤◌, inl, inr, List, [], ◌∷◌, ◌++◌, length, refl, sym, ap, subst, ◌∙◌}
 use Rattle.std.{proofs.{Common.arith, lemmas.{Bool.cases_eq, List.length-replicate}}, specs.Prelude.{if◌then◌else◌, is_some}}
 use Rattle.std.specs.{Option.unwrap_or, declared.option.Option.{Option, TheVariants.{None, Some}}}
 use Rattle.graph_types.specs.Limits.{LimitsView}
@@ -87,11 +87,6 @@ pub count_more : (old mid new : MachineState) (es : List Event) (e : Event) (out
 count_more old mid new es e outcome runs steps =
     done_more es e old.world ∙ ap (λ w. done_in es old.world + (if is_done w e then 1 else 0)) (sym runs.world)
     ∙ ap (λ n. done_in es old.world + n) (stepped_count (step mid.world e) outcome mid.world new.world steps.world)
-
--- a count that stays below a bound
-pub capped_more : (old new before after more bound : ℕ) → old ≡ min before bound → after ≡ before + more → new
-    ≡ min (old + more) bound → new ≡ min after bound
-capped_more old new before after more bound e f g = omega arith
 
 -- the content without names, kinds and edges
 abbrev empty_content : Content

@@ -1,14 +1,16 @@
 -- Edges and stamps compared, and when edges are each once the edges of a graph.
-use Rattle.std.proofs.Common.{◌≡◌, ◌≢◌, suc, ◌-◌, Bool, true, false, cond, not, List, [], ◌∷◌, length, get_or, Decides, refl, sym}
+use Rattle.std.proofs.Common.{◌≡◌, ◌≢◌, Bool, not, List, [], ◌∷◌, length, Decides, refl, sym}
 use Rattle.std.proofs.{Common.{ap, subst, ◌∙◌, arith}, lemmas.{Grind.common_steps, Bool.Decides.{Decides-and, Decides-by_and}}}
-use Rattle.std.{proofs.lemmas.Bool.Decides.{Decides-eqb, Decides-like, Decides-not}, specs.Prelude.{All, is_some}}
-use Rattle.std.specs.{List.{list_any, list_all}, declared.option.Option.{Option, TheVariants.{None, Some}}, FinMap.{FinMap, get}}
-use Rattle.std.specs.FinMap.{same_map, insert, remove, len, get-insert, get-remove, len-remove, empty_of_len}
-use Rattle.graph_types.specs.Graph.{Graph, Key, Stamp, key_cmp, key_of, stamp_of, map_of}
+use Rattle.std.{proofs.lemmas.Bool.Decides.{Decides-eqb, Decides-like, Decides-not}, specs.Prelude.All}
+use Rattle.std.specs.{List.{list_any, list_all}, declared.option.Option.{Option, TheVariants.Some}, FinMap.{FinMap, get}}
+use Rattle.std.specs.FinMap.{len}
+use Rattle.graph_types.specs.Graph.{Graph, Stamp, key_cmp, key_of, stamp_of}
 use Rattle.graph_types.{specs.declared.ids.Edge.Edge, proofs.EdgeLookup.Decides-has_key}
-use Rattle.graph_types.proofs.Keys.{keys_total, exact_keys, is_key_of, is_key_of-true, is_key_of-false, HasKeysOnce, once_none}
+use Rattle.graph_types.proofs.Keys.{HasKeysOnce, once_none}
 use Rattle.graph_types.proofs.Keys.{once_head, once_tail, once_cons, get_listed, len_once}
-use Rattle.epoch_core.{proofs.Lists.neither, specs.{Versions.AreEdgesOf, Posting.{are_edges_of, bears, keys_differ, same_key}}}
+use Rattle.graph_types.proofs.Cases.{neither}
+use Rattle.graph_types.proofs.EdgeMaps.{AllStand, map_from_all}
+use Rattle.epoch_core.specs.{Versions.AreEdgesOf, Posting.{are_edges_of, bears, keys_differ, same_key}}
 
 Decides-bears : (o : Option Stamp) (s : Stamp) → Decides (bears o s) (o ≡ Some s)
 Decides-bears o s = grind (arith, common_steps)
@@ -30,44 +32,12 @@ Decides-keys_differ (e ∷ es) =
     Decides-like _ (λ p. once_cons e es p.0 p.1) (λ once. (once_head e es once, once_tail e es once))
     (Decides-and _ _ (Decides-alone e es) (Decides-keys_differ es))
 
--- each edge stands in the map
-abbrev AllStand : FinMap key_cmp Stamp → List Edge → Type 0
-AllStand m es = All (λ e. get m (key_of e) ≡ Some (stamp_of e)) es
-
 Decides-all_stand : (m : FinMap key_cmp Stamp) (es : List Edge)
     → Decides (list_all (λ e. bears (get m (key_of e)) (stamp_of e)) es) (AllStand m es)
 Decides-all_stand m es =
     Decides-by_and (λ e. bears (get m (key_of e)) (stamp_of e)) (λ e. get m (key_of e) ≡ Some (stamp_of e))
     (list_all (λ e. bears (get m (key_of e)) (stamp_of e)))
     (λ e. Decides-bears (get m (key_of e)) (stamp_of e)) refl (λ _ _. refl) es
-
--- an edge that stands in the map, taken away and inserted again
-put_back : (m : FinMap key_cmp Stamp) (e : Edge) (q : Key) → get m (key_of e) ≡ Some (stamp_of e)
-    → get (insert (remove m (key_of e)) (key_of e) (stamp_of e)) q ≡ get m q
-put_back m e q stands =
-    get-insert keys_total (remove m (key_of e)) (key_of e) (stamp_of e) q
-    ∙ ap (cond (is_key_of q e) (Some (stamp_of e))) (get-remove keys_total m (key_of e) q)
-    ∙ elim (is_key_of q e) as (λ t. is_key_of q e ≡ t → cond t (Some (stamp_of e)) (cond t None (get m q)) ≡ get m q) [
-      | true ↦ λ t. sym stands ∙ ap (get m) (sym (is_key_of-true q e t))
-      | false ↦ λ _. refl
-    ] refl
-
--- edges that all stand in the map, as many as it has and with no key twice, make the map
-map_from_all : (m : FinMap key_cmp Stamp) (es : List Edge) → HasKeysOnce es → AllStand m es → length es ≡ len m → map_of es ≡ m
-map_from_all m [] once all few = sym (empty_of_len m (sym few))
-map_from_all m (e ∷ es) once all few =
-    let stands : get m (key_of e) ≡ Some (stamp_of e) = all 0 e (omega arith) in
-    let rest : FinMap key_cmp Stamp = remove m (key_of e) in
-    let others : AllStand rest es =
-    λ k d h.
-    let x : Edge = get_or es k d in
-    let other : is_key_of (key_of x) e ≡ false = is_key_of-false (key_of x) e (λ same. once_head e es once k d h (sym same)) in
-    get-remove keys_total m (key_of e) (key_of x) ∙ ap (λ t. cond t None (get m (key_of x))) other
-    ∙ all (suc k) d (omega arith) in
-    let fewer : len rest ≡ len m - 1 = len-remove keys_total m (key_of e)
-    ∙ ap (λ o. cond (is_some o) (len m - 1) (len m)) stands in
-    let made : map_of es ≡ rest = map_from_all rest es (once_tail e es once) others (omega (arith, fewer, few)) in
-    ap (λ n. insert n (key_of e) (stamp_of e)) made ∙ same_map keys_total exact_keys _ m (λ q. put_back m e q stands)
 
 -- the test of a Post's edges
 pub Decides-edges : (g : Graph) (es : List Edge) → Decides (are_edges_of g es) (AreEdgesOf es g)

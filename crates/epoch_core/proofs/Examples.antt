@@ -2,16 +2,19 @@
 use Rattle.std.proofs.Common.{◌≡◌, ℕ, true, false, cond, not, List, [], ◌∷◌, refl, sym, ap, ◌∙◌, arith, pos, negsuc, length}
 use Rattle.std.{proofs.lemmas.Grind.common_steps, specs.Ordering.eq_by_cmp, specs.declared.option.Option.TheVariants.{None, Some}}
 use Rattle.std.specs.{Prelude.ℤ, FinMap.{FinMap, get, insert, empty, get-empty, get-insert, same_map}}
+use Rattle.block_reclamation.specs.{Board.{with_pin, no_pins}, Copies.{pin_at, unsettled}}
 use Rattle.graph_types.specs.Limits.{standard_limits, weight_limit, is_weight}
-use Rattle.graph_types.specs.{Graph.{Graph, Key, Stamp, key_cmp}, Step.{after_all, set_at, stamp_after}, declared.ids.Edge.Edge}
+use Rattle.graph_types.specs.{Graph.{Graph, Key, Stamp, key_cmp}, Step.{after_all, set_at, stamp_after}}
 use Rattle.graph_types.specs.declared.{batches.NamedOp.NamedOp, changes.EdgeChange.TheVariants.{Insert, Incr}}
-use Rattle.graph_types.proofs.Keys.{keys_total, exact_keys, once_none, once_cons, HasKeysOnce}
+use Rattle.graph_types.proofs.Keys.{keys_total, exact_keys, once_none}
+use Rattle.graph_types.proofs.EdgeMaps.{once_one}
 use Rattle.epoch_core.specs.declared.events.Event.{Event, TheVariants.{Release, Take, Fill, Post, Floor, Pin, Enter, Settle, Ask}}
 use Rattle.epoch_core.specs.{declared.events.Event.TheVariants.{Read, Reply}, Posting.{can_post, are_edges_of}, Worlds.World}
 use Rattle.epoch_core.specs.{Worlds.{empty_opening, start_world}, Runs.run, Holdings.{Holding, holdings_of, observations}}
 use Rattle.epoch_core.specs.Examples.{AreExamples, name_a, name_b, kind_k, one_insertion, add_to_edge, example_edge, ask_edge}
 use Rattle.epoch_core.specs.Examples.{short_batches, long_batches, of_short, of_long}
 use Rattle.epoch_core.{specs.Posts.posted, specs.Versions.left, proofs.Edges.Decides-edges}
+use Rattle.epoch_core.specs.Worlds.{seat_pin, session_of}
 
 -- The graph of one edge, and what batches make of it
 
@@ -64,16 +67,13 @@ long_graph = ap (after_all (add_to_edge (negsuc 5) 1)) (first_graph (pos 7) 1 re
 
 -- Posts that are done
 
-once_one : (e : Edge) → HasKeysOnce (e ∷ [])
-once_one e = once_cons e [] (λ k d h. absurd (omega arith)) once_none
-
 shows_one : (g : Graph) (weight : ℤ) (time : ℕ) → g ≡ graph_of_edge (stamp weight time time)
     → are_edges_of g (example_edge weight time) ≡ true
 shows_one g weight time is = (Decides-edges g (example_edge weight time)).1
     (record { once = once_one _; same = ap (λ h. h.edges) (sym is) })
 
 -- no edges are once each the edges of the graph without edges
-shows_none : are_edges_of (left empty_opening []) [] ≡ true
+pub shows_none : are_edges_of (left empty_opening []) [] ≡ true
 shows_none = (Decides-edges (left empty_opening []) []).1 (record { once = once_none; same = refl })
 
 sees : (s : ℕ) (w : World) (batch : List NamedOp) (blocks : List ℕ) (rest : List Event)
@@ -138,3 +138,7 @@ are_examples = record {
   other_graph = λ agree. other_names (sym short_holdings ∙ agree);
   blocks = refl;
 }
+
+pub pin_shown : (s : ℕ) → seat_pin (session_of (run (Pin 0 ∷ []) (start_world 1 3)) s)
+    ≡ pin_at (with_pin no_pins 0 (Some (unsettled 0))).pins s
+pin_shown s = grind (arith, common_steps)

@@ -1,15 +1,17 @@
 -- What a whole collection leaves, by the versions that sessions hold.
 use Rattle.std.proofs.Common.{◌≡◌, ◌⊎◌, inl, inr, ℕ, zero, suc, ◌<◌, ◌≤◌, Bool, true, false, refl, sym, ap, subst, ◌∙◌}
-use Rattle.std.proofs.{Common.{arith, ltb}, lemmas.{Grind.common_steps, Bool.cases_lt, Bool.Decides.nat_tests}}
+use Rattle.std.proofs.{Common.arith, lemmas.{Grind.common_steps, Bool.cases_lt}}
 use Rattle.std.specs.{Prelude.slice_get, declared.option.Option.{Option, TheVariants.{Some}}}
-use Rattle.block_reclamation.specs.declared.{status.BlockStatus.{BlockStatus, TheVariants.Retired}}
+use Rattle.block_reclamation.specs.declared.status.BlockStatus.{BlockStatus}
 use Rattle.block_reclamation.specs.{Status.{is_at, is_among, is_retired, is_used}, Copies.{needs, settled_number, unsettled_number}}
+use Rattle.block_reclamation.proofs.OneStatus.{not_used, RetiredThen, retired_then}
+use Rattle.graph_types.proofs.Numbers.{below, is_below}
 use Rattle.epoch_core.specs.declared.session_states.{Hold.Hold, SessionState.SessionState}
 use Rattle.epoch_core.specs.Worlds.{World, held_in, last_blocks, last_number, present_copy, seat_pin, session_of, settled_in}
 use Rattle.epoch_core.specs.{Worlds.unsettled_in, Versions.blocks_at, Runs.run, Collections.{has_settled, HaveSettled, collecting}}
 use Rattle.epoch_core.specs.Collections.{IsHeldBlock, IsListedFromPin, IsPinned, LeavesWhatIsHeld, LeavesWhatMayBeHeld}
 use Rattle.epoch_core.specs.Sound.{IsDatedAt, IsHeld, IsKeptAt, IsListedAt, IsListedBetween, IsSessionSound, IsSound}
-use Rattle.epoch_core.proofs.{Collected.{IsRetiredAt, leaves_what_pins_need, pinned, pin_needs, retired_by}, Posted.below}
+use Rattle.epoch_core.proofs.Collected.{IsRetiredAt, leaves_what_pins_need, pinned, pin_needs, retired_by}
 
 -- a session that has settled, or has no pin, has no unsettled one
 none_unsettled : (session : SessionState) (pin : ℕ) → has_settled session ≡ true → unsettled_in session ≡ Some pin → ⊥
@@ -78,9 +80,6 @@ unsettled_there : (session : SessionState) (pin : ℕ) → seat_pin session ≡ 
     → unsettled_in session ≡ Some pin
 unsettled_there session pin is = ap unsettled_number is
 
-is_below : (n end : ℕ) → ltb n end ≡ true → n < end
-is_below n end is = grind (arith, nat_tests)
-
 -- and what such a version lists, a pin needs
 holder_needs : (w : World) (b birth retirement s n : ℕ) (told : Bool) (holder : Holder w (session_of w s) n)
     → holder.hold.settled ≡ told → birth ≤ holder.hold.version → holder.hold.version < retirement → IsPinned w birth retirement
@@ -137,15 +136,6 @@ needs_what_is_listed w b birth retirement sound at = record {
   needed = λ is. pin_needs w birth retirement (pin_of w b birth retirement sound at is);
 }
 
--- a block is retired with some dates
-pub record RetiredThen (o : Option BlockStatus) : Type 0 where
-  pub birth : ℕ
-  pub retirement : ℕ
-  pub is : o ≡ Some (Retired birth retirement)
-
-pub retired_then : (o : Option BlockStatus) → is_at is_retired o ≡ true → RetiredThen o
-retired_then o is = grind (arith, common_steps)
-
 pub leaves_what_may_be_held : (w : World) → IsSound w → LeavesWhatMayBeHeld w
 leaves_what_may_be_held w sound blocks all b = (
   λ still.
@@ -162,9 +152,6 @@ leaves_what_may_be_held w sound blocks all b = (
 pub held_alone : (w : World) (b : ℕ) → HaveSettled w → IsHeldBlock w b ⊎ IsListedFromPin w b → IsHeldBlock w b
 held_alone w b told (inl h) = h
 held_alone w b told (inr f) = absurd (none_unsettled (session_of w f.session) f.pin (told f.session) f.is_pin)
-
-not_used : (o : Option BlockStatus) → is_at is_retired o ≡ true → is_at is_used o ≡ false
-not_used o is = grind (arith, common_steps)
 
 kept_retired : (n : ℕ) (o : Option BlockStatus) → IsKeptAt n o → is_at is_used o ≡ false → is_at is_retired o ≡ true
 kept_retired n o kept unused = grind (arith, common_steps)

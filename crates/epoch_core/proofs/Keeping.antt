@@ -6,13 +6,14 @@ use Rattle.graph_types.specs.declared.ids.Edge.{Edge}
 use Rattle.block_reclamation.specs.{declared.status.BlockStatus.BlockStatus, declared.copies.PinCopy.PinCopy, Copies.needs}
 use Rattle.block_reclamation.specs.declared.status.BlockStatus.TheVariants.{Free, Granted, Used, Retired}
 use Rattle.block_reclamation.specs.Status.{is_at, is_among, is_used, IsDated, IsKept}
+use Rattle.block_reclamation.proofs.ListedNumbers.{same_pieces, listed_take}
+use Rattle.graph_types.proofs.ListPlaces.{set_else, set_same}
 use Rattle.epoch_core.specs.declared.session_states.{Hold.Hold, SessionState.{SessionState, TheVariants.{Idle, Pinned, Holding}}}
 use Rattle.epoch_core.specs.{declared.session_states.SessionState.TheVariants.Asking, Blocks.{filled_heap, status_taken, reclaimed}}
 use Rattle.epoch_core.specs.{Machine.{with_heap, with_status}, Versions.{AreEdgesOf, blocks_at, edges_at, edges_of, graph_at}}
 use Rattle.epoch_core.specs.{Versions.version_at, Worlds.{World, last_blocks, last_graph, last_number, session_of}}
 use Rattle.epoch_core.specs.Sound.{IsCovered, IsDatedAt, IsHeld, IsKeptAt, IsListedAsDated, IsListedAt, IsNamed}
 use Rattle.epoch_core.specs.Sound.{IsSessionSound, IsSound}
-use Rattle.epoch_core.proofs.Lists.{set_same, set_else, same_pieces, listed_take}
 
 -- what a change of the world owes to each holder
 pub record Carries (old new : World) : Type 0 where

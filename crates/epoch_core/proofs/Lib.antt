@@ -18,3 +18,8 @@ pub mod Examples
 pub mod OpenedStart
 pub mod Lists
 pub mod Edges
+pub mod RunsTogether
+pub mod SessionSteps
+pub mod HeldStatus
+pub mod BlockSteps
+pub mod Owed

@@ -2,7 +2,7 @@
 use Rattle.std.proofs.Common.{◌≡◌, ◌≢◌, ℕ, ◌<◌, ◌≤◌, Bool, true, false, not, inl, inr, List, ◌++◌, length, map}
 use Rattle.std.proofs.{Common.{replicate, get_or, set, refl, sym, ap, subst, ◌∙◌, arith, ◌-◌, IfSome}, lemmas.Grind.common_steps}
 use Rattle.std.proofs.lemmas.{Option.{slice_get_within, get_or_from_slice_get}, List.{get_or-set_same, get_or-set_other}}
-use Rattle.std.{proofs.{lemmas.Bool.cases_eq, Math.ListN.get_or-map}, specs.{Prelude.slice_get, Option.option_map}}
+use Rattle.std.{proofs.{lemmas.Bool.cases_eq, Math.ListN.get_or-map}, specs.Prelude.slice_get}
 use Rattle.std.specs.declared.option.Option.{Option, TheVariants.{None, Some}}
 use Rattle.graph_types.specs.declared.{requests.Request.Request}
 use Rattle.epoch_core.specs.declared.session_states.{Hold.Hold, SessionState.{SessionState, TheVariants.{Idle, Pinned, Holding}}}
@@ -11,10 +11,12 @@ use Rattle.epoch_core.specs.{Worlds.{session_of, settled_in, present_copy, seat_
 use Rattle.epoch_core.specs.Machine.{to_settle, with_sessions, move, read_on, settled_at, to_ask, to_enter, to_pin, to_read}
 use Rattle.epoch_core.specs.{Versions.{blocks_at, edges_at}, Sound.{IsCovered, IsHeld, IsSessionSound, IsSound}}
 use Rattle.epoch_core.{specs.Worlds.unsettled_in, proofs.Keeping.Carries, proofs.Keeping.carry, proofs.Keeping.named_still}
-use Rattle.epoch_core.proofs.Lists.{option_map_some, ChangedAt, changed_at-some, one_piece_more}
+use Rattle.epoch_core.proofs.Lists.{ChangedAt, changed_at-some}
 use Rattle.block_reclamation.specs.declared.copies.{Pin.Pin, PinCopy.PinCopy, TheConstants.SEATS}
 use Rattle.block_reclamation.specs.Copies.{floor_of, needs, number_if, pin_at, settled_number, unsettled_number}
 use Rattle.block_reclamation.proofs.{Least.settled_needed, Least.unsettled_needed, Copied.floor_is_least}
+use Rattle.block_reclamation.proofs.SeatPins.{below_pin}
+use Rattle.graph_types.proofs.{Cases.option_map_some, Joined.one_piece_more}
 
 -- a session's pin is that of its seat
 seated : (sessions : List SessionState) (k s : ℕ) → pin_at (map seat_pin sessions ++ replicate k None) s
@@ -30,9 +32,6 @@ present_floor w = floor_of (present_copy w)
 
 pub floor_first : (w : World) → present_floor w ≤ last_number w
 floor_first w = let least = floor_is_least (last_number w) (seat_pins w.sessions) in least.below_last
-
-below_pin : (o : Option Pin) (pin floor : ℕ) → option_map (λ p. p.number) o ≡ Some pin → IfSome o (λ p. floor ≤ p.number) → floor ≤ pin
-below_pin o pin floor is low = grind (arith, common_steps)
 
 floor_each : (w : World) (s pin : ℕ) → pin_in (session_of w s) ≡ Some pin → present_floor w ≤ pin
 floor_each w s pin is =

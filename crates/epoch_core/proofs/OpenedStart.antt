@@ -1,15 +1,17 @@
 -- The start over an opening content is one from which a run may start.
-use Rattle.std.proofs.Common.{◌≡◌, ◌≢◌, ℕ, zero, suc, ◌<◌, ◌==◌, ◌||◌, Bool, true, false, cond, List, [], ◌∷◌, ◌++◌, length, set}
+use Rattle.std.proofs.Common.{◌≡◌, ◌≢◌, ℕ, zero, suc, ◌<◌, ◌==◌, ◌||◌, true, false, cond, List, [], ◌∷◌, ◌++◌, length, set}
 use Rattle.std.proofs.{Common.{replicate, refl, sym, ap, subst, ◌∙◌, arith, All, AllPairs}, lemmas.Bool.{eqb-true, eqb-false}}
 use Rattle.std.proofs.lemmas.List.{length-replicate, length-set, get_or-set_same, get_or-set_other, Elements.{All-head, All-tail}}
 use Rattle.std.proofs.lemmas.List.Elements.{All-nil, All-cons}
 use Rattle.std.specs.{Prelude.slice_get, List.flat_map, declared.option.Option.TheVariants.Some}
-use Rattle.epoch_core.{proofs.PostRule.differ_head, proofs.Lists.set_same, proofs.Lists.set_else, specs.Sound.IsCore}
+use Rattle.epoch_core.specs.Sound.{IsCore}
 use Rattle.epoch_core.specs.{Versions.AreEdgesOf, Versions.edges_at, declared.session_states.SessionState.TheVariants.Idle}
 use Rattle.epoch_core.specs.Opened.{BlockLists, numbers_in, heap_with, status_with, opened_state_in, IsOpeningIn}
-use Rattle.epoch_core.{specs.Worlds.IsStart, specs.Worlds.HasContents, proofs.Steps.sound_start, proofs.Steps.free_at}
+use Rattle.epoch_core.{specs.Worlds.{IsStart, HasContents}, proofs.Steps.sound_start}
 use Rattle.graph_types.{proofs.Counts.apart_tail, specs.{Graph.graph_in, Limits.LimitsView, declared.{ids.Edge.Edge, contents.Content.Content}}}
 use Rattle.block_reclamation.specs.{declared.status.BlockStatus.{BlockStatus, TheVariants.{Free, Used}}, Status.is_among}
+use Rattle.block_reclamation.proofs.OneStatus.{same_either, free_at}
+use Rattle.graph_types.proofs.{Elements.differ_head, ListPlaces.{set_same, set_else}}
 
 length-heap_with : (lists : BlockLists) (heap : List (List Edge)) → length (heap_with lists heap) ≡ length heap
 length-heap_with [] heap = refl
@@ -18,10 +20,6 @@ length-heap_with (l ∷ lists) heap = length-heap_with lists (set heap l.0 l.1) 
 length-status_with : (lists : BlockLists) (status : List BlockStatus) → length (status_with lists status) ≡ length status
 length-status_with [] status = refl
 length-status_with (l ∷ lists) status = length-status_with lists (set status l.0 (Used 0)) ∙ length-set status l.0 (Used 0)
-
-same_either : (b : Bool) → cond b (Used 0) (Used 0) ≡ Used 0
-same_either true = refl
-same_either false = refl
 
 -- what each block is
 status_at : (lists : BlockLists) (status : List BlockStatus) (b : ℕ) (s : BlockStatus) → slice_get status b ≡ Some s

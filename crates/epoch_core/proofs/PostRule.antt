@@ -1,19 +1,18 @@
 -- The test of a Post decides its rule.
-use Rattle.std.proofs.Common.{◌≡◌, ◌≢◌, ◌⊎◌, ◌↔◌, ℕ, suc, ◌<◌, Bool, true, not, List, [], ◌∷◌, length, Decides, refl, sym, ◌∙◌}
-use Rattle.std.proofs.{Common.{arith, eqb, leb}, lemmas.{Grind.common_steps, Bool.Decides.{Decides-ltb, Decides-and, Decides-or}}}
+use Rattle.std.proofs.Common.{◌≡◌, ◌≢◌, ◌⊎◌, ◌↔◌, ℕ, true, not, List, [], ◌∷◌, length, Decides, refl, sym, ◌∙◌}
+use Rattle.std.proofs.{Common.{arith, eqb, leb}, lemmas.Bool.Decides.{Decides-ltb, Decides-and, Decides-or}}
 use Rattle.std.proofs.lemmas.{Bool.Decides.{Decides-not, Decides-like, Decides-by_and, Decides-eqb}, List.Kept.AllPairs-cons}
-use Rattle.std.specs.Prelude.{slice_get, if◌then◌else◌, is_some, All, AllPairs, IsTrue}
-use Rattle.std.specs.declared.option.Option.{Option, TheVariants.None, TheVariants.Some}
+use Rattle.std.specs.Prelude.{slice_get, All, AllPairs, IsTrue}
+use Rattle.std.specs.declared.option.Option.TheVariants.{Some}
 use Rattle.graph_types.{proofs.Counts.apart_tail, specs.Step.{MeetsNameLimit, MeetsKindLimit}}
 use Rattle.graph_types.{specs.declared.batches.NamedOp.NamedOp, proofs.LimitsKept.limits_after_all}
 use Rattle.epoch_core.specs.{Blocks.all_differ, declared.events.Event.TheVariants.Post, Worlds.{World, last_blocks, last_graph, last_number}}
 use Rattle.epoch_core.specs.{Runs.is_done, Posting.{all_listable, can_post, graph_after, is_listable}, Versions.edges_of}
-use Rattle.epoch_core.{specs.Posts.{MayPost, posted}, proofs.{Lists.{and_left, and_right, neither}, Edges.Decides-edges}}
+use Rattle.epoch_core.{specs.Posts.{MayPost, posted}, proofs.Edges.Decides-edges}
 use Rattle.block_reclamation.specs.declared.status.BlockStatus.{BlockStatus, TheVariants.Granted}
-use Rattle.block_reclamation.specs.Status.{is_at, is_granted, is_among}
-
-Decides-granted : (o : Option BlockStatus) → Decides (is_at is_granted o) (o ≡ Some Granted)
-Decides-granted o = grind (arith, common_steps)
+use Rattle.block_reclamation.specs.Status.{is_among}
+use Rattle.block_reclamation.proofs.OneStatus.{Decides-granted}
+use Rattle.graph_types.proofs.{Cases.{neither, and_right, and_left, some_if}, Elements.differ_head, Numbers.Decides-within}
 
 Decides-listable : (status : List BlockStatus) (last : List ℕ) (blocks : List ℕ)
     → Decides (all_listable status last blocks) (All (λ b. (slice_get status b ≡ Some Granted) ⊎ IsTrue (is_among b last)) blocks)
@@ -29,18 +28,11 @@ Decides-unlisted b bs =
     (λ c. Decides-like _ (λ apart same. apart (sym same)) (λ apart same. apart (sym same)) (Decides-not _ (Decides-eqb c b)))
     refl (λ c cs. neither (eqb c b) (is_among b cs)) bs
 
-pub differ_head : (b : ℕ) (bs : List ℕ) → AllPairs ◌≢◌ (b ∷ bs) → All (λ c. b ≢ c) bs
-differ_head b bs all = λ k d h. all 0 (suc k) d (omega arith) (omega arith)
-
 Decides-differ : (bs : List ℕ) → Decides (all_differ bs) (AllPairs ◌≢◌ bs)
 Decides-differ [] = (λ _. λ i j d h g. absurd (omega arith), λ _. refl)
 Decides-differ (b ∷ bs) =
     Decides-like _ (λ p. AllPairs-cons ◌≢◌ b bs p.0 p.1) (λ all. (differ_head b bs all, apart_tail b bs all))
     (Decides-and _ _ (Decides-unlisted b bs) (Decides-differ bs))
-
--- a limit that isn't passed
-Decides-within : (n most : ℕ) → Decides (leb n most) ((most < n) → ⊥)
-Decides-within n most = grind (arith, common_steps)
 
 -- the limits of what a batch leaves are those of what was there before
 within_names : (w : World) (batch : List NamedOp)
@@ -73,9 +65,6 @@ Decides-post w batch blocks =
 pub listable_of : (w : World) (batch : List NamedOp) (blocks : List ℕ)
     → can_post w.opening w.heap w.status w.versions batch blocks ≡ true → all_listable w.status (last_blocks w) blocks ≡ true
 listable_of w batch blocks can = and_right _ _ (and_left _ _ (and_left _ _ (and_left _ _ can)))
-
-some_if : {A : Type 0} (t : Bool) (x : A) → is_some (if t then Some x else None) ≡ t
-some_if t x = grind (arith, common_steps)
 
 -- in every world a Post is done exactly where its rule holds
 pub posts_by_rule : (w : World) (batch : List NamedOp) (blocks : List ℕ) → IsTrue (is_done w (Post batch blocks))

@@ -1,7 +1,6 @@
 -- Each event keeps what is sound: a batch is posted.
 use Rattle.std.proofs.Common.{◌≡◌, ◌≢◌, ◌||◌, add-one, ltb, ℕ, suc, ◌+◌, ◌<◌, ◌≤◌, Bool, true, false, inl, inr, List, [], ◌∷◌, ◌++◌}
 use Rattle.std.{proofs.{Common.{length, refl, sym, ap, subst, ◌∙◌, arith}, lemmas.{Grind.common_steps, Bool.cases_eq}}, specs.Prelude.slice_get}
-use Rattle.std.proofs.lemmas.Bool.Decides.{nat_tests}
 use Rattle.std.specs.{Prelude.AllPairs, declared.option.Option.{Option, TheVariants.{None, Some}}, Option.option_map}
 use Rattle.graph_types.specs.declared.batches.NamedOp.{NamedOp}
 use Rattle.epoch_core.specs.{declared.states.Version.Version, Blocks.{after_post, status_after}, Versions.{AreEdgesOf, edges_of}}
@@ -9,10 +8,11 @@ use Rattle.epoch_core.specs.{Versions.{graph_at, version_at}, Worlds.{World, las
 use Rattle.epoch_core.specs.{Posts.{MayPost, posted}, Sound.{IsDatedAt, IsKeptAt, IsNamed, IsSound}, Posting.all_listable}
 use Rattle.epoch_core.specs.{Sound.{IsListedAsDated, IsListedAt, IsListedBetween}, Versions.blocks_at}
 use Rattle.epoch_core.{specs.Posting.{can_post, graph_after, is_listable, version_by}, proofs.PostRule.Decides-post}
-use Rattle.epoch_core.proofs.{PostRule.listable_of, Keeping.{Carries, carry}, Lists.{get_enumerated, length_enumerated}}
+use Rattle.epoch_core.proofs.{PostRule.listable_of, Keeping.{Carries, carry}}
 use Rattle.epoch_core.proofs.{Lists.all_listed, Changes.{length_next, version_before, graph_before, version_next, graph_next}}
 use Rattle.block_reclamation.specs.{declared.status.BlockStatus.BlockStatus, Status.{is_at, is_granted, is_among, is_used, IsDated}}
 use Rattle.block_reclamation.specs.declared.status.BlockStatus.TheVariants.{Free, Granted, Used, Retired}
+use Rattle.graph_types.proofs.{Joined.{get_enumerated, length_enumerated}, Numbers.{below, not_below}}
 
 -- the status of each block afterwards
 pub status_at : (n : ℕ) (blocks : List ℕ) (status : List BlockStatus) (b : ℕ) → slice_get (status_after n blocks status) b
@@ -79,12 +79,6 @@ between_after w batch blocks b first end old new = λ n low high.
           let before : n ≤ length w.versions = omega (arith, next) in
           ap (λ u. is_among b u.blocks) (version_before w.opening w.versions v n before) ∙ old n low before
     ]
-
-pub below : (n end : ℕ) → n < end → ltb n end ≡ true
-below n end h = grind (arith, nat_tests)
-
-not_below : (n end : ℕ) → end ≤ n → ltb n end ≡ false
-not_below n end h = grind (arith, nat_tests)
 
 listed_after : (w : World) (batch : List NamedOp) (blocks : List ℕ) (b : ℕ) (s : BlockStatus) (t : Bool) → is_among b blocks ≡ t
     → (t ≡ true → (is_granted s || is_used s) ≡ true) → IsDated (last_number w) s → IsListedAsDated w b s

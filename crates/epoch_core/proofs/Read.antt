@@ -1,40 +1,17 @@
 -- What is read of a version is a content.
-use Rattle.graph_types.specs.{Step.is_within_limits, declared.contents.Content.Content}
-use Rattle.std.proofs.lemmas.Bool.{le-leb}
-use Rattle.std.proofs.Common.{true, ◌&&◌, refl, ap₂, ◌≡◌, ◌≢◌, ℕ, ◌*◌, ◌<◌, ◌≤◌, List, length, get_or, sym, ap, subst, ◌∙◌, arith, nat_abs}
+use Rattle.graph_types.specs.declared.contents.Content.{Content}
+use Rattle.std.proofs.Common.{refl, ◌≡◌, ◌≢◌, ℕ, ◌*◌, ◌≤◌, List, length, get_or, sym, ap, subst, ◌∙◌, arith, nat_abs}
 use Rattle.std.{specs.Prelude.{All, AllPairs}, specs.FinMap.get, proofs.lemmas.List.take_all}
-use Rattle.graph_types.specs.Graph.{Graph, key_of, stamp_of, map_of, graph_in, IsContent, IsContentIn, IsEdgeWithin, IsWeight, IsTime}
-use Rattle.graph_types.{specs.Limits.{LimitsView, IsWeightIn, SumsFit, most_names, most_kinds}}
-use Rattle.graph_types.proofs.{LimitsKept.{limits_left_by, each_fits, most_fits}, WeightsKept.{weights_of, weights_shown}}
-use Rattle.graph_types.{specs.declared.ids.Edge.Edge, proofs.Keys.{HasKeysOnce, get_is, get_listed, find_listed}}
+use Rattle.graph_types.specs.Graph.{Graph, key_of, stamp_of, map_of, graph_in, IsContent, IsContentIn, IsEdgeWithin}
+use Rattle.graph_types.specs.Limits.{LimitsView, SumsFit, most_names, most_kinds}
+use Rattle.graph_types.proofs.LimitsKept.{limits_left_by}
+use Rattle.graph_types.{specs.declared.ids.Edge.Edge, proofs.Keys.{get_is, get_listed, find_listed}}
+use Rattle.graph_types.proofs.ChangedContents.{same_within, sums_again, weights_again}
 use Rattle.epoch_core.specs.declared.{states.Version.Version, session_states.SessionState.SessionState}
 use Rattle.epoch_core.specs.{Posting.last_content, Machine.ReadsContent, Sound.IsNamed, Sound.IsSessionSound, Sound.IsSound}
 use Rattle.epoch_core.specs.declared.session_states.SessionState.TheVariants.{Idle, Pinned, Holding, Asking}
 use Rattle.epoch_core.specs.Worlds.{HasContents, World, last_blocks, last_graph, last_number, session_of}
 use Rattle.epoch_core.specs.Versions.{IsContentGraph, AreEdgesOf, graph_of_opening, batches_at, blocks_at, content_with, edges_of, graph_at, version_at}
-
-same_within : (n m : ℕ) (x e : Edge) → key_of e ≡ key_of x → stamp_of e ≡ stamp_of x → IsEdgeWithin n m x → IsEdgeWithin n m e
-same_within n m x e key stamp w = record {
-  kind = subst (λ i. i < m) (sym (ap (λ k. k.kind) key)) w.kind;
-  source = subst (λ i. i < n) (sym (ap (λ k. k.source) key)) w.source;
-  target = subst (λ i. i < n) (sym (ap (λ k. k.target) key)) w.target;
-  weight = subst IsWeight (sym (ap (λ s. s.weight) stamp)) w.weight;
-  first = subst IsTime (sym (ap (λ s. s.first) stamp)) w.first;
-  recent = subst IsTime (sym (ap (λ s. s.recent) stamp)) w.recent;
-}
-
--- in another list of the same edges none has a larger weight, and sums fit again
-weights_again : (c : Content) (es : List Edge) (most : ℕ) → HasKeysOnce es → map_of es ≡ map_of c.edges
-    → All (λ e. IsWeightIn most e.weight) c.edges → All (λ e. IsWeightIn most e.weight) es
-weights_again c es most once same within =
-    let l : LimitsView = record { names = 0; kinds = 0; batches = 0; weight = most } in
-    weights_of (graph_in l c) es once same (weights_shown l c within)
-
-sums_again : (c : Content) (es : List Edge) (places : ℕ) → HasKeysOnce es → map_of es ≡ map_of c.edges
-    → All (λ e. SumsFit places (nat_abs e.weight)) c.edges → All (λ e. SumsFit places (nat_abs e.weight)) es
-sums_again c es places once same fit =
-    let (most, within, sums) = most_fits places c.edges fit in
-    each_fits places most es sums (weights_again c es most once same within)
 
 -- edges that show a content's graph are a content with its names and kinds
 pub is_content : (v : Version) (es : List Edge) (g : Graph) → IsContentGraph g → v.names ≡ g.names → v.kinds ≡ g.kinds
@@ -100,10 +77,6 @@ reads_content w s sound contents = reads_at w (session_of w s) sound contents (s
 -- the graph of a content within its limits
 pub content_graph : (l : LimitsView) (c : Content) (g : Graph) → IsContentIn l c → graph_in l c ≡ g → IsContentGraph g
 content_graph l c g is same = subst IsContentGraph same (c, is, refl)
-
-pub within_graph : (l : LimitsView) (c : Content) (g : Graph) → IsContentIn l c → graph_in l c ≡ g → is_within_limits g ≡ true
-within_graph l c g is same = subst (λ (h : Graph). is_within_limits h ≡ true) same
-    (ap₂ ◌&&◌ (le-leb (length c.names) l.names is.names_few) (le-leb (length c.kinds) l.kinds is.kinds_few))
 
 -- the last version's names, kinds and edges, as its blocks show them, are the last graph
 pub last_graph_is : (w : World) → IsSound w → graph_in w.opening.limits (last_content w.opening w.heap w.versions) ≡ last_graph w

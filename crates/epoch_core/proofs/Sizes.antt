@@ -4,8 +4,9 @@ use Rattle.std.{proofs.lemmas.Grind.common_steps, specs.Prelude.if◌then◌else
 use Rattle.std.specs.declared.option.Option.{Option, TheVariants.None, TheVariants.Some}
 use Rattle.epoch_core.specs.{Machine.with_status, Machine.move, Machine.step, declared.session_states.SessionState.SessionState}
 use Rattle.epoch_core.specs.{Runs.next_world, Runs.run, Worlds.World, Blocks.changed_at}
-use Rattle.epoch_core.{specs.declared.events.Event.Event, proofs.Lists.option_map_some, proofs.Lists.length_enumerated}
+use Rattle.epoch_core.specs.declared.events.Event.{Event}
 use Rattle.block_reclamation.specs.declared.status.BlockStatus.{BlockStatus}
+use Rattle.graph_types.proofs.{Cases.option_map_some, Joined.length_enumerated}
 
 pub record SameSizes (old new : World) : Type 0 where
   pub blocks : length new.status ≡ length old.status

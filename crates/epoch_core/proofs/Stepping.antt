@@ -8,6 +8,7 @@ use Rattle.epoch_core.specs.Machine.{IsAnswered, Replies, move, question_in, ste
 use Rattle.epoch_core.specs.declared.states.Version.{Version}
 use Rattle.epoch_core.specs.Worlds.{Answer}
 use Rattle.block_reclamation.specs.declared.status.BlockStatus.{BlockStatus}
+use Rattle.graph_types.proofs.Cases.{err_always}
 
 pub stepped_in : {A W : Type 0} (put_in : A → W) (o : Option A) (outcome : Step) (old new : A) → Stepped o outcome old new
     → Stepped (option_map put_in o) outcome (put_in old) (put_in new)
@@ -47,10 +48,6 @@ moved_by old e event s change outcome sessions same does replies is =
     does refl replies is
 
 -- What an event of one session leaves, whose call may run out of memory
-
-pub err_always : {A E : Type 0} (r : Result A E) (P : Type 0) → P → OnErr r P
-err_always (Ok x) P is = tt
-err_always (Err e) P is = is
 
 pub record MayStep {E : Type 0} (old : MachineState) (event : Event) (r : Result Step E) (new : MachineState) : Type 0 where
   pub steps : IfOk r (λ outcome. Steps old event outcome new)

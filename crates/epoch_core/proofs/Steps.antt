@@ -1,13 +1,16 @@
 -- Each event keeps what is sound, and so does each run.
-use Rattle.std.proofs.Common.{◌≡◌, ◌||◌, ◌<◌, ◌+◌, inl, inr, eqb, length, ℕ, zero, suc, ◌≤◌, Bool, true, false, List, [], ◌∷◌, get_or}
+use Rattle.std.proofs.Common.{◌≡◌, ◌<◌, ◌+◌, inl, inr, length, ℕ, ◌≤◌, Bool, true, false, List, [], ◌∷◌, get_or}
 use Rattle.std.proofs.{Common.{replicate, refl, sym, ap, subst, ◌∙◌, arith}, lemmas.{Grind.common_steps, Bool.cases_lt}}
-use Rattle.std.{proofs.lemmas.List.length-replicate, specs.Prelude.slice_get, specs.Prelude.if◌then◌else◌, specs.Prelude.All}
+use Rattle.std.{proofs.lemmas.List.length-replicate, specs.Prelude.{slice_get, if◌then◌else◌}}
 use Rattle.std.{proofs.lemmas.Option.slice_get_past, specs.Option.option_map, specs.Option.unwrap_or}
 use Rattle.std.specs.declared.option.Option.{Option, TheVariants.None, TheVariants.Some}
 use Rattle.graph_types.specs.Limits.{LimitsView}
 use Rattle.graph_types.{specs.declared.ids.Edge.Edge, proofs.Keys.once_none}
-use Rattle.block_reclamation.specs.declared.status.BlockStatus.{BlockStatus, TheVariants.Free, TheVariants.Used}
-use Rattle.block_reclamation.specs.Status.{is_at, is_among, is_used, IsDated}
+use Rattle.block_reclamation.specs.declared.status.BlockStatus.{BlockStatus}
+use Rattle.block_reclamation.specs.Status.{is_at, is_among, is_used}
+use Rattle.block_reclamation.proofs.{ListedNumbers.listed_within, OneStatus.free_at}
+use Rattle.block_reclamation.proofs.OneStatus.{used_first, dated_first, at_first}
+use Rattle.graph_types.proofs.{Cases.{option_map_some, true_or_false}, Numbers.below}
 use Rattle.epoch_core.specs.declared.{session_states.SessionState.TheVariants.Idle, events.Event.{Event, TheVariants.Reply}}
 use Rattle.epoch_core.specs.declared.events.Event.TheVariants.{Release, Take, Fill, Post, Floor, Recycle, Pin, Enter, Settle, Ask}
 use Rattle.epoch_core.specs.{declared.events.Event.TheVariants.Read, Posts.posted, Worlds.{IsStart, World, last_number, session_of}}
@@ -15,9 +18,9 @@ use Rattle.epoch_core.specs.Worlds.{start_in}
 use Rattle.epoch_core.specs.Versions.{blocks_at}
 use Rattle.epoch_core.specs.{Worlds.MachineState, Sound.{IsDatedAt, IsListedAsDated, IsListedAt, IsNamed, IsSound}, Blocks.{changed_at, status_taken, reclaimed}}
 use Rattle.epoch_core.specs.{Runs.{next_world, run}, Posting.can_post, Machine.{step, with_heap, with_status}}
-use Rattle.epoch_core.proofs.Lists.{true_or_false, option_map_some, ChangedAt, changed_at-some}
+use Rattle.epoch_core.proofs.Lists.{ChangedAt, changed_at-some}
 use Rattle.epoch_core.proofs.Keeping.{FreesNone, frees_taken, frees_recycled, sound_status, Fills, fills, sound_fill}
-use Rattle.epoch_core.proofs.{Posted.sound_posted, Posted.below, Moves.floored, Moves.sound_move, Moves.keeps_pin}
+use Rattle.epoch_core.proofs.{Posted.sound_posted, Moves.{floored, sound_move, keeps_pin}}
 use Rattle.epoch_core.proofs.Moves.{keeps_enter, keeps_settle, keeps_ask, keeps_read, keeps_reply, keeps_release, sound_floor}
 
 sound_changed : (w after : World) (b : ℕ) (change : BlockStatus → Option BlockStatus) → IsSound w
@@ -68,25 +71,6 @@ all_idle n s = grind (arith, common_steps)
 pub idle_at : (start : MachineState) (s : ℕ) → IsStart start → session_of start.world s ≡ Idle
 idle_at start s is = ap (λ xs. get_or xs s Idle) is.idle ∙ all_idle (length start.world.sessions) s
 
--- a block's status at a start, by whether its number is listed
-abbrev at_first : Bool → BlockStatus
-at_first t = if t then Used 0 else Free
-
-used_first : (t : Bool) → is_used (at_first t) ≡ t
-used_first t = grind (arith, common_steps)
-
-dated_first : (t : Bool) → IsDated 0 (at_first t)
-dated_first t = grind (arith, common_steps)
-
--- what is listed is within the bound of the list
-listed_within : (n b : ℕ) (bs : List ℕ) → All (λ c. c < n) bs → is_among b bs ≡ true → b < n
-listed_within n b [] all is = cc
-listed_within n b (c ∷ cs) all is =
-    elim (eqb c b) as (λ t. eqb c b ≡ t → (t || is_among b cs) ≡ true → b < n) [
-      | true ↦ λ e _. let same : c ≡ b = grind (arith, e) in subst (λ x. x < n) same (all 0 c (omega arith))
-      | false ↦ λ _ rest. listed_within n b cs (λ k d h. all (suc k) d (omega arith)) rest
-    ] refl is
-
 used_start : (start : MachineState) (b : ℕ) → IsStart start → is_at is_used (slice_get start.world.status b)
     ≡ is_among b start.world.opening.blocks
 used_start start b is =
@@ -127,11 +111,6 @@ sound_start start is = grind (arith, common_steps, used_start, dated_start, list
 
 pub always_sound : (start : MachineState) (events : List Event) → IsStart start → IsSound (run events start.world)
 always_sound start events is = sound_run events start.world (sound_start start is)
-
-pub free_at : (n b : ℕ) → b < n → slice_get (replicate n Free) b ≡ Some Free
-free_at zero b h = absurd (omega arith)
-free_at (suc n) zero h = refl
-free_at (suc n) (suc b) h = free_at n b (omega arith)
 
 -- the start with the empty opening is a start
 pub start_is_start : (limits : LimitsView) (sessions blocks : ℕ) → IsStart (start_in limits sessions blocks)

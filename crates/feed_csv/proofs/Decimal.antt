@@ -1,11 +1,9 @@
 -- Lemmas on the value of decimal digits.
 use Rattle.std.proofs.Common.{◌≡◌, ℕ, suc, ◌+◌, ◌-◌, ◌*◌, ◌^◌, ◌<◌, ◌≤◌, List, [], ◌∷◌, ◌++◌, length, Bool, false, refl, true}
-use Rattle.std.proofs.{Common.{◌&&◌, arith, length-append}, lemmas.Bool.{and_parts, Decides.nat_tests}, Math.Nat.pow-suc}
-use Rattle.std.{proofs.Math.Nat.{pow-le-pow_right, mul-le-mul_right}, specs.{Char.is_ascii_digit, List.list_all}}
+use Rattle.std.proofs.{Common.{◌&&◌, arith, length-append}, lemmas.Bool.and_parts, Math.Nat.pow-suc}
+use Rattle.std.{proofs.Math.Nat.pow-le-pow_right, specs.{Char.is_ascii_digit, List.list_all}}
+use Rattle.graph_types.proofs.Numbers.{place, below_place, digit-le}
 use Rattle.feed_csv.specs.Number.{decimal_value}
-
-place : (n p d v w digit : ℕ) → p ≡ n * 10 → w ≡ v * 10 + digit → d * p + w ≡ (d * n + v) * 10 + digit
-place n p d v w digit a b = rw (a, b) (omega arith)
 
 -- one more digit at the end moves each other by a place
 pub decimal_value-push : (digits : List ℕ) (digit : ℕ)
@@ -15,12 +13,6 @@ decimal_value-push (first ∷ rest) digit =
     let longer : length (rest ++ (digit ∷ [])) ≡ suc (length rest) = omega (arith, length-append rest (digit ∷ [])) in
     place (10 ^ length rest) _ (first - 48) (decimal_value rest) _ (digit - 48) (rw longer (pow-suc 10 (length rest)))
     (decimal_value-push rest digit)
-
-digit-le : (first : ℕ) → is_ascii_digit first ≡ true → first - 48 ≤ 9
-digit-le first digit = grind (arith, nat_tests)
-
-below_place : (d n v : ℕ) → d ≤ 9 → v < n → d * n + v < n * 10
-below_place d n v small below = omega (arith, mul-le-mul_right n small)
 
 -- the value is below the next power of ten
 pub decimal_value-lt : (digits : List ℕ) → list_all is_ascii_digit digits ≡ true → decimal_value digits < 10 ^ length digits

@@ -1,6 +1,7 @@
 pub mod Decimal
 pub mod Taking
-pub mod Names
 pub mod Giving
 pub mod Refusals
 pub mod Examples
+pub mod Faults
+pub mod LeftRows

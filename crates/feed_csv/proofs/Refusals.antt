@@ -1,10 +1,11 @@
 -- A record is refused for what it says, and never for a failed read or want of memory; and an operation that it gives is valid.
 use Rattle.std.proofs.Common.{◌≡◌, ◌≢◌, ℕ, ◌+◌, ◌≤◌, ℤ, pos, neg_ℤ, Bool, true, false, cond, codes, List, Option, Some, None}
-use Rattle.std.proofs.Common.{Result, Ok, Err, IsTrue, length, nat_eq, IfOk, IfSome, option_map, drop, refl, subst, arith, rules}
+use Rattle.std.proofs.Common.{Result, Ok, Err, IsTrue, length, nat_eq, IfOk, IfSome, option_map, drop, refl, subst, arith}
 use Rattle.std.{proofs.lemmas.Grind.common_steps, specs.Str.bytes_eq}
 use Rattle.graph_types.specs.{Limits.is_time, Limits.is_weight, Valid.{IsValid, are_names, is_kind_name, is_name}}
 use Rattle.graph_types.specs.declared.batches.NamedOp.{NamedOp, TheVariants.{Insert, Incr}}
 use Rattle.graph_types.specs.declared.requests.{NamedFilter.NamedFilter, Request.{Request, TheVariants.{Labels, Cores, Degrees}}}
+use Rattle.graph_types.proofs.NameTexts.{names_are}
 use Rattle.feed_csv.specs.declared.command.Command.TheVariants.{Commit, OpenSlot, CloseSlot, Stat, Collect, Rebase}
 use Rattle.feed_csv.specs.Commands.{HasValidOp, RefusesItem, bare_command, edge_command, edge_fields, edge_of, expire_of, filter_at}
 use Rattle.feed_csv.specs.Commands.{filter_command, filter_fields, item_of, levels_of, names_at, remove_of, slot_command}
@@ -76,10 +77,6 @@ time_in_range : (text : List ℕ) (time : ℕ) → time_of text ≡ Some time �
 time_in_range text time same =
     let most : time ≤ 9223372036854775807 = within 9223372036854775807 (number_in_text text) time same in
     grind (arith, common_steps, most)
-
-names_are : (kind source target : List ℕ) → IsTrue (is_kind_name kind) → IsTrue (is_name source) → IsTrue (is_name target)
-    → IsTrue (are_names kind source target)
-names_are kind source target one two three = search (rules, one, two, three)
 
 of_length-judges : (count : ℕ) (row : Row) → Judges Any (of_length count row)
 unfolding of_length

@@ -19,7 +19,7 @@ pub(crate) fn field(row: &ByteRecord, place: usize) -> &[u8]
 }
 
 // (each byte is looked at once: a name is ASCII, and so text)
-#[tactic(auto, using(crate::proofs::Names::is_name_text), unfolding(crate::specs::Fields::name_at))]
+#[tactic(auto, using(graph_types::proofs::NameTexts::is_name_text), unfolding(crate::specs::Fields::name_at))]
 pub(crate) fn name_at(row: &ByteRecord, place: usize) -> Result<&str, FeedWord>
     ensures { let rule = spec.name_at (fields_of row.now) place in
         MatchResult result (λ text. rule ≡ Ok text.now) (λ word. rule ≡ Err word) }
@@ -32,7 +32,7 @@ pub(crate) fn name_at(row: &ByteRecord, place: usize) -> Result<&str, FeedWord>
     }
 }
 
-#[tactic(auto, using(crate::proofs::Names::is_kind_name_text), unfolding(crate::specs::Fields::kind_at))]
+#[tactic(auto, using(graph_types::proofs::NameTexts::is_kind_name_text), unfolding(crate::specs::Fields::kind_at))]
 pub(crate) fn kind_at(row: &ByteRecord, place: usize) -> Result<&str, FeedWord>
     ensures { let rule = spec.kind_at (fields_of row.now) place in
         MatchResult result (λ text. rule ≡ Ok text.now) (λ word. rule ≡ Err word) }

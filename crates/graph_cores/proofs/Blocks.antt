@@ -2,26 +2,12 @@
 use Rattle.std.proofs.Common.{◌≡◌, ℕ, ◌+◌, ◌<◌, List, [], ◌∷◌, ◌++◌, length, get_or, map, drop, add-one, drop-cons, refl, ap, ◌∙◌}
 use Rattle.std.{proofs.{Common.arith, lemmas.List.Elements.filter-append}, specs.{Prelude.filter, declared.sync.Arc.Arc}}
 use Rattle.std.{specs.declared.alloc.Global.Global, proofs.lemmas.Grind.common_steps}
-use Rattle.graph_types.specs.{View.in_view, declared.ids.Edge.Edge, declared.ids.Filter.Filter}
+use Rattle.graph_types.specs.{View.in_view, declared.ids.Filter.Filter}
 use Rattle.edge_block.specs.Slots.{Slot, BlockView, edges_in, entry_in, entries_of}
 use Rattle.edge_block.specs.{Lending.LentEdge, Lending.lent_of, declared.blocks.Block.Block}
+use Rattle.edge_block.proofs.LentEntries.{edges_lent}
 use Rattle.graph_version.specs.{Sharing.{block_value, block_values}, Edges.edge_from}
 use Rattle.graph_cores.specs.Tallies.{passes, shown_block, shown_edges}
-
--- a lent edge with its source, and several of one source
-abbrev pub edge_lent : ℕ → LentEdge → Edge
-edge_lent source l =
-    record {
-      kind = record { 0 = l.kind };
-      source = record { 0 = source };
-      target = record { 0 = l.target };
-      weight = l.stamp.weight;
-      first = l.stamp.first;
-      recent = l.stamp.recent;
-    }
-
-abbrev pub edges_lent : ℕ → List LentEdge → List Edge
-edges_lent source ls = map (edge_lent source) ls
 
 lent_slots : (f : Filter) (b : BlockView) (es : List Slot)
     → edges_lent b.source (map lent_of (filter (in_view f) (map (entry_in b) es)))

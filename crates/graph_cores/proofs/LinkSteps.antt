@@ -4,24 +4,8 @@ use Rattle.std.proofs.{Common.get_or, Common.take, lemmas.Bool.cases_eq, lemmas.
 use Rattle.std.proofs.lemmas.List.Elements.{Contains-push, Contains-push_cases, Contains-append_left, Contains-get_or}
 use Rattle.std.{specs.{Prelude.◌↔◌, List.Contains}, proofs.lemmas.Grind.{flat_map-append, common_steps}}
 use Rattle.graph_types.specs.{Graph.Graph, Analyses.LeadsTo, Arcs.AreWithin, declared.ids.Filter.Filter}
+use Rattle.graph_types.proofs.Elements.{added}
 use Rattle.graph_cores.specs.Peel.{both_ways, AreAllLinks, IsLinked}
-
--- one more pair
-added : (xs : List (ℕ × ℕ)) (a b v w : ℕ) → Contains (xs ++ (a, b) ∷ []) (v, w) ↔ (Contains xs (v, w) ⊎ ((v ≡ a) × (w ≡ b)))
-added xs a b v w = (
-  (λ c. elim (Contains-push_cases xs (a, b) (v, w) c) [
-    | inl x ↦ inl x
-    | inr e ↦ inr (ap (λ (p : ℕ × ℕ). p.0) (sym e), ap (λ (p : ℕ × ℕ). p.1) (sym e))
-  ]),
-  (λ c. elim c [
-    | inl x ↦ Contains-append_left xs ((a, b) ∷ []) (v, w) x
-    | inr e ↦
-        let p = sym e.0 in
-        let q = sym e.1 in
-        let same : ◌≡◌ {A = ℕ × ℕ} (a, b) (v, w) = λ i. (p i, q i) in
-        subst (Contains (xs ++ (a, b) ∷ [])) same (Contains-push xs (a, b))
-  ]),
-)
 
 -- a link more, both ways
 pub both_push : (xs : List (ℕ × ℕ)) (a b : ℕ) → both_ways (xs ++ (a, b) ∷ []) ≡ (both_ways xs ++ (a, b) ∷ []) ++ (b, a) ∷ []

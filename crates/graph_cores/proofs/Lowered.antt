@@ -1,42 +1,23 @@
 -- What taking a neighbor from each listed vertex does.
-use Rattle.std.proofs.Common.{◌≡◌, ℕ, ◌+◌, ◌-◌, ◌<◌, ◌≤◌, suc, arith, refl, sym, ap, subst, inl, inr, List, [], ◌∷◌, ◌++◌, length}
-use Rattle.std.proofs.{Common.{set, cond, true, false, Bool}, lemmas.{Bool.{cases_eq, Decides.Decides-eqb}, List.get_or-set_same}}
-use Rattle.std.proofs.lemmas.List.{get_or-set_other, length-set, Elements.{All-weaker, All-push, All-tail, Contains-push}}
-use Rattle.std.{proofs.lemmas.List.Elements.Contains-append_left, specs.{Prelude.{◌==◌, All, sum}, List.Contains}}
+use Rattle.std.proofs.Common.{◌≡◌, ℕ, ◌+◌, ◌-◌, ◌<◌, ◌≤◌, arith, refl, sym, ap, subst, inl, inr, List, [], ◌∷◌, ◌++◌, length}
+use Rattle.std.proofs.{Common.cond, lemmas.Bool.{cases_eq, Decides.Decides-eqb}}
+use Rattle.std.proofs.lemmas.List.Elements.{All-tail, Contains-push}
+use Rattle.std.specs.{Prelude.{◌==◌, All, sum}, List.Contains}
 use Rattle.std.proofs.lemmas.Grind.{common_steps}
 use Rattle.graph_types.specs.Arcs.{at}
-use Rattle.graph_cores.{specs.Peel.lowered, proofs.Times.times}
-
-abbrev less : List ℕ → ℕ → List ℕ
-less ds w = set ds w (at ds w - 1)
-
-abbrev pushed : ℕ → List ℕ → List ℕ → ℕ → List ℕ
-pushed k ds st w = cond (at ds w == k + 1) (st ++ w ∷ []) st
-
-less_at : (ds : List ℕ) (w x : ℕ) → w < length ds → w ≡ x → at (less ds w) x ≡ at ds x - 1
-less_at ds w x lt e = grind (arith, common_steps, get_or-set_same)
-
-less_other : (ds : List ℕ) (w x : ℕ) → (w ≡ x → ⊥) → at (less ds w) x ≡ at ds x
-less_other ds w x ne = get_or-set_other ds w x (at ds w - 1) 0 (λ e. ne (sym e))
-
-less_low : (ds : List ℕ) (w x : ℕ) → w < length ds → at (less ds w) x ≤ at ds x
-less_low ds w x lt = grind (arith, common_steps, cases_eq, less_at, less_other)
-
-rest_within : (ds : List ℕ) (w : ℕ) (ws : List ℕ) → All (λ x. x < length ds) (w ∷ ws) → All (λ x. x < length (less ds w)) ws
-rest_within ds w ws h = λ i d l. let a = h (suc i) d (omega arith) in let long = length-set ds w (at ds w - 1) in omega arith
+use Rattle.graph_types.proofs.{Elements.{pushed_keeps, pushed_all}, Times.times}
+use Rattle.graph_types.proofs.Lowering.{with_less, with_pushed, rest_within, less_at, less_other, pushed_low}
+use Rattle.graph_cores.specs.Peel.{lowered}
 
 pub lowered_at : (k : ℕ) (ws ds st : List ℕ) (x : ℕ) → All (λ w. w < length ds) ws
     → at (lowered k ws ds st).0 x ≡ at ds x - times x ws
 lowered_at k [] ds st x h = omega arith
 lowered_at k (w ∷ ws) ds st x h =
-    grind (arith, common_steps, lowered_at k ws (less ds w) (pushed k ds st w) x (rest_within ds w ws h))
-
-pushed_keeps : (b : Bool) (st : List ℕ) (w x : ℕ) → Contains st x → Contains (cond b (st ++ w ∷ []) st) x
-pushed_keeps b st w x c = grind (arith, common_steps, Contains-append_left)
+    grind (arith, common_steps, lowered_at k ws (with_less ds w) (with_pushed k ds st w) x (rest_within ds w ws h))
 
 pub lowered_keeps : (k : ℕ) (ws ds st : List ℕ) (x : ℕ) → Contains st x → Contains (lowered k ws ds st).1 x
 lowered_keeps k [] ds st x c = c
-lowered_keeps k (w ∷ ws) ds st x c = lowered_keeps k ws (less ds w) (pushed k ds st w) x
+lowered_keeps k (w ∷ ws) ds st x c = lowered_keeps k ws (with_less ds w) (with_pushed k ds st w) x
     (pushed_keeps (at ds w == k + 1) st w x c)
 
 pub lowered_pushes : (k : ℕ) (ws ds st : List ℕ) (x : ℕ) → All (λ w. w < length ds) ws → k + 1 ≤ at ds x
@@ -48,38 +29,30 @@ lowered_pushes k (w ∷ ws) ds st x h many few =
     elim (cases_eq w x) [
       | inl e ↦ elim (cases_eq (at ds w) (k + 1)) [
         | inl full ↦
-            let now : pushed k ds st w ≡ st ++ w ∷ [] =
+            let now : with_pushed k ds st w ≡ st ++ w ∷ [] =
             ap (λ b. cond b (st ++ w ∷ []) st) ((Decides-eqb (at ds w) (k + 1)).1 full) in
-            lowered_keeps k ws (less ds w) (pushed k ds st w) x
+            lowered_keeps k ws (with_less ds w) (with_pushed k ds st w) x
             (subst (λ xs. Contains xs x) (sym now) (subst (Contains (st ++ w ∷ [])) e (Contains-push st w)))
         | inr ne ↦
             let a = less_at ds w x lt e in
             let same = ap (at ds) e in
-            lowered_pushes k ws (less ds w) (pushed k ds st w) x within (omega arith) few
+            lowered_pushes k ws (with_less ds w) (with_pushed k ds st w) x within (omega arith) few
       ]
       | inr ne ↦
           let a = less_other ds w x ne in
-          lowered_pushes k ws (less ds w) (pushed k ds st w) x within (omega arith) few
+          lowered_pushes k ws (with_less ds w) (with_pushed k ds st w) x within (omega arith) few
     ]
-
-pushed_low : (b : Bool) (k : ℕ) (ds st : List ℕ) (w : ℕ) → w < length ds → (at ds w == k + 1) ≡ b → All (λ y. at ds y ≤ k) st
-    → All (λ y. at (less ds w) y ≤ k) (cond b (st ++ w ∷ []) st)
-pushed_low true k ds st w lt e low = grind (arith, common_steps, All-push, All-weaker, less_low, Decides-eqb, less_at)
-pushed_low false k ds st w lt e low = grind (arith, common_steps, All-weaker, less_low)
 
 pub lowered_low : (k : ℕ) (ws ds st : List ℕ) → All (λ w. w < length ds) ws → All (λ y. at ds y ≤ k) st
     → All (λ y. at (lowered k ws ds st).0 y ≤ k) (lowered k ws ds st).1
 lowered_low k [] ds st h low = low
 lowered_low k (w ∷ ws) ds st h low =
-    lowered_low k ws (less ds w) (pushed k ds st w) (rest_within ds w ws h)
+    lowered_low k ws (with_less ds w) (with_pushed k ds st w) (rest_within ds w ws h)
     (pushed_low (at ds w == k + 1) k ds st w (h 0 0 (omega arith)) refl low)
-
-pushed_all : (P : ℕ → Type 0) (b : Bool) (st : List ℕ) (w : ℕ) → P w → All P st → All P (cond b (st ++ w ∷ []) st)
-pushed_all P b st w p all = grind (arith, common_steps, All-push)
 
 pub lowered_all : (P : ℕ → Type 0) (k : ℕ) (ws ds st : List ℕ) → All P ws → All P st → All P (lowered k ws ds st).1
 lowered_all P k [] ds st new all = all
-lowered_all P k (w ∷ ws) ds st new all = lowered_all P k ws (less ds w) (pushed k ds st w) (All-tail P w ws new)
+lowered_all P k (w ∷ ws) ds st new all = lowered_all P k ws (with_less ds w) (with_pushed k ds st w) (All-tail P w ws new)
     (pushed_all P (at ds w == k + 1) st w (new 0 0 (omega arith)) all)
 
 -- each vertex that is pushed has lost a neighbor
@@ -87,4 +60,4 @@ pub lowered_sum : (k : ℕ) (ws ds st : List ℕ) → All (λ w. w < length ds) 
     → sum (lowered k ws ds st).0 + length (lowered k ws ds st).1 ≤ sum ds + length st
 lowered_sum k [] ds st h = omega arith
 lowered_sum k (w ∷ ws) ds st h =
-    grind (arith, common_steps, lowered_sum k ws (less ds w) (pushed k ds st w) (rest_within ds w ws h))
+    grind (arith, common_steps, lowered_sum k ws (with_less ds w) (with_pushed k ds st w) (rest_within ds w ws h))

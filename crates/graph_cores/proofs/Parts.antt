@@ -1,23 +1,9 @@
 -- Parts of lists of edges, and what is left to count.
-use Rattle.std.proofs.Common.{◌≡◌, ◌≢◌, ℕ, true, ◌+◌, ◌<◌, List, [], ◌++◌, length, get_or, append_assoc, append-nil}
-use Rattle.std.proofs.{Common.{length-append, sym, ap, ◌∙◌, subst, arith}, lemmas.List.{get_or_append_left, get_or-append-add}}
-use Rattle.std.specs.Prelude.{All, AllPairs}
+use Rattle.std.proofs.Common.{◌≡◌, ◌≢◌, ℕ, true, ◌<◌, List, [], ◌++◌, length, append_assoc, append-nil}
+use Rattle.std.proofs.Common.{sym, ap, ◌∙◌, subst}
 use Rattle.graph_types.specs.{declared.ids.{Degree.Degree, Edge.Edge, Filter.Filter}, Graph.key_of, Limits.IsWeightIn}
+use Rattle.graph_types.proofs.Elements.{AllPairs-left, all_left}
 use Rattle.graph_cores.specs.Tallies.{passes, IsCounted, AreViewEdges, HasTallyRoom, Counts}
-
-module _ {X : Type 0} where
-  pub All-left : (P : X → Type 0) (xs ys : List X) → All P (xs ++ ys) → All P xs
-  All-left P xs ys all k d lt = subst P (get_or_append_left xs ys d k lt) (all k d (omega (arith, length-append xs ys)))
-
-  pub All-right : (P : X → Type 0) (xs ys : List X) → All P (xs ++ ys) → All P ys
-  All-right P xs ys all k d lt = subst P (get_or-append-add xs ys k d)
-      (all (length xs + k) d (omega (arith, length-append xs ys)))
-
-  AllPairs-left : (R : X → X → Type 0) (xs ys : List X) → AllPairs R (xs ++ ys) → AllPairs R xs
-  AllPairs-left R xs ys all i j d low high =
-      subst (λ y. R (get_or xs i d) y) (get_or_append_left xs ys d j (omega arith))
-      (subst (λ x. R x (get_or (xs ++ ys) j d)) (get_or_append_left xs ys d i (omega arith))
-      (all i j d (omega arith) (omega (arith, length-append xs ys))))
 
 -- the first of edges of a view are such
 pub first_edges : (f : Filter) (n : ℕ) (xs ys : List Edge) → AreViewEdges f n (xs ++ ys) → AreViewEdges f n xs
@@ -25,13 +11,13 @@ first_edges f n xs ys are = record {
   kind_count = are.kind_count;
   few = are.few;
   most_weight = are.most_weight;
-  weights = All-left (λ e. IsWeightIn are.most_weight e.weight) xs ys are.weights;
+  weights = all_left (λ e. IsWeightIn are.most_weight e.weight) xs ys are.weights;
   sums = are.sums;
   once = AllPairs-left (λ a b. key_of a ≢ key_of b) xs ys are.once;
-  kinds = All-left (λ e. e.kind.0 < are.kind_count) xs ys are.kinds;
-  sources = All-left (λ e. e.source.0 < n) xs ys are.sources;
-  targets = All-left (λ e. e.target.0 < n) xs ys are.targets;
-  seen = All-left (λ e. passes f e ≡ true) xs ys are.seen;
+  kinds = all_left (λ e. e.kind.0 < are.kind_count) xs ys are.kinds;
+  sources = all_left (λ e. e.source.0 < n) xs ys are.sources;
+  targets = all_left (λ e. e.target.0 < n) xs ys are.targets;
+  seen = all_left (λ e. passes f e ≡ true) xs ys are.seen;
 }
 
 -- of all edges those left are still to be counted

@@ -2,25 +2,24 @@
 use Rattle.std.proofs.Common.{◌≡◌, ◌≢◌, ℕ, ◌+◌, ◌<◌, ◌≤◌, arith, refl, sym, ap, ◌∙◌, subst, ◌⊎◌, inl, inr, List, [], ◌∷◌, ◌++◌}
 use Rattle.std.proofs.{Common.{length, get_or, set, true, false, Bool}, lemmas.Bool.{cases_eq, cases_Bool, cases_lt, and_from}}
 use Rattle.std.proofs.lemmas.{Bool.{le-leb, leb-true, lt-ltb, and_parts}, List.{get_or-set_same, get_or-set_other}}
-use Rattle.std.proofs.lemmas.List.{get_or_default, get_or_append_left, length-append, length-set, length-replicate}
+use Rattle.std.proofs.lemmas.List.{length-set, length-replicate}
 use Rattle.std.proofs.lemmas.List.{get_or-replicate, get_or_past, Sums.length-filter, Kept.AllPairs-filter}
-use Rattle.std.proofs.lemmas.List.Elements.{filter_passes, All-weaker, All-contains, All-tail, Contains-get_or, Contains-push}
+use Rattle.std.proofs.lemmas.List.Elements.{filter_passes, All-weaker, All-contains, Contains-get_or, Contains-push}
 use Rattle.std.proofs.lemmas.{List.Elements.Contains-append_cases, Option.{get_or_from_slice_get, slice_get_within}}
-use Rattle.std.specs.{Prelude.{IsTrue, All, count_by, filter, nat_le, nat_lt, replicate}, List.Contains}
+use Rattle.std.specs.{Prelude.{IsTrue, All, filter, nat_le, nat_lt, replicate}, List.Contains}
 use Rattle.std.proofs.lemmas.Grind.{common_steps}
 use Rattle.graph_types.specs.{Graph.Graph, Analyses.{IsTable, Joins, IsCoreNumber}, Arcs.{AreNeighbors, at}}
 use Rattle.graph_types.{specs.declared.ids.Filter.Filter, proofs.Counts.{Contains-cons_cases, Contains-nil, Contains-cons}}
-use Rattle.graph_types.proofs.Counts.{count_yes, contains_filter, filter_contains, passing_length}
+use Rattle.graph_types.proofs.Counts.{contains_filter, filter_contains, passing_length}
+use Rattle.graph_types.proofs.{Elements.front_low, Sums.all_pass}
+use Rattle.graph_types.proofs.ArcTables.{same_times}
 use Rattle.graph_cores.specs.Peel.{is_alive, lowered, IsPeeling, IsBetween, is_low, is_high}
-use Rattle.graph_cores.proofs.Times.{times, has_times, times_has, apart_times, count_taken}
+use Rattle.graph_cores.proofs.Times.{count_taken}
 use Rattle.graph_cores.proofs.Lowered.{lowered_at, lowered_keeps, lowered_pushes, lowered_low}
 
 -- what is left was left before
 pub still : (alive : List Bool) (v w : ℕ) → IsTrue (is_alive (set alive v false) w) → IsTrue (is_alive alive w)
 still alive v w h = grind (arith, common_steps, cases_eq, cases_lt, get_or-set_same, get_or_past, length-set, get_or-set_other)
-
-other_way : (f : Filter) (g : Graph) (a b : ℕ) → Joins f g a b → Joins f g b a
-other_way f g a b j = elim j [ inl x ↦ inr x | inr x ↦ inl x ]
 
 -- all listed are left, or one was taken out
 left_or : (alive : List Bool) (ws : List ℕ) → ((x : ℕ) → Contains ws x → is_alive alive x ≡ true) ⊎
@@ -37,33 +36,8 @@ left_or alive (w ∷ ws) = elim (cases_Bool (is_alive alive w)) [
   ]
 ]
 
-pub front_low : (xs : List ℕ) (x : ℕ) (P : ℕ → Type 0) → All P (xs ++ x ∷ []) → All P xs
-front_low xs x P all = λ m d l.
-    let long = length-append xs (x ∷ []) in
-    subst P (get_or_append_left xs (x ∷ []) d m l) (all m d (omega arith))
-
-all_pass : (p : ℕ → Bool) (xs : List ℕ) → All (λ x. p x ≡ true) xs → length xs ≡ count_by p xs
-all_pass p [] h = refl
-all_pass p (x ∷ xs) h = omega (arith, count_yes p x xs (h 0 x (omega arith)), all_pass p xs (All-tail (λ y. p y ≡ true) x xs h))
-
 module _ (f : Filter) (g : Graph) (n : ℕ) (neighbors : ℕ → List ℕ) (nb : AreNeighbors f g neighbors)
     (in' : (v : ℕ) → All (λ w. w < n) (neighbors v)) where
-  -- a neighbor has its neighbor listed, just as often
-  one_way : (v w : ℕ) → Contains (neighbors v) w → Contains (neighbors w) v
-  one_way v w c = let j = (nb.exact v w).0 c in (nb.exact w v).1 ((λ e. j.0 (sym e)), other_way f g v w j.1)
-
-  some_times : (v w : ℕ) → times w (neighbors v) ≤ times v (neighbors w)
-  some_times v w = elim (cases_lt 0 (times w (neighbors v))) [
-    | inl lt ↦
-        let a = has_times v (neighbors w) (one_way v w (times_has w (neighbors v) (omega arith))) in
-        let b = apart_times w (neighbors v) (nb.apart v) in
-        omega arith
-    | inr le ↦ omega arith
-  ]
-
-  same_times : (v w : ℕ) → times w (neighbors v) ≡ times v (neighbors w)
-  same_times v w = let a = some_times v w in let b = some_times w v in omega arith
-
   -- a vertex with at most k neighbors left has core number k
   settled : (alive : List Bool) (degrees cores stack : List ℕ) (k v : ℕ) → IsPeeling f g n neighbors alive degrees cores stack k
       → is_alive alive v ≡ true → at degrees v ≤ k → IsCoreNumber f g v k
@@ -114,7 +88,7 @@ module _ (f : Filter) (g : Graph) (n : ℕ) (neighbors : ℕ → List ℕ) (nb :
         count = λ w.
             let a = lowered_at k ws degrees stack w within in
             let b = count_taken alive v (neighbors w) a_lt on in
-            let c = same_times v w in
+            let c = same_times f g n neighbors nb in' v w in
             let d = i.count w in
             omega arith;
         dense = (i.dense.0, i.dense.1, λ w h. i.dense.2 w (was w h).1);
@@ -236,9 +210,3 @@ module _ (f : Filter) (g : Graph) (n : ℕ) (neighbors : ℕ → List ℕ) (nb :
       → IsBetween f g n neighbors alive degrees cores left 0
   first alive degrees cores left e degree all =
       grind (arith, common_steps, get_or-replicate, all_pass, cases_lt, length-replicate, get_or_past)
-
-pub numbers_within : (n : ℕ) (xs : List ℕ) → length xs ≡ n → ((v : ℕ) → v < n → at xs v ≡ v) → All (λ w. w < n) xs
-numbers_within n xs long each k d lt = let e = each k (omega arith) in let same = get_or_default xs k d 0 lt in omega arith
-
-pub numbers_all : (n : ℕ) (xs : List ℕ) → length xs ≡ n → ((v : ℕ) → v < n → at xs v ≡ v) → (v : ℕ) → v < n → Contains xs v
-numbers_all n xs long each v lt = (v, omega arith, get_or_default xs v v 0 (omega arith) ∙ each v lt)

@@ -2,8 +2,9 @@
 use Rattle.std.proofs.Common.{◌≡◌, ℕ, List, [], ◌∷◌, length, ap, subst}
 use Rattle.graph_types.specs.{Degrees.CountsEdge, declared.ids.Degree.Degree, declared.ids.Filter.Filter}
 use Rattle.edge_block.specs.{Slots.BlockView, Slots.IsStamp, Lending.LentEdge}
+use Rattle.edge_block.proofs.LentEntries.{edge_lent, edges_lent}
 use Rattle.graph_cores.{specs.Tallies.{edge_between, shown_block, HasTallyRoom}, proofs.Parts.{IsBegun, begun_room, begun_more}}
-use Rattle.graph_cores.proofs.{Blocks.{edge_lent, edges_lent}, Counting.{IsCountable, countable, counts_edge}}
+use Rattle.graph_cores.proofs.Counting.{IsCountable, countable, counts_edge}
 
 module _ (f : Filter) (b : BlockView) (old table : List Degree) (left rest : List LentEdge) (l : LentEdge)
     (next : left ≡ l ∷ rest)

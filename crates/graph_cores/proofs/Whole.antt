@@ -1,32 +1,22 @@
 -- The edges of all rows: those of the view of the content, each once, and the degrees over them.
-use Rattle.std.proofs.Common.{◌≡◌, ◌≢◌, ℕ, zero, suc, ◌+◌, ◌<◌, ◌≤◌, Bool, true, false, ◌&&◌, eqb, ◌-◌, List, [], ◌∷◌, ◌++◌}
-use Rattle.std.proofs.Common.{length, get_or, map, pos, ◌+ℤ◌, append_assoc, append-nil, refl, sym, ap, ◌∙◌, subst, arith, inl}
-use Rattle.std.proofs.{Common.{inr, Option, None, Some, true≢false}, lemmas.Grind.{flat_map-append, common_steps}}
-use Rattle.std.proofs.lemmas.List.{get_or_past, Elements.{filter-append, filter_passes, All-filter}}
-use Rattle.std.proofs.lemmas.List.FromFn.{get_or-map-range_with_len, length-map-range_with_len, map-range_with_len_more}
-use Rattle.std.proofs.lemmas.{List.{FromFn.fill_by_all, Kept.AllPairs-filter, Sums.length-filter}, Bool.cases_lt}
-use Rattle.std.specs.{Prelude.{filter, fold, count_by, All}, Option.is_some, FinMap.get, List.{Contains, range_with_len}}
-use Rattle.std.specs.List.{list_all}
-use Rattle.graph_types.specs.{Graph.{Graph, key_of}, Degrees.listed_degree, Answer.{degree_at, degree_table}}
+use Rattle.std.proofs.Common.{◌≡◌, ◌≢◌, ℕ, zero, suc, ◌+◌, ◌<◌, ◌≤◌, true, eqb, ◌-◌, List, ◌++◌}
+use Rattle.std.proofs.Common.{length, get_or, map, pos, ◌+ℤ◌, append_assoc, append-nil, sym, ap, ◌∙◌, subst, arith}
+use Rattle.std.proofs.lemmas.Grind.{flat_map-append, common_steps}
+use Rattle.std.proofs.lemmas.List.Elements.{filter-append, filter_passes, All-filter}
+use Rattle.std.proofs.lemmas.List.{FromFn.fill_by_all, Kept.AllPairs-filter}
+use Rattle.std.specs.{Prelude.{filter, fold}, Option.is_some, FinMap.get}
+use Rattle.graph_types.specs.{Graph.key_of, Degrees.listed_degree, Answer.{degree_at, degree_table}}
 use Rattle.graph_types.{specs.declared.ids.{Degree.Degree, Edge.Edge, Filter.Filter}, proofs.Keys.get_listed}
 use Rattle.graph_types.{specs.Limits.IsWeightIn, proofs.{LimitsKept.{places_few, sums_within}, WeightsKept.weights_of}}
-use Rattle.graph_types.proofs.{Counts.Contains-first, Arcs.contains_map, Folds.{count_entries, weight_entries}}
-use Rattle.edge_block.specs.Slots.{Slot, BlockView, is_free_slot, edges_in, entry_in}
-use Rattle.graph_version.specs.{Rows.{row_of, blocks_of}, Versions.{VersionView, content, IsVersion, IsBlockOf}}
-use Rattle.graph_version.{specs.Edges.{AreEachOnce, edges_in_blocks}, proofs.{Shown.rows_each_once, Totals.same_blocks}}
-use Rattle.graph_version.proofs.{Members.in_rows, Rows.stands}
+use Rattle.graph_types.proofs.DegreeTables.{counted_twice, filter_twice}
+use Rattle.edge_block.specs.Slots.{BlockView}
+use Rattle.graph_version.specs.{Rows.{row_of, blocks_of}, Versions.{VersionView, content, IsVersion}}
+use Rattle.graph_version.{specs.Edges.edges_in_blocks, proofs.Shown.rows_each_once}
+use Rattle.graph_version.proofs.NumbersIn.{content_degree}
+use Rattle.graph_version.proofs.RowBlocks.{blocks_below, below_more, all_below}
 use Rattle.graph_cores.{specs.Tallies.{passes, shown_edges, IsCounted, AreViewEdges}, proofs.Parts.first_edges}
 
 -- Degrees over the edges shown are those over the content
-
-filter_twice : (p q : Edge → Bool) (es : List Edge) → filter (λ e. p e && q e) (filter p es) ≡ filter (λ e. p e && q e) es
-filter_twice p q [] = refl
-filter_twice p q (e ∷ es) = grind (arith, common_steps, filter_twice p q es)
-
-counted_twice : (p q : Edge → Bool) (es : List Edge) → count_by (λ e. p e && q e) (filter p es) ≡ count_by (λ e. p e && q e) es
-counted_twice p q es =
-    sym (length-filter (λ (e : Edge). p e && q e) (filter p es)) ∙ ap length (filter_twice p q es)
-    ∙ length-filter (λ (e : Edge). p e && q e) es
 
 shown_degree : (f : Filter) (es : List Edge) (v : ℕ) → listed_degree f (filter (passes f) es) v ≡ listed_degree f es v
 shown_degree f es v =
@@ -36,20 +26,7 @@ shown_degree f es v =
     (filter_twice (passes f) (λ e. eqb e.source.0 v) es) in
     λ i. record { outgoing = outgoing i; incoming = incoming i; out_weight = weights i }
 
-content_degree : (f : Filter) (g : Graph) (es : List Edge) (v : ℕ) → AreEachOnce es g → listed_degree f es v ≡ degree_at f g v
-content_degree f g es v each = grind (arith, common_steps, count_entries, weight_entries)
-
 -- Rows by source
-
--- the blocks of the first n sources
-abbrev pub blocks_below : List (List BlockView) → ℕ → List BlockView
-blocks_below rows n = blocks_of (map (row_of rows) (range_with_len 0 n))
-
-below_more : (rows : List (List BlockView)) (n : ℕ) → blocks_below rows (n + 1) ≡ blocks_below rows n ++ row_of rows n
-below_more rows n =
-    ap blocks_of (map-range_with_len_more (row_of rows) 0 n n (omega arith))
-    ∙ flat_map-append (λ row. row) (map (row_of rows) (range_with_len 0 n)) (row_of rows n ∷ [])
-    ∙ ap (λ bs. blocks_below rows n ++ bs) (append-nil (row_of rows n))
 
 pub shown_append : (f : Filter) (xs ys : List BlockView) → shown_edges f (xs ++ ys) ≡ shown_edges f xs ++ shown_edges f ys
 shown_append f xs ys = grind (arith, common_steps, flat_map-append, filter-append)
@@ -72,37 +49,7 @@ first_below f rows k (suc j) =
           ∙ append_assoc (shown_edges f (blocks_below rows k)) r.0 (shown_edges f (row_of rows (k + j))),
     )
 
--- slots that are not all free have an edge
-some_edge : (slots : List (Option Slot)) → list_all is_free_slot slots ≡ false → (e : Slot) × Contains (edges_in slots) e
-some_edge [] none = absurd (true≢false none)
-some_edge (None ∷ slots) some = some_edge slots some
-some_edge (Some e ∷ slots) some = (e, Contains-first e (edges_in slots) e refl)
-
 module _ (v : VersionView) (is : IsVersion v) where
-  -- a number that is no vertex has no row
-  no_row : (s : ℕ) → length (content v).names ≤ s → row_of v.rows s ≡ []
-  no_row s past = go (row_of v.rows s) refl where
-    go : (row : List BlockView) → row_of v.rows s ≡ row → row ≡ []
-    go [] same = refl
-    go (b ∷ row) same =
-        let here : Contains (row_of v.rows s) b =
-        subst (λ (bs : List BlockView). Contains bs b) (sym same) (Contains-first b row b refl) in
-        let of : IsBlockOf s b = subst (All (IsBlockOf s)) same (is.rows.blocks s) 0 b (omega arith) in
-        let e = some_edge b.slots of.has_edges in
-        let there = stands (content v) v.rows is.rows (let any : Filter = record { kind = None; lo = 0; hi = 0 } in any) b
-        (entry_in b e.0) (in_rows v.rows s b here) (contains_map (entry_in b) (edges_in b.slots) e.0 e.1) in
-        let within = is.within (entry_in b e.0).0 (ap is_some there) in
-        absurd (omega (arith, within.1, of.source_is))
-
-  -- all vertices' rows have all blocks
-  pub all_below : blocks_below v.rows (length (content v).names) ≡ blocks_of v.rows
-  all_below = same_blocks (map (row_of v.rows) (range_with_len 0 (length (content v).names))) v.rows
-      (λ s. elim (cases_lt s (length (content v).names)) [
-        | inl lt ↦ get_or-map-range_with_len (row_of v.rows) 0 (length (content v).names) s s [] lt (omega arith)
-        | inr le ↦ get_or_past (map (row_of v.rows) (range_with_len 0 (length (content v).names))) s []
-            (omega (arith, length-map-range_with_len (row_of v.rows) 0 (length (content v).names))) ∙ sym (no_row s le)
-      ])
-
   all_within : (f : Filter) → AreViewEdges f (length (content v).names) (shown_edges f (blocks_of v.rows))
   all_within f =
       let es : List Edge = edges_in_blocks (blocks_of v.rows) in
@@ -136,7 +83,7 @@ module _ (v : VersionView) (is : IsVersion v) where
       let r = first_below f v.rows k (n - k) in
       let top : k + (n - k) ≡ n = omega arith in
       let whole : shown_edges f (blocks_of v.rows) ≡ shown_edges f (blocks_below v.rows k) ++ r.0 =
-      ap (shown_edges f) (sym all_below) ∙ ap (λ m. shown_edges f (blocks_below v.rows m)) (sym top) ∙ r.1 in
+      ap (shown_edges f) (sym (all_below v is)) ∙ ap (λ m. shown_edges f (blocks_below v.rows m)) (sym top) ∙ r.1 in
       first_edges f n (shown_edges f (blocks_below v.rows k)) r.0 (subst (AreViewEdges f n) whole (all_within f))
 
   -- a table of the degrees over all rows is the table of degrees
@@ -147,7 +94,7 @@ module _ (v : VersionView) (is : IsVersion v) where
       let n = length (content v).names in
       let each = rows_each_once (content v) v.rows is.rows in
       let edges : shown_edges f (blocks_below v.rows k) ≡ shown_edges f (blocks_of v.rows) =
-      ap (λ m. shown_edges f (blocks_below v.rows m)) end ∙ ap (shown_edges f) all_below in
+      ap (λ m. shown_edges f (blocks_below v.rows m)) end ∙ ap (shown_edges f) (all_below v is) in
       let d = degree_at f (content v) 0 in
       fill_by_all (degree_at f (content v)) table n d long
       (λ w h. counted.tally.at w d (omega arith) ∙ ap (λ (es : List Edge). listed_degree f es w) edges

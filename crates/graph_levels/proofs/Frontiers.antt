@@ -7,9 +7,10 @@ use Rattle.std.proofs.lemmas.List.Elements.{All-nil, All-cons, Contains-push, Co
 use Rattle.std.{specs.{Prelude.{All, replicate}, List.Contains}, proofs.lemmas.Grind.common_steps}
 use Rattle.graph_types.specs.{Graph.Graph, Analyses.{LeadsTo, Walk, IsLevel, IsTable}, declared.ids.Filter.Filter}
 use Rattle.graph_types.{specs.declared.ids.VertexId.VertexId, proofs.Counts.{Contains-cons_cases, Contains-nil}}
+use Rattle.graph_types.proofs.Prefixes.{front_long}
 use Rattle.graph_levels.specs.Search.{is_unreached, level_of, HasLevel, IsReachedWithin, IsSearch}
 use Rattle.graph_levels.specs.Reached.{met, stands_in, level_table, vertices_of}
-use Rattle.graph_levels.proofs.Tables.{asked, front_long, length-table, levelled, table_push, vertices_push}
+use Rattle.graph_levels.proofs.Tables.{asked, length-table, levelled, table_push, vertices_push}
 
 none_of : (o : Option ℕ) → is_unreached o ≡ true → o ≡ None
 none_of o h = grind (arith, common_steps)

@@ -4,16 +4,18 @@ use Rattle.std.proofs.Common.{◌&&◌, ◌||◌, ◌≢◌, ◌⊎◌, length, 
 use Rattle.std.proofs.{Common.{false, Bool, not}, lemmas.Bool.{cases_eq, cases_lt, Decides.{eqb_tells, Decides-eqb}}}
 use Rattle.std.proofs.lemmas.Map.Keys.{IsDistinct-push, IsDistinct-IsPermutation, IsStrictlyIncreasing-from_distinct}
 use Rattle.std.proofs.lemmas.{Map.{Steps.length-le_from_distinct_below, Made.AllPairs-from_IsDistinct}, List.get_or-set_same}
-use Rattle.std.proofs.lemmas.List.{get_or-set_other, length-set, length-append, length-replicate, get_or-replicate, append-nil}
+use Rattle.std.proofs.lemmas.List.{get_or-set_other, length-set, length-replicate, get_or-replicate, append-nil}
 use Rattle.std.proofs.lemmas.List.{append_assoc, length-map, get_or-map, get_or_append_left, get_or_past, drop-append-le}
 use Rattle.std.proofs.lemmas.List.{map-append, drop_all, Kept.AllPairs-from_increasing, Sorted.Contains-permutation}
 use Rattle.std.proofs.lemmas.List.{Sorted.{IsPermutation-map, IsPermutation-sym}, Folds.{list_any_none, list_any-append}}
 use Rattle.std.proofs.lemmas.List.{Elements.{All-weaker, All-tail, All-push, All-contains, All-cons, All-nil}, Sums.fold-append}
-use Rattle.std.{proofs.Math.Seq.drop-append_seam, specs.{Prelude.{All, fold, nat_eq, replicate}, List.{AllPairs, Contains}}}
+use Rattle.std.specs.{Prelude.{All, fold, nat_eq, replicate}, List.{AllPairs, Contains}}
 use Rattle.std.specs.{List.{IsDistinct, list_any, Sorted.{IsNonDecreasing, IsNonDecreasingBy, IsPermutation}}, Cmp.nat_eq_equiv}
 use Rattle.std.proofs.lemmas.Grind.{common_steps}
 use Rattle.graph_types.proofs.{Counts.{Contains-cons, Contains-cons_cases, Contains-first}, Arcs.contains_map}
 use Rattle.graph_types.specs.declared.ids.VertexId.{VertexId}
+use Rattle.graph_types.proofs.{Numbers.differs, Prefixes.front_of}
+use Rattle.graph_types.proofs.Cases.{unsome}
 use Rattle.graph_levels.specs.{Search.{is_unreached, level_of}, Reached.{AreRows, met, rows_from, stands_in, level_table, vertices_of}}
 
 -- a table with the levels of rows, one after another
@@ -98,19 +100,12 @@ met_rows n d (v ∷ ts) rows in' are =
         within = subst (All (λ w. w < n)) (sym vertices) (All-push (λ w. w < n) (vertices_of rows) v are.within (in' 0 0 (omega arith)));
       })
 
--- rows that begin with others, and those behind them
-front_of : (old rows more : List (VertexId × ℕ)) → rows ≡ old ++ more → rows ≡ old ++ drop (length old) rows
-front_of old rows more is = is ∙ ap (λ xs. old ++ xs) (sym (ap (drop (length old)) is ∙ drop-append_seam old more))
-
 pub front_more : (d : ℕ) (ts : List ℕ) (old rows : List (VertexId × ℕ)) → rows ≡ old ++ drop (length old) rows
     → met d ts rows ≡ old ++ drop (length old) (met d ts rows)
 front_more d ts old rows front =
     let more = met_more d ts rows in
     front_of old (met d ts rows) (drop (length old) rows ++ more.0)
     (more.1 ∙ ap (λ xs. xs ++ more.0) front ∙ append_assoc old (drop (length old) rows) more.0)
-
-pub front_long : (old rows : List (VertexId × ℕ)) → rows ≡ old ++ drop (length old) rows → length old ≤ length rows
-front_long old rows front = grind (arith, common_steps, length-append)
 
 -- behind the last row there is none
 pub none_left : (k : ℕ) (rows : List (VertexId × ℕ)) → length rows ≤ k → vertices_of (drop k rows) ≡ []
@@ -127,9 +122,6 @@ first_rows n s lt = record {
 pub asked : (old rows : List (VertexId × ℕ)) (k : ℕ) (row : VertexId × ℕ) → rows ≡ old ++ drop (length old) rows
     → k < length old → row ≡ get_or rows k row → vertices_of (drop k old) ≡ row.0.0 ∷ vertices_of (drop (k + 1) old)
 asked old rows k row front lt is = grind (arith, common_steps, get_or_append_left, add-one, drop-cons)
-
-differs : (v w : ℕ) → v ≢ w → nat_eq v w ≡ false
-differs v w ne = elim (eqb_tells v w) [ inl same ↦ absurd (ne same.1) | inr differ ↦ differ.0 ]
 
 -- no more rows than vertices
 pub few_rows : (n : ℕ) (rows : List (VertexId × ℕ)) → AreRows n rows → length rows ≤ n
@@ -180,9 +172,6 @@ told_by (first ∷ rows) levels row distinct within at =
           later
     ]
 
-same_some : (a b : ℕ) → ◌≡◌ {A = Option ℕ} (Some a) (Some b) → a ≡ b
-same_some a b same = cc
-
 -- what has a level in the filled table stands in a row, or had it
 tells : (rows : List (VertexId × ℕ)) (levels : List (Option ℕ)) (v d : ℕ) → v < length levels
     → level_of (filled levels rows) v ≡ Some d → Contains rows (record { 0 = v }, d) ⊎ (level_of levels v ≡ Some d)
@@ -195,7 +184,7 @@ tells (first ∷ rows) levels v d lt is =
       | inr had ↦ elim (cases_eq v first.0.0) [
         | inl same ↦
             let level = sym (get_or-set_same levels v (Some first.1) None lt) ∙ ap (λ w. level_of (set levels w (Some first.1)) v) same ∙ had in
-            inl (here first rows v d same (same_some first.1 d level))
+            inl (here first rows v d same (unsome first.1 d level))
         | inr other ↦ inr (sym (get_or-set_other levels first.0.0 v (Some first.1) None other) ∙ had)
       ]
     ] where

@@ -4,7 +4,8 @@ use Rattle.std.proofs.lemmas.{Bool.{cases_eq, cases_lt}, List.{get_or-set_same, 
 use Rattle.std.{proofs.lemmas.List.FromFn.{length-range_with_len, get_or-range_with_len}, specs.List.range_with_len}
 use Rattle.std.proofs.lemmas.Grind.{common_steps}
 use Rattle.graph_types.specs.{Graph.Graph, Analyses.Connects, declared.ids.Filter.Filter}
-use Rattle.graph_levels.{specs.Forest.{parent, IsForest, IsSoundForest, Respects}, proofs.Walks.{itself, then}}
+use Rattle.graph_types.proofs.Walks.{then, itself}
+use Rattle.graph_levels.specs.Forest.{parent, IsForest, IsSoundForest, Respects}
 
 -- a read of a place within
 pub read : (ps : List ℕ) (v : ℕ) → v < length ps → get_or ps v 0 ≡ parent ps v

@@ -1,17 +1,12 @@
 -- What one operation exceeds, a batch exceeds; and the names that are left without looking at edges.
-use Rattle.std.proofs.Common.{◌≡◌, ℕ, ◌<◌, ◌≤◌, List, length, get_or, drop, ap, arith}
+use Rattle.std.proofs.Common.{◌≡◌, ℕ, ◌<◌, ◌≤◌, List, length, get_or, drop, arith}
 use Rattle.std.proofs.lemmas.Grind.{common_steps}
 use Rattle.graph_types.specs.{Graph.Graph, Step.after, Step.after_all, declared.batches.NamedOp.NamedOp}
-use Rattle.graph_types.specs.Parts.{names_after, names_after_all}
-use Rattle.graph_types.proofs.{NameLists.{length-after_all-names, length-after_all-kinds}, OperationParts.{names_of_all, no_fewer_all}}
+use Rattle.graph_types.specs.Parts.{names_after_all}
+use Rattle.graph_types.proofs.{NameLists.{length-after_all-names, length-after_all-kinds}, OperationParts.names_of_all}
 use Rattle.graph_types.proofs.LimitsKept.{limits_after_all}
 use Rattle.graph_types.specs.{Refusals.IsLimitRefusal, declared.refusals.ApplyError.ApplyError}
 use Rattle.graph_model.specs.Refusals.{Exceeds, IsNamesRefusal}
-
--- past the limit after one operation, past it after all
-pub length-names_after_all-drop : (ops : List NamedOp) (i : ℕ) (op : NamedOp) (names : List (List ℕ)) → i < length ops
-    → op ≡ get_or ops i op → length (names_after op names) ≤ length (names_after_all (drop i ops) names)
-length-names_after_all-drop h0 i op names l is = grind (arith, common_steps, no_fewer_all)
 
 Exceeds-after_all : (e : ApplyError) (ops : List NamedOp) (g : Graph) → Exceeds e g → Exceeds e (after_all ops g)
 Exceeds-after_all h0 ops g past = grind (arith, common_steps, length-after_all-names, length-after_all-kinds, limits_after_all)
@@ -27,7 +22,3 @@ IsNamesRefusal-more e limit xs ys more h4 = grind (arith, common_steps)
 pub Refuses-names : (e : ApplyError) (ops : List NamedOp) (g : Graph) → IsNamesRefusal g.limits.names e (names_after_all ops g.names)
     → IsLimitRefusal e ops g
 Refuses-names h0 ops g why = grind (arith, common_steps, names_of_all)
-
-pub names_fit : (ops : List NamedOp) (g : Graph) → length (names_after_all ops g.names) ≤ g.limits.names
-    → g.limits.names < length (after_all ops g).names → ⊥
-names_fit ops g few past = let e = ap length (names_of_all ops g) in omega arith

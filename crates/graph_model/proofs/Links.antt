@@ -1,22 +1,22 @@
 -- Links as lists of neighbors, and the rounds that lower numbers by want of support.
-use Rattle.std.proofs.Common.{◌≡◌, ◌≢◌, ℕ, suc, ◌+◌, ◌<◌, ◌≤◌, arith, refl, sym, ap, ◌∙◌, subst, ◌⊎◌, inl, inr, List, []}
+use Rattle.std.proofs.Common.{◌≡◌, ◌≢◌, ℕ, suc, ◌<◌, ◌≤◌, arith, refl, sym, ap, ◌∙◌, subst, ◌⊎◌, inl, inr, List, []}
 use Rattle.std.proofs.Common.{◌∷◌, length, get_or, map, cond, true, false, Bool, ◌&&◌, not}
-use Rattle.std.proofs.lemmas.Cmp.{then_total, on_total, nat_cmp_total, tied_itself, and_equiv, on_equiv, nat_eq_equiv}
 use Rattle.std.proofs.lemmas.{Option.slice_get-get_or, List.FromFn.length-range_with_len, List.FromFn.get_or-range_with_len}
-use Rattle.std.proofs.lemmas.Bool.{cases_Bool, eqb-true, Decides.nat_tests, Decides.Decides-eqb}
+use Rattle.std.proofs.lemmas.Bool.{cases_Bool, eqb-true, Decides.Decides-eqb}
 use Rattle.std.proofs.lemmas.List.{get_or_default, Sorted.Contains-permutation, Sorted.IsPermutation-sym}
-use Rattle.std.proofs.lemmas.List.Elements.{All-contains, All-weaker, All-from_recursion, Contains-get_or}
+use Rattle.std.proofs.lemmas.List.Elements.{All-contains, Contains-get_or}
 use Rattle.std.proofs.lemmas.List.Kept.{AllPairs-cons, IsStrictlySortedBy-dedup, Contains-dedup, Contains-from_dedup}
 use Rattle.std.specs.{Prelude.{All, AllPairs, ◌==◌, nat_le, count_by, filter, replicate, IsPermutation, IsTrue}, List.Contains}
-use Rattle.std.specs.{List.{range_with_len, dedup, Sorted.{IsSorted, IsStrictlySortedBy}}, Cmp.{IsTotalOrder, IsEquivalence}}
-use Rattle.std.specs.{Ordering.{nat_cmp, ordering_then, is_eq, eq_by_cmp}, declared.cmp.Ordering.{Ordering, TheVariants.Less}}
-use Rattle.std.proofs.lemmas.Grind.{common_steps}
+use Rattle.std.specs.List.{range_with_len, dedup, Sorted.IsSorted}
 use Rattle.graph_types.specs.Limits.{most_names}
 use Rattle.graph_types.specs.{Graph.{Graph, graph_of, IsContent}, Analyses.{Joins, IsCoreNumber, IsTable}, Arcs.{Arc, arcs_of}}
 use Rattle.graph_types.specs.{Arcs.{two_way, AreWithin, at, AreNeighbors, support, AreUpper}, declared.contents.Content.Content}
 use Rattle.graph_types.{specs.declared.ids.Filter.Filter, proofs.Counts.{apart_tail, apart_head, count_yes, count_no, sub_length}}
 use Rattle.graph_types.proofs.{Counts.{contains_filter, filter_contains}, Arcs.{contains_map, map_contains, arc_joins, joins_arc}}
 use Rattle.graph_types.proofs.{Arcs.two_way_within, Cores.{upper_first, upper_more, settled_cores}}
+use Rattle.graph_types.proofs.ArcTables.{all_zero}
+use Rattle.graph_types.proofs.PairOrder.{is_proper, same_place, pair_cmp, pairs_equiv, pair_same, sorted_apart, pairs_total}
+use Rattle.graph_types.proofs.PairOrder.{pair_ties}
 use Rattle.graph_model.specs.Links.{AreLinks, ends, supports}
 
 -- what links lead to from v are its ends, and back
@@ -69,19 +69,6 @@ count_ends numbers v (e ∷ links) =
       | false ↦ λ t. count_no (supports numbers v) e links (ap (λ b. b && nat_le (at numbers e.0) (at numbers e.1)) t) ∙ rest
     ] refl
 
-zero_at : (n v : ℕ) → at (replicate n 0) v ≡ 0
-zero_at h0 v = grind (arith, common_steps)
-
--- where all numbers are 0 each neighbor has enough
-all_zero : (n : ℕ) (zeros : List ℕ) → zeros ≡ replicate n 0 → (v : ℕ) (xs : List ℕ)
-    → count_by (λ w. nat_le (at zeros v) (at zeros w)) xs ≡ length xs
-all_zero n zeros blank v [] = refl
-all_zero n zeros blank v (x ∷ xs) =
-    let here : at zeros v ≡ 0 = ap (λ zs. at zs v) blank ∙ zero_at n v in
-    let there : at zeros x ≡ 0 = ap (λ zs. at zs x) blank ∙ zero_at n x in
-    let pass : nat_le (at zeros v) (at zeros x) ≡ true = grind (arith, nat_tests) in
-    count_yes (λ w. nat_le (at zeros v) (at zeros w)) x xs pass ∙ ap (λ k. 1 + k) (all_zero n zeros blank v xs) ∙ omega arith
-
 module _ (f : Filter) (g : Graph) (n : ℕ) (links : List (ℕ × ℕ)) (are : AreLinks f g links) (within : (v w : ℕ) → Joins f g v w
     → w < n) where
   are_neighbors : AreNeighbors f g (ends links)
@@ -126,54 +113,12 @@ module _ (f : Filter) (g : Graph) (n : ℕ) (links : List (ℕ × ℕ)) (are : A
       (w, omega arith, (let x = get_or-range_with_len 0 n w w lt in omega arith))) in
       omega arith
 
-pub joined_within : (f : Filter) (c : Content) → IsContent c → (v w : ℕ) → Joins f (graph_of c) v w → w < length c.names
-joined_within f c is v w j =
-    (All-contains (λ (e : ℕ × ℕ). (e.0 < length c.names) × (e.1 < length c.names)) (two_way (arcs_of f c.edges)) (v, w)
-    (two_way_within f c is) (joins_arc f c is v w j)).1
-
--- pairs in order
-abbrev pair_cmp : ℕ × ℕ → ℕ × ℕ → Ordering
-pair_cmp a b = ordering_then (nat_cmp a.0 b.0) (nat_cmp a.1 b.1)
-
-abbrev pair_eq : ℕ × ℕ → ℕ × ℕ → Bool
-pair_eq a b = (a.0 == b.0) && (a.1 == b.1)
-
-pairs_total : IsTotalOrder pair_cmp
-pairs_total = then_total (on_total (λ (p : ℕ × ℕ). p.0) nat_cmp_total) (on_total (λ (p : ℕ × ℕ). p.1) nat_cmp_total)
-
-both_tied : (s t : Bool) (a b : Ordering) → s ≡ is_eq a → t ≡ is_eq b → (s && t) ≡ is_eq (ordering_then a b)
-both_tied s t h2 b p q = grind (arith, common_steps)
-
-nat_ties : (x y : ℕ) → (x == y) ≡ is_eq (nat_cmp x y)
-nat_ties x y = grind (arith, nat_tests)
-
-pair_ties : (a b : ℕ × ℕ) → pair_eq a b ≡ eq_by_cmp pair_cmp a b
-pair_ties a b = both_tied (a.0 == b.0) (a.1 == b.1) (nat_cmp a.0 b.0) (nat_cmp a.1 b.1) (nat_ties a.0 b.0) (nat_ties a.1 b.1)
-
-pairs_equiv : IsEquivalence pair_eq
-pairs_equiv = and_equiv (on_equiv (λ (p : ℕ × ℕ). p.0) nat_eq_equiv) (on_equiv (λ (p : ℕ × ℕ). p.1) nat_eq_equiv)
-
-pair_same : (a b : ℕ × ℕ) → pair_eq a b ≡ true → a ≡ b
-pair_same a b t = grind (arith, common_steps)
-
-sorted_apart : (xs : List (ℕ × ℕ)) → IsStrictlySortedBy pair_cmp xs → AllPairs (λ a b. a ≢ b) xs
-unfolding IsStrictlySortedBy
-sorted_apart [] s = λ i j d lt l. absurd (omega arith)
-sorted_apart (x ∷ xs) s = AllPairs-cons (λ a b. a ≢ b) x xs
-    (All-weaker (λ y. pair_cmp x y ≡ Less) (λ y. x ≢ y)
-    (λ y less same. let tied = tied_itself pairs_total x in let both = sym less ∙ ap (pair_cmp x) (sym same) ∙ tied in cc) xs
-    (All-from_recursion (λ y. pair_cmp x y ≡ Less) xs s.0))
-    (sorted_apart xs s.1)
-
-abbrev pub is_proper : ℕ × ℕ → Bool
-is_proper arc = not (arc.0 == arc.1)
-
 module _ (f : Filter) (c : Content) (is : IsContent c) (both kept sorted links : List (ℕ × ℕ))
     (arcs : both ≡ two_way (arcs_of f c.edges)) (proper : kept ≡ filter is_proper both)
-    (moved : IsPermutation kept sorted) (order : IsSorted pair_cmp sorted) (once : links ≡ dedup pair_eq sorted) where
+    (moved : IsPermutation kept sorted) (order : IsSorted pair_cmp sorted) (once : links ≡ dedup same_place sorted) where
   from_links : (v w : ℕ) → Contains links (v, w) → Arc (two_way (arcs_of f c.edges)) v w × (is_proper (v, w) ≡ true)
   from_links v w l =
-      let s = Contains-from_dedup pair_eq sorted (v, w) (rw once at l) in
+      let s = Contains-from_dedup same_place sorted (v, w) (rw once at l) in
       let k = Contains-permutation sorted kept (v, w) (IsPermutation-sym kept sorted moved) s in
       let r = filter_contains is_proper both (v, w) (rw proper at k) in (rw arcs at r.0, r.1)
 
@@ -186,7 +131,7 @@ module _ (f : Filter) (c : Content) (is : IsContent c) (both kept sorted links :
   links_made : AreLinks f (graph_of c) links
   links_made = record {
     apart = rw once
-        (sorted_apart (dedup pair_eq sorted) (IsStrictlySortedBy-dedup pairs_total pair_ties sorted order));
+        (sorted_apart (dedup same_place sorted) (IsStrictlySortedBy-dedup pairs_total pair_ties sorted order));
     exact = λ v w. (
       (λ l.
           let r = from_links v w l in

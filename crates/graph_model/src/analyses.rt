@@ -14,7 +14,7 @@ use graph_types::{AskError, Content, List, Name, NamedFilter, Reply, VertexId};
 use std::alloc::{AllocError, Global};
 
 /// The level of each vertex that a walk reaches from the source.
-#[tactic(auto, using(graph_types::proofs::NameNumbers::place_none, graph_types::proofs::NameNumbers::place_some, graph_types::proofs::NameNumbers::place_number, graph_types::proofs::NameNumbers::place_within, crate::proofs::AnalysisReplies::refused_so, crate::proofs::AnalysisReplies::vertex_refused))]
+#[tactic(auto, using(graph_types::proofs::NameNumbers::place_none, graph_types::proofs::NameNumbers::place_some, graph_types::proofs::NameNumbers::place_number, graph_types::proofs::NameNumbers::place_within, graph_types::proofs::AnalysisReplies::refused_so, graph_types::proofs::AnalysisReplies::vertex_refused))]
 pub(crate) fn reply_levels(
     alloc: Global,
     content: &Content,

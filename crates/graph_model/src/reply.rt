@@ -133,7 +133,7 @@ fn kind_of(content: &Content, name: &Name) -> Result<KindId, AskError>
 }
 
 /// The degrees of each vertex, by number.
-#[tactic(auto, using(crate::proofs::DegreeTables::tally_none, crate::proofs::DegreeTables::tally_shown, crate::proofs::DegreeTables::tally_hidden))]
+#[tactic(auto, using(graph_types::proofs::DegreeTables::tally_none, graph_types::proofs::DegreeTables::tally_shown, graph_types::proofs::DegreeTables::tally_hidden))]
 fn tally(alloc: Global, content: &Content, filter: Filter) -> Result<Vec<Degree>, AllocError>
     requires { IsContent content.now }
     ensures { IfOk result (λ table. table.items ≡ degree_table filter (graph_of content.now)) }

@@ -55,7 +55,7 @@ module _ {X : Type 0} where
         | false ↦ λ e c. let r = filter_contains p ys x c in (Contains-cons y ys x r.0, r.1)
       ] refl c
 
-abbrev others : ℕ → List ℕ → List ℕ
+abbrev pub others : ℕ → List ℕ → List ℕ
 others x ys = filter (λ y. not (y == x)) ys
 
 kept_others : (x : ℕ) (ys : List ℕ) → length (others x ys) ≤ length ys

@@ -1,5 +1,5 @@
 -- What operations leave of a graph, by their parts, and the names among it.
-use Rattle.std.proofs.Common.{◌≡◌, ◌∙◌, ℕ, ◌≤◌, List, [], ◌∷◌, length, refl, ap, arith}
+use Rattle.std.proofs.Common.{◌≡◌, ◌∙◌, ℕ, ◌≤◌, List, [], ◌∷◌, length, refl, ap, arith, ◌<◌, get_or, drop}
 use Rattle.std.proofs.lemmas.Grind.{common_steps}
 use Rattle.graph_types.specs.{Graph.Graph, Step.{after, after_all, outcome, changed, change_outcome, expired, count_before}}
 use Rattle.graph_types.specs.Parts.{Parts, OfEdge, OfAll, parts_in, names_by, kinds_by, names_after, kinds_after}
@@ -62,3 +62,21 @@ no_fewer_kinds op kinds = grind (arith, common_steps, length-with_name)
 pub no_fewer_kinds_all : (ops : List NamedOp) (kinds : List (List ℕ)) → length kinds ≤ length (kinds_after_all ops kinds)
 no_fewer_kinds_all [] kinds = omega arith
 no_fewer_kinds_all (op ∷ ops) kinds = omega (arith, no_fewer_kinds op kinds, no_fewer_kinds_all ops (kinds_after op kinds))
+
+-- past the limit after one operation, past it after all
+pub length-names_after_all-drop : (ops : List NamedOp) (i : ℕ) (op : NamedOp) (names : List (List ℕ)) → i < length ops
+    → op ≡ get_or ops i op → length (names_after op names) ≤ length (names_after_all (drop i ops) names)
+length-names_after_all-drop h0 i op names l is = grind (arith, common_steps, no_fewer_all)
+
+pub names_fit : (ops : List NamedOp) (g : Graph) → length (names_after_all ops g.names) ≤ g.limits.names
+    → g.limits.names < length (after_all ops g).names → ⊥
+names_fit ops g few past = let e = ap length (names_of_all ops g) in omega arith
+
+pub names_left : (parts : Parts) (g : Graph) → (after_parts parts g).names ≡ names_by parts g.names
+names_left h0 g = grind (arith, common_steps)
+
+pub kinds_left : (parts : Parts) (g : Graph) → (after_parts parts g).kinds ≡ kinds_by parts g.kinds
+kinds_left h0 g = grind (arith, common_steps)
+
+pub limits_left : (parts : Parts) (g : Graph) → (after_parts parts g).limits ≡ g.limits
+limits_left h0 g = grind (arith, common_steps)

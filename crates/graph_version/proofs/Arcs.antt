@@ -1,21 +1,20 @@
 -- Edges along arcs lead where the arcs do.
 use Rattle.std.proofs.Common.{◌≡◌, ℕ, zero, suc, ◌<◌, arith, refl, sym, ap, ◌∙◌, subst, List, [], ◌∷◌, ◌++◌, length, map}
-use Rattle.std.proofs.{Common.{append-nil, Some, true, Bool, cond, Option}, lemmas.Bool.{and_parts, eqb-true, Decides.nat_tests}}
+use Rattle.std.proofs.{Common.{append-nil, Some, true}, lemmas.Bool.{and_parts, eqb-true, Decides.nat_tests}}
 use Rattle.std.{proofs.lemmas.{Bool.Decides.Decides-eqb, List.length-replicate}, specs.Prelude.{filter, nat_lt, ◌&&◌, ◌==◌, ◌↔◌}}
 use Rattle.std.{specs.{List.Contains, FinMap.find}, proofs.lemmas.Grind.common_steps}
-use Rattle.graph_types.specs.Graph.{Key, Stamp, key_cmp, key_of, stamp_of, entry_of}
+use Rattle.graph_types.specs.Graph.{Key, key_cmp, key_of, stamp_of, entry_of}
 use Rattle.graph_types.{specs.Analyses.LeadsTo, proofs.Arcs.contains_map, proofs.Arcs.map_contains, proofs.Counts.contains_filter}
 use Rattle.graph_types.proofs.{Counts.filter_contains, Keys.get_is, Keys.find_listed, Keys.is_key_of, Keys.is_key_of_at}
+use Rattle.graph_types.proofs.PickedStamps.{picked_either}
 use Rattle.graph_version.specs.Listed.{edge_along, is_within, leaves_source, along, all_edges, put_targets}
-
-pick : (b : Bool) (s : Stamp) (o : Option Stamp) → o ≡ Some s → cond b (Some s) o ≡ Some s
-pick b s o e = grind (arith, common_steps)
 
 present : (key : Key) (arcs : List (ℕ × ℕ)) (x : ℕ × ℕ) → Contains arcs x → key ≡ key_of (edge_along x)
     → find key_cmp key (map entry_of (map edge_along arcs)) ≡ Some (stamp_of (edge_along (0, 0)))
 present key [] x c same = let l = c.1 in absurd (omega arith)
 present key (y ∷ ys) x (zero, l, e) same = grind (arith, common_steps, is_key_of_at)
-present key (y ∷ ys) x (suc k, l, e) same = pick (is_key_of key (edge_along y)) _ _ (present key ys x (k, omega arith, e) same)
+present key (y ∷ ys) x (suc k, l, e) same =
+    picked_either (is_key_of key (edge_along y)) _ _ (present key ys x (k, omega arith, e) same)
 
 module _ (count : ℕ) (arcs : List (ℕ × ℕ)) where
   pub arc_along : (a b : ℕ) → LeadsTo all_edges (along count arcs) a b → Contains (filter (is_within count) arcs) (a, b)

@@ -1,15 +1,12 @@
 -- How many blocks rows have: a version at most 2 ^ 58, since each of its blocks has an edge.
-use Rattle.std.proofs.Common.{◌≡◌, ℕ, suc, ◌≤◌, ◌^◌, false, List, [], ◌∷◌, length, Option, Some, None, arith, All, length-append}
+use Rattle.std.proofs.Common.{◌≡◌, ℕ, suc, ◌≤◌, ◌^◌, false, List, [], ◌∷◌, length, arith, All, length-append}
 use Rattle.std.{proofs.lemmas.{List.Elements.{All-head, All-tail, All-append}, Grind.common_steps}, specs.List.list_all}
-use Rattle.edge_block.specs.Slots.{Slot, BlockView, is_free_slot, edges_in}
-use Rattle.version_pages.specs.Rows.{row_of, blocks_of}
+use Rattle.edge_block.specs.Slots.{BlockView, is_free_slot}
+use Rattle.edge_block.proofs.FreeSlots.{some_edges}
+use Rattle.graph_version.specs.Rows.{row_of, blocks_of}
 use Rattle.graph_version.specs.{Versions.VersionView, Versions.IsVersion, Edges.edges_in_block, Edges.edges_in_blocks}
 use Rattle.graph_version.proofs.{Few.count_is_total, Few.few_total, Totals.count_one}
-
-some_edges : (slots : List (Option Slot)) → list_all is_free_slot slots ≡ false → 1 ≤ length (edges_in slots)
-some_edges [] is = cc
-some_edges (None ∷ slots) is = some_edges slots is
-some_edges (Some e ∷ slots) is = omega arith
+use Rattle.graph_version.proofs.RowBlocks.{row_within_all}
 
 abbrev HasEdges : BlockView → Type 0
 HasEdges b = list_all is_free_slot b.slots ≡ false
@@ -29,3 +26,6 @@ all_have (row ∷ rows) each = All-append HasEdges row (blocks_of rows) (each 0)
 
 pub few_blocks : (v : VersionView) → IsVersion v → length (blocks_of v.rows) ≤ 2 ^ 58
 few_blocks v is = grind (arith, common_steps, as_many_edges, all_have, count_is_total, few_total)
+
+pub few_in_row : (v : VersionView) (source : ℕ) → IsVersion v → length (row_of v.rows source) ≤ 2 ^ 58
+few_in_row v source is = omega (arith, few_blocks v is, row_within_all v.rows source)

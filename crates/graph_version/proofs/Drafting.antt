@@ -4,7 +4,7 @@ use Rattle.std.proofs.lemmas.List.{map-append}
 use Rattle.graph_types.specs.{Graph.Graph, declared.{batches.NamedOp.NamedOp, ids.VertexId.VertexId}}
 use Rattle.edge_block.specs.Slots.{BlockView}
 use Rattle.vertex_names.specs.Book.{Book}
-use Rattle.version_pages.specs.Rows.{row_of, Replaces}
+use Rattle.graph_version.specs.Rows.{row_of, Replaces}
 use Rattle.graph_version.specs.Drafts.{row_values, row_among}
 use Rattle.graph_version.{specs.{Kept.{version_of, edge_total, IsSummary}, Logs.keeps_batches, Drafts.{DraftView, IsWhole}}, proofs.Few.few_total}
 

@@ -1,14 +1,15 @@
 -- The version without batches is a version.
-use Rattle.std.proofs.Common.{◌≡◌, ◌∙◌, ℕ, List, [], Bool, refl, sym, ap, arith, true≢false}
+use Rattle.std.proofs.Common.{◌≡◌, ◌∙◌, ℕ, List, [], Bool, refl, sym, ap, arith, true≢false, ◌∷◌}
 use Rattle.std.specs.{Option.is_some, FinMap.get-empty, FinMap.len-empty}
 use Rattle.graph_types.specs.{Graph.Graph, Graph.Stamp, Graph.key_cmp, Step.empty_graph_in, declared.batches.NamedOp.NamedOp}
 use Rattle.graph_types.{specs.Limits.{LimitsView, AreLimits, standard_limits}, proofs.Empty.empty_weights}
-use Rattle.edge_block.specs.{Slots.BlockView, Rows.IsRow}
+use Rattle.graph_types.specs.Step.{left_by}
+use Rattle.graph_types.proofs.ChangedContents.{standard_are_limits}
+use Rattle.edge_block.specs.Slots.{BlockView}
+use Rattle.edge_block.proofs.Untouched.{no_row}
 use Rattle.vertex_names.specs.Book.{Book, empty_book}
 use Rattle.graph_version.specs.{Versions.IsVersion, Versions.{empty_version, empty_version_in}, Kept.version_of, Kept.IsSummary, Logs.keeps_batches}
-
-pub no_row : IsRow []
-no_row = record { within = λ k d h. absurd (omega arith); between = tt }
+use Rattle.graph_version.specs.Versions.{VersionView, content}
 
 pub is_empty_version_in : (limits : LimitsView) → AreLimits limits → IsVersion (empty_version_in limits)
 is_empty_version_in limits are = record {
@@ -27,15 +28,6 @@ is_empty_version_in limits are = record {
   };
 }
 
-pub standard_are_limits : AreLimits standard_limits
-standard_are_limits = record {
-  names = omega arith;
-  kinds = omega arith;
-  batches = omega arith;
-  weight = omega arith;
-  sums = omega arith;
-}
-
 pub is_empty_version : IsVersion empty_version
 is_empty_version = is_empty_version_in standard_limits standard_are_limits
 
@@ -52,3 +44,23 @@ is_kept_empty limits names kinds opening batches rows edges keeps are n k o b r 
       keeps_are = refl;
       version = is_empty_version_in limits are;
     })
+
+abbrev blank_version : VersionView
+blank_version = record empty_version { batches = [] ∷ [] }
+
+pub blank_is_version : IsVersion blank_version
+blank_is_version = record {
+  rows = is_empty_version.rows;
+  within = is_empty_version.within;
+  small = record {
+    names = omega arith;
+    kinds = omega arith;
+    count = omega arith;
+    limits = is_empty_version.small.limits;
+    weights = is_empty_version.small.weights;
+  };
+}
+
+-- version 0 alone: its content is what it began with
+pub content_alone : (v : VersionView) → v.batches ≡ [] → content v ≡ v.opening
+content_alone v alone = ap (λ bs. left_by bs v.opening) alone

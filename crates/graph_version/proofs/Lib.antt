@@ -1,13 +1,21 @@
+pub mod Ages
+mod ShownHalls
 pub mod Shown
 pub mod Empty
 pub mod Looks
 pub mod Totals
 pub mod Few
 pub mod Drafting
-pub mod Lent
 pub mod BlockCounts
 pub mod Rebased
 pub mod Arcs
 pub mod Members
-pub mod Rows
+pub mod RowTargets
 pub mod Targets
+pub mod Into
+pub mod Drafted
+pub mod OldBlocks
+pub mod NumbersIn
+pub mod RowBlocks
+pub mod ListedNumbers
+pub mod RowsAmong

@@ -1,40 +1,16 @@
 -- A search of a row for an edge, block by block.
-use Rattle.std.proofs.Common.{◌≡◌, ℕ, zero, suc, ◌+◌, ◌<◌, true, List, [], ◌∷◌, length, get_or, map, take, Option, None, Some}
+use Rattle.std.proofs.Common.{◌≡◌, ℕ, ◌<◌, true, List, [], ◌∷◌, length, get_or, map, take, Option, None, Some}
 use Rattle.std.{proofs.Common.{refl, sym, ap, ◌∙◌, arith}, specs.{Option.{is_some, option_or}, declared.sync.Arc.Arc}}
 use Rattle.std.{specs.{declared.alloc.Global.Global, FinMap.get}, proofs.lemmas.Grind.common_steps}
 use Rattle.graph_types.specs.Graph.{Stamp}
 use Rattle.edge_block.specs.{Slots.first_some, Lending.LentEdge, declared.blocks.Block.Block, Rows.{shape_of, block_at, row_at}}
-use Rattle.version_pages.specs.{Rows.row_of, Sharing.block_value, Sharing.block_values}
+use Rattle.edge_block.proofs.SlotTargets.{first_after}
+use Rattle.graph_version.specs.{Rows.row_of, Sharing.block_value, Sharing.block_values}
 use Rattle.graph_version.specs.{Versions.VersionView, Versions.content, Versions.IsVersion, Edges.lent_to, Lending.lent_at}
 
 -- what a shared block has at a kind and a target
 abbrev pub place_at : ℕ × ℕ → Arc Block Global → Option Stamp
 place_at place block = block_at (shape_of (block_value block)) place
-
-module _ {A B : Type 0} (f : A → Option B) where
-  -- where the first elements have nothing, the list has what the others have
-  pub first_after : (xs : List A) (i : ℕ) (d : A) → i < length xs → first_some f (take i xs) ≡ None
-      → is_some (f (get_or xs i d)) ≡ true → first_some f xs ≡ f (get_or xs i d)
-  first_after [] i d lt none is = absurd (omega arith)
-  first_after (x ∷ xs) zero d lt none is = grind (arith, common_steps)
-  first_after (x ∷ xs) (suc i) d lt none is = left (f x) (first_some f (take i xs)) (first_some f xs) _ none
-      (λ rest. first_after xs i d (omega arith) rest is) where
-        left : (a b c e : Option B) → option_or a b ≡ None → (b ≡ None → c ≡ e) → option_or a c ≡ e
-        left None b c e none go = go none
-        left (Some y) b c e none go = cc
-
-  -- one element more that has nothing
-  pub none_more : (xs : List A) (i : ℕ) (d : A) → i < length xs → first_some f (take i xs) ≡ None → f (get_or xs i d) ≡ None
-      → first_some f (take (i + 1) xs) ≡ None
-  none_more [] i d lt none here = absurd (omega arith)
-  none_more (x ∷ xs) zero d lt none here = rw here refl
-  none_more (x ∷ xs) (suc i) d lt none here =
-      let further : suc (i + 1) ≡ suc i + 1 = omega arith in
-      ap (λ n. first_some f (take n (x ∷ xs))) (sym further)
-      ∙ both (f x) (first_some f (take i xs)) _ none (λ rest. none_more xs i d (omega arith) rest here) where
-        both : (a b c : Option B) → option_or a b ≡ None → (b ≡ None → c ≡ None) → option_or a c ≡ None
-        both None b c none go = go none
-        both (Some y) b c none go = cc
 
 -- a row's shapes have what its blocks have
 pub look_at : (place : ℕ × ℕ) (blocks : List (Arc Block Global))

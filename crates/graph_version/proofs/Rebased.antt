@@ -1,59 +1,31 @@
 -- A version 0 over copies of another version's blocks, or over its very rows.
-use Rattle.std.proofs.Common.{◌≡◌, ◌≢◌, ℕ, zero, suc, ◌+◌, ◌*◌, ◌-◌, ◌<◌, ◌≤◌, List, [], ◌∷◌, ◌++◌, map, length, take, drop, get_or}
-use Rattle.std.proofs.Common.{refl, sym, ap, ap₂, subst, ◌∙◌, arith, inl, inr, All, AllPairs, length-append, ℤ, Bool, true, rules, w64}
-use Rattle.std.proofs.{Common.FitsSigned, lemmas.List.{append-nil, take-append-drop, take_all, drop_all, length-map, map-append}}
+use Rattle.std.proofs.Common.{◌≡◌, ◌≢◌, ℕ, zero, suc, ◌+◌, ◌*◌, ◌<◌, ◌≤◌, List, [], ◌∷◌, ◌++◌, map, length, take, drop, get_or}
+use Rattle.std.proofs.Common.{refl, sym, ap, subst, ◌∙◌, arith, inl, inr, All, AllPairs, length-append, Bool, true}
+use Rattle.std.proofs.lemmas.List.{take-append-drop, length-map, map-append}
 use Rattle.std.proofs.lemmas.{List.{drop_more, get_or_past, Elements.{All-head, All-tail, All-cons}}, Bool.cases_lt}
 use Rattle.std.{proofs.lemmas.Bool.Decides.eqb_tells, specs.{declared.{sync.Arc.Arc, alloc.Global.Global}, FinMap.{len, get}}}
 use Rattle.std.{specs.Option.is_some, proofs.lemmas.Grind.common_steps}
-use Rattle.graph_types.specs.{Graph.{key_of, stamp_of, IsContent, IsContentIn, HasWeights, Graph, graph_in}, Limits.{LimitsView, IsWeight}}
+use Rattle.graph_types.specs.{Graph.{key_of, stamp_of, IsContent, IsContentIn, HasWeights, Graph, graph_in}, Limits.LimitsView}
 use Rattle.graph_types.{specs.declared.{batches.NamedOp.NamedOp, contents.Content.Content, ids.Edge.Edge}, proofs.Keys.get_listed}
 use Rattle.graph_types.{specs.Limits.AreLimits, proofs.{LimitsKept.{limits_left_by, each_fits, sums_within}, WeightsKept.weights_listed}}
+use Rattle.graph_types.specs.Step.{left_by}
+use Rattle.graph_types.proofs.ListPlaces.{length_dropped, map_take, take_front, map_drop, drop_front, at_drop, same_by_place}
 use Rattle.edge_block.specs.{Slots.{IsStamp, Slot, BlockView, entry_in, entries_of, edges_in}, Lending.{LentEdge, lent_of}}
 use Rattle.edge_block.specs.{declared.blocks.Block.Block, Rows.shape_of, Batches.{IsLayoutOf, HasEndsWithin}}
+use Rattle.edge_block.proofs.BlockCounts.{at_source, elsewhere}
 use Rattle.vertex_names.specs.Book.{Book}
-use Rattle.version_pages.specs.{Rows.{row_of, blocks_of, numbers_of, Replaces}, Sharing.{block_value, block_values}}
+use Rattle.graph_version.specs.{Rows.{row_of, blocks_of, numbers_of, Replaces}, Sharing.{block_value, block_values}}
 use Rattle.graph_version.specs.{Versions.{VersionView, IsBlockOf, AreRowsOf, IsVersion, content, layout_of}, Edges.edge_from}
 use Rattle.graph_version.specs.{Edges.{edges_in_block, edges_in_blocks}, Kept.{vertex_book, kind_book, version_of, IsSummary}, Logs.keeps_batches}
 use Rattle.graph_version.specs.LentEdges.{lent_as_edge}
 use Rattle.graph_version.specs.Rebased.{AreCopies, IsRebased, rows_like, unnumbered}
-use Rattle.graph_version.proofs.{Shown.rows_each_once, Totals.same_blocks, Totals.at_source, Totals.elsewhere}
-
--- Lists cut in two
-
-pub map_take : {A B : Type 0} (f : A → B) (n : ℕ) (xs : List A) → map f (take n xs) ≡ take n (map f xs)
-map_take f zero xs = refl
-map_take f (suc n) [] = refl
-map_take f (suc n) (x ∷ xs) = ap (λ ys. f x ∷ ys) (map_take f n xs)
-
-pub map_drop : {A B : Type 0} (f : A → B) (n : ℕ) (xs : List A) → map f (drop n xs) ≡ drop n (map f xs)
-map_drop f zero xs = refl
-map_drop f (suc n) [] = refl
-map_drop f (suc n) (x ∷ xs) = map_drop f n xs
-
-take_front : {A : Type 0} (xs ys : List A) → take (length xs) (xs ++ ys) ≡ xs
-take_front [] ys = refl
-take_front (x ∷ xs) ys = ap (λ zs. x ∷ zs) (take_front xs ys)
-
-drop_front : {A : Type 0} (xs ys : List A) → drop (length xs) (xs ++ ys) ≡ ys
-drop_front [] ys = refl
-drop_front (x ∷ xs) ys = drop_front xs ys
-
-at_drop : {A : Type 0} (xs : List A) (k : ℕ) (d : A) → get_or (drop k xs) 0 d ≡ get_or xs k d
-at_drop [] zero d = refl
-at_drop [] (suc k) d = refl
-at_drop (x ∷ xs) zero d = refl
-at_drop (x ∷ xs) (suc k) d = at_drop xs k d
+use Rattle.graph_version.proofs.{Shown.rows_each_once, Totals.same_blocks}
 
 -- Rows like others
 
 length-rows_like : (rows : List (List BlockView)) (bs : List BlockView) → length (rows_like rows bs) ≡ length rows
 length-rows_like [] bs = refl
 length-rows_like (row ∷ rows) bs = ap suc (length-rows_like rows (drop (length row) bs))
-
-length-drop : {A : Type 0} (n : ℕ) (xs : List A) → length (drop n xs) ≡ length xs - n
-length-drop zero xs = omega arith
-length-drop (suc n) [] = omega arith
-length-drop (suc n) (x ∷ xs) = length-drop n xs ∙ omega arith
 
 -- they are all of the blocks
 pub blocks_like : (rows : List (List BlockView)) (bs : List BlockView) → length bs ≡ length (blocks_of rows)
@@ -62,7 +34,7 @@ blocks_like [] [] long = refl
 blocks_like [] (b ∷ bs) long = absurd (omega arith)
 blocks_like (row ∷ rows) bs long =
     let both = length-append row (blocks_of rows) in
-    let rest = length-drop (length row) bs in
+    let rest = length_dropped (length row) bs in
     ap (λ xs. take (length row) bs ++ xs) (blocks_like rows (drop (length row) bs) (omega arith))
     ∙ take-append-drop (length row) bs
 
@@ -105,7 +77,7 @@ row_more rows blocks k copy next left row rest so_far lt row_is rest_is replaced
     let many : length left ≡ length (row_of rows k ++ blocks_of (drop (k + 1) rows)) =
     so_far.many ∙ ap (λ rs. length (blocks_of rs)) at in
     let both = length-append (row_of rows k) (blocks_of (drop (k + 1) rows)) in
-    let fewer = length-drop n left in
+    let fewer = length_dropped n left in
     record {
       made = λ s below. elim (eqb_tells s k) [
         | inl e ↦ replaced s ∙ at_source k s row (row_of copy s) e.1 ∙ here ∙ ap (row_of all) (sym e.1)
@@ -239,15 +211,6 @@ reopened_is v batches rows g none very same = record {
 
 -- Blocks copied one after another
 
-same_by_place : {A B C : Type 0} (f : B → C) (g : A → B) (xs ys : List A) → length xs ≡ length ys
-    → ((j : ℕ) (d : A) → j < length xs → f (g (get_or xs j d)) ≡ f (g (get_or ys j d))) → map f (map g xs) ≡ map f (map g ys)
-same_by_place f g [] [] long each = refl
-same_by_place f g [] (y ∷ ys) long each = absurd (omega arith)
-same_by_place f g (x ∷ xs) [] long each = absurd (omega arith)
-same_by_place f g (x ∷ xs) (y ∷ ys) long each =
-    ap₂ (λ z zs. z ∷ zs) (each 0 x (omega arith))
-    (same_by_place f g xs ys (omega arith) (λ j d lt. each (suc j) d (omega arith)))
-
 -- the first blocks hold what those at their places do, and all keep their numbers
 pub record AreCopied (held old : List (Arc Block Global)) (k : ℕ) (new : List (Arc Block Global)) : Type 0 where
   pub long : length new ≡ length old
@@ -278,11 +241,6 @@ all_copied rows held old new same numbers held_are apart = grind (arith, common_
 pub mapped_numbers : (old new : List (Arc Block Global)) → numbers_of (block_values new) ≡ numbers_of (block_values old)
     → numbers_of (block_values new) ≡ map (λ (b : Arc Block Global). (block_value b).number) old
 mapped_numbers old new numbers = numbers ∙ numbers_mapped old
-
--- a list written over, whole
-pub written : {A : Type 0} (old new : List A) (len : ℕ) → len ≡ length old → length new ≡ length old
-    → take len (new ++ drop (length new) old) ≡ new
-written old new len is long = grind (arith, common_steps, drop_all, append-nil, take_all)
 
 pub numbers_long : (a b : List (Arc Block Global)) → numbers_of (block_values a) ≡ numbers_of (block_values b) → length a ≡ length b
 numbers_long a b same = grind (arith, common_steps, length-map)
@@ -334,10 +292,6 @@ listed_content names kinds edges keeps v c l is apart kinds_apart stamps e same 
 
 -- Edges as they are lent
 
--- a weight is a number of 64 bits
-pub weight_fits : (z : ℤ) → IsWeight z → FitsSigned w64 z
-weight_fits z h = search rules
-
 lent_slots : (b : BlockView) (es : List Slot)
     → map (lent_as_edge b.source) (map lent_of (map (entry_in b) es)) ≡ map edge_from (map (entry_in b) es)
 lent_slots b [] = refl
@@ -345,3 +299,6 @@ lent_slots b (e ∷ es) = ap (λ l. edge_from (entry_in b e) ∷ l) (lent_slots 
 
 pub lent_edges : (b : BlockView) → map (lent_as_edge b.source) (map lent_of (entries_of b)) ≡ edges_in_block b
 lent_edges b = lent_slots b (edges_in b.slots)
+
+pub content_rebased : (v new : VersionView) → IsRebased v new → content new ≡ content v
+content_rebased v new rebased = λ i. left_by (rebased.batches i) (rebased.opening i)

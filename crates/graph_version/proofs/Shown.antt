@@ -6,7 +6,7 @@ use Rattle.std.specs.{Option.is_some, FinMap.get}
 use Rattle.graph_types.specs.{Graph.Graph, Graph.Key, declared.ids.Edge.Edge}
 use Rattle.edge_block.specs.{Slots.{BlockView, edges_in}, Rows.{Shape, shape_of, row_at, row_entries}, Listed.edge_from}
 use Rattle.edge_block.{specs.Listed.{edges_in_row, edges_in_rows}, proofs.ListedRows.{listed_once, slot_entry}}
-use Rattle.version_pages.specs.Rows.{row_of, blocks_of}
+use Rattle.graph_version.specs.Rows.{row_of, blocks_of}
 use Rattle.graph_version.specs.{Versions.{layout_of, AreRowsOf}, Edges.{edges_in_block, edges_in_blocks, AreEachOnce}}
 
 -- a row's blocks list what its shapes do

@@ -1,9 +1,9 @@
 -- How many edges rows have, and rows that look the same.
-use Rattle.std.proofs.Common.{◌≡◌, ◌≢◌, ◌==◌, ℕ, zero, suc, ◌+◌, ◌<◌, List, [], ◌∷◌, ◌++◌, length, get_or, take, refl, sym, ap}
-use Rattle.std.proofs.{Common.{◌∙◌, arith, length-append, inl, inr, if◌then◌else◌}, lemmas.Grind.{flat_map-append, common_steps}}
-use Rattle.std.{proofs.lemmas.{List.length-map, Bool.Decides.eqb_tells}, specs.declared.{sync.Arc.Arc, alloc.Global.Global}}
+use Rattle.std.proofs.Common.{◌≡◌, ℕ, zero, suc, ◌+◌, ◌<◌, List, [], ◌∷◌, ◌++◌, length, get_or, take, refl, sym, ap}
+use Rattle.std.proofs.{Common.{◌∙◌, arith, length-append}, lemmas.Grind.{flat_map-append, common_steps}}
+use Rattle.std.{proofs.lemmas.List.length-map, specs.declared.{sync.Arc.Arc, alloc.Global.Global}}
 use Rattle.edge_block.specs.{Slots.BlockView, Slots.entry_in, Slots.entries_of, Slots.edges_in, declared.blocks.Block.Block}
-use Rattle.version_pages.specs.{Rows.row_of, Rows.blocks_of, Sharing.block_value, Sharing.block_values}
+use Rattle.graph_version.specs.{Rows.row_of, Rows.blocks_of, Sharing.block_value, Sharing.block_values}
 use Rattle.graph_version.specs.Edges.{edge_from, edges_in_block, edges_in_blocks}
 
 abbrev pub count_in : List BlockView → ℕ
@@ -19,13 +19,6 @@ same_blocks [] (row ∷ b) same = same_blocks [] b (λ s. same (suc s)) ∙ ap (
 same_blocks (row ∷ a) [] same = ap (λ r. r ++ blocks_of a) (same 0) ∙ same_blocks a [] (λ s. same (suc s))
 same_blocks (row ∷ a) (next ∷ b) same = ap (λ r. r ++ blocks_of a) (same 0)
     ∙ ap (λ l. next ++ l) (same_blocks a b (λ s. same (suc s)))
-
--- where a row took the place of a source's row
-pub at_source : (source s : ℕ) (row rest : List BlockView) → s ≡ source → (if s == source then row else rest) ≡ row
-at_source source s row rest same = elim (eqb_tells s source) [ inl e ↦ rw e.0 refl | inr e ↦ absurd (e.1 same) ]
-
-pub elsewhere : (source s : ℕ) (row rest : List BlockView) → s ≢ source → (if s == source then row else rest) ≡ rest
-elsewhere source s row rest apart = elim (eqb_tells s source) [ inl e ↦ absurd (apart e.1) | inr e ↦ rw e.0 refl ]
 
 pub count_one : (b : BlockView) → length (edges_in_block b) ≡ length (edges_in b.slots)
 count_one b = length-map (entries_of b) edge_from ∙ length-map (edges_in b.slots) (entry_in b)

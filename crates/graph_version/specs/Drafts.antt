@@ -3,7 +3,7 @@ use Rattle.std.specs.Prelude.{◌≡◌, List, ℕ, ◌++◌, ◌∷◌, [], ◌
 use Rattle.graph_types.specs.declared.{batches.NamedOp.NamedOp, ids.VertexId.VertexId}
 use Rattle.edge_block.specs.Slots.{BlockView}
 use Rattle.vertex_names.specs.Book.{Book}
-use Rattle.version_pages.specs.Rows.{row_of, Replaces}
+use Rattle.graph_version.specs.Rows.{row_of, Replaces}
 use Rattle.graph_version.specs.{Versions.{VersionView, content, IsVersion}, Kept.{vertex_book, kind_book}}
 
 -- the two books, and what the version would be now
@@ -38,6 +38,13 @@ row_among (r ∷ rows) source row = row_among rows source (if source == r.0 then
 pub record ReplacesRows (rows : List (ℕ × List BlockView)) (before after : DraftView) : Type 0 where
   pub rows_are : (source : ℕ) → row_of after.version.rows source ≡ row_among rows source (row_of before.version.rows source)
   pub rest : after ≡ record before { version = record before.version { rows = after.version.rows } }
+
+-- the draft of the version after this one: with these books, where these rows took their places, and with one more batch
+pub record IsNextDraft (v : VersionView) (names kinds : Book) (rows : List (ℕ × List BlockView)) (batch : List NamedOp)
+    (d : DraftView) : Type 0 where
+  pub put : DraftView
+  pub rows_are : ReplacesRows rows (record (drafted_over v) { names = names; kinds = kinds }) put
+  pub draft_is : d ≡ with_batch put batch
 
 -- a draft that is a version: its rows have what its batches leave, and its books have the names
 pub record IsWhole (d : DraftView) : Type 0 where

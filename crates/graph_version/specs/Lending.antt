@@ -3,7 +3,7 @@ use Rattle.std.specs.{Prelude.{ℕ, List, [], ◌++◌, map, drop, flat_map}, Fi
 use Rattle.std.specs.declared.option.Option.TheVariants.{None, Some}
 use Rattle.edge_block.specs.{Slots.{BlockView, entries_of}, Lending.{LentEdge, lent_of, edges_left}}
 use Rattle.edge_block.specs.declared.blocks.BlockIter.{BlockIter}
-use Rattle.version_pages.specs.{Rows.{blocks_of, numbers_of}, Sharing.block_values}
+use Rattle.graph_version.specs.{Rows.{blocks_of, numbers_of}, Sharing.block_values}
 use Rattle.graph_version.specs.{Versions.{VersionView, content}, Edges.lent_to, declared.lending.RowIter.RowIter}
 use Rattle.graph_version.specs.declared.lending.BlockNumbers.{BlockNumbers}
 

@@ -1,8 +1,8 @@
 -- All edges of a version, as it lends them.
 use Rattle.std.specs.Prelude.{ℕ, List, ◌++◌, map, drop}
-use Rattle.graph_types.specs.declared.ids.{Edge.Edge, VertexId.VertexId}
-use Rattle.edge_block.specs.{Slots.BlockView, Lending.{LentEdge, lent_edge}, declared.blocks.EdgeRef.EdgeRef}
-use Rattle.version_pages.specs.{Rows.blocks_of, Sharing.block_values}
+use Rattle.graph_types.specs.declared.ids.Edge.{Edge}
+use Rattle.edge_block.specs.{Slots.BlockView, Lending.LentEdge}
+use Rattle.graph_version.specs.{Rows.blocks_of, Sharing.block_values}
 use Rattle.graph_version.specs.{Edges.edges_in_blocks, Lending.left_in}
 use Rattle.graph_version.specs.declared.edges.{RowBlocks.RowBlocks, EdgeIter.EdgeIter}
 
@@ -16,10 +16,6 @@ lent_as_edge source lent = record {
   first = lent.stamp.first;
   recent = lent.stamp.recent;
 }
-
--- the same of an edge that is lent with its source
-abbrev pub sourced_edge : VertexId × EdgeRef → Edge
-sourced_edge lent = lent_as_edge lent.0.0 (lent_edge lent.1)
 
 -- the blocks that are still to be lent: those that are left of a row, and those of the rows after it
 abbrev pub blocks_left : RowBlocks → List BlockView

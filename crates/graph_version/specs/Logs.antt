@@ -2,7 +2,7 @@
 use Rattle.std.specs.{Prelude.{◌≡◌, Bool, List, [], ◌∷◌, ◌++◌, nat_lt, MatchOption}, Arc.arc_value}
 use Rattle.std.specs.declared.{option.Option.Option, sync.Arc.Arc, alloc.Global.Global}
 use Rattle.graph_types.specs.{Limits.{LimitsView, most_batches}, declared.batches.NamedOp.NamedOp, declared.batches.Batch.Batch}
-use Rattle.version_pages.specs.Batches.{batch_value}
+use Rattle.graph_version.specs.Batches.{batch_value}
 
 -- batches are kept where the limits set a bound to them that is below the wall
 abbrev pub keeps_batches : LimitsView → Bool

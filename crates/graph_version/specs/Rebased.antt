@@ -1,7 +1,7 @@
 -- A version 0 that begins with what another version holds, over copies of its blocks.
 use Rattle.std.specs.Prelude.{◌≡◌, ◌≢◌, ℕ, List, [], ◌∷◌, map, length, take, drop, AllPairs}
 use Rattle.edge_block.specs.Slots.{BlockView}
-use Rattle.version_pages.specs.Rows.{blocks_of, numbers_of}
+use Rattle.graph_version.specs.Rows.{blocks_of, numbers_of}
 use Rattle.graph_version.specs.Versions.{VersionView, content, layout_of}
 
 -- a block but for its number

@@ -4,7 +4,7 @@ use Rattle.std.specs.List.{list_any, list_all}
 use Rattle.graph_types.specs.{Graph.{Graph, HasWeights}, Limits.{LimitsView, AreLimits, standard_limits}, Step.{left_by, empty_graph_in}}
 use Rattle.graph_types.specs.declared.batches.NamedOp.{NamedOp}
 use Rattle.edge_block.specs.{Slots.{BlockView, is_free_slot}, Rows.{Shape, shape_of}, Batches.{IsLayoutOf, HasEndsWithin}}
-use Rattle.version_pages.specs.Rows.{row_of, blocks_of, numbers_of}
+use Rattle.graph_version.specs.Rows.{row_of, blocks_of, numbers_of}
 
 -- the graph that it began with, the batches since, and a row of blocks for each source
 pub record VersionView : Type 0 where

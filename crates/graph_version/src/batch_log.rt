@@ -2,16 +2,16 @@
 
 ghost use Rattle.std.specs.Prelude.{◌≡◌, ◌<◌, ◌^◌, ◌++◌, ◌∷◌, [], true, List, length, IfOk, MatchOption, OnOk, OnErr};
 ghost use Rattle.graph_types.specs.declared.batches.NamedOp.{NamedOp};
-ghost use Rattle.version_pages.specs.Batches.{batch_value};
+ghost use Rattle.graph_version.specs.Batches.{batch_value};
 ghost use Rattle.graph_version.specs.Logs.{IsLast};
 ghost use Rattle.graph_version.specs.Logs as logs;
 
+use crate::batches::{BatchIter, BatchList};
 use crate::told::ToldBatches;
 use graph_types::{Batch, Limits};
 use std::alloc::{AllocError, Global};
 use std::marker::Model;
 use std::sync::Arc;
-use version_pages::{BatchIter, BatchList};
 
 /// The batches of a version. Memory has their number and the last one, and all where they are kept.
 pub(crate) struct BatchLog {
@@ -54,7 +54,7 @@ pub(crate) fn keeps_batches(limits: Limits) -> bool
 }
 
 impl BatchLog {
-    ghost use Rattle.version_pages.specs.BatchLending.{batches_left};
+    ghost use Rattle.graph_version.specs.BatchLending.{batches_left};
 
     /// No batch yet. It takes no memory.
     pub(crate) fn new(alloc: Global, keeps: bool) -> BatchLog

@@ -1,15 +1,17 @@
 //! The draft of a version.
 
 ghost use Rattle.std.specs.Prelude.{◌≡◌, ◌%◌, ◌^◌, ◌<◌, length, IfOk, IfSome};
-ghost use Rattle.version_pages.specs.Batches.{batch_value};
-ghost use Rattle.version_pages.specs.Rows.{blocks_of};
-ghost use Rattle.version_pages.specs.Sharing.{block_values};
+ghost use Rattle.graph_version.specs.Batches.{batch_value};
+ghost use Rattle.graph_version.specs.Rows.{blocks_of};
+ghost use Rattle.graph_version.specs.Sharing.{block_values};
 ghost use Rattle.graph_version.specs.Edges.{edges_in_blocks};
 ghost use Rattle.graph_version.specs.Kept.{edge_total};
-ghost use Rattle.graph_version.specs.Drafts.{drafted_over, with_batch, row_values, ReplacesRow, ReplacesRows, IsWhole};
+ghost use Rattle.graph_version.specs.Drafts.{DraftView, drafted_over, with_batch, row_values, ReplacesRow, ReplacesRows, IsNextDraft, IsWhole};
 
 use crate::batch_log::BatchLog;
 use crate::opening::Opening;
+use crate::row::Row;
+use crate::rows::Rows;
 use crate::tables::RowTable;
 use crate::versions::Version;
 use edge_block::Block;
@@ -17,7 +19,6 @@ use graph_types::{Batch, VertexId};
 use std::alloc::AllocError;
 use std::marker::Model;
 use std::sync::Arc;
-use version_pages::{Row, Rows};
 use vertex_names::NameBook;
 
 /// A version that is being made over another one, from which it takes all that isn't set or replaced.
@@ -63,7 +64,7 @@ impl VersionDraft {
     }
 
     /// As `over` and then `set_names`, for who has the books at hand: those of the version aren't shared.
-    pub fn over_named(
+    pub(crate) fn over_named(
         version: &Version,
         names: NameBook,
         kinds: NameBook,
@@ -81,7 +82,7 @@ impl VersionDraft {
 
     /// As `over_named`, made in a table of rows that are the version's, if there is one: no page of it that nobody else has is
     /// copied. Without one the version's rows are shared.
-    pub fn over_table(
+    pub(crate) fn over_table(
         version: &Version,
         names: NameBook,
         kinds: NameBook,
@@ -164,7 +165,7 @@ impl VersionDraft {
     }
 
     /// As `finish`, where it is known how many edges there are, modulo 2^64: no block is read.
-    pub fn finish_counted(self, edges: u64) -> Version
+    pub(crate) fn finish_counted(self, edges: u64) -> Version
         requires whole { IsWhole self }
         requires edges { edges ≡ edge_total self.version % 2 ^ 64 }
         ensures { result ≡ self.version }
@@ -177,6 +178,34 @@ impl VersionDraft {
             opening: self.opening,
             edges,
         }
+    }
+}
+
+impl Version {
+    /// The version after this one: with these books, with these rows, each in the place of its source's row, and with one more
+    /// batch. So many edges it has, modulo 2^64: no block is read. It is made in a table of rows that are this version's, if there
+    /// is one, as [`VersionDraft::over_table`] says.
+    pub fn after_batch(
+        &self,
+        names: NameBook,
+        kinds: NameBook,
+        rows: Vec<(VertexId, Row)>,
+        batch: Arc<Batch>,
+        edges: u64,
+        table: Option<RowTable>,
+    ) -> Result<Version, AllocError>
+        requires few { length self.now.batches < 2 ^ 32 }
+        requires whole { (d : DraftView) → IsNextDraft self.now names kinds (row_values rows.items) (batch_value batch) d
+            → IsWhole d }
+        requires edges { (d : DraftView) → IsNextDraft self.now names kinds (row_values rows.items) (batch_value batch) d
+            → edges ≡ edge_total d.version % 2 ^ 64 }
+        requires table { IfSome table (λ t. t ≡ self.now.rows) }
+        ensures { IfOk result (λ v. (d : DraftView)
+            × IsNextDraft self.now names kinds (row_values rows.items) (batch_value batch) d × (v ≡ d.version)) }
+    {
+        let draft = VersionDraft::over_table(self, names, kinds, table)?;
+        let draft = draft.put_rows(rows)?.push_batch(batch)?;
+        Ok(draft.finish_counted(edges))
     }
 }
 

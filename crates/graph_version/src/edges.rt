@@ -1,14 +1,30 @@
-//! All edges of a version, as it lends them.
+//! Edges of a version by value: all of them, or those of a row.
 
 ghost use Rattle.std.specs.Prelude.{◌≡◌};
-ghost use Rattle.version_pages.specs.Rows.{blocks_of};
+ghost use Rattle.graph_version.specs.Rows.{row_of, blocks_of};
+ghost use Rattle.edge_block.specs.Lending.{lent_edge};
 ghost use Rattle.graph_version.specs.Edges.{edges_in_blocks};
+ghost use Rattle.graph_version.specs.LentEdges.{lent_as_edge};
 
 use crate::lending::{all_edges, next_in};
+use crate::rows::Rows;
 use edge_block::{Block, BlockIter, EdgeRef};
-use graph_types::VertexId;
+use graph_types::{Edge, VertexId};
 use std::sync::Arc;
-use version_pages::Rows;
+
+/// An edge that a block of this source lends, by value.
+pub(crate) fn sourced(source: VertexId, lent: EdgeRef<'_>) -> Edge
+    ensures { result ≡ lent_as_edge source.0 (lent_edge lent.entry) }
+{
+    Edge {
+        kind: lent.kind,
+        source,
+        target: VertexId(*lent.target),
+        weight: *lent.weight,
+        first: *lent.first,
+        recent: *lent.recent,
+    }
+}
 
 /// The blocks of rows that are still to be lent, row by row.
 #[derive(Drop)]
@@ -30,6 +46,17 @@ impl<'a> RowBlocks<'a> {
             rows,
             source: 0,
             blocks: &[],
+        }
+    }
+
+    /// The blocks of a source's row alone.
+    fn of_row(rows: &'a Rows, source: VertexId) -> RowBlocks<'a>
+        ensures { blocks_left result ≡ row_of rows.now source.0 }
+    {
+        RowBlocks {
+            rows,
+            source: rows.len(),
+            blocks: rows.row_blocks(source),
         }
     }
 }
@@ -59,7 +86,7 @@ impl<'a> Iterator for RowBlocks<'a> {
     }
 }
 
-/// The edges of a version that are still to be lent, each with its source: sources rising, blocks in row order, slots rising.
+/// Edges of a version that are still to come, by value: sources rising, blocks in row order, slots rising.
 #[derive(Drop)]
 pub struct EdgeIter<'a> {
     pub(crate) blocks: RowBlocks<'a>,
@@ -81,22 +108,33 @@ impl<'a> EdgeIter<'a> {
             source: VertexId(0),
         }
     }
+
+    /// The edges of a source's row.
+    pub(crate) fn of_row(rows: &'a Rows, source: VertexId) -> EdgeIter<'a>
+        ensures { edges_to_come result ≡ edges_in_blocks (row_of rows.now source.0) }
+    {
+        EdgeIter {
+            blocks: RowBlocks::of_row(rows, source),
+            edges: None,
+            source,
+        }
+    }
 }
 
 impl<'a> Iterator for EdgeIter<'a> {
-    ghost use Rattle.std.specs.Iterator.{YieldsFirstBy, item_count};
-    ghost use Rattle.graph_version.specs.LentEdges.{edges_to_come, sourced_edge};
+    ghost use Rattle.std.specs.Iterator.{YieldsFirst, item_count};
+    ghost use Rattle.graph_version.specs.LentEdges.{edges_to_come};
 
-    type Item = (VertexId, EdgeRef<'a>);
+    type Item = Edge;
 
-    ghost next_gives = { YieldsFirstBy sourced_edge edges_to_come };
+    ghost next_gives = { YieldsFirst edges_to_come };
 
     ghost remaining = { item_count edges_to_come };
 
-    fn next(&mut self) -> Option<(VertexId, EdgeRef<'a>)> {
+    fn next(&mut self) -> Option<Edge> {
         loop {
             if let Some(edge) = next_in(&mut self.edges) {
-                return Some((self.source, edge));
+                return Some(sourced(self.source, edge));
             }
             let block = self.blocks.next()?;
             self.source = block.source();

@@ -4,7 +4,7 @@ ghost use Rattle.std.specs.Prelude.{List};
 ghost use Rattle.graph_types.specs.Graph.{Graph};
 ghost use Rattle.graph_types.specs.Limits.{LimitsView, AreLimits};
 ghost use Rattle.edge_block.specs.Slots.{BlockView};
-ghost use Rattle.version_pages.specs.Rows.{blocks_of};
+ghost use Rattle.graph_version.specs.Rows.{blocks_of};
 ghost use Rattle.graph_version.specs.Versions.{AreRowsOf, IsVersion, empty_version, empty_version_in};
 ghost use Rattle.graph_version.specs.Edges.{AreEachOnce, edges_in_blocks};
 

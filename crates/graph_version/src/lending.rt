@@ -5,13 +5,13 @@ ghost use Rattle.std.specs.Iterator.{YieldsFirstBy};
 ghost use Rattle.graph_version.specs.Lending.{left_in};
 ghost use Rattle.edge_block.specs.Slots.{IsStamp, entries_of};
 ghost use Rattle.edge_block.specs.Lending.{lent_edge, lent_of, edges_left};
-ghost use Rattle.version_pages.specs.Rows.{blocks_of, numbers_of};
-ghost use Rattle.version_pages.specs.Sharing.{block_values};
+ghost use Rattle.graph_version.specs.Rows.{blocks_of, numbers_of};
+ghost use Rattle.graph_version.specs.Sharing.{block_values};
 
+use crate::rows::Rows;
 use edge_block::{Block, BlockIter, EdgeRef};
 use graph_types::{Filter, VertexId};
 use std::sync::Arc;
-use version_pages::Rows;
 
 /// Lets every edge through.
 const EVERY: Filter = Filter {

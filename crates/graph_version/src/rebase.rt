@@ -3,8 +3,8 @@
 ghost use Rattle.std.specs.Prelude.{◌≡◌, ◌≢◌, ◌++◌, ℕ, [], length, map, slice_index_or, All, AllPairs, IfOk, OnOk};
 ghost use Rattle.graph_types.specs.Graph.{graph_in, stamp_of};
 ghost use Rattle.edge_block.specs.Slots.{IsStamp};
-ghost use Rattle.version_pages.specs.Rows.{row_of, blocks_of, numbers_of, Replaces};
-ghost use Rattle.version_pages.specs.Sharing.{block_value, block_values};
+ghost use Rattle.graph_version.specs.Rows.{row_of, blocks_of, numbers_of, Replaces};
+ghost use Rattle.graph_version.specs.Sharing.{block_value, block_values};
 ghost use Rattle.graph_version.specs.Versions.{content};
 ghost use Rattle.graph_version.specs.Kept.{opening_graph};
 ghost use Rattle.graph_version.specs.Edges.{edges_in_block, edges_in_blocks};
@@ -14,12 +14,12 @@ use crate::batch_log::{BatchLog, keeps_batches};
 use crate::lending::all_edges;
 use crate::listed::ListedContent;
 use crate::opening::Opening;
+use crate::rows::Rows;
 use crate::versions::Version;
 use edge_block::Block;
 use graph_types::{Content, Edge, List, Name, VertexId};
 use std::alloc::{AllocError, Global};
 use std::sync::Arc;
-use version_pages::Rows;
 use vertex_names::NameBook;
 
 impl Version {

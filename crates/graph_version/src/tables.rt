@@ -1,13 +1,13 @@
 //! A version's rows without the version.
 
 ghost use Rattle.std.specs.Prelude.{◌≡◌, IfOk};
-ghost use Rattle.version_pages.specs.Differences.{DifferAt};
+ghost use Rattle.graph_version.specs.Differences.{DifferAt};
 
+use crate::rows::Rows;
 use crate::versions::Version;
 use graph_types::VertexId;
 use std::alloc::AllocError;
 use std::marker::Model;
-use version_pages::Rows;
 
 /// The rows of a version that nobody has any more, in which the next version can be made.
 pub struct RowTable {

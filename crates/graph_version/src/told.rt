@@ -1,7 +1,7 @@
 //! Batches that stand in the proofs alone.
 
 ghost use Rattle.std.specs.Prelude.{◌≡◌, ◌++◌, ◌∷◌, []};
-ghost use Rattle.version_pages.specs.Batches.{batch_value};
+ghost use Rattle.graph_version.specs.Batches.{batch_value};
 
 use graph_types::Batch;
 use logbook::{Opening as Opens, Pens, Rule, Seen, Start};
@@ -60,7 +60,7 @@ struct OneMore;
 
 impl Opens<Longer, Batch> for OneMore {
     ghost use Rattle.std.specs.Prelude.{◌++◌, ◌∷◌, []};
-    ghost use Rattle.version_pages.specs.Batches.{batch_value};
+    ghost use Rattle.graph_version.specs.Batches.{batch_value};
 
     ghost log = { λ count longer. longer.told ++ batch_value longer.batch ∷ [] };
 }

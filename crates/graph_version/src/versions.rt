@@ -1,32 +1,36 @@
 //! The version and its calls.
 
-ghost use Rattle.std.specs.Prelude.{◌≡◌, ◌%◌, ◌^◌, ◌++◌, ◌∷◌, [], true, List, length, MatchOption};
+ghost use Rattle.std.specs.Prelude.{◌≡◌, ◌%◌, ◌^◌, ◌++◌, ◌∷◌, [], true, List, length, IfSome, MatchOption};
 ghost use Rattle.std.specs.Option.{option_map};
 ghost use Rattle.graph_types.specs.Graph.{IsContentIn, graph_in};
 ghost use Rattle.graph_types.specs.Limits.{AreLimits};
 ghost use Rattle.graph_types.specs.declared.batches.NamedOp.{NamedOp};
 ghost use Rattle.edge_block.specs.Lending.{lent_edge};
-ghost use Rattle.version_pages.specs.Rows.{row_of, blocks_of, numbers_of};
-ghost use Rattle.version_pages.specs.Sharing.{block_values};
-ghost use Rattle.version_pages.specs.Ages.{IsNextOld};
+ghost use Rattle.graph_version.specs.Rows.{row_of, blocks_of, numbers_of};
+ghost use Rattle.graph_version.specs.Sharing.{block_values};
+ghost use Rattle.graph_version.specs.Ages.{IsNextOld, old_blocks};
 ghost use Rattle.graph_version.specs.Versions.{IsVersion, empty_version, empty_version_in, content};
 ghost use Rattle.edge_block.specs.Rows.{shape_of, block_at};
 ghost use Rattle.graph_version.specs.Edges.{lent_to, edges_in_blocks, AreEachOnce};
 ghost use Rattle.graph_version.specs.LentEdges.{edges_to_come};
+ghost use Rattle.graph_version.specs.InEdges.{edges_into, into_left};
 ghost use Rattle.graph_version.specs.Kept.{vertex_book, kind_book, edge_total};
 ghost use Rattle.graph_version.specs.Logs.{keeps_batches};
 
 use crate::batch_log::{BatchLog, keeps_batches};
+use crate::batches::BatchIter;
 use crate::edges::EdgeIter;
+use crate::in_edges::InEdgeIter;
 use crate::lending::{BlockNumbers, RowIter};
 use crate::opening::Opening;
+use crate::row::old_blocks_in;
+use crate::rows::Rows;
 use edge_block::{Block, EdgeRef};
 use graph_types::{Batch, Content, KindId, Limits, VertexId};
 use std::alloc::Global;
 use std::fmt;
 use std::marker::Model;
 use std::sync::Arc;
-use version_pages::{BatchIter, Rows};
 use vertex_names::NameBook;
 
 /// A graph after some batches. It never changes.
@@ -85,7 +89,7 @@ impl Model for Version {
 }
 
 impl Version {
-    ghost use Rattle.version_pages.specs.BatchLending.{batches_left};
+    ghost use Rattle.graph_version.specs.BatchLending.{batches_left};
     ghost use Rattle.graph_version.specs.Lending.{lent_at, lent_in_blocks, row_left, numbers_left};
 
     /// The version without batches, under the standard limits: no name, no kind, no edge. It takes no memory.
@@ -228,12 +232,12 @@ impl Version {
         None
     }
 
-    /// Lends all edges, each with its source: sources rising, and those of one source as [`Version::row`] lends them. It
-    /// takes no memory, and time by the vertices and edges.
+    /// All edges by value: sources rising, and those of one source as [`Version::row`] lends them. It takes no memory, and time
+    /// by the vertices and edges.
     ///
     /// ```
-    /// for (source, edge) in version.edges() {
-    ///     println!(&rt; "{} {} {}", source.0, edge.target, edge.weight)?;
+    /// for edge in version.edges() {
+    ///     println!(&rt; "{} {} {}", edge.source.0, edge.target.0, edge.weight)?;
     /// }
     /// ```
     pub fn edges(&self) -> EdgeIter<'_>
@@ -241,6 +245,33 @@ impl Version {
         ensures each_once { AreEachOnce (edges_to_come result) (content self.now) }
     {
         EdgeIter::over(&self.rows)
+    }
+
+    /// The edges that leave a vertex by value, as [`Version::row`] lends them. It takes no memory.
+    ///
+    /// ```
+    /// let edges = Vec::from_iter(alloc, version.out_edges(source))?;
+    /// ```
+    pub fn out_edges(&self, source: VertexId) -> EdgeIter<'_>
+        ensures edges { edges_to_come result ≡ edges_in_blocks (row_of self.now.rows source.0) }
+        ensures version { IsVersion self.now }
+    {
+        EdgeIter::of_row(&self.rows, source)
+    }
+
+    /// The edges that lead to a vertex, in the order of [`Version::edges`]. It takes no memory. Blocks are kept by sources alone,
+    /// so it looks once into each block of the version, however few of its edges lead there.
+    ///
+    /// ```
+    /// for edge in version.in_edges(target) {
+    ///     println!(&rt; "{} {}", edge.source.0, edge.weight)?;
+    /// }
+    /// ```
+    pub fn in_edges(&self, target: VertexId) -> InEdgeIter<'_>
+        ensures edges { into_left result ≡ edges_into target.0 (edges_in_blocks (blocks_of self.now.rows)) }
+        ensures version { IsVersion self.now }
+    {
+        InEdgeIter::over(&self.rows, target)
     }
 
     /// Lends the edges that leave a vertex: blocks in row order, slots rising.
@@ -268,6 +299,21 @@ impl Version {
         ensures { IsNextOld time self.now.rows from.0 result }
     {
         self.rows.next_old(from, time)
+    }
+
+    /// The next vertex as [`Version::next_old`] finds it, and how many blocks of its row have such an edge.
+    pub fn next_old_row(&self, from: VertexId, time: u64) -> Option<(VertexId, usize)>
+        ensures next { IsNextOld time self.now.rows from.0 (option_map (λ r. r.0) result) }
+        ensures blocks { IfSome result (λ r. r.1 ≡ old_blocks time (row_of self.now.rows r.0.0)) }
+        ensures version { IsVersion self.now }
+    {
+        match self.rows.next_old(from, time) {
+            None => None,
+            Some(source) => {
+                let blocks = old_blocks_in(self.rows.row_blocks(source), time);
+                Some((source, blocks))
+            }
+        }
     }
 
     /// The numbers of the blocks, row by row.

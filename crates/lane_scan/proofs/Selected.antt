@@ -1,9 +1,11 @@
 -- The items at the places in a mask, one place more at a time.
 use Rattle.std.proofs.Common.{◌≡◌, ℕ, suc, ◌+◌, ◌<◌, ◌≤◌, Bool, true, false, List, [], ◌∷◌, ◌++◌, length, get_or, take, refl, ap}
-use Rattle.std.proofs.Common.{arith, min, max, zero, inl, inr}
+use Rattle.std.proofs.Common.{arith, min, max, zero, inl, inr, set, ◌≢◌, ◌∙◌}
 use Rattle.std.proofs.lemmas.{Bool.eq-eqb, Bool.ne_eqb, Bool.cases_lt, List.take_more, List.length-take}
 use Rattle.std.proofs.lemmas.List.Elements.{All-push, Contains-push, Contains-append_left, All-contains, All-weaker}
 use Rattle.std.specs.{Prelude.if◌then◌else◌, Prelude.All, Prelude.Contains, declared.option.Option.TheVariants.Some, Int.bit_at}
+use Rattle.std.specs.Prelude.{slice_index}
+use Rattle.std.proofs.lemmas.{Bool.cases_eq, Nat.Bits.bit_at-zero}
 use Rattle.lane_scan.specs.Masks.{InMask, selected_from, selected, AreBoundsOf, IsLeastOf, IsGreatestOf}
 
 -- a list that may begin with y, with x at its end
@@ -121,3 +123,67 @@ pub bounds_push : (values : List ℕ) (time least greatest m n : ℕ) → m ≡ 
     AreBoundsOf (values ++ time ∷ []) (Some (m, n))
 bounds_push values time least greatest m n e f h =
     rw (e, f) (least_push values time least h.0, greatest_push values time greatest h.1)
+
+-- what is selected stands at a place in the mask, and the other way round
+pub has_later : (mask : ℕ) (xs : List ℕ) (time x place n : ℕ)
+    → (k : ℕ) × (k < length xs) × InMask mask (n + 1 + k) × (slice_index xs k ≡ time) →
+    (k : ℕ) × (k < length (x ∷ xs)) × InMask mask (n + k) × (slice_index (x ∷ xs) k ≡ time)
+has_later mask xs time x place n (k, within, lives, is) =
+    let same : n + 1 + k ≡ n + suc k = omega arith in
+    (suc k, omega arith, rw same at lives, is)
+
+-- an empty mask selects nothing
+pub selected_none : {X : Type 0} (place : ℕ) (xs : List X) → selected_from 0 place xs ≡ []
+selected_none place [] = refl
+selected_none place (x ∷ xs) =
+    let clear : bit_at 0 place ≡ 1 → ⊥ = λ set. omega (arith, bit_at-zero place) in
+    rw (ne_eqb (bit_at 0 place) 1 clear) (selected_none (place + 1) xs)
+
+-- no other place
+pub bounds_alone : (rs : List ℕ) (others : ℕ) → others ≡ 0 → selected others rs ≡ []
+bounds_alone rs others none = rw none (selected_none 0 rs)
+
+-- columns that agree at the live places
+pub selected_agree : {X : Type 0} (mask n : ℕ) (xs ys : List X) (d : X) → length xs ≡ length ys
+    → ((k m : ℕ) → k < length xs → n + k ≡ m → InMask mask m → get_or xs k d ≡ get_or ys k d) →
+    selected_from mask n xs ≡ selected_from mask n ys
+selected_agree mask n [] [] d long same = refl
+selected_agree mask n (x ∷ xs) (y ∷ ys) d long same =
+    let rest : selected_from mask (n + 1) xs ≡ selected_from mask (n + 1) ys =
+    selected_agree mask (n + 1) xs ys d (omega arith) (λ k m within e set. same (suc k) m (omega arith) (omega arith) set) in
+    elim (cases_eq (bit_at mask n) 1) [
+      | inl set ↦ (let here : x ≡ y = same 0 n (omega arith) (omega arith) set in rw (eq-eqb (bit_at mask n) 1 set, here, rest))
+      | inr clear ↦ rw (ne_eqb (bit_at mask n) 1 clear, rest)
+    ]
+selected_agree mask n _ _ d long same = absurd (omega arith)
+
+-- masks that agree select the same
+selected_same : {X : Type 0} (mask mask' place : ℕ) (xs : List X)
+    → ((k n : ℕ) → k < length xs → place + k ≡ n → bit_at mask n ≡ bit_at mask' n) →
+    selected_from mask place xs ≡ selected_from mask' place xs
+selected_same mask mask' place [] same = refl
+selected_same mask mask' place (x ∷ xs) same =
+    let here : bit_at mask place ≡ bit_at mask' place = same 0 place (omega arith) (omega arith) in
+    let rest : selected_from mask (place + 1) xs ≡ selected_from mask' (place + 1) xs =
+    selected_same mask mask' (place + 1) xs (λ k n within e. same (suc k) n (omega arith) (omega arith)) in
+    rw (here, rest)
+
+-- the first selected item, and what a mask without its place selects
+pub selected_next : {X : Type 0} (mask mask' place : ℕ) (xs : List X) (i n : ℕ) (d : X) → i < length xs → place + i ≡ n
+    → InMask mask n →
+    ((m : ℕ) → m < n → InMask mask m → ⊥) → (InMask mask' n → ⊥)
+    → ((k m : ℕ) → k < length xs → place + k ≡ m → m ≢ n → bit_at mask m ≡ bit_at mask' m) →
+    selected_from mask place xs ≡ get_or xs i d ∷ selected_from mask' place xs
+selected_next mask mask' place [] i n d within e set first clear others = absurd (omega arith)
+selected_next mask mask' place (x ∷ xs) zero n d within e set first clear others =
+    let here : place ≡ n = omega arith in
+    rw (here, eq-eqb (bit_at mask n) 1 set, ne_eqb (bit_at mask' n) 1 clear)
+    (ap (λ ys. x ∷ ys) (selected_same mask mask' (n + 1) xs
+    (λ k m at f. others (suc k) m (omega arith) (omega arith) (omega arith))))
+selected_next mask mask' place (x ∷ xs) (suc i) n d within e set first clear others =
+    let before : bit_at mask place ≡ 1 → ⊥ = first place (omega arith) in
+    let same : bit_at mask place ≡ bit_at mask' place = others 0 place (omega arith) (omega arith) (omega arith) in
+    let before' : bit_at mask' place ≡ 1 → ⊥ = λ set'. before (same ∙ set') in
+    rw (ne_eqb (bit_at mask place) 1 before, ne_eqb (bit_at mask' place) 1 before')
+    (selected_next mask mask' (place + 1) xs i n d (omega arith) (omega arith) set first clear
+    (λ k m at f ne. others (suc k) m (omega arith) (omega arith) ne))

@@ -5,6 +5,9 @@ pub use Rattle.graph_types.specs.Limits
 pub use Rattle.graph_types.specs.Step
 pub use Rattle.graph_types.specs.Valid
 pub use Rattle.graph_version.specs.Versions
+pub use Rattle.graph_version.specs.Edges
+pub use Rattle.graph_version.specs.LentEdges
+pub use Rattle.graph_version.specs.InEdges
 pub use Rattle.block_reclamation.specs.Board
 pub use Rattle.block_reclamation.specs.Copies
 pub use Rattle.block_reclamation.specs.Status

@@ -3,7 +3,7 @@ use Rattle.std.specs.Prelude.{◌≡◌, ◌⊎◌, ◌+◌, ℕ, List, [], leng
 use Rattle.graph_types.specs.{Step.outcomes, declared.batches.NamedOp.NamedOp}
 use Rattle.graph_version.specs.{Versions.{content, empty_version}, Kept.edge_total, Rebased.IsRebased}
 use Rattle.block_reclamation.specs.Status.{is_free, is_retired, is_in_use, is_reclaimable}
-use Rattle.store_steps.specs.{Desks.DeskView, Opening.{IsVersionZero, opened_desk}, Steps.Accepts}
+use Rattle.store_steps.specs.{Desks.DeskView, Opening.{IsVersionZero, opened_desk}, Acceptances.Accepts}
 use Rattle.desk.specs.{Refusals.{Refuses, IsWithin}, declared.{errors.HoldError.TheVariants.NoSeat, owned.Hold.Hold}}
 use Rattle.graph_types.specs.declared.refusals.ApplyError.{ApplyError}
 use Rattle.graph_types.specs.declared.refusals.ApplyError.TheVariants as refused

@@ -4,6 +4,7 @@ use Rattle.std.proofs.lemmas.Option.{get_or_from_slice_get, slice_get_within}
 use Rattle.std.specs.Prelude.{◌⊎◌, IfErr, Option, None, Some, Result, Ok, Err, slice_get}
 use Rattle.graph_types.specs.{Graph.Graph, Step.left_by, declared.requests.{AskError.AskError, Request.Request}}
 use Rattle.graph_types.specs.declared.requests.AskError.TheVariants as ask
+use Rattle.graph_types.proofs.NamesApart.{AreApart}
 use Rattle.graph_version.specs.Versions.{VersionView}
 use Rattle.stream_store.specs.Seats.{SeatView, SessionView, held_graph, held_version}
 use Rattle.version_answers.specs.{Numbered.IsNumberedAnswer, Numbered.named, declared.numbered.NumberedReply.NumberedReply}
@@ -11,7 +12,7 @@ use Rattle.script_lines.specs.{Lines.shown_lines, declared.words.Word.Word}
 use Rattle.feed_csv.specs.declared.command.Command.TheVariants.{Rebase}
 use Rattle.script_commands.specs.{Servers.{EndsAt, IsServer, LacksReader, ReopensIn, ShowsServer}, Slots.{IsEarlier, IsScriptSlot}}
 use Rattle.script_commands.specs.{Slots.held_of, States.{IsReplied, ServerState, ask_word, version, version_in}}
-use Rattle.script_commands.{specs.declared.server.{Server.Server, Stop.Stop}, proofs.{Commands.held_there, NamesApart.AreApart}}
+use Rattle.script_commands.{specs.declared.server.{Server.Server, Stop.Stop}, proofs.Commands.held_there}
 use Rattle.script_commands.proofs.Replies.{IsAsked, asked_version, replied_err, replied_ok}
 
 earlier_in : (last : VersionView) (slot : ℕ) (seat : Option SeatView) (session : Option SessionView) (s : SessionView)

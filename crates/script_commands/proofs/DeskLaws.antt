@@ -1,22 +1,25 @@
 -- A desk that shows a state: what batches, collections and counts come to.
 use Rattle.std.proofs.Common.{◌≡◌, ◌≢◌, ℕ, zero, suc, ◌+◌, Bool, true, false, cond, ◌&&◌, List, [], ◌∷◌, ◌++◌, subst, length, map}
-use Rattle.std.proofs.{Common.{not, count_by, filter, replicate, refl, sym, ap, ◌∙◌, arith}, lemmas.List.length-append}
-use Rattle.std.specs.{Prelude.Ok, Prelude.Err, Prelude.if◌then◌else◌, FinMap.len}
-use Rattle.batch_shards.{proofs.Places.count_by-append, specs.Births.{births_after, dropped_births}}
-use Rattle.edge_block.{specs.Batches.{layout_after, taken_by}, proofs.Counts.count_more}
-use Rattle.block_reclamation.specs.declared.status.BlockStatus.{BlockStatus, TheVariants.{Free, Granted, Used, Retired}}
+use Rattle.std.proofs.{Common.{not, count_by, replicate, refl, sym, ap, ◌∙◌, arith}, lemmas.List.length-append}
+use Rattle.std.specs.{Prelude.{Ok, Err}, FinMap.len}
+use Rattle.batch_shards.specs.Births.{births_after, dropped_births}
+use Rattle.edge_block.specs.Batches.{layout_after, taken_by}
+use Rattle.block_reclamation.specs.declared.status.BlockStatus.{BlockStatus, TheVariants.Free}
 use Rattle.block_reclamation.specs.{declared.copies.PinCopy.PinCopy, Status.{is_free, is_reclaimable, is_retired, is_in_use}}
 use Rattle.block_reclamation.specs.Copies.{needs}
 use Rattle.block_reclamation.specs.Copies as copies
+use Rattle.block_reclamation.proofs.StatusCounts.{parts_one, length_free}
 use Rattle.feed_csv.specs.declared.command.Command.TheVariants.{Collect, Commit, Stat}
 use Rattle.graph_types.specs.{Step.{after_all, left_by, outcomes}, declared.batches.{NamedOp.NamedOp, Outcome.Outcome}}
 use Rattle.graph_version.specs.{Kept.edge_total, Versions.content, Versions.layout_of, Versions.empty_version_in}
-use Rattle.store_steps.specs.Desks.{DeskView, IsCollected, AcceptedCounts, CollectedCounts, births_in, is_retired_by}
-use Rattle.store_steps.{specs.{Opening.opened_desk, Steps.Accepts}, proofs.StatusCounts.{accepted_counts, collected_counts}}
+use Rattle.store_steps.specs.{Desks.{DeskView, IsCollected, CollectedCounts, births_in, is_retired_by}, Acceptances.Accepts}
+use Rattle.store_steps.{specs.Opening.opened_desk, proofs.StatusCounts.collected_counts}
 use Rattle.stream_store.specs.Configs.{ConfigView}
 use Rattle.graph_types.specs.declared.refusals.ApplyError.{ApplyError}
 use Rattle.stream_store.specs.Refusals.{Attempt, BatchRefusal, IsAdmissible, IsWithin, Refuses, attempt_on, block_count}
 use Rattle.graph_types.specs.declared.refusals.ApplyError.TheVariants as refused
+use Rattle.graph_types.proofs.Sums.{count_more, count_by-append, count_filtered}
+use Rattle.store_steps.proofs.AcceptedDesk.{retired_any, batches_after, reclaimable_any}
 use Rattle.script_lines.specs.Lines.{collect_line, commit_line, stat_line}
 use Rattle.script_commands.specs.{Servers.ShowsDesk, States.{dates, blocks_dropped, floor_in, Dates, IsCommandResult, ServerState}}
 use Rattle.script_commands.specs.States.{after_collect, after_commit, attempt, batch_word, beginning, copy_in, last_version}
@@ -33,25 +36,6 @@ same_counts p q same (s ∷ pool) =
     let rest = same_counts p q same pool in
     omega arith
 
-retired_any : (s : BlockStatus) → is_retired s ≡ is_retired_by (λ birth retirement. true) s
-retired_any Free = refl
-retired_any Granted = refl
-retired_any (Used birth) = refl
-retired_any (Retired birth retirement) = refl
-
-past_any : (copy : PinCopy) (s : BlockStatus) → is_reclaimable copy s ≡ is_retired_by (λ birth retirement. not (needs copy birth retirement)) s
-past_any copy Free = refl
-past_any copy Granted = refl
-past_any copy (Used birth) = refl
-past_any copy (Retired birth retirement) = refl
-
--- each block is free, retired or used
-parts_one : (s : BlockStatus) → (let n : ℕ = cond (is_free s) 1 0 in n) + cond (is_retired s) 1 0 + cond (is_in_use s) 1 0 ≡ 1
-parts_one Free = refl
-parts_one Granted = refl
-parts_one (Used birth) = refl
-parts_one (Retired birth retirement) = refl
-
 pub parts : (pool : List BlockStatus) → count_by is_free pool + count_by is_retired pool + count_by is_in_use pool ≡ length pool
 parts [] = refl
 parts (s ∷ pool) =
@@ -61,17 +45,6 @@ parts (s ∷ pool) =
     let one = parts_one s in
     let rest = parts pool in
     omega arith
-
-count_filter : {X : Type 0} (p q : X → Bool) (xs : List X) → count_by (λ x. p x && q x) xs ≡ count_by q (filter p xs)
-count_filter p q [] = refl
-count_filter p q (x ∷ xs) =
-    let rest = count_filter p q xs in
-    let one = count_more (λ x. p x && q x) x xs in
-    elim (p x) as (λ t. p x ≡ t → count_by (λ x. p x && q x) (x ∷ xs) ≡ count_by q (if t then x ∷ filter p xs else filter p xs)) [
-      | true ↦ λ e. (let here : (let n : ℕ = cond (p x && q x) 1 0 in n) ≡ cond (q x) 1 0 = ap (λ t. cond (t && q x) 1 0) e in
-          let more = count_more q x (filter p xs) in omega arith)
-      | false ↦ λ e. (let here : (let n : ℕ = cond (p x && q x) 1 0 in n) ≡ 0 = ap (λ t. cond (t && q x) 1 0) e in omega arith)
-    ] refl
 
 all_counted_in : (xs : List Dates) → count_by (λ _. true) xs ≡ length xs
 all_counted_in [] = refl
@@ -105,10 +78,6 @@ all_counted zero = refl
 all_counted (suc n) =
     let more = count_more is_free Free (replicate n Free) in let rest = all_counted n in omega arith
 
-pub length-replicate : (n : ℕ) → length (replicate n Free) ≡ n
-length-replicate zero = refl
-length-replicate (suc n) = ap suc (length-replicate n)
-
 pub shows_opened : (d : DeskView) (config : ConfigView) → d ≡ opened_desk config.blocks (empty_version_in config.limits)
     → ShowsDesk d (beginning (set_up config)).state
 shows_opened d config opened = rw opened (record {
@@ -116,7 +85,7 @@ shows_opened d config opened = rw opened (record {
   batches = refl;
   layout = refl;
   births = λ source. refl;
-  blocks = length-replicate config.blocks;
+  blocks = length_free config.blocks;
   free = all_counted config.blocks;
   retired = λ q. none_counted (is_retired_by q) refl config.blocks;
 })
@@ -160,18 +129,6 @@ dated_counts q retired births n =
     count_by-append (λ (x : Dates). q x.birth x.retirement) retired (map (λ birth. dates birth n) births)
     ∙ ap (λ k. count_by (λ (x : Dates). q x.birth x.retirement) retired + k) (dated q births n)
 
-pub batches_after : (d e : DeskView) (ops : List NamedOp) → Accepts d ops e → e.last.batches ≡ d.last.batches ++ ops ∷ []
-batches_after d e ops accepts = ap (λ l. l.batches) accepts.accepted.ledger
-
-pub opening_after : (d e : DeskView) (ops : List NamedOp) → Accepts d ops e → e.last.opening ≡ d.last.opening
-opening_after d e ops accepts = accepts.accepted.opening
-
-pub blocks_after : (d e : DeskView) (ops : List NamedOp) → Accepts d ops e → length e.pool ≡ length d.pool
-blocks_after d e ops accepts =
-    let counts : AcceptedCounts d accepts.taken accepts.dropped e =
-    accepted_counts d e ops accepts.taken accepts.dropped accepts.accepted in
-    counts.blocks
-
 pub commit_done : (s : ServerState) (d e : DeskView) (ops : List NamedOp) (number : ℕ) (results : List Outcome) (lines : List ℕ)
     → ShowsDesk d s → ops ≡ s.pending → count_by is_in_use d.pool ≡ block_count d.last
     → IsWithin d.last (count_by is_free d.pool) ops → Accepts d ops e
@@ -191,22 +148,21 @@ shows_committed s d e ops shows pending accepts =
     let accepted = accepts.accepted in
     let same = content_is d s shows in
     let left = left_is d s ops shows pending in
-    let counts : AcceptedCounts d accepts.taken accepts.dropped e =
-    accepted_counts d e ops accepts.taken accepts.dropped accepted in
+    let counts = accepted.counts in
     let takes : length accepts.taken ≡ blocks_taken s =
-    accepted.layout.taken_are ∙ (λ i. taken_by (pending i) (same i) (shows.layout i) (length (left i).names)) in
+    accepted.taken_are ∙ (λ i. taken_by (pending i) (same i) (shows.layout i) (length (left i).names)) in
     let number : length d.last.batches ≡ length s.batches = ap length shows.batches in
     let births : births_in d ≡ s.births = λ i source. shows.births source i in
     record {
       opening = accepted.opening ∙ shows.opening;
       batches = batches_after d e ops accepts ∙ (λ i. shows.batches i ++ pending i ∷ []);
-      layout = (λ i source. accepted.layout.rows source i) ∙ (λ i. layout_after (pending i) (same i) (shows.layout i));
-      births = λ source. accepted.births.rows source
+      layout = (λ i source. accepted.layout source i) ∙ (λ i. layout_after (pending i) (same i) (shows.layout i));
+      births = λ source. accepted.births source
           ∙ (λ i. births_after (number i + 1) (pending i) (same i) (shows.layout i) (births i) source);
       blocks = counts.blocks ∙ shows.blocks;
       free = omega (arith, counts.free, takes, shows.free);
       retired = λ q. counts.retired_by q
-          ∙ ((λ i. shows.retired q i + accepted.births.dropped_are (λ birth. q birth (length d.last.batches + 1)) i)
+          ∙ ((λ i. shows.retired q i + accepted.dropped_births (λ birth. q birth (length d.last.batches + 1)) i)
           ∙ ((λ i. count_by (λ (x : Dates). q x.birth x.retirement) s.retired + count_by (λ birth. q birth (number i + 1))
           (dropped_births (pending i) (same i) (shows.layout i) (births i) (length (left i).names)))
           ∙ sym (dated_counts q s.retired (blocks_dropped s) (length s.batches + 1))));
@@ -232,10 +188,10 @@ shows_given_up s d shows = record {
 
 -- A collection
 
-past_is : (s : ServerState) (d : DeskView) (copy : PinCopy) → ShowsDesk d s → copy ≡ copy_in s
+reclaimable_is : (s : ServerState) (d : DeskView) (copy : PinCopy) → ShowsDesk d s → copy ≡ copy_in s
     → count_by (is_reclaimable copy) d.pool ≡ recycled_blocks s
-past_is s d copy shows same =
-    same_counts (is_reclaimable copy) (is_retired_by (λ birth retirement. not (needs copy birth retirement))) (past_any copy) d.pool
+reclaimable_is s d copy shows same =
+    same_counts (is_reclaimable copy) (is_retired_by (λ birth retirement. not (needs copy birth retirement))) (reclaimable_any copy) d.pool
     ∙ (shows.retired (λ birth retirement. not (needs copy birth retirement))
     ∙ ap (λ k. count_by (λ (x : Dates). not (needs k x.birth x.retirement)) s.retired) same)
 
@@ -249,11 +205,12 @@ shows_collected s d e copy shows collected births same =
       layout = ap (λ v. layout_of v.rows) collected.last ∙ shows.layout;
       births = λ source. births source ∙ shows.births source;
       blocks = counts.blocks ∙ shows.blocks;
-      free = omega (arith, counts.free, past_is s d copy shows same, shows.free);
+      free = omega (arith, counts.free, reclaimable_is s d copy shows same, shows.free);
       retired = λ q. counts.retired_by q
           ∙ (shows.retired (λ birth retirement. needs copy birth retirement && q birth retirement)
           ∙ (ap (λ k. count_by (λ (x : Dates). needs k x.birth x.retirement && q x.birth x.retirement) s.retired) same
-          ∙ count_filter (λ (x : Dates). needs (copy_in s) x.birth x.retirement) (λ (x : Dates). q x.birth x.retirement) s.retired));
+          ∙ count_filtered (λ (x : Dates). needs (copy_in s) x.birth x.retirement) (λ (x : Dates). q x.birth x.retirement)
+          s.retired));
     }
 
 pub collect_done : (s : ServerState) (d e : DeskView) (copy : PinCopy) (floor count left : ℕ) (lines : List ℕ) → ShowsDesk d s
@@ -262,7 +219,7 @@ pub collect_done : (s : ServerState) (d e : DeskView) (copy : PinCopy) (floor co
     → lines ≡ collect_line floor count left → IsCommandResult Collect s (Ok lines)
 collect_done s d e copy floor count left lines shows collected births same floor_are count_is left_is lines_are =
     let low : floor ≡ floor_in s = floor_are ∙ ap copies.floor_of same in
-    let gone : count ≡ recycled_blocks s = count_is ∙ past_is s d copy shows same in
+    let gone : count ≡ recycled_blocks s = count_is ∙ reclaimable_is s d copy shows same in
     let stay : left ≡ length (after_collect s).retired =
     left_is ∙ all_retired e (after_collect s) (shows_collected s d e copy shows collected births same) in
     rw (lines_are, low, gone, stay) refl

@@ -4,20 +4,20 @@ use Rattle.std.proofs.{Common.{subst, ◌∙◌}, lemmas.{Option.{get_or_from_sl
 use Rattle.std.specs.{Option.option_map, Prelude.{true, Option, None, Some, Result, Ok, Err, slice_get}}
 use Rattle.block_reclamation.specs.{declared.copies.{PinCopy.PinCopy, TheConstants.SEATS}}
 use Rattle.block_reclamation.specs.Copies.{copy_of, floor_of, pin_at}
-use Rattle.epoch_core.specs.declared.events.Event.{Event, TheVariants.{Floor, Recycle, Pin, Enter, Settle, Release}}
+use Rattle.epoch_core.specs.declared.events.Event.{Event, TheVariants.{Floor, Pin, Enter, Settle, Release}}
 use Rattle.epoch_core.specs.declared.session_states.{Hold.Hold, SessionState.{TheVariants.{Idle, Holding}}}
 use Rattle.epoch_core.specs.{Machine.with_sessions, Runs.{Runs}, Sound.{IsHeld, IsNamed, IsSessionSound, IsSound}}
 use Rattle.epoch_core.specs.Worlds.{Answer, IsStart, MachineState, World, last_number, present_copy, seat_pin}
 use Rattle.epoch_core.specs.Versions.{graph_at}
-use Rattle.epoch_core.proofs.{Moves.floored, Steps.always_sound}
+use Rattle.epoch_core.proofs.Moves.{floored}
 use Rattle.feed_csv.specs.declared.command.Command.{Command, TheVariants.{Commit, OpenSlot, CloseSlot, Query, Collect}}
 use Rattle.graph_types.specs.{Graph.Graph, Step.left_by, declared.{batches.NamedOp.NamedOp, requests.Request.Request}}
 use Rattle.graph_types.specs.Answer.{IsAnswer}
 use Rattle.script_lines.specs.declared.words.Word.{Word}
 use Rattle.store_steps.specs.{Boards.ShowsBoard, Desks.DeskView, Shown.ShowsWorld}
-use Rattle.store_steps.specs.Steps.{Accepts, IsTaken, TakesAt, past_numbers, posting, recycling}
+use Rattle.store_steps.specs.{Acceptances.Accepts, Steps.{SimulatesIn, SimulatesAt, reclaimable_numbers, posting, recycling}}
 use Rattle.store_steps.proofs.{BoardSteps.shows_floored, BoardSteps.shows_sessions, Reached.same_count}
-use Rattle.store_steps.proofs.Questions.{question_done, question_replies, silent_posting, silent_recycling, then_done}
+use Rattle.store_steps.proofs.Questions.{question_done, question_replies, silent_posting, then_done}
 use Rattle.stream_store.specs.{Kept.DeskState, Seats.{SessionView, held_graph, held_version}}
 use Rattle.script_commands.specs.Machine.{AddsReplies, AreEventsOf, ContinuesMachine, IsReplyTo, ShowsMachine, asking, held_at, session_for}
 use Rattle.script_commands.specs.{Servers.{IsServer, pending_of}, Slots.{IsPinnedBySlots, held_by, held_slots, held_of}}
@@ -29,8 +29,9 @@ use Rattle.graph_types.specs.declared.requests.AskError.TheVariants as ask
 use Rattle.version_answers.specs.{Numbered.{IsNumberedAnswer, named}, declared.numbered.NumberedReply.NumberedReply}
 use Rattle.script_lines.specs.Lines.{shown_lines}
 use Rattle.std.specs.Prelude.{◌≢◌, ◌⊎◌}
+use Rattle.epoch_core.proofs.RunsTogether.{world_sound, silent_opening, silent_closing, silent_recycling}
+use Rattle.store_steps.proofs.SessionRuns.{opening_done, closing_done}
 use Rattle.script_commands.specs.States.{ask_word}
-use Rattle.script_commands.proofs.Moving.{closing_done, opening_done, silent_closing, silent_opening}
 
 -- The pins
 
@@ -93,7 +94,7 @@ commit_moves old new batch lines here slots same accepts shows =
     let a : Accepts old.desk.desk (pending_of old) new.desk.desk =
     subst (λ ops. Accepts old.desk.desk ops new.desk.desk) same accepts in
     let events : List Event = posting new.desk.desk.last (pending_of old) a.taken in
-    let t : IsTaken here.world events new.desk.desk = a.steps here.world shows.desk in
+    let t : SimulatesIn here.world events new.desk.desk = a.accepted.steps here.world shows.desk in
     let sessions : t.after.sessions ≡ map session_for (held_slots new.slots) =
     t.sessions ∙ (shows.sessions ∙ ap (λ s. map session_for (held_slots s)) (sym slots)) in
     record {
@@ -184,14 +185,14 @@ pub collect_moves : (old new : Server) (copy : PinCopy) (last : ℕ) (lines : Li
     → IsPinnedBySlots last new.slots.board new.slots.sessions.items → new.slots.board.floor ≡ floor_of copy
     → held_slots new.slots ≡ held_slots old.slots
     → copy ≡ copy_of (length old.desk.desk.last.batches) (pins_of (held_slots old.slots))
-    → TakesAt copy old.desk.desk (recycling copy old.desk.desk.pool) new.desk.desk → ShowsMachine old here.world
+    → SimulatesAt copy old.desk.desk (recycling copy old.desk.desk.pool) new.desk.desk → ShowsMachine old here.world
     → ContinuesMachine Collect old (Ok lines) new here
-collect_moves old new copy last lines here pinned floor holds same takes shows =
+collect_moves old new copy last lines here pinned floor holds same simulates shows =
     let w = here.world in
     let made : present_copy w ≡ copy = copy_shown old w shows ∙ sym same in
     let events : List Event = recycling copy old.desk.desk.pool in
-    let t : IsTaken (floored w) events new.desk.desk =
-    (takes (floored w) (shows_floored old.desk.desk w shows.desk) made).0 in
+    let t : SimulatesIn (floored w) events new.desk.desk =
+    (simulates (floored w) (shows_floored old.desk.desk w shows.desk) made).0 in
     let sessions : t.after.sessions ≡ map session_for (held_slots new.slots) =
     t.sessions ∙ (shows.sessions ∙ ap (map session_for) (sym holds)) in
     record {
@@ -199,7 +200,7 @@ collect_moves old new copy last lines here pinned floor holds same takes shows =
       there = record { world = t.after; replies = here.replies };
       are = ap (λ c. Floor ∷ recycling c old.desk.desk.pool) same;
       done = then_done Floor events w (floored w) t.after refl t.done;
-      replies = (here.replies, refl, silent_recycling (past_numbers copy old.desk.desk.pool) (floored w) here.replies);
+      replies = (here.replies, refl, silent_recycling (reclaimable_numbers copy old.desk.desk.pool) (floored w) here.replies);
       told = refl;
       shown = record {
         desk = t.shown;
@@ -236,9 +237,6 @@ pub graph_shown : (server : Server) (w : World) (n : ℕ) → ShowsWorld server.
     → graph_at w.opening w.versions n ≡ version n (versions_of server)
 graph_shown server w n shows =
     λ i. left_by ((sym (take-map (λ v. v.batch) n w.versions) ∙ ap (take n) shows.batches) i) (shows.opening i)
-
-world_sound : (start here : MachineState) (events : List Event) → IsStart start → Runs start events here → IsSound here.world
-world_sound start here events is runs = subst IsSound (sym runs.world) (always_sound start events is)
 
 pub question_moves : (server : Server) (slot : ℕ) (request : Request) (held : Held) (outcome : RecordResult)
     (start here : MachineState) (events : List Event) → slice_get (held_slots server.slots) slot ≡ Some (Some held)

@@ -1,11 +1,10 @@
 -- A server that has just opened shows a start of the machine.
-use Rattle.std.proofs.Common.{◌≡◌, ℕ, zero, suc, [], ◌∷◌, length, map, replicate, refl, sym, ap, subst, ◌∙◌, arith}
-use Rattle.std.{proofs.lemmas.List.length-replicate, specs.Prelude.{Option, None, Ok}}
-use Rattle.graph_types.specs.{Graph.{Graph, content_of, graph_in, map_of}, Limits.LimitsView, Step.left_by}
+use Rattle.std.proofs.Common.{◌≡◌, ℕ, zero, suc, ◌∷◌, length, map, replicate, refl, sym, ap, subst, ◌∙◌}
+use Rattle.std.specs.Prelude.{Option, None, Ok}
+use Rattle.graph_types.specs.{Graph.{Graph, content_of, graph_in, map_of}, Step.left_by}
 use Rattle.graph_types.specs.declared.contents.Content.{Content}
 use Rattle.graph_version.specs.{Edges.{AreEachOnce, edges_in_blocks}, Rebased.IsRebased, Rows.blocks_of}
 use Rattle.graph_version.{specs.Versions.{VersionView, content, empty_version_in}, proofs.Shown.rows_each_once}
-use Rattle.block_reclamation.specs.declared.status.BlockStatus.TheVariants.{Free}
 use Rattle.epoch_core.specs.declared.session_states.SessionState.{TheVariants.Idle}
 use Rattle.epoch_core.specs.{Versions.{graph_at, graph_of_opening}, Worlds.{MachineState, World, start_world_in}}
 use Rattle.epoch_core.proofs.Steps.{start_is_start}
@@ -17,6 +16,7 @@ use Rattle.script_commands.specs.{Servers.IsServer, Slots.{IsPinnedBySlots, held
 use Rattle.script_commands.specs.declared.{server.Server.Server}
 use Rattle.script_commands.proofs.{Commands.held_there, MachineMoves.{board_shown, graph_held, graph_shown}}
 use Rattle.std.specs.Prelude.{slice_get, Some}
+use Rattle.store_steps.proofs.Reopening.{blank_shown}
 
 idle_sessions : (n : ℕ) → replicate n Idle ≡ map session_for (replicate n (let none : Option Held = None in none))
 idle_sessions zero = refl
@@ -34,18 +34,6 @@ start_shown server w last n desk low idle pinned floor none =
       board = board_shown last server.slots w pinned (low ∙ sym floor) sessions;
       sessions = sessions;
     }
-
-blank_shown : (limits : LimitsView) (sessions blocks : ℕ)
-    → ShowsWorld (opened_desk blocks (empty_version_in limits)) (start_world_in limits sessions blocks)
-blank_shown limits sessions blocks = record {
-  opening = refl;
-  opened = refl;
-  batches = refl;
-  blocks = refl;
-  edges = λ k d h. absurd (omega arith);
-  status = refl;
-  sizes = length-replicate blocks [] ∙ sym (length-replicate blocks Free);
-}
 
 pub starts : (config : ConfigView) (server : Server) (last : ℕ)
     → server.desk.desk ≡ opened_desk config.blocks (empty_version_in config.limits)

@@ -1,42 +1,25 @@
 -- A desk that opened with what a session holds: which state it shows, and what its line says.
 use Rattle.std.proofs.Common.{◌≡◌, ℕ, zero, suc, Bool, false, cond, List, [], ◌∷◌, length, map, set, count_by, replicate, refl}
-use Rattle.std.{proofs.Common.{ap, ap₂, ◌∙◌, arith}, specs.{Prelude.{Ok, slice_get}, FinMap.len}}
-use Rattle.edge_block.{specs.{Batches.sum_below, Rows.{Shape, shape_of}, Slots.BlockView}, proofs.Counts.count_more}
-use Rattle.block_pool.{specs.Pools.marked, proofs.Grants.length-marked}
+use Rattle.std.{proofs.Common.{ap, ◌∙◌, arith}, specs.{Prelude.{Ok, slice_get}, FinMap.len}}
+use Rattle.edge_block.specs.{Batches.sum_below, Rows.Shape}
+use Rattle.block_pool.specs.Pools.{marked}
 use Rattle.block_reclamation.specs.{declared.status.BlockStatus.{BlockStatus, TheVariants.{Free, Used}}, Status.is_retired}
 use Rattle.block_reclamation.specs.Status.{is_in_use}
+use Rattle.graph_types.proofs.Sums.{count_more}
 use Rattle.feed_csv.specs.declared.command.Command.TheVariants.{Rebase}
-use Rattle.graph_types.specs.Step.{left_by}
 use Rattle.graph_version.specs.{Kept.edge_total, Rebased.IsRebased, Versions.VersionView, Versions.content}
 use Rattle.graph_version.specs.Rows.{blocks_of, numbers_of, row_of}
+use Rattle.graph_version.proofs.Rebased.{content_rebased}
+use Rattle.graph_version.proofs.RowBlocks.{blocks_counted}
 use Rattle.script_lines.specs.Lines.{rebase_line}
-use Rattle.store_steps.specs.{Desks.DeskView, Desks.IsDesk, Desks.birth_at, Desks.is_retired_by, Opening.opened_desk}
+use Rattle.store_steps.specs.{Desks.{DeskView, IsDesk, is_retired_by}, Opening.opened_desk}
+use Rattle.store_steps.proofs.Reopening.{births_first, first_opened, length_opened}
 use Rattle.stream_store.specs.Refusals.{block_count}
-use Rattle.script_commands.proofs.{DeskLaws.length-replicate, DeskLaws.none_counted, DeskLaws.parts, HeldBlocks.blocks_counted}
+use Rattle.script_commands.proofs.DeskLaws.{none_counted, parts}
 use Rattle.script_commands.specs.{Servers.ShowsDesk, Slots.held_of}
 use Rattle.script_commands.specs.States.{IsCommandResult, ServerState, after_rebase, version, version_in, held_block_count as held_blocks}
 
 -- The pool
-
--- no block was born with a later version than 0
-abbrev AreFirst : List BlockStatus → Type 0
-AreFirst pool = (k : ℕ) → birth_at pool k ≡ 0
-
-set_first : (pool : List BlockStatus) (n k : ℕ) → AreFirst pool → birth_at (set pool n (Used 0)) k ≡ 0
-set_first [] n k first = refl
-set_first (s ∷ pool) zero zero first = refl
-set_first (s ∷ pool) zero (suc k) first = first (suc k)
-set_first (s ∷ pool) (suc n) zero first = first 0
-set_first (s ∷ pool) (suc n) (suc k) first = set_first pool n k (λ m. first (suc m))
-
-marked_first : (ns : List ℕ) (pool : List BlockStatus) → AreFirst pool → AreFirst (marked ns (Used 0) pool)
-marked_first [] pool first = first
-marked_first (n ∷ ns) pool first = marked_first ns (set pool n (Used 0)) (λ k. set_first pool n k first)
-
-free_first : (n : ℕ) → AreFirst (replicate n Free)
-free_first zero k = refl
-free_first (suc n) zero = refl
-free_first (suc n) (suc k) = free_first n k
 
 set_none : (p : BlockStatus → Bool) (s : BlockStatus) → p s ≡ false → (pool : List BlockStatus) (n : ℕ) → count_by p pool ≡ 0
     → count_by p (set pool n s) ≡ 0
@@ -64,25 +47,7 @@ none_opened p free used blocks d opened =
     ap (λ (e : DeskView). count_by p e.pool) opened
     ∙ marked_none p (Used 0) used (numbers_of (blocks_of d.last.rows)) (replicate blocks Free) (none_counted p free blocks)
 
-first_opened : (blocks : ℕ) (d : DeskView) → d ≡ opened_desk blocks d.last → AreFirst d.pool
-first_opened blocks d opened k =
-    ap (λ (e : DeskView). birth_at e.pool k) opened
-    ∙ marked_first (numbers_of (blocks_of d.last.rows)) (replicate blocks Free) (free_first blocks) k
-
-pub length_opened : (blocks : ℕ) (d : DeskView) → d ≡ opened_desk blocks d.last → length d.pool ≡ blocks
-length_opened blocks d opened =
-    ap (λ (e : DeskView). length e.pool) opened
-    ∙ (length-marked (numbers_of (blocks_of d.last.rows)) (Used 0) (replicate blocks Free) ∙ length-replicate blocks)
-
-births_first : (row : List BlockView) (pool : List BlockStatus) → AreFirst pool
-    → map (λ b. birth_at pool b.number) row ≡ map (λ (b : Shape). 0) (map shape_of row)
-births_first [] pool first = refl
-births_first (b ∷ row) pool first = ap₂ (λ n ns. n ∷ ns) (first b.number) (births_first row pool first)
-
 -- The state
-
-content_rebased : (v new : VersionView) → IsRebased v new → content new ≡ content v
-content_rebased v new rebased = λ i. left_by (rebased.batches i) (rebased.opening i)
 
 -- it has as many blocks as the held version in the text
 count_rebased : (s : ServerState) (v : VersionView) (d : DeskView) → IsRebased v d.last → IsDesk d

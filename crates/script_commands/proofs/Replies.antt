@@ -1,16 +1,18 @@
 -- The lines of a reply, from what the reply says.
-use Rattle.std.proofs.Common.{◌≡◌, ◌≢◌, ℕ, List, refl, ◌∙◌, ap, inl, inr}
+use Rattle.std.proofs.Common.{◌≡◌, ◌≢◌, ℕ, List, refl, ◌∙◌, ap}
 use Rattle.std.specs.{Prelude.AllPairs, Prelude.Result, Prelude.Ok, Prelude.Err, Prelude.◌⊎◌, Prelude.slice_get, List.zip}
-use Rattle.graph_types.specs.{Answer.{IsAnswer, IsReply, resolved_filter, degree_table, names_of_vertices}, Graph.Graph}
+use Rattle.graph_types.specs.{Answer.{IsReply, resolved_filter, degree_table, names_of_vertices}, Graph.Graph}
 use Rattle.graph_types.specs.declared.requests.{Request.Request, Reply.Reply, AskError.AskError}
 use Rattle.graph_version.specs.Versions.{IsVersion, VersionView, content}
 use Rattle.edge_block.specs.Batches.{HasEndsWithin}
 use Rattle.graph_types.specs.declared.requests.Request.TheVariants as request
 use Rattle.graph_types.specs.declared.requests.AskError.TheVariants as ask
+use Rattle.graph_types.proofs.NamesApart.{AreApart, apart_names}
+use Rattle.edge_block.proofs.BatchSums.{edges_in_view}
 use Rattle.version_answers.specs.{Numbered.{IsNumberedAnswer, named}, declared.numbered.NumberedReply.NumberedReply}
-use Rattle.version_answers.proofs.NamedRows.{named_reply}
-use Rattle.script_commands.proofs.{Edges.edges_in_view, NamesApart.AreApart, NamesApart.apart_names, OwnLabels.own_labels}
+use Rattle.version_answers.proofs.NumberedAnswers.{answer_ok, answer_err}
 use Rattle.script_lines.specs.{Lines.degree_lines, Lines.label_lines, Lines.shown_lines, declared.words.Word.Word}
+use Rattle.script_lines.proofs.OwnLabels.{own_labels}
 use Rattle.script_commands.specs.States.{Held, IsReplied, ServerState, ask_word, reply_lines, version, version_in}
 
 -- a graph whose names differ, and whose edges join its vertices
@@ -36,17 +38,6 @@ shown_lines-reply slot (request.Degrees filter) g reply valid is =
     let table = zip g.names (degree_table (resolved_filter g filter) g) in
     rw is (ap (λ n. degree_lines slot n table) (edges_in_view (resolved_filter g filter) g valid.within))
 shown_lines-reply slot (request.OneEdge kind source target) g reply valid is = rw is refl
-
--- a result that isn't want of memory is an answer
-answer_ok : (request : Request) (g : Graph) (reply : NumberedReply)
-    → ((let r : Result NumberedReply AskError = Ok reply in r ≡ Err ask.OutOfMemory) ⊎ IsNumberedAnswer request g (Ok reply))
-    → IsAnswer request g (Ok (named g.names reply))
-answer_ok request g reply answer = elim answer [ inl short ↦ cc | inr is ↦ (is.0, named_reply request g reply is.1) ]
-
-answer_err : (request : Request) (g : Graph) (error : AskError) → (error ≡ ask.OutOfMemory → ⊥)
-    → ((let r : Result NumberedReply AskError = Err error in r ≡ Err ask.OutOfMemory) ⊎ IsNumberedAnswer request g (Err error))
-    → IsAnswer request g (Err error)
-answer_err request g error known answer = elim answer [ inl short ↦ absurd (known cc) | inr is ↦ is ]
 
 -- the lines of a reply over the content of the version that the slot holds
 pub replied_ok : (slot : ℕ) (request : Request) (s : ServerState) (g : Graph) (h : Held) (reply : NumberedReply) (lines : List ℕ)

@@ -1,38 +1,22 @@
 -- Slots that stay slots: as sessions are acquired and released, batches come, and the floor rises.
-use Rattle.std.proofs.Common.{◌≡◌, ◌≢◌, ℕ, zero, suc, ◌+◌, ◌<◌, ◌≤◌, ◌==◌, max, true, false, List, [], ◌∷◌, ◌++◌, length, map}
+use Rattle.std.proofs.Common.{◌≡◌, ℕ, zero, suc, ◌+◌, ◌<◌, ◌≤◌, max, true, List, [], ◌∷◌, ◌++◌, length, map}
 use Rattle.std.proofs.Common.{take, get_or, set, replicate, append-nil, refl, sym, ap, ap₂, subst, ◌∙◌, arith, inl, inr, ◌-◌}
-use Rattle.std.proofs.lemmas.{Bool.{eq-eqb, eqb-true, true≢false}, List.{get_or-set_same, get_or-set_other, set-set, set-get_or, length-map, map-set}}
-use Rattle.std.proofs.lemmas.List.{take-append-le, length-append, nil_from_length, get_or-map, FromFn.get_or-range_with_len}
-use Rattle.std.proofs.{lemmas.Option.{get_or_from_slice_get, slice_get_read, slice_get_within}, Math.ListN.length-set}
-use Rattle.std.{proofs.Math.{Seq.take-length, Nat.max-eq_right}, specs.Prelude.{◌⊎◌, Option, None, Some, IfSome, slice_get}}
+use Rattle.std.proofs.lemmas.List.{get_or-set_same, get_or-set_other, set-set, set-get_or, length-map, map-set}
+use Rattle.std.proofs.lemmas.List.{take-append-le, length-append, nil_from_length, get_or-map}
+use Rattle.std.proofs.{lemmas.Option.{get_or_from_slice_get, slice_get_within}, Math.ListN.length-set}
+use Rattle.std.{proofs.Math.{Seq.take-length, Nat.max-eq_right}, specs.Prelude.{Option, None, Some, IfSome, slice_get}}
 use Rattle.std.specs.{Iterator.Yields, List.range_with_len, Option.option_map, declared.vec.IntoIter.IntoIter}
 use Rattle.std.specs.Vec.Iter.{into_iter_items, into_iter_len, into_iter_steps}
 use Rattle.graph_types.specs.declared.batches.NamedOp.{NamedOp}
 use Rattle.graph_version.specs.Versions.{IsVersion, VersionView}
 use Rattle.block_reclamation.specs.{Board.{BoardState, no_pins, with_pin}, Copies.{copy_of, pin_at}, declared.copies.Pin.Pin}
 use Rattle.block_reclamation.specs.declared.copies.TheConstants.{SEATS}
+use Rattle.graph_types.proofs.Numbers.{same_or_not}
 use Rattle.stream_store.specs.Seats.{SeatView, SessionView, held_version, session_lent, seat_of}
+use Rattle.stream_store.proofs.SeatNumbers.{some_seat, numbered}
 use Rattle.script_commands.specs.{Slots.{AreSlots, IsEarlier, IsPinnedBySlots, IsScriptSlot, held_by, held_of}, States.{holding, pins_of}}
 
-same_or_not : (a b : ℕ) → (a ≡ b) ⊎ (a ≢ b)
-same_or_not a b = elim (a == b) as (λ t. (a == b) ≡ t → (a ≡ b) ⊎ (a ≢ b)) [
-  | true ↦ λ e. inl (eqb-true a b e)
-  | false ↦ λ e. inr (λ same. true≢false (sym (eq-eqb a b same) ∙ e))
-] refl
-
 -- At first
-
-numbered : (seats : List SeatView) (n : ℕ) → map (λ (s : SeatView). s.number) seats ≡ range_with_len 0 n
-    → (slot : ℕ) (d : SeatView)
-    → slot < length seats → length seats ≤ n → (get_or seats slot d).number ≡ slot
-numbered seats n same slot d below few =
-    sym (get_or-map (λ (s : SeatView). s.number) seats slot d d.number below)
-    ∙ (ap (λ numbers. get_or numbers slot d.number) same ∙ (get_or-range_with_len 0 n slot d.number (omega arith)
-    ∙ (let plain : 0 + slot ≡ slot = omega arith in plain)))
-
-some_seat : (seats : List SeatView) (slot : ℕ) → slot < length seats → SeatView
-some_seat [] slot below = absurd (omega arith)
-some_seat (seat ∷ seats) slot below = seat
 
 free_slot : (last : VersionView) (slot : ℕ) (seat : Option SeatView) (session : Option SessionView) (s : SeatView) → seat ≡ Some s
     → session ≡ None → s.number ≡ slot → IsScriptSlot last slot seat session
@@ -240,12 +224,6 @@ slots_raised last board new seats sessions floor raised below slots = rw raised 
 })
 
 -- Reads
-
--- what is taken out of a place is what stands there
-pub read_some : {X : Type 0} (xs : List (Option X)) (i : ℕ) (read taken : Option X) (x : X) → i < length xs
-    → read ≡ get_or xs i read → taken ≡ read → taken ≡ Some x → slice_get xs i ≡ Some (Some x)
-read_some xs i read taken x below is same some =
-    slice_get_read xs (length xs) i read refl below is ∙ ap (λ o. Some o) (sym same ∙ some)
 
 -- a seat that is put back where it was taken out
 pub slots_back : (last : VersionView) (board now : BoardState) (seats : List (Option SeatView)) (sessions : List (Option SessionView))

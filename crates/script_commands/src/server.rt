@@ -185,7 +185,6 @@ impl Server {
         ensures machine { IfOk result (λ response. MovesMachine Command.Commit self.old response
             (string_bytes lines.new) self.new) }
     {
-        self.desk.facts();
         // A feed's batches are mostly of one length, so that the next one need not grow to it.
         let next = Batch::with_room(self.alloc, self.pending.len());
         let batch = mem::replace(&mut self.pending, next);

@@ -1,2 +1,2 @@
 pub mod TableRows
-pub mod Parts
+pub mod OwnLabels

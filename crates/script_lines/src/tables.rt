@@ -260,7 +260,7 @@ fn edges_of(names: &NameBook, degrees: &[Degree]) -> u64
 }
 
 /// A vertex's name as it stands in the book, and an empty text for a number past the last.
-#[tactic(auto, using(version_answers::proofs::NamedRows::name_there, version_answers::proofs::NamedRows::name_past))]
+#[tactic(auto, using(graph_types::proofs::ListedNames::name_there, graph_types::proofs::ListedNames::name_past))]
 fn name_at(names: &NameBook, number: u32) -> &str
     ensures { result.now ≡ slice_index_or names.now.names number [] }
 {

@@ -1,32 +1,26 @@
 -- A turn, from what the calls below it say.
-use Rattle.std.proofs.Common.{◌≡◌, ℕ, ◌+◌, List, string_bytes, arith, refl, subst, ◌∙◌, ap, inl, inr}
-use Rattle.std.specs.{Prelude.{Option, Result, Ok, Err, IfOk}, Io.KnownBytes.Appends}
+use Rattle.std.proofs.Common.{◌≡◌, ℕ, ◌+◌, ◌<◌, List, string_bytes, arith, refl, subst, ◌∙◌, ap, inr}
+use Rattle.std.specs.{Prelude.{Option, Some, Result, Ok, Err, IfOk}, Io.KnownBytes.Appends}
 use Rattle.epoch_core.specs.Worlds.{start_in}
 use Rattle.stream_store.specs.Configs.{ConfigView}
-use Rattle.feed_csv.specs.{Script.FaultStep, Script.RefusesRow, Script.Script, declared.command.Command.Command}
-use Rattle.feed_csv.specs.declared.command.FeedWord.{FeedWord, TheVariants.Read, TheVariants.Memory}
-use Rattle.script_server.specs.declared.script.{Run.Run, ServeFault.ServeFault}
+use Rattle.feed_csv.specs.{Records.record_limit, declared.command.Command.Command}
+use Rattle.feed_csv.specs.declared.command.FeedWord.{FeedWord}
+use Rattle.script_server.specs.declared.script.{Run.Run, ServeFault.{ServeFault, TheVariants.Write}}
 use Rattle.script_commands.specs.declared.server.{Server.Server, Stop.Stop}
 use Rattle.script_commands.specs.declared.server.Response.TheVariants.{Refused}
-use Rattle.script_commands.specs.{Machine.StartsMachine, Servers.{IsServer, ReopensIn, result_of}, States.printed}
-use Rattle.script_server.specs.Runs.{FailsToWrite, CountsRecord, CompletesRecord, ShowsStart}
-use Rattle.script_server.specs.Writes.{AppendsPart}
-use Rattle.script_lines.specs.{Lines.error_line, declared.words.Word.TheVariants.Feed}
-use Rattle.script_lines.specs.declared.words.Word.TheVariants as told
-
--- a word of the feed that ends nothing refuses a record
-pub fault_row : (word : FeedWord) (old new : Script) → (word ≡ Read → ⊥) → (word ≡ Memory → ⊥) → FaultStep word old new
-    → RefusesRow old word new
-fault_row Read old new read memory step = absurd (read refl)
-fault_row Memory old new read memory step = absurd (memory refl)
-fault_row _ old new read memory step = step
+use Rattle.script_commands.specs.{Machine.StartsMachine, Servers.{IsServer, ReopensIn, result_of}}
+use Rattle.script_commands.specs.States.{IsRecordResult, Progress, RecordResult, printed}
+use Rattle.script_server.specs.Ends.{NoMemory, NoStore, TellsEnd, Unwritten}
+use Rattle.script_server.specs.Runs.{CompletesRecord, CountsRecord, EndsRun, ShowsRun, ShowsStart}
+use Rattle.script_server.specs.Writes.{AppendsPart, output}
+use Rattle.script_lines.specs.declared.words.Word.TheVariants.{Feed}
 
 -- a record that is no command was refused
 pub refused : (row_item : Result Command FeedWord) (word : FeedWord) (old new : Run) (before after : Option (List ℕ))
     → row_item ≡ Err word → IsServer old.server
     → Appends before after (printed (old.records + 1) (result_of (Refused (Feed word)) (string_bytes old.lines)))
     → CountsRecord old (Refused (Feed word)) new
-    → CompletesRecord row_item old before new after
+    → CompletesRecord row_item old new (output before after)
 refused row_item word old new before after is server written counted =
     let same : new.server ≡ old.server = counted.server in
     record {
@@ -48,19 +42,37 @@ refused row_item word old new before after is server written counted =
       machine = rw is same;
     }
 
-pub breaks_refused : (row_item : Result Command FeedWord) (word : FeedWord) (old : Run) (before after : Option (List ℕ))
-    → row_item ≡ Err word
-    → AppendsPart before after (printed (old.records + 1) (result_of (Refused (Feed word)) (string_bytes old.lines)))
-    → FailsToWrite row_item old before after
-breaks_refused row_item word old before after is part = λ here shows.
-    inl (Err (Feed word), rw is refl, rw (← shows.records) part)
+-- an end at a command: in what it came to a write failed; there was no memory for it; or it opened no store
+pub obeyed_unwritten : (command : Command) (old : Run) (outcome : RecordResult) (before after : Option (List ℕ))
+    → ((here : Progress) → ShowsRun old here → IsRecordResult (Ok command) here.state outcome)
+    → AppendsPart before after (printed (old.records + 1) outcome)
+    → EndsRun (Some (Ok command)) old Write (output before after)
+obeyed_unwritten command old outcome before after comes part = record {
+  end = Unwritten outcome;
+  given = λ same. cc;
+  can = comes;
+  told = inr (refl, part);
+}
 
--- a write failed in the error line of a rebase
-pub breaks_reopening : (command : Command) (old : Run) (before after : Option (List ℕ)) → ReopensIn command old.server
-    → AppendsPart before after (error_line (old.records + 1) told.Start)
-    → FailsToWrite (Ok command) old before after
-breaks_reopening command old before after reopens part = λ here shows.
-    inr (inr (reopens here.state shows.server, rw (← shows.records) part))
+pub lacks_memory : (command : Command) (old : Run) (fault : ServeFault) (before after : Option (List ℕ))
+    → old.records < record_limit → TellsEnd NoMemory old.records fault (output before after)
+    → EndsRun (Some (Ok command)) old fault (output before after)
+lacks_memory command old fault before after room told = record {
+  end = NoMemory;
+  given = λ same. cc;
+  can = λ here shows. subst (λ (n : ℕ). n < record_limit) shows.records room;
+  told = told;
+}
+
+pub lacks_store : (command : Command) (old : Run) (fault : ServeFault) (before after : Option (List ℕ))
+    → ReopensIn command old.server → TellsEnd NoStore old.records fault (output before after)
+    → EndsRun (Some (Ok command)) old fault (output before after)
+lacks_store command old fault before after reopens told = record {
+  end = NoStore;
+  given = λ same. cc;
+  can = λ here shows. reopens here.state shows.server;
+  told = told;
+}
 
 -- a run over a server that has begun shows the start
 pub starts_there : (config : ConfigView) (server : Result Server Stop) (result : Result Run ServeFault)

@@ -1,18 +1,22 @@
 -- What a slot is told while it stays open, whatever records of others follow.
-use Rattle.std.proofs.Common.{◌≡◌, ℕ, ◌==◌, ◌||◌, Bool, true, false, List, [], ◌∷◌, ◌++◌, map, refl, sym, ap, subst, ◌∙◌}
+use Rattle.std.proofs.Common.{◌≡◌, ℕ, ◌==◌, Bool, true, false, List, [], ◌∷◌, ◌++◌, map, refl, sym, ap, subst, ◌∙◌}
 use Rattle.std.proofs.lemmas.{Bool.{eqb-true, eqb-false}, List.map-append, List.Elements.same_from_all_zip}
-use Rattle.std.specs.{Prelude.{None, Some, Option, Result, Ok, Err, slice_get, if◌then◌else◌}, List.{AllZip, list_any}}
+use Rattle.std.specs.{Prelude.{None, Some, Result, Ok, Err, slice_get, if◌then◌else◌}, List.{AllZip, list_any}}
 use Rattle.feed_csv.specs.{Commands.item_of, Records.Row, declared.command.Command.Command, declared.command.FeedWord.FeedWord}
 use Rattle.feed_csv.specs.declared.command.Command.TheVariants.{Op, Commit, OpenSlot, CloseSlot, Query, Collect, Stat, Rebase}
 use Rattle.graph_types.specs.{Graph.{Graph, unlimited}, declared.requests.Request.Request}
+use Rattle.graph_types.proofs.Cases.{neither_true}
 use Rattle.epoch_core.specs.{Holdings.Observation, Machine.Question}
+use Rattle.epoch_core.proofs.Owed.{questions_over}
 use Rattle.script_lines.specs.declared.words.Word.{Word}
 use Rattle.script_commands.specs.States.{Held, IsRecordResult, IsReplied, Progress, RecordResult, ServerState, after_item}
 use Rattle.script_commands.specs.States.{after_record, beginning, last_held, version, version_in}
+use Rattle.script_commands.proofs.SlotResults.{was_free, none_replicated, Stands, stands_committed, stands_else, Standing}
+use Rattle.script_commands.proofs.SlotResults.{one_graph}
 use Rattle.script_server.specs.{Executions.Executes, Sessions.{AreToldAlike, IsToldAt, OthersChangeNothing, StaysOpen, Tells}}
 use Rattle.script_server.specs.Sessions.{asked_in, asked_of, closes_slot, observed_in, request_to, requests_to}
-use Rattle.script_server.proofs.SessionLines.{Stands, Turn, both_told, none_replicated, stands_committed, stands_else, turn}
-use Rattle.script_server.proofs.SessionLines.{told_unlimited, was_free}
+use Rattle.script_server.proofs.SessionLines.{Turn, both_told, turn}
+use Rattle.script_server.proofs.SessionLines.{told_unlimited}
 
 stays : (slot : ℕ) (item : Result Command FeedWord) (s : ServerState) (outcome : RecordResult) (g : Graph)
     → closes_slot slot item ≡ false → Stands slot s (Some g) → IsRecordResult item s outcome
@@ -39,10 +43,6 @@ stays slot (Ok Collect) s (Err word) g keeps stands is = stands
 stays slot (Ok Stat) s (Ok lines) g keeps stands is = stands
 stays slot (Ok Stat) s (Err word) g keeps stands is = stands
 stays slot (Ok (Rebase other)) s outcome g keeps stands is = absurd (cc)
-
--- requests over one graph
-abbrev questions_over : Graph → List Request → List Question
-questions_over g requests = map (λ request. record { request = request; graph = g }) requests
 
 -- what one record tells it
 told_held : (slot : ℕ) (request : Request) (s : ServerState) (outcome : RecordResult) (g : Graph) (r : Result Held Word)
@@ -87,17 +87,13 @@ zip_more slot [] ps (x ∷ xs) ys first second = absurd first
 zip_more slot (q ∷ qs) ps [] ys first second = absurd first
 zip_more slot (q ∷ qs) ps (x ∷ xs) ys first second = (first.0, zip_more slot qs ps xs ys first.1 second)
 
-neither : (a b : Bool) → (a || b) ≡ false → (a ≡ false) × (b ≡ false)
-neither false b is = (refl, is)
-neither true b is = absurd (cc)
-
 told_open : (slot : ℕ) (rows : List Row) (here : Progress) (text : List ℕ) (seen : List Observation) (told : List RecordResult)
     (g : Graph) → Stands slot here.state (Some g) → StaysOpen slot rows → Tells slot rows here text seen told
     → AllZip (IsToldAt slot) (questions_over g (requests_to slot rows)) told
 told_open slot [] here text seen told g stands keeps tells = subst (λ rs. AllZip (IsToldAt slot) [] rs) (sym tells.2) tt
 told_open slot (row ∷ rows) here text seen told g stands keeps tells =
     let item : Result Command FeedWord = item_of row in
-    let still = neither (closes_slot slot item) (list_any (λ row. closes_slot slot (item_of row)) rows) keeps in
+    let still = neither_true (closes_slot slot item) (list_any (λ row. closes_slot slot (item_of row)) rows) keeps in
     let rest : AllZip (IsToldAt slot) (questions_over g (requests_to slot rows)) tells.3 =
     told_open slot rows (after_record item tells.0 here) tells.1 tells.2 tells.3 g
     (stays slot item here.state tells.0 g still.0 stands tells.4) still.1 tells.8 in
@@ -108,11 +104,6 @@ told_open slot (row ∷ rows) here text seen told g stands keeps tells =
     (map (λ request. tells.0) (asked_of slot here.state item)) tells.3
     (told_one slot item here.state tells.0 g stands tells.4) rest))
 
--- where a run has come to, a slot holds no version, or one of some graph
-record Standing (slot : ℕ) (s : ServerState) : Type 0 where
-  now : Option Graph
-  stands : Stands slot s now
-
 stands_there : (slot : ℕ) (rows : List Row) (here : Progress) (text : List ℕ) (there : Progress) → Standing slot here.state
     → Executes rows here text there → Standing slot there.state
 stands_there slot [] here text there standing is = subst (λ (p : Progress). Standing slot p.state) (sym is.1) standing
@@ -121,11 +112,6 @@ stands_there slot (row ∷ rows) here text there standing is =
     (map (λ request. is.0) (asked_of slot here.state (item_of row))) =
     turn slot (item_of row) here.state is.0 standing.now standing.stands is.2 in
     stands_there slot rows (after_record (item_of row) is.0 here) is.1 there (record { now = t.next; stands = t.stands }) is.4
-
-one_graph : (slot : ℕ) (s : ServerState) (held : Held) (now : Option Graph) → Stands slot s now
-    → version_in (slice_get s.held slot) ≡ Ok held → (g : Graph) × Stands slot s (Some g)
-one_graph slot s held None stands at = absurd (stands held at)
-one_graph slot s held (Some g) stands at = (g, stands)
 
 pub others_change_nothing : OthersChangeNothing
 others_change_nothing slot setup front before here held rows other_rows text other_text seen other_seen told other_told

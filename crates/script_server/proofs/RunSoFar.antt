@@ -1,29 +1,13 @@
 -- How far a run has come: the records that were given, and their lines, which were written.
-use Rattle.std.proofs.Common.{◌≡◌, ℕ, ◌+◌, ◌<◌, List, [], ◌∷◌, ◌++◌, append_assoc, append-nil, arith, refl, sym, ◌∙◌, ap}
-use Rattle.std.specs.{Prelude.true, Prelude.Option, Prelude.None, Prelude.Some, Prelude.Ok, Io.KnownBytes.Appends}
-use Rattle.feed_csv.specs.{Commands.item_of, Records.Row, Records.TakesRecord, Records.record_limit, Script.IsOpen, Script.Script}
-use Rattle.script_server.specs.{declared.script.Run.Run, Runs.{IsReadyRun, ShowsRun, IsTurn}, Executions.Executes}
+use Rattle.std.proofs.Common.{ℕ, ◌+◌, ◌<◌, List, [], ◌∷◌, ◌++◌, append_assoc, append-nil, arith, refl, sym, ◌∙◌, ap}
+use Rattle.std.specs.{Prelude.{true, Option, Ok}, Io.KnownBytes.Appends}
+use Rattle.graph_types.proofs.Prefixes.{appends_nothing, appends_then}
+use Rattle.feed_csv.specs.{Commands.item_of, Records.{Row, record_limit}, Script.{IsOpen, Script}}
+use Rattle.feed_csv.proofs.LeftRows.{Leaves, leaves-none, leaves-append}
+use Rattle.script_server.specs.{declared.script.Run.Run, Executions.Executes, Runs.{IsReadyRun, IsTurn, ShowsRun, fed}}
+use Rattle.script_server.specs.Writes.{output}
 use Rattle.script_commands.specs.States.{IsRecordResult, Progress, RecordResult, Setup, after_record, beginning, printed}
 use Rattle.script_commands.specs.Servers.{result_of}
-use Rattle.script_server.proofs.Writing.{appends_nothing, appends_then}
-
--- of the records there were at first, where they are known, these were given, and the others are left
-abbrev pub Leaves : Option (List Row) → List Row → Option (List Row) → Type 0
-Leaves None given left = Unit {0}
-Leaves (Some rows) given None = ⊥
-Leaves (Some rows) given (Some rest) = rows ≡ given ++ rest
-
-pub leaves-none : (first : Option (List Row)) → Leaves first [] first
-leaves-none None = tt
-leaves-none (Some rows) = refl
-
-pub leaves-append : (first : Option (List Row)) (given : List Row) (row : Row) (left rest : Option (List Row))
-    → Leaves first given left → TakesRecord left row rest → Leaves first (given ++ row ∷ []) rest
-leaves-append None given row left rest leaves takes = tt
-leaves-append (Some rows) given row None rest leaves takes = absurd leaves
-leaves-append (Some rows) given row (Some more) None leaves takes = absurd takes
-leaves-append (Some rows) given row (Some more) (Some others) leaves takes =
-    leaves ∙ (ap (λ rows. given ++ rows) takes ∙ sym (append_assoc given (row ∷ []) others))
 
 pub run-append : (rows : List Row) (row : Row) (here there : Progress) (text : List ℕ) (outcome : RecordResult)
     → Executes rows here text there
@@ -65,7 +49,7 @@ reaches_nothing setup first run before shows = record {
 
 abbrev pub reaches_more : (setup : Setup) (first : Option (List Row)) (feed feed' : Script) (run run' : Run)
     (before now after : Option (List ℕ))
-    → Reaches setup first feed.left run before now → IsTurn feed run now (Ok true) feed' run' after
+    → Reaches setup first feed.left run before now → IsTurn (fed feed run) (Ok true) (fed feed' run') (output now after)
     → Reaches setup first feed'.left run' before after
 reaches_more setup first feed feed' run run' before now after reached turned =
     let outcome = result_of turned.2.response turned.2.lines in
@@ -82,7 +66,7 @@ reaches_more setup first feed feed' run run' before now after reached turned =
 
 -- a run is ready for the next record again
 pub ready_more : (feed feed' : Script) (run run' : Run) (now after : Option (List ℕ)) → IsReadyRun feed run
-    → IsTurn feed run now (Ok true) feed' run' after
+    → IsTurn (fed feed run) (Ok true) (fed feed' run') (output now after)
     → IsReadyRun feed' run'
 ready_more feed feed' run run' now after ready turned = record {
   server = turned.2.server;

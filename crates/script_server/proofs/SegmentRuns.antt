@@ -1,26 +1,15 @@
 -- Segments, one record after another.
-use Rattle.std.proofs.Common.{◌≡◌, ℕ, zero, suc, ◌+◌, List, [], ◌∷◌, ◌++◌, length, replicate, append_assoc, append-nil}
+use Rattle.std.proofs.Common.{◌≡◌, ℕ, ◌+◌, List, [], ◌∷◌, ◌++◌, length, append_assoc, append-nil}
 use Rattle.std.proofs.Common.{get_or, refl, sym, ap, subst, ◌∙◌}
-use Rattle.std.specs.{List.AllZip, Prelude.Some}
+use Rattle.std.specs.List.{AllZip}
 use Rattle.feed_csv.specs.{Commands.item_of, Records.Row}
-use Rattle.epoch_core.specs.{Runs.{AllReplies, Runs, run}, declared.events.Event.Event}
+use Rattle.epoch_core.specs.{Runs.Runs, declared.events.Event.Event}
 use Rattle.epoch_core.specs.Worlds.{Answer, IsStart, MachineState, replies_of}
-use Rattle.store_steps.{specs.Steps.all_done, proofs.{Histories.done_is_run, Questions.both_reply, Reached.run_more}}
+use Rattle.epoch_core.proofs.Account.{no_replies}
 use Rattle.script_commands.specs.declared.server.Server.{Server}
 use Rattle.script_commands.specs.States.{IsRecordResult, Progress, RecordResult, Reopens, after_record, answer_result, printed}
 use Rattle.script_server.specs.Segments.{AreSegments, Does, DoesAll, IsSegment, IsShown, Prints, Segment, Stand, question_to, stand}
 use Rattle.script_server.proofs.SegmentSteps.{Answered}
-
--- Runs of the machine, one after another
-
--- events, and then others
-pub runs_append : (start here there : MachineState) (es fs : List Event) → Runs start es here
-    → all_done fs here.world ≡ Some there.world → AllReplies here.world fs here.replies there.replies → Runs start (es ++ fs) there
-runs_append start here there es fs runs done replies = record {
-  world = sym (done_is_run fs here.world there.world done) ∙ (ap (run fs) runs.world ∙ sym (run_more es fs start.world));
-  replies = both_reply es fs start.world start.replies here.replies there.replies runs.replies
-      (subst (λ w. AllReplies w fs here.replies there.replies) runs.world replies);
-}
 
 -- The answers that are printed
 
@@ -90,11 +79,6 @@ does_more (x ∷ xs) row here there next text events done outcome is one = (
 abbrev pub opened : MachineState → Server → Segment
 opened start server = record { start = start; opened = server; events = []; end = start; left = server }
 
-none_told : (n slot : ℕ) → get_or {A = List Answer} (replicate n []) slot [] ≡ []
-none_told zero slot = refl
-none_told (suc n) zero = refl
-none_told (suc n) (suc slot) = none_told n slot
-
 pub segment_opened : (start : MachineState) (server : Server) (here : Progress) → IsStart start
     → IsShown (stand here server start.world) → IsSegment (opened start server) [] here [] here
 segment_opened start server here is shown = record {
@@ -105,7 +89,7 @@ segment_opened start server here is shown = record {
   runs = record { world = refl; replies = refl };
   replies = λ slot. (
     refl,
-    ap (λ xs. get_or xs slot []) is.replies ∙ none_told (length start.world.sessions) slot,
+    ap (λ xs. get_or xs slot []) is.replies ∙ no_replies (length start.world.sessions) slot,
     refl,
   );
 }

@@ -1,28 +1,30 @@
 -- How far script and machine have come together, and what a run has written when it ends.
 use Rattle.std.proofs.Common.{◌≡◌, ℕ, ◌+◌, List, [], ◌∷◌, ◌++◌, length, append_assoc, append-nil, refl, sym, ◌∙◌, ap, subst}
-use Rattle.std.proofs.{Common.{inl, inr}, lemmas.Bool.true≢false}
-use Rattle.std.specs.{Prelude.{false, true, Option, None, Some, Result, Ok, Err, IfSome, OnOk}, Io.KnownBytes.Appends}
+use Rattle.std.proofs.Common.{inl, inr}
+use Rattle.std.specs.{Prelude.{false, true, Option, None, Some, Result, Ok, Err, IfSome, MatchResult, OnOk}, Io.KnownBytes.Appends}
+use Rattle.graph_types.proofs.Prefixes.{appends_then, appends_nothing}
 use Rattle.feed_csv.specs.{Commands.item_of, Records.{IsOver, Row}, Script.Script}
 use Rattle.feed_csv.specs.declared.command.{Command.Command, FeedWord.FeedWord}
-use Rattle.feed_csv.specs.declared.command.FeedWord.TheVariants as feed_word
 use Rattle.epoch_core.specs.{Runs.{AllReplies, Runs}, Worlds.{IsStart, MachineState, replies_of}, declared.events.Event.Event}
 use Rattle.store_steps.specs.Steps.{all_done}
-use Rattle.script_commands.specs.{Machine.{ContinuesMachine, ShowsMachine}, Servers.{IsServer, ShowsServer, pending_of, result_of}}
+use Rattle.store_steps.proofs.SessionRuns.{runs_append}
+use Rattle.script_commands.specs.{Machine.{ContinuesMachine, MovesMachine, ShowsMachine}, Servers.{IsServer, ShowsServer, pending_of, result_of}}
 use Rattle.script_commands.specs.declared.server.{Response.Response, Server.Server}
 use Rattle.script_commands.specs.States.{IsRecordResult, Progress, RecordResult, Reopens, Setup, after_item, after_record}
 use Rattle.script_commands.specs.States.{beginning, printed}
-use Rattle.script_lines.specs.{Lines.{end_line, error_line}, declared.words.Word.TheVariants.Feed}
-use Rattle.script_lines.specs.declared.words.Word.TheVariants as line_word
-use Rattle.script_server.specs.declared.script.{Run.Run, ServeFault.{ServeFault, TheVariants.{Read, Memory, Start, Write}}}
-use Rattle.script_server.specs.{declared.script.Summary.Summary, Writes.AppendsSome}
-use Rattle.script_server.specs.Runs.{IsFresh, IsReadyRun, IsStartup, IsTurn, MovesRecord, ShowsRun, ShowsStart, is_write, records_done}
+use Rattle.script_lines.specs.Lines.{end_line}
+use Rattle.script_commands.proofs.{ServerMoves.{start_many, replies_many}, SlotResults.{slots_many, never_reopens}}
+use Rattle.script_commands.proofs.ServerMoves.{GoesOn, versions_shown, OpensAnew, moved}
+use Rattle.script_server.specs.declared.script.{Run.Run, ServeFault.ServeFault, Summary.Summary}
+use Rattle.script_server.specs.{Ends.{End, NoMemory, TellsEnd, is_write, last_text, records_done}, Executions.input}
+use Rattle.script_server.specs.{Runs.{EndsTurn, IsFresh, IsReadyRun, IsStartup, IsTurn, ShowsRun, ShowsStart, fed}}
+use Rattle.script_server.specs.Writes.{AppendsSome, output}
 use Rattle.script_server.specs.Segments.{AreEventsOfRecord, AreSegments, Does, IsMachineText, IsSegment, IsShown, Segment}
 use Rattle.script_server.specs.Segments.{question_to, stand}
-use Rattle.script_server.proofs.{RunSoFar.{Reaches, reaches_more, reaches_nothing}, RunTexts.{Finishes, done_ended, done_none}}
-use Rattle.script_server.proofs.SegmentRuns.{gone_on, opened, runs_append, segment_more, segment_opened, segments_more}
-use Rattle.script_server.proofs.SegmentSteps.{Answered, GoesOn, OpensAnew, answers_of, moved, never_reopens, replies_many}
-use Rattle.script_server.proofs.SegmentSteps.{slots_many, start_many, unanswered, versions_shown}
-use Rattle.script_server.proofs.Writing.{appends_nothing, appends_then}
+use Rattle.script_server.proofs.{RunEnd.done_none, RunSoFar.{Reaches, reaches_more, reaches_nothing}, RunTexts.{Finishes, done_ended}}
+use Rattle.script_server.proofs.SegmentRuns.{gone_on, opened, segment_more, segment_opened, segments_more}
+use Rattle.script_server.proofs.SegmentSteps.{Answered, answers_of}
+use Rattle.script_server.proofs.SegmentSteps.{unanswered}
 
 -- How far they have come
 
@@ -183,7 +185,8 @@ module _ (setup : Setup) (given : List Row) (lines : List ℕ) (here : Progress)
       (λ slot. subst (λ i. Answered slot (question_to slot here.state i) outcome (replies_of s.end slot) (replies_of s.end slot)) (sym is)
       (unanswered slot outcome (replies_of s.end slot) (replies_of s.end slot) refl))
 
-  joined_by : (item : Result Command FeedWord) → item_of row ≡ item → MovesRecord item old response told new → Next
+  joined_by : (item : Result Command FeedWord) → item_of row ≡ item
+      → MatchResult item (λ command. MovesMachine command old response told new) (λ word. new ≡ old) → Next
   joined_by (Err word) is moves = joined_refused word is moves
   joined_by (Ok command) is moves =
       let s = joined.segment in
@@ -210,7 +213,7 @@ together_nothing setup first run before kept shows starts = record {
 
 pub together_more : (setup : Setup) (first : Option (List Row)) (feed feed' : Script) (run run' : Run)
     (before now after : Option (List ℕ)) → Together setup first feed.left run before now
-    → IsTurn feed run now (Ok true) feed' run' after → Together setup first feed'.left run' before after
+    → IsTurn (fed feed run) (Ok true) (fed feed' run') (output now after) → Together setup first feed'.left run' before after
 together_more setup first feed feed' run run' before now after so_far turned =
     let reached = so_far.reached in
     let done = turned.2 in
@@ -225,7 +228,7 @@ together_more setup first feed feed' run run' before now after so_far turned =
 text_of : (setup : Setup) (rows : List Row) (left : Option (List Row)) (run : Run) (before now after : Option (List ℕ))
     (count : ℕ) (result : Result Summary ServeFault) (part : List ℕ) → Together setup (Some rows) left run before now
     → Appends now after part → OnOk result (IsOver left) → (is_write result ≡ false → count ≡ run.records)
-    → AppendsSome before after (IsMachineText setup rows count result)
+    → AppendsSome before after (IsMachineText (input setup rows) count result)
 text_of setup rows None run before now after count result part so_far written over same = absurd so_far.reached.leaves
 text_of setup rows (Some left) run before now after count result part so_far written over same =
     let reached = so_far.reached in
@@ -250,45 +253,30 @@ text_of setup rows (Some left) run before now after count result part so_far wri
       ),
     )
 
+-- an end is told
+some_part : (end : End) (records : ℕ) (fault : ServeFault) (before after : Option (List ℕ))
+    → TellsEnd end records fault (output before after) → (part : List ℕ) × Appends before after part
+some_part end records fault before after (inl whole) = (last_text end records, whole.1)
+some_part end records fault before after (inr part) = (part.1.0, part.1.3)
+
 -- a turn that ended the run
-some_part : (feed feed' : Script) (run run' : Run) (now after : Option (List ℕ)) (fault : ServeFault) (here : Progress)
-    → ShowsRun run here → IsTurn feed run now (Err fault) feed' run' after → (part : List ℕ) × Appends now after part
-some_part feed feed' run run' now after Read here shows turned = (error_line (run.records + 1) (Feed feed_word.Read), turned.2)
-some_part feed feed' run run' now after Memory here shows turned = (error_line (run.records + 1) (Feed feed_word.Memory), turned.3)
-some_part feed feed' run run' now after Start here shows turned = (error_line (run.records + 1) line_word.Start, turned.4)
-some_part feed feed' run run' now after Write here shows turned = elim turned [
-  | inl broken ↦ elim (broken.2 here shows) [
-    | inl part ↦ (part.2.0, part.2.3)
-    | inr other ↦ elim other [ inl part ↦ (part.0, part.3) | inr unopened ↦ (unopened.1.0, unopened.1.3) ]
-  ]
-  | inr line ↦ elim line [ inl part ↦ (part.0, part.3) | inr part ↦ (part.0, part.3) ]
-]
-
-counted : (feed feed' : Script) (run run' : Run) (now after : Option (List ℕ)) (fault : ServeFault)
-    → IsTurn feed run now (Err fault) feed' run' after → is_write {T = Summary} (Err fault) ≡ false → records_done feed' ≡ run.records
-counted feed feed' run run' now after Read turned whole = turned.1
-counted feed feed' run run' now after Memory turned whole = turned.0
-counted feed feed' run run' now after Start turned whole = turned.3
-counted feed feed' run run' now after Write turned whole = absurd (true≢false whole)
-
-pub joined_stopped : (first : Option (List Row)) (feed feed' : Script) (start run run' : Run) (before now after : Option (List ℕ))
+pub joined_stopped : (first : Option (List Row)) (feed feed' : Script) (start run : Run) (before now after : Option (List ℕ))
     (fault : ServeFault)
     → ((setup : Setup) → ShowsRun start (beginning setup) → ShowsStart start.server → Together setup first feed.left run before now)
-    → IsTurn feed run now (Err fault) feed' run' after
+    → EndsTurn (fed feed run) fault feed' (output now after)
     → IfSome first (λ rows. (setup : Setup) → ShowsRun start (beginning setup) → ShowsStart start.server
-    → AppendsSome before after (IsMachineText setup rows (records_done feed') (Err fault)))
-joined_stopped None feed feed' start run run' before now after fault so_far turned = tt
-joined_stopped (Some rows) feed feed' start run run' before now after fault so_far turned = λ setup shows starts.
+    → AppendsSome before after (IsMachineText (input setup rows) (records_done feed') (Err fault)))
+joined_stopped None feed feed' start run before now after fault so_far turned = tt
+joined_stopped (Some rows) feed feed' start run before now after fault so_far turned = λ setup shows starts.
     let all = so_far setup shows starts in
-    let part = some_part feed feed' run run' now after fault all.reached.here all.reached.shows turned in
-    text_of setup rows feed.left run before now after (records_done feed') (Err fault) part.0 all part.1 tt
-    (counted feed feed' run run' now after fault turned)
+    let part = some_part turned.ends.end run.records fault now after turned.ends.told in
+    text_of setup rows feed.left run before now after (records_done feed') (Err fault) part.0 all part.1 tt (λ whole. turned.done)
 
 -- the end of the input
 finished : (setup : Setup) (rows : List Row) (feed feed' : Script) (run run' : Run) (before now mid after : Option (List ℕ))
     (result : Result Summary ServeFault) → IsReadyRun feed run → Together setup (Some rows) feed.left run before now
-    → IsTurn feed run now (Ok false) feed' run' mid → Finishes run' mid after result
-    → AppendsSome before after (IsMachineText setup rows (records_done feed') result)
+    → IsTurn (fed feed run) (Ok false) (fed feed' run') (output now mid) → Finishes run' mid after result
+    → AppendsSome before after (IsMachineText (input setup rows) (records_done feed') result)
 finished setup rows feed feed' run run' before now mid after (Ok summary) ready so_far turned ends =
     text_of setup rows feed.left run before now after (records_done feed') (Ok summary) ([] ++ end_line (length (pending_of run'.server)))
     so_far (appends_then now mid after [] (end_line (length (pending_of run'.server))) turned.2 ends.whole) turned.0.over
@@ -301,9 +289,9 @@ finished setup rows feed feed' run run' before now mid after (Err fault) ready s
 pub joined_ended : (first : Option (List Row)) (feed feed' : Script) (start run run' : Run) (before now mid after : Option (List ℕ))
     (result : Result Summary ServeFault) → IsReadyRun feed run
     → ((setup : Setup) → ShowsRun start (beginning setup) → ShowsStart start.server → Together setup first feed.left run before now)
-    → IsTurn feed run now (Ok false) feed' run' mid → Finishes run' mid after result
+    → IsTurn (fed feed run) (Ok false) (fed feed' run') (output now mid) → Finishes run' mid after result
     → IfSome first (λ rows. (setup : Setup) → ShowsRun start (beginning setup) → ShowsStart start.server
-    → AppendsSome before after (IsMachineText setup rows (records_done feed') result))
+    → AppendsSome before after (IsMachineText (input setup rows) (records_done feed') result))
 joined_ended None feed feed' start run run' before now mid after result ready so_far turned ends = tt
 joined_ended (Some rows) feed feed' start run run' before now mid after result ready so_far turned ends = λ setup shows starts.
     finished setup rows feed feed' run run' before now mid after result ready (so_far setup shows starts) turned ends
@@ -312,27 +300,25 @@ joined_ended (Some rows) feed feed' start run run' before now mid after result r
 pub joined_from_run : (left : Option (List Row)) (start : Run) (setup : Setup) (count : ℕ) (before mid after : Option (List ℕ))
     (result : Result Summary ServeFault) → ShowsRun start (beginning setup) → ShowsStart start.server → mid ≡ before
     → IfSome left (λ rows. (setup : Setup) → ShowsRun start (beginning setup) → ShowsStart start.server
-    → AppendsSome mid after (IsMachineText setup rows count result))
-    → IfSome left (λ rows. AppendsSome before after (IsMachineText setup rows count result))
+    → AppendsSome mid after (IsMachineText (input setup rows) count result))
+    → IfSome left (λ rows. AppendsSome before after (IsMachineText (input setup rows) count result))
 joined_from_run None start setup count before mid after result shows starts same all = tt
 joined_from_run (Some rows) start setup count before mid after result shows starts same all =
-    subst (λ from. AppendsSome from after (IsMachineText setup rows count result)) same (all setup shows starts)
+    subst (λ from. AppendsSome from after (IsMachineText (input setup rows) count result)) same (all setup shows starts)
 
 -- a run before its first record has no segment
 none_joined : (setup : Setup) (rows : List Row) (before after : Option (List ℕ)) (count : ℕ) (fault : ServeFault) (text : List ℕ)
-    → Appends before after text → count ≡ 0 → AppendsSome before after (IsMachineText setup rows count (Err fault))
+    → Appends before after text → count ≡ 0 → AppendsSome before after (IsMachineText (input setup rows) count (Err fault))
 none_joined setup rows before after count fault text written same =
     (text, written, ([], [], rows, [], text, beginning setup, (refl, refl, refl), refl, refl, tt, λ whole. sym same))
 
 pub joined_never : (left : Option (List Row)) (setup : Setup) (feed : Script) (before after : Option (List ℕ)) (fault : ServeFault)
-    → IsFresh feed → IsStartup setup before (Err fault) after
-    → IfSome left (λ rows. AppendsSome before after (IsMachineText setup rows (records_done feed) (Err fault)))
+    → IsFresh feed → IsStartup setup (Err fault) (output before after)
+    → IfSome left (λ rows. AppendsSome before after (IsMachineText (input setup rows) (records_done feed) (Err fault)))
 joined_never None setup feed before after fault fresh ends = tt
-joined_never (Some rows) setup feed before after Read fresh ends = absurd ends
-joined_never (Some rows) setup feed before after Memory fresh ends =
-    none_joined setup rows before after (records_done feed) Memory _ ends (done_none feed fresh)
-joined_never (Some rows) setup feed before after Start fresh ends =
-    none_joined setup rows before after (records_done feed) Start [] (subst (λ now. Appends before now []) (sym ends) (appends_nothing before))
+joined_never (Some rows) setup feed before after fault fresh (inl none) =
+    none_joined setup rows before after (records_done feed) fault [] (subst (λ now. Appends before now []) (sym none.1) (appends_nothing before))
     (done_none feed fresh)
-joined_never (Some rows) setup feed before after Write fresh ends =
-    none_joined setup rows before after (records_done feed) Write ends.0 ends.3 (done_none feed fresh)
+joined_never (Some rows) setup feed before after fault fresh (inr told) =
+    let part = some_part NoMemory 0 fault before after told in
+    none_joined setup rows before after (records_done feed) fault part.0 part.1 (done_none feed fresh)

@@ -1,52 +1,32 @@
 -- What a slot is told are the answers to the requests of its holdings.
-use Rattle.std.proofs.Common.{◌≡◌, ℕ, zero, suc, ◌≤◌, ◌==◌, Bool, true, false, List, [], ◌∷◌, ◌++◌, length, map, replicate}
+use Rattle.std.proofs.Common.{◌≡◌, ℕ, ◌==◌, Bool, true, false, List, [], ◌∷◌, ◌++◌, length, map}
 use Rattle.std.proofs.Common.{refl, sym, ap, subst, ◌∙◌, arith}
-use Rattle.std.proofs.lemmas.{Bool.{eqb-true, eqb-false}, List.{length-append, take_all, take-append-le}}
+use Rattle.std.proofs.lemmas.{Bool.{eqb-true, eqb-false}, List.take_all}
 use Rattle.std.proofs.lemmas.List.Elements.{same_from_all_zip}
 use Rattle.std.specs.{Prelude.{None, Some, Option, Result, Ok, Err, slice_get, slice_set, if◌then◌else◌}, List.AllZip}
 use Rattle.feed_csv.specs.{Commands.item_of, Records.Row, declared.command.Command.Command, declared.command.FeedWord.FeedWord}
 use Rattle.feed_csv.specs.declared.command.Command.TheVariants.{Op, Commit, OpenSlot, CloseSlot, Query, Collect, Stat, Rebase}
 use Rattle.graph_types.proofs.{OneAnswer.one_answer, LimitsKept.same_answer}
 use Rattle.graph_types.specs.{Graph.{Graph, unlimited}, Limits.standard_limits, Step.left_by}
-use Rattle.graph_types.specs.declared.requests.Request.{Request, TheVariants.{Levels, Labels, Cores, Degrees, OneEdge}}
-use Rattle.epoch_core.specs.{Holdings.{Observation, Entered, Replied, Released, answered_first, holdings_of, questions}}
-use Rattle.epoch_core.{specs.{Machine.Question, Worlds.Answer}, proofs.Lists.{set_same, set_else}}
+use Rattle.graph_types.specs.declared.requests.Request.{Request}
+use Rattle.graph_types.proofs.ListPlaces.{set_same}
+use Rattle.epoch_core.specs.Holdings.{Observation, Entered, Replied, Released, holdings_of, questions}
+use Rattle.epoch_core.specs.Machine.{Question}
+use Rattle.epoch_core.proofs.Owed.{owed, ends}
 use Rattle.script_lines.specs.{declared.words.Word.Word}
 use Rattle.script_commands.specs.States.{Held, IsRecordResult, IsReplied, Progress, RecordResult, ServerState, Setup, after_commit}
-use Rattle.script_commands.specs.States.{after_item, after_record, answer_result, beginning, close_result, last_held, last_version}
-use Rattle.script_commands.specs.States.{lines_unless, open_refusal, rebase_result, rebased, version, version_in}
+use Rattle.script_commands.specs.States.{after_item, after_record, answer_result, beginning, last_held, last_version}
+use Rattle.script_commands.specs.States.{rebase_result, rebased, version, version_in}
+use Rattle.script_commands.proofs.SlotResults.{one_result, found_held, none_replicated, was_free, was_held, Stands, stands_else}
+use Rattle.script_commands.proofs.SlotResults.{stands_committed}
 use Rattle.script_server.specs.{Executions.Executes, Sessions.{AgreeingSlotsAreToldAlike, AreToldAlike, IsToldAt, LinesAreAnswers}}
 use Rattle.script_server.specs.Sessions.{Tells, TellsOfEachSlot, asked_in, asked_of, observed_in}
-
--- the slot holds no version, or one of this graph, whatever the limits
-abbrev pub Stands : ℕ → ServerState → Option Graph → Type 0
-Stands slot s None = (held : Held) → version_in (slice_get s.held slot) ≡ Ok held → ⊥
-Stands slot s (Some g) =
-    (held : Held) × (version_in (slice_get s.held slot) ≡ Ok held) × (held.number ≤ length s.batches)
-    × (unlimited (version held.number s) ≡ g)
-
--- what an answer comes to doesn't show the limits of its graph
-one_result : (slot : ℕ) (request : Request) (g : Graph) (answer : Answer)
-    → answer_result slot request g answer ≡ answer_result slot request (unlimited g) answer
-one_result slot (Levels source filter) g answer = refl
-one_result slot (Labels filter) g answer = refl
-one_result slot (Cores filter) g answer = refl
-one_result slot (Degrees filter) g answer = refl
-one_result slot (OneEdge kind source target) g answer = refl
 
 pub told_unlimited : (slot : ℕ) (request : Request) (g : Graph) (outcome : RecordResult)
     → IsToldAt slot (record { request = request; graph = g }) outcome
     → IsToldAt slot (record { request = request; graph = unlimited g }) outcome
 told_unlimited slot request g outcome told =
     (told.0, same_answer request g standard_limits told.0 told.1, told.2 ∙ one_result slot request g told.0)
-
--- the questions of the holding that goes on, and of those to come
-abbrev here_owed : Option Graph → List Observation → List Question
-here_owed None seen = []
-here_owed (Some g) seen = map (λ request. record { request = request; graph = g }) (answered_first seen)
-
-abbrev owed : Option Graph → List Observation → List Question
-owed now seen = here_owed now seen ++ questions (holdings_of seen)
 
 -- a record that befalls the slot so: where it stands afterwards, and that the record answers what it asks
 pub record Turn (slot : ℕ) (after : ServerState) (now : Option Graph) (seen : List Observation) (told : List RecordResult) : Type 0 where
@@ -58,24 +38,6 @@ pub record Turn (slot : ℕ) (after : ServerState) (now : Option Graph) (seen : 
 -- a record that doesn't concern the slot
 passes : (slot : ℕ) (after : ServerState) (now : Option Graph) → Stands slot after now → Turn slot after now [] []
 passes slot after now stands = record { next = now; stands = stands; answers = λ more rest z. z }
-
-pub stands_committed : (slot : ℕ) (s : ServerState) (now : Option Graph) → Stands slot s now → Stands slot (after_commit s) now
-stands_committed slot s None stands = stands
-stands_committed slot s (Some g) stands = (
-  stands.0,
-  stands.1,
-  omega (arith, stands.2, length-append s.batches (s.pending ∷ [])),
-  ap (λ batches. unlimited (left_by batches s.opening)) (take-append-le stands.0.number s.batches (s.pending ∷ []) stands.2)
-      ∙ stands.3,
-)
-
--- a slot that is opened, or closed
-pub stands_else : (slot other : ℕ) (s : ServerState) (to : Option Held) (now : Option Graph) → (slot ≡ other → ⊥) → Stands slot s now
-    → Stands slot (record s { held = slice_set s.held other to }) now
-stands_else slot other s to None ne stands =
-    λ held is. stands held (ap version_in (sym (set_else s.held other slot to ne)) ∙ is)
-stands_else slot other s to (Some g) ne stands =
-    (stands.0, ap version_in (set_else s.held other slot to ne) ∙ stands.1, stands.2, stands.3)
 
 opens : (slot other : ℕ) (s : ServerState) (now : Option Graph) (t : Bool) → other == slot ≡ t → Stands slot s now
     → slice_get s.held other ≡ Some None
@@ -98,16 +60,6 @@ opens slot other s (Some g) true is stands free =
 opens slot other s now false is stands free =
     passes slot _ now (stands_else slot other s (Some (last_held s)) now (λ e. eqb-false other slot is (sym e)) stands)
 
--- what is asked in a holding is all answered where it ends
-ends : (now : Option Graph) (more : List Observation) → owed now (Released ∷ more) ≡ owed None more
-ends None more = refl
-ends (Some g) more = refl
-
-found_held : (o : Option (Option Held)) (held : Held) → version_in o ≡ Ok held → o ≡ Some (Some held)
-found_held None held is = cc
-found_held (Some None) held is = cc
-found_held (Some (Some h)) held is = cc
-
 closes : (slot other : ℕ) (s : ServerState) (now : Option Graph) (t : Bool) → other == slot ≡ t → Stands slot s now
     → (held : Held) → version_in (slice_get s.held other) ≡ Ok held
     → Turn slot (record s { held = slice_set s.held other None }) now (if t then Released ∷ [] else []) []
@@ -122,11 +74,6 @@ closes slot other s now true is stands held holds = record {
 }
 closes slot other s now false is stands held holds =
     passes slot _ now (stands_else slot other s None now (λ e. eqb-false other slot is (sym e)) stands)
-
-pub none_replicated : (n slot : ℕ) (held : Held) → version_in (slice_get (replicate n None) slot) ≡ Ok held → ⊥
-none_replicated zero slot held is = cc
-none_replicated (suc n) zero held is = cc
-none_replicated (suc n) (suc slot) held is = none_replicated n slot held is
 
 rebases : (slot : ℕ) (s : ServerState) (now : Option Graph) (r : Result Held Word) (lines : List ℕ) → Ok lines ≡ rebase_result s r
     → Turn slot (rebased s r) now (Released ∷ []) []
@@ -165,16 +112,6 @@ queries slot other request s now outcome true same stands is =
     asks slot request s now outcome (version_in (slice_get s.held slot)) refl stands
     (subst (λ k. IsReplied k request s (version_in (slice_get s.held k)) outcome) (eqb-true other slot same) is)
 queries slot other request s now outcome false same stands is = passes slot s now stands
-
--- what a slot was before a record that opened or closed it
-pub was_free : (o : Option (Option Held)) (lines line : List ℕ) → Ok lines ≡ lines_unless (open_refusal o) line → o ≡ Some None
-was_free None lines line is = cc
-was_free (Some None) lines line is = refl
-was_free (Some (Some held)) lines line is = cc
-
-was_held : (slot : ℕ) (r : Result Held Word) (lines : List ℕ) → Ok lines ≡ close_result slot r → (held : Held) × (r ≡ Ok held)
-was_held slot (Ok held) lines is = (held, refl)
-was_held slot (Err word) lines is = absurd (cc)
 
 pub turn : (slot : ℕ) (item : Result Command FeedWord) (s : ServerState) (outcome : RecordResult) (now : Option Graph)
     → Stands slot s now → IsRecordResult item s outcome

@@ -1,3 +1,4 @@
+pub mod Ends
 pub mod Texts
 pub mod Writes
 pub mod Runs

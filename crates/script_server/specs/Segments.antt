@@ -10,9 +10,9 @@ use Rattle.epoch_core.specs.Worlds.{Answer, IsStart, MachineState, World, replie
 use Rattle.script_lines.specs.declared.words.Word.{Word}
 use Rattle.store_steps.specs.Steps.{all_done}
 use Rattle.script_commands.specs.{Machine.{AreEventsOf, ShowsMachine}, Servers.{IsServer, ShowsServer}, declared.server.Server.Server}
-use Rattle.script_commands.specs.States.{Held, IsRecordResult, Progress, RecordResult, Reopens, ServerState, Setup, after_record}
+use Rattle.script_commands.specs.States.{Held, IsRecordResult, Progress, RecordResult, Reopens, ServerState, after_record}
 use Rattle.script_commands.specs.States.{answer_result, beginning, printed, version, version_in}
-use Rattle.script_server.specs.Runs.{is_write}
+use Rattle.script_server.specs.{Ends.is_write, Executions.Input}
 use Rattle.script_server.specs.declared.script.{ServeFault.ServeFault, Summary.Summary}
 
 -- The answers
@@ -116,8 +116,8 @@ AreAllSegments (s ∷ segments) rows here text there = AreSegments s segments ro
 
 -- what a run that did so many of these records has written begins with the lines of segments of the machine: those of all records
 -- that it did, and at Ok of all that there are. Where a write failed they may be those of fewer
-abbrev pub IsMachineText : Setup → List Row → ℕ → Result Summary ServeFault → List ℕ → Type 0
-IsMachineText setup rows count result text =
+abbrev pub IsMachineText : Input → ℕ → Result Summary ServeFault → List ℕ → Type 0
+IsMachineText input count result text =
     (segments : List Segment) × (given : List Row) × (left : List Row) × (lines : List ℕ) × (rest : List ℕ) × (there : Progress)
-    × AreAllSegments segments given (beginning setup) lines there × (rows ≡ given ++ left) × (text ≡ lines ++ rest)
+    × AreAllSegments segments given (beginning input.setup) lines there × (input.rows ≡ given ++ left) × (text ≡ lines ++ rest)
     × OnOk result (left ≡ []) × (is_write result ≡ false → there.records ≡ count)

@@ -1,7 +1,7 @@
 //! A script from bytes to bytes.
 
 ghost use Rattle.std.specs.Prelude.{◌≡◌, ℕ, ◌+◌, ◌<◌, ◌≤◌, false, true, is_err, length, string_bytes, Ok, IfOk, IfErr, IfSome};
-ghost use Rattle.std.specs.Prelude.{OnOk, OnErr};
+ghost use Rattle.std.specs.Prelude.{OnOk, OnErr, Some};
 ghost use Rattle.std.specs.Io.KnownBytes.{Appends};
 ghost use Rattle.feed_csv.specs.Commands.{HasValidOp};
 ghost use Rattle.feed_csv.specs.Records.{record_limit, records_of};
@@ -9,10 +9,12 @@ ghost use Rattle.script_lines.specs.Lines.{end_line, error_line};
 ghost use Rattle.script_commands.specs.States.{Setup, beginning, printed, set_up};
 ghost use Rattle.script_commands.specs.Servers.{IsServer, ShowsServer, pending_of, result_of};
 ghost use Rattle.script_server.specs.Texts.{IsText};
-ghost use Rattle.script_server.specs.Runs.{CountsRecord, ExecutesRecord, HasCause, IsFresh, IsReadyRun, IsStartup, IsTurn};
-ghost use Rattle.script_server.specs.Runs.{ShowsRun, ShowsStart, TellsStop, is_start, is_write, records_done};
+ghost use Rattle.script_server.specs.Ends.{HasCause, is_start, is_write, records_done};
+ghost use Rattle.script_server.specs.Executions.{input};
+ghost use Rattle.script_server.specs.Runs.{CompletesRecord, CountsRecord, EndsRun, IsFresh, IsReadyRun, IsStartup, IsTurn};
+ghost use Rattle.script_server.specs.Runs.{ShowsRun, ShowsStart, TellsStop, fed};
 ghost use Rattle.script_server.specs.Segments.{IsMachineText};
-ghost use Rattle.script_server.specs.Writes.{AppendsPart, AppendsSome, held};
+ghost use Rattle.script_server.specs.Writes.{AppendsPart, AppendsSome, held, output_of};
 ghost use Rattle.script_server.specs.declared.script.ServeFault.TheVariants.{Memory, Write};
 
 use crate::output;
@@ -80,10 +82,10 @@ pub fn serve<A: AllocGlobal + Threads + Wait + Sync, R: Read + Drop, W: Write>(
 ) -> Result<Summary, ServeFault>
     ensures text { IfSome (R.remaining reader) (λ bytes.
         (done : ℕ) × AppendsSome (W.contents writer.old) (W.contents writer.new)
-        (IsText (set_up config) (records_of bytes) done result)) }
+        (IsText (input (set_up config) (records_of bytes)) done result)) }
     ensures machine { IfSome (R.remaining reader) (λ bytes.
         (done : ℕ) × AppendsSome (W.contents writer.old) (W.contents writer.new)
-        (IsMachineText (set_up config) (records_of bytes) done result)) }
+        (IsMachineText (input (set_up config) (records_of bytes)) done result)) }
 {
     let mut feed = Feed::over(rt.alloc(), reader);
     let mut sink = Sink::over(writer);
@@ -92,12 +94,12 @@ pub fn serve<A: AllocGlobal + Threads + Wait + Sync, R: Read + Drop, W: Write>(
 
 /// [`serve`] over a feed that gave nothing yet and a sink that hasn't failed, which show afterwards why the run ended.
 ///
-/// `cause` says when each end comes. `Ok` where the feed met the end of the input, csv's reader never failed and no call
-/// of the writer did; fewer than 1,000,000 records were read then. `Read` where csv's reader failed or the limit on
-/// records was reached, `Write` where a call of the writer failed. `Memory` never at the limit; `Start` while the feed
-/// gives records. `flushed` says that each text but one cut off by the writer was flushed. `unread`: where no store was
-/// opened and nothing flushed, as at the first opening, nothing was read. `machine`: for each store that was opened, what was
-/// done over it is a run of the machine of interleavings, whose replies are what the slots print (`specs/Segments.antt`).
+/// `cause` says when each end comes. `Ok` where the feed met the end of the input and csv's reader never failed; fewer than
+/// 1,000,000 records were read then. `Read` where csv's reader failed or the limit on records was reached. `Memory` never at
+/// the limit; `Start` while the feed gives records. `failed`: `Write` exactly where a call of the writer failed. `flushed`
+/// says that each text but one cut off by the writer was flushed. `unread`: where no store was opened and nothing flushed, as
+/// at the first opening, nothing was read. `machine`: for each store that was opened, what was done over it is a run of the
+/// machine of interleavings, whose replies are what the slots print (`specs/Segments.antt`).
 ///
 /// ```
 /// let mut feed = Feed::over(rt.alloc(), script);
@@ -113,13 +115,14 @@ pub fn run_script<A: AllocGlobal + Threads + Wait + Sync, R: Read, W: Write>(
     requires feed { IsFresh feed.old }
     requires sink { sink.old.failed ≡ false }
     ensures same_writer { sink.new.writer.ghost_name ≡ sink.old.writer.ghost_name }
-    ensures cause { HasCause feed.new sink.new.failed result }
+    ensures failed { sink.new.failed ≡ is_write result }
+    ensures cause { HasCause feed.new result }
     ensures flushed { is_start result ≡ false → sink.new.failed ≡ false → sink.new.flushed ≡ true }
     ensures unread { is_start result ≡ true → sink.new.flushed ≡ false → feed.new ≡ feed.old }
     ensures text { IfSome feed.old.left (λ rows. AppendsSome (held W.contents sink.old) (held W.contents sink.new)
-        (IsText (set_up config) rows (records_done feed.new) result)) }
+        (IsText (input (set_up config) rows) (records_done feed.new) result)) }
     ensures machine { IfSome feed.old.left (λ rows. AppendsSome (held W.contents sink.old) (held W.contents sink.new)
-        (IsMachineText (set_up config) rows (records_done feed.new) result)) }
+        (IsMachineText (input (set_up config) rows) (records_done feed.new) result)) }
 {
     match start(rt, config, sink) {
         Ok(mut run) => turn_all(rt, feed, &mut run, sink),
@@ -138,7 +141,7 @@ fn start<A: AllocGlobal + Wait, W: Write>(
     ensures failed { sink.new.failed ≡ is_write result }
     ensures flushed { OnErr result (is_start result ≡ false → sink.new.failed ≡ false → sink.new.flushed ≡ true) }
     ensures unflushed { is_start result ≡ true → sink.new.flushed ≡ sink.old.flushed }
-    ensures starts { IsStartup (set_up config) (held W.contents sink.old) result (held W.contents sink.new) }
+    ensures starts { IsStartup (set_up config) result (output_of W.contents sink.old sink.new) }
     ensures machine { IfOk result (λ run. ShowsStart run.server) }
 {
     begun(rt.alloc(), Server::begin(rt, config), sink)
@@ -158,7 +161,7 @@ fn begun<W: Write>(
     ensures flushed { OnErr result (is_start result ≡ false → sink.new.failed ≡ false → sink.new.flushed ≡ true) }
     ensures unflushed { is_start result ≡ true → sink.new.flushed ≡ sink.old.flushed }
     ensures starts { (setup : Setup) → IfOk server (λ server. ShowsServer server (beginning setup).state)
-        → IsStartup setup (held W.contents sink.old) result (held W.contents sink.new) }
+        → IsStartup setup result (output_of W.contents sink.old sink.new) }
     ensures over { IfOk result (λ run. server ≡ Ok run.server) }
     ensures told { IfErr server (λ stop. TellsStop stop result) }
 {
@@ -204,8 +207,10 @@ impl Run {
         ensures same_writer { sink.new.writer.ghost_name ≡ sink.old.writer.ghost_name }
         ensures failed { sink.new.failed ≡ is_write result }
         ensures flushed { OnErr result (sink.new.failed ≡ false → sink.new.flushed ≡ true) }
-        ensures does { ExecutesRecord (Ok command) self.old (held W.contents sink.old) result self.new
-            (held W.contents sink.new) }
+        ensures completes { OnOk result (CompletesRecord (Ok command) self.old self.new
+            (output_of W.contents sink.old sink.new)) }
+        ensures ends { IfErr result (λ fault. EndsRun (Some (Ok command)) self.old fault
+            (output_of W.contents sink.old sink.new)) }
     {
         match self.server.obey(rt, command, &mut self.lines) {
             Ok(response) => match self.print(response, sink) {
@@ -303,14 +308,16 @@ fn turn_all<P: Threads + Wait + Sync, R: Read, W: Write>(
     requires ready { IsReadyRun feed.old run.old }
     requires working { sink.old.failed ≡ false }
     ensures same_writer { sink.new.writer.ghost_name ≡ sink.old.writer.ghost_name }
-    ensures cause { HasCause feed.new sink.new.failed result }
+    ensures failed { sink.new.failed ≡ is_write result }
+    ensures cause { HasCause feed.new result }
     ensures flushed { sink.new.failed ≡ false → sink.new.flushed ≡ true }
     ensures text { IfSome feed.old.left (λ rows. (setup : Setup) → ShowsRun run.old (beginning setup)
-        → AppendsSome (held W.contents sink.old) (held W.contents sink.new) (IsText setup rows (records_done feed.new) result)) }
+        → AppendsSome (held W.contents sink.old) (held W.contents sink.new)
+        (IsText (input setup rows) (records_done feed.new) result)) }
     ensures machine { IfSome feed.old.left (λ rows. (setup : Setup) → ShowsRun run.old (beginning setup)
         → ShowsStart run.old.server
         → AppendsSome (held W.contents sink.old) (held W.contents sink.new)
-        (IsMachineText setup rows (records_done feed.new) result)) }
+        (IsMachineText (input setup rows) (records_done feed.new) result)) }
 {
     'records: loop {
         match turn(rt, feed, run, sink) {
@@ -333,7 +340,8 @@ fn turn<P: Threads + Wait + Sync, R: Read, W: Write>(
     ensures same_writer { sink.new.writer.ghost_name ≡ sink.old.writer.ghost_name }
     ensures failed { sink.new.failed ≡ is_write result }
     ensures flushed { OnErr result (sink.new.failed ≡ false → sink.new.flushed ≡ true) }
-    ensures turns { IsTurn feed.old run.old (held W.contents sink.old) result feed.new run.new (held W.contents sink.new) }
+    ensures turns { IsTurn (fed feed.old run.old) result (fed feed.new run.new)
+        (output_of W.contents sink.old sink.new) }
 {
     match feed.next() {
         Ok(Some(command)) => {

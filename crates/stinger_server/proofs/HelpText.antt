@@ -1,7 +1,7 @@
 -- A text that is told in two parts, of which the second is its end.
 use Rattle.std.{proofs.Common.{◌≡◌, ◌++◌, ℕ, List, [], inl, inr, refl}, specs.Prelude.Option}
+use Rattle.graph_types.proofs.Prefixes.{appends_nothing}
 use Rattle.stinger_server.specs.Program.{EndsWith, IsToldFault}
-use Rattle.script_server.proofs.Writing.{appends_nothing}
 
 -- a text of two parts ends with the second
 pub told_ending : (front end : List ℕ) (told status : ℕ) (old new : Option (List ℕ))

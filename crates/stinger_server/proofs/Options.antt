@@ -8,7 +8,9 @@ use Rattle.clap.specs.{Matches.ReadsOne, Matches.first_value, Matches.one_text, 
 use Rattle.clap.specs.declared.{builder.value_parser.ValueParser.TheVariants.Unsigned, parser.matches.Found.Found}
 use Rattle.clap.specs.Walk.{Row, Text, one_of, rows_of}
 use Rattle.clap.proofs.{WalkLemmas.{first_value-rows, one_text-rows}, ValueTestLemmas.{Accepts-accepts, accepts-Accepts}}
+use Rattle.graph_types.proofs.Cases.{unsome}
 use Rattle.stream_store.specs.{Configs.{AreSizesWithin, ConfigView, standard_config}, declared.config.BadConfig.BadConfig}
+use Rattle.stream_store.proofs.Configured.{all_within}
 use Rattle.stinger_server.specs.Program.{is_quiet, number_within, sizes_given, sizes_of}
 
 -- a number, where it lies within limits
@@ -87,17 +89,6 @@ no_seats None blocks = refl
 no_seats (Some w) None = refl
 no_seats (Some w) (Some b) = refl
 
-all_within : (workers blocks seats : ℕ) → (1 ≤ workers) × (workers ≤ 8) → (16 ≤ blocks) × (blocks ≤ 65536)
-    → (1 ≤ seats) × (seats ≤ 16) → AreSizesWithin workers blocks seats
-all_within workers blocks seats w b s = record {
-  workers_some = w.0;
-  workers_few = w.1;
-  blocks_some = b.0;
-  blocks_few = b.1;
-  seats_some = s.0;
-  seats_few = s.1;
-}
-
 -- a configuration is made of just the numbers within their limits
 pub sizes_made : (workers blocks seats : ℕ) (made : Result ConfigView BadConfig)
     → MatchResult made
@@ -141,9 +132,6 @@ pub with_all : (rows : List Row) (workers blocks seats : Option ℕ) → number_
     → number_within 16 65536 (one_of (codes "blocks") rows) ≡ blocks
     → number_within 1 16 (one_of (codes "seats") rows) ≡ seats → sizes_of rows ≡ sized workers blocks seats
 with_all rows workers blocks seats w b s = rw (w, b, s) refl
-
-unsome : {X : Type 0} (x y : X) → Some x ≡ Some y → x ≡ y
-unsome x y e = cc
 
 -- what is read of the options of the subcommand that was met
 pub options_met : {X : Type 0} (read : List Row → Option X) (met : Option (Text × List Row)) (rows : List Row)

@@ -1,4 +1,1 @@
-mod Agreeing
-mod Places
-mod Pushed
 mod Right

@@ -9,9 +9,8 @@ ghost use Rattle.graph_version.specs.BatchLending.{batches_left};
 use crate::reports::DriveWord;
 use graph_model::plain_apply;
 use graph_types::{Batch, Content, List};
-use graph_version::Version;
+use graph_version::{BatchIter, Version};
 use std::alloc::Global;
-use version_pages::BatchIter;
 
 /// The content without names and edges.
 #[tactic(auto, using(graph_types::proofs::Empty::empty_content_in))]

@@ -83,7 +83,7 @@ fn push(batch: &mut Batch, op: NamedOp) -> Result<(), AllocError>
 }
 
 /// The batch of this number.
-#[tactic(auto, using(crate::proofs::Places::places_more))]
+#[tactic(auto, using(graph_types::proofs::Joined::places_more))]
 pub(crate) fn batch_of(alloc: Global, number: u32) -> Result<Batch, AllocError>
     requires { number ≤ 64 }
     ensures { IfOk result (λ batch. batch ≡ load.batch_at number) }

@@ -5,7 +5,8 @@ use Rattle.std.specs.declared.option.Option.{Option, TheVariants.{None, Some}}
 use Rattle.edge_block.specs.Slots.{BlockView}
 use Rattle.graph_version.specs.Rows.{row_of, blocks_of, numbers_of}
 use Rattle.block_reclamation.specs.{Status.is_among, Status.is_free, Status.is_at, declared.status.BlockStatus.BlockStatus}
-use Rattle.store_steps.{specs.Desks.birth_of, specs.Desks.birth_at, proofs.OneNumber.number_after}
+use Rattle.block_pool.proofs.OneNumber.{number_after}
+use Rattle.store_steps.specs.Desks.{birth_of, birth_at}
 
 -- One number
 

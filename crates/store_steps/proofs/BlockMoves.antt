@@ -2,13 +2,8 @@
 use Rattle.std.proofs.{Common.{◌≡◌, ℕ, ◌==◌, true, false, List, [], ◌∷◌, set, refl, sym, ap, ◌∙◌}, lemmas.Bool.{eq-eqb, or_parts, true≢false}}
 use Rattle.std.specs.{List.list_all, Prelude.{slice_get, Bool}}
 use Rattle.block_reclamation.specs.{declared.status.BlockStatus.BlockStatus, Status.is_at, Status.is_among}
-use Rattle.epoch_core.{specs.Blocks.all_differ, proofs.Lists.{set_else, and_left, and_right}}
-use Rattle.store_steps.proofs.NumberLists.{differ_head, differ_tail}
-
--- numbers whose statuses pass a test, and that are each there once: they may be moved one after another
-pub record AreMovable (test : BlockStatus → Bool) (ns : List ℕ) (pool : List BlockStatus) : Type 0 where
-  pub pass : list_all (λ n. is_at test (slice_get pool n)) ns ≡ true
-  pub apart : all_differ ns ≡ true
+use Rattle.graph_types.proofs.{Cases.{and_left, and_right}, ListPlaces.set_else}
+use Rattle.epoch_core.proofs.BlockSteps.{differ_head, differ_tail, AreMovable}
 
 -- numbers that pass and are different do so yet, once another one was moved
 still_pass : (test : BlockStatus → Bool) (n : ℕ) (ns : List ℕ) (s : BlockStatus) (pool : List BlockStatus)

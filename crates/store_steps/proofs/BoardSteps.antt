@@ -1,13 +1,15 @@
 -- The board's calls are the machine's steps.
-use Rattle.std.proofs.Common.{◌≡◌, ℕ, ◌<◌, ◌≤◌, List, length, get_or, true, sym, ap, ◌∙◌, arith}
+use Rattle.std.proofs.Common.{◌≡◌, ℕ, ◌<◌, ◌≤◌, List, length, true, sym, ap, ◌∙◌, arith}
 use Rattle.std.proofs.lemmas.Bool.{cases_eq}
-use Rattle.std.proofs.lemmas.List.{get_or_default, get_or-set_same, get_or-set_other, length-map, length-replicate, same_lists}
-use Rattle.std.{proofs.lemmas.Grind.common_steps, specs.Prelude.{None, Option, Some, option_map}}
+use Rattle.std.proofs.lemmas.List.{get_or-set_same, get_or-set_other, length-map, length-replicate}
+use Rattle.std.{proofs.lemmas.Grind.common_steps, specs.Prelude.{Option, Some, option_map}}
 use Rattle.block_reclamation.specs.{declared.copies.{Pin.Pin, PinCopy.PinCopy, TheConstants.SEATS}, Board.{BoardState, IsBoard}}
 use Rattle.block_reclamation.specs.{Board.with_pin, Copies.{pin_at, unsettled, settled, copy_of}}
+use Rattle.graph_types.proofs.ListPlaces.{same_elements}
 use Rattle.epoch_core.specs.{declared.session_states.SessionState.SessionState, Machine.to_pin, Machine.to_settle}
-use Rattle.epoch_core.specs.Worlds.{World, session_of, seat_pin, seat_pins, pin_in, held_in, last_number, present_copy}
+use Rattle.epoch_core.specs.Worlds.{World, session_of, seat_pin, seat_pins, held_in, last_number, present_copy}
 use Rattle.epoch_core.proofs.Moves.{Moved, moved, floored, seated_at, session_after, session_else}
+use Rattle.epoch_core.proofs.SessionSteps.{pin_next, pin_settled, settle_next}
 use Rattle.store_steps.specs.{Desks.DeskView, Shown.ShowsWorld}
 use Rattle.store_steps.specs.Boards.{RaisesAsMachine, ShowsBoard, PinsAsMachine, SettlesAsMachine, UnpinsAsMachine}
 
@@ -32,9 +34,6 @@ moves : (b : BoardState) (w : World) (s : ℕ) (change : SessionState
 moves b w s change after pin board low shows m says =
     grind (arith, common_steps, cases_eq, session_after, get_or-set_same, session_else, get_or-set_other, shows_sessions)
 
-pin_next : (floor : ℕ) (session next : SessionState) → to_pin floor session ≡ Some next → seat_pin next ≡ Some (unsettled floor)
-pin_next floor session next is = grind (arith, common_steps)
-
 pub pins_as_machine : PinsAsMachine
 pins_as_machine b w s board low shows after is =
     moves b w s (to_pin w.floor) after (Some (unsettled b.floor)) board low shows (moved w s (to_pin w.floor) after is)
@@ -42,16 +41,6 @@ pins_as_machine b w s board low shows after is =
 
 pub unpins_as_machine : UnpinsAsMachine
 unpins_as_machine b w s board low shows after is = grind (arith, common_steps)
-
--- what a settle that is done leaves
-settle_next : (session next : SessionState) (n : ℕ) → held_in session ≡ Some n → to_settle session ≡ Some next
-    → seat_pin next ≡ Some (record { number = n; is_settled = true })
-settle_next session next n held is = grind (arith, common_steps)
-
--- what the board makes of the pin of a session that holds n
-pin_settled : (session : SessionState) (n : ℕ) → held_in session ≡ Some n → ((pin : ℕ) → pin_in session ≡ Some pin → pin ≤ n)
-    → option_map (settled n) (seat_pin session) ≡ Some (record { number = n; is_settled = true })
-pin_settled session n held below = grind (arith, common_steps)
 
 pub settles_as_machine : SettlesAsMachine
 settles_as_machine b w s n board low shows held below after is =
@@ -61,12 +50,6 @@ settles_as_machine b w s n board low shows held below after is =
     (λ session next at changed. settle_next session next n (ap held_in (sym at) ∙ held) changed ∙ sym up)
 
 -- The copy of the pins: the board's is the machine's
-
--- lists of one length with the same at each place are the same
-pub same_elements : {A : Type 0} (xs ys : List (Option A)) → length xs ≡ length ys
-    → ((s : ℕ) → get_or xs s None ≡ get_or ys s None) → xs ≡ ys
-same_elements xs ys long same = same_lists xs ys long
-    (λ k d h. get_or_default xs k d None h ∙ same k ∙ get_or_default ys k None d (omega (arith, h, long)))
 
 -- the board's pins are the machine's
 pins_same : (b : BoardState) (w : World) → IsBoard b → length w.sessions ≤ SEATS → ShowsBoard b w → seat_pins w.sessions ≡ b.pins

@@ -1,21 +1,17 @@
 -- Lists with some elements changed: what stands at a place afterwards.
-use Rattle.std.proofs.Common.{◌≡◌, ℕ, zero, suc, ◌==◌, Bool, true, false, ◌||◌, List, [], ◌∷◌, length, get_or, set, refl, sym, ap}
-use Rattle.std.proofs.{Common.subst, Common.◌∙◌, Common.arith, lemmas.Bool.eqb-true, lemmas.List.length-set}
+use Rattle.std.proofs.Common.{◌≡◌, ℕ, zero, suc, ◌==◌, Bool, true, false, List, [], ◌∷◌, get_or, set, refl, sym, ap}
+use Rattle.std.proofs.{Common.{subst, ◌∙◌, arith}, lemmas.Bool.eqb-true}
 use Rattle.std.{proofs.lemmas.Grind.common_steps, specs.Option.option_map, specs.Prelude.slice_get, specs.Prelude.if◌then◌else◌}
-use Rattle.std.specs.declared.option.Option.{Option, TheVariants.None, TheVariants.Some}
+use Rattle.std.specs.declared.option.Option.{Option, TheVariants.None}
 use Rattle.block_reclamation.specs.{Status.is_among, declared.status.BlockStatus.{BlockStatus, TheVariants.Granted}}
+use Rattle.graph_types.proofs.Numbers.{apart_test, suc_test}
+use Rattle.graph_types.proofs.ListPlaces.{changed_if, changed_twice, changed_once}
 use Rattle.block_pool.specs.Pools.{marked, changed_numbers}
 use Rattle.epoch_core.specs.Blocks.{all_differ}
-use Rattle.store_steps.proofs.NumberLists.{apart_test, differ_head, differ_tail}
-
-suc_test : (m n : ℕ) → (suc m == suc n) ≡ (m == n)
-suc_test m n = grind (arith, common_steps)
+use Rattle.epoch_core.proofs.BlockSteps.{differ_tail, differ_head}
 
 none_if : {A : Type 0} (b : Bool) (o : Option A) → o ≡ None → o ≡ (if b then o else o)
 none_if b o e = grind (arith, common_steps)
-
-abbrev changed_if : {A : Type 0} → (A → A) → Bool → Option A → Option A
-changed_if f b o = if b then option_map f o else o
 
 -- one place is set to what a function makes of what stood there
 set_at : {A : Type 0} (f : A → A) (xs : List A) (m n : ℕ) (d : A)
@@ -28,21 +24,13 @@ set_at f (y ∷ ys) (suc m) zero d = let apart : (suc m == 0) ≡ false =
     apart_test (suc m) 0 (λ e. absurd (omega arith)) in rw apart refl
 set_at f (y ∷ ys) (suc m) (suc n) d = set_at f ys m n d ∙ ap (λ t. changed_if f t (slice_get ys n)) (sym (suc_test m n))
 
-twice : {A : Type 0} (a b : Bool) (x : A) (o : Option A) → changed_if (λ _. x) b (changed_if (λ _. x) a o)
-    ≡ changed_if (λ _. x) (a || b) o
-twice a b x o = grind (arith, common_steps)
-
 -- what stands at a place, once some are marked
 pub marked_at : {A : Type 0} (ns : List ℕ) (x : A) (xs : List A) (n : ℕ)
     → slice_get (marked ns x xs) n ≡ (if is_among n ns then option_map (λ _. x) (slice_get xs n) else slice_get xs n)
 marked_at [] x xs n = refl
 marked_at (m ∷ ns) x xs n =
     marked_at ns x (set xs m x) n ∙ ap (changed_if (λ _. x) (is_among n ns)) (set_at (λ _. x) xs m n x)
-    ∙ twice (m == n) (is_among n ns) x (slice_get xs n)
-
-once : {A : Type 0} (f : A → A) (a b : Bool) (o : Option A) → (a ≡ true → b ≡ false)
-    → changed_if f b (changed_if f a o) ≡ changed_if f (a || b) o
-once f a b o apart = grind (arith, common_steps)
+    ∙ changed_twice (m == n) (is_among n ns) x (slice_get xs n)
 
 -- what stands at a number, once different numbers' statuses are changed
 pub changed_at : (f : BlockStatus → BlockStatus) (ns : List ℕ) (pool : List BlockStatus) (n : ℕ) → all_differ ns ≡ true
@@ -51,20 +39,5 @@ changed_at f [] pool n apart = refl
 changed_at f (m ∷ ns) pool n apart =
     changed_at f ns (set pool m (f (get_or pool m Granted))) n (differ_tail m ns apart)
     ∙ ap (changed_if f (is_among n ns)) (set_at f pool m n Granted)
-    ∙ once f (m == n) (is_among n ns) (slice_get pool n) (λ e. subst (λ x. is_among x ns
+    ∙ changed_once f (m == n) (is_among n ns) (slice_get pool n) (λ e. subst (λ x. is_among x ns
     ≡ false) (eqb-true m n e) (differ_head m ns apart))
-
-pub length-changed : (f : BlockStatus → BlockStatus) (ns : List ℕ) (pool : List BlockStatus) → length (changed_numbers f ns pool) ≡ length pool
-length-changed f [] pool = refl
-length-changed f (m ∷ ns) pool = length-changed f ns (set pool m (f (get_or pool m Granted)))
-    ∙ length-set pool m (f (get_or pool m Granted))
-
--- lists with the same at each place are the same
-pub same_list : {A : Type 0} (xs ys : List A) → ((n : ℕ) → slice_get xs n ≡ slice_get ys n) → xs ≡ ys
-same_list [] [] same = refl
-same_list [] (y ∷ ys) same = let no = same 0 in cc
-same_list (x ∷ xs) [] same = let no = same 0 in cc
-same_list (x ∷ xs) (y ∷ ys) same =
-    let heads : Some x ≡ Some y = same 0 in
-    let rest : xs ≡ ys = same_list xs ys (λ n. same (suc n)) in
-    cc

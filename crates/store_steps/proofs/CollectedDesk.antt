@@ -3,29 +3,26 @@ use Rattle.std.proofs.Common.{◌≡◌, ℕ, ◌+◌, ◌<◌, ◌≤◌, ◌==
 use Rattle.std.proofs.{Common.{sym, ap, ap₂, subst, ◌∙◌, arith}, lemmas.{Grind.common_steps, Option.slice_get-map}}
 use Rattle.std.{proofs.lemmas.{List.{append-nil, length-map}, Bool.{eq-eqb, or_right}}, specs.declared.option.Option.Option}
 use Rattle.std.specs.{declared.option.Option.TheVariants.Some, Prelude.{slice_get, if◌then◌else◌}, Option.option_map}
-use Rattle.edge_block.{specs.Slots.BlockView, proofs.Counts.count_more}
+use Rattle.edge_block.specs.Slots.{BlockView}
 use Rattle.graph_version.specs.{Rows.row_of, Rows.numbers_of, Versions.VersionView}
 use Rattle.block_reclamation.specs.Status.{is_among, is_retired, is_reclaimable, is_used, is_at, recycled}
 use Rattle.block_reclamation.specs.declared.{copies.PinCopy.PinCopy, status.BlockStatus.{BlockStatus, TheVariants.Free}}
+use Rattle.block_reclamation.proofs.Recycling.{one_recycled, born_recycled}
+use Rattle.graph_types.proofs.{Numbers.apart_test, Sums.count_more}
 use Rattle.store_steps.specs.Journal.{Collected, Ledger, opened_ledger, is_legal, replay}
 use Rattle.store_steps.specs.Desks.{DeskView, IsDesk, IsCollected, birth_at, births_in, collections}
-use Rattle.store_steps.proofs.{NumberLists.apart_test, Births.{birth_in, birth_from, row_listed}, Accepting.replay_more}
-
--- one status is freed, or retired still, or was never retired
-past_one : (copy : PinCopy) (x : BlockStatus) → cond (is_reclaimable copy x) 1 0 + cond (is_retired (recycled copy x)) 1 0
-    ≡ cond (is_retired x) 1 0
-past_one copy x = grind (arith, common_steps)
+use Rattle.store_steps.proofs.{Births.{birth_in, birth_from, row_listed}, Accepting.replay_more}
 
 -- what is freed and what is left are the retired blocks
-pub past_and_left : (copy : PinCopy) (xs : List BlockStatus) → count_by (is_reclaimable copy) xs + count_by is_retired (map (recycled copy) xs)
+pub recycled_and_left : (copy : PinCopy) (xs : List BlockStatus) → count_by (is_reclaimable copy) xs + count_by is_retired (map (recycled copy) xs)
     ≡ count_by is_retired xs
-past_and_left copy [] = omega arith
-past_and_left copy (x ∷ xs) =
+recycled_and_left copy [] = omega arith
+recycled_and_left copy (x ∷ xs) =
     let a = count_more (is_reclaimable copy) x xs in
     let b = count_more is_retired (recycled copy x) (map (recycled copy) xs) in
     let c = count_more is_retired x xs in
-    let rest = past_and_left copy xs in
-    let one = past_one copy x in
+    let rest = recycled_and_left copy xs in
+    let one = one_recycled copy x in
     omega arith
 
 same_if_none : (copy : PinCopy) (xs : List BlockStatus) → count_by (is_reclaimable copy) xs ≡ 0 → map (recycled copy) xs ≡ xs
@@ -37,9 +34,6 @@ same_if_none copy (x ∷ xs) none =
     let stays : recycled copy x ≡ x = elim (is_reclaimable copy x) as (λ t. cond {A = ℕ} t 1 0 ≡ 0
     → (if t then Free else x) ≡ x) [ true ↦ λ e. absurd (omega arith) | false ↦ λ e. refl ] here in
     cc
-
-born_recycled : (copy : PinCopy) (o : Option BlockStatus) → is_at is_used (option_map (recycled copy) o) ≡ is_at is_used o
-born_recycled copy o = grind (arith, common_steps)
 
 legal_if : (l : Ledger) (copy : PinCopy) (count : ℕ) → copy.last ≤ length l.batches → 0 < count → count ≡ count_by (is_reclaimable copy) l.pool
     → is_legal l (Collected copy count) ≡ true

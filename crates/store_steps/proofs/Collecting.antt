@@ -2,31 +2,17 @@
 use Rattle.std.proofs.Common.{◌≡◌, ◌≢◌, ℕ, zero, suc, ◌+◌, ◌<◌, ◌==◌, Bool, true, false, ◌||◌, List, [], ◌∷◌, map, set, refl, sym}
 use Rattle.std.proofs.{Common.{ap, ◌∙◌, arith}, lemmas.{Grind.common_steps, Bool.{eq-eqb, true≢false, or_right}}}
 use Rattle.std.{proofs.lemmas.Option.slice_get-map, specs.{Prelude.{slice_get, if◌then◌else◌, filter}, List.enumerate_from}}
-use Rattle.std.specs.{Option.{option_map, option_and_then, is_some}, declared.option.Option.{Option, TheVariants.{None, Some}}}
+use Rattle.std.specs.{Option.option_map, declared.option.Option.TheVariants.Some}
 use Rattle.block_pool.{proofs.Grants.length-marked, specs.Pools.marked}
 use Rattle.block_reclamation.specs.{Status.is_among, Status.is_reclaimable, Status.is_at, declared.copies.PinCopy.PinCopy}
 use Rattle.block_reclamation.specs.declared.status.BlockStatus.{BlockStatus, TheVariants.Free}
-use Rattle.epoch_core.specs.{Blocks.put_if_some, Blocks.all_differ, Blocks.reclaimed, declared.events.Event.TheVariants.Recycle}
-use Rattle.epoch_core.{specs.Worlds.World, specs.Machine.step, specs.Machine.with_status, proofs.Lists.set_else}
-use Rattle.store_steps.specs.{Desks.{DeskView, IsCollected}, Shown.ShowsWorld, Steps.{all_done, past_numbers, recycling, TakesAt}}
-use Rattle.store_steps.proofs.NumberLists.{apart_test, differ_head, differ_tail}
-use Rattle.store_steps.proofs.{Filling.step_then, ChangedLists.marked_at, ChangedLists.same_list}
-
--- whether the machine recycles a block by the copy
-abbrev goes : PinCopy → Option BlockStatus → Bool
-goes copy o = is_some (option_and_then (reclaimed copy) o)
-
--- what goes is free then
-goes_free : (copy : PinCopy) (o : Option BlockStatus) → goes copy o ≡ true → option_and_then (reclaimed copy) o ≡ Some Free
-goes_free copy o is = grind (arith, common_steps)
-
-recycle_done : (w : World) (n : ℕ) → goes w.copy (slice_get w.status n) ≡ true
-    → step w (Recycle n) ≡ Some (with_status w (set w.status n Free))
-recycle_done w n is = ap (λ o. option_map (with_status w) (put_if_some w.status n o)) (goes_free w.copy (slice_get w.status n) is)
-
--- what doesn't go isn't recycled
-recycle_skipped : (w : World) (n : ℕ) → goes w.copy (slice_get w.status n) ≡ false → step w (Recycle n) ≡ None
-recycle_skipped w n is = grind (arith, common_steps)
+use Rattle.block_reclamation.proofs.Recycling.{in_cond}
+use Rattle.graph_types.proofs.{ListPlaces.{set_else, same_list}, Numbers.apart_test}
+use Rattle.epoch_core.specs.{Blocks.all_differ, declared.events.Event.TheVariants.Recycle}
+use Rattle.epoch_core.specs.{Worlds.World, Machine.with_status}
+use Rattle.epoch_core.proofs.BlockSteps.{differ_head, differ_tail, goes, recycle_done, goes_is, recycle_skipped, none_goes}
+use Rattle.store_steps.specs.{Desks.{DeskView, IsCollected}, Shown.ShowsWorld, Steps.{all_done, reclaimable_numbers, recycling, SimulatesAt}}
+use Rattle.store_steps.proofs.{Filling.step_then, ChangedLists.marked_at}
 
 -- Recycle of different blocks that go
 recycles : (ns : List ℕ) (w : World) → ((n : ℕ) → is_among n ns ≡ true → goes w.copy (slice_get w.status n) ≡ true)
@@ -43,13 +29,8 @@ recycles (n ∷ ns) w go apart =
 
 -- The numbers that the copy frees
 
-abbrev past_from : PinCopy → ℕ → List BlockStatus → List ℕ
-past_from copy k pool = map (λ p. p.0) (filter (λ p. is_reclaimable copy p.1) (enumerate_from k pool))
-
-in_cond : (t : Bool) (k n : ℕ) (rest : List (ℕ × BlockStatus)) (s : BlockStatus)
-    → is_among n (map (λ p. p.0) (if t then (k, s) ∷ rest else rest))
-    ≡ (if t then (k == n) || is_among n (map (λ p. p.0) rest) else is_among n (map (λ p. p.0) rest))
-in_cond t k n rest s = grind (arith, common_steps)
+abbrev reclaimable_from : PinCopy → ℕ → List BlockStatus → List ℕ
+reclaimable_from copy k pool = map (λ p. p.0) (filter (λ p. is_reclaimable copy p.1) (enumerate_from k pool))
 
 skip : (t u r : Bool) → u ≡ false → (if t then u || r else r) ≡ r
 skip t u r e = grind (arith, common_steps)
@@ -57,69 +38,60 @@ skip t u r e = grind (arith, common_steps)
 hit : (t u r : Bool) → u ≡ true → r ≡ false → (if t then u || r else r) ≡ t
 hit t u r e f = grind (arith, common_steps)
 
-past_below : (copy : PinCopy) (k n : ℕ) (pool : List BlockStatus) → n < k → is_among n (past_from copy k pool) ≡ false
-past_below copy k n [] h = refl
-past_below copy k n (s ∷ pool) h =
+reclaimable_below : (copy : PinCopy) (k n : ℕ) (pool : List BlockStatus) → n < k → is_among n (reclaimable_from copy k pool) ≡ false
+reclaimable_below copy k n [] h = refl
+reclaimable_below copy k n (s ∷ pool) h =
     in_cond (is_reclaimable copy s) k n (filter (λ p. is_reclaimable copy p.1) (enumerate_from (k + 1) pool)) s
     ∙ skip (is_reclaimable copy s) (k == n) _ (apart_test k n (λ e. absurd (omega arith)))
-    ∙ past_below copy (k + 1) n pool (omega arith)
+    ∙ reclaimable_below copy (k + 1) n pool (omega arith)
 
-past_at : (copy : PinCopy) (k n j : ℕ) (pool : List BlockStatus) → n ≡ k + j
-    → is_among n (past_from copy k pool) ≡ is_at (is_reclaimable copy) (slice_get pool j)
-past_at copy k n j [] e = refl
-past_at copy k n zero (s ∷ pool) e =
+reclaimable_at : (copy : PinCopy) (k n j : ℕ) (pool : List BlockStatus) → n ≡ k + j
+    → is_among n (reclaimable_from copy k pool) ≡ is_at (is_reclaimable copy) (slice_get pool j)
+reclaimable_at copy k n j [] e = refl
+reclaimable_at copy k n zero (s ∷ pool) e =
     in_cond (is_reclaimable copy s) k n (filter (λ p. is_reclaimable copy p.1) (enumerate_from (k + 1) pool)) s
-    ∙ hit (is_reclaimable copy s) (k == n) _ (eq-eqb k n (omega arith)) (past_below copy (k + 1) n pool (omega arith))
-past_at copy k n (suc j) (s ∷ pool) e =
+    ∙ hit (is_reclaimable copy s) (k == n) _ (eq-eqb k n (omega arith)) (reclaimable_below copy (k + 1) n pool (omega arith))
+reclaimable_at copy k n (suc j) (s ∷ pool) e =
     in_cond (is_reclaimable copy s) k n (filter (λ p. is_reclaimable copy p.1) (enumerate_from (k + 1) pool)) s
     ∙ skip (is_reclaimable copy s) (k == n) _ (apart_test k n (λ q. absurd (omega arith)))
-    ∙ past_at copy (k + 1) n j pool (omega arith)
+    ∙ reclaimable_at copy (k + 1) n j pool (omega arith)
 
-past_apart : (copy : PinCopy) (k : ℕ) (pool : List BlockStatus) → all_differ (past_from copy k pool) ≡ true
-past_apart copy k [] = refl
-past_apart copy k (s ∷ pool) =
+reclaimable_apart : (copy : PinCopy) (k : ℕ) (pool : List BlockStatus) → all_differ (reclaimable_from copy k pool) ≡ true
+reclaimable_apart copy k [] = refl
+reclaimable_apart copy k (s ∷ pool) =
     elim (is_reclaimable copy s) as (λ t. all_differ (map (λ p. p.0)
     (if t then (k, s) ∷ filter (λ p. is_reclaimable copy p.1) (enumerate_from (k + 1) pool) else filter (λ p. is_reclaimable copy p.1)
     (enumerate_from (k + 1) pool))) ≡ true) [
-      | true ↦ rw (past_below copy (k + 1) k pool (omega arith)) (past_apart copy (k + 1) pool)
-      | false ↦ past_apart copy (k + 1) pool
+      | true ↦ rw (reclaimable_below copy (k + 1) k pool (omega arith)) (reclaimable_apart copy (k + 1) pool)
+      | false ↦ reclaimable_apart copy (k + 1) pool
     ]
 
 -- One number
 
--- exactly what the copy frees goes
-goes_is : (copy : PinCopy) (o : Option BlockStatus) → goes copy o ≡ is_at (is_reclaimable copy) o
-goes_is copy o = grind (arith, common_steps)
-
--- nothing goes any more
-none_goes : (copy : PinCopy) (o : Option BlockStatus)
-    → goes copy (if is_at (is_reclaimable copy) o then option_map (λ _. Free) o else o) ≡ false
-none_goes copy o = grind (arith, common_steps)
-
 -- the world after a collection
 abbrev collected_world : PinCopy → DeskView → World → World
-collected_world copy old w = with_status w (marked (past_numbers copy old.pool) Free w.status)
+collected_world copy old w = with_status w (marked (reclaimable_numbers copy old.pool) Free w.status)
 
 status_collected : (copy : PinCopy) (old : DeskView) (w : World) → ShowsWorld old w → (n : ℕ)
     → slice_get (collected_world copy old w).status n ≡ (if is_at (is_reclaimable copy) (slice_get old.pool n) then option_map
     (λ _. Free) (slice_get old.pool n) else slice_get old.pool n)
-status_collected copy old w shows n = grind (arith, common_steps, marked_at, past_at)
+status_collected copy old w shows n = grind (arith, common_steps, marked_at, reclaimable_at)
 
 shows_collected : (old new : DeskView) (copy : PinCopy) (w : World) → IsCollected old copy new → ShowsWorld old w
     → ShowsWorld new (collected_world copy old w)
 shows_collected old new copy w collected shows =
     grind (arith, common_steps, same_list, status_collected, slice_get-map, length-marked)
 
-pub collected_takes : (old new : DeskView) (copy : PinCopy) → IsCollected old copy new
-    → TakesAt copy old (recycling copy old.pool) new
-collected_takes old new copy collected w shows at =
-    let go : (n : ℕ) → is_among n (past_numbers copy old.pool) ≡ true → goes w.copy (slice_get w.status n) ≡ true =
+pub collection_simulates : (old new : DeskView) (copy : PinCopy) → IsCollected old copy new
+    → SimulatesAt copy old (recycling copy old.pool) new
+collection_simulates old new copy collected w shows at =
+    let go : (n : ℕ) → is_among n (reclaimable_numbers copy old.pool) ≡ true → goes w.copy (slice_get w.status n) ≡ true =
     λ n is.
     ap (λ f. goes f (slice_get w.status n)) at ∙ ap (λ pool. goes copy (slice_get pool n)) shows.status
-    ∙ goes_is copy (slice_get old.pool n) ∙ sym (past_at copy 0 n n old.pool (omega arith)) ∙ is in (
+    ∙ goes_is copy (slice_get old.pool n) ∙ sym (reclaimable_at copy 0 n n old.pool (omega arith)) ∙ is in (
       record {
         after = collected_world copy old w;
-        done = recycles (past_numbers copy old.pool) w go (past_apart copy 0 old.pool);
+        done = recycles (reclaimable_numbers copy old.pool) w go (reclaimable_apart copy 0 old.pool);
         shown = shows_collected old new copy w collected shows;
         floor = refl;
         copy = refl;

@@ -1,22 +1,15 @@
 -- How often a number or a block stands in a list.
-use Rattle.std.proofs.Common.{◌≡◌, ℕ, zero, suc, ◌+◌, ◌<◌, ◌≤◌, ◌==◌, Bool, true, false, cond, ◌&&◌, ◌||◌, List, [], ◌∷◌, length}
+use Rattle.std.proofs.Common.{◌≡◌, ℕ, suc, ◌+◌, ◌<◌, ◌≤◌, ◌==◌, Bool, true, false, cond, ◌&&◌, ◌||◌, List, [], ◌∷◌, length}
 use Rattle.std.proofs.{Common.{get_or, count_by, Decides, refl, sym, ap, subst, ◌∙◌, arith}, lemmas.Bool.{eq-eqb, eqb-true}}
 use Rattle.std.proofs.lemmas.{Bool.Decides.{Decides-and, Decides-eqb, Decides-like}, Slice.Eq.slice_eq-Decides}
 use Rattle.std.{proofs.lemmas.Grind.common_steps, specs.Prelude.Contains, specs.Cmp.Lexicographic.pointwise}
 use Rattle.std.specs.declared.option.Option.{Option, TheVariants.None, TheVariants.Some}
 use Rattle.epoch_core.specs.{Blocks.all_differ, Posting.same_stamp}
-use Rattle.edge_block.{specs.Slots.{BlockView, Slot}, proofs.Counts.count_more}
-use Rattle.graph_version.specs.Rows.{numbers_of}
+use Rattle.edge_block.specs.Slots.{BlockView, Slot}
 use Rattle.block_reclamation.specs.Status.{is_among}
-use Rattle.store_steps.proofs.NumberLists.{differ_head, differ_tail}
-
--- how often a number stands in a list
-abbrev pub times : ℕ → List ℕ → ℕ
-times m ns = count_by (λ n. n == m) ns
-
-abbrev pub is_some_times : ℕ → Bool
-is_some_times zero = false
-is_some_times (suc n) = true
+use Rattle.graph_types.proofs.{Sums.count_more, Times.times}
+use Rattle.graph_types.proofs.Times.{is_some_times, none_times, zero_times}
+use Rattle.epoch_core.proofs.BlockSteps.{differ_tail, differ_head}
 
 pub in_times : (m : ℕ) (ns : List ℕ) → is_among m ns ≡ is_some_times (times m ns)
 in_times m [] = refl
@@ -25,12 +18,6 @@ in_times m (n ∷ ns) =
       | true ↦ (let one : 1 + times m ns ≡ suc (times m ns) = omega arith in sym (ap is_some_times one))
       | false ↦ (let same : 0 + times m ns ≡ times m ns = omega arith in in_times m ns ∙ sym (ap is_some_times same))
     ] ∙ sym (ap is_some_times (count_more (λ x. x == m) n ns))
-
-pub times_numbers : (m : ℕ) (bs : List BlockView) → times m (numbers_of bs) ≡ count_by (λ b. b.number == m) bs
-times_numbers m bs = grind (arith, common_steps)
-
-none_times : (t : ℕ) → is_some_times t ≡ false → t ≡ 0
-none_times t e = grind (arith, common_steps)
 
 pub once_at_most : (m : ℕ) (ns : List ℕ) → all_differ ns ≡ true → times m ns ≤ 1
 once_at_most m [] apart = omega arith
@@ -43,9 +30,6 @@ once_at_most m (n ∷ ns) apart =
       | false ↦ λ e. omega arith
     ] refl in
     omega arith
-
-zero_times : (t : ℕ) → t ≡ 0 → is_some_times t ≡ false
-zero_times t e = grind (arith, common_steps)
 
 pub apart_if : (ns : List ℕ) → ((m : ℕ) → times m ns ≤ 1) → all_differ ns ≡ true
 apart_if [] once = refl

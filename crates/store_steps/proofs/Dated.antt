@@ -8,9 +8,10 @@ use Rattle.block_reclamation.specs.{Status.{is_among, is_free, is_used, is_at, r
 use Rattle.block_reclamation.specs.declared.status.BlockStatus.{BlockStatus, TheVariants.{Free, Used}}
 use Rattle.block_pool.specs.Pools.{is_free_at, is_used_at}
 use Rattle.epoch_core.proofs.Lists.{all_listed}
+use Rattle.block_pool.proofs.OneNumber.{number_after}
 use Rattle.store_steps.specs.Journal.{Entry, Applied, Collected, Ledger, opened_ledger, is_legal, after_entry, exchanged, replay}
 use Rattle.store_steps.{specs.{Desks.{DeskView, IsDesk, ledger_of}, Dates.{IsDatedBlock, AreDated}}, proofs.ChangedLists.marked_at}
-use Rattle.store_steps.proofs.{OneNumber.number_after, Applications.exchanged_at, Posting.{IsLegalBatch, legal_batch}}
+use Rattle.store_steps.proofs.{Applications.exchanged_at, Posting.{IsLegalBatch, legal_batch}}
 
 -- One number
 

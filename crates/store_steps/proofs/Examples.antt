@@ -1,24 +1,25 @@
 -- Small stores, computed.
-use Rattle.std.proofs.Common.{◌≡◌, ℕ, zero, suc, Bool, true, false, List, [], ◌∷◌, refl, sym, ap, subst, arith}
+use Rattle.std.proofs.Common.{◌≡◌, ℕ, zero, suc, true, false, List, [], ◌∷◌, refl, sym, ap, subst, arith}
 use Rattle.std.proofs.{lemmas.Grind.common_steps, lemmas.Bool.{true≢false, ne_eqb}}
-use Rattle.std.specs.Prelude.{filter, ◌==◌, All, slice_get, Option, Some, None}
+use Rattle.std.specs.Prelude.{filter, ◌==◌, All, slice_get}
 use Rattle.graph_types.specs.{declared.batches.NamedOp.NamedOp, Limits.standard_limits}
-use Rattle.graph_types.proofs.Keys.{once_none}
-use Rattle.graph_version.specs.{Edges.edges_in_block, Versions.{VersionView, IsVersion, empty_version}}
-use Rattle.graph_version.proofs.Empty.{is_empty_version, standard_are_limits}
-use Rattle.block_reclamation.specs.{Copies.{pin_at, unsettled}, declared.copies.Pin.Pin as SeatPin, Board.{no_pins, with_pin}}
+use Rattle.graph_version.specs.{Edges.edges_in_block, Versions.empty_version}
+use Rattle.block_reclamation.specs.Copies.{pin_at}
 use Rattle.block_reclamation.specs.Status.{is_at, is_granted}
-use Rattle.epoch_core.specs.Worlds.{seat_pin, start_world, session_of, World, empty_opening}
-use Rattle.epoch_core.specs.{declared.events.Event.TheVariants.{Pin, Post, Enter, Settle, Floor}, Versions.{edges_at, left}}
+use Rattle.block_reclamation.proofs.SeatPins.{is_told}
+use Rattle.graph_types.proofs.ChangedContents.{standard_are_limits}
+use Rattle.graph_version.proofs.Empty.{blank_is_version}
+use Rattle.epoch_core.specs.Worlds.{seat_pin, start_world, session_of, World}
+use Rattle.epoch_core.specs.{declared.events.Event.TheVariants.{Post, Enter, Settle, Floor}, Versions.edges_at}
 use Rattle.epoch_core.specs.{declared.events.Event.Event, declared.session_states.SessionState.TheVariants.{Pinned, Holding}}
-use Rattle.epoch_core.specs.{Posting.{can_post, are_edges_of}, Posts.posted}
-use Rattle.epoch_core.proofs.Edges.{Decides-edges}
-use Rattle.store_steps.specs.{Reached.world_by, Desks.{birth_at, IsDesk, IsAccepted}, Steps.{all_done, Accepts}}
+use Rattle.epoch_core.specs.{Posting.can_post, Posts.posted}
+use Rattle.epoch_core.proofs.Examples.{pin_shown, shows_none}
+use Rattle.store_steps.specs.{Desks.{birth_at, IsDesk}, Steps.all_done, Acceptances.{Acceptance, IsAccepted, KeepsUntaken}}
 use Rattle.store_steps.specs.Opening.{opened_desk}
 use Rattle.store_steps.specs.Examples.{blank_desk, crossed_copy, crossed_desk, crossed_board, AreExamples, block_one}
 use Rattle.store_steps.specs.Examples.{world_of_edge, board_of_two, world_of_two}
 use Rattle.store_steps.specs.Merges.{AreLocked, EntersInOrder, Raises, is_of}
-use Rattle.store_steps.proofs.{BatchLaws.accepted_steps, OpeningShown.opens_blank}
+use Rattle.store_steps.proofs.{BatchLaws.accepted_steps, StatusCounts.accepted_counts, OpeningShown.opens_blank}
 
 edges_shown : All (λ b. edges_at world_of_edge.heap b.number ≡ edges_in_block b) (block_one ∷ [])
 edges_shown = grind (arith, common_steps)
@@ -26,23 +27,11 @@ edges_shown = grind (arith, common_steps)
 pins_shown : (s : ℕ) → seat_pin (session_of world_of_two s) ≡ pin_at board_of_two.pins s
 pins_shown s = grind (arith, common_steps)
 
-pin_shown : (s : ℕ) → seat_pin (session_of (world_by (start_world 1 3) (Pin 0 ∷ [])) s)
-    ≡ pin_at (with_pin no_pins 0 (Some (unsettled 0))).pins s
-pin_shown s = grind (arith, common_steps)
-
-abbrev is_settled_in : Option SeatPin → Bool
-is_settled_in None = false
-is_settled_in (Some p) = p.is_settled
-
 -- a Post that is done, and those after it
 posts : (w : World) (batch : List NamedOp) (blocks : List ℕ) (rest : List Event)
     → can_post w.opening w.heap w.status w.versions batch blocks ≡ true
     → all_done (Post batch blocks ∷ rest) w ≡ all_done rest (posted w batch blocks)
 posts w batch blocks rest can = grind (arith, common_steps)
-
--- the opening has no edges
-no_edges_shown : are_edges_of (left empty_opening []) [] ≡ true
-no_edges_shown = (Decides-edges (left empty_opening []) []).1 (record { once = once_none; same = refl })
 
 -- seat 1 has entered, and seat 0 is pinned
 abbrev before_post : World
@@ -52,44 +41,31 @@ before_post = record (start_world 2 3) {
 
 -- The batch without operations
 
-abbrev blank_version : VersionView
-blank_version = record empty_version { batches = [] ∷ [] }
+blank_is_desk : IsDesk blank_desk
+blank_is_desk = record { version = blank_is_version; replays = refl; listed = (opens_blank standard_limits standard_are_limits 0 3).desk.listed }
 
-blank_is_version : IsVersion blank_version
-blank_is_version = record {
-  rows = is_empty_version.rows;
-  within = is_empty_version.within;
-  small = record {
-    names = omega arith;
-    kinds = omega arith;
-    count = omega arith;
-    limits = is_empty_version.small.limits;
-    weights = is_empty_version.small.weights;
-  };
-}
+abbrev blank : Acceptance
+blank = record { old = opened_desk 3 empty_version; batch = []; taken = []; dropped = []; new = blank_desk }
 
-blank_accepted : IsAccepted (opened_desk 3 empty_version) [] [] [] blank_desk
+blank_keeps : KeepsUntaken blank
+blank_keeps = λ k d h. absurd (omega arith)
+
+blank_accepted : IsAccepted blank
 blank_accepted = record {
   opened = refl;
   opening = refl;
   journal = refl;
   legal = refl;
   ledger = refl;
-  kept = λ k d h. absurd (omega arith);
-  layout = record { rows = λ source. refl; taken_are = refl; dropped_are = refl };
-  births = record { rows = λ source. refl; dropped_are = λ q. refl };
-}
-
-blank_is_desk : IsDesk blank_desk
-blank_is_desk = record { version = blank_is_version; replays = refl; listed = (opens_blank standard_limits standard_are_limits 0 3).desk.listed }
-
-blank_accepts : Accepts (opened_desk 3 empty_version) [] blank_desk
-blank_accepts = record {
-  taken = [];
-  dropped = [];
-  accepted = blank_accepted;
-  steps = accepted_steps (opened_desk 3 empty_version) blank_desk [] [] []
-      (opens_blank standard_limits standard_are_limits 0 3).desk blank_is_desk blank_accepted;
+  kept = blank_keeps;
+  layout = λ source. refl;
+  taken_are = refl;
+  dropped_are = refl;
+  births = λ source. refl;
+  dropped_births = λ q. refl;
+  counts = accepted_counts blank refl refl;
+  steps = accepted_steps blank (opens_blank standard_limits standard_are_limits 0 3).desk blank_is_desk refl refl refl refl
+      blank_keeps;
 }
 
 -- other seats have only the raise
@@ -107,9 +83,8 @@ crossed_entries (suc (suc seat)) =
     subst (EntersInOrder 1 0 0) (sym (only_raise (suc (suc seat)) first second)) tt
 
 crossed_locks : AreLocked 2 (opened_desk 3 empty_version) crossed_desk crossed_board
-unfolding blank_accepts
 crossed_locks = record {
-  desk_calls = ((blank_accepts, refl), (refl, tt));
+  desk_calls = (([], blank_accepted), (refl, tt));
   board_calls = ((omega arith, refl), ((0, refl), ((omega arith, refl), ((0, refl), ((refl, refl), (refl, tt))))));
   raises = refl;
   entries = crossed_entries;
@@ -162,11 +137,11 @@ are_examples = record {
   pinned = record { floor = refl; pins = pin_shown };
   entered = refl;
   board = record { floor = refl; pins = pins_shown };
-  settled = λ w shows. true≢false (sym (ap is_settled_in (shows.pins 1)));
+  settled = λ w shows. true≢false (sym (ap is_told (shows.pins 1)));
   crossed = crossed_locks;
   crossed_desks = refl;
   crossed_seats = (refl, refl);
-  crossed_done = posts before_post [] [] (Enter 0 ∷ Settle 0 ∷ Floor ∷ []) no_edges_shown;
+  crossed_done = posts before_post [] [] (Enter 0 ∷ Settle 0 ∷ Floor ∷ []) shows_none;
   entered_below = λ are. absurd (omega (arith, are.0));
   entered_back = λ are. absurd (omega (arith, are.2.0));
   entered_early = λ are. absurd (omega (arith, are.1));

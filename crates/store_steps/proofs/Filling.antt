@@ -1,18 +1,19 @@
 -- Take and Fill of several blocks.
 use Rattle.std.proofs.Common.{◌≡◌, ◌≢◌, ℕ, ◌<◌, ◌==◌, true, false, List, [], ◌∷◌, ◌++◌, length, set, refl, sym, ap, ◌∙◌, arith}
-use Rattle.std.proofs.lemmas.{Grind.common_steps, Bool.{eq-eqb, or_parts, true≢false}, List.length-set}
+use Rattle.std.proofs.lemmas.{Bool.{eq-eqb, or_parts, true≢false}, List.length-set}
 use Rattle.std.proofs.lemmas.List.Elements.{All-head, All-tail, All-cons}
 use Rattle.std.{proofs.Common.get_or-set_same, proofs.Common.get_or-set_other, specs.declared.option.Option.TheVariants.Some}
-use Rattle.std.specs.{Prelude.{slice_get, All}, Option.{option_map, option_and_then}, List.flat_map}
+use Rattle.std.specs.{Prelude.{slice_get, All}, Option.option_and_then, List.flat_map}
 use Rattle.graph_types.specs.declared.ids.Edge.{Edge}
 use Rattle.edge_block.specs.Slots.{BlockView}
 use Rattle.graph_version.specs.{Rows.numbers_of, Edges.edges_in_block, Edges.edges_in_blocks}
 use Rattle.block_reclamation.specs.{Status.is_among, declared.status.BlockStatus.{BlockStatus, TheVariants.{Free, Granted}}}
+use Rattle.graph_types.proofs.ListPlaces.{set_else, set_same}
 use Rattle.block_pool.specs.Pools.{marked}
-use Rattle.epoch_core.specs.{declared.events.Event.{Event, TheVariants.{Take, Fill}}, Blocks.{status_taken, put_if_some, all_differ}}
+use Rattle.epoch_core.specs.{declared.events.Event.{Event, TheVariants.{Take, Fill}}, Blocks.all_differ}
 use Rattle.epoch_core.specs.{Machine.{step, with_status, with_heap}, Versions.{edges_at, edges_of}, Worlds.World}
-use Rattle.epoch_core.proofs.Lists.{set_same, set_else}
-use Rattle.store_steps.{specs.Steps.all_done, specs.Steps.filling, proofs.NumberLists.differ_head, proofs.NumberLists.differ_tail}
+use Rattle.epoch_core.proofs.BlockSteps.{take_done, fill_done, differ_head, differ_tail}
+use Rattle.store_steps.specs.Steps.{all_done, filling}
 
 -- the heap with the edges of these blocks at their numbers
 abbrev pub heap_with : List BlockView → List (List Edge) → List (List Edge)
@@ -25,13 +26,6 @@ filled_world w bs = record w { status = marked (numbers_of bs) Granted w.status;
 
 pub step_then : (e : Event) (es : List Event) (w next : World) → step w e ≡ Some next → all_done (e ∷ es) w ≡ all_done es next
 step_then e es w next is = ap (option_and_then (all_done es)) is
-
-take_done : (w : World) (n : ℕ) → slice_get w.status n ≡ Some Free → step w (Take n) ≡ Some (with_status w (set w.status n Granted))
-take_done w n is = ap (λ o. option_map (with_status w) (put_if_some w.status n (option_and_then status_taken o))) is
-
-fill_done : (w : World) (n : ℕ) (edges : List Edge) → slice_get w.status n ≡ Some Granted
-    → step w (Fill n edges) ≡ Some (with_heap w (set w.heap n edges))
-fill_done w n edges is = grind (arith, common_steps)
 
 -- the blocks of these numbers are all in this state
 abbrev pub AllAre : BlockStatus → List BlockStatus → List BlockView → Type 0

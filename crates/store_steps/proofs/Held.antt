@@ -1,23 +1,16 @@
 -- What a session holds is a snapshot.
-use Rattle.std.proofs.{Common.{◌≡◌, ℕ, not, false, take, refl, sym, ap, subst, ◌∙◌, arith, List}, lemmas.Grind.common_steps}
-use Rattle.std.{proofs.lemmas.List.take-map, specs.{Prelude.slice_get, declared.option.Option.{Option, TheVariants.Some}}}
+use Rattle.std.proofs.Common.{◌≡◌, ℕ, take, sym, ap, subst, ◌∙◌, arith, List}
+use Rattle.std.{proofs.lemmas.List.take-map, specs.Prelude.slice_get}
 use Rattle.graph_types.specs.Step.{left_by}
-use Rattle.block_reclamation.specs.declared.{status.BlockStatus.{BlockStatus, TheVariants.Retired}, copies.PinCopy.PinCopy}
+use Rattle.block_reclamation.specs.declared.{status.BlockStatus.BlockStatus, copies.PinCopy.PinCopy}
 use Rattle.block_reclamation.specs.Status.{is_free, is_reclaimable, is_at, is_among}
-use Rattle.epoch_core.specs.{declared.session_states.{Hold.Hold, SessionState.SessionState}, Sound.{IsSound, IsSessionSound}}
-use Rattle.epoch_core.specs.{Sound.{IsHeld, IsCovered, IsKeptAt}, Versions.{AreEdgesOf, graph_of_opening, blocks_at, edges_of}}
-use Rattle.epoch_core.{specs.{Versions.graph_at, Worlds.{World, session_of, held_in}}, proofs.{Steps.always_sound, HeldBlocks.Holder, HeldBlocks.holder_of}}
-use Rattle.store_steps.specs.{Desks.DeskView, Shown.ShowsWorld, Reached.world_by, Held.IsSnapshot}
-use Rattle.store_steps.{specs.Held.HeldIsSnapshot, proofs.Reached.same_count}
-
--- a block that is kept for the holders of a version is neither free nor freed by a copy that covers it
-not_free : (n : ℕ) (s : Option BlockStatus) → IsKeptAt n s → is_at is_free s ≡ false
-not_free n s kept = grind (arith, common_steps)
-
-not_reclaimable : (n : ℕ) (copy : PinCopy) (s : Option BlockStatus) → IsKeptAt n s → IsCovered copy n
-    → is_at (is_reclaimable copy) s ≡ false
-not_reclaimable n copy (Some (Retired birth retirement)) kept covered = ap not (covered birth retirement kept.0 kept.1)
-not_reclaimable n copy _ kept covered = refl
+use Rattle.epoch_core.specs.{declared.session_states.SessionState.SessionState, Sound.IsSound}
+use Rattle.epoch_core.specs.{Sound.IsCovered, Versions.{AreEdgesOf, graph_of_opening, blocks_at, edges_of}}
+use Rattle.epoch_core.specs.{Versions.graph_at, Runs.run, Worlds.{World, session_of}}
+use Rattle.epoch_core.proofs.{Steps.always_sound, HeldBlocks.{Holder, holder_of}}
+use Rattle.epoch_core.proofs.HeldStatus.{not_free, not_reclaimable}
+use Rattle.store_steps.specs.{Desks.DeskView, Shown.ShowsWorld, Held.{IsSnapshot, HeldIsSnapshot}}
+use Rattle.store_steps.proofs.Reached.{same_count}
 
 -- the graph of the machine's version is what the desk's first batches leave
 graph_first : (d : DeskView) (w : World) (n : ℕ) → ShowsWorld d w → graph_at w.opening w.versions n
@@ -49,6 +42,6 @@ snapshot d w copy session n shows same holder =
 
 pub held_is_snapshot : HeldIsSnapshot
 held_is_snapshot start events s seat n is_start r held =
-    let w : World = world_by start.world events in
+    let w : World = run events start.world in
     let sound : IsSound w = always_sound start events is_start in
     snapshot s.desk w s.copy (session_of w seat) n r.desk r.copied_is (holder_of w (session_of w seat) n (sound.sessions seat) held)

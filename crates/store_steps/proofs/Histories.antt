@@ -1,13 +1,13 @@
 -- The steps of the store's calls inside whole runs of the machine.
-use Rattle.std.proofs.Common.{◌≡◌, ℕ, inl, inr, List, [], ◌∷◌, get_or, set, refl, sym, ap, subst, ◌∙◌, arith}
-use Rattle.std.{proofs.lemmas.{Bool.cases_eq, Grind.common_steps}, specs.Option.{unwrap_or, option_and_then}}
+use Rattle.std.proofs.Common.{◌≡◌, ℕ, inl, inr, [], ◌∷◌, get_or, set, refl, sym, ap, subst, ◌∙◌}
+use Rattle.std.{proofs.lemmas.Bool.cases_eq, specs.Option.{unwrap_or, option_and_then}}
 use Rattle.std.specs.declared.option.Option.{Option, TheVariants.{None, Some}}
-use Rattle.graph_types.specs.declared.requests.Request.{Request}
-use Rattle.epoch_core.specs.declared.{states.{Version.Version, Opening.Opening}, session_states.SessionState.SessionState}
+use Rattle.epoch_core.specs.declared.session_states.SessionState.{SessionState}
 use Rattle.epoch_core.specs.{declared.session_states.SessionState.TheVariants.Idle, Runs.run, Worlds.{seat_pin, World}}
 use Rattle.epoch_core.specs.{Worlds.{session_of, last_number}, Machine.{step, to_enter, to_ask, to_read, to_reply}}
 use Rattle.epoch_core.proofs.Moves.{Moved, moved, session_after, session_else}
 use Rattle.block_reclamation.specs.Board.{BoardState}
+use Rattle.epoch_core.proofs.SessionSteps.{keeps_enter, keeps_ask, keeps_reading, keeps_reply}
 use Rattle.store_steps.specs.{Desks.DeskView, Shown.ShowsWorld, Boards.ShowsBoard, Steps.all_done}
 use Rattle.store_steps.{specs.Histories.DoneIsRun, specs.Histories.ReadersAreUnseen, proofs.BoardSteps.shows_sessions}
 
@@ -37,21 +37,6 @@ unseen d b w after s change m keeps shown shows = (
   },
   ap (λ v. v.copy) m.result,
 )
-
-keeps_enter : (last : ℕ) (session next : SessionState) → to_enter last session ≡ Some next → seat_pin next ≡ seat_pin session
-keeps_enter last session next is = grind (arith, common_steps)
-
-keeps_ask : (request : Request) (session next : SessionState) → to_ask request session ≡ Some next
-    → seat_pin next ≡ seat_pin session
-keeps_ask request session next is = grind (arith, common_steps)
-
-keeps_reply : (o : Opening) (versions : List Version) (session next : SessionState) → to_reply o versions session ≡ Some next
-    → seat_pin next ≡ seat_pin session
-keeps_reply o versions session next is = grind (arith, common_steps)
-
-keeps_reading : (w : World) (session next : SessionState) → to_read w.opening w.heap w.versions session ≡ Some next
-    → seat_pin next ≡ seat_pin session
-keeps_reading w session next is = grind (arith, common_steps)
 
 pub readers_are_unseen : ReadersAreUnseen
 readers_are_unseen = record {

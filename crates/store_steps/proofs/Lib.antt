@@ -1,7 +1,6 @@
 pub mod NumberLists
 pub mod ChangedLists
 pub mod Counting
-pub mod OneNumber
 pub mod BlockMoves
 pub mod Births
 pub mod Applications
@@ -33,3 +32,7 @@ pub mod Questioning
 pub mod Laps
 pub mod Waits
 pub mod Merges
+pub mod Handover
+pub mod Reopening
+pub mod AcceptedDesk
+pub mod SessionRuns

@@ -1,31 +1,14 @@
 -- Numbers in lists, and blocks that are picked by their numbers.
 use Rattle.std.proofs.Common.{◌≡◌, ◌≢◌, ℕ, zero, suc, ◌<◌, ◌==◌, Bool, true, false, ◌||◌, List, [], ◌∷◌, length, get_or, refl}
-use Rattle.std.proofs.{Common.{sym, ap, ◌∙◌, arith}, lemmas.{Grind.common_steps, List.Elements.{All-head, All-tail, All-cons}}}
-use Rattle.std.{proofs.lemmas.Bool.{eq-eqb, or_right}, specs.{Prelude.{if◌then◌else◌, All, AllPairs, filter}, List.list_all}}
+use Rattle.std.proofs.{Common.{sym, ap, ◌∙◌, arith}, lemmas.{Grind.common_steps, List.Elements.All-cons}}
+use Rattle.std.{proofs.lemmas.Bool.{eq-eqb, or_right}, specs.Prelude.{if◌then◌else◌, All, AllPairs, filter}}
 use Rattle.graph_types.proofs.Counts.{apart_tail}
 use Rattle.edge_block.specs.Slots.{BlockView}
 use Rattle.graph_version.specs.Rows.{numbers_of}
 use Rattle.block_reclamation.specs.Status.{is_among}
+use Rattle.graph_types.proofs.{Elements.apart_head, Numbers.apart_test}
 use Rattle.epoch_core.specs.Blocks.{all_differ}
-
--- the test of two numbers that differ
-pub apart_test : (m n : ℕ) → m ≢ n → (m == n) ≡ false
-apart_test m n ne = grind (arith, common_steps)
-
-pub same_bool : (a b : Bool) → (a ≡ true → b ≡ true) → (b ≡ true → a ≡ true) → a ≡ b
-same_bool a b f g = grind (arith, common_steps)
-
-pub all_from : {A : Type 0} (p : A → Bool) (xs : List A) → All (λ x. p x ≡ true) xs → list_all p xs ≡ true
-all_from p [] all = refl
-all_from p (x ∷ xs) all = rw (All-head (λ y. p y ≡ true) x xs all) (all_from p xs (All-tail (λ y. p y ≡ true) x xs all))
-
--- a test that holds of whatever is listed
-pub all_by : (p : ℕ → Bool) (ns : List ℕ) → ((m : ℕ) → is_among m ns ≡ true → p m ≡ true) → list_all p ns ≡ true
-all_by p [] each = refl
-all_by p (n ∷ ns) each =
-    let here : (n == n) ≡ true = eq-eqb n n refl in
-    let first : p n ≡ true = each n (rw here refl) in
-    rw first (all_by p ns (λ m is. each m (or_right (n == m) (is_among m ns) is)))
+use Rattle.epoch_core.proofs.BlockSteps.{differ_head, differ_tail}
 
 -- Numbers that differ
 
@@ -36,21 +19,11 @@ not_in n (m ∷ ns) apart =
     let here : (m == n) ≡ false = apart_test m n (λ e. apart 0 (omega arith) (sym e)) in
     rw (here, rest) refl
 
-apart_head : (n : ℕ) (ns : List ℕ) → AllPairs ◌≢◌ (n ∷ ns) → (k : ℕ) → k < length ns → n ≢ get_or ns k 0
-apart_head n ns apart k h = apart 0 (suc k) 0 (omega arith) (omega arith)
-
 pub differ_from : (ns : List ℕ) → AllPairs ◌≢◌ ns → all_differ ns ≡ true
 differ_from [] apart = refl
 differ_from (n ∷ ns) apart =
     let none : is_among n ns ≡ false = not_in n ns (apart_head n ns apart) in
     rw none (differ_from ns (apart_tail n ns apart))
-
--- the first of different numbers is none of the rest
-pub differ_head : (n : ℕ) (ns : List ℕ) → all_differ (n ∷ ns) ≡ true → is_among n ns ≡ false
-differ_head n ns is = grind (arith, common_steps)
-
-pub differ_tail : (n : ℕ) (ns : List ℕ) → all_differ (n ∷ ns) ≡ true → all_differ ns ≡ true
-differ_tail n ns is = grind (arith, common_steps)
 
 -- Blocks
 
@@ -62,11 +35,6 @@ number_in (c ∷ cs) b zero h at = let same : (c.number == b.number) ≡ true =
     eq-eqb c.number b.number (ap (λ x. x.number) at) in rw same refl
 number_in (c ∷ cs) b (suc k) h at = or_right (c.number == b.number) (is_among b.number (numbers_of cs))
     (number_in cs b k (omega arith) at)
-
-pub numbers_all : (p : ℕ → Bool) (bs : List BlockView) → All (λ b. p b.number ≡ true) bs → list_all p (numbers_of bs) ≡ true
-numbers_all p [] all = refl
-numbers_all p (b ∷ bs) all = rw (All-head (λ x. p x.number ≡ true) b bs all)
-    (numbers_all p bs (All-tail (λ x. p x.number ≡ true) b bs all))
 
 -- Blocks that are picked by number
 

@@ -1,39 +1,28 @@
 -- The opening.
-use Rattle.std.proofs.Common.{◌≡◌, ◌≢◌, ℕ, zero, suc, ◌<◌, ◌==◌, ◌||◌, Bool, true, false, List, [], ◌∷◌, ◌++◌, length, replicate}
+use Rattle.std.proofs.Common.{◌≡◌, ◌≢◌, ℕ, ◌<◌, true, false, List, [], ◌∷◌, ◌++◌, length, replicate}
 use Rattle.std.proofs.{Common.{refl, sym, ap, subst, ◌∙◌, arith, All, AllPairs}, lemmas.List.length-replicate}
-use Rattle.std.proofs.lemmas.{List.Elements.{All-head, All-tail, All-cons}, Grind.common_steps, Bool.eqb-true}
+use Rattle.std.proofs.lemmas.{List.Elements.{All-head, All-tail, All-cons}, Grind.common_steps}
 use Rattle.std.specs.{Option.option_map, Prelude.{map, slice_get, slice_set, if◌then◌else◌}, List.flat_map}
-use Rattle.std.specs.declared.option.Option.TheVariants.{None, Some}
+use Rattle.std.specs.declared.option.Option.TheVariants.{Some}
 use Rattle.block_pool.{proofs.Grants.length-marked, specs.Pools.marked, specs.Pools.is_used_at}
 use Rattle.graph_types.specs.{Graph.graph_in, Graph.content_of, Graph.IsContentIn, Limits.{LimitsView, AreLimits}, declared.contents.Content.Content}
-use Rattle.graph_types.specs.{Step.left_by, declared.ids.Edge.Edge}
+use Rattle.graph_types.specs.declared.ids.Edge.{Edge}
 use Rattle.edge_block.specs.Slots.{BlockView}
 use Rattle.graph_version.specs.{Rows.{blocks_of, numbers_of}, Edges.{edges_in_block, edges_in_blocks}, Versions.VersionView}
-use Rattle.graph_version.{specs.Versions.{content, empty_version_in}, proofs.{Empty.is_empty_version_in, Shown.rows_each_once}}
-use Rattle.block_reclamation.specs.{Status.is_among, Status.is_used, Status.is_at, Copies.pin_at}
+use Rattle.graph_version.{specs.Versions.empty_version_in, proofs.{Empty.is_empty_version_in, Shown.rows_each_once}}
+use Rattle.block_reclamation.specs.Status.{is_among, is_used, is_at}
 use Rattle.block_reclamation.specs.declared.status.BlockStatus.{BlockStatus, TheVariants.Free, TheVariants.Used}
+use Rattle.block_reclamation.proofs.{ListedNumbers.listed_below, OneStatus.{free_at, none_born, used_or_free}, SeatPins.no_pin}
+use Rattle.graph_version.proofs.{ListedNumbers.within_blocks, Empty.content_alone}
 use Rattle.epoch_core.specs.{Versions.{AreEdgesOf, edges_at, edges_of}, Worlds.{seat_pin, IsStart}}
 use Rattle.epoch_core.specs.{declared.session_states.SessionState.TheVariants.Idle, Opened.{BlockLists, numbers_in, heap_with}}
-use Rattle.epoch_core.{specs.Opened.{status_with, IsOpeningIn}, proofs.Steps.{all_idle, free_at}}
+use Rattle.epoch_core.{specs.Opened.{status_with, IsOpeningIn}, proofs.Steps.all_idle}
+use Rattle.block_pool.proofs.Marked.{length-opened}
 use Rattle.store_steps.{specs.Desks.IsDesk, specs.Shown.ShowsWorld, proofs.NumberLists.differ_from, proofs.ChangedLists.marked_at}
 use Rattle.store_steps.specs.Opening.{opened_desk, opened_start, lists_of, IsVersionZero, OpensAsMachine, OpensBlank}
 use Rattle.store_steps.proofs.Filling as filling
 
 -- The pool
-
-none_born : (n m : ℕ) → is_at is_used (slice_get (replicate n Free) m) ≡ false
-none_born zero m = refl
-none_born (suc n) zero = refl
-none_born (suc n) (suc m) = none_born n m
-
-listed_below : (blocks : ℕ) (ns : List ℕ) (m : ℕ) → All (λ n. n < blocks) ns → is_among m ns ≡ true → m < blocks
-listed_below blocks [] m within is = cc
-listed_below blocks (n ∷ ns) m within is =
-    elim (n == m) as (λ t. n == m ≡ t → (t || is_among m ns) ≡ true → m < blocks) [
-      | true ↦ λ e listed. (let low : n < blocks = All-head (λ k. k < blocks) n ns within in
-          let same : n ≡ m = eqb-true n m e in omega arith)
-      | false ↦ λ e listed. listed_below blocks ns m (All-tail (λ k. k < blocks) n ns within) listed
-    ] refl is
 
 -- the numbers that are marked are those that are born
 born_listed : (blocks : ℕ) (ns : List ℕ) → All (λ n. n < blocks) ns → (m : ℕ)
@@ -46,12 +35,6 @@ born_listed blocks ns within m =
           (free_at blocks m (listed_below blocks ns m within is))
       | false ↦ λ is. none_born blocks m
     ] refl)
-
-pub no_pin : (n s : ℕ) → pin_at (replicate n None) s ≡ None
-no_pin n s = grind (arith, common_steps)
-
-length-opened : (blocks : ℕ) (ns : List ℕ) → length (marked ns (Used 0) (replicate blocks Free)) ≡ blocks
-length-opened blocks ns = length-marked ns (Used 0) (replicate blocks Free) ∙ length-replicate blocks Free
 
 pub opened_is_desk : (blocks : ℕ) (v : VersionView) → IsVersionZero blocks v → IsDesk (opened_desk blocks v)
 opened_is_desk blocks v zero_is = grind (arith, common_steps, length-opened, born_listed)
@@ -75,12 +58,6 @@ within_paired blocks (b ∷ bs) within =
     let In : ℕ × List Edge → Type 0 = λ l. l.0 < blocks in
     All-cons In (b.number, edges_in_block b) (pairs bs) (All-head (λ n. n < blocks) b.number (numbers_of bs) within)
     (within_paired blocks bs (All-tail (λ n. n < blocks) b.number (numbers_of bs) within))
-
-within_blocks : (blocks : ℕ) (bs : List BlockView) → All (λ n. n < blocks) (numbers_of bs) → All (λ b. b.number < blocks) bs
-within_blocks blocks [] within = λ k d h. absurd (omega arith)
-within_blocks blocks (b ∷ bs) within =
-    All-cons (λ (x : BlockView). x.number < blocks) b bs (All-head (λ n. n < blocks) b.number (numbers_of bs) within)
-    (within_blocks blocks bs (All-tail (λ n. n < blocks) b.number (numbers_of bs) within))
 
 -- the machine's heap and status after these lists
 heap_paired : (bs : List BlockView) (heap : List (List Edge)) → heap_with (pairs bs) heap ≡ filling.heap_with bs heap
@@ -109,13 +86,6 @@ sizes_opened blocks bs =
     ∙ length-replicate blocks [] ∙ sym (length-replicate blocks Free)
     ∙ sym (length-marked (numbers_of bs) (Used 0) (replicate blocks Free))
     ∙ sym (ap length (status_paired bs (replicate blocks Free)))
-
--- version 0 alone: its content is what it began with
-content_alone : (v : VersionView) → v.batches ≡ [] → content v ≡ v.opening
-content_alone v alone = ap (λ bs. left_by bs v.opening) alone
-
-used_or_free : (t : Bool) → (if t then option_map (λ _. Used 0) (Some Free) else Some Free) ≡ Some (if t then Used 0 else Free)
-used_or_free t = grind (arith, common_steps)
 
 module _ (sessions blocks : ℕ) (v : VersionView) (c : Content) (zero_is : IsVersionZero blocks v)
     (same : graph_in v.opening.limits c ≡ v.opening) where

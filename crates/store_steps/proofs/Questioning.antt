@@ -7,22 +7,23 @@ use Rattle.std.specs.Prelude.{slice_get, filter, ◌==◌}
 use Rattle.graph_types.specs.{Graph.Graph, Step.left_by, Answer.IsAnswer, declared.batches.NamedOp.NamedOp}
 use Rattle.graph_types.specs.declared.requests.Request.{Request}
 use Rattle.graph_version.specs.Versions.{VersionView}
-use Rattle.block_reclamation.specs.{declared.copies.Pin.Pin as SeatPin, Copies.pin_at, declared.copies.PinCopy.PinCopy}
+use Rattle.block_reclamation.specs.{declared.copies.Pin.Pin as SeatPin, declared.copies.PinCopy.PinCopy}
+use Rattle.block_reclamation.proofs.SeatPins.{none_not, is_told, pin_number}
 use Rattle.epoch_core.specs.{declared.session_states.Hold.Hold, declared.session_states.SessionState.SessionState}
 use Rattle.epoch_core.specs.declared.session_states.SessionState.TheVariants.{Idle, Pinned, Holding, Asking}
-use Rattle.epoch_core.specs.{Worlds.{World, MachineState, IsStart, seat_pin, session_of, held_in, Answer}, Runs.AllReplies}
+use Rattle.epoch_core.specs.{Worlds.{World, IsStart, seat_pin, session_of, held_in, Answer}, Runs.{AllReplies, run}}
 use Rattle.epoch_core.specs.{Sound.{IsHeld, IsSound, IsSessionSound}, Versions.{blocks_at, graph_at, graph_of_opening}}
 use Rattle.epoch_core.specs.{declared.events.Event.TheVariants.{Ask, Read, Reply}, declared.events.Event.Event}
 use Rattle.epoch_core.proofs.Steps.{always_sound}
-use Rattle.store_steps.specs.Reached.{world_by}
+use Rattle.epoch_core.proofs.{RunsTogether.run_more, SessionSteps.{within, holding_not_idle}}
 use Rattle.store_steps.specs.Merges.{Call, Applies, Collects, Raises, Pins, Enters, Settles, Unpins, Asks, AreDeskCalls}
 use Rattle.store_steps.specs.Merges.{desk_by, graph_of_version, is_raise, is_of}
 use Rattle.store_steps.specs.{Desks.DeskView, Shown.ShowsWorld, Steps.all_done, Boards.ShowsBoard}
-use Rattle.store_steps.proofs.{SeatCalls.ready_next, Reached.{same_count, run_more}, Histories.done_is_run}
+use Rattle.store_steps.proofs.{SeatCalls.{ready_next, place_on}, Reached.same_count, Histories.done_is_run}
 use Rattle.store_steps.proofs.Questions.{question_done, question_replies}
-use Rattle.store_steps.proofs.Stages.{with_calls, calls_else, within, Stands, IsSeat, Stage, last_of, IsStage, Onward}
-use Rattle.store_steps.proofs.Stages.{calls_here}
-use Rattle.store_steps.proofs.{Entering.{holding_not_idle, idle_unpinned, number_of, told}, Seating.at_calls}
+use Rattle.store_steps.proofs.Stages.{with_calls, calls_here, calls_else, Stands, Merging, IsOneSeat, Stage, last_of}
+use Rattle.store_steps.proofs.Stages.{view_of, IsStage, Onward}
+use Rattle.store_steps.proofs.Seating.{at_calls}
 
 -- a later desk of the same opening, with more batches
 record IsGrown (old new : VersionView) : Type 0 where
@@ -34,11 +35,11 @@ grown : (desk : List Call) (d : DeskView) (copy : PinCopy) → AreDeskCalls d co
 grown [] d copy are = record { rest = []; batches_are = sym (append-nil d.last.batches); opening_is = refl }
 grown (Applies batch taken next ∷ desk) d copy are =
     let more : IsGrown next.last (desk_by next desk).last = grown desk next copy are.1 in
-    let one : next.last.batches ≡ d.last.batches ++ batch ∷ [] = ap (λ l. l.batches) are.0.0.accepted.ledger in
+    let one : next.last.batches ≡ d.last.batches ++ batch ∷ [] = ap (λ l. l.batches) are.0.1.ledger in
     record {
       rest = batch ∷ more.rest;
       batches_are = more.batches_are ∙ ap (λ bs. bs ++ more.rest) one ∙ append_assoc d.last.batches (batch ∷ []) more.rest;
-      opening_is = more.opening_is ∙ are.0.0.accepted.opening;
+      opening_is = more.opening_is ∙ are.0.1.opening;
     }
 grown (Collects next ∷ desk) d copy are =
     subst (λ v. IsGrown v (desk_by next desk).last) are.0.last (grown desk next copy are.1)
@@ -50,15 +51,14 @@ grown (Enters seat ∷ desk) d copy are = absurd are.0
 grown (Asks seat n request answer ∷ desk) d copy are = absurd are.0
 
 -- the graph of a version that is posted, as the machine has it
-posted_graph : (start : World) (end : VersionView) (seen : ℕ) (desk : List Call) (st : Stage) (n : ℕ)
-    → IsStage start end seen desk st → n ≤ last_of st
-    → graph_of_version end n ≡ graph_at (world_by start st.events).opening (world_by start st.events).versions n
-posted_graph start end seen desk st n k low =
-    let w : World = world_by start st.events in
+posted_graph : (m : Merging) (st : Stage) (n : ℕ) → IsStage m st → n ≤ last_of st
+    → graph_of_version m.end n ≡ graph_at (run st.events m.start.world).opening (run st.events m.start.world).versions n
+posted_graph m st n k low =
+    let w : World = run st.events m.start.world in
     let last : VersionView = st.store.desk.last in
-    let more : IsGrown last end = subst (IsGrown last) k.ends (grown desk st.store.desk st.store.copy k.desk_calls) in
-    ap (λ bs. left_by (take n bs) end.opening) more.batches_are
-    ∙ ap (λ bs. left_by bs end.opening) (take-append-le n last.batches more.rest low)
+    let more : IsGrown last m.end = subst (IsGrown last) k.ends (grown m.desk st.store.desk st.store.copy k.desk_calls) in
+    ap (λ bs. left_by (take n bs) m.end.opening) more.batches_are
+    ∙ ap (λ bs. left_by bs m.end.opening) (take-append-le n last.batches more.rest low)
     ∙ ap (left_by (take n last.batches)) (more.opening_is ∙ sym k.reached.desk.opening)
     ∙ ap (λ bs. left_by (take n bs) (graph_of_opening w.opening)) (sym k.reached.desk.batches)
     ∙ ap (λ bs. left_by bs (graph_of_opening w.opening)) (take-map (λ v. v.batch) n w.versions)
@@ -69,24 +69,24 @@ held_now : (last n other : ℕ) (request : Request) (answer : Answer) (cs : List
     → Stands last (Asks other n request answer ∷ cs) session
     → (hold : Hold) × (session ≡ Holding hold) × (hold.settled ≡ true) × (hold.pin ≡ n)
 held_now last n other request answer cs Idle pin shown had stands =
-    absurd (idle_unpinned (record { number = n; is_settled = true }) (shown ∙ had))
-held_now last n other request answer cs (Pinned number) pin shown had stands = absurd (true≢false (sym (ap told (shown ∙ had))))
+    absurd (none_not (record { number = n; is_settled = true }) (shown ∙ had))
+held_now last n other request answer cs (Pinned number) pin shown had stands = absurd (true≢false (sym (ap is_told (shown ∙ had))))
 held_now last n other request answer cs (Holding hold) pin shown had stands =
-    (hold, refl, ap told (shown ∙ had), ap number_of (shown ∙ had))
+    (hold, refl, ap is_told (shown ∙ had), ap pin_number (shown ∙ had))
 held_now last n other request answer cs (Asking hold inquiry) pin shown had stands = absurd stands
 
-pub questioning : (start : MachineState) (end : VersionView) (seen : ℕ) (desk : List Call) (seat other n : ℕ) (request : Request)
-    (answer : Answer) (st : Stage) (cs : List Call) → IsStart start → IsStage start.world end seen desk st
+pub questioning : (m : Merging) (seat other n : ℕ) (request : Request) (answer : Answer) (st : Stage) (cs : List Call)
+    → IsStart m.start → IsStage m st
     → st.calls seat ≡ Asks other n request answer ∷ cs
-    → (there : Stage) × Onward start.world end seen desk seat st there × (there.calls seat ≡ cs)
-questioning start end seen desk seat other n request answer st cs is_start k is =
-    let w : World = world_by start.world st.events in
-    let mine = at_calls start.world end seen desk seat st (Asks other n request answer ∷ cs) k is in
+    → (there : Stage) × Onward m seat st there × (there.calls seat ≡ cs)
+questioning m seat other n request answer st cs is_start k is =
+    let w : World = run st.events m.start.world in
+    let mine = at_calls m seat st (Asks other n request answer ∷ cs) k is in
     let asks : st.calls seat ≡ Asks seat n request answer ∷ cs = is ∙ ap (λ s. Asks s n request answer ∷ cs) mine.are.0.0 in
     let h = held_now (last_of st) n other request answer cs (session_of w seat) _ (k.reached.board.pins seat) mine.are.0.1
     mine.stands in
     let hold : Hold = h.0 in
-    let sound : IsSound w = always_sound start st.events is_start in
+    let sound : IsSound w = always_sound m.start st.events is_start in
     let held : IsHeld w hold = subst (IsSessionSound w) h.1 (sound.sessions seat) in
     let version : hold.version ≡ n = sym (held.settled h.2) ∙ h.3 in
     let found : slice_get w.sessions seat ≡ Some (Holding hold) =
@@ -94,17 +94,18 @@ questioning start end seen desk seat other n request answer st cs is_start k is 
     let count : length w.versions ≡ last_of st = same_count st.store.desk w k.reached.desk in
     let low : n ≤ last_of st = omega (arith, held.held_last, version, count) in
     let answers : IsAnswer request (graph_at w.opening w.versions hold.version) answer =
-    subst (λ m. IsAnswer request (graph_at w.opening w.versions m) answer) (sym version)
-    (subst (λ (g : Graph). IsAnswer request g answer) (posted_graph start.world end seen desk st n k low) mine.are.0.2) in
+    subst (λ number. IsAnswer request (graph_at w.opening w.versions number) answer) (sym version)
+    (subst (λ (g : Graph). IsAnswer request g answer) (posted_graph m st n k low) mine.are.0.2) in
     let more : List Event =
     (Ask seat request ∷ replicate (length (blocks_at w.opening w.versions n)) (Read seat)) ++ Reply seat ∷ [] in
     let same : (Ask seat request ∷ replicate (length (blocks_at w.opening w.versions hold.version)) (Read seat)) ++ Reply seat ∷ []
     ≡ more =
-    ap (λ m. (Ask seat request ∷ replicate (length (blocks_at w.opening w.versions m)) (Read seat)) ++ Reply seat ∷ []) version in
+    ap (λ number. (Ask seat request ∷ replicate (length (blocks_at w.opening w.versions number)) (Read seat)) ++ Reply seat ∷ [])
+    version in
     let done : all_done more w ≡ Some w =
     subst (λ es. all_done es w ≡ Some w) same (question_done w seat request hold found) in
-    let there : world_by start.world (st.events ++ more) ≡ w =
-    run_more st.events more start.world ∙ done_is_run more w w done in
+    let there : run (st.events ++ more) m.start.world ≡ w =
+    run_more st.events more m.start.world ∙ done_is_run more w w done in
     let next : Stage = record { events = st.events ++ more; store = st.store; calls = with_calls st.calls seat cs } in (
       next,
       record {
@@ -122,24 +123,24 @@ questioning start end seen desk seat other n request answer st cs is_start k is 
             | inr differ ↦ ap (filter is_raise) (calls_else st.calls seat t cs differ) ∙ k.raises t
           ];
           ends = k.ends;
-          seats = λ t. subst (λ v. IsSeat (length start.world.sessions) end seen (last_of st) st.store.board.floor t
-              (pin_at st.store.board.pins t) (session_of v t) (with_calls st.calls seat cs t)) (sym there)
+          seats = λ t. subst (λ v. IsOneSeat m (view_of m.seen (last_of st) (place_on st.store.board t) (session_of v t)
+              (with_calls st.calls seat cs t))) (sym there)
               (elim (cases_eq t seat) [
                 | inl own ↦
-                    subst (λ u. IsSeat (length start.world.sessions) end seen (last_of st) st.store.board.floor u
-                    (pin_at st.store.board.pins u) (session_of w u) (with_calls st.calls seat cs u)) (sym own)
-                    (subst (IsSeat (length start.world.sessions) end seen (last_of st) st.store.board.floor seat
-                    (pin_at st.store.board.pins seat) (session_of w seat)) (sym (calls_here st.calls seat seat cs refl))
+                    subst (λ u. IsOneSeat m (view_of m.seen (last_of st) (place_on st.store.board u) (session_of w u)
+                    (with_calls st.calls seat cs u))) (sym own)
+                    (subst (λ calls. IsOneSeat m (view_of m.seen (last_of st) (place_on st.store.board seat) (session_of w seat)
+                    calls)) (sym (calls_here st.calls seat seat cs refl))
                     (record {
                       least = mine.least;
                       are = mine.are.1;
                       entries = mine.entries;
-                      ready = ready_next cs (length end.batches) (last_of st) seen mine.least mine.entries mine.ready;
+                      ready = ready_next cs (length m.end.batches) (last_of st) m.seen mine.least mine.entries mine.ready;
                       stands = subst (Stands (last_of st) cs) (sym h.1) (λ no_pin. absurd (true≢false (sym h.2 ∙ no_pin)));
                     }))
                 | inr differ ↦
-                    subst (IsSeat (length start.world.sessions) end seen (last_of st) st.store.board.floor t
-                    (pin_at st.store.board.pins t) (session_of w t)) (sym (calls_else st.calls seat t cs differ)) (k.seats t)
+                    subst (λ calls. IsOneSeat m (view_of m.seen (last_of st) (place_on st.store.board t) (session_of w t) calls))
+                    (sym (calls_else st.calls seat t cs differ)) (k.seats t)
               ]);
         };
         desk_same = refl;

@@ -1,5 +1,5 @@
 -- A question of a session that holds a version: its events are all done, leave the world as it was, and reply with its answer.
-use Rattle.std.proofs.Common.{◌≡◌, ℕ, zero, suc, ◌+◌, ◌<◌, true, List, [], ◌∷◌, ◌++◌, length, map, take, set, replicate, get_or}
+use Rattle.std.proofs.Common.{◌≡◌, ℕ, zero, suc, ◌+◌, ◌<◌, true, List, [], ◌∷◌, ◌++◌, length, take, set, replicate, get_or}
 use Rattle.std.proofs.Common.{refl, sym, ap, subst, ◌∙◌, arith}
 use Rattle.std.proofs.{lemmas.Bool.le-leb, lemmas.List.{set-set, take_all}, lemmas.Option.slice_get-get_or}
 use Rattle.std.specs.{List.flat_map, Option.{option_and_then, option_map}, Prelude.{if◌then◌else◌, slice_get, MatchOption}}
@@ -7,24 +7,23 @@ use Rattle.std.specs.{declared.option.Option.Option, declared.option.Option.TheV
 use Rattle.graph_types.specs.{Answer.IsAnswer, Graph.{Graph, unlimited}, Limits.standard_limits}
 use Rattle.graph_types.specs.{declared.requests.Request.Request, declared.batches.NamedOp.NamedOp}
 use Rattle.graph_types.proofs.LimitsKept.{same_answer}
+use Rattle.graph_types.proofs.{Joined.one_piece_more, ListPlaces.{set_same, set_again}}
 use Rattle.edge_block.specs.Slots.{BlockView}
 use Rattle.graph_version.specs.Versions.{VersionView}
-use Rattle.epoch_core.specs.{declared.events.Event.Event, declared.events.Event.TheVariants.{Recycle, Ask, Read, Reply}}
+use Rattle.epoch_core.specs.declared.events.Event.{Event, TheVariants.{Ask, Read, Reply}}
 use Rattle.epoch_core.specs.{declared.session_states.Hold.Hold, declared.session_states.Inquiry.Inquiry}
 use Rattle.epoch_core.specs.declared.session_states.SessionState.{SessionState}
-use Rattle.epoch_core.specs.{declared.session_states.SessionState.TheVariants.{Holding, Asking}, Blocks.put_if_some}
+use Rattle.epoch_core.specs.declared.session_states.SessionState.TheVariants.{Holding, Asking}
 use Rattle.epoch_core.specs.{Worlds.{Answer, World, graph_with}, Versions.{blocks_at, edges_at, edges_of, graph_at, version_at}}
-use Rattle.epoch_core.specs.Machine.{Answers, Question, Replies, is_all_read, move, question_in, question_of, read_on, step}
+use Rattle.epoch_core.specs.Machine.{Answers, Question, Replies, is_all_read, question_in, question_of, read_on, step}
 use Rattle.epoch_core.specs.Machine.{to_ask, to_read, to_reply, with_sessions}
-use Rattle.epoch_core.specs.{Runs.{AllReplies, next_world, run}, Sound.{IsHeld, IsNamed}}
-use Rattle.epoch_core.proofs.Lists.{set_same, one_piece_more}
+use Rattle.epoch_core.specs.{Runs.AllReplies, Sound.{IsHeld, IsNamed}}
+use Rattle.epoch_core.proofs.{RunsTogether.both_reply, SessionSteps.changed_to}
+use Rattle.epoch_core.proofs.RunsTogether.{AreSilent, silent_reads}
 use Rattle.store_steps.specs.Steps.{all_done, filling, fresh_in, posting}
 use Rattle.store_steps.proofs.Histories.{done_is_run}
 
 -- Events that reply nothing
-
-abbrev pub AreSilent : List Event → Type 0
-AreSilent es = (w : World) (replies : List (List Answer)) → AllReplies w es replies replies
 
 silent_filling : (bs : List BlockView) (rest : List Event) → AreSilent rest → AreSilent (flat_map filling bs ++ rest)
 silent_filling [] rest silent w replies = silent w replies
@@ -33,14 +32,6 @@ silent_filling (b ∷ bs) rest silent w replies =
 
 pub silent_posting : (v : VersionView) (batch : List NamedOp) (taken : List ℕ) → AreSilent (posting v batch taken)
 silent_posting v batch taken = silent_filling (fresh_in v taken) _ (λ w replies. (replies, refl, refl))
-
-pub silent_recycling : (ns : List ℕ) → AreSilent (map Recycle ns)
-silent_recycling [] w replies = refl
-silent_recycling (n ∷ ns) w replies = (replies, refl, silent_recycling ns _ replies)
-
-silent_reads : (n s : ℕ) → AreSilent (replicate n (Read s))
-silent_reads zero s w replies = refl
-silent_reads (suc n) s w replies = (replies, refl, silent_reads n s _ replies)
 
 -- Events one after another
 
@@ -57,24 +48,7 @@ both_done (e ∷ es) fs w mid after front rest =
       | Some next ↦ λ is. both_done es fs next mid after is rest
     ] front
 
-pub both_reply : (es fs : List Event) (w : World) (old mid new : List (List Answer)) → AllReplies w es old mid
-    → AllReplies (run es w) fs mid new → AllReplies w (es ++ fs) old new
-both_reply [] fs w old mid new all more = subst (λ rs. AllReplies w fs rs new) all more
-both_reply (e ∷ es) fs w old mid new all more = (all.0, all.1, both_reply es fs (next_world w e) all.0 mid new all.2 more)
-
 -- A question
-
-pub changed_to : (w : World) (s : ℕ) (change : SessionState → Option SessionState) (session next : SessionState)
-    → slice_get w.sessions s ≡ Some session → change session ≡ Some next
-    → move w s change ≡ Some (with_sessions w (set w.sessions s next))
-changed_to w s change session next found is =
-    ap (λ o. option_map (with_sessions w) (put_if_some w.sessions s (option_and_then change o))) found
-    ∙ ap (λ o. option_map (with_sessions w) (put_if_some w.sessions s o)) is
-
-set_again : {A : Type 0} (xs : List A) (i : ℕ) (x : A) → slice_get xs i ≡ Some x → set xs i x ≡ xs
-set_again [] i x is = cc
-set_again (y ∷ ys) zero x is = let same : y ≡ x = cc in ap (λ z. z ∷ ys) (sym same)
-set_again (y ∷ ys) (suc i) x is = ap (λ zs. y ∷ zs) (set_again ys i x is)
 
 module _ (w : World) (s : ℕ) (request : Request) (hold : Hold) (found : slice_get w.sessions s ≡ Some (Holding hold)) where
   abbrev pub held_blocks : List ℕ

@@ -1,38 +1,34 @@
 -- The desk and the board beside a run of the machine.
-use Rattle.std.proofs.Common.{◌≡◌, ℕ, zero, suc, ◌<◌, true, List, [], ◌∷◌, ◌++◌, length, get_or, set, refl, sym, ap, subst, ◌∙◌}
+use Rattle.std.proofs.Common.{◌≡◌, ℕ, ◌<◌, true, List, [], ◌∷◌, ◌++◌, length, get_or, refl, sym, ap, subst, ◌∙◌}
 use Rattle.std.proofs.{Common.arith, lemmas.Grind.common_steps, lemmas.List.length-map, lemmas.Option.slice_get-get_or}
-use Rattle.std.specs.{Option.unwrap_or, Option.option_map, Option.option_and_then, Prelude.slice_get, Prelude.is_some}
-use Rattle.std.specs.declared.option.Option.{Option, TheVariants.None, TheVariants.Some}
+use Rattle.std.specs.Option.{unwrap_or, option_map}
+use Rattle.std.specs.declared.option.Option.TheVariants.{None, Some}
 use Rattle.graph_types.specs.Limits.{LimitsView, AreLimits}
 use Rattle.epoch_core.specs.Worlds.{seat_pin, World, MachineState, IsStart, start_world_in, last_number, session_of, held_in}
 use Rattle.epoch_core.specs.declared.events.Event.{Event, TheVariants.{Floor, Pin, Enter, Settle, Ask, Read, Reply, Release}}
-use Rattle.epoch_core.specs.declared.session_states.SessionState.{SessionState, TheVariants.{Idle, Pinned, Holding, Asking}}
-use Rattle.epoch_core.specs.{Epochs.PinsInOrder, Blocks.put_if_some, Runs.{run, next_world, is_done}, Machine.{step, move, to_pin}}
-use Rattle.epoch_core.{specs.Machine.{to_enter, to_settle, with_sessions}, proofs.Moves.{Moved, moved, floored, session_after}}
+use Rattle.epoch_core.specs.declared.session_states.SessionState.TheVariants.{Idle, Pinned}
+use Rattle.epoch_core.specs.{Epochs.PinsInOrder, Runs.{run, is_done}, Machine.{step, to_pin}}
+use Rattle.epoch_core.{specs.Machine.to_enter, proofs.Moves.{Moved, moved, floored, session_after}}
 use Rattle.epoch_core.proofs.{Steps.{always_sound, idle_at}, Sizes.size_run, Epochs.pins_in_order}
 use Rattle.graph_version.specs.Versions.{empty_version_in}
 use Rattle.block_reclamation.specs.{declared.copies.PinCopy.PinCopy, Board.BoardState, Board.with_pin}
 use Rattle.block_reclamation.specs.Copies.{pin_at, unsettled, settled, copy_of}
-use Rattle.store_steps.specs.{Desks.DeskView, Shown.ShowsWorld, Histories.IsUnseen, Steps.IsTaken, Opening.opened_desk}
+use Rattle.block_reclamation.proofs.SeatPins.{no_pin}
+use Rattle.epoch_core.proofs.RunsTogether.{run_more, run_next, some_step}
+use Rattle.epoch_core.proofs.SessionSteps.{idle_if, move_done, held_entered, settle_done}
+use Rattle.store_steps.specs.{Desks.DeskView, Shown.ShowsWorld, Histories.IsUnseen, Steps.SimulatesIn, Opening.opened_desk}
 use Rattle.store_steps.specs.Boards.{ShowsBoard, ShowsIfDone, raised_board}
-use Rattle.store_steps.specs.Reached.{Store, opened_store, world_by, IsReached, Leads, IsReaders, StaysReached}
+use Rattle.store_steps.specs.Reached.{Store, opened_store, IsReached, Leads, IsReaders, StaysReached}
 use Rattle.store_steps.proofs.BoardSteps.{pins_as_machine, settles_as_machine, unpins_as_machine, raises_as_machine}
-use Rattle.store_steps.proofs.{Histories.done_is_run, Histories.readers_are_unseen, OpeningShown.no_pin, OpeningShown.opens_blank}
+use Rattle.store_steps.proofs.{Histories.{done_is_run, readers_are_unseen}, OpeningShown.opens_blank}
 
-pub run_more : (es fs : List Event) (w : World) → run (es ++ fs) w ≡ run fs (run es w)
-run_more [] fs w = refl
-run_more (e ∷ es) fs w = run_more es fs (next_world w e)
-
--- one event more
-pub run_next : (es : List Event) (e : Event) (w after : World) → step (run es w) e ≡ Some after → after ≡ run (es ++ e ∷ []) w
-run_next es e w after is = sym (run_more es (e ∷ []) w ∙ ap (λ o. unwrap_or o (run es w)) is)
-
--- what the desk's steps leave is reached, and the board shows it as before
-pub taken_reached : (start : World) (s : Store) (new : DeskView) (events more : List Event)
-    → IsTaken (world_by start events) more new → Leads start events s more (record s { desk = new })
-taken_reached start s new events more t r =
-    let there : t.after ≡ world_by start (events ++ more) =
-    sym (run_more events more start ∙ done_is_run more (world_by start events) t.after t.done)
+-- what the simulating events leave is reached, and the board shows it as before
+pub simulated_reached : (start : World) (s : Store) (new : DeskView) (events more : List Event)
+    → SimulatesIn (run events start) more new
+    → Leads start events (record { old = s; events = more; new = record s { desk = new } })
+simulated_reached start s new events more t r =
+    let there : t.after ≡ run (events ++ more) start =
+    sym (run_more events more start ∙ done_is_run more (run events start) t.after t.done)
     in
     let board : ShowsBoard s.board t.after = record {
       floor = t.floor ∙ r.board.floor;
@@ -46,10 +42,14 @@ taken_reached start s new events more t r =
 
 -- a step of the board's that is done
 board_reached : (start : World) (s : Store) (new : BoardState) (copy : PinCopy) (events : List Event) (event : Event)
-    (after : World) → step (world_by start events) event ≡ Some after → ShowsIfDone (world_by start events) event new copy
-    → Leads start events s (event ∷ []) (record { desk = s.desk; board = new; copy = copy })
+    (after : World) → step (run events start) event ≡ Some after → ShowsIfDone (run events start) event new copy
+    → Leads start events (record {
+      old = s;
+      events = event ∷ [];
+      new = record { desk = s.desk; board = new; copy = copy };
+    })
 board_reached start s new copy events event after is shows r =
-    let there : after ≡ world_by start (events ++ event ∷ []) =
+    let there : after ≡ run (events ++ event ∷ []) start =
     run_next events event start after is in
     let all = shows after is in
     record {
@@ -60,29 +60,29 @@ board_reached start s new copy events event after is shows r =
 
 -- one that keeps the copy
 board_kept : (start : World) (s : Store) (new : BoardState) (events : List Event) (event : Event) (after : World)
-    → step (world_by start events) event ≡ Some after → ShowsIfDone (world_by start events) event new (world_by start events).copy
-    → Leads start events s (event ∷ []) (record s { board = new })
+    → step (run events start) event ≡ Some after → ShowsIfDone (run events start) event new (run events start).copy
+    → Leads start events (record { old = s; events = event ∷ []; new = record s { board = new } })
 board_kept start s new events event after is shows r =
     subst (λ copy. IsReached start (events ++ event ∷ []) (record { desk = s.desk; board = new; copy = copy })) r.copied_is
-    (board_reached start s new (world_by start events).copy events event after is shows r)
+    (board_reached start s new (run events start).copy events event after is shows r)
 
 -- a reader's step, done or skipped
 reader_reached : (start : World) (event : Event) → IsUnseen event → IsReaders start event
 reader_reached start event hidden s events r =
-    elim (step (world_by start events) event) as (λ o. step (world_by start events) event ≡ o
+    elim (step (run events start) event) as (λ o. step (run events start) event ≡ o
     → IsReached start (events ++ event ∷ []) s) [
       | None ↦ λ is.
-          (let there : world_by start events ≡ world_by start (events ++ event ∷ []) =
-          sym (run_more events (event ∷ []) start ∙ ap (λ o. unwrap_or o (world_by start events)) is) in
+          (let there : run events start ≡ run (events ++ event ∷ []) start =
+          sym (run_more events (event ∷ []) start ∙ ap (λ o. unwrap_or o (run events start)) is) in
           record {
             desk = subst (ShowsWorld s.desk) there r.desk;
             board = subst (ShowsBoard s.board) there r.board;
             copied_is = ap (λ w. w.copy) (sym there) ∙ r.copied_is;
           })
       | Some after ↦ λ is.
-          (let there : after ≡ world_by start (events ++ event ∷ []) =
+          (let there : after ≡ run (events ++ event ∷ []) start =
           run_next events event start after is in
-          let both = hidden s.desk s.board (world_by start events) after is r.desk r.board in
+          let both = hidden s.desk s.board (run events start) after is r.desk r.board in
           record {
             desk = subst (ShowsWorld s.desk) there both.0;
             board = subst (ShowsBoard s.board) there both.1;
@@ -92,65 +92,24 @@ reader_reached start event hidden s events r =
 
 -- Steps that are done
 
-move_done : (w : World) (s : ℕ) (change : SessionState → Option SessionState) (session next : SessionState)
-    → slice_get w.sessions s ≡ Some session → change session ≡ Some next → (after : World) × (move w s change ≡ Some after)
-move_done w s change session next found is = (
-  with_sessions w (set w.sessions s next),
-  ap (λ o. option_map (with_sessions w) (put_if_some w.sessions s (option_and_then change o))) found
-      ∙ ap (λ o. option_map (with_sessions w) (put_if_some w.sessions s o)) is,
-)
-
-some_step : (o : Option World) → is_some o ≡ true → (after : World) × (o ≡ Some after)
-some_step o is = grind (arith, common_steps)
-
-pub idle_if : (session : SessionState) → seat_pin session ≡ None → session ≡ Idle
-idle_if session is = grind (arith, common_steps)
-
 pin_done : (start : World) (s : Store) (seat : ℕ) (events : List Event) → IsReached start events s
     → seat < length start.sessions → pin_at s.board.pins seat ≡ None
-    → (after : World) × (step (world_by start events) (Pin seat) ≡ Some after)
+    → (after : World) × (step (run events start) (Pin seat) ≡ Some after)
 pin_done start s seat events r low none =
-    let w : World = world_by start events in
+    let w : World = run events start in
     let few : length w.sessions ≡ length start.sessions = (size_run events start).sessions in
     let idle : session_of w seat ≡ Idle = idle_if (session_of w seat) (r.board.pins seat ∙ none) in
     move_done w seat (to_pin w.floor) Idle (Pinned w.floor) (slice_get-get_or w.sessions seat Idle (omega arith) ∙ ap Some idle)
     refl
 
-held_settles : (session : SessionState) (n : ℕ) → held_in session ≡ Some n
-    → (next : SessionState) × (to_settle session ≡ Some next)
-held_settles Idle n held = cc
-held_settles (Pinned pin) n held = cc
-held_settles (Holding hold) n held = (Holding (record { pin = hold.version; settled = true; version = hold.version }), refl)
-held_settles (Asking hold inquiry) n held = (
-  Asking (record {
-    pin = hold.version;
-    settled = true;
-    version = hold.version;
-  }) inquiry,
-  refl,
-)
-
-found_at : (xs : List SessionState) (s n : ℕ) → held_in (get_or xs s Idle) ≡ Some n → slice_get xs s ≡ Some (get_or xs s Idle)
-found_at [] s n held = cc
-found_at (x ∷ xs) zero n held = refl
-found_at (x ∷ xs) (suc s) n held = found_at xs s n held
-
-settle_done : (w : World) (s n : ℕ) → held_in (session_of w s) ≡ Some n → (after : World) × (step w (Settle s) ≡ Some after)
-settle_done w s n held =
-    let next = held_settles (session_of w s) n held in
-    move_done w s to_settle (session_of w s) next.0 (found_at w.sessions s n held) next.1
-
-held_entered : (last : ℕ) (session next : SessionState) → to_enter last session ≡ Some next → held_in next ≡ Some last
-held_entered last session next is = grind (arith, common_steps)
-
 pub same_count : (d : DeskView) (w : World) → ShowsWorld d w → last_number w ≡ length d.last.batches
 same_count d w shows = sym (length-map w.versions (λ v. v.batch)) ∙ ap length shows.batches
 
 entered_holds : (start : World) (s : Store) (seat : ℕ) (events : List Event) → IsReached start events s
-    → is_done (world_by start events) (Enter seat) ≡ true
-    → held_in (session_of (world_by start (events ++ Enter seat ∷ [])) seat) ≡ Some (length s.desk.last.batches)
+    → is_done (run events start) (Enter seat) ≡ true
+    → held_in (session_of (run (events ++ Enter seat ∷ []) start) seat) ≡ Some (length s.desk.last.batches)
 entered_holds start s seat events r done =
-    let w : World = world_by start events in
+    let w : World = run events start in
     let there = some_step (step w (Enter seat)) done in
     let m : Moved w seat (to_enter (last_number w)) there.0 = moved w seat (to_enter (last_number w)) there.0 there.1 in
     ap (λ v. held_in (session_of v seat)) (sym (run_next events (Enter seat) start there.0 there.1) ∙ m.result)
@@ -165,12 +124,12 @@ start_reached start is d shows = grind (arith, common_steps, idle_at, no_pin)
 pub stays_reached : (start : MachineState) → IsStart start → StaysReached start.world
 stays_reached start is_start = record {
   opening = start_reached start is_start;
-  applied = λ s next events more takes r.
-      taken_reached start.world s next events more (takes (world_by start.world events) r.desk) r;
-  collected = λ s next events more takes r.
-      taken_reached start.world s next events more (takes (world_by start.world events) r.desk r.copied_is).0 r;
+  applied = λ s next events more simulates r.
+      simulated_reached start.world s next events more (simulates (run events start.world) r.desk) r;
+  collected = λ s next events more simulates r.
+      simulated_reached start.world s next events more (simulates (run events start.world) r.desk r.copied_is).0 r;
   raised = λ s events is_board few_sessions r.
-      let w : World = world_by start.world events in
+      let w : World = run events start.world in
       let few : length w.sessions ≡ length start.world.sessions = (size_run events start.world).sessions in
       subst (λ n. IsReached start.world (events ++ Floor ∷ [])
       (record { desk = s.desk; board = raised_board n s.board; copy = copy_of n s.board.pins })) (same_count s.desk w r.desk)
@@ -179,18 +138,18 @@ stays_reached start is_start = record {
   pinned = λ s seat events board low few none r.
       let done = pin_done start.world s seat events r few none in
       board_kept start.world s (with_pin s.board seat (Some (unsettled s.board.floor))) events (Pin seat) done.0 done.1
-      (pins_as_machine s.board (world_by start.world events) seat board low r.board) r;
+      (pins_as_machine s.board (run events start.world) seat board low r.board) r;
   settled = λ s seat n events board low held r.
-      let w : World = world_by start.world events in
+      let w : World = run events start.world in
       let done = settle_done w seat n held in
       let order : PinsInOrder w = pins_in_order w (always_sound start events is_start) in
       board_kept start.world s (with_pin s.board seat (option_map (settled n) (pin_at s.board.pins seat))) events (Settle seat)
       done.0 done.1
       (settles_as_machine s.board w seat n board low r.board held (λ pin is. order.pin_held seat pin n is held)) r;
   unpinned = λ s seat events board low done r.
-      let there = some_step (step (world_by start.world events) (Release seat)) done in
+      let there = some_step (step (run events start.world) (Release seat)) done in
       board_kept start.world s (with_pin s.board seat None) events (Release seat) there.0 there.1
-      (unpins_as_machine s.board (world_by start.world events) seat board low r.board) r;
+      (unpins_as_machine s.board (run events start.world) seat board low r.board) r;
   enter = λ seat. reader_reached start.world (Enter seat) (readers_are_unseen.enter seat);
   ask = λ seat request. reader_reached start.world (Ask seat request) (readers_are_unseen.ask seat request);
   read = λ seat. reader_reached start.world (Read seat) (readers_are_unseen.read seat);

@@ -1,15 +1,17 @@
 -- Lists of calls that have the same calls for each seat leave the same board.
-use Rattle.std.proofs.Common.{◌≡◌, ℕ, ◌<◌, true, false, inl, inr, List, [], ◌∷◌, length, set, refl, sym, ap, ◌∙◌, Option, Some}
-use Rattle.std.proofs.Common.{None, arith, subst, get_or-set_same, get_or-set_other}
+use Rattle.std.proofs.Common.{◌≡◌, ℕ, ◌<◌, true, false, inl, inr, List, [], ◌∷◌, length, refl, sym, ap, ◌∙◌, Option, Some}
+use Rattle.std.proofs.Common.{None, arith, subst}
 use Rattle.std.proofs.{lemmas.Bool.{cases_Bool, cases_lt, cond-true, cond-false, eqb-true, eqb-false}, lemmas.List.length-set}
 use Rattle.std.specs.Prelude.{filter, option_map}
 use Rattle.graph_version.specs.Versions.{VersionView}
 use Rattle.block_reclamation.specs.{declared.copies.Pin.Pin as SeatPin, declared.copies.TheConstants.SEATS, Board.BoardState}
 use Rattle.block_reclamation.specs.Copies.{pin_at, unsettled, settled, copy_of, floor_of}
+use Rattle.block_reclamation.proofs.SeatPins.{pin_set, pin_stays, pin_beyond}
+use Rattle.graph_types.proofs.ListPlaces.{same_elements}
 use Rattle.store_steps.specs.Reached.{Store}
 use Rattle.store_steps.specs.Merges.{Call, Applies, Collects, Raises, Pins, Settles, Unpins, Enters, Asks, is_desks, is_of}
 use Rattle.store_steps.specs.Merges.{desk_by, next_board, board_by, next_store, store_by, AreBoardCalls}
-use Rattle.store_steps.proofs.{SeatCalls.{next_pin, next_floor, pin_beyond}, BoardSteps.same_elements}
+use Rattle.store_steps.proofs.SeatCalls.{next_pin, next_floor}
 
 -- each raise copies the pins as they stand
 abbrev pub MakesCopies : BoardState → List Call → Type 0
@@ -56,15 +58,6 @@ record IsNext (b : BoardState) (c : Call) (t : ℕ) : Type 0 where
   own : is_of t c ≡ true
       → (pin_at (next_board b c).pins t ≡ next_pin b.floor (pin_at b.pins t) c) × ((next_board b c).floor ≡ next_floor b.floor c)
   others : is_of t c ≡ false → (pin_at (next_board b c).pins t ≡ pin_at b.pins t) × ((next_board b c).floor ≡ b.floor)
-
-pin_set : (b : BoardState) (t other : ℕ) (pin : Option SeatPin) → t < length b.pins → other ≡ t
-    → pin_at (set b.pins other pin) t ≡ pin
-pin_set b t other pin low same =
-    ap (λ o. pin_at (set b.pins o pin) t) same ∙ get_or-set_same b.pins t pin None low
-
-pin_stays : (b : BoardState) (t other : ℕ) (pin : Option SeatPin) → (other ≡ t → ⊥)
-    → pin_at (set b.pins other pin) t ≡ pin_at b.pins t
-pin_stays b t other pin differ = get_or-set_other b.pins other t pin None (λ e. differ (sym e))
 
 is_next : (b : BoardState) (c : Call) (cs : List Call) (t : ℕ) → t < length b.pins → MakesCopies b (c ∷ cs) → IsNext b c t
 is_next b (Raises copy) cs t low makes =

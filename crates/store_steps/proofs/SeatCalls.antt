@@ -1,35 +1,37 @@
 -- The calls of one seat among those of the board.
-use Rattle.std.proofs.Common.{◌≡◌, ℕ, ◌<◌, ◌≤◌, Bool, true, false, inl, inr, List, [], ◌∷◌, length, get_or, set, refl, sym, ap}
-use Rattle.std.proofs.Common.{subst, ◌∙◌, Option, Some, None, arith, get_or-set_same, get_or-set_other}
-use Rattle.std.proofs.{Math.ListN.get_or-map, lemmas.Grind.common_steps}
-use Rattle.std.proofs.lemmas.Bool.{cases_Bool, cond-true, cond-false, eqb-true, eqb-false, cases_lt}
-use Rattle.std.proofs.lemmas.List.{length-set, length-map}
+use Rattle.std.proofs.Common.{◌≡◌, ℕ, ◌<◌, ◌≤◌, Bool, true, false, inl, inr, List, [], ◌∷◌, length, refl, sym, ap}
+use Rattle.std.proofs.Common.{subst, ◌∙◌, Option, Some, None, arith}
+use Rattle.std.proofs.lemmas.Bool.{cases_Bool, cond-true, cond-false, eqb-true, eqb-false}
+use Rattle.std.proofs.lemmas.List.{length-set}
 use Rattle.std.specs.Prelude.{max, cond, filter, option_map}
 use Rattle.graph_types.specs.Answer.{IsAnswer}
 use Rattle.graph_version.specs.Versions.{VersionView}
 use Rattle.block_reclamation.specs.{declared.copies.PinCopy.PinCopy, declared.copies.Pin.Pin as SeatPin}
 use Rattle.block_reclamation.specs.{declared.copies.TheConstants.SEATS, Board.BoardState}
-use Rattle.block_reclamation.specs.Copies.{pin_at, unsettled, settled, copy_of, floor_of, settled_number, unsettled_number}
+use Rattle.block_reclamation.specs.Copies.{pin_at, unsettled, settled, floor_of}
+use Rattle.block_reclamation.proofs.SeatPins.{set_own, set_else, seat_low, CopiesPin, copied_pin}
 use Rattle.store_steps.specs.Merges.{Call, Asks, graph_of_version, Applies, Collects, Raises, Pins, Enters, Settles, Unpins}
 use Rattle.store_steps.specs.Merges.{is_of, is_raise, next_board, IsBoardCall, AreBoardCalls, EntersInOrder, posted_by}
 
--- the copy has this pin at the seat
-pub record CopiesPin (copy : PinCopy) (seat : ℕ) (pin : Option SeatPin) : Type 0 where
-  pub settled_is : get_or copy.settled seat None ≡ settled_number pin
-  pub unsettled_is : get_or copy.unsettled seat None ≡ unsettled_number pin
-  pub settled_seats : length copy.settled ≡ SEATS
-  pub unsettled_seats : length copy.unsettled ≡ SEATS
+-- a seat on the board: its number, the floor, and its pin
+pub record SeatPlace : Type 0 where
+  pub seat : ℕ
+  pub floor : ℕ
+  pub pin : Option SeatPin
 
--- a call at a seat with this pin
-abbrev pub IsSeatCall : ℕ → VersionView → ℕ → Option SeatPin → Call → Type 0
-IsSeatCall sessions end seat pin (Raises copy) = CopiesPin copy seat pin
-IsSeatCall sessions end seat pin (Pins other) = (other ≡ seat) × (seat < sessions) × (pin ≡ None)
-IsSeatCall sessions end seat pin (Settles other number) = (other ≡ seat) × (floor : ℕ) × (pin ≡ Some (unsettled floor))
-IsSeatCall sessions end seat pin (Unpins other) = (other ≡ seat) × (old : SeatPin) × (pin ≡ Some old)
-IsSeatCall sessions end seat pin (Asks other number request answer) =
-    (other ≡ seat) × (pin ≡ Some (record { number = number; is_settled = true }))
+abbrev pub place_on : BoardState → ℕ → SeatPlace
+place_on b seat = record { seat = seat; floor = b.floor; pin = pin_at b.pins seat }
+
+-- a call at a seat
+abbrev pub IsSeatCall : ℕ → VersionView → SeatPlace → Call → Type 0
+IsSeatCall sessions end p (Raises copy) = CopiesPin copy p.seat p.pin
+IsSeatCall sessions end p (Pins other) = (other ≡ p.seat) × (p.seat < sessions) × (p.pin ≡ None)
+IsSeatCall sessions end p (Settles other number) = (other ≡ p.seat) × (floor : ℕ) × (p.pin ≡ Some (unsettled floor))
+IsSeatCall sessions end p (Unpins other) = (other ≡ p.seat) × (old : SeatPin) × (p.pin ≡ Some old)
+IsSeatCall sessions end p (Asks other number request answer) =
+    (other ≡ p.seat) × (p.pin ≡ Some (record { number = number; is_settled = true }))
     × IsAnswer request (graph_of_version end number) answer
-IsSeatCall sessions end seat pin _ = ⊥
+IsSeatCall sessions end p _ = ⊥
 
 abbrev pub next_pin : ℕ → Option SeatPin → Call → Option SeatPin
 next_pin floor pin (Pins other) = Some (unsettled floor)
@@ -41,52 +43,30 @@ abbrev pub next_floor : ℕ → Call → ℕ
 next_floor floor (Raises copy) = floor_of copy
 next_floor floor _ = floor
 
-abbrev pub AreSeatCalls : ℕ → VersionView → ℕ → ℕ → Option SeatPin → List Call → Type 0
-AreSeatCalls sessions end seat floor pin [] = Unit {0}
-AreSeatCalls sessions end seat floor pin (c ∷ cs) =
-    IsSeatCall sessions end seat pin c × AreSeatCalls sessions end seat (next_floor floor c) (next_pin floor pin c) cs
+abbrev pub next_place : SeatPlace → Call → SeatPlace
+next_place p c = record { seat = p.seat; floor = next_floor p.floor c; pin = next_pin p.floor p.pin c }
 
--- what a call of the board's is to a seat: one of the seat's, or one that leaves the seat as it was
-record AtSeat (sessions : ℕ) (end : VersionView) (seat : ℕ) (b : BoardState) (c : Call) : Type 0 where
-  seats : length (next_board b c).pins ≡ length b.pins
-  own : is_of seat c ≡ true → IsSeatCall sessions end seat (pin_at b.pins seat) c
-      × (pin_at (next_board b c).pins seat ≡ next_pin b.floor (pin_at b.pins seat) c)
-      × ((next_board b c).floor ≡ next_floor b.floor c)
-  others : is_of seat c ≡ false → (pin_at (next_board b c).pins seat ≡ pin_at b.pins seat) × ((next_board b c).floor ≡ b.floor)
+abbrev pub AreSeatCalls : ℕ → VersionView → SeatPlace → List Call → Type 0
+AreSeatCalls sessions end p [] = Unit {0}
+AreSeatCalls sessions end p (c ∷ cs) = IsSeatCall sessions end p c × AreSeatCalls sessions end (next_place p c) cs
 
-pub pin_beyond : (pins : List (Option SeatPin)) (seat : ℕ) → length pins ≤ seat → pin_at pins seat ≡ None
-pin_beyond pins seat high = grind (arith, common_steps)
+-- a call of the board's, from a seat's side
+record BoardCall : Type 0 where
+  board : BoardState
+  call : Call
+  seat : ℕ
 
-none_not : (pin : SeatPin) → None ≡ Some pin → ⊥
-none_not pin e = cc
-
-pub seat_low : (pins : List (Option SeatPin)) (seat : ℕ) (pin : SeatPin) → pin_at pins seat ≡ Some pin → seat < length pins
-seat_low pins seat pin is =
-    elim (cases_lt seat (length pins)) [
-      | inl low ↦ low
-      | inr high ↦ absurd (none_not pin (sym (pin_beyond pins seat high) ∙ is))
-    ]
-
-copied_pin : (copy : PinCopy) (pins : List (Option SeatPin)) (seat : ℕ) → length pins ≡ SEATS → copy ≡ copy_of copy.last pins
-    → CopiesPin copy seat (pin_at pins seat)
-copied_pin copy pins seat long is = record {
-  settled_is = ap (λ c. get_or c.settled seat None) is ∙ get_or-map settled_number pins seat None;
-  unsettled_is = ap (λ c. get_or c.unsettled seat None) is ∙ get_or-map unsettled_number pins seat None;
-  settled_seats = ap (λ c. length c.settled) is ∙ length-map pins settled_number ∙ long;
-  unsettled_seats = ap (λ c. length c.unsettled) is ∙ length-map pins unsettled_number ∙ long;
-}
-
--- a seat's pin that is set, at that seat and at others
-set_own : (pins : List (Option SeatPin)) (seat other : ℕ) (pin : Option SeatPin) → other ≡ seat → other < length pins
-    → pin_at (set pins other pin) seat ≡ pin
-set_own pins seat other pin same low = ap (pin_at (set pins other pin)) (sym same) ∙ get_or-set_same pins other pin None low
-
-set_else : (pins : List (Option SeatPin)) (seat other : ℕ) (pin : Option SeatPin) → (other ≡ seat → ⊥)
-    → pin_at (set pins other pin) seat ≡ pin_at pins seat
-set_else pins seat other pin differ = get_or-set_other pins other seat pin None (λ e. differ (sym e))
+-- what it is to the seat: one of the seat's, or one that leaves the seat as it was
+record AtSeat (sessions : ℕ) (end : VersionView) (x : BoardCall) : Type 0 where
+  seats : length (next_board x.board x.call).pins ≡ length x.board.pins
+  own : is_of x.seat x.call ≡ true → IsSeatCall sessions end (place_on x.board x.seat) x.call
+      × (pin_at (next_board x.board x.call).pins x.seat ≡ next_pin x.board.floor (pin_at x.board.pins x.seat) x.call)
+      × ((next_board x.board x.call).floor ≡ next_floor x.board.floor x.call)
+  others : is_of x.seat x.call ≡ false → (pin_at (next_board x.board x.call).pins x.seat ≡ pin_at x.board.pins x.seat)
+      × ((next_board x.board x.call).floor ≡ x.board.floor)
 
 at_seat : (sessions : ℕ) (end : VersionView) (seat : ℕ) (b : BoardState) (c : Call) → sessions ≤ SEATS → length b.pins ≡ SEATS → IsBoardCall sessions end b c
-    → AtSeat sessions end seat b c
+    → AtSeat sessions end (record { board = b; call = c; seat = seat })
 at_seat sessions end seat b (Raises copy) few long is = record {
   seats = refl;
   own = λ _. (copied_pin copy b.pins seat long is, refl, ap floor_of (sym is));
@@ -137,27 +117,30 @@ at_seat sessions end seat b (Enters other) few long is = absurd is
 
 -- what the board's calls are to a seat
 pub seat_calls : (board : List Call) (sessions : ℕ) (end : VersionView) (seat : ℕ) (b : BoardState) → sessions ≤ SEATS → length b.pins ≡ SEATS
-    → AreBoardCalls sessions end b board → AreSeatCalls sessions end seat b.floor (pin_at b.pins seat) (filter (is_of seat) board)
+    → AreBoardCalls sessions end b board → AreSeatCalls sessions end (place_on b seat) (filter (is_of seat) board)
 seat_calls [] sessions end seat b few long are = tt
 seat_calls (c ∷ cs) sessions end seat b few long are =
-    let here : AtSeat sessions end seat b c = at_seat sessions end seat b c few long are.0 in
+    let here : AtSeat sessions end (record { board = b; call = c; seat = seat }) = at_seat sessions end seat b c few long are.0 in
     let mine : List Call = filter (is_of seat) cs in
-    let rest : AreSeatCalls sessions end seat (next_board b c).floor (pin_at (next_board b c).pins seat) mine =
+    let rest : AreSeatCalls sessions end (place_on (next_board b c) seat) mine =
     seat_calls cs sessions end seat (next_board b c) few (here.seats ∙ long) are.1
     in
     elim (cases_Bool (is_of seat c)) [
       | inl is_own ↦
           (let o = here.own is_own in
-          subst (AreSeatCalls sessions end seat b.floor (pin_at b.pins seat)) (sym (cond-true (is_of seat c) (c ∷ mine) mine is_own)) (
+          subst (AreSeatCalls sessions end (place_on b seat)) (sym (cond-true (is_of seat c) (c ∷ mine) mine is_own)) (
             o.0,
-            subst (λ f. AreSeatCalls sessions end seat f (next_pin b.floor (pin_at b.pins seat) c) mine) o.2
-                (subst (λ p. AreSeatCalls sessions end seat (next_board b c).floor p mine) o.1 rest),
+            subst (λ f. AreSeatCalls sessions end
+                (record { seat = seat; floor = f; pin = next_pin b.floor (pin_at b.pins seat) c }) mine) o.2
+                (subst (λ p. AreSeatCalls sessions end (record { seat = seat; floor = (next_board b c).floor; pin = p }) mine)
+                o.1 rest),
           ))
       | inr is_else ↦
           (let o = here.others is_else in
-          subst (AreSeatCalls sessions end seat b.floor (pin_at b.pins seat)) (sym (cond-false (is_of seat c) (c ∷ mine) mine is_else))
-          (subst (λ f. AreSeatCalls sessions end seat f (pin_at b.pins seat) mine) o.1
-          (subst (λ p. AreSeatCalls sessions end seat (next_board b c).floor p mine) o.0 rest)))
+          subst (AreSeatCalls sessions end (place_on b seat)) (sym (cond-false (is_of seat c) (c ∷ mine) mine is_else))
+          (subst (λ f. AreSeatCalls sessions end (record { seat = seat; floor = f; pin = pin_at b.pins seat }) mine) o.1
+          (subst (λ p. AreSeatCalls sessions end (record { seat = seat; floor = (next_board b c).floor; pin = p }) mine)
+          o.0 rest)))
     ]
 
 -- Raises

@@ -1,43 +1,55 @@
 -- Stages on the way to one order: events so far, a store that they reach, and each seat's calls that are left.
-use Rattle.std.proofs.Common.{◌≡◌, ℕ, ◌<◌, ◌≤◌, false, inl, inr, List, [], ◌∷◌, ◌++◌, length, get_or, set, refl, Option, Some}
+use Rattle.std.proofs.Common.{◌≡◌, ℕ, ◌<◌, ◌≤◌, false, inl, inr, List, [], ◌∷◌, ◌++◌, length, set, refl, Option, Some}
 use Rattle.std.proofs.Common.{None, IfSome, sym, ap, subst, ◌∙◌, arith, get_or-set_same, get_or-set_other}
-use Rattle.std.proofs.{lemmas.Grind.common_steps, lemmas.Option.slice_get-get_or, lemmas.List.length-set}
-use Rattle.std.proofs.lemmas.Bool.{cases_eq, cases_lt, cond-true, cond-false, eq-eqb, ne_eqb}
+use Rattle.std.proofs.lemmas.Option.{slice_get-get_or}
+use Rattle.std.proofs.lemmas.Bool.{cases_eq, cond-true, cond-false, eq-eqb, ne_eqb}
 use Rattle.std.specs.{Prelude.{◌≢◌, ◌==◌, filter, slice_get, option_map, if◌then◌else◌}, Option.option_and_then}
 use Rattle.graph_version.specs.Versions.{VersionView}
 use Rattle.block_reclamation.specs.{declared.copies.Pin.Pin as SeatPin, declared.copies.TheConstants.SEATS}
-use Rattle.block_reclamation.specs.{Board.{BoardState, IsBoard, with_pin}, Copies.pin_at}
+use Rattle.block_reclamation.specs.{Board.IsBoard, Copies.pin_at}
+use Rattle.block_reclamation.proofs.SeatPins.{board_with}
 use Rattle.epoch_core.specs.{declared.events.Event.Event, declared.session_states.SessionState.SessionState}
 use Rattle.epoch_core.specs.declared.session_states.SessionState.TheVariants.{Idle, Pinned, Holding, Asking}
-use Rattle.epoch_core.specs.{Worlds.{World, session_of, Answer}, Blocks.put_if_some, Machine.{step, move, with_sessions}}
-use Rattle.epoch_core.specs.Runs.{AllReplies}
+use Rattle.epoch_core.specs.{Worlds.{World, MachineState, session_of, Answer}, Blocks.put_if_some}
+use Rattle.epoch_core.specs.Machine.{step, move, with_sessions}
+use Rattle.epoch_core.specs.Runs.{AllReplies, run}
 use Rattle.epoch_core.proofs.Moves.{session_after, session_else}
-use Rattle.store_steps.specs.{Steps.all_done, Reached.{Store, IsReached, with_seat, world_by}}
+use Rattle.epoch_core.proofs.RunsTogether.{run_next}
+use Rattle.store_steps.specs.{Steps.all_done, Reached.{Store, IsReached, with_seat}}
 use Rattle.store_steps.specs.Merges.{desk_by, next_replies, Call, is_desks, is_of, is_raise, next_store, AreDeskCalls}
-use Rattle.store_steps.specs.Merges.{EntersInOrder, events_of, Holds, AreDone, AreRun}
-use Rattle.store_steps.proofs.{SeatCalls.{AreSeatCalls, IsReady, entry_of}, Reached.run_next, SameBoards.MakesCopies}
+use Rattle.store_steps.specs.Merges.{EntersInOrder, events_of, Holds, AreDone, AreRun, Moment}
+use Rattle.store_steps.proofs.SeatCalls.{AreSeatCalls, IsReady, SeatPlace, entry_of, place_on}
+use Rattle.store_steps.proofs.SameBoards.{MakesCopies}
 
 -- One event of a session's that is done
 
-pub record Seated (start : World) (events : List Event) (e : Event) (seat : ℕ) (next : SessionState) : Type 0 where
+-- an event after these, and the session in which it leaves the seat
+pub record SessionStep : Type 0 where
+  pub events : List Event
+  pub event : Event
+  pub seat : ℕ
+  pub next : SessionState
+
+pub record Seated (start : World) (s : SessionStep) : Type 0 where
   pub after : World
-  pub stepped : step (world_by start events) e ≡ Some after
-  pub done : AreDone start events (e ∷ [])
-  pub here : session_of (world_by start (events ++ e ∷ [])) seat ≡ next
-  pub others : (t : ℕ) → t ≢ seat → session_of (world_by start (events ++ e ∷ [])) t ≡ session_of (world_by start events) t
+  pub stepped : step (run s.events start) s.event ≡ Some after
+  pub done : AreDone start s.events (s.event ∷ [])
+  pub here : session_of (run (s.events ++ s.event ∷ []) start) s.seat ≡ s.next
+  pub others : (t : ℕ) → t ≢ s.seat
+      → session_of (run (s.events ++ s.event ∷ []) start) t ≡ session_of (run s.events start) t
 
 pub seated : (start : World) (events : List Event) (e : Event) (seat : ℕ) (change : SessionState → Option SessionState)
-    (session next : SessionState) → step (world_by start events) e ≡ move (world_by start events) seat change
-    → seat < length (world_by start events).sessions → session_of (world_by start events) seat ≡ session
-    → change session ≡ Some next → Seated start events e seat next
+    (session next : SessionState) → step (run events start) e ≡ move (run events start) seat change
+    → seat < length (run events start).sessions → session_of (run events start) seat ≡ session
+    → change session ≡ Some next → Seated start (record { events = events; event = e; seat = seat; next = next })
 seated start events e seat change session next moves low is becomes =
-    let w : World = world_by start events in
+    let w : World = run events start in
     let after : World = with_sessions w (set w.sessions seat next) in
     let found : slice_get w.sessions seat ≡ Some session = slice_get-get_or w.sessions seat Idle low ∙ ap Some is in
     let stepped : step w e ≡ Some after =
     moves ∙ ap (λ o. option_map (with_sessions w) (put_if_some w.sessions seat (option_and_then change o))) found
     ∙ ap (λ o. option_map (with_sessions w) (put_if_some w.sessions seat o)) becomes in
-    let there : after ≡ world_by start (events ++ e ∷ []) = run_next events e start after stepped in
+    let there : after ≡ run (events ++ e ∷ []) start = run_next events e start after stepped in
     record {
       after = after;
       stepped = stepped;
@@ -45,17 +57,6 @@ seated start events e seat change session next moves low is becomes =
       here = ap (λ v. session_of v seat) (sym there) ∙ session_after w seat session next found;
       others = λ t differ. ap (λ v. session_of v t) (sym there) ∙ session_else w seat t next differ;
     }
-
-beyond : (xs : List SessionState) (s : ℕ) → length xs ≤ s → get_or xs s Idle ≡ Idle
-beyond xs s high = grind (arith, common_steps)
-
--- a session that isn't idle is one
-pub within : (w : World) (seat : ℕ) → (session_of w seat ≡ Idle → ⊥) → seat < length w.sessions
-within w seat busy =
-    elim (cases_lt seat (length w.sessions)) [
-      | inl low ↦ low
-      | inr high ↦ absurd (busy (beyond w.sessions seat high))
-    ]
 
 -- What is known on the way
 
@@ -67,12 +68,21 @@ Stands last cs (Pinned pin) = (n : ℕ) → entry_of cs ≡ Some n → last ≤ 
 Stands last cs (Holding hold) = hold.settled ≡ false → entry_of cs ≡ Some hold.version
 Stands last cs (Asking hold inquiry) = ⊥
 
-pub record IsSeat (sessions : ℕ) (end : VersionView) (seen last floor seat : ℕ) (pin : Option SeatPin) (session : SessionState) (cs : List Call) : Type 0 where
+-- a seat on the way: the number that the last raise saw, the last version's number, the seat on the board, its session, and its
+-- calls that are left
+pub record SeatView : Type 0 where
+  pub seen : ℕ
+  pub last : ℕ
+  pub place : SeatPlace
+  pub session : SessionState
+  pub calls : List Call
+
+pub record IsSeat (sessions : ℕ) (end : VersionView) (v : SeatView) : Type 0 where
   pub least : ℕ
-  pub are : AreSeatCalls sessions end seat floor pin cs
-  pub entries : EntersInOrder (length end.batches) seen least cs
-  pub ready : IsReady last seen least cs
-  pub stands : Stands last cs session
+  pub are : AreSeatCalls sessions end v.place v.calls
+  pub entries : EntersInOrder (length end.batches) v.seen least v.calls
+  pub ready : IsReady v.last v.seen least v.calls
+  pub stands : Stands v.last v.calls v.session
 
 -- the events so far, the store, and for each seat its calls that are left
 pub record Stage : Type 0 where
@@ -84,17 +94,39 @@ abbrev pub last_of : Stage → ℕ
 last_of st = length st.store.desk.last.batches
 
 abbrev pub session_at : World → Stage → ℕ → SessionState
-session_at start st seat = session_of (world_by start st.events) seat
+session_at start st seat = session_of (run st.events start) seat
 
--- a stage with these calls of the desk's left, where the last raise saw this number
-pub record IsStage (start : World) (end : VersionView) (seen : ℕ) (desk : List Call) (st : Stage) : Type 0 where
-  pub reached : IsReached start st.events st.store
+-- what stays while seats make their calls: the start, the last version in the end, the number that the last raise saw, and the
+-- desk's calls that are left
+pub record Merging : Type 0 where
+  pub start : MachineState
+  pub end : VersionView
+  pub seen : ℕ
+  pub desk : List Call
+
+abbrev pub view_of : ℕ → ℕ → SeatPlace → SessionState → List Call → SeatView
+view_of seen last place session calls =
+    record { seen = seen; last = last; place = place; session = session; calls = calls }
+
+abbrev pub seat_view : Merging → Stage → ℕ → SeatView
+seat_view m st seat =
+    view_of m.seen (last_of st) (place_on st.store.board seat) (session_at m.start.world st seat) (st.calls seat)
+
+-- a seat of this merging
+abbrev pub IsOneSeat : Merging → SeatView → Type 0
+IsOneSeat m v = IsSeat (length m.start.world.sessions) m.end v
+
+pub record IsStage (m : Merging) (st : Stage) : Type 0 where
+  pub reached : IsReached m.start.world st.events st.store
   pub board : IsBoard st.store.board
-  pub desk_calls : AreDeskCalls st.store.desk st.store.copy desk
-  pub raises : (seat : ℕ) → filter is_raise (st.calls seat) ≡ filter is_raise desk
-  pub ends : (desk_by st.store.desk desk).last ≡ end
-  pub seats : (seat : ℕ) → IsSeat (length start.sessions) end seen (last_of st) st.store.board.floor seat
-      (pin_at st.store.board.pins seat) (session_at start st seat) (st.calls seat)
+  pub desk_calls : AreDeskCalls st.store.desk st.store.copy m.desk
+  pub raises : (seat : ℕ) → filter is_raise (st.calls seat) ≡ filter is_raise m.desk
+  pub ends : (desk_by st.store.desk m.desk).last ≡ m.end
+  pub seats : (seat : ℕ) → IsOneSeat m (seat_view m st seat)
+
+-- a moment of a run
+abbrev pub moment : List Event → List (List Answer) → Store → Moment
+moment events replies store = record { events = events; replies = replies; store = store }
 
 -- an order of the calls that are left
 pub record IsOrdered (start : World) (desk : List Call) (st : Stage) : Type 0 where
@@ -102,19 +134,18 @@ pub record IsOrdered (start : World) (desk : List Call) (st : Stage) : Type 0 wh
   pub desk_order : filter is_desks order ≡ desk
   pub seat_order : (seat : ℕ) → filter (is_of seat) order ≡ st.calls seat
   pub copies : MakesCopies st.store.board order
-  pub runs : (replies : List (List Answer)) → AreRun start st.events replies st.store order
+  pub runs : (replies : List (List Answer)) → AreRun start (moment st.events replies st.store) order
 
 -- from one stage to another by calls of one seat
-pub record Onward (start : World) (end : VersionView) (seen : ℕ) (desk : List Call) (seat : ℕ) (st there : Stage) : Type 0 where
-  pub stage : IsStage start end seen desk there
+pub record Onward (m : Merging) (seat : ℕ) (st there : Stage) : Type 0 where
+  pub stage : IsStage m there
   pub desk_same : there.store.desk ≡ st.store.desk
   pub calls : (t : ℕ) → t ≢ seat → there.calls t ≡ st.calls t
-  pub sessions : (t : ℕ) → t ≢ seat → session_at start there t ≡ session_at start st t
-  pub back : IsOrdered start desk there → IsOrdered start desk st
+  pub sessions : (t : ℕ) → t ≢ seat → session_at m.start.world there t ≡ session_at m.start.world st t
+  pub back : IsOrdered m.start.world m.desk there → IsOrdered m.start.world m.desk st
 
-pub onward_both : (start : World) (end : VersionView) (seen : ℕ) (desk : List Call) (seat : ℕ) (a b c : Stage) → Onward start end seen desk seat a b
-    → Onward start end seen desk seat b c → Onward start end seen desk seat a c
-onward_both start end seen desk seat a b c first second = record {
+pub onward_both : (m : Merging) (seat : ℕ) (a b c : Stage) → Onward m seat a b → Onward m seat b c → Onward m seat a c
+onward_both m seat a b c first second = record {
   stage = second.stage;
   desk_same = second.desk_same ∙ first.desk_same;
   calls = λ t differ. second.calls t differ ∙ first.calls t differ;
@@ -123,13 +154,14 @@ onward_both start end seen desk seat a b c first second = record {
 }
 
 -- at an equal pin and session, with equal calls
-pub seat_same : (sessions : ℕ) (end : VersionView) (seen last floor seat : ℕ) (pin pin' : Option SeatPin) (session session' : SessionState)
-    (cs cs' : List Call) → pin ≡ pin' → session ≡ session' → cs ≡ cs' → IsSeat sessions end seen last floor seat pin session cs
-    → IsSeat sessions end seen last floor seat pin' session' cs'
-seat_same sessions end seen last floor seat pin pin' session session' cs cs' pins stands calls is =
-    subst (λ c. IsSeat sessions end seen last floor seat pin' session' c) calls
-    (subst (λ s. IsSeat sessions end seen last floor seat pin' s cs) stands
-    (subst (λ p. IsSeat sessions end seen last floor seat p session cs) pins is))
+pub seat_same : (m : Merging) (last floor seat : ℕ) (pin pin' : Option SeatPin) (session session' : SessionState)
+    (cs cs' : List Call) → pin ≡ pin' → session ≡ session' → cs ≡ cs'
+    → IsOneSeat m (view_of m.seen last (record { seat = seat; floor = floor; pin = pin }) session cs)
+    → IsOneSeat m (view_of m.seen last (record { seat = seat; floor = floor; pin = pin' }) session' cs')
+seat_same m last floor seat pin pin' session session' cs cs' pins stands calls is =
+    subst (λ c. IsOneSeat m (view_of m.seen last (record { seat = seat; floor = floor; pin = pin' }) session' c)) calls
+    (subst (λ s. IsOneSeat m (view_of m.seen last (record { seat = seat; floor = floor; pin = pin' }) s cs)) stands
+    (subst (λ p. IsOneSeat m (view_of m.seen last (record { seat = seat; floor = floor; pin = p }) session cs)) pins is))
 
 abbrev pub with_calls : (ℕ → List Call) → ℕ → List Call → ℕ → List Call
 with_calls calls seat cs t = if t == seat then cs else calls t
@@ -142,33 +174,22 @@ calls_else calls seat t cs differ = cond-false (t == seat) cs (calls t) (ne_eqb 
 
 -- One call of a seat's
 
--- the seat's call, which is this event and leaves this pin
-pub record IsOwn (s : Store) (seat : ℕ) (c : Call) (e : Event) (pin : Option SeatPin) : Type 0 where
-  pub no_desks : is_desks c ≡ false
-  pub own : (t : ℕ) → is_of t c ≡ (seat == t)
-  pub no_raise : is_raise c ≡ false
-  pub leaves : next_store s c ≡ with_seat s seat pin
-  pub event : (w : World) → events_of w s c ≡ e ∷ []
-  pub silent : (replies : List (List Answer)) → next_replies replies c ≡ replies
-  pub makes : (cs : List Call) → MakesCopies (next_store s c).board cs → MakesCopies s.board (c ∷ cs)
-  pub quiet : (w : World) (replies : List (List Answer)) → AllReplies w (e ∷ []) replies replies
+-- a call of a seat's, the event that it is, and the pin that it leaves
+pub record SeatCall : Type 0 where
+  pub seat : ℕ
+  pub call : Call
+  pub event : Event
+  pub pin : Option SeatPin
 
-board_with : (b : BoardState) (seat : ℕ) (pin : Option SeatPin) → IsBoard b → seat < SEATS
-    → IfSome pin (λ p. b.floor ≤ p.number) → IsBoard (with_pin b seat pin)
-board_with b seat pin board low above = record {
-  seats = length-set b.pins seat pin ∙ board.seats;
-  below_pins = λ t. elim (cases_eq t seat) [
-    | inl same ↦
-        subst (λ o. IfSome o (λ p. b.floor ≤ p.number)) (sym (pin_here b seat t pin board low same)) above
-    | inr differ ↦
-        subst (λ o. IfSome o (λ p. b.floor ≤ p.number)) (sym (get_or-set_other b.pins seat t pin None differ)) (board.below_pins t)
-  ];
-}
-  where
-    pin_here : (b : BoardState) (seat t : ℕ) (pin : Option SeatPin) → IsBoard b → seat < SEATS → t ≡ seat
-        → pin_at (set b.pins seat pin) t ≡ pin
-    pin_here b seat t pin board low same = ap (pin_at (set b.pins seat pin)) same
-        ∙ get_or-set_same b.pins seat pin None (omega (arith, low, board.seats))
+pub record IsOwn (s : Store) (x : SeatCall) : Type 0 where
+  pub no_desks : is_desks x.call ≡ false
+  pub own : (t : ℕ) → is_of t x.call ≡ (x.seat == t)
+  pub no_raise : is_raise x.call ≡ false
+  pub leaves : next_store s x.call ≡ with_seat s x.seat x.pin
+  pub event : (w : World) → events_of w s x.call ≡ x.event ∷ []
+  pub silent : (replies : List (List Answer)) → next_replies replies x.call ≡ replies
+  pub makes : (cs : List Call) → MakesCopies (next_store s x.call).board cs → MakesCopies s.board (x.call ∷ cs)
+  pub quiet : (w : World) (replies : List (List Answer)) → AllReplies w (x.event ∷ []) replies replies
 
 abbrev pub after_call : Stage → ℕ → Event → Option SeatPin → List Call → Stage
 after_call st seat e pin cs = record {
@@ -178,10 +199,11 @@ after_call st seat e pin cs = record {
 }
 
 call_back : (start : World) (desk : List Call) (st : Stage) (seat : ℕ) (c : Call) (cs : List Call) (e : Event) (pin : Option SeatPin)
-    → IsReached start st.events st.store → st.calls seat ≡ c ∷ cs → IsOwn st.store seat c e pin → Holds (world_by start st.events) c
+    → IsReached start st.events st.store → st.calls seat ≡ c ∷ cs
+    → IsOwn st.store (record { seat = seat; call = c; event = e; pin = pin }) → Holds (run st.events start) c
     → AreDone start st.events (e ∷ []) → IsOrdered start desk (after_call st seat e pin cs) → IsOrdered start desk st
 call_back start desk st seat c cs e pin reached next own holds done o =
-    let w : World = world_by start st.events in
+    let w : World = run st.events start in
     record {
       order = c ∷ o.order;
       desk_order = cond-false (is_desks c) (c ∷ filter is_desks o.order) (filter is_desks o.order) own.no_desks ∙ o.desk_order;
@@ -198,26 +220,27 @@ call_back start desk st seat c cs e pin reached next own holds done o =
       runs = λ replies.
           subst (λ es. IsReached start st.events st.store × Holds w c × AreDone start st.events es
           × AllReplies w es replies (next_replies replies c)
-          × AreRun start (st.events ++ es) (next_replies replies c) (next_store st.store c) o.order) (sym (own.event w))
+          × AreRun start (moment (st.events ++ es) (next_replies replies c) (next_store st.store c)) o.order) (sym (own.event w))
           (subst (λ rs. IsReached start st.events st.store × Holds w c × AreDone start st.events (e ∷ [])
-          × AllReplies w (e ∷ []) replies rs × AreRun start (st.events ++ e ∷ []) rs (next_store st.store c) o.order)
+          × AllReplies w (e ∷ []) replies rs × AreRun start (moment (st.events ++ e ∷ []) rs (next_store st.store c)) o.order)
           (sym (own.silent replies)) (
             reached,
             holds,
             done,
             own.quiet w replies,
-            subst (λ n. AreRun start (st.events ++ e ∷ []) replies n o.order) (sym own.leaves) (o.runs replies),
+            subst (λ n. AreRun start (moment (st.events ++ e ∷ []) replies n) o.order) (sym own.leaves) (o.runs replies),
           ));
     }
 
 -- a seat's call that is done leads onward
-pub seat_call : (start : World) (end : VersionView) (seen : ℕ) (desk : List Call) (st : Stage) (seat : ℕ) (c : Call) (cs : List Call) (e : Event)
-    (pin : Option SeatPin) (next : SessionState) → IsStage start end seen desk st → st.calls seat ≡ c ∷ cs → seat < SEATS
-    → IsOwn st.store seat c e pin → Holds (world_by start st.events) c → Seated start st.events e seat next
-    → IsReached start (st.events ++ e ∷ []) (with_seat st.store seat pin) → IfSome pin (λ p. st.store.board.floor ≤ p.number)
-    → IsSeat (length start.sessions) end seen (last_of st) st.store.board.floor seat pin next cs
-    → Onward start end seen desk seat st (after_call st seat e pin cs)
-seat_call start end seen desk st seat c cs e pin next k is low own holds done reached above seat_is = record {
+pub seat_call : (m : Merging) (st : Stage) (seat : ℕ) (c : Call) (cs : List Call) (e : Event) (pin : Option SeatPin)
+    (next : SessionState) → IsStage m st → st.calls seat ≡ c ∷ cs → seat < SEATS
+    → IsOwn st.store (record { seat = seat; call = c; event = e; pin = pin }) → Holds (run st.events m.start.world) c
+    → Seated m.start.world (record { events = st.events; event = e; seat = seat; next = next })
+    → IsReached m.start.world (st.events ++ e ∷ []) (with_seat st.store seat pin) → IfSome pin (λ p. st.store.board.floor ≤ p.number)
+    → IsOneSeat m (view_of m.seen (last_of st) (record { seat = seat; floor = st.store.board.floor; pin = pin }) next cs)
+    → Onward m seat st (after_call st seat e pin cs)
+seat_call m st seat c cs e pin next k is low own holds done reached above seat_is = record {
   stage = record {
     reached = reached;
     board = board_with st.store.board seat pin k.board low above;
@@ -232,18 +255,15 @@ seat_call start end seen desk st seat c cs e pin next k is low own holds done re
     ends = k.ends;
     seats = λ t. elim (cases_eq t seat) [
       | inl same ↦
-          subst (λ u. IsSeat (length start.sessions) end seen (last_of st) st.store.board.floor u
-          (pin_at (set st.store.board.pins seat pin) u) (session_of (world_by start (st.events ++ e ∷ [])) u)
-          (with_calls st.calls seat cs u)) (sym same)
-          (seat_same (length start.sessions) end seen (last_of st) st.store.board.floor seat pin
-          (pin_at (set st.store.board.pins seat pin) seat) next (session_of (world_by start (st.events ++ e ∷ [])) seat) cs
-          (with_calls st.calls seat cs seat)
+          subst (λ u. IsOneSeat m (seat_view m (after_call st seat e pin cs) u)) (sym same)
+          (seat_same m (last_of st) st.store.board.floor seat pin (pin_at (set st.store.board.pins seat pin) seat) next
+          (session_of (run (st.events ++ e ∷ []) m.start.world) seat) cs (with_calls st.calls seat cs seat)
           (sym (get_or-set_same st.store.board.pins seat pin None (omega (arith, low, k.board.seats)))) (sym done.here)
           (sym (calls_here st.calls seat seat cs refl)) seat_is)
       | inr differ ↦
-          seat_same (length start.sessions) end seen (last_of st) st.store.board.floor t (pin_at st.store.board.pins t)
-          (pin_at (set st.store.board.pins seat pin) t) (session_at start st t)
-          (session_of (world_by start (st.events ++ e ∷ [])) t) (st.calls t) (with_calls st.calls seat cs t)
+          seat_same m (last_of st) st.store.board.floor t (pin_at st.store.board.pins t)
+          (pin_at (set st.store.board.pins seat pin) t) (session_at m.start.world st t)
+          (session_of (run (st.events ++ e ∷ []) m.start.world) t) (st.calls t) (with_calls st.calls seat cs t)
           (sym (get_or-set_other st.store.board.pins seat t pin None differ)) (sym (done.others t differ))
           (sym (calls_else st.calls seat t cs differ)) (k.seats t)
     ];
@@ -251,5 +271,5 @@ seat_call start end seen desk st seat c cs e pin next k is low own holds done re
   desk_same = refl;
   calls = λ t differ. calls_else st.calls seat t cs differ;
   sessions = λ t differ. done.others t differ;
-  back = call_back start desk st seat c cs e pin k.reached is own holds done.done;
+  back = call_back m.start.world m.desk st seat c cs e pin k.reached is own holds done.done;
 }

@@ -1,21 +1,22 @@
 -- How many blocks are free, and how many retired, after a batch and after a collection.
-use Rattle.batch_shards.proofs.Places.{count_map}
 use Rattle.std.proofs.Common.{◌≡◌, ◌≢◌, ℕ, ◌+◌, ◌==◌, Bool, true, false, cond, ◌||◌, List, [], ◌∷◌, length, get_or, map, set}
 use Rattle.std.proofs.{Common.{count_by, refl, sym, ap, ◌∙◌, arith, ◌&&◌}, lemmas.Bool.{eq-eqb, true≢false, or_right}}
 use Rattle.std.proofs.lemmas.{Option.{slice_get_within, get_or_from_slice_get}, Grind.common_steps, List.length-map}
 use Rattle.std.specs.{Option.option_map, Prelude.{slice_get, if◌then◌else◌}, declared.option.Option.TheVariants.Some}
-use Rattle.block_pool.{proofs.{Grants.length-marked, Tallies.{count_here, count_true}}, specs.Pools.{retired, is_free_at, marked}}
+use Rattle.block_pool.{proofs.Grants.length-marked, specs.Pools.{retired, is_free_at, marked}}
 use Rattle.block_pool.specs.Pools.{changed_numbers, is_used_at}
-use Rattle.graph_types.specs.declared.batches.NamedOp.{NamedOp}
 use Rattle.block_reclamation.specs.Status.{is_among, is_free, is_retired, is_reclaimable, recycled}
 use Rattle.block_reclamation.specs.{declared.{copies.PinCopy.PinCopy, status.BlockStatus.BlockStatus}, Copies.needs}
 use Rattle.block_reclamation.specs.declared.status.BlockStatus.TheVariants.{Free, Granted, Used}
-use Rattle.epoch_core.{specs.Blocks.all_differ, proofs.Lists.set_else, proofs.Lists.all_listed}
-use Rattle.store_steps.specs.Desks.{DeskView, IsAccepted, IsCollected, AcceptedCounts, CollectedCounts, is_retired_by, birth_of}
-use Rattle.store_steps.{specs.Desks.{birth_at, ledger_of}, proofs.NumberLists.{differ_head, differ_tail}}
-use Rattle.store_steps.proofs.{CollectedDesk.past_and_left, ChangedLists.{marked_at, length-changed}, Posting.IsLegalBatch}
-use Rattle.store_steps.proofs.{Posting.legal_batch, OneNumber.{free_is, born_is, not_both}}
-use Rattle.edge_block.proofs.Counts.{count_more}
+use Rattle.block_reclamation.proofs.{OneStatus.{free_is, not_both, born_is}, Recycling.free_one}
+use Rattle.graph_types.proofs.{ListPlaces.set_else, Sums.{count_here, count_more, count_none, count_true, count_map}}
+use Rattle.epoch_core.{specs.Blocks.all_differ, proofs.Lists.all_listed}
+use Rattle.epoch_core.proofs.BlockSteps.{differ_head, differ_tail}
+use Rattle.block_pool.proofs.Marked.{marked_changed, length-changed}
+use Rattle.store_steps.specs.Desks.{DeskView, IsCollected, CollectedCounts, is_retired_by, birth_of, birth_at, ledger_of}
+use Rattle.store_steps.specs.{Journal.{is_legal, after_entry}, Acceptances.{Acceptance, AcceptedCounts, applied_entry}}
+use Rattle.store_steps.proofs.{CollectedDesk.recycled_and_left, ChangedLists.marked_at, Posting.IsLegalBatch}
+use Rattle.store_steps.proofs.Posting.{legal_batch}
 
 -- each of these numbers has this status
 abbrev AllAre : (ℕ → BlockStatus) → List BlockStatus → List ℕ → Type 0
@@ -43,14 +44,6 @@ counts_changed p change of (n ∷ ns) pool apart are =
       ap (λ s. cond {A = ℕ} (p (change s)) 1 0) same,
     )
 
-marked_changed : (ns : List ℕ) (s : BlockStatus) (pool : List BlockStatus) → marked ns s pool ≡ changed_numbers (λ _. s) ns pool
-marked_changed [] s pool = refl
-marked_changed (n ∷ ns) s pool = marked_changed ns s (set pool n s)
-
-count_none : (ns : List ℕ) → count_by (λ _. false) ns ≡ 0
-count_none [] = refl
-count_none (n ∷ ns) = omega (arith, count_more (λ _. false) n ns, count_none ns)
-
 -- A batch
 
 taken_have : (pool : List BlockStatus) (taken dropped : List ℕ) → IsLegalBatch pool taken dropped → AllAre (λ _. Free) pool taken
@@ -74,20 +67,21 @@ dropped_have pool number taken dropped legal m is =
     ∙ ap (λ t. if t then option_map (λ _. Used number) (slice_get pool m) else slice_get pool m)
     (not_taken pool taken dropped legal m is) ∙ born.1 ∙ ap (λ b. Some (Used b)) (sym here)
 
-pub accepted_counts : (old new : DeskView) (ops : List NamedOp) (taken dropped : List ℕ) → IsAccepted old ops taken dropped new
-    → AcceptedCounts old taken dropped new
-accepted_counts old new ops taken dropped accepted =
-    let legal : IsLegalBatch old.pool taken dropped = legal_batch (ledger_of old) ops taken dropped accepted.legal in
-    let number : ℕ = length old.last.batches + 1 in
-    let granted : List BlockStatus = marked taken (Used number) old.pool in
-    let births : ℕ → ℕ = birth_at old.pool in
-    let same : new.pool ≡ changed_numbers (retired number) dropped granted = ap (λ l. l.pool) accepted.ledger in
-    let there : granted ≡ changed_numbers (λ _. Used number) taken old.pool = marked_changed taken (Used number) old.pool in
+pub accepted_counts : (a : Acceptance) → is_legal (ledger_of a.old) (applied_entry a) ≡ true
+    → ledger_of a.new ≡ after_entry (ledger_of a.old) (applied_entry a) → AcceptedCounts a
+accepted_counts a legal_is ledger =
+    let legal : IsLegalBatch a.old.pool a.taken a.dropped =
+    legal_batch (ledger_of a.old) a.batch a.taken a.dropped legal_is in
+    let number : ℕ = length a.old.last.batches + 1 in
+    let granted : List BlockStatus = marked a.taken (Used number) a.old.pool in
+    let births : ℕ → ℕ = birth_at a.old.pool in
+    let same : a.new.pool ≡ changed_numbers (retired number) a.dropped granted = ap (λ l. l.pool) ledger in
+    let there : granted ≡ changed_numbers (λ _. Used number) a.taken a.old.pool = marked_changed a.taken (Used number) a.old.pool in
     let taking = λ (p : BlockStatus → Bool).
-    counts_changed p (λ _. Used number) (λ _. Free) taken old.pool legal.apart (taken_have old.pool taken dropped legal) in
-    let dropping = λ (p : BlockStatus → Bool). counts_changed p (retired number) (λ m. Used (births m)) dropped granted
-    legal.dropped_apart (dropped_have old.pool number taken dropped legal) in
-    let none = count_none dropped in
+    counts_changed p (λ _. Used number) (λ _. Free) a.taken a.old.pool legal.apart (taken_have a.old.pool a.taken a.dropped legal) in
+    let dropping = λ (p : BlockStatus → Bool). counts_changed p (retired number) (λ m. Used (births m)) a.dropped granted
+    legal.dropped_apart (dropped_have a.old.pool number a.taken a.dropped legal) in
+    let none = count_none a.dropped in
     record {
       free = omega (
         arith,
@@ -95,8 +89,8 @@ accepted_counts old new ops taken dropped accepted =
         ap (count_by is_free) there,
         taking is_free,
         dropping is_free,
-        count_true taken,
-        count_none taken,
+        count_true a.taken,
+        count_none a.taken,
       );
       retired = omega (
         arith,
@@ -104,7 +98,7 @@ accepted_counts old new ops taken dropped accepted =
         ap (count_by is_retired) there,
         taking is_retired,
         dropping is_retired,
-        count_true dropped,
+        count_true a.dropped,
         none,
       );
       retired_by = λ q. omega (
@@ -113,17 +107,13 @@ accepted_counts old new ops taken dropped accepted =
         ap (count_by (is_retired_by q)) there,
         taking (is_retired_by q),
         dropping (is_retired_by q),
-        count_map (λ birth. q birth number) births dropped,
+        count_map (λ birth. q birth number) births a.dropped,
         none,
       );
-      blocks = ap length same ∙ (length-changed (retired number) dropped granted ∙ length-marked taken (Used number) old.pool);
+      blocks = ap length same ∙ (length-changed (retired number) a.dropped granted ∙ length-marked a.taken (Used number) a.old.pool);
     }
 
 -- A collection
-
-free_one : (copy : PinCopy) (s : BlockStatus) → cond {A = ℕ} (is_free (recycled copy s)) 1 0
-    ≡ cond (is_free s) 1 0 + cond (is_reclaimable copy s) 1 0
-free_one copy s = grind (arith, common_steps)
 
 free_more : (copy : PinCopy) (pool : List BlockStatus) → count_by is_free (map (recycled copy) pool)
     ≡ count_by is_free pool + count_by (is_reclaimable copy) pool
@@ -148,7 +138,7 @@ collected_counts old new copy collected =
     let left : count_by is_retired new.pool ≡ count_by is_retired (map (recycled copy) old.pool) =
     ap (count_by is_retired) collected.pool in
     let more = free_more copy old.pool in
-    let both = past_and_left copy old.pool in
+    let both = recycled_and_left copy old.pool in
     record {
       free = omega arith;
       retired = omega arith;

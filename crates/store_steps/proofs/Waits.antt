@@ -1,5 +1,5 @@
 -- What a seat that waits allows the desk.
-use Rattle.std.proofs.Common.{◌≡◌, ℕ, ◌+◌, ◌≤◌, List, [], ◌∷◌, refl, Option, Some, None, sym, ap, ◌∙◌, arith, true}
+use Rattle.std.proofs.Common.{◌≡◌, ℕ, ◌+◌, ◌≤◌, List, [], ◌∷◌, refl, Some, None, sym, ap, ◌∙◌, arith, true}
 use Rattle.std.specs.Prelude.{filter}
 use Rattle.graph_version.specs.Versions.{VersionView}
 use Rattle.block_reclamation.specs.{declared.copies.PinCopy.PinCopy, declared.copies.Pin.Pin as SeatPin, Copies.unsettled}
@@ -8,21 +8,20 @@ use Rattle.epoch_core.specs.{declared.session_states.SessionState.TheVariants.{I
 use Rattle.store_steps.specs.Merges.{Asks, Call, Applies, Collects, Raises, Pins, Enters, Settles, Unpins, is_raise}
 use Rattle.store_steps.specs.Merges.{EntersInOrder}
 use Rattle.store_steps.proofs.SeatCalls.{AreSeatCalls, IsReady, IsWaiting, posted_finally, posted_first}
-use Rattle.store_steps.proofs.{Stages.{Stands, IsSeat}, Laps.IsStuck, Entering.Awaits}
+use Rattle.store_steps.proofs.{Stages.{Stands, SeatView, IsSeat, view_of}, Laps.IsStuck, Entering.Awaits}
 
 -- after one more batch
-pub seat_later : (sessions : ℕ) (end : VersionView) (seen last later floor seat : ℕ) (pin : Option SeatPin) (session : SessionState) (cs : List Call)
-    → IsSeat sessions end seen last floor seat pin session cs → IsStuck last cs session → later ≡ last + 1
-    → IsSeat sessions end seen later floor seat pin session cs
-seat_later sessions end seen last later floor seat pin session cs is stuck more = record {
+pub seat_later : (sessions : ℕ) (end : VersionView) (v : SeatView) (later : ℕ) → IsSeat sessions end v
+    → IsStuck v.last v.calls v.session → later ≡ v.last + 1 → IsSeat sessions end (record v { last = later })
+seat_later sessions end v later is stuck more = record {
   least = is.least;
   are = is.are;
   entries = is.entries;
-  ready = ready_later cs is.least stuck.0;
-  stands = stands_later session is.stands stuck.1;
+  ready = ready_later v.calls is.least stuck.0;
+  stands = stands_later v.session is.stands stuck.1;
 }
   where
-    ready_later : (cs : List Call) (least : ℕ) → IsWaiting last cs → IsReady later seen least cs
+    ready_later : (cs : List Call) (least : ℕ) → IsWaiting v.last cs → IsReady later v.seen least cs
     ready_later [] least waits = tt
     ready_later (Raises copy ∷ cs) least waits = tt
     ready_later (Settles other n ∷ cs) least waits = omega (arith, waits, more)
@@ -33,7 +32,8 @@ seat_later sessions end seen last later floor seat pin session cs is stuck more 
     ready_later (Applies batch taken next ∷ cs) least waits = absurd waits
     ready_later (Collects next ∷ cs) least waits = absurd waits
 
-    stands_later : (session : SessionState) → Stands last cs session → Awaits last cs session → Stands later cs session
+    stands_later : (session : SessionState) → Stands v.last v.calls session → Awaits v.last v.calls session
+        → Stands later v.calls session
     stands_later Idle stands awaits = tt
     stands_later (Pinned number) stands awaits = λ n next. let low = awaits number refl n next in omega (arith, low, more)
     stands_later (Holding hold) stands awaits = stands
@@ -77,7 +77,9 @@ stands_behind last copy cs (Asking hold inquiry) stands = stands
 
 -- a seat that the board doesn't have waits
 pub seat_beyond : (sessions : ℕ) (end : VersionView) (seen last floor seat : ℕ) (session : SessionState) (cs : List Call) → sessions ≤ seat
-    → seat_pin session ≡ None → IsSeat sessions end seen last floor seat None session cs → IsStuck last cs session
+    → seat_pin session ≡ None
+    → IsSeat sessions end (view_of seen last (record { seat = seat; floor = floor; pin = None }) session cs)
+    → IsStuck last cs session
 seat_beyond sessions end seen last floor seat session cs high none is =
     (waits cs is.are, λ pin pinned n next. absurd (pinless pin (sym (ap seat_pin pinned) ∙ none)))
   where
@@ -87,7 +89,8 @@ seat_beyond sessions end seen last floor seat session cs high none is =
     unpinned : (pin : SeatPin) → None ≡ Some pin → ⊥
     unpinned pin e = cc
 
-    waits : (cs : List Call) → AreSeatCalls sessions end seat floor None cs → IsWaiting last cs
+    waits : (cs : List Call) → AreSeatCalls sessions end (record { seat = seat; floor = floor; pin = None }) cs
+        → IsWaiting last cs
     waits [] are = tt
     waits (Raises copy ∷ cs) are = tt
     waits (Pins other ∷ cs) are = absurd (omega (arith, high, are.0.1))

@@ -16,9 +16,10 @@ use Rattle.epoch_core.specs.declared.events.Event.{Event, TheVariants.{Take, Fil
 use Rattle.epoch_core.specs.Examples.{name_a, name_b, kind_k, one_insertion, example_edge, ask_edge}
 use Rattle.epoch_core.specs.{Runs.run, Worlds.{World, empty_opening, start_world, session_of, held_in}}
 use Rattle.store_steps.specs.Journal.{Entry, Applied, Collected, Ledger, opened_ledger, replay}
-use Rattle.store_steps.specs.{Desks.DeskView, Desks.desk_after, Desks.collections, Steps.all_done, Steps.posting, Steps.recycling}
+use Rattle.store_steps.specs.{Desks.{DeskView, collections}, Acceptances.{Application, desk_after}}
+use Rattle.store_steps.specs.Steps.{all_done, posting, recycling}
 use Rattle.store_steps.specs.{Shown.ShowsWorld, Boards.ShowsBoard, Opening.opened_desk, Opening.opened_start}
-use Rattle.store_steps.specs.Reached.{Store, opened_store, world_by}
+use Rattle.store_steps.specs.Reached.{Store, opened_store}
 use Rattle.store_steps.specs.Merges.{Call, Asks, Applies, Raises, Pins, Settles, Unpins, Enters, is_desks, is_of, next_store, events_of}
 use Rattle.store_steps.specs.Merges.{AreLocked, EntersInOrder}
 
@@ -67,6 +68,17 @@ world_of_edge = record {
   floor = 0;
   copy = no_copy;
   sessions = Idle ∷ [];
+}
+
+-- the edge was applied to the opening with blocks 1 and 2, and took block 1
+abbrev pub applied_edge : Application
+applied_edge = record {
+  batch = one_insertion (pos 1) 1;
+  granted = 1 ∷ 2 ∷ [];
+  version = desk_of_edge.last;
+  taken = 1 ∷ [];
+  dropped = [];
+  unused = 2 ∷ [];
 }
 
 -- Openings
@@ -128,7 +140,14 @@ crossed_board = Pins 0 ∷ Settles 0 1 ∷ Pins 1 ∷ Settles 1 0 ∷ Asks 1 0 a
 
 -- what the desk's lock saw: a batch without operations, which is version 1
 abbrev pub blank_desk : DeskView
-blank_desk = desk_after (opened_desk 3 empty_version) [] (record empty_version { batches = [] ∷ [] }) [] []
+blank_desk = desk_after (opened_desk 3 empty_version) (record {
+  batch = [];
+  granted = [];
+  version = record empty_version { batches = [] ∷ [] };
+  taken = [];
+  dropped = [];
+  unused = [];
+})
 
 abbrev pub crossed_desk : List Call
 crossed_desk = Applies [] [] blank_desk ∷ Raises crossed_copy ∷ []
@@ -188,7 +207,7 @@ pub record AreExamples : Type 0 where
       ≡ Some (record retired_world { status = Retired 1 2 ∷ Used 1 ∷ Free ∷ Free ∷ [] })
   pub needed : all_done (recycling (copy_settled_at 3 2) retired_pool) retired_world ≡ None
   -- the batch, applied to the opening, leaves that desk; a collection that recycles nothing has no entry
-  pub accepted : desk_after (opened_desk 3 empty_version) (one_insertion (pos 1) 1) desk_of_edge.last (1 ∷ []) [] ≡ desk_of_edge
+  pub accepted : desk_after (opened_desk 3 empty_version) applied_edge ≡ desk_of_edge
   pub entry : collections (unpinned 2) 1 ≡ Collected (unpinned 2) 1 ∷ []
   pub no_entry : collections (unpinned 2) 0 ≡ []
   -- a store that opens with the edge: its block is there with birth 0, and a batch that drops it retires it so
@@ -208,8 +227,8 @@ pub record AreExamples : Type 0 where
   -- an operation without effect drops nothing
   pub untouched : Bears (row_by (remove_at 40 ∷ []) (row_end many)) (3 ∷ 5 ∷ []) (3 ∷ 5 ∷ []) []
   -- Pin is what pinning a seat of the opening leaves; Enter then takes hold of version 0
-  pub pinned : ShowsBoard (with_pin no_pins 0 (Some (unsettled 0))) (world_by (start_world 1 3) (Pin 0 ∷ []))
-  pub entered : held_in (session_of (world_by (start_world 1 3) (Pin 0 ∷ Enter 0 ∷ [])) 0) ≡ Some 0
+  pub pinned : ShowsBoard (with_pin no_pins 0 (Some (unsettled 0))) (run (Pin 0 ∷ []) (start_world 1 3))
+  pub entered : held_in (session_of (run (Pin 0 ∷ Enter 0 ∷ []) (start_world 1 3)) 0) ≡ Some 0
   -- the board shows the sessions' pins, settled and unsettled
   pub board : ShowsBoard board_of_two world_of_two
   pub settled : (w : World) → ShowsBoard board_of_two (record w { sessions = Pinned 1 ∷ Pinned 2 ∷ [] }) → ⊥

@@ -3,6 +3,7 @@ pub mod Desks
 pub mod Shown
 pub mod Boards
 pub mod Steps
+pub mod Acceptances
 pub mod Histories
 pub mod Opening
 pub mod Reached

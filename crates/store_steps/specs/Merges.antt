@@ -9,10 +9,11 @@ use Rattle.block_reclamation.specs.{declared.copies.PinCopy.PinCopy, declared.co
 use Rattle.block_reclamation.specs.{declared.copies.TheConstants.SEATS, Copies.{no_copy, pin_at, unsettled, settled, copy_of}}
 use Rattle.block_reclamation.specs.Board.{BoardState, no_pins, with_pin}
 use Rattle.epoch_core.specs.{declared.events.Event.Event, Worlds.{World, MachineState, Answer, IsStart, session_of, held_in}}
-use Rattle.epoch_core.specs.{Runs.AllReplies, Versions.blocks_at}
+use Rattle.epoch_core.specs.{Runs.{AllReplies, run}, Versions.blocks_at}
 use Rattle.epoch_core.specs.declared.events.Event.TheVariants.{Floor, Pin, Enter, Settle, Ask, Read, Reply, Release}
 use Rattle.store_steps.specs.{Desks.{DeskView, IsCollected}, Shown.ShowsWorld, Boards.raised_board}
-use Rattle.store_steps.specs.{Steps.{Accepts, posting, recycling, all_done}, Reached.{Store, IsReached, opened_store, world_by}}
+use Rattle.store_steps.specs.{Steps.{posting, recycling, all_done}, Acceptances.IsAccepted}
+use Rattle.store_steps.specs.Reached.{Store, IsReached, opened_store}
 
 -- under the desk's lock: a batch that takes these blocks, or a collection by the copy made last, each with the desk that it leaves;
 -- under both locks: a raise, with the copy of the pins that it makes; under the board's lock: a seat is pinned, settled at the
@@ -97,7 +98,8 @@ graph_of_version last n = left_by (take n last.batches) last.opening
 
 -- what the contracts of desk and board say of a desk's call, where the copy made last is this one
 abbrev pub IsDeskCall : DeskView → PinCopy → Call → Type 0
-IsDeskCall d copy (Applies batch taken next) = (accepts : Accepts d batch next) × (accepts.taken ≡ taken)
+IsDeskCall d copy (Applies batch taken next) =
+    (dropped : List ℕ) × IsAccepted (record { old = d; batch = batch; taken = taken; dropped = dropped; new = next })
 IsDeskCall d copy (Collects next) = IsCollected d copy next
 IsDeskCall d copy (Raises made) = made.last ≡ length d.last.batches
 IsDeskCall d copy _ = ⊥
@@ -168,17 +170,35 @@ Holds w _ = Unit {0}
 
 -- after the first events the further ones are all done
 abbrev pub AreDone : World → List Event → List Event → Type 0
-AreDone start events more = all_done more (world_by start events) ≡ Some (world_by start (events ++ more))
+AreDone start events more = all_done more (run events start) ≡ Some (run (events ++ more) start)
 
--- from this store on, which these events reach, the calls are a run of the machine: the events of each are all done, reply with its
--- answer, and reach what it leaves of the store
-abbrev pub AreRun : World → List Event → List (List Answer) → Store → List Call → Type 0
-AreRun start events replies s [] = IsReached start events s
-AreRun start events replies s (c ∷ cs) =
-    let w : World = world_by start events in
-    let more : List Event = events_of w s c in
-    IsReached start events s × Holds w c × AreDone start events more × AllReplies w more replies (next_replies replies c)
-    × AreRun start (events ++ more) (next_replies replies c) (next_store s c) cs
+-- how far a run has come: the events so far, the replies to the sessions, and the store
+pub record Moment : Type 0 where
+  pub events : List Event
+  pub replies : List (List Answer)
+  pub store : Store
+
+-- the moment after one call more, which is these events
+abbrev pub next_moment : Moment → List Event → Call → Moment
+next_moment m more c = record {
+  events = m.events ++ more;
+  replies = next_replies m.replies c;
+  store = next_store m.store c;
+}
+
+-- from this moment on, whose store its events reach, the calls are a run of the machine: the events of each are all done, reply with
+-- its answer, and reach what it leaves of the store
+abbrev pub AreRun : World → Moment → List Call → Type 0
+AreRun start m [] = IsReached start m.events m.store
+AreRun start m (c ∷ cs) =
+    let w : World = run m.events start in
+    let more : List Event = events_of w m.store c in
+    IsReached start m.events m.store × Holds w c × AreDone start m.events more
+    × AllReplies w more m.replies (next_replies m.replies c) × AreRun start (next_moment m more c) cs
+
+-- where a run begins
+abbrev pub opened_moment : MachineState → DeskView → Moment
+opened_moment start d = record { events = []; replies = start.replies; store = opened_store d }
 
 -- all calls of both lists, each raise once, and entries: the desk's calls stand in their order, and for each seat its calls and the
 -- raises do; this order is a run of the machine, and leaves the desk and the board that the lists leave
@@ -186,7 +206,7 @@ pub record IsOneRun (start : MachineState) (d : DeskView) (desk board : List Cal
   pub order : List Call
   pub desk_order : filter is_desks order ≡ desk
   pub seat_order : (seat : ℕ) → filter (is_of seat) order ≡ filter (is_of seat) board
-  pub runs : AreRun start.world [] start.replies (opened_store d) order
+  pub runs : AreRun start.world (opened_moment start d) order
   pub desk_left : (store_by (opened_store d) order).desk ≡ desk_by d desk
   pub board_left : (store_by (opened_store d) order).board ≡ board_by no_pins board
 

@@ -6,18 +6,18 @@ ghost use Rattle.graph_types.specs.Graph.{graph_in};
 ghost use Rattle.graph_types.specs.Limits.{LimitsView, AreLimits};
 ghost use Rattle.graph_types.specs.declared.contents.Content.{Content};
 ghost use Rattle.graph_types.specs.declared.batches.NamedOp.{NamedOp};
-ghost use Rattle.edge_block.specs.Slots.{BlockView};
 ghost use Rattle.graph_version.specs.Rows.{numbers_of};
 ghost use Rattle.graph_version.specs.Versions.{VersionView, empty_version_in};
 ghost use Rattle.block_reclamation.specs.Status.{is_among};
 ghost use Rattle.block_reclamation.specs.declared.copies.PinCopy.{PinCopy};
 ghost use Rattle.epoch_core.specs.Worlds.{MachineState, IsStart, start_world_in};
-ghost use Rattle.block_pool.specs.Pools.{retired, is_free_at, marked, changed_numbers, is_used_at};
+ghost use Rattle.block_pool.specs.Pools.{retired, is_free_at, marked, changed_numbers, is_used_at, AreFree};
 ghost use Rattle.block_reclamation.specs.declared.status.BlockStatus.TheVariants.{Free, Granted, Used};
-ghost use Rattle.store_steps.specs.Journal.{Entry, Applied, Ledger, entered, replay};
-ghost use Rattle.store_steps.specs.Desks.{DeskView, IsDesk, IsAppliedTo, IsAccepted, IsCollected, AcceptedCounts};
-ghost use Rattle.store_steps.specs.Desks.{CollectedCounts, desk_after};
-ghost use Rattle.store_steps.specs.Steps.{Takes, TakesAt, posting, recycling};
+ghost use Rattle.store_steps.specs.Journal.{Entry, Applied, Ledger, entered, replay, is_legal, after_entry};
+ghost use Rattle.store_steps.specs.Desks.{DeskView, IsDesk, IsCollected, CollectedCounts, ledger_of};
+ghost use Rattle.store_steps.specs.Steps.{Simulates, SimulatesAt, posting, recycling};
+ghost use Rattle.store_steps.specs.Acceptances.{Application, IsAppliedTo, Acceptance, IsAccepted, AcceptedCounts};
+ghost use Rattle.store_steps.specs.Acceptances.{KeepsUntaken, acceptance_of, desk_after, applied_entry};
 ghost use Rattle.store_steps.specs.Boards.{PinsAsMachine, SettlesAsMachine, UnpinsAsMachine, RaisesAsMachine};
 ghost use Rattle.store_steps.specs.Histories.{DoneIsRun, ReadersAreUnseen};
 ghost use Rattle.store_steps.specs.Opening.{IsVersionZero, OpensAsMachine, OpensBlank, opened_desk};
@@ -41,33 +41,37 @@ pub fn law_journal()
         → is_among n dropped ≡ true → is_used_at l.pool n ≡ false → entered l (Applied batch taken dropped) ≡ None }
 {}
 
-/// A batch that was applied to a desk's last version with granted blocks.
+/// A batch that was applied to a desk's last version with granted blocks, all of them free in the desk's pool.
 ///
 /// - `accepted`: the desk with the new version, the journal's entry and the blocks exchanged has accepted the batch, and
-///   nothing else: its layout is the layout rule's, and it took and dropped as many blocks as the rule says.
+///   nothing else: its layout is the layout rule's, it took and dropped as many blocks as the rule says, and the machine
+///   simulates it.
 /// - `desk`: it is a desk: its journal replays to what it shows.
 /// - `moves`: its pool is what the moves of blocks leave, one set after another: all the blocks granted, the taken ones born
 ///   with the new version's number, the dropped ones retired with it, the unused ones given back.
-/// - `steps`: in each world of the machine that the desk showed, Take and Fill of each taken block and one Post of the
-///   batch are all done, and leave a world that the new desk shows.
-/// - `counts`: free falls by as many blocks as it takes, and retired grows by as many as it drops, each with its birth
+///
+/// Two desks, however they were made, where the batch's entry is legal in the ledger of the first and leaves that of the second.
+///
+/// - `counts`: free falls by as many blocks as the batch takes, and retired grows by as many as it drops, each with its birth
 ///   and the new version's number.
+/// - `steps`: if both replay, have one opening, and share each block that wasn't taken, then in each world of the machine that
+///   the first desk shows, Take and Fill of each taken block and one Post of the batch are all done, and leave a world that the
+///   second desk shows.
 pub fn law_accepted()
-    ensures accepted { (old : DeskView) (ops : List NamedOp) (numbers : List ℕ) (version : VersionView) (taken : List ℕ)
-        (dropped : List BlockView) (unused : List ℕ) → IsDesk old → IsAppliedTo old ops numbers version taken dropped unused
-        → IsAccepted old ops taken (numbers_of dropped) (desk_after old ops version taken dropped) }
-    ensures desk { (old : DeskView) (ops : List NamedOp) (numbers : List ℕ) (version : VersionView) (taken : List ℕ)
-        (dropped : List BlockView) (unused : List ℕ) → IsDesk old → IsAppliedTo old ops numbers version taken dropped unused
-        → IsDesk (desk_after old ops version taken dropped) }
-    ensures moves { (old : DeskView) (ops : List NamedOp) (numbers : List ℕ) (version : VersionView) (taken : List ℕ)
-        (dropped : List BlockView) (unused : List ℕ) → IsDesk old → IsAppliedTo old ops numbers version taken dropped unused
-        → marked unused Free (changed_numbers (retired (length old.last.batches + 1)) (numbers_of dropped)
-        (marked taken (Used (length old.last.batches + 1)) (marked numbers Granted old.pool)))
-        ≡ (desk_after old ops version taken dropped).pool }
-    ensures steps { (old new : DeskView) (ops : List NamedOp) (taken dropped : List ℕ) → IsDesk old → IsDesk new
-        → IsAccepted old ops taken dropped new → Takes old (posting new.last ops taken) new }
-    ensures counts { (old new : DeskView) (ops : List NamedOp) (taken dropped : List ℕ)
-        → IsAccepted old ops taken dropped new → AcceptedCounts old taken dropped new }
+    ensures accepted { (d : DeskView) (a : Application) → IsDesk d → AreFree d.pool a.granted → IsAppliedTo d.last a
+        → IsAccepted (acceptance_of d a) }
+    ensures desk { (d : DeskView) (a : Application) → IsDesk d → AreFree d.pool a.granted → IsAppliedTo d.last a
+        → IsDesk (desk_after d a) }
+    ensures moves { (d : DeskView) (a : Application) → IsDesk d → AreFree d.pool a.granted → IsAppliedTo d.last a
+        → marked a.unused Free (changed_numbers (retired (length d.last.batches + 1)) (numbers_of a.dropped)
+        (marked a.taken (Used (length d.last.batches + 1)) (marked a.granted Granted d.pool)))
+        ≡ (desk_after d a).pool }
+    ensures counts { (a : Acceptance) → is_legal (ledger_of a.old) (applied_entry a) ≡ true
+        → ledger_of a.new ≡ after_entry (ledger_of a.old) (applied_entry a) → AcceptedCounts a }
+    ensures steps { (a : Acceptance) → IsDesk a.old → IsDesk a.new → a.new.opened ≡ a.old.opened
+        → a.new.last.opening ≡ a.old.last.opening → is_legal (ledger_of a.old) (applied_entry a) ≡ true
+        → ledger_of a.new ≡ after_entry (ledger_of a.old) (applied_entry a) → KeepsUntaken a
+        → Simulates a.old (posting a.new.last a.batch a.taken) a.new }
 {}
 
 /// A collection by a copy of the pins.
@@ -80,7 +84,7 @@ pub fn law_collected()
     ensures desk { (old new : DeskView) (copy : PinCopy) → IsDesk old → copy.last ≤ length old.last.batches
         → IsCollected old copy new → IsDesk new }
     ensures steps { (old new : DeskView) (copy : PinCopy)
-        → IsCollected old copy new → TakesAt copy old (recycling copy old.pool) new }
+        → IsCollected old copy new → SimulatesAt copy old (recycling copy old.pool) new }
     ensures counts { (old new : DeskView) (copy : PinCopy) → IsCollected old copy new → CollectedCounts old copy new }
 {}
 

@@ -38,3 +38,14 @@ standard_made workers blocks seats limits (Err error) same are few valid = λ si
   seats_few = sizes.seats_few;
   limits = are;
 })
+
+pub all_within : (workers blocks seats : ℕ) → (1 ≤ workers) × (workers ≤ 8) → (16 ≤ blocks) × (blocks ≤ 65536)
+    → (1 ≤ seats) × (seats ≤ 16) → AreSizesWithin workers blocks seats
+all_within workers blocks seats w b s = record {
+  workers_some = w.0;
+  workers_few = w.1;
+  blocks_some = b.0;
+  blocks_few = b.1;
+  seats_some = s.0;
+  seats_few = s.1;
+}

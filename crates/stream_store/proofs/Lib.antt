@@ -3,3 +3,4 @@ pub mod ReceiptLaws
 pub mod Rows
 pub mod Seated
 pub mod Shelved
+pub mod SeatNumbers

@@ -1,14 +1,9 @@
 -- What a store's receipts and refusals say where the desk behind the lock is not known.
-use Rattle.std.{proofs.{Common.{ℕ, List, Result, arith}, lemmas.Grind.common_steps}, specs.Prelude.{IfOk, OnOk}}
+use Rattle.std.proofs.{Common.{ℕ, List, arith}, lemmas.Grind.common_steps}
 use Rattle.graph_types.specs.declared.batches.{NamedOp.NamedOp, Outcome.Outcome}
 use Rattle.version_shelf.specs.Shelves.{ToldView}
-use Rattle.store_steps.specs.Steps.{Accepts}
+use Rattle.store_steps.specs.Acceptances.{Accepts}
 use Rattle.stream_store.specs.{Applying.IsReceipt, Kept.DeskState, Refusals.IsWithin, Stores.IsReceiptOf}
-
--- what is true of a value, by what is true of it and of the call
-pub by_three : {T E : Type 0} (r : Result T E) (P R : T → Type 0) (Q S : Type 0) → ((x : T) → P x → Q → S → R x) → IfOk r P
-    → OnOk r Q → OnOk r S → IfOk r R
-by_three r h e k u f p q s = grind (arith, common_steps)
 
 -- a receipt of a desk that accepted the batch within its limits
 pub receipt_of : (old new : DeskState) (free : ℕ) (ops : List NamedOp) (number : ℕ) (results : List Outcome) (told : ToldView)

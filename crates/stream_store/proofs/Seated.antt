@@ -1,9 +1,10 @@
 -- The seats of an opening.
-use Rattle.std.proofs.Common.{◌≡◌, ℕ, zero, suc, ◌+◌, ◌<◌, List, [], ◌∷◌, ◌++◌, length, map, take, drop, sym, ap, subst}
+use Rattle.std.proofs.Common.{◌≡◌, ℕ, suc, ◌+◌, List, [], ◌∷◌, ◌++◌, length, map, sym, ap, subst}
 use Rattle.std.proofs.{Common.{◌∙◌, arith}, lemmas.List.{map-append, length-append, Elements.{All-head, All-tail, All-cons}}}
-use Rattle.std.{proofs.lemmas.Grind.common_steps, specs.{List.range_with_len, Prelude.{All, slice_index_or}}}
+use Rattle.std.{proofs.lemmas.Grind.common_steps, specs.{List.range_with_len, Prelude.All}}
 use Rattle.logbook.specs.Pages.{Book}
 use Rattle.graph_types.specs.Graph.{Graph}
+use Rattle.graph_types.proofs.Joined.{range_more}
 use Rattle.graph_version.specs.Versions.{VersionView}
 use Rattle.version_shelf.specs.Shelves.{ToldView}
 use Rattle.stream_store.specs.{Seats.{SeatView, HasSeen}, Stores.IsSeatOfOpening}
@@ -29,12 +30,6 @@ new_seats book other version seats readers same all is =
     (subst (λ (b : Book). All (IsNew b version) (map (λ (s : SeatView). s.seen) seats)) (sym is)
     (subst (λ (rs : List ToldView). All (IsNew book version) rs) (sym same) all))
 
-range_more : (a n : ℕ) → range_with_len a (suc n) ≡ range_with_len a n ++ (a + n) ∷ []
-range_more a zero = let same : a ≡ a + 0 = omega arith in ap (λ (k : ℕ). k ∷ []) same
-range_more a (suc n) =
-    let same : a + 1 + n ≡ a + suc n = omega arith in
-    ap (λ (ks : List ℕ). a ∷ ks) (range_more (a + 1) n ∙ ap (λ (k : ℕ). range_with_len (a + 1) n ++ k ∷ []) same)
-
 -- one more seat, which has the next number
 pub numbers_more : (seats more : List SeatView) (s : SeatView) → more ≡ seats ++ s ∷ [] → s.number ≡ length seats
     → map (λ (t : SeatView). t.number) seats ≡ range_with_len 0 (length seats)
@@ -47,11 +42,6 @@ numbers_more seats more s items next same =
     ap (map (λ (t : SeatView). t.number)) items ∙ map-append (λ (t : SeatView). t.number) seats (s ∷ [])
     ∙ ap (λ (ks : List ℕ). ks ++ s.number ∷ []) same ∙ ap (λ (k : ℕ). range_with_len 0 (length seats) ++ k ∷ []) place
     ∙ sym (range_more 0 (length seats)) ∙ ap (range_with_len 0) one
-
--- the first reader taken off a list
-pub first_off : (xs ys : List ToldView) (x : ToldView) → 0 < length xs → x ≡ slice_index_or xs 0 x → ys ≡ take 0 xs
-    ++ drop (0 + 1) xs → xs ≡ x ∷ ys
-first_off xs ys x some first rest = grind (arith, common_steps)
 
 -- the seat of the first reader is added to the seats
 pub seen_more : (seats more : List SeatView) (s : SeatView) (x : ToldView) (xs ys readers : List ToldView) → more ≡ seats ++ s

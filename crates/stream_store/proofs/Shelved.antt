@@ -1,17 +1,9 @@
 -- What a desk's shelf shows.
-use Rattle.std.proofs.Common.{◌≡◌, ℕ, ◌+◌, List, [], ◌∷◌, ◌++◌, length, sym, ap, ◌∙◌}
+use Rattle.std.proofs.Common.{◌≡◌, List, [], ◌∷◌, ◌++◌, sym, ap, ◌∙◌}
 use Rattle.graph_types.specs.declared.batches.NamedOp.{NamedOp}
-use Rattle.graph_version.specs.Versions.{VersionView}
-use Rattle.batch_apply.specs.declared.plans.Plan.{Plan}
 use Rattle.version_shelf.specs.Shelves.{ShelfView, IsNext}
-use Rattle.store_steps.specs.{Desks.DeskView, Journal.Ledger, Steps.Accepts}
-use Rattle.desk.specs.Refusals.{IsPlanned}
-use Rattle.stream_store.specs.{Applying.{IsAdmitted, workers_for}, Kept.{DeskState, IsDeskState}}
-
--- a plan for as many of these workers as share the batch
-pub planned : (v : VersionView) (workers : ℕ) (ops : List NamedOp) (plan : Plan) (a : IsAdmitted v workers ops plan)
-    → IsPlanned v (workers_for workers (length ops + length a.old)) ops plan
-planned v workers ops plan a = record { few = a.few; limits = a.limits; some = a.some; planned = a.planned }
+use Rattle.store_steps.specs.{Desks.DeskView, Journal.Ledger, Acceptances.Accepts}
+use Rattle.stream_store.specs.Kept.{DeskState, IsDeskState}
 
 -- the version of a desk that accepted a batch is the next one of a shelf that posted the last one's batches
 pub is_next : (s : ShelfView) (old new : DeskView) (ops : List NamedOp) → Accepts old ops new → s.opening ≡ old.last.opening

@@ -20,6 +20,7 @@ use crate::store::{Naming, Store};
 use block_reclamation::Board;
 use graph_version::Version;
 use std::alloc::Global;
+use std::fmt;
 use std::marker::{Brand, Model};
 use std::sync::Wait;
 
@@ -33,6 +34,16 @@ pub struct Opened {
     desk: Desk,
     board: Board,
     seats: Vec<Seat>,
+}
+
+// Written by hand: its desk, and how many seats there are.
+impl fmt::Debug for Opened {
+    fn fmt<F: fmt::Write>(&self, f: &mut fmt::Formatter<F>) -> fmt::Result {
+        f.debug_struct("Opened")
+            .field("desk", &self.desk)
+            .field("seats", &self.seats.len())
+            .finish_non_exhaustive()
+    }
 }
 
 // Written by hand: who lets one go rests on this function, and not on how each part is let go.

@@ -16,13 +16,14 @@ ghost use Rattle.version_shelf.specs.Shelves.{opened_shelf};
 ghost use Rattle.store_steps.specs.Desks.{IsDesk, IsCollected, births_in};
 ghost use Rattle.store_steps.specs.Dates.{AreDated};
 ghost use Rattle.store_steps.specs.Opening.{IsVersionZero, opened_desk};
-ghost use Rattle.store_steps.specs.Steps.{Accepts, TakesAt, recycling};
+ghost use Rattle.store_steps.specs.Acceptances.{Accepts};
+ghost use Rattle.store_steps.specs.Steps.{SimulatesAt, recycling};
 ghost use Rattle.desk.specs.Kept.{journal_entry};
 ghost use Rattle.desk.specs.Refusals.{Refuses, IsWithin, block_count};
 ghost use Rattle.stream_store.specs.Applying.{IsReceipt};
 ghost use Rattle.stream_store.specs.Kept.{DeskState, IsDeskState, kept_desk};
 
-use crate::applying::{make_ready, plan_next, post_and_finish};
+use crate::applying::post_and_finish;
 use crate::config::Config;
 use crate::receipts::Receipt;
 use batch_apply::Gate;
@@ -30,6 +31,7 @@ use block_reclamation::PinCopy;
 use desk::{ApplyError, Collected, JournalEntry, Stat};
 use graph_types::Batch;
 use graph_version::Version;
+use std::fmt;
 use std::marker::Model;
 use std::sync::{Arc, Wait};
 use std::thread::Threads;
@@ -49,6 +51,16 @@ pub struct Desk {
     kept: Option<desk::Desk>,
     workers: usize,
     shelf: ShelfWriter,
+}
+
+// Written by hand: its counts, and neither the last version's graph nor the journal.
+impl fmt::Debug for Desk {
+    fn fmt<F: fmt::Write>(&self, f: &mut fmt::Formatter<F>) -> fmt::Result {
+        f.debug_struct("Desk")
+            .field("workers", &self.workers)
+            .field("stat", &self.stat())
+            .finish_non_exhaustive()
+    }
 }
 
 // Written by hand: who lets one go rests on this function, and not on how each part is let go.
@@ -116,21 +128,12 @@ impl Desk {
         ensures within { OnOk result (IsWithin self.old.desk.last (count_by is_free self.old.desk.pool) batch) }
         ensures refused { IfErr result (λ e. Refuses self.old.desk.last (count_by is_free self.old.desk.pool) batch e) }
         ensures unchanged { OnErr result (self.new ≡ self.old) }
+        ensures used { count_by is_in_use self.old.desk.pool ≡ block_count self.old.desk.last }
     {
-        let plan = plan_next(
-            rt,
-            self.kept().allocator(),
-            self.last(),
-            &batch,
-            self.workers,
-        )?;
-        let Ok(batch) = Arc::new(self.kept().allocator(), batch) else {
-            return Err(ApplyError::OutOfMemory);
-        };
         let Some(kept) = self.kept.take() else {
             unreachable!()
         };
-        let ready = match make_ready(rt, gate, kept, batch, plan) {
+        let ready = match kept.begin_at_once(rt, gate, batch, self.workers) {
             Ok(ready) => ready,
             Err((kept, error)) => {
                 self.kept = Some(kept);
@@ -157,7 +160,7 @@ impl Desk {
         ensures workers { self.new.workers ≡ self.old.workers }
         ensures collected { IsCollected self.old.desk copy.now self.new.desk }
         ensures births { (source : ℕ) → births_in self.new.desk source ≡ births_in self.old.desk source }
-        ensures steps { TakesAt copy.now self.old.desk (recycling copy.now self.old.desk.pool) self.new.desk }
+        ensures steps { SimulatesAt copy.now self.old.desk (recycling copy.now self.old.desk.pool) self.new.desk }
         ensures floor { result.floor ≡ floor_of copy.now }
         ensures recycled { result.recycled ≡ count_by (is_reclaimable copy.now) self.old.desk.pool }
         ensures retired { result.retired ≡ count_by is_retired self.new.desk.pool }

@@ -23,6 +23,7 @@ use block_reclamation::{Board, SeatNo};
 use graph_types::{AskError, Reply, Request};
 use graph_version::Version;
 use std::alloc::AllocError;
+use std::fmt;
 use std::marker::Model;
 use std::sync::{Arc, Wait};
 use version_answers::{NumberedReply, answer, answer_in_numbers};
@@ -38,6 +39,16 @@ use version_shelf::{ShelfReader, Told};
 pub struct Seat {
     number: SeatNo,
     reader: ShelfReader,
+}
+
+// Written by hand: the numbers of the seat and of the version that it saw last, and not that version.
+impl fmt::Debug for Seat {
+    fn fmt<F: fmt::Write>(&self, f: &mut fmt::Formatter<F>) -> fmt::Result {
+        f.debug_struct("Seat")
+            .field("number", &self.number.number())
+            .field("seen", &self.reader.newest().number())
+            .finish_non_exhaustive()
+    }
 }
 
 // Written by hand: who lets one go rests on this function, and not on how each part is let go.
@@ -68,6 +79,16 @@ impl Model for Seat {
 pub struct PinnedSeat {
     number: SeatNo,
     reader: ShelfReader,
+}
+
+// Written by hand: the same numbers. The name says that the pin is set.
+impl fmt::Debug for PinnedSeat {
+    fn fmt<F: fmt::Write>(&self, f: &mut fmt::Formatter<F>) -> fmt::Result {
+        f.debug_struct("PinnedSeat")
+            .field("number", &self.number.number())
+            .field("seen", &self.reader.newest().number())
+            .finish_non_exhaustive()
+    }
 }
 
 // Written by hand: who lets one go rests on this function, and not on how each part is let go.
@@ -103,6 +124,16 @@ pub struct Session {
     lent: Option<Arc<Version>>,
     /// The seat's pin was settled at the number of that version.
     settled: Settled,
+}
+
+// Written by hand: the number of the seat, and the version held by its number and counts.
+impl fmt::Debug for Session {
+    fn fmt<F: fmt::Write>(&self, f: &mut fmt::Formatter<F>) -> fmt::Result {
+        f.debug_struct("Session")
+            .field("seat", &self.number.number())
+            .field("version", self.version())
+            .finish_non_exhaustive()
+    }
 }
 
 // Written by hand: who lets one go rests on this function, and not on how each part is let go.

@@ -15,7 +15,8 @@ ghost use Rattle.block_reclamation.specs.Status.{is_free, is_in_use, is_retired,
 ghost use Rattle.block_reclamation.specs.Copies.{floor_of};
 ghost use Rattle.block_reclamation.specs.Board.{IsLeast};
 ghost use Rattle.store_steps.specs.Desks.{IsCollected, births_in};
-ghost use Rattle.store_steps.specs.Steps.{Accepts, TakesAt, recycling};
+ghost use Rattle.store_steps.specs.Acceptances.{Accepts};
+ghost use Rattle.store_steps.specs.Steps.{SimulatesAt, recycling};
 ghost use Rattle.stream_store.specs.Applying.{IsReceipt};
 ghost use Rattle.desk.specs.Refusals.{Refuses, IsWithin};
 ghost use Rattle.stream_store.specs.Stores.{IsReceiptOf, IsRefusalOf, IsOfOpening, copied};
@@ -29,6 +30,7 @@ use desk::{ApplyError, Collected, Stat};
 use graph_types::Batch;
 use graph_version::Version;
 use std::alloc::AllocError;
+use std::fmt;
 use std::marker::{Brand, Model, PhantomData};
 use std::sync::{Arc, Mutex, MutexGuard, Wait};
 use std::thread::Threads;
@@ -91,7 +93,7 @@ impl<J: Naming> NamedDesk<J> {
             IsCollected self.old.desk.desk copy self.new.desk.desk }
         ensures births { (source : ℕ) → births_in self.new.desk.desk source ≡ births_in self.old.desk.desk source }
         ensures steps { let copy = copied self.old.desk.desk (mutex_guard_value board.entry) in
-            TakesAt copy self.old.desk.desk (recycling copy self.old.desk.desk.pool) self.new.desk.desk }
+            SimulatesAt copy self.old.desk.desk (recycling copy self.old.desk.desk.pool) self.new.desk.desk }
         ensures workers { self.new.desk.workers ≡ self.old.desk.workers }
         ensures recycled { result.recycled
             ≡ count_by (is_reclaimable (copied self.old.desk.desk (mutex_guard_value board.entry))) self.old.desk.desk.pool }
@@ -150,6 +152,13 @@ impl<J: Naming> NamedDesk<J> {
 pub struct Store<J: Naming> {
     desk: Mutex<NamedDesk<J>>,
     board: Mutex<KeptBoard>,
+}
+
+// Written by hand: it takes no lock, so it shows nothing that a lock guards.
+impl<J: Naming> fmt::Debug for Store<J> {
+    fn fmt<F: fmt::Write>(&self, f: &mut fmt::Formatter<F>) -> fmt::Result {
+        f.debug_struct("Store").finish_non_exhaustive()
+    }
 }
 
 impl<J: Naming> Store<J> {

@@ -18,6 +18,7 @@ mod players;
 mod plays;
 mod refused;
 mod sharing;
+mod shown;
 mod stages;
 mod stories;
 mod texts;

@@ -1,2 +1,2 @@
-pub mod Listed
 pub mod NamedRows
+pub mod NumberedAnswers

@@ -50,7 +50,7 @@ pub fn name_reply(
 }
 
 /// A copy of a vertex's name, and an empty one for a number past the last.
-#[tactic(auto, using(crate::proofs::NamedRows::name_there, crate::proofs::NamedRows::name_past))]
+#[tactic(auto, using(graph_types::proofs::ListedNames::name_there, graph_types::proofs::ListedNames::name_past))]
 fn name_at(alloc: Global, names: &NameBook, number: u32) -> Result<Name, AllocError>
     ensures { IfOk result (λ name. name ≡ slice_index_or names.now.names number []) }
 {

@@ -156,7 +156,7 @@ fn edge_marks(
 }
 
 /// The number of a kind that has appeared.
-#[tactic(auto, using(crate::proofs::Listed::listed_below))]
+#[tactic(auto, using(graph_types::proofs::ListedNames::listed_below))]
 fn kind_number(version: &Version, name: &Name) -> Option<KindId>
     ensures { SomeIff (option_map (λ kind. kind.0) result) (is_listed (content version.now).kinds name.now ≡ true)
         (number_of (content version.now).kinds name.now) }

@@ -1,14 +1,11 @@
 -- Edges and values written one after another, and rows side by side.
-use Rattle.std.proofs.Common.{◌≡◌, ℕ, ◌+◌, ◌≤◌, ◌<◌, ◌^◌, List, [], ◌∷◌, ◌++◌, zero, suc, length, get_or, drop, replicate}
+use Rattle.std.proofs.Common.{◌≡◌, ℕ, ◌+◌, ◌<◌, List, [], ◌∷◌, ◌++◌, zero, suc, length, get_or, drop, replicate}
 use Rattle.std.proofs.Common.{refl, sym, ap, ◌∙◌, arith, add-zero, add-one, append_assoc, append-nil, length-append}
-use Rattle.std.proofs.{Math.Seq.drop-cons, lemmas.List.{FromFn.length-map-range_with_len, length-replicate, nil_from_length}}
+use Rattle.std.proofs.{Math.Seq.drop-cons, lemmas.List.{length-replicate, nil_from_length}}
 use Rattle.std.specs.declared.{sync.Arc.Arc, alloc.Global.Global}
 use Rattle.graph_types.specs.declared.ids.Filter.{Filter}
-use Rattle.graph_types.specs.{Graph.Graph, Answer.{degree_at, degree_table}}
-use Rattle.edge_block.specs.{Slots.BlockView, Lending.LentEdge, declared.blocks.Block.Block}
-use Rattle.version_pages.specs.Rows.{row_of, blocks_of}
-use Rattle.graph_version.specs.{Sharing.{block_value, block_values}, Versions.{VersionView, IsVersion}}
-use Rattle.graph_version.proofs.BlockCounts.{few_blocks}
+use Rattle.edge_block.specs.{Lending.LentEdge, declared.blocks.Block.Block}
+use Rattle.graph_version.specs.{Sharing.{block_value, block_values}, Versions.VersionView}
 use Rattle.version_columns.specs.Rows.{Columns, with_lent_edge, with_edges, with_values, block_edges, lent_edges_of, row_edges, lent_rows_from, sources_from, edge_columns}
 
 -- edges behind others, and values
@@ -34,15 +31,6 @@ next_edges f blocks i d within =
     ap (λ (bs : List (Arc Block Global)). lent_edges_of f (block_values bs)) (drop-cons blocks i d within)
     ∙ ap (λ n. block_edges f (block_value (get_or blocks i d)) ++ lent_edges_of f (block_values (drop n blocks))) (sym (add-one i))
 
--- a row is among all blocks
-row_within : (rows : List (List BlockView)) (source : ℕ) → length (row_of rows source) ≤ length (blocks_of rows)
-row_within [] source = omega arith
-row_within (row ∷ rows) zero = omega (arith, length-append row (blocks_of rows))
-row_within (row ∷ rows) (suc source) = omega (arith, length-append row (blocks_of rows), row_within rows source)
-
-pub few_in_row : (v : VersionView) (source : ℕ) → IsVersion v → length (row_of v.rows source) ≤ 2 ^ 58
-few_in_row v source is = omega (arith, few_blocks v is, row_within v.rows source)
-
 -- one row more
 pub rows_from-more : (f : Filter) (v : VersionView) (source n : ℕ)
     → lent_rows_from f v source (suc n) ≡ lent_rows_from f v source n ++ row_edges f v (source + n)
@@ -60,10 +48,6 @@ sources_from-more f v source (suc n) =
     let last : ℕ → List ℕ = λ s. replicate (length (row_edges f v s)) s in
     ap (λ es. last source ++ es) (sources_from-more f v (source + 1) n ∙ ap (λ s. sources_from f v (source + 1) n ++ last s) same)
     ∙ sym (append_assoc (last source) (sources_from f v (source + 1) n) (last (source + suc n)))
-
--- one degree for each vertex
-pub degrees_long : (f : Filter) (g : Graph) → length (degree_table f g) ≡ length g.names
-degrees_long f g = length-map-range_with_len (degree_at f g) 0 (length g.names)
 
 -- each edge has a source
 pub sources_long : (f : Filter) (v : VersionView) (source n : ℕ) → length (sources_from f v source n) ≡ length (lent_rows_from f v source n)

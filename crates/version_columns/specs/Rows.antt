@@ -3,7 +3,7 @@ use Rattle.std.specs.Prelude.{◌≡◌, ◌≤◌, ◌<◌, ◌==◌, ◌&&◌,
 use Rattle.std.specs.Prelude.{slice_set, nat_lt, nat_le, true, Bool, Option, Some, None, Result, Ok, Err, OnOk, OnErr, false}
 use Rattle.graph_types.specs.{declared.ids.Filter.Filter}
 use Rattle.edge_block.specs.{Slots.BlockView, Lending.{LentEdge, lent_of}}
-use Rattle.version_pages.specs.Rows.{row_of}
+use Rattle.graph_version.specs.Rows.{row_of}
 use Rattle.graph_version.specs.{Versions.{VersionView, content}, Shown.shown}
 use Rattle.version_columns.specs.declared.views.{View.View, ColumnError.ColumnError}
 use Rattle.version_columns.specs.declared.views.ColumnError.TheVariants.{NoKind, BadLength}

@@ -1,7 +1,7 @@
 //! One row in columns.
 
 ghost use Rattle.std.specs.Prelude.{◌≡◌, ◌+◌, ◌≤◌, ◌^◌, length};
-ghost use Rattle.version_pages.specs.Sharing.{block_values};
+ghost use Rattle.graph_version.specs.Sharing.{block_values};
 ghost use Rattle.version_columns.specs.Rows.{block_edges, lent_edges_of, columns, with_edges, AreLong, WritesRow, IsRowCount};
 ghost use Rattle.version_columns.specs.Rows as rows;
 

@@ -99,7 +99,7 @@ fn put_levels(levels: &[Option<u32>], column: &mut [u32])
 
 /// Writes for each vertex how many edges of the view leave it, how many enter it, and the sum of the weights of those that
 /// leave it. `NoKind`, `BadLength`, or want of memory.
-#[tactic(auto, using(crate::proofs::Columns::degrees_long))]
+#[tactic(auto, using(graph_types::proofs::DegreeTables::degrees_long))]
 pub fn write_degrees(
     alloc: Global,
     version: &Version,

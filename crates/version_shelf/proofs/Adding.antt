@@ -6,8 +6,9 @@ use Rattle.std.proofs.lemmas.{List.append-nil, Bool.eqb-true, Bool.true≢false}
 use mathlib.Core.List.{IsPrefix}
 use prog.Atomic.{either}
 use Rattle.logbook.specs.Pages.{Cell, cell, keeps, gives, adds, nib, no_nib, may_make, step, Moves, Goes}
+use Rattle.graph_types.proofs.Prefixes.{prefix_whole, prefix_length}
 use Rattle.version_shelf.specs.Histories.{AreRightsUsed, Makes, Adds, right_at, rights, cells_of}
-use Rattle.version_shelf.proofs.{Beginnings.{prefix_whole, prefix_length}, Rights.{length_cells, first_left, use_up, one_more}}
+use Rattle.version_shelf.proofs.Rights.{length_cells, first_left, use_up, one_more}
 
 abbrev pub shown : List (List NamedOp) → List (List NamedOp)
 shown log = []

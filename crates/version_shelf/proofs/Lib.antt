@@ -1,4 +1,3 @@
-pub mod Beginnings
 pub mod Rights
 pub mod Adding
 pub mod Steps

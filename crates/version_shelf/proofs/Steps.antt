@@ -8,8 +8,8 @@ use mathlib.Core.List.{IsPrefix}
 use lib.ListN.{get_elem?}
 use Rattle.left_right.specs.Register.{Admits, TurnsAt, Forks, Merges}
 use Rattle.atomic_table.proofs.Lists.{at_set, at_snoc, set_again}
+use Rattle.graph_types.proofs.Prefixes.{prefix_self, prefix_trans}
 use Rattle.version_shelf.specs.{Histories.HistoryView, Shelves.{ToldView, Begins, IsOfOneShelf, IsShowing, Keeps, Sees}}
-use Rattle.version_shelf.proofs.Beginnings.{prefix_self, prefix_trans, same_last}
 
 none_not : {P : Type 0} (u : ToldView) → None ≡ Some u → P
 none_not u e = absurd (cc e)
@@ -84,13 +84,6 @@ pub copy_of_one_shelf : {E : Type 0} (before shown got : ToldView) (copy : Resul
     → IsOfOneShelf before shown → IfSome (result_ok copy) (λ told. IsOfOneShelf before told)
 copy_of_one_shelf before shown got (Ok told) same is one = subst (λ z. IsOfOneShelf before z) (sym (is ∙ same)) one
 copy_of_one_shelf before shown got (Err e) same is one = tt
-
--- a version with one batch more ends with the batch that it lends as its last
-pub ends_with_last : (batches posted others : List (List NamedOp)) (next last : List NamedOp) → batches ≡ posted ++ next ∷ []
-    → batches ≡ others ++ last ∷ []
-    → batches ≡ posted ++ last ∷ []
-ends_with_last batches posted others next last p q = p
-    ∙ ap (λ x. posted ++ x ∷ []) (same_last posted others next last (sym p ∙ q))
 
 -- A glance at a place leaves what is seen there of one shelf, and so is what it told
 

@@ -9,6 +9,7 @@ use crate::history::History;
 use graph_version::Version;
 use left_right::Absorb;
 use std::alloc::AllocError;
+use std::fmt;
 use std::marker::Model;
 use std::sync::Arc;
 
@@ -17,6 +18,15 @@ use std::sync::Arc;
 pub struct Told {
     pub(crate) version: Arc<Version>,
     pub(crate) history: History,
+}
+
+// Written by hand: the version by its number and counts. The history stands in the proofs alone, but for its length.
+impl fmt::Debug for Told {
+    fn fmt<F: fmt::Write>(&self, f: &mut fmt::Formatter<F>) -> fmt::Result {
+        f.debug_struct("Told")
+            .field("version", &*self.version)
+            .finish_non_exhaustive()
+    }
 }
 
 impl Model for Told {

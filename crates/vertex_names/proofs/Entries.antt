@@ -1,8 +1,9 @@
 -- What stands at a hash among pairs whose hashes rise, and what an edit of the pairs does to it.
-use Rattle.std.proofs.Common.{◌≡◌, ◌≢◌, ℕ, zero, suc, ◌+◌, ◌<◌, ◌≤◌, List, [], ◌∷◌, length, get_or, set, map, take, drop}
+use Rattle.std.proofs.Common.{◌≡◌, ◌≢◌, ℕ, zero, suc, ◌+◌, ◌<◌, ◌≤◌, List, [], ◌∷◌, length, get_or, set, take, drop}
 use Rattle.std.proofs.{Common.{if◌then◌else◌, ◌-◌, Some, None, refl, sym, ap, ◌∙◌, arith, nat_eq, inl, inr}, lemmas.Bool.cases_lt}
 use Rattle.std.proofs.lemmas.{Bool.Decides.nat_tests, List.{length-map, get_or-map, get_or-take, get_or-drop, length-take}}
 use Rattle.std.{proofs.{lemmas.List.length-drop, Math.Seq.map-set_same}, specs.{List.insert, Map.lookup}}
+use Rattle.graph_types.proofs.ListPlaces.{map-insert}
 use Rattle.vertex_names.specs.Order.{Bounds, firsts, IsRising, IsFoundAt, IsGap, last_place}
 use Rattle.vertex_names.proofs.Places.{rising-tail, rising_gap, above_place, up_to_place, place_up, place_down}
 
@@ -48,11 +49,6 @@ lookup-insert es h v zero none q = grind (arith, nat_tests)
 lookup-insert [] h v (suc i) none q = grind (arith, nat_tests)
 lookup-insert (x ∷ es) h v (suc i) none q =
     grind (arith, nat_tests, none 0 (omega arith), lookup-insert es h v i (tail-none x es h i none) q)
-
-pub map-insert : {X Y : Type 0} (f : X → Y) (xs : List X) (i : ℕ) (x : X) → map f (insert xs i x) ≡ insert (map f xs) i (f x)
-map-insert f xs zero x = refl
-map-insert f [] (suc i) x = refl
-map-insert f (y ∷ xs) (suc i) x = ap (λ l. f y ∷ l) (map-insert f xs i x)
 
 pub firsts-insert : {X : Type 0} (es : List (ℕ × X)) (i : ℕ) (x : ℕ × X) → firsts (insert es i x) ≡ insert (firsts es) i x.0
 firsts-insert es i x = map-insert (λ e. e.0) es i x

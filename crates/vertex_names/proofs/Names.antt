@@ -1,12 +1,17 @@
 -- Names in a book: their numbers, and what one more name leaves true.
-use Rattle.std.proofs.Common.{◌≡◌, ◌≢◌, ◌⊎◌, ℕ, ◌+◌, ◌<◌, Bool, true, false, cond, not, ◌||◌, suc, length-append, List, [], ◌∷◌}
+use Rattle.std.proofs.Common.{◌≡◌, ◌≢◌, ℕ, ◌<◌, Bool, true, false, length-append, List, [], ◌∷◌}
 use Rattle.std.proofs.Common.{◌++◌, length, get_or, IsTrue, Option, Some, None, inl, inr, refl, sym, ap, subst, ◌∙◌, arith}
-use Rattle.std.proofs.{Common.true≢false, Common.All, Common.AllPairs, Math.Seq.get_or-append_seam}
+use Rattle.std.proofs.{Common.{All, AllPairs}, Math.Seq.get_or-append_seam}
 use Rattle.std.proofs.lemmas.{Bool.false_from_ne_true, Bool.Decides.eqb_tells, Slice.Eq.bytes_eq-Decides}
-use Rattle.std.proofs.lemmas.List.{Folds.list_any_at, Elements.All-push, Quantifiers.all_pairs_push, get_or_append_left}
+use Rattle.std.proofs.lemmas.List.{Elements.All-push, Quantifiers.all_pairs_push, get_or_append_left, get_or_past}
 use Rattle.std.proofs.lemmas.Option.{same_Some, none-some, slice_get_within, get_or_from_slice_get}
 use Rattle.std.specs.{Option.SomeIff, Option.IfSome, Option.IfNone, List.slice_get, Str.bytes_eq}
+use Rattle.std.specs.Prelude.{◌==◌}
+use Rattle.std.proofs.{Math.Nat.eq-or-lt_of_le, lemmas.{Bool.{false≢true, cases_lt}, Grind.common_steps}}
+use Rattle.std.proofs.lemmas.List.Elements.{All-get_or}
 use Rattle.graph_types.specs.{Step.number_of, Answer.is_listed, Valid.is_name}
+use Rattle.graph_types.specs.{Parts.{kinds_after, kinds_after_all}, declared.batches.NamedOp.NamedOp}
+use Rattle.graph_types.proofs.{ListedNames.{differs, at_number, listed_at}, Numbers.lt_or_last, OperationParts.no_fewer_kinds_all}
 use Rattle.vertex_names.specs.{Index.text_hash, Index.found_at, Index.Stands, Index.IsIndexed, Book.Book, Book.IsBook}
 
 -- a name that the book as it is shown doesn't list
@@ -14,13 +19,6 @@ pub not_listed : (book shown : Book) (name : List ℕ) → book ≡ shown → ¬
     → is_listed book.names name ≡ false
 not_listed book shown name same new = false_from_ne_true _
     (subst (λ (b : Book). ¬ IsTrue (is_listed b.names name)) (sym same) new)
-
--- a name that is not listed differs from each that is
-differs : (names : List (List ℕ)) (name : List ℕ) → is_listed names name ≡ false → (k : ℕ) (d : List ℕ) → k < length names
-    → get_or names k d ≢ name
-differs names name new k d in_range same =
-    true≢false (sym (list_any_at (bytes_eq name) names k d in_range ((bytes_eq-Decides name (get_or names k d)).1 (sym same)))
-    ∙ new)
 
 -- a new name within the limit leaves a book
 pub IsBook-pushed : (limit : ℕ) (names : List (List ℕ)) (name : List ℕ) → IsTrue (is_name name) → is_listed names name ≡ false
@@ -32,40 +30,6 @@ IsBook-pushed limit names name named new room is_book = record {
   distinct = all_pairs_push (λ a b. a ≢ b) names name is_book.distinct (differs names name new);
   named = All-push (λ n. IsTrue (is_name n)) names name is_book.named named;
 }
-
--- a listed name stands at its number
-at_next : (name x : List ℕ) (names : List (List ℕ)) (found : Bool) → found ≡ bytes_eq name x
-    → (IsTrue (is_listed names name) → slice_get names (number_of names name) ≡ Some name)
-    → IsTrue (found || is_listed names name) → slice_get (x ∷ names) (cond (not found) (1 + number_of names name) 0) ≡ Some name
-at_next name x names true is rest listed = ap Some (sym ((bytes_eq-Decides name x).0 (sym is)))
-at_next name x names false is rest listed =
-    let further : 1 + number_of names name ≡ suc (number_of names name) = omega arith in
-    ap (λ n. slice_get (x ∷ names) n) further ∙ rest listed
-
-pub at_number : (names : List (List ℕ)) (name : List ℕ) → IsTrue (is_listed names name)
-    → slice_get names (number_of names name) ≡ Some name
-at_number [] name listed = absurd (true≢false (sym listed))
-at_number (x ∷ names) name listed = at_next name x names (bytes_eq name x) refl (at_number names name) listed
-
--- a name stands once
-once : (names : List (List ℕ)) (i j : ℕ) (name : List ℕ) → AllPairs (λ a b. a ≢ b) names → slice_get names i ≡ Some name
-    → slice_get names j ≡ Some name → ¬ (i < j)
-once names i j name distinct at_i at_j lt =
-    distinct i j [] lt (slice_get_within names j name at_j)
-    (get_or_from_slice_get names i name [] at_i ∙ sym (get_or_from_slice_get names j name [] at_j))
-
--- what stands at a place is listed, and the place is its number
-pub listed_at : (names : List (List ℕ)) (j : ℕ) (name : List ℕ) → AllPairs (λ a b. a ≢ b) names → slice_get names j ≡ Some name
-    → IsTrue (is_listed names name) × (j ≡ number_of names name)
-listed_at names j name distinct at =
-    let lt = slice_get_within names j name at in
-    let same : name ≡ get_or names j [] = sym (get_or_from_slice_get names j name [] at) in
-    let listed : IsTrue (is_listed names name) =
-    list_any_at (bytes_eq name) names j [] lt ((bytes_eq-Decides name (get_or names j [])).1 same) in
-    let there = at_number names name listed in
-    let below = once names j (number_of names name) name distinct at there in
-    let above = once names (number_of names name) j name distinct there at in
-    (listed, omega (arith, below, above))
 
 -- a listed name's number stands at its hash
 stands : (names : List (List ℕ)) (shelves : List (List (List (ℕ × List (ℕ × ℕ))))) (others : List ℕ) (name : List ℕ)
@@ -116,9 +80,6 @@ pub IsIndexed-kept : (names : List (List ℕ)) (shelves kept : List (List (List 
     → IsIndexed names shelves others → ((q i : ℕ) → Stands shelves others q i → Stands kept more q i) → IsIndexed names kept more
 IsIndexed-kept names shelves kept others more indexed keeps i lt = keeps (text_hash (get_or names i [])) i (indexed i lt)
 
-lt_or_last : (i n : ℕ) → i < n + 1 → (i < n) ⊎ (i ≡ n)
-lt_or_last i n lt = elim (eqb_tells i n) [ inl same ↦ inr same.1 | inr other ↦ inl (omega (arith, lt, other.1)) ]
-
 -- one more name, whose number stands
 pub IsIndexed-pushed : (names : List (List ℕ)) (shelves : List (List (List (ℕ × List (ℕ × ℕ))))) (others : List ℕ) (name : List ℕ)
     → IsIndexed names shelves others → Stands shelves others (text_hash name) (length names)
@@ -134,3 +95,41 @@ IsIndexed-pushed names shelves others name indexed new i lt =
           subst (λ (n : ℕ). Stands shelves others (text_hash (get_or (names ++ name ∷ []) i [])) n) (sym last)
           (subst (λ (n : List ℕ). Stands shelves others (text_hash n) (length names)) (sym here) new)
     ]
+
+-- a refusal of one operation's kind is one of it and those behind it
+pub kinds_refused : (op : NamedOp) (behind : List NamedOp) (kinds : Book) → kinds.limit < length (kinds_after op kinds.names)
+    → kinds.limit < length (kinds_after_all (op ∷ behind) kinds.names)
+kinds_refused op behind kinds refused = grind (arith, common_steps, no_fewer_kinds_all)
+
+-- a vertex has its label's name where it is its own label, and nowhere else: names differ, and no name is empty
+pub own_text : (book : Book) (v label : ℕ) → IsBook book → v < length book.names
+    → bytes_eq (get_or book.names v []) (get_or book.names label []) ≡ (label == v)
+own_text book v label is within = elim (eqb_tells label v) [
+  | inl same ↦ (bytes_eq-Decides (name v) (name label)).1 (ap name (sym same.1)) ∙ sym same.0
+  | inr other ↦ different (bytes_eq (name v) (name label)) refl other.1 ∙ sym other.0
+] where
+  name : ℕ → List ℕ
+  name i = get_or book.names i []
+
+  not_empty : name v ≡ [] → ⊥
+  not_empty empty = false≢true
+      (subst (λ n. IsTrue (is_name n)) empty (All-get_or (λ n. IsTrue (is_name n)) book.names v [] within is.named))
+
+  apart : (a b : ℕ) → a < b → b < length book.names → name a ≡ name b → ⊥
+  apart a b less below same = is.distinct a b [] less below same
+
+  alike : name v ≡ name label → label ≢ v → ⊥
+  alike same other = elim (cases_lt label v) [
+    | inl less ↦ apart label v less within (sym same)
+    | inr least ↦ elim (cases_lt label (length book.names)) [
+      | inl below ↦ elim (eq-or-lt_of_le least) [
+        | inl equal ↦ other (sym equal)
+        | inr more ↦ apart v label more below same
+      ]
+      | inr past ↦ not_empty (same ∙ get_or_past book.names label [] past)
+    ]
+  ]
+
+  different : (b : Bool) → bytes_eq (name v) (name label) ≡ b → label ≢ v → bytes_eq (name v) (name label) ≡ false
+  different true is_same other = absurd (alike ((bytes_eq-Decides (name v) (name label)).0 is_same) other)
+  different false is_same other = is_same

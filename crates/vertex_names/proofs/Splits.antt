@@ -5,9 +5,10 @@ use Rattle.std.proofs.{lemmas.Bool.cases_lt, lemmas.Bool.Decides.eqb_tells, Math
 use Rattle.std.proofs.lemmas.List.{length-map, get_or-map, map-set, get_or-set_same, get_or-set_other, get_or_default}
 use Rattle.std.proofs.lemmas.List.Edits.{length-insert, get_or-insert_below, get_or-insert_at, get_or-insert_above}
 use Rattle.std.specs.{List.insert, List.AllZip, Map.lookup, declared.sync.Arc.Arc, declared.alloc.Global.Global}
+use Rattle.graph_types.proofs.ListPlaces.{map-insert}
 use Rattle.vertex_names.specs.{declared.piece.Piece.Piece, Order.{firsts, IsRising, last_place, found_in}, Pieces.piece_entries}
 use Rattle.vertex_names.{specs.Pieces.pieces_of, proofs.Places.{rising-insert, place-before, place-lower, place-upper}}
-use Rattle.vertex_names.proofs.{Places.place-behind, Entries.{Pairs, firsts-insert, first_read, map-insert}}
+use Rattle.vertex_names.proofs.{Places.place-behind, Entries.{Pairs, firsts-insert, first_read}}
 
 abbrev pub Spans : Type 0
 Spans = List (ℕ × Pairs)

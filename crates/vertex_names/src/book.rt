@@ -13,6 +13,7 @@ use crate::index::hash_of;
 use crate::lending::NameIter;
 use crate::tables::{Tables, is_at, push_name, shared};
 use std::alloc::{AllocError, AllocFailed, Global};
+use std::fmt;
 use std::marker::Model;
 use std::sync::Arc;
 use thiserror::Error;
@@ -59,6 +60,16 @@ pub struct NameBook {
     tables: Option<Arc<Tables>>,
     /// Numbers of names that were found not long ago; `None` before the first name, and where memory for it was refused.
     cache: Option<Arc<Cache>>,
+}
+
+// Written by hand: how many names there are, and not each of them.
+impl fmt::Debug for NameBook {
+    fn fmt<F: fmt::Write>(&self, f: &mut fmt::Formatter<F>) -> fmt::Result {
+        f.debug_struct("NameBook")
+            .field("limit", &self.limit)
+            .field("names", &self.len())
+            .finish_non_exhaustive()
+    }
 }
 
 impl Model for NameBook {

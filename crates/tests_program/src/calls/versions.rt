@@ -8,7 +8,7 @@ ghost use Rattle.graph_version.specs.Rows.{row_of};
 ghost use Rattle.batch_shards.specs.RowBlocks.{shared_numbers};
 ghost use Rattle.graph_version.specs.Versions.{content, is_in};
 ghost use Rattle.graph_version.specs.Drafts.{IsWhole};
-ghost use Rattle.version_pages.specs.Sharing.{block_values};
+ghost use Rattle.graph_version.specs.Sharing.{block_values};
 ghost use Rattle.graph_version.specs.Rebased.{AreCopies};
 ghost use Rattle.epoch_core.specs.Opened.{IsOpening};
 ghost use Rattle.batch_apply.specs.Planned.{IsPlan};

@@ -7,6 +7,7 @@ ghost use Rattle.stream_store.specs.Stores.{IsOfOpening};
 use super::batches::batch_named;
 use super::gates::Meeting;
 use super::places::{Place, index_of, lend_seat, move_seat, push_seen};
+use super::shown::{push_desk, push_receipt, push_shown};
 use super::texts::push_item;
 use super::told::{push_collected, push_journal, push_kept, push_pin, push_stat, push_told};
 use batch_apply::{Gate, PassAll};
@@ -125,6 +126,11 @@ impl Stage for Front {
             "collect" => self.push_collected(text),
             "stat" => push_stat(text, self.desk.stat()),
             "journal" => push_journal(text, self.desk.journal()),
+            "show" => push_desk(text, &self.desk, places, words.1),
+            "receipt" => push_receipt(
+                text,
+                apply_at(rt, &mut self.desk, &PassAll, batch_named(alloc, words.1)),
+            ),
             "kept" => push_kept(text, &self.desk, &self.board),
             "seat" => lend_seat(
                 &self.desk,
@@ -155,6 +161,7 @@ impl<J: Naming> Stage for Store<J> {
             "meet" => push_met(rt, self, text, batch_named(alloc, words.1)),
             "collect" => push_collected(text, self.collect(rt)),
             "stat" | "kept" => push_stat(text, self.stat(rt)),
+            "show" => push_shown(text, &*self, places, words.1),
             "seat" => move_seat(rt, self, places.get_mut(index_of(words.1).0), text),
             _ => push_seen(rt, text, alloc, places, words),
         }

@@ -4,8 +4,9 @@ use Rattle.graph_types.specs.Limits.{most_operations}
 use Rattle.edge_block.specs.Batches.{resolved}
 use Rattle.graph_version.specs.{Rows.row_of, Batches.batch_value, Versions.{VersionView, content, layout_of}}
 use Rattle.batch_shards.specs.RowBlocks.{shared_numbers}
+use Rattle.batch_shards.proofs.ShardSizes.{needs_of}
 use Rattle.batch_apply.specs.Gathered.{IsGathered, IsWorked}
-use Rattle.batch_apply.proofs.Dealt.{needs_of, dealt_ready}
+use Rattle.batch_apply.proofs.Dealt.{dealt_ready}
 use Rattle.batch_apply.proofs.applied.apply_alone_over.Goals.{In_ok-all}
 use Rattle.batch_apply.proofs.applied.apply_alone_over.Goals as goal
 

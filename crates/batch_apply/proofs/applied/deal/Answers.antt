@@ -1,9 +1,10 @@
 use Rattle.std.proofs.Common.{◌≡◌, ◌<◌, ◌+◌, ◌++◌, ◌∷◌, [], ℕ, List, flat_map, count_by, length, length-append, zip, take, get_or}
 use Rattle.std.proofs.{Common.{slice_index_or, arith, refl, sym, ap, ◌∙◌, subst}, lemmas.Iterator.Adapters.YieldsList-from_vec}
 use Rattle.std.{proofs.lemmas.{Iterator.Consumers.YieldsList-turn, List.Sums.sum_by-take-le}, specs.List.{sum_by, AllZip}}
-use Rattle.batch_shards.{specs.{RowBlocks.shared_numbers, declared.shard.Shard.Shard}, proofs.Places.{count_by-append, one_piece}}
+use Rattle.graph_types.proofs.{Elements.zip_more, Joined.one_piece, Sums.{sum_taken, count_by-append}, ZippedRows.zip_push}
+use Rattle.batch_shards.specs.{RowBlocks.shared_numbers, declared.shard.Shard.Shard}
 use Rattle.batch_apply.specs.{Gathered.IsDealt, declared.workers.Job.Job}
-use Rattle.batch_apply.proofs.{Dealt.{sum_taken, zip_push}, Halves.zip_more, applied.deal.Goals.After-len-in-loop-shard}
+use Rattle.batch_apply.proofs.applied.deal.Goals.{After-len-in-loop-shard}
 use Rattle.batch_apply.proofs.applied.deal.Goals as goal
 
 -- the next shard is one of the plan's, and what it needs is read at its place

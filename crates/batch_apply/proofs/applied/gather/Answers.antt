@@ -1,8 +1,8 @@
 use Rattle.std.proofs.{Common.◌++◌, Common.List, Common.replicate, Common.sym, Common.ap, Common.◌∙◌, lemmas.List.append_assoc}
 use Rattle.graph_types.specs.declared.batches.Outcome.TheVariants.{Absent}
+use Rattle.graph_types.proofs.Joined.{one_piece}
 use Rattle.batch_shards.specs.{RowBlocks.shared_blocks, RowBlocks.shared_numbers, Closing.row_values, declared.shard.ShardDone.ShardDone}
 use Rattle.batch_apply.{specs.Plans.written, proofs.Loops.from_more}
-use Rattle.batch_shards.proofs.Places.{one_piece}
 use Rattle.batch_apply.proofs.applied.gather.Goals as goal
 
 pub loop-done-preserved : goal.loop-done-preserved

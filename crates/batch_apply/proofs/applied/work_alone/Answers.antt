@@ -1,8 +1,9 @@
 use Rattle.std.proofs.Common.{◌++◌, [], ◌∷◌, zip, refl, sym, ap, ◌∙◌, subst, arith}
 use Rattle.std.{specs.List.AllZip, proofs.lemmas.List.append-nil, proofs.lemmas.List.get_or_read}
+use Rattle.graph_types.proofs.{Sums.{only, numbers_one}, ZippedRows.paired}
 use Rattle.batch_shards.specs.{RowBlocks.shared_blocks, RowBlocks.shared_numbers, Closing.row_values, declared.shard.Shard.Shard}
 use Rattle.batch_apply.specs.{Gathered.IsDealt, Plans.written, declared.workers.Job.Job}
-use Rattle.batch_apply.proofs.{Alone.{only, paired, numbers_one}, applied.work_alone.{Given.Over, Goals.In_ok-fresh}}
+use Rattle.batch_apply.proofs.applied.work_alone.{Given.Over, Goals.In_ok-fresh}
 use Rattle.batch_apply.proofs.applied.work_alone.Goals as goal
 
 pub take_last-requires : goal.take_last-requires

@@ -4,9 +4,10 @@ use Rattle.vertex_names.specs.Book.{Book}
 use Rattle.edge_block.specs.Batches.{resolved_by}
 use Rattle.graph_version.specs.{Versions.content}
 use Rattle.graph_types.specs.{Parts.{names_after_all, kinds_after_all}, Refusals.IsLimitRefusal}
+use Rattle.graph_types.proofs.Cases.{err_then}
+use Rattle.graph_version.proofs.NumbersIn.{neither_limit}
 use Rattle.batch_apply.specs.Plan.{with_names, Fits}
-use Rattle.batch_apply.proofs.{Resolving.as_many_shown, Leaving.{names_book, kinds_book, neither_limit, plan_refused}}
-use Rattle.batch_apply.proofs.Names.{err_then}
+use Rattle.batch_apply.proofs.{Resolving.as_many_shown, Leaving.{names_book, kinds_book, plan_refused}}
 use Rattle.batch_apply.proofs.dividing.name_batch.Goals as goal
 
 -- the version's books are within their limits

@@ -2,10 +2,10 @@ use Rattle.std.proofs.Common.{Ok, IfOk, get_or, ◌≡◌, ◌<◌, ◌+◌, ◌
 use Rattle.std.proofs.Common.{arith, length, length-append, Result}
 use Rattle.std.{proofs.lemmas.List.map-append, specs.{declared.alloc.AllocError.AllocError}}
 use Rattle.std.proofs.lemmas.Iterator.{Adapters.YieldsList-from_vec, Consumers.YieldsList-turn}
+use Rattle.graph_types.proofs.Elements.{one_more_shard}
 use Rattle.edge_block.specs.Slots.{BlockView}
 use Rattle.batch_shards.specs.{Done.layout_by, Done.sources_in, Spending.needed, declared.shard.Shard.Shard}
 use Rattle.batch_apply.specs.{Plan.shown_op, Shards.{IsShardOf, latest_expiry}, OldRows.AreOldRows, declared.shards.Needing.Needing}
-use Rattle.batch_apply.proofs.Leaving.{one_more_shard}
 use Rattle.batch_apply.proofs.dividing.shards_at_once.Goals as goal
 
 pub loop-one-preserved : goal.loop-one-preserved

@@ -1,7 +1,8 @@
 use Rattle.std.proofs.Common.{◌≡◌, ◌-◌, ◌^◌, ℕ, List, [], ◌∷◌, ◌++◌, map, min, ap₂, sym, subst, ◌∙◌, arith}
 use Rattle.std.{proofs.lemmas.List.map-append, specs.List.range_with_len, specs.List.AllZip}
+use Rattle.graph_types.proofs.Elements.{one_more_shard}
 use Rattle.batch_shards.specs.{Done.layout_by, Done.sources_in, Spending.needed, declared.shard.Shard.Shard}
-use Rattle.batch_apply.{specs.{Plan.shown_op, Shards.IsShardOf}, proofs.Leaving.one_more_shard}
+use Rattle.batch_apply.specs.{Plan.shown_op, Shards.IsShardOf}
 use Rattle.batch_apply.proofs.dividing.shards_for.Goals as goal
 
 pub loop-worker-preserved : goal.loop-worker-preserved

@@ -2,11 +2,13 @@ use Rattle.std.proofs.Common.{◌≡◌, ◌∙◌, ◌∷◌, ◌++◌, ◌+◌
 use Rattle.std.proofs.{Common.{subst, arith}, lemmas.{List.Elements.All-push, Grind.common_steps}}
 use Rattle.graph_types.specs.declared.batches.NamedOp.{NamedOp}
 use Rattle.graph_types.specs.Parts.{names_after, kinds_after, names_after_all, kinds_after_all}
+use Rattle.graph_types.proofs.Cases.{err_then}
 use Rattle.edge_block.specs.Batches.{resolved_by}
+use Rattle.edge_block.proofs.ShardResults.{placed_in}
 use Rattle.vertex_names.specs.Book.{Book}
 use Rattle.batch_apply.specs.Plan.{shown_op, AreFound, IsInRange, IsSeen, IsUnplanned}
-use Rattle.batch_apply.proofs.{Found.{all_later, rest_found}, Resolving.{one_more, placed_in, all_resolved}}
-use Rattle.batch_apply.proofs.{Names.err_then, Leaving.unplanned_all}
+use Rattle.batch_apply.proofs.{Found.{all_later, rest_found}, Resolving.{one_more, all_resolved}}
+use Rattle.batch_apply.proofs.Leaving.{unplanned_all}
 use Rattle.batch_apply.proofs.naming.resolve_batch.Goals as goal
 
 pub loop-k-preserved : goal.loop-k-preserved

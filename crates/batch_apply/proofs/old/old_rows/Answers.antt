@@ -21,11 +21,10 @@ loop-source-preserved c =
     let n : ℕ = c.loop-source.from.0 in
     let m : ℕ = c.in-Some.source.0 in
     let found : List OldRow = c.loop-source.found.items in
-    let next = c.in-Some.ensures in
-    let blocks : c.old_blocks_in-blocks.result ≡ old_blocks time (rows m) =
-    c.old_blocks_in-blocks.ensures ∙ ap (old_blocks time) c.row_blocks.ensures.blocks in
+    let next = c.in-Some.ensures.next in
+    let blocks : c.in-Some.blocks ≡ old_blocks time (rows m) = c.in-Some.ensures.blocks in
     let some : 0 < old_blocks time (rows m) = some_counted time (rows m) next.1 in
-    let r : OldRow = record { source = c.in-Some.source; blocks = c.old_blocks_in-blocks.result } in
+    let r : OldRow = record { source = c.in-Some.source; blocks = c.in-Some.blocks } in
     rw c.in_ok-push.ensures.items
     (found_more time rows m found (found_no_more time rows n found c.loop-source.invariant m next.0 next.2) r refl blocks
     (omega (arith, blocks, some)))
@@ -36,9 +35,9 @@ loop-source-smaller c =
     let names : ℕ = length (content c.args.version.now).names in
     let n : ℕ = c.loop-source.from.0 in
     let m : ℕ = c.in-Some.source.0 in
-    let next = c.in-Some.ensures in
+    let next = c.in-Some.ensures.next in
     let le : n ≤ m = next.0 in
-    let within : m < names = old_is_within c.args.version.now c.row_blocks.ensures.version time m
+    let within : m < names = old_is_within c.args.version.now c.in-Some.ensures.version time m
     (some_counted time (row_of c.args.version.now.rows m) next.1) in
     let less : names - (m + 1) < names - n = omega arith in less
 
@@ -48,12 +47,12 @@ returns c =
     let rows : ℕ → List BlockView = row_of c.args.version.now.rows in
     let same : time ≡ expiry_time c.args.batch.now = c.expiry_time-time.ensures ∙ ap expiry_time c.ops.ensures.ops in
     subst (λ (t : ℕ). AreOldRows t rows c.loop-source.found.items) same
-    (found_all time rows c.loop-source.from.0 c.loop-source.found.items c.loop-source.invariant c.in_default.ensures)
+    (found_all time rows c.loop-source.from.0 c.loop-source.found.items c.loop-source.invariant c.in_default.ensures.next)
 
 pub overflow_add-from : goal.overflow_add-from
 overflow_add-from c =
-    let next = c.in-Some.ensures in
+    let next = c.in-Some.ensures.next in
     let within : c.in-Some.source.0 < length (content c.args.version.now).names =
-    old_is_within c.args.version.now c.row_blocks.ensures.version c.expiry_time-time.result c.in-Some.source.0
+    old_is_within c.args.version.now c.in-Some.ensures.version c.expiry_time-time.result c.in-Some.source.0
     (some_counted c.expiry_time-time.result (row_of c.args.version.now.rows c.in-Some.source.0) next.1) in
-    omega (arith, within, c.row_blocks.ensures.version.small.names, c.row_blocks.ensures.version.small.limits.names)
+    omega (arith, within, c.in-Some.ensures.version.small.names, c.in-Some.ensures.version.small.limits.names)

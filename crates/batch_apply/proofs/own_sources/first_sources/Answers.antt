@@ -3,10 +3,11 @@ use Rattle.std.proofs.Common.{nat_eq}
 use Rattle.std.{proofs.lemmas.List.length-map, specs.{List.list_any, Prelude.slice_get}}
 use Rattle.std.specs.declared.option.Option.TheVariants.{Some}
 use Rattle.graph_types.specs.declared.ids.VertexId.{VertexId}
+use Rattle.graph_types.proofs.ListPlaces.{ranked_next}
 use Rattle.edge_block.specs.Batches.{Resolved, shard_ops}
 use Rattle.batch_apply.specs.{Plan.shown_op, OldRows.{old_sources, own_rows}, Shards.source_numbers, FirstSources.{AreFirst, asked_sources}}
 use Rattle.batch_apply.specs.declared.{old.OldRow.OldRow, resolve.ResolvedOp.ResolvedOp}
-use Rattle.batch_apply.proofs.{First.{old_first, ranked_first, ranked_next, few_asked}, Listing.own_few}
+use Rattle.batch_apply.proofs.{First.{old_first, ranked_first, few_asked}, Listing.own_few}
 use Rattle.batch_apply.proofs.own_sources.first_sources.Goals as goal
 
 -- what was listed, the old rows' first

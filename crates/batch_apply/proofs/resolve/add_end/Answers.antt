@@ -1,7 +1,8 @@
 use Rattle.std.proofs.Common.{◌≡◌, ◌∙◌, ℕ, List, Some, sym, ap}
 use Rattle.std.proofs.lemmas.Result.{IfOk-weaker}
 use Rattle.graph_types.specs.Step.{with_name, number_of}
-use Rattle.batch_apply.{specs.Plan.{known}, proofs.{Names.{placed, target_known}}}
+use Rattle.graph_types.proofs.ListedNames.{placed}
+use Rattle.batch_apply.{specs.Plan.known, proofs.Names.target_known}
 use Rattle.batch_apply.proofs.resolve.add_end.Goals as goal
 
 pub returns-in-None-clause-number : goal.returns-in-None-clause-number

@@ -1,7 +1,8 @@
 use Rattle.std.proofs.Common.{◌≡◌, ◌∙◌, ℕ, List, ap, length, Some, arith}
 use Rattle.graph_types.{specs.Step.{with_name, number_of}, proofs.NameLists.number_of-lt}
+use Rattle.graph_types.proofs.ListedNames.{placed, entered}
 use Rattle.vertex_names.specs.Book.{Book}
-use Rattle.batch_apply.proofs.Names.{target_known, placed, entered}
+use Rattle.batch_apply.proofs.Names.{target_known}
 use Rattle.batch_apply.proofs.resolve.add_kind.Goals as goal
 
 pub overflow_cast-result : goal.overflow_cast-result

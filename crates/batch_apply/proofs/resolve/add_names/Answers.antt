@@ -1,6 +1,7 @@
 use Rattle.std.proofs.Common.{◌≡◌, ◌∷◌, ◌+◌, drop, drop-cons, rules}
 use Rattle.graph_types.specs.Parts.{names_after_all}
-use Rattle.batch_apply.{specs.Plan.{IsRefusal}, proofs.Names.{refused_all, err_then}}
+use Rattle.graph_types.proofs.Cases.{err_then}
+use Rattle.batch_apply.{specs.Plan.IsRefusal, proofs.Names.refused_all}
 use Rattle.batch_apply.proofs.resolve.add_names.Goals as goal
 
 pub returns-in_err-op_ends-clause-refused : goal.returns-in_err-op_ends-clause-refused

@@ -1,7 +1,8 @@
 use Rattle.std.proofs.Common.{◌≤◌, ◌∷◌, length, subst}
 use Rattle.graph_types.specs.Parts.{kinds_after, names_after_all}
 use Rattle.vertex_names.specs.{Book.Book, declared.book.AddError.AddError}
-use Rattle.batch_apply.{specs.Plan.{IsRefusal}, proofs.Names.{kinds_refused, unplanned_kinds}}
+use Rattle.vertex_names.proofs.Names.{kinds_refused}
+use Rattle.batch_apply.{specs.Plan.IsRefusal, proofs.Names.unplanned_kinds}
 use Rattle.batch_apply.proofs.resolve.kinds_refusal.Goals as goal
 
 pub returns-in-Ok : goal.returns-in-Ok

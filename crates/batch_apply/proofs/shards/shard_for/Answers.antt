@@ -2,7 +2,6 @@ use Rattle.std.proofs.Common.{◌≡◌, ◌+◌, ◌-◌, ◌^◌, ◌<◌, tru
 use Rattle.std.proofs.{Common.{ap, sym, subst, ◌∙◌, arith}, lemmas.List.{length-map, length-take-le, take_all, take_more}}
 use Rattle.std.{proofs.lemmas.List.{get_or-map, Sums.sum_by_push}, specs.Prelude.{pos, count_by, not, Bool, IfSome}}
 use Rattle.std.specs.{List.sum_by, declared.option.Option.TheVariants.None}
-use mir.Val.{bool_byte}
 use Rattle.graph_types.specs.declared.changes.EdgeChange.TheVariants.{Insert}
 use Rattle.edge_block.specs.Batches.{Resolved, IsPlaced, is_in_shard, shard_ops}
 use Rattle.batch_shards.specs.{Done.layout_by, Groups.is_expiry, Spending.old_blocks, Spending.latest as latest_step}
@@ -15,10 +14,6 @@ use Rattle.batch_apply.proofs.Listing.{own_blocks, same_old, same_latest, listed
 use Rattle.batch_apply.proofs.First.{start, finished, is_known, unknown, same_blocks, old_first, next_given, next_other}
 use Rattle.batch_apply.proofs.shards.shard_for.Goals.{then-is_in_shard+in_ok-act+in_ok-push, else-is_in_shard}
 use Rattle.batch_apply.proofs.shards.shard_for.Goals as goal
-
-byte_is : (b : Bool) (n : ℕ) → n ≡ bool_byte b → n ≡ cond b 1 0
-byte_is true n is = is
-byte_is false n is = is
 
 pub act_in-requires-clause-next : goal.act_in-requires-clause-next
 act_in-requires-clause-next c =
@@ -91,8 +86,7 @@ loop-k-preserved c =
           same_sum workers worker (take i rs) r known keys steps is mine placed
           (listed_blocks old) (unknown workers worker rs old first) next w.in_ok-act.ensures.sources in
           let one = sum_by_push (λ (t : Step). cond (not (is_expiry t.act)) 1 0) steps s in
-          let takes : w.from.result ≡ cond (not (is_expiry act)) 1 0 =
-          byte_is (not (is_expiry act)) w.from.result (w.from.ensures ∙ ap (λ b. bool_byte (not b)) w.is_expiry.ensures) in
+          let takes : w.blocks_for.result ≡ cond (not (is_expiry act)) 1 0 = w.blocks_for.ensures in
           let so_far = c.loop-k.invariant.blocks in
           let more = w.saturating_add-blocks.ensures in
           let sum : w.saturating_add-blocks.result ≡ min (blocks_in (own_rows workers worker old)

@@ -1,7 +1,8 @@
 use Rattle.std.proofs.{Common.{rules, All, sym, subst}, lemmas.{Result.IfOk-at_ok, List.Elements.{All-take, All-drop}}}
+use Rattle.graph_types.proofs.Elements.{zip_halves}
 use Rattle.graph_version.specs.Rows.{row_of}
 use Rattle.batch_shards.specs.{Done.IsShardDone, declared.shard.ShardDone.ShardDone}
-use Rattle.batch_apply.{specs.{Gathered.{IsShard, AreShardsDone}, declared.workers.Job.Job}, proofs.Halves.zip_halves}
+use Rattle.batch_apply.specs.{Gathered.{IsShard, AreShardsDone}, declared.workers.Job.Job}
 use Rattle.batch_apply.proofs.workers.+do_busy+fn-do_busy-front.Goals as goal
 
 pub returns : goal.returns

@@ -1,8 +1,9 @@
 use Rattle.std.proofs.Common.{◌++◌, ◌∷◌, [], length, sym, ◌∙◌, subst}
 use Rattle.std.proofs.lemmas.Iterator.{Adapters.YieldsList-from_vec, Consumers.YieldsList-turn}
+use Rattle.graph_types.proofs.Elements.{zip_more}
 use Rattle.graph_version.specs.Rows.{row_of}
 use Rattle.batch_shards.specs.{Done.IsShardDone, declared.shard.ShardDone.ShardDone}
-use Rattle.batch_apply.{specs.{Gathered.{IsShard, AreShardsDone}, declared.workers.Job.Job}, proofs.Halves.zip_more}
+use Rattle.batch_apply.specs.{Gathered.{IsShard, AreShardsDone}, declared.workers.Job.Job}
 use Rattle.batch_apply.proofs.workers.do_each.Goals as goal
 
 pub do_one-requires : goal.do_one-requires

@@ -1,15 +1,10 @@
-use Rattle.std.proofs.Common.{◌≡◌, ℕ, ◌++◌, ◌∷◌, [], List, ap, sym, arith, ◌∙◌, append_assoc, length-append, map}
+use Rattle.std.proofs.Common.{ℕ, ◌++◌, ◌∷◌, [], List, ap, sym, arith, ◌∙◌, length-append, map}
 use Rattle.std.proofs.lemmas.{List.map-append, Iterator.{Adapters.YieldsList-from_vec, Consumers.YieldsList-turn}}
+use Rattle.graph_types.proofs.{Joined.one_piece, Prefixes.behind}
 use Rattle.edge_block.specs.Slots.{BlockView}
 use Rattle.batch_shards.specs.Closing.{after_here, written_here, dropped_here, unused_here, written_of}
-use Rattle.batch_shards.{specs.declared.row_blocks.RowBlock.RowBlock, proofs.Places.one_piece}
+use Rattle.batch_shards.specs.declared.row_blocks.RowBlock.{RowBlock}
 use Rattle.batch_shards.proofs.open_rows.close_blocks.Goals as goal
-
--- what one more block adds behind a base
-behind : {A : Type 0} (base so_far here old new all : List A) → new ≡ old ++ here → old ≡ base ++ so_far → all ≡ so_far ++ here
-    → new ≡ base ++ all
-behind base so_far here old new all added before whole =
-    added ∙ ap (λ l. l ++ here) before ∙ append_assoc base so_far here ∙ ap (λ l. base ++ l) (sym whole)
 
 -- room was made for all blocks at once
 pub close_block-requires : goal.close_block-requires

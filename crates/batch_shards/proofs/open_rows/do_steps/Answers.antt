@@ -2,13 +2,14 @@ use Rattle.std.proofs.Common.{◌≡◌, ℕ, ◌+◌, ◌-◌, ◌<◌, true, r
 use Rattle.std.proofs.{lemmas.Bool.false≢true, lemmas.List.get_or-set_other, lemmas.List.get_or_default, Math.Seq.map-set_same}
 use Rattle.graph_types.specs.declared.{ids.VertexId.VertexId, batches.Outcome.Outcome}
 use Rattle.batch_shards.proofs.{Expiring.not_later, Expiring.spends_least, ShardSteps.first_step, SourceSteps.earlier_next}
-use Rattle.batch_shards.proofs.SourceSteps.{next_from, stepped, outcome_here, left_alone, left_told, skipped_count, at_row, wrote}
+use Rattle.batch_shards.proofs.SourceSteps.{next_from, stepped, outcome_here, left_alone, left_told, skipped_count, at_row}
 use Rattle.batch_shards.{proofs.SourceSteps.beside, specs.Groups.act_step}
 use Rattle.graph_types.specs.Outcomes.{told}
 use Rattle.batch_shards.specs.Groups.{act_outcome, is_on_row, is_expiry, is_later, does_act, may_change, IsNextStep, LeadsToStep, IsSourceRow}
 use Rattle.batch_shards.specs.{Groups.IsOneMore, OpenRows.IsRowOf, RowBlocks.opens, Shards.resolved_in, Spending.latest, declared.shard.Act.Act}
 use Rattle.edge_block.specs.{Batches.rows_all, Rows.{OpenBlock, old_in_row}}
 use Rattle.graph_types.specs.Outcomes.{together}
+use Rattle.graph_types.proofs.OutcomeSteps.{wrote}
 use Rattle.batch_shards.proofs.open_rows.do_steps.Goals as goal
 
 pub loop-index-init : goal.loop-index-init

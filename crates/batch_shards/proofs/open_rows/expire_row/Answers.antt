@@ -1,7 +1,8 @@
 use Rattle.std.proofs.Common.{◌≡◌, ◌%◌, ◌^◌, List, refl, sym, ap, subst, arith}
 use Rattle.edge_block.specs.Rows.{old_in_row}
+use Rattle.edge_block.proofs.OldSlots.{young_stays, young_before}
 use Rattle.batch_shards.specs.{RowBlocks.opens, declared.row_blocks.RowBlock.RowBlock}
-use Rattle.batch_shards.proofs.{Young.young_before, Young.young_stays, ExpiringRows.noted_since}
+use Rattle.batch_shards.proofs.ExpiringRows.{noted_since}
 use Rattle.batch_shards.proofs.open_rows.expire_row.Goals as goal
 
 pub returns-clause-of_source : goal.returns-clause-of_source

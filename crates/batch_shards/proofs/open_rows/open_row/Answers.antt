@@ -1,6 +1,6 @@
 use Rattle.std.proofs.Common.{List, refl, subst, arith}
+use Rattle.edge_block.proofs.OldSlots.{none_at_start}
 use Rattle.batch_shards.specs.{RowBlocks.opens, Notes.IsNoted, declared.row_blocks.RowBlock.RowBlock}
-use Rattle.batch_shards.proofs.Young.{none_at_start}
 use Rattle.batch_shards.proofs.open_rows.open_row.Goals as goal
 
 pub returns-clause-of_source : goal.returns-clause-of_source

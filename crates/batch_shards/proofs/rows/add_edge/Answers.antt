@@ -1,11 +1,11 @@
 use Rattle.std.proofs.Common.{◌≡◌, true, get_or, length, arith, [], ◌∷◌, ◌++◌, sym, ap, ◌∙◌, subst, w64, rules}
 use Rattle.std.proofs.lemmas.Int.{to_z-of_z}
+use Rattle.graph_types.proofs.ChangedContents.{weight_fits_word}
 use Rattle.edge_block.specs.{Slots.{Slot, has_room_for, edge_slot, put_slot}, Rows.touch}
 use Rattle.batch_shards.specs.{RowBlocks.{block_of, open_of, IsTouched}, declared.row_blocks.RowBlock.RowBlock, Notes.Gains}
 use Rattle.batch_shards.{specs.Room.IsFull, proofs.{Rooms.{full_set, full_before, full_all}, RowSteps.{at_room, placed}}}
 use Rattle.batch_shards.proofs.{RowSteps.{put_into, put_last, room_is, room_within, keeps_set}, Noting.{gains_put, gains_push}}
 use Rattle.batch_shards.proofs.Noting.{put_block_targets, new_block_targets}
-use Rattle.graph_version.proofs.Rebased.{weight_fits}
 use Rattle.batch_shards.proofs.rows.add_edge.Goals as goal
 
 pub put-requires-clause-room : goal.put-requires-clause-room
@@ -23,7 +23,7 @@ returns-in_ok-put-in-Some c =
     let e : Slot = edge_slot c.args.target c.args.marks.weight c.args.marks.first c.args.marks.recent in
     let h : RowBlock = c.index_mut.result.now in
     let t : IsTouched (put_slot e) h c.put.new.self =
-    (rw (to_z-of_z w64 c.args.marks.weight (weight_fits c.args.marks.weight c.requires.marks.weight)) at
+    (rw (to_z-of_z w64 c.args.marks.weight (weight_fits_word c.args.marks.weight c.requires.marks.weight)) at
     c.in_ok-put-in-Some.ensures.touched) in
     record {
       row = sym (put_into c.args.kind.0 e row place c.put.new.self h c.requires.absent found

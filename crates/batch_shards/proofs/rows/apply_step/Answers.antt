@@ -2,8 +2,9 @@ use Rattle.std.{proofs.Common.{◌≡◌, ◌<◌, List, true, sym, ap, ◌∙�
 use Rattle.std.specs.declared.option.Option.TheVariants.{None, Some}
 use Rattle.graph_types.specs.{Step.stamp_after, Changes.option_stamp, Changes.stamp_in}
 use Rattle.edge_block.{specs.Slots.stamp_at, specs.Rows.OpenBlock, specs.Rows.old_in_row, proofs.Entries.list_any-holds}
+use Rattle.edge_block.proofs.SlotTargets.{absent_puts, absent_stays}
 use Rattle.batch_shards.specs.{RowBlocks.{block_of, opens, IsChanged}, declared.row_blocks.RowBlock.RowBlock, Notes.has_target}
-use Rattle.batch_shards.{specs.Room.IsRoom, proofs.RowSteps.{absent_edge, absent_puts, absent_stays, at_edge, placed, keeps_set}}
+use Rattle.batch_shards.{specs.Room.IsRoom, proofs.RowSteps.{absent_edge, at_edge, placed, keeps_set}}
 use Rattle.batch_shards.proofs.{RowSteps.{found_within, found_edge, found_some, found_changed, absent_any}, Noting.noted_kept}
 use Rattle.batch_shards.proofs.Noting.{changed_targets}
 use Rattle.batch_shards.proofs.rows.apply_step.Goals as goal

@@ -1,8 +1,9 @@
 use Rattle.std.proofs.Common.{◌≡◌, ℕ, ◌+◌, ◌<◌, ◌≤◌, List, refl, ◌∙◌, arith, rules, get_or, length, vec_len}
 use Rattle.std.proofs.lemmas.List.{length-map}
+use Rattle.graph_types.proofs.MappedFirst.{map_first_all}
 use Rattle.edge_block.specs.Rows.{OpenBlock, expire_block}
 use Rattle.batch_shards.specs.{RowBlocks.{open_of, opens}, Spending.unspent, declared.row_blocks.RowBlock.RowBlock}
-use Rattle.batch_shards.proofs.{RowSteps.keeps_set, Expiring.map_first_all}
+use Rattle.batch_shards.proofs.RowSteps.{keeps_set}
 use Rattle.batch_shards.proofs.ExpiringRows.{owes_here, set_here, count_here, few_here, all_set}
 use Rattle.batch_shards.proofs.rows.expire_blocks.Goals as goal
 

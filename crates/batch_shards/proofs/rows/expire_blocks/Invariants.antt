@@ -1,7 +1,8 @@
 use Rattle.std.{proofs.Common.{◌≡◌, ℕ, ◌%◌, ◌^◌, All, take}, specs.List.sum_by}
+use Rattle.graph_types.proofs.MappedFirst.{map_first}
 use Rattle.edge_block.specs.{Slots.old_in, Rows.expire_block}
 use Rattle.batch_shards.specs.RowBlocks.{opens, had_in, own_in, shared_numbers, HaveSame, IsOf}
-use Rattle.batch_shards.{specs.OpenRows.LeavesEnough, proofs.Expiring.map_first}
+use Rattle.batch_shards.specs.OpenRows.{LeavesEnough}
 use Rattle.batch_shards.proofs.rows.expire_blocks.Given as goal
 
 abbrev pub invariant-loop-place : goal.invariant-loop-place

@@ -1,7 +1,7 @@
 use Rattle.std.proofs.{Common.{◌≡◌, ℕ, get_or, sym, ap, ◌∙◌, arith, List}, lemmas.List.{get_or-map, length-map, take_all}}
 use Rattle.edge_block.specs.{Slots.old_in, Rows.{OpenBlock, old_in_row}}
+use Rattle.edge_block.proofs.OldSlots.{young_more, slots_before}
 use Rattle.batch_shards.specs.{RowBlocks.open_of, RowBlocks.opens, declared.row_blocks.RowBlock.RowBlock}
-use Rattle.batch_shards.proofs.Young.{slots_before, young_more}
 use Rattle.batch_shards.proofs.rows.least_time.Goals as goal
 
 pub loop-here-preserved : goal.loop-here-preserved

@@ -1,6 +1,7 @@
 use Rattle.std.proofs.Common.{sym, subst, arith}
 use Rattle.graph_types.specs.declared.changes.EdgeChange.{EdgeChange}
-use Rattle.batch_shards.proofs.Young.{IsFrom, change_young}
+use Rattle.graph_types.proofs.PickedStamps.{IsFrom}
+use Rattle.edge_block.proofs.YoungSlots.{change_young}
 use Rattle.batch_shards.proofs.rows.since_after.Goals as goal
 
 pub returns-in-Insert : goal.returns-in-Insert

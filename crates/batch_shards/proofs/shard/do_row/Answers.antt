@@ -3,11 +3,12 @@ use Rattle.std.proofs.lemmas.List.{get_or-map, length-map, map-append}
 use Rattle.graph_types.specs.declared.ids.VertexId.{VertexId}
 use Rattle.edge_block.specs.{Slots.BlockView, declared.blocks.Block.Block, Rows.{OpenBlock, untouched, shape_of}, Batches.opened_rows}
 use Rattle.graph_version.specs.Rows.{row_of}
-use Rattle.batch_shards.proofs.{Beginnings.kept_all, Expiring.opened_owes, Expiring.needed_row, SourceRows.outcomes_more}
+use Rattle.batch_shards.proofs.{Beginnings.kept_all, Expiring.opened_owes, SourceRows.outcomes_more}
 use Rattle.batch_shards.{proofs.SourceRows.row_done, proofs.SourceSteps.past_more, specs.Closing.row_values, specs.Done.layout_by}
 use Rattle.batch_shards.specs.{Groups.IsSourceRow, RowBlocks.shared_blocks, RowBlocks.kept_of, RowBlocks.opens, Shards.AreSteps}
 use Rattle.batch_shards.specs.{Spending.latest, Spending.unspent, Spending.old_blocks, declared.shard.OpenRow.OpenRow}
 use Rattle.std.specs.declared.{sync.Arc.Arc, alloc.Global.Global}
+use Rattle.graph_types.proofs.Sums.{needed_row}
 use Rattle.batch_shards.proofs.shard.do_row.Goals as goal
 
 -- the row that is opened owes its old blocks

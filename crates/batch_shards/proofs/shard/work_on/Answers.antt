@@ -6,6 +6,7 @@ use Rattle.batch_shards.specs.{RowBlocks.block_of, RowBlocks.shared_numbers, Sha
 use Rattle.batch_shards.specs.{Spending.needed_past, Spending.IsGrouped, declared.shard.Step.Step, Groups.none_told}
 use Rattle.batch_shards.proofs.{Beginnings.few_past, Beginnings.none_yet, Closed.read_edges, Finish.finish}
 use Rattle.graph_types.specs.declared.{ids.VertexId.VertexId, batches.Outcome.Outcome}
+use Rattle.graph_types.proofs.Cases.{both}
 use Rattle.batch_shards.proofs.shard.work_on.Goals as goal
 
 pub loop-row-init : goal.loop-row-init
@@ -20,10 +21,6 @@ loop-row-init c = record {
   empty = c.new-list.ensures.items;
   rows = inl refl;
 }
-
--- the same of slices as of what they show
-both : {A B : Type 0} (P : A → B → Type 0) (a x : A) (b y : B) → a ≡ x → b ≡ y → P a b → P x y
-both P a x b y e f p = subst (λ z. P z y) e (subst (λ z. P a z) f p)
 
 pub do_row-requires-clause-fresh : goal.do_row-requires-clause-fresh
 do_row-requires-clause-fresh c =

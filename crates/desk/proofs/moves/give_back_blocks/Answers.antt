@@ -1,7 +1,8 @@
 use Rattle.std.proofs.Common.{◌≡◌, ap, set, ◌∙◌, rules}
 use Rattle.block_reclamation.specs.declared.status.BlockStatus.TheVariants.{Free}
 use Rattle.batch_shards.specs.RowBlocks.{block_of, shared_numbers}
-use Rattle.desk.proofs.Moving.{rest_moving, last_used, last_number}
+use Rattle.batch_shards.proofs.SharedNumbers.{last_number}
+use Rattle.desk.proofs.Moving.{rest_moving, last_used}
 use Rattle.desk.proofs.moves.give_back_blocks.Goals as goal
 
 pub loop-block-preserved : goal.loop-block-preserved

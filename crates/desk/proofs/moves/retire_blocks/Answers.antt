@@ -1,5 +1,6 @@
 use Rattle.batch_shards.specs.RowBlocks.{block_of, shared_numbers}
-use Rattle.desk.proofs.Moving.{rest_retiring, last_born, last_number}
+use Rattle.batch_shards.proofs.SharedNumbers.{last_number}
+use Rattle.desk.proofs.Moving.{rest_retiring, last_born}
 use Rattle.desk.proofs.moves.retire_blocks.Goals as goal
 
 pub loop-block-preserved : goal.loop-block-preserved

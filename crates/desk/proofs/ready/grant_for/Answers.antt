@@ -3,7 +3,7 @@ use Rattle.std.specs.{Arc.arc_value, List.sum_by}
 use Rattle.graph_types.specs.declared.batches.NamedOp.{NamedOp}
 use Rattle.graph_version.specs.{Batches.batch_value, declared.versions.Version.Version}
 use Rattle.block_reclamation.specs.Status.{is_free, is_in_use}
-use Rattle.batch_apply.proofs.Names.{err_then}
+use Rattle.graph_types.proofs.Cases.{err_then}
 use Rattle.desk.specs.{Kept.desk_in, Refusals.{Refuses, RefusesGrant, asked}}
 use Rattle.desk.proofs.Handing.{grant_within, desk_refuses, desk_admits}
 use Rattle.desk.proofs.ready.grant_for.Goals as goal

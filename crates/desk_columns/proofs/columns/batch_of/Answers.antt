@@ -2,9 +2,8 @@ use Rattle.std.proofs.Common.{◌≡◌, ◌+◌, length, arith}
 use Rattle.std.specs.Prelude.{Ok}
 use Rattle.graph_types.specs.Limits.{most_operations}
 use Rattle.batch_columns.specs.Dictionaries.{insertion_at, IsInserted}
-use Rattle.batch_columns.proofs.OneMore.{one_longer}
+use Rattle.batch_columns.proofs.OneMore.{one_longer, inserted_more}
 use Rattle.desk_columns.specs.Feeding.{columns_of}
-use Rattle.desk_columns.proofs.Inserted.{inserted_more}
 use Rattle.desk_columns.proofs.columns.batch_of.Goals as goal
 
 pub loop-alloc-preserved : goal.loop-alloc-preserved

@@ -1,5 +1,6 @@
 use Rattle.std.proofs.Common.{◌<◌, inl, inr}
-use Rattle.edge_block.proofs.Times.{bounds_alone, bounds_inside, live_with_others}
+use Rattle.lane_scan.proofs.Selected.{bounds_alone}
+use Rattle.edge_block.proofs.Times.{bounds_inside, live_with_others}
 use Rattle.edge_block.proofs.columns.bounds_without.Goals as goal
 
 pub returns-then-others-eq0 : goal.returns-then-others-eq0

@@ -1,5 +1,6 @@
 use Rattle.std.proofs.{Common.{◌<◌, ◌++◌, ℕ, List, length, get_or, take, ap, ◌∙◌, arith}, lemmas.Option.slice_get-get_or}
-use Rattle.epoch_core.{specs.Versions.edges_at, specs.Versions.edges_of, proofs.Lists.one_piece_more}
+use Rattle.graph_types.proofs.Joined.{one_piece_more}
+use Rattle.epoch_core.specs.Versions.{edges_at, edges_of}
 use Rattle.epoch_core.proofs.contents.edges_of.Goals as goal
 
 pub loop-block-preserved : goal.loop-block-preserved

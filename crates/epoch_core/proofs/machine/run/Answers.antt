@@ -1,7 +1,8 @@
 use Rattle.std.proofs.Common.{◌≡◌, ◌<◌, ◌+◌, ◌-◌, ◌^◌, List, [], ◌∷◌, ◌++◌, length, take, sym, ap, subst, ◌∙◌, arith}
 use Rattle.std.proofs.lemmas.List.{take_more}
+use Rattle.graph_types.proofs.Numbers.{capped_more}
 use Rattle.epoch_core.specs.{declared.events.Event.Event, Runs.Runs, Runs.count_of, Runs.done_in}
-use Rattle.epoch_core.proofs.Cores.{runs_more, count_more, capped_more}
+use Rattle.epoch_core.proofs.Cores.{runs_more, count_more}
 use Rattle.epoch_core.proofs.machine.run.Goals as goal
 
 pub loop-event-preserved : goal.loop-event-preserved

@@ -2,10 +2,11 @@
 use Rattle.std.proofs.Common.{◌≡◌, ◌∙◌, length, true, Option, Some, ap, ap₂, subst, rules}
 use Rattle.std.specs.Prelude.{◌&&◌, nat_lt, MatchOption, IsTrue, IsFalse}
 use Rattle.graph_types.specs.{Graph.{Graph, graph_in, graph_of}, Step.after_all, declared.contents.Content.Content}
+use Rattle.graph_types.proofs.ChangedContents.{within_graph}
 use Rattle.epoch_core.specs.declared.states.{Version.Version, Opening.Opening}
 use Rattle.epoch_core.specs.{Blocks.all_differ, Posting.{IsContentAfter, all_listable, are_edges_of, graph_after}}
 use Rattle.epoch_core.specs.Versions.{blocks_at, edges_of}
-use Rattle.epoch_core.proofs.Read.{content_graph, within_graph}
+use Rattle.epoch_core.proofs.Read.{content_graph}
 use Rattle.epoch_core.proofs.posting.plan_post.Goals as goal
 
 pub returns : goal.returns

@@ -1,6 +1,7 @@
-use Rattle.std.proofs.Common.{◌≡◌, ℕ, ◌+◌, ◌-◌, ◌*◌, ◌<◌, ◌≤◌, ◌^◌, length, List, take, get_or, true, arith, ap, ◌∙◌, sym, refl}
-use Rattle.std.proofs.{Common.length-take, lemmas.List.take_more, lemmas.List.Folds.list_all_more}
+use Rattle.std.proofs.Common.{◌≡◌, ℕ, ◌+◌, ◌-◌, ◌*◌, ◌<◌, ◌≤◌, ◌^◌, length, List, take, get_or, true, arith, ap, ◌∙◌, sym}
+use Rattle.std.proofs.{Common.length-take, lemmas.List.take_more}
 use Rattle.std.specs.{Char.is_ascii_digit, List.list_all}
+use Rattle.graph_types.proofs.Searches.{digits_more}
 use Rattle.feed_csv.{specs.Number.decimal_value, proofs.Decimal.decimal_value-push, proofs.Decimal.decimal_value-lt_19}
 use Rattle.feed_csv.proofs.number.number.Goals as goal
 
@@ -17,11 +18,6 @@ value_more : (text : List ℕ) (i value digit : ℕ) → i < length text → val
 value_more text i value digit within is next =
     let longer = ap decimal_value (take_more text i 0 within) in
     omega (arith, is, next, longer, decimal_value-push (take i text) (get_or text i 0))
-
-digits_more : (text : List ℕ) (i : ℕ) → i < length text → list_all is_ascii_digit (take i text) ≡ true
-    → is_ascii_digit (get_or text i 0) ≡ true
-    → list_all is_ascii_digit (take (i + 1) text) ≡ true
-digits_more text i within all next = rw (list_all_more is_ascii_digit text i 0 within, all, next) refl
 
 pub overflow_mul-value : goal.overflow_mul-value
 overflow_mul-value c =

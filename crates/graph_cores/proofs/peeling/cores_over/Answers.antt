@@ -1,5 +1,6 @@
 use Rattle.std.proofs.Common.{arith, length}
-use Rattle.graph_cores.{specs.Rows.neighbor_row, proofs.{RowSteps.row_within, Times.apart_few}}
+use Rattle.graph_types.proofs.Times.{apart_few}
+use Rattle.graph_cores.{specs.Rows.neighbor_row, proofs.RowSteps.row_within}
 use Rattle.graph_cores.proofs.peeling.cores_over.Goals as goal
 
 pub peel-requires-clause-short : goal.peel-requires-clause-short

@@ -1,6 +1,7 @@
 use Rattle.std.proofs.Common.{arith, ◌∙◌, ap}
 use Rattle.graph_types.specs.Arcs.{at}
-use Rattle.graph_cores.proofs.{RowSteps.all_lengths, PeelSteps.numbers_within, PeelSteps.numbers_all}
+use Rattle.graph_types.proofs.ArcTables.{numbers_within, numbers_all}
+use Rattle.graph_cores.proofs.RowSteps.{all_lengths}
 use Rattle.graph_cores.proofs.peeling.peel.Goals as goal
 
 pub rounds-requires-clause-degrees : goal.rounds-requires-clause-degrees

@@ -1,14 +1,10 @@
 use Rattle.std.proofs.Common.{◌≡◌, ◌<◌, ◌≤◌, ◌+◌, ◌++◌, ◌∷◌, [], ℕ, List, arith, length, set, ◌∙◌, sym, ap, subst, false}
-use Rattle.std.{proofs.lemmas.List.{length-append, Elements.{All-contains, Contains-push}}, specs.Prelude.{All, sum}}
+use Rattle.std.{proofs.lemmas.List.length-append, specs.Prelude.{All, sum}}
 use Rattle.graph_types.specs.Arcs.{at}
+use Rattle.graph_types.proofs.Elements.{popped_within, front_low}
 use Rattle.graph_cores.{specs.{Rows.neighbor_row, Peel.{lowered, IsPeeling}}, proofs.{RowSteps.row_within, Lowered.lowered_sum}}
-use Rattle.graph_cores.proofs.{Lowered.{lowered_all, lowered_at}, PeelSteps.{take_out, skip, front_low, still}}
+use Rattle.graph_cores.proofs.{Lowered.{lowered_all, lowered_at}, PeelSteps.{take_out, skip, still}}
 use Rattle.graph_cores.proofs.peeling.peel_level.Goals as goal
-
--- the popped vertex is one of n
-popped_within : (n v : ℕ) (old st : List ℕ) → old ≡ st ++ v ∷ [] → All (λ w. w < n) old → v < n
-popped_within n v old st popped all = All-contains (λ w. w < n) (st ++ v ∷ []) v (subst (All (λ w. w < n)) popped all)
-    (Contains-push st v)
 
 pub of-neighbors-requires-clause-within : goal.of-neighbors-requires-clause-within
 of-neighbors-requires-clause-within c =

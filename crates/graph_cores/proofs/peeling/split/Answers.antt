@@ -1,21 +1,13 @@
-use Rattle.std.proofs.Common.{◌≡◌, ◌+◌, ◌<◌, ◌++◌, ◌∷◌, [], ℕ, List, Bool, cond, take, length, get_or, append_assoc, arith, ap, sym, ◌∙◌}
+use Rattle.std.proofs.Common.{◌++◌, ℕ, Bool, get_or, arith, ap, sym, ◌∙◌}
 use Rattle.std.proofs.Common.{◌&&◌, true, false, suc}
-use Rattle.std.proofs.lemmas.{Bool.{le-leb, lt-leb}, List.{append-nil, take_all, Elements.filter_more}}
+use Rattle.std.proofs.lemmas.{Bool.{le-leb, lt-leb}, List.{append-nil, take_all}}
 use Rattle.std.specs.{Prelude.{filter, nat_le, nat_lt}, declared.{vec.Vec.Vec, alloc.Global.Global}}
 use Rattle.graph_types.specs.Arcs.{at}
+use Rattle.graph_types.proofs.Sums.{one_more}
 use Rattle.graph_cores.specs.Peel.{is_low, is_high}
 use Rattle.graph_cores.proofs.peeling.split.Goals as goal
 use Rattle.graph_cores.proofs.peeling.split.Goals.{then-alive-place+then-degrees-place+in_ok-push}
 use Rattle.graph_cores.proofs.peeling.split.Goals.{then-alive-place+else-degrees-place+in_ok-push-2, else-alive-place}
-
--- one vertex more, put at the end where it passes
-one_more : (p : ℕ → Bool) (old from before after : List ℕ) (i : ℕ) (passes : Bool) → i < length from
-    → before ≡ old ++ filter p (take i from) → p (get_or from i 0) ≡ passes
-    → after ≡ before ++ cond passes (get_or from i 0 ∷ []) [] → after ≡ old ++ filter p (take (i + 1) from)
-one_more p old from before after i passes lt was is put =
-    put ∙ (λ j. was j ++ cond (sym is j) (get_or from i 0 ∷ []) [])
-    ∙ append_assoc old (filter p (take i from)) (cond (p (get_or from i 0)) (get_or from i 0 ∷ []) [])
-    ∙ ap (λ xs. old ++ xs) (sym (filter_more p from i 0 lt))
 
 pub loop-vertex-init : goal.loop-vertex-init
 loop-vertex-init c = record { low = sym (append-nil c.args.stack.now.items); high = sym (append-nil c.args.more.now.items) }

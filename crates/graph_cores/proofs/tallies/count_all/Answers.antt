@@ -2,8 +2,9 @@ use Rattle.std.proofs.{Common.{◌≡◌, ◌∙◌, ◌++◌, ◌+◌, ◌≤�
 use Rattle.graph_types.specs.declared.ids.{Degree.Degree, Edge.Edge}
 use Rattle.edge_block.specs.Slots.{BlockView}
 use Rattle.graph_version.specs.{Rows.row_of, Sharing.block_values, Versions.content}
+use Rattle.graph_version.proofs.RowBlocks.{blocks_below}
 use Rattle.graph_cores.specs.Tallies.{shown_edges, IsCounted, AreViewEdges, Counts}
-use Rattle.graph_cores.proofs.Whole.{blocks_below, below_within, shown_more, table_is}
+use Rattle.graph_cores.proofs.Whole.{below_within, shown_more, table_is}
 use Rattle.graph_cores.proofs.tallies.count_all.Goals as goal
 
 pub count_row-requires : goal.count_row-requires

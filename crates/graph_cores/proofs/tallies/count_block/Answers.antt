@@ -1,8 +1,9 @@
 use Rattle.std.proofs.{Common.◌∙◌, Common.ap, Common.subst, Common.sym, Common.arith, Common.w64, lemmas.Int.to_z-of_z}
 use Rattle.std.{proofs.lemmas.List.Elements.All-head, proofs.lemmas.List.Elements.All-tail, specs.Prelude.All}
+use Rattle.graph_types.proofs.ChangedContents.{weight_fits_word}
 use Rattle.edge_block.specs.{Slots.IsStamp, Lending.LentEdge, Lending.lent_edge, Lending.edges_left}
-use Rattle.graph_cores.{specs.Tallies.shown_block, proofs.Blocks.edges_lent, proofs.Blocks.lent_block}
-use Rattle.graph_version.proofs.Rebased.{weight_fits}
+use Rattle.edge_block.proofs.LentEntries.{edges_lent}
+use Rattle.graph_cores.{specs.Tallies.shown_block, proofs.Blocks.lent_block}
 use Rattle.graph_cores.proofs.{Parts.begun_start, Parts.begun_end, Turns.next_room, Turns.next_begun}
 use Rattle.graph_cores.proofs.tallies.count_block.Goals as goal
 
@@ -37,7 +38,7 @@ count_edge-requires-clause-room c =
     let stamps = subst (All (λ (e : LentEdge). IsStamp e.stamp)) c.in-Some.ensures.steps c.loop-edge.invariant.stamps in
     let stamp : IsStamp l.stamp = All-head (λ (e : LentEdge). IsStamp e.stamp) l rest stamps in
     let weight = c.in-Some.edge.weight.now in
-    rw (to_z-of_z w64 weight (weight_fits weight stamp.0))
+    rw (to_z-of_z w64 weight (weight_fits_word weight stamp.0))
     (next_room c.args.view.now c.args.block.now c.args.table.now c.loop-edge.table (edges_left c.loop-edge.edge-iterator) rest l
     c.in-Some.ensures.steps c.loop-edge.auto.table c.requires c.loop-edge.invariant.begun).room
 
@@ -48,7 +49,7 @@ loop-edge-preserved c =
     let stamps = subst (All (λ (e : LentEdge). IsStamp e.stamp)) c.in-Some.ensures.steps c.loop-edge.invariant.stamps in
     let stamp : IsStamp l.stamp = All-head (λ (e : LentEdge). IsStamp e.stamp) l rest stamps in
     let weight = c.in-Some.edge.weight.now in
-    let counts = (rw (to_z-of_z w64 weight (weight_fits weight stamp.0)) at c.count_edge.ensures) in
+    let counts = (rw (to_z-of_z w64 weight (weight_fits_word weight stamp.0)) at c.count_edge.ensures) in
     record {
       begun = next_begun c.args.view.now c.args.block.now c.args.table.now c.loop-edge.table
           (edges_left c.loop-edge.edge-iterator) rest l c.in-Some.ensures.steps c.loop-edge.auto.table c.requires

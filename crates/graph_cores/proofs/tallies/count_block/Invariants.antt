@@ -1,6 +1,7 @@
 use Rattle.std.specs.Prelude.{All}
 use Rattle.edge_block.specs.{Slots.IsStamp, Lending.edges_left}
-use Rattle.graph_cores.{specs.Tallies.shown_block, proofs.Blocks.edges_lent, proofs.Parts.IsBegun}
+use Rattle.edge_block.proofs.LentEntries.{edges_lent}
+use Rattle.graph_cores.{specs.Tallies.shown_block, proofs.Parts.IsBegun}
 use Rattle.graph_cores.proofs.tallies.count_block.Given as goal
 
 abbrev pub invariant-loop-edge : goal.invariant-loop-edge

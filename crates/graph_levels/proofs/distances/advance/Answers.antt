@@ -2,7 +2,8 @@ use Rattle.std.{proofs.Common.{◌≡◌, ◌<◌, ◌+◌, ◌++◌, ◌∙◌,
 use Rattle.std.{proofs.lemmas.List.{append-nil, drop_all, length-append}}
 use Rattle.graph_levels.specs.{Reached.{level_table, vertices_of}, Search.IsSearch}
 use Rattle.graph_types.specs.{Analyses.LeadsTo, declared.ids.VertexId.VertexId}
-use Rattle.graph_levels.proofs.{Frontiers.step, Tables.front_more, Tables.met_rows, Targets.told}
+use Rattle.graph_types.proofs.Elements.{told}
+use Rattle.graph_levels.proofs.{Frontiers.step, Tables.{front_more, met_rows}}
 use Rattle.graph_levels.proofs.distances.advance.Goals as goal
 
 pub visit-requires-clause-within : goal.visit-requires-clause-within

@@ -1,16 +1,10 @@
-use Rattle.std.proofs.Common.{◌≡◌, ◌↔◌, ◌+◌, ◌++◌, ◌∷◌, ◌∙◌, [], List, ℕ, Bool, true, false, cond, drop, get_or, refl, sym, ap, subst, arith}
-use Rattle.std.{proofs.lemmas.{Bool.false≢true, List.{at_drop_all, at_drop_more}}, specs.{Prelude.IsTrue, declared.{vec.Vec.Vec, alloc.Global.Global}}}
+use Rattle.std.proofs.Common.{◌≡◌, ◌+◌, ◌++◌, ◌∷◌, ◌∙◌, [], List, ℕ, cond, drop, get_or, refl, sym, ap, subst, arith}
+use Rattle.std.{proofs.lemmas.List.{at_drop_all, at_drop_more}, specs.declared.{vec.Vec.Vec, alloc.Global.Global}}
 use Rattle.graph_types.specs.declared.ids.VertexId.{VertexId}
+use Rattle.graph_types.proofs.Cases.{alike}
 use Rattle.graph_levels.{specs.Reached.{AreVertexMarks, IsMarked, met, stands_in}, proofs.Marking.marks_more}
 use Rattle.graph_levels.proofs.distances.visit.Goals as goal
 use Rattle.graph_levels.proofs.distances.visit.Goals.{then-not-is_marked+in_ok-push, else-not-is_marked}
-
--- two answers to one question
-alike : (P : Type 0) (a b : Bool) → (IsTrue a ↔ P) → (P ↔ IsTrue b) → b ≡ a
-alike P true true p q = refl
-alike P false false p q = refl
-alike P true false p q = absurd (false≢true (q.0 (p.0 refl)))
-alike P false true p q = absurd (false≢true (p.1 (q.1 refl)))
 
 pub loop-target-init : goal.loop-target-init
 loop-target-init c = record { rows = refl; marks = c.requires.marks; long = refl }

@@ -1,6 +1,6 @@
 use Rattle.std.proofs.Common.{◌<◌, arith, length, ◌∙◌}
+use Rattle.graph_types.proofs.Walks.{then}
 use Rattle.graph_levels.proofs.Trees.{up_is, halved_roots, halved_forest, halved_respects, halved_sound, halved_connects}
-use Rattle.graph_levels.proofs.Walks.{then}
 use Rattle.graph_levels.proofs.parts.find.Goals as goal
 
 pub bounds-parents-parents : goal.bounds-parents-parents

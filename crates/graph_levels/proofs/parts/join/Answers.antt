@@ -1,11 +1,7 @@
-use Rattle.std.proofs.Common.{◌<◌, arith, length, ◌∙◌, sym, ℕ}
-use Rattle.graph_types.specs.{Graph.Graph, Analyses.Connects, Analyses.Joins, declared.ids.Filter.Filter}
-use Rattle.graph_levels.proofs.{Trees.{forest_set, respects_linked, linked_same, sound_set}, Walks.{then, one_step, backward}}
+use Rattle.std.proofs.Common.{◌<◌, arith, length, ◌∙◌, sym}
+use Rattle.graph_types.proofs.{ArcTables.around, Walks.backward}
+use Rattle.graph_levels.proofs.Trees.{forest_set, respects_linked, linked_same, sound_set}
 use Rattle.graph_levels.proofs.parts.join.Goals as goal
-
--- first's tree is joined to a, second's to b
-around : (f : Filter) (g : Graph) (a b r s : ℕ) → Connects f g r a → Connects f g s b → Joins f g a b → Connects f g r s
-around f g a b r s p q j = then f g r a s p (then f g a b s (one_step f g a b j) (backward f g s b q))
 
 pub returns-then-first-second : goal.returns-then-first-second
 returns-then-first-second c =

@@ -1,7 +1,8 @@
 use Rattle.std.proofs.{Common.{◌≡◌, ◌<◌, arith, length, ◌∙◌, sym, ap, get_or, subst, inl, inr}, lemmas.Bool.cases_lt}
 use Rattle.std.specs.Prelude.{All}
 use Rattle.graph_types.specs.Analyses.{LeadsTo}
-use Rattle.graph_levels.{specs.Forest.{parent, Respects}, proofs.{Targets.{told, each_target}, Walks.flat_trees}}
+use Rattle.graph_types.proofs.Elements.{told, each_target}
+use Rattle.graph_levels.{specs.Forest.{parent, Respects}, proofs.Walks.flat_trees}
 use Rattle.graph_levels.proofs.parts.settle.Goals as goal
 
 pub join_all-requires-clause-targets_within : goal.join_all-requires-clause-targets_within

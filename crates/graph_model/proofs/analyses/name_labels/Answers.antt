@@ -1,7 +1,7 @@
 use Rattle.std.proofs.Common.{◌≡◌, ◌<◌, length, sym, subst, ◌∙◌, ◌++◌, ◌∷◌, [], arith}
 use Rattle.std.proofs.lemmas.{List.length_push, List.length-map, Slice.Zip.zip_turn, Slice.Zip.zip_end}
 use Rattle.graph_types.specs.Answer.{names_of_vertices}
-use Rattle.graph_model.proofs.{ZippedRows.rows_more, ZippedRows.rows_all, AnalysisReplies.label_turn}
+use Rattle.graph_types.proofs.{AnalysisReplies.label_turn, ZippedRows.{rows_more, rows_all}}
 use Rattle.graph_model.proofs.analyses.name_labels.Goals as goal
 
 pub loop-name-preserved : goal.loop-name-preserved

@@ -1,7 +1,7 @@
 use Rattle.std.proofs.{Common.{take, length, ap, ◌∙◌}, lemmas.{List.length_push, Slice.Zip.{zip_turn, zip_end}}}
 use Rattle.std.specs.{Prelude.zip, List.filter_map}
 use Rattle.graph_types.specs.Answer.{level_row}
-use Rattle.graph_model.proofs.{ZippedRows.rows_all, AnalysisReplies.level_rows_more}
+use Rattle.graph_types.proofs.{AnalysisReplies.level_rows_more, ZippedRows.rows_all}
 use Rattle.graph_model.proofs.analyses.name_levels.Goals as goal
 
 pub loop-name-preserved : goal.loop-name-preserved

@@ -1,5 +1,5 @@
 use Rattle.std.proofs.{Common.{ap, ◌∙◌, ◌++◌, ◌∷◌, []}, lemmas.{List.length_push, Slice.Zip.{zip_turn, zip_end}}}
-use Rattle.graph_model.proofs.ZippedRows.{rows_more, rows_all}
+use Rattle.graph_types.proofs.ZippedRows.{rows_more, rows_all}
 use Rattle.graph_model.proofs.analyses.name_rows.Goals as goal
 
 pub loop-name-preserved : goal.loop-name-preserved

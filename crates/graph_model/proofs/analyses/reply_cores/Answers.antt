@@ -1,5 +1,5 @@
 use Rattle.std.{proofs.Common.{◌∙◌, inr}, specs.Prelude.zip}
-use Rattle.graph_model.proofs.AnalysisReplies.{cores_answer}
+use Rattle.graph_types.proofs.AnalysisReplies.{cores_answer}
 use Rattle.graph_model.proofs.analyses.reply_cores.Goals as goal
 
 pub returns : goal.returns

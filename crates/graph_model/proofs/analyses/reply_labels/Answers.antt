@@ -1,6 +1,6 @@
 use Rattle.std.{proofs.Common.{◌<◌, ◌∙◌, ℕ, List, length, sym, subst, inr}, specs.Prelude.{All, zip}}
 use Rattle.graph_types.specs.{Graph.graph_of, Answer.names_of_vertices}
-use Rattle.graph_model.proofs.AnalysisReplies.{labels_below, labels_answer}
+use Rattle.graph_types.proofs.AnalysisReplies.{labels_below, labels_answer}
 use Rattle.graph_model.proofs.analyses.reply_labels.Goals as goal
 
 pub name_labels-requires : goal.name_labels-requires

@@ -1,6 +1,6 @@
 use Rattle.std.{proofs.Common.{◌≡◌, ◌∙◌, Some, sym, ap, inr}, specs.Prelude.{position, bytes_eq}}
 use Rattle.graph_types.specs.Answer.{reached}
-use Rattle.graph_model.proofs.AnalysisReplies.{levels_answer}
+use Rattle.graph_types.proofs.AnalysisReplies.{levels_answer}
 use Rattle.graph_model.proofs.analyses.reply_levels.Goals as goal
 
 pub returns : goal.returns

@@ -2,8 +2,9 @@
 use Rattle.std.proofs.Common.{◌≡◌, ◌≤◌, arith, length, sym, ap, subst, ◌∙◌}
 use Rattle.graph_types.specs.Graph.{graph_in}
 use Rattle.graph_types.specs.{Parts.names_after_all, Refusals.IsLimitRefusal}
+use Rattle.graph_types.proofs.OperationParts.{names_fit}
 use Rattle.graph_model.specs.Refusals.{IsNamesRefusal}
-use Rattle.graph_model.proofs.{BatchRefusals.{names_fit, Refuses-names}, apply.kinds_refusal.Goals.{in-Ok, in-Err}}
+use Rattle.graph_model.proofs.{BatchRefusals.Refuses-names, apply.kinds_refusal.Goals.{in-Ok, in-Err}}
 use Rattle.graph_model.proofs.apply.kinds_refusal.Goals as goal
 
 pub returns : goal.returns

@@ -1,6 +1,7 @@
 use Rattle.std.proofs.{Common.◌∙◌, Common.ap, Common.rules, lemmas.Fn.filter_same, lemmas.List.Filters.dedup_is}
 use Rattle.graph_types.specs.Arcs.{two_way}
-use Rattle.graph_model.proofs.Links.{is_proper, links_done}
+use Rattle.graph_types.proofs.PairOrder.{is_proper}
+use Rattle.graph_model.proofs.Links.{links_done}
 use Rattle.graph_model.proofs.cores.links_of.Goals as goal
 
 pub returns : goal.returns

@@ -3,7 +3,8 @@ use Rattle.std.proofs.lemmas.{List.take_at, List.length-replicate, Result.IfOk-w
 use Rattle.std.specs.{Prelude.All, Prelude.count_by, Prelude.replicate, declared.alloc.Global.Global, declared.vec.Vec.Vec}
 use Rattle.graph_types.specs.Limits.{most_names}
 use Rattle.graph_types.specs.{Graph.graph_of, Analyses.AreCoreNumbers, Arcs.at, Arcs.AreUpper}
-use Rattle.graph_model.{specs.Links.supports, proofs.Links.joined_within, proofs.Links.first_upper}
+use Rattle.graph_types.proofs.ArcTables.{joined_within}
+use Rattle.graph_model.{specs.Links.supports, proofs.Links.first_upper}
 use Rattle.graph_model.proofs.{Links.more_upper, Links.cores_done, Links.cores_few, cores.plain_cores.Goals.{After-lower_once, After-deref-3}}
 use Rattle.graph_model.proofs.cores.plain_cores.Goals as goal
 

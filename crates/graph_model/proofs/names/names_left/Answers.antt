@@ -1,7 +1,8 @@
 -- The names that one operation makes are among those that are left in the end.
 use Rattle.std.proofs.{Common.◌≤◌, Common.length, Common.subst, lemmas.Result.err_from_is_err_and}
 use Rattle.graph_types.specs.Parts.{names_after, names_after_all}
-use Rattle.graph_model.proofs.BatchRefusals.{IsNamesRefusal-more, length-names_after_all-drop}
+use Rattle.graph_types.proofs.OperationParts.{length-names_after_all-drop}
+use Rattle.graph_model.proofs.BatchRefusals.{IsNamesRefusal-more}
 use Rattle.graph_model.proofs.names.names_left.Goals as goal
 
 pub returns-in_err-make_names_of-clause-refused : goal.returns-in_err-make_names_of-clause-refused

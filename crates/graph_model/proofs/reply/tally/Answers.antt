@@ -1,7 +1,7 @@
 -- What the loop has counted so far is within the limits, and at its end it is the table.
 use Rattle.std.proofs.Common.{All, length, ap, sym, ◌∙◌, arith, rules}
 use Rattle.graph_types.specs.Graph.{IsEdgeWithin}
-use Rattle.graph_model.proofs.DegreeTables.{tally_none, tally_shown, tally_hidden, tally_within, tally_all}
+use Rattle.graph_types.proofs.DegreeTables.{tally_within, tally_all, tally_none, tally_shown, tally_hidden}
 use Rattle.graph_model.proofs.reply.tally.Goals.{then-shows, else-shows}
 use Rattle.graph_model.proofs.reply.tally.Goals as goal
 

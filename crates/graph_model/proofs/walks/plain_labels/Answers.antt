@@ -1,6 +1,6 @@
 use Rattle.std.{proofs.{Common.{◌≡◌, length, ◌∙◌, sym, ap, ℕ, List, subst, drop}, lemmas.List.take_at}, specs.List.range_with_len}
 use Rattle.graph_types.specs.{Graph.graph_of, Analyses.AreLabels, Arcs.two_way}
-use Rattle.graph_model.proofs.Tables.{labels_within, labels_few, labels_done}
+use Rattle.graph_types.proofs.ArcTables.{labels_within, labels_few, labels_done}
 use Rattle.graph_model.proofs.walks.plain_labels.Goals as goal
 
 pub settle-requires-clause-within : goal.settle-requires-clause-within

@@ -1,7 +1,7 @@
 use Rattle.std.proofs.{Common.{◌≡◌, length, map, ◌∙◌, sym, ap, ℕ, List, subst, drop, Option}, lemmas.List.take_at}
 use Rattle.std.{proofs.lemmas.Result.IfOk-weaker, specs.declared.{alloc.Global.Global, vec.Vec.Vec}}
 use Rattle.graph_types.specs.{Graph.graph_of, Analyses.AreLevels, Arcs.level_start, Arcs.level_below}
-use Rattle.graph_model.proofs.Tables.{levels_within, levels_few, levels_done}
+use Rattle.graph_types.proofs.ArcTables.{levels_within, levels_few, levels_done}
 use Rattle.graph_model.proofs.walks.plain_levels.Goals as goal
 
 pub settle-requires-clause-within : goal.settle-requires-clause-within

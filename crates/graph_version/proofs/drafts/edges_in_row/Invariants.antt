@@ -1,5 +1,5 @@
 use Rattle.std.proofs.Common.{◌≡◌, ◌%◌, ◌^◌, length, take}
-use Rattle.version_pages.specs.Sharing.{block_values}
+use Rattle.graph_version.specs.Sharing.{block_values}
 use Rattle.graph_version.specs.Edges.{edges_in_blocks}
 use Rattle.graph_version.proofs.drafts.edges_in_row.Given as goal
 

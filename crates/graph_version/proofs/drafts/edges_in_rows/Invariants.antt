@@ -1,5 +1,5 @@
 use Rattle.std.proofs.Common.{◌≡◌, ◌%◌, ◌^◌, length, take}
-use Rattle.version_pages.specs.Rows.{blocks_of}
+use Rattle.graph_version.specs.Rows.{blocks_of}
 use Rattle.graph_version.specs.Edges.{edges_in_blocks}
 use Rattle.graph_version.proofs.drafts.edges_in_rows.Given as goal
 

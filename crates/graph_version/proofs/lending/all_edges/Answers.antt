@@ -1,6 +1,6 @@
 use Rattle.std.proofs.Common.{◌∙◌, refl, None}
 use Rattle.graph_types.specs.declared.ids.Filter.{Filter}
-use Rattle.graph_version.proofs.Lent.{all_lent}
+use Rattle.edge_block.proofs.LentEntries.{all_lent}
 use Rattle.graph_version.proofs.lending.all_edges.Goals as goal
 
 pub returns-clause-lends : goal.returns-clause-lends

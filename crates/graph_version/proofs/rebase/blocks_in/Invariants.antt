@@ -1,5 +1,5 @@
 use Rattle.std.proofs.Common.{◌≡◌, take}
-use Rattle.version_pages.specs.{Rows.blocks_of, Sharing.block_values}
+use Rattle.graph_version.specs.{Rows.blocks_of, Sharing.block_values}
 use Rattle.graph_version.proofs.rebase.blocks_in.Given as goal
 
 abbrev pub invariant-loop-source : goal.invariant-loop-source

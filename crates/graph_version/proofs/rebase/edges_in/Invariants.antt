@@ -1,7 +1,7 @@
 use Rattle.std.proofs.Common.{◌≡◌, take, All}
 use Rattle.graph_types.specs.Graph.{stamp_of}
 use Rattle.edge_block.specs.Slots.{IsStamp}
-use Rattle.version_pages.specs.Rows.{blocks_of}
+use Rattle.graph_version.specs.Rows.{blocks_of}
 use Rattle.graph_version.specs.Edges.{edges_in_blocks}
 use Rattle.graph_version.proofs.rebase.edges_in.Given as goal
 

@@ -1,13 +1,7 @@
-use Rattle.std.proofs.Common.{◌≡◌, ◌∙◌, ℕ, zero, suc, List, [], ◌∷◌, refl, sym, ap, rules}
-use Rattle.std.specs.Prelude.{None, option_copied, slice_get, slice_index_or}
+use Rattle.std.proofs.Common.{◌≡◌, ◌∙◌, [], sym, ap, rules}
+use Rattle.std.specs.Prelude.{None, option_copied, slice_get}
+use Rattle.graph_types.proofs.ListedNames.{none_at}
 use Rattle.graph_version.proofs.rebase.name_at.Goals as goal
-
--- past the last name
-none_at : (names : List (List ℕ)) (n : ℕ) → slice_get names n ≡ None → slice_index_or names n [] ≡ []
-none_at [] zero is = refl
-none_at [] (suc n) is = refl
-none_at (name ∷ names) zero is = cc
-none_at (name ∷ names) (suc n) is = none_at names n is
 
 pub returns-in-None : goal.returns-in-None
 returns-in-None c =

@@ -1,5 +1,5 @@
 use Rattle.std.proofs.Common.{◌≡◌, ◌++◌, take}
-use Rattle.version_pages.specs.Sharing.{block_values}
+use Rattle.graph_version.specs.Sharing.{block_values}
 use Rattle.graph_version.proofs.rebase.push_blocks.Given as goal
 
 abbrev pub invariant-loop-block : goal.invariant-loop-block

@@ -1,8 +1,9 @@
 use Rattle.std.proofs.Common.{◌≡◌, ◌++◌, ◌∷◌, [], ◌∙◌, List, All, map, ap, sym, subst, rules, w64, append_assoc}
 use Rattle.std.proofs.lemmas.{Int.to_z-of_z, List.Elements.{All-head, All-tail, All-cons, All-nil, All-append}}
 use Rattle.graph_types.specs.{Graph.stamp_of, declared.ids.Edge.Edge}
+use Rattle.graph_types.proofs.ChangedContents.{weight_fits_word}
 use Rattle.edge_block.specs.{Slots.IsStamp, Lending.{LentEdge, lent_edge, edges_left}, declared.blocks.BlockIter.BlockIter}
-use Rattle.graph_version.proofs.Rebased.{lent_edges, weight_fits}
+use Rattle.graph_version.proofs.Rebased.{lent_edges}
 use Rattle.graph_version.specs.LentEdges.{lent_as_edge}
 use Rattle.graph_version.proofs.rebase.push_edges.Goals as goal
 
@@ -27,7 +28,7 @@ loop-edge-preserved c =
     let old = c.loop-edge.edges.items in
     let stamps = subst (All (λ (e : LentEdge). IsStamp e.stamp)) c.in-Some.ensures.steps c.loop-edge.invariant.left in
     let stamp : IsStamp l.stamp = All-head (λ (e : LentEdge). IsStamp e.stamp) l rest stamps in
-    let fits = to_z-of_z w64 c.in-Some.edge.weight.now (weight_fits c.in-Some.edge.weight.now stamp.0) in
+    let fits = to_z-of_z w64 c.in-Some.edge.weight.now (weight_fits_word c.in-Some.edge.weight.now stamp.0) in
     let added = (rw fits at c.in_ok-push.ensures.items) in
     let pushed : c.push.new.self.items ≡ old ++ lent_as_edge source l ∷ [] =
     added ∙ ap (λ n. old ++ lent_as_edge n l ∷ []) c.source-source.ensures in

@@ -1,6 +1,7 @@
 use Rattle.std.proofs.{Common.{◌≡◌, ◌∙◌, length, take, drop, sym, ap, arith}, lemmas.List.length-map}
-use Rattle.version_pages.specs.{Rows.row_of, Sharing.block_value, Sharing.block_values}
-use Rattle.graph_version.proofs.Rebased.{row_more, all_made, map_take, map_drop}
+use Rattle.graph_types.proofs.ListPlaces.{map_take, map_drop}
+use Rattle.graph_version.specs.{Rows.row_of, Sharing.block_value, Sharing.block_values}
+use Rattle.graph_version.proofs.Rebased.{row_more, all_made}
 use Rattle.graph_version.proofs.rebase.rows_over.Goals as goal
 
 pub loop-place-preserved : goal.loop-place-preserved

@@ -1,4 +1,4 @@
-use Rattle.version_pages.specs.Sharing.{block_values}
+use Rattle.graph_version.specs.Sharing.{block_values}
 use Rattle.graph_version.proofs.Rebased.{AreSoFar}
 use Rattle.graph_version.proofs.rebase.rows_over.Given as goal
 

@@ -1,5 +1,5 @@
 use Rattle.std.proofs.Common.{◌≡◌, ◌%◌, ◌^◌, length, take}
-use Rattle.version_pages.specs.Rows.{blocks_of}
+use Rattle.graph_version.specs.Rows.{blocks_of}
 use Rattle.graph_version.proofs.versions.blocks_in_rows.Given as goal
 
 abbrev pub invariant-loop-source : goal.invariant-loop-source

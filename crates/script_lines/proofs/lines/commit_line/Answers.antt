@@ -1,7 +1,8 @@
 use Rattle.std.proofs.Common.{◌≡◌, ◌++◌, ◌∷◌, [], ℕ, List, refl, sym, ap, ap₂, ◌∙◌, append_assoc, arith}
 use Rattle.std.proofs.lemmas.{Fmt.decimal_digit, Result.on_ok_weaker}
 use Rattle.std.specs.Prelude.{codes, decimal, if◌then◌else◌, string_bytes}
-use Rattle.script_lines.{specs.Lines.expired_part, proofs.Parts.part_more}
+use Rattle.graph_types.proofs.Prefixes.{part_more}
+use Rattle.script_lines.specs.Lines.{expired_part}
 use Rattle.script_lines.proofs.lines.commit_line.Goals as goal
 
 -- the text of a label and 0

@@ -1,5 +1,6 @@
 use Rattle.std.proofs.Common.{◌++◌, ◌∙◌, [], arith, string_bytes}
-use Rattle.script_lines.{specs.Lines.degree_line, proofs.TableRows.{lines_all, value_lines_more}}
+use Rattle.graph_types.proofs.TableSums.{value_lines_more, lines_all}
+use Rattle.script_lines.specs.Lines.{degree_line}
 use Rattle.script_lines.proofs.tables.degree_rows.Goals as goal
 
 pub loop-vertex-preserved : goal.loop-vertex-preserved

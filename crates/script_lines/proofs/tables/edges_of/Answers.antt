@@ -1,5 +1,5 @@
 use Rattle.std.proofs.Common.{◌<◌, ◌^◌, arith}
-use Rattle.script_lines.proofs.TableRows.{edges_more, sum_all}
+use Rattle.graph_types.proofs.TableSums.{edges_more, sum_all}
 use Rattle.script_lines.proofs.tables.edges_of.Goals as goal
 
 pub loop-vertex-preserved : goal.loop-vertex-preserved

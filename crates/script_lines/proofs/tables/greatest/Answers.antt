@@ -1,6 +1,6 @@
 use Rattle.std.proofs.Common.{◌∙◌, ap, arith}
+use Rattle.graph_types.proofs.AnalysisReplies.{pairs_all}
 use Rattle.script_lines.{specs.Lines.greatest, proofs.TableRows.greatest_more}
-use Rattle.version_answers.proofs.NamedRows.{rows_all}
 use Rattle.script_lines.proofs.tables.greatest.Goals as goal
 
 pub loop-vertex-preserved : goal.loop-vertex-preserved
@@ -11,5 +11,5 @@ loop-vertex-preserved c =
 pub returns : goal.returns
 returns c =
     c.loop-vertex.invariant ∙ ap greatest
-    (rows_all c.args.names.now.names c.args.numbers.now c.loop-vertex.vertex
+    (pairs_all c.args.names.now.names c.args.numbers.now c.loop-vertex.vertex
     (omega (arith, c.loop-vertex.auto.vertex-end, c.loop-vertex-test.false, c.min-count.ensures, c.len.ensures.value)))

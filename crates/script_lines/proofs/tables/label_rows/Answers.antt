@@ -1,8 +1,9 @@
 use Rattle.std.proofs.Common.{◌<◌, ◌++◌, ◌∙◌, [], length, min, arith, string_bytes}
 use Rattle.graph_levels.specs.Reached.{vertex_numbers}
 use Rattle.graph_types.specs.Answer.{names_of_vertices}
-use Rattle.script_lines.{specs.Lines.label_line, proofs.TableRows.{lines_all, lines_more}}
-use Rattle.version_answers.proofs.NamedRows.{label_at, length-labels}
+use Rattle.graph_types.proofs.TableSums.{lines_more, lines_all}
+use Rattle.graph_levels.proofs.LabelRows.{length-labels, label_at}
+use Rattle.script_lines.specs.Lines.{label_line}
 use Rattle.script_lines.proofs.tables.label_rows.Goals as goal
 
 pub loop-vertex-preserved : goal.loop-vertex-preserved

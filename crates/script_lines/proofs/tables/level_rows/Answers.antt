@@ -1,7 +1,7 @@
 use Rattle.std.{proofs.Common.{◌++◌, ◌∙◌, ap, arith, string_bytes}, specs.List.{filter_map, flat_map}}
 use Rattle.graph_types.specs.Answer.{level_row}
+use Rattle.graph_types.proofs.AnalysisReplies.{pairs_all}
 use Rattle.script_lines.{specs.Lines.number_line, proofs.TableRows.level_lines_more}
-use Rattle.version_answers.proofs.NamedRows.{rows_all}
 use Rattle.script_lines.proofs.tables.level_rows.Goals as goal
 
 pub loop-vertex-preserved : goal.loop-vertex-preserved
@@ -14,5 +14,5 @@ loop-vertex-preserved c =
 pub returns : goal.returns
 returns c =
     c.in_ok-flush.ensures ∙ c.loop-vertex.invariant ∙ ap (λ rows. string_bytes c.args.lines.now ++ flat_map number_line (filter_map level_row rows))
-    (rows_all c.args.names.now.names c.args.levels.now c.loop-vertex.vertex
+    (pairs_all c.args.names.now.names c.args.levels.now c.loop-vertex.vertex
     (omega (arith, c.loop-vertex.auto.vertex-end, c.loop-vertex-test.false, c.min-count.ensures, c.len.ensures.value)))

@@ -1,8 +1,8 @@
 use Rattle.std.proofs.Common.{◌+◌, ◌∙◌, ap, arith, bytes_eq, count_by}
 use Rattle.graph_levels.specs.Reached.{vertex_numbers}
 use Rattle.graph_types.specs.Answer.{names_of_vertices}
-use Rattle.script_lines.proofs.TableRows.{own_more}
-use Rattle.version_answers.proofs.NamedRows.{length-labels, rows_all}
+use Rattle.graph_types.proofs.AnalysisReplies.{pairs_all}
+use Rattle.graph_levels.proofs.LabelRows.{own_more, length-labels}
 use Rattle.script_lines.proofs.tables.own_labels.Goals as goal
 
 pub loop-vertex-preserved : goal.loop-vertex-preserved
@@ -17,5 +17,5 @@ returns c =
     let labels = c.args.labels.now in
     let long = length-labels names labels in
     c.loop-vertex.invariant ∙ ap (count_by (λ entry. bytes_eq entry.0 entry.1))
-    (rows_all names (names_of_vertices names (vertex_numbers labels)) c.loop-vertex.vertex
+    (pairs_all names (names_of_vertices names (vertex_numbers labels)) c.loop-vertex.vertex
     (omega (arith, c.loop-vertex.auto.vertex-end, c.loop-vertex-test.false, c.min-count.ensures, c.len.ensures.value)))

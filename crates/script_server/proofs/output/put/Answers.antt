@@ -1,5 +1,6 @@
 use Rattle.std.proofs.Common.{◌∙◌, arith, length-drop}
-use Rattle.script_server.proofs.Writing.{on_err, part_taken, taken_more}
+use Rattle.graph_types.proofs.{Cases.err_always, Prefixes.taken_more}
+use Rattle.script_server.proofs.Writing.{part_taken}
 use Rattle.script_server.proofs.output.put.Goals as goal
 
 pub loop-at-preserved : goal.loop-at-preserved
@@ -13,4 +14,5 @@ loop-at-preserved g c = record {
 pub returns-in_err-at-clause-part : goal.returns-in_err-at-clause-part
 returns-in_err-at-clause-part g c =
     rw (← c.as_bytes-bytes.ensures.value)
-    (on_err _ _ (part_taken _ _ _ c.loop-at.at c.as_bytes-bytes.result.now c.loop-at.invariant.written c.in_err-at.ensures.bytes))
+    (err_always _ _
+    (part_taken _ _ _ c.loop-at.at c.as_bytes-bytes.result.now c.loop-at.invariant.written c.in_err-at.ensures.bytes))

@@ -1,9 +1,10 @@
 use Rattle.std.proofs.lemmas.Result.{on_err_weaker}
-use Rattle.script_server.proofs.Writing.{appends_then, on_err, on_ok_map, part_longer, part_then}
+use Rattle.graph_types.proofs.{Cases.{err_always, on_ok_map}, Prefixes.appends_then}
+use Rattle.script_server.proofs.Writing.{part_longer, part_then}
 use Rattle.script_server.proofs.output.put_both.Goals as goal
 
 pub returns-in_err-put-clause-part : goal.returns-in_err-put-clause-part
-returns-in_err-put-clause-part g c = on_err _ _ (part_longer _ _ c.args.text.now _ c.in_err-put.ensures.part)
+returns-in_err-put-clause-part g c = err_always _ _ (part_longer _ _ c.args.text.now _ c.in_err-put.ensures.part)
 
 pub returns-clause-whole : goal.returns-clause-whole
 returns-clause-whole g c =

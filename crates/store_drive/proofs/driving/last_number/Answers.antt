@@ -1,8 +1,8 @@
 -- What the seat has learnt begins what it enters.
 use Rattle.std.proofs.Common.{◌∙◌, ap, arith, length}
+use Rattle.graph_types.proofs.Prefixes.{prefix_length}
 use Rattle.graph_version.specs.Versions.{VersionView}
 use Rattle.stream_store.specs.Seats.{SeatView, lent_or_seen}
-use Rattle.version_shelf.proofs.Beginnings.{prefix_length}
 use Rattle.store_drive.proofs.driving.last_number.Goals as goal
 
 pub returns : goal.returns

@@ -1,6 +1,7 @@
 -- One batch more was answered with what its receipt tells.
 use Rattle.std.proofs.Common.{◌≡◌, ◌+◌, [], ◌∷◌, ◌++◌, ap, arith, length, length-append}
-use Rattle.store_drive.{specs.Load.IsBatchAnswered, proofs.Pushed.pushed}
+use Rattle.graph_types.proofs.Elements.{pushed}
+use Rattle.store_drive.specs.Load.{IsBatchAnswered}
 use Rattle.store_drive.proofs.feeder.feed_all.Goals as goal
 
 pub loop-number-preserved : goal.loop-number-preserved

@@ -1,7 +1,7 @@
 -- What the plain function answers is the answer, so what was told is that one or it isn't.
 use Rattle.std.proofs.Common.{◌∙◌, sym, subst}
 use Rattle.graph_types.{specs.{Graph.graph_of, Answer.IsAnswer}, proofs.OneAnswer.one_answer}
-use Rattle.store_drive.proofs.Agreeing.{answered}
+use Rattle.graph_types.proofs.AnalysisReplies.{answered}
 use Rattle.store_drive.proofs.readers.check_told.Goals as goal
 
 pub returns-clause-right : goal.returns-clause-right

@@ -7,6 +7,6 @@ returns c = record {
   accepted = applied_accepted;
   desk = applied_desk;
   moves = applied_moves;
-  steps = accepted_steps;
   counts = accepted_counts;
+  steps = accepted_steps;
 }

@@ -1,7 +1,7 @@
 use Rattle.std.proofs.Common.{ℕ, ap, sym, subst, ◌∙◌, All}
 use Rattle.logbook.specs.Pages.{Book}
+use Rattle.graph_types.proofs.Cases.{err_then}
 use Rattle.graph_version.specs.Versions.{VersionView}
-use Rattle.batch_apply.proofs.Names.{err_then}
 use Rattle.stream_store.specs.{Kept.DeskState, Seats.HasSeen, Openings.RefusesStore}
 use Rattle.stream_store.proofs.opening.open_over.Goals as goal
 

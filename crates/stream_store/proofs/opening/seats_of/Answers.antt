@@ -1,5 +1,6 @@
 use Rattle.std.proofs.Common.{rules, ◌≡◌, ◌+◌, ◌<◌, ◌≤◌, ◌++◌, ◌∷◌, [], length, vec_len}
-use Rattle.stream_store.proofs.Seated.{numbers_more, first_off, seen_more}
+use Rattle.version_shelf.proofs.Openings.{first_off}
+use Rattle.stream_store.proofs.Seated.{numbers_more, seen_more}
 use Rattle.stream_store.proofs.opening.seats_of.Goals as goal
 
 pub loop-readers-preserved : goal.loop-readers-preserved

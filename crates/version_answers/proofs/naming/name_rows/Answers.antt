@@ -1,5 +1,5 @@
 use Rattle.std.proofs.Common.{◌<◌, ◌∙◌, [], length, arith}
-use Rattle.version_answers.proofs.NamedRows.{rows_more, rows_all}
+use Rattle.graph_types.proofs.AnalysisReplies.{pairs_more, pairs_all}
 use Rattle.version_answers.proofs.naming.name_rows.Goals as goal
 
 pub loop-vertex-preserved : goal.loop-vertex-preserved
@@ -10,10 +10,10 @@ loop-vertex-preserved g c =
     let left : k < length names = omega (arith, c.loop-vertex-test.true, c.min-count.ensures, c.len.ensures.value) in
     let right : k < length values = omega (arith, c.loop-vertex-test.true, c.min-count.ensures) in
     c.in_ok-push.ensures.items
-    ∙ rows_more names values c.loop-vertex.rows.items k c.in_ok-name_at.field-0 [] c.index-values-vertex.result
+    ∙ pairs_more names values c.loop-vertex.rows.items k c.in_ok-name_at.field-0 [] c.index-values-vertex.result
     c.loop-vertex.invariant left right c.in_ok-name_at.ensures c.index-values-vertex.is
 
 pub returns : goal.returns
 returns g c =
-    c.loop-vertex.invariant ∙ rows_all c.args.names.now.names c.args.values.now c.loop-vertex.vertex
+    c.loop-vertex.invariant ∙ pairs_all c.args.names.now.names c.args.values.now c.loop-vertex.vertex
     (omega (arith, c.loop-vertex.auto.vertex-end, c.loop-vertex-test.false, c.min-count.ensures, c.len.ensures.value))

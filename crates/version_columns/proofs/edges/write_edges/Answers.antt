@@ -2,8 +2,9 @@ use Rattle.std.proofs.Common.{◌≡◌, ◌-◌, ◌<◌, length, inr, ap, ◌�
 use Rattle.std.proofs.lemmas.List.{length-map, nil_from_length}
 use Rattle.graph_version.specs.Sharing.{block_value}
 use Rattle.graph_version.specs.Versions.{content}
+use Rattle.graph_version.proofs.BlockCounts.{few_in_row}
 use Rattle.version_columns.specs.Rows.{lent_edges_of, row_edges, lent_rows_from, IsTooLong}
-use Rattle.version_columns.proofs.Columns.{few_in_row, none_written}
+use Rattle.version_columns.proofs.Columns.{none_written}
 use Rattle.version_columns.proofs.edges.write_edges.Goals as goal
 
 pub count_blocks-requires : goal.count_blocks-requires

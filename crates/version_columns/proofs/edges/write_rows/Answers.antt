@@ -1,7 +1,8 @@
 use Rattle.std.proofs.Common.{◌≡◌, ◌+◌, ◌-◌, ◌++◌, suc, inl, length, replicate, sym, ap, ◌∙◌, arith, length-append}
 use Rattle.std.proofs.lemmas.List.{length-map}
-use Rattle.version_columns.proofs.Columns.{few_in_row, rows_from-more, sources_from-more, sources_long, with_edges-append, with_values-append}
+use Rattle.version_columns.proofs.Columns.{rows_from-more, sources_from-more, sources_long, with_edges-append, with_values-append}
 use Rattle.graph_version.specs.Sharing.{block_value, block_values}
+use Rattle.graph_version.proofs.BlockCounts.{few_in_row}
 use Rattle.version_columns.specs.Rows.{columns, lent_edges_of, row_edges, lent_rows_from, sources_from, with_edges, with_values}
 use Rattle.version_columns.proofs.edges.write_rows.Goals as goal
 

@@ -1,6 +1,6 @@
 use Rattle.std.proofs.Common.{◌≡◌, ◌<◌, ◌≤◌, [], length, get_or, ap, arith}
 use Rattle.std.proofs.lemmas.{List.Sums.sum_by_more, Option.{get_or_from_slice_get, slice_get_within}}
-use Rattle.version_columns.proofs.NameTexts.{name_short}
+use Rattle.graph_types.proofs.NameTexts.{name_short}
 use Rattle.version_columns.proofs.lookups.bytes_in.Goals as goal
 
 pub loop-number-preserved : goal.loop-number-preserved

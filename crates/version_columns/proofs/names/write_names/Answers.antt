@@ -1,7 +1,8 @@
 use Rattle.std.proofs.Common.{◌≡◌, ◌+◌, ◌∷◌, [], ◌++◌, length, take, drop, sym, ap, ◌∙◌, arith}
 use Rattle.std.proofs.lemmas.List.{take_more_set}
+use Rattle.graph_types.proofs.ListPlaces.{drop_later}
 use Rattle.version_columns.specs.{Lookups.byte_count, Texts.{joined_texts, ends_from, chosen}}
-use Rattle.version_columns.proofs.NameTexts.{chosen_more, byte_count-more, joined-more, ends_from-more, fewer_bytes, drop_later}
+use Rattle.version_columns.proofs.NameTexts.{chosen_more, byte_count-more, joined-more, ends_from-more, fewer_bytes}
 use Rattle.version_columns.proofs.names.write_names.Goals as goal
 
 pub returns-then-name-text : goal.returns-then-name-text

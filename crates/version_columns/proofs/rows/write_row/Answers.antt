@@ -1,7 +1,7 @@
 use Rattle.std.proofs.Common.{length, ap, arith}
 use Rattle.std.proofs.lemmas.List.{length-map}
 use Rattle.graph_version.specs.Sharing.{block_value}
-use Rattle.version_columns.proofs.Columns.{few_in_row}
+use Rattle.graph_version.proofs.BlockCounts.{few_in_row}
 use Rattle.version_columns.proofs.rows.write_row.Goals as goal
 
 pub count_blocks-edges-requires : goal.count_blocks-edges-requires

@@ -1,8 +1,9 @@
 use Rattle.std.proofs.Common.{◌≡◌, ◌≢◌, ◌∙◌, ℕ, List, ap, inl, inr, get_or, rules, ◌<◌, ◌%◌, ◌/◌, [], length, arith, Option, refl, sym}
 use Rattle.std.proofs.{Common.{map, set}, Math.Seq.map-set_same, lemmas.Result.{IfErr-at_err, on_ok_weaker, on_err_weaker}}
 use Rattle.std.specs.{Arc.arc_value, Result.IsOk, declared.sync.Arc.Arc, declared.alloc.Global.Global}
+use Rattle.graph_types.proofs.ListPlaces.{changed_part}
 use Rattle.vertex_names.specs.{declared.part.Part.Part, Order.found_in, Shelves.found_on}
-use Rattle.vertex_names.proofs.Parts.{changed_part, with_number, with_number-other}
+use Rattle.vertex_names.proofs.Parts.{with_number, with_number-other}
 use Rattle.list_pieces.proofs.Shown.{always-OnErr}
 use Rattle.vertex_names.proofs.shelf.put_in.Goals as goal
 

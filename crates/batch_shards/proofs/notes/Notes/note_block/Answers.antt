@@ -1,6 +1,7 @@
 use Rattle.std.proofs.{Common.ap, Common.◌∙◌, lemmas.Bool.or_right}
 use Rattle.edge_block.specs.Lending.{edges_left}
-use Rattle.batch_shards.{specs.Notes.may_stand, proofs.NotedBlocks.lends, proofs.NotedBlocks.lent_target}
+use Rattle.edge_block.proofs.LentEntries.{lends, lent_target}
+use Rattle.batch_shards.specs.Notes.{may_stand}
 use Rattle.batch_shards.proofs.notes.Notes.note_block.Goals as goal
 
 pub loop-edge-init : goal.loop-edge-init

@@ -1,6 +1,7 @@
 use Rattle.std.{proofs.Common.◌≡◌, proofs.Common.ℕ, proofs.Common.true, proofs.Common.◌||◌, specs.List.list_any}
 use Rattle.edge_block.specs.{Slots.holds, Lending.edges_left}
-use Rattle.batch_shards.{specs.Notes.may_stand, specs.Notes.HasMore, proofs.NotedBlocks.lends}
+use Rattle.edge_block.proofs.LentEntries.{lends}
+use Rattle.batch_shards.specs.Notes.{may_stand, HasMore}
 use Rattle.batch_shards.proofs.notes.Notes.note_block.Given as goal
 
 abbrev pub invariant-loop-edge : goal.invariant-loop-edge

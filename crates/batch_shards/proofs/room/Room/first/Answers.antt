@@ -1,6 +1,7 @@
 use Rattle.std.proofs.{Common.sym, Common.arith, Common.◌∙◌, Common.ap, lemmas.Bool.true≢false}
+use Rattle.graph_types.proofs.Searches.{position_is, position_none}
 use Rattle.batch_shards.specs.declared.row_blocks.RowBlock.{RowBlock}
-use Rattle.batch_shards.proofs.{RowSteps.at_room, Noting.position_is, Noting.position_none}
+use Rattle.batch_shards.proofs.RowSteps.{at_room}
 use Rattle.batch_shards.proofs.room.Room.first.Goals as goal
 
 pub returns-then-has_room : goal.returns-then-has_room

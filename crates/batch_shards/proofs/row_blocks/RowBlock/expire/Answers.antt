@@ -1,5 +1,6 @@
 use Rattle.std.proofs.Common.{sym, rules}
-use Rattle.batch_shards.{specs.RowBlocks.block_of, proofs.Expiring.none_old}
+use Rattle.edge_block.proofs.OldSlots.{none_old}
+use Rattle.batch_shards.specs.RowBlocks.{block_of}
 use Rattle.batch_shards.proofs.row_blocks.RowBlock.expire.Goals as goal
 
 pub returns-then-not-has_before-clause-count : goal.returns-then-not-has_before-clause-count

@@ -1,6 +1,6 @@
 use Rattle.std.proofs.Common.{ap, ◌∙◌, sym}
 use Rattle.edge_block.specs.Slots.{edges_in, old_in}
-use Rattle.batch_shards.proofs.Young.{none_from, none_without}
+use Rattle.edge_block.proofs.OldSlots.{none_without, none_from}
 use Rattle.batch_shards.proofs.row_blocks.RowBlock.least_time.Goals as goal
 
 pub returns-in-None : goal.returns-in-None

@@ -1,9 +1,10 @@
 use Rattle.std.proofs.Common.{◌≡◌, ◌+◌, ◌++◌, ◌∷◌, ◌||◌, not, [], ℕ, List, Bool, true, false, cond, map, count_by, sym, ap, ◌∙◌}
 use Rattle.std.proofs.{Common.arith, Common.rules, lemmas.List.map-append}
 use Rattle.std.specs.{Option.is_some, Option.option_to_list, Prelude.Some, declared.sync.Arc.Arc, declared.alloc.Global.Global}
+use Rattle.graph_types.proofs.Sums.{count_by-append}
 use Rattle.edge_block.specs.{declared.blocks.Block.Block, Rows.{shape_of, touch}}
 use Rattle.batch_shards.specs.RowBlocks.{block_of, open_of, had_here, shared_numbers, own_here}
-use Rattle.batch_shards.{specs.declared.row_blocks.RowBlock.RowBlock, proofs.Places.count_by-append}
+use Rattle.batch_shards.specs.declared.row_blocks.RowBlock.{RowBlock}
 use Rattle.batch_shards.proofs.row_blocks.RowBlock.own.Goals as goal
 
 -- a block with the same edges stands in the place of one that the batch had not touched

@@ -2,8 +2,9 @@ use Rattle.std.proofs.Common.{List, Option, None, true, ◌≡◌, ◌∙◌, �
 use Rattle.std.proofs.lemmas.List.{length-replicate, take_all}
 use Rattle.block_pool.specs.Kept.{Lists, IsSorted, HasRoomFor}
 use Rattle.block_reclamation.specs.{declared.status.BlockStatus.TheVariants.Free, Status.{is_free, is_retired}}
+use Rattle.graph_types.proofs.Joined.{all_blank}
 use Rattle.block_pool.proofs.{Tallies.{none_retired, tally_true}, Stacking.sorted_first, Paging.length-by_place}
-use Rattle.block_pool.proofs.Rooms.{all_blank, listed_first, room_first}
+use Rattle.block_pool.proofs.Rooms.{listed_first, room_first}
 use Rattle.block_pool.proofs.numbers.Numbers.all_free.Goals as goal
 
 pub returns-clause-kept : goal.returns-clause-kept

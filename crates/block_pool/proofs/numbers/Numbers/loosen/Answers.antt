@@ -1,5 +1,6 @@
 use Rattle.std.proofs.Common.{◌∙◌, List, ℕ, length, ap, arith}
-use Rattle.block_pool.{specs.{Chains.stack_of, declared.numbers.TheConstants.LOOSE}, proofs.Stacking.{shorter_moved, no_number}}
+use Rattle.graph_types.proofs.ListPlaces.{no_number}
+use Rattle.block_pool.{specs.{Chains.stack_of, declared.numbers.TheConstants.LOOSE}, proofs.Stacking.shorter_moved}
 use Rattle.block_pool.proofs.numbers.Numbers.loosen.Goals as goal
 
 pub height-requires : goal.height-requires

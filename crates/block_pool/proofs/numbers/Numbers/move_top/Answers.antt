@@ -1,6 +1,6 @@
 use Rattle.std.proofs.{Common.{length, ◌≡◌, ◌∙◌, ℕ, List, sym, ap, ap₂, subst, arith}, Math.ListN.length-set}
+use Rattle.block_reclamation.proofs.OneStatus.{retired_not_free}
 use Rattle.block_pool.specs.{Chains.{Stacks, stack_of, below_top}, Kept.{top_of, put_on, taken_off}, Paging.HasRoom}
-use Rattle.block_pool.proofs.Tallies.{retired_not_free}
 use Rattle.block_pool.proofs.Stacking.{restacked, top_listed, top_absent, top_room, sorted_moved}
 use Rattle.block_pool.proofs.numbers.Numbers.move_top.Goals as goal
 

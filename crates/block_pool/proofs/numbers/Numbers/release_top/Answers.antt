@@ -3,7 +3,9 @@ use Rattle.std.proofs.{Common.{true, subst}, Math.ListN.length-set, lemmas.{List
 use Rattle.block_pool.specs.{Chains.{Stacks, stack_of}, declared.numbers.{Numbers.Numbers, TheConstants.LOOSE}, Kept.statuses}
 use Rattle.block_pool.specs.{Kept.{status_of, Lists, IsNumbers, top_of}, Paging.{Paged, HasRoom}}
 use Rattle.block_reclamation.specs.{declared.status.BlockStatus.TheVariants.{Free, Granted}, Status.{is_free, is_retired}}
-use Rattle.block_pool.proofs.Tallies.{lists_more, count_at, count_here, retired_not_free}
+use Rattle.block_reclamation.proofs.OneStatus.{retired_not_free}
+use Rattle.graph_types.proofs.Sums.{count_at, count_here}
+use Rattle.block_pool.proofs.Tallies.{lists_more}
 use Rattle.block_pool.proofs.{Grants.free_places, Stacking.top_listed, Stacking.sorted_freed, Rooms.roomy_set}
 use Rattle.block_pool.proofs.numbers.Numbers.release_top.Goals as goal
 

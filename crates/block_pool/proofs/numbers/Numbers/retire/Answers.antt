@@ -3,7 +3,8 @@ use Rattle.std.proofs.Math.ListN.{length-set}
 use Rattle.block_pool.specs.{declared.numbers.TheConstants.LOOSE, Pools.retired, Kept.{statuses, status_of}, Paging.Paged}
 use Rattle.block_reclamation.specs.{declared.status.BlockStatus.{BlockStatus, TheVariants.{Granted, Retired}}, Status.is_free}
 use Rattle.block_reclamation.specs.Status.{is_retired}
-use Rattle.block_pool.{proofs.Tallies.lists_same, proofs.Tallies.born_at, proofs.Tallies.count_here}
+use Rattle.graph_types.proofs.Sums.{count_here}
+use Rattle.block_pool.proofs.Tallies.{lists_same, born_at}
 use Rattle.block_pool.proofs.{Stacking.{absent, room, sorted_retired}, StatusReads.status_read, Rooms.roomy_set}
 use Rattle.block_pool.proofs.numbers.Numbers.retire.Goals as goal
 

@@ -1,7 +1,8 @@
 use Rattle.std.proofs.{Common.{◌≡◌, ◌∙◌, count_by, map, sym, subst, refl, arith}, lemmas.List.{Sums.count_by-le-length}}
 use Rattle.block_pool.specs.{Chains.stack_of, declared.numbers.TheConstants.LOOSE, Kept.{statuses, HasPins}}
 use Rattle.block_reclamation.specs.Status.{is_reclaimable, recycled}
-use Rattle.block_pool.proofs.{Tallies.{none_past}, Stacking.{all_sorted, no_number}}
+use Rattle.graph_types.proofs.ListPlaces.{no_number}
+use Rattle.block_pool.proofs.{Tallies.none_past, Stacking.all_sorted}
 use Rattle.block_pool.proofs.numbers.Numbers.sort.Goals as goal
 
 pub sort-init : goal.sort-init

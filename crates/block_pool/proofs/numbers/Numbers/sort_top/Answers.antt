@@ -3,7 +3,8 @@ use Rattle.std.proofs.lemmas.Grind.{common_steps}
 use Rattle.block_pool.specs.{Chains.stack_of, declared.numbers.TheConstants.{LOOSE, LATE}, Kept.{statuses, status_of, top_of}}
 use Rattle.block_reclamation.specs.declared.status.BlockStatus.TheVariants.{Retired}
 use Rattle.block_reclamation.specs.Status.{is_retired, is_reclaimable, recycled}
-use Rattle.block_pool.proofs.{Tallies.recycled_set, Tallies.past_set, Needs.pinned, Needs.later, Needs.kept_back}
+use Rattle.block_reclamation.proofs.Recycling.{pinned, later, kept_back}
+use Rattle.block_pool.proofs.Tallies.{recycled_set, past_set}
 use Rattle.block_pool.proofs.Stacking.{top_listed, needed_moved}
 use Rattle.block_pool.proofs.numbers.Numbers.sort_top.Goals as goal
 use Rattle.block_pool.proofs.numbers.Numbers.sort_top.Goals.{After-dates_of-dates}

@@ -2,7 +2,9 @@ use Rattle.std.proofs.Common.{◌≡◌, ◌∙◌, ◌+◌, ◌<◌, ℕ, lengt
 use Rattle.std.proofs.{Math.ListN.length-set, lemmas.List.take_more}
 use Rattle.block_pool.specs.{Kept.{statuses, status_of}, Paging.{Paged, HasRoom}}
 use Rattle.block_reclamation.specs.{declared.status.BlockStatus.TheVariants.Granted, Status.{is_free, is_retired}}
-use Rattle.block_pool.proofs.{Grants.free_read, Tallies.{lists_less, count_last, free_not_retired, count_kept}}
+use Rattle.block_reclamation.proofs.OneStatus.{free_not_retired}
+use Rattle.graph_types.proofs.Sums.{count_last}
+use Rattle.block_pool.proofs.{Grants.free_read, Tallies.{lists_less, count_kept}}
 use Rattle.block_pool.proofs.{Stacking.sorted_set, Rooms.roomy_granted}
 use Rattle.block_pool.proofs.numbers.Numbers.use_one.Goals as goal
 

@@ -1,6 +1,7 @@
 use Rattle.std.proofs.Common.{◌/◌, ◌<◌, ap, length, map, arith}
+use Rattle.graph_types.proofs.ListPlaces.{room_in}
 use Rattle.block_pool.specs.Paging.{items_of}
-use Rattle.block_pool.proofs.Paging.{seen_length, seen_room_of, room_in, page_read}
+use Rattle.block_pool.proofs.Paging.{seen_length, seen_room_of, page_read}
 use Rattle.block_pool.proofs.pages.Pages.make.Goals as goal
 
 pub index-requires : goal.index-requires

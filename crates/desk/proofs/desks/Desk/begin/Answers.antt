@@ -2,8 +2,9 @@ use Rattle.std.proofs.Common.{List, sym, ap, subst, ◌∙◌, count_by}
 use Rattle.graph_types.specs.declared.batches.NamedOp.{NamedOp}
 use Rattle.graph_version.specs.{Batches.batch_value, Versions.VersionView}
 use Rattle.block_reclamation.specs.Status.{is_free}
+use Rattle.batch_apply.proofs.Planned.{plan_same}
 use Rattle.desk.specs.{Ready.GrantedView, Refusals.{Refuses, IsPlanned}}
-use Rattle.desk.proofs.{Readied.plan_same, desks.Desk.begin.Goals.In-Ok}
+use Rattle.desk.proofs.desks.Desk.begin.Goals.{In-Ok}
 use Rattle.desk.proofs.desks.Desk.begin.Goals as goal
 
 pub returns-in-Err-clause-refused : goal.returns-in-Err-clause-refused

@@ -2,8 +2,8 @@ use Rattle.std.proofs.Common.{◌≡◌, ℕ, ◌≤◌, length, sym, ap, subst,
 use Rattle.std.{proofs.lemmas.Grind.common_steps, specs.Arc.arc_value}
 use Rattle.graph_version.specs.declared.versions.Version.{Version}
 use Rattle.block_reclamation.specs.Status.{is_reclaimable, is_retired}
-use Rattle.store_steps.{specs.{Desks.{DeskView, IsCollected, births_in}, Steps.{TakesAt, recycling}}, proofs.Collecting.collected_takes}
-use Rattle.store_steps.proofs.CollectedDesk.{past_and_left, is_collected, births_collected, desk_collected}
+use Rattle.store_steps.{specs.{Desks.{DeskView, IsCollected, births_in}, Steps.{SimulatesAt, recycling}}, proofs.Collecting.collection_simulates}
+use Rattle.store_steps.proofs.CollectedDesk.{recycled_and_left, is_collected, births_collected, desk_collected}
 use Rattle.desk.{specs.{Kept.{IsKeptDesk, desk_in, desk_of}, declared.desks.Parts.Parts}, proofs.Collections.collection_kept}
 use Rattle.desk.proofs.desks.Desk.collect.Goals.{After-recycle-recycled, After-enter_collection}
 use Rattle.desk.proofs.desks.Desk.collect.Goals as goal
@@ -19,7 +19,7 @@ shown c = ap desk_in c.deref_mut-parts.ensures.value ∙ c.self.view_is
 
 pub enter_collection-requires : goal.enter_collection-requires
 enter_collection-requires c = λ some.
-    let past = past_and_left c.args.copy.now c.deref_mut-parts.result.now.pool in
+    let parts = recycled_and_left c.args.copy.now c.deref_mut-parts.result.now.pool in
     let room = (kept (goal.at.enter_collection-requires c).After-recycle-recycled).room_is in
     let count = c.recycle-recycled.ensures.count in
     omega arith
@@ -45,19 +45,19 @@ invariant_of-self c =
     let b = (goal.at.invariant_of-self c).After-recycle-recycled in
     let low : c.args.copy.now.last ≤ length c.deref_mut-parts.result.now.last.batches =
     subst (λ (d : DeskView). c.args.copy.now.last ≤ length d.last.batches) (sym (shown b)) c.requires in
-    let past = past_and_left c.args.copy.now c.deref_mut-parts.result.now.pool in
+    let parts = recycled_and_left c.args.copy.now c.deref_mut-parts.result.now.pool in
     let left = ap (count_by is_retired) c.recycle-recycled.ensures.pool in
     let room = (kept b).room_is in
     let count = c.recycle-recycled.ensures.count in
     collection_kept (old a) (new a) c.args.copy.now _ _ _ _ (kept b) low (is_new a) c.enter_collection.ensures.keeps
-    (omega (arith, past, left, room, count, c.enter_collection.ensures.room))
+    (omega (arith, parts, left, room, count, c.enter_collection.ensures.room))
 
 pub returns-clause-steps : goal.returns-clause-steps
 returns-clause-steps c =
     let a = (goal.at.returns-clause-steps c).After-enter_collection in
-    subst (λ (d : DeskView). TakesAt c.args.copy.now d (recycling c.args.copy.now d.pool) (new a))
+    subst (λ (d : DeskView). SimulatesAt c.args.copy.now d (recycling c.args.copy.now d.pool) (new a))
     (shown (goal.at.returns-clause-steps c).After-recycle-recycled)
-    (collected_takes (old a) (new a) c.args.copy.now (collected a))
+    (collection_simulates (old a) (new a) c.args.copy.now (collected a))
 
 pub returns-clause-collected : goal.returns-clause-collected
 returns-clause-collected c =

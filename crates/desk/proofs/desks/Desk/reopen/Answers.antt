@@ -5,8 +5,9 @@ use Rattle.graph_version.specs.Rows.{blocks_of, numbers_of}
 use Rattle.block_reclamation.specs.{declared.status.BlockStatus.{BlockStatus, TheVariants.Used}, Status.recycled}
 use Rattle.block_pool.specs.Pools.{marked}
 use Rattle.store_steps.specs.{Desks.{DeskView, last_numbers}, Opening.{IsVersionZero, opened_desk}}
+use Rattle.store_steps.proofs.Reopening.{zero_over}
 use Rattle.desk.specs.{Applying.AreUsedOnce, Openings.without_pins, Kept.{IsKeptDesk, desk_in, desk_of}, declared.desks.Parts.Parts}
-use Rattle.desk.proofs.{Collections.{kept_same, opened_kept}, OpenedAnew.{last_used, pool_anew, zero_over}}
+use Rattle.desk.proofs.{Collections.{kept_same, opened_kept}, OpenedAnew.{last_used, pool_anew}}
 use Rattle.desk.proofs.desks.Desk.reopen.Goals.{After-as_slice, After-drop-numbers-2}
 use Rattle.desk.proofs.desks.Desk.reopen.Goals as goal
 

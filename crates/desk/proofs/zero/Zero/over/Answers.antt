@@ -3,7 +3,8 @@ use Rattle.graph_version.specs.{declared.versions.Version.Version, Versions.Vers
 use Rattle.graph_version.specs.{Rows.blocks_of, Rows.numbers_of, Sharing.block_values}
 use Rattle.block_pool.specs.Pools.{AreFree, marked}
 use Rattle.block_reclamation.specs.declared.status.BlockStatus.TheVariants.{Free, Used}
-use Rattle.desk.{specs.Applying.AreUsedOnce, proofs.{Handing.back_used, Zeros.{zero_is, zero_pool, opens_with}}}
+use Rattle.store_steps.proofs.Reopening.{zero_is, zero_pool}
+use Rattle.desk.{specs.Applying.AreUsedOnce, proofs.{Handing.back_used, Zeros.opens_with}}
 use Rattle.desk.proofs.zero.Zero.over.Goals as goal
 
 pub born_blocks-requires : goal.born_blocks-requires

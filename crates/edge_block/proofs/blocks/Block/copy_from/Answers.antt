@@ -1,5 +1,7 @@
 use Rattle.std.proofs.Common.{arith, pos, ap}
-use Rattle.edge_block.proofs.Copies.{below_used, copied_at, copied_block, length-copied, slots_copied, columns_copied}
+use Rattle.graph_types.proofs.ListPlaces.{copied_at, length-copied}
+use Rattle.lane_scan.proofs.MaskPlaces.{below_used}
+use Rattle.edge_block.proofs.Copies.{copied_block, slots_copied, columns_copied}
 use Rattle.edge_block.proofs.Copies.{times_copied}
 use Rattle.edge_block.proofs.blocks.Block.copy_from.Goals as goal
 

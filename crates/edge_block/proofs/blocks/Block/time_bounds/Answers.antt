@@ -1,5 +1,6 @@
 use Rattle.std.proofs.Common.{arith}
-use Rattle.edge_block.proofs.{Selections.selected_recents, Times.bounds_alone}
+use Rattle.lane_scan.proofs.Selected.{bounds_alone}
+use Rattle.edge_block.proofs.Selections.{selected_recents}
 use Rattle.edge_block.proofs.blocks.Block.time_bounds.Goals as goal
 
 pub returns-then-self-eq0 : goal.returns-then-self-eq0

@@ -1,8 +1,10 @@
 use Rattle.std.proofs.{Common.{◌≡◌, [], ap, map, arith, refl, length}, lemmas.Nat.Bits.bit_at-trailing_zeros}
 use Rattle.std.specs.Int.{w32, RustNames.bit_and}
+use Rattle.graph_types.proofs.Numbers.{due_fits}
 use Rattle.lane_scan.specs.Masks.{selected}
+use Rattle.lane_scan.proofs.MaskPlaces.{due_lives}
 use Rattle.edge_block.specs.{Slots.edge_slot, Slots.edges_in, Lending.lent_in}
-use Rattle.edge_block.proofs.{Places.not_free_at, Views.{edges_none, edges_next, due_lives, due_fits, lent_next}}
+use Rattle.edge_block.proofs.{Places.not_free_at, Views.{edges_none, edges_next, lent_next}}
 use Rattle.edge_block.proofs.blocks.BlockIterIterator.next.Goals as goal
 
 pub returns-then-due-eq0-clause-steps : goal.returns-then-due-eq0-clause-steps

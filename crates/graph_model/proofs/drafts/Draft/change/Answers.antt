@@ -1,15 +1,11 @@
 -- The steps of the body are those of a change on plain lists.
-use Rattle.std.{proofs.Common.{◌≡◌, ◌≤◌, ◌∙◌, ℕ, List, length, ap, arith}, specs.{Option.option_map, FinMap.get}}
+use Rattle.std.{proofs.Common.{◌≡◌, ◌∙◌, ap, arith}, specs.{Option.option_map, FinMap.get}}
 use Rattle.std.proofs.lemmas.Grind.{common_steps}
-use Rattle.graph_types.specs.{Graph.{graph_in, map_of}, Step.{number_of, changed_key}, Changes.option_stamp}
-use Rattle.graph_types.proofs.NameNumbers.{number_at_most}
-use Rattle.graph_model.{specs.Drafts.{shown_by, shown_key, edge_with}, proofs.OneOperation.{IsApplied, AreMarks-found}}
-use Rattle.graph_model.proofs.OneOperation.{graph_in-applied, IsContentIn-applied}
+use Rattle.graph_types.specs.{Graph.{graph_in, map_of}, Step.changed_key, Changes.option_stamp}
+use Rattle.graph_types.proofs.{ChangedContents.AreMarks-found, ListedNames.at_most}
+use Rattle.graph_types.proofs.ChangedContents.{IsApplied, graph_in-applied, IsContentIn-applied}
+use Rattle.graph_model.specs.Drafts.{shown_by, shown_key, edge_with}
 use Rattle.graph_model.proofs.drafts.Draft.change.Goals as goal
-
-at_most : (read names : List (List ℕ)) (name : List ℕ) (number : ℕ) → number ≡ number_of read name → read ≡ names
-    → number ≤ length names
-at_most read names name number is same = omega (arith, is, number_at_most read name, ap length same)
 
 pub of-key-requires-clause-kind : goal.of-key-requires-clause-kind
 of-key-requires-clause-kind c =

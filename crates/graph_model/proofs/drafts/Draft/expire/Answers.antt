@@ -2,7 +2,8 @@
 use Rattle.std.proofs.Common.{length, ap, sym, ◌∙◌, arith, subst}
 use Rattle.graph_types.specs.{Graph.{Graph, content_of, graph_in, IsContentIn}, declared.batches.Outcome.TheVariants.Expired}
 use Rattle.graph_types.proofs.Expiry.{map_of-later, count_before-map_of, count-later}
-use Rattle.graph_model.{proofs.OneOperation.IsContentIn-later, specs.Drafts.shown_by}
+use Rattle.graph_types.proofs.ChangedContents.{IsContentIn-later}
+use Rattle.graph_model.specs.Drafts.{shown_by}
 use Rattle.graph_model.proofs.drafts.Draft.expire.Goals as goal
 
 pub overflow_sub-result : goal.overflow_sub-result

@@ -3,7 +3,7 @@ use Rattle.std.proofs.lemmas.List.{map-id}
 use Rattle.std.proofs.lemmas.Iterator.{Adapters.YieldsList-from_vec, Consumers.YieldsList-end}
 use Rattle.graph_types.specs.declared.ids.VertexId.{VertexId}
 use Rattle.edge_block.specs.Slots.{BlockView}
-use Rattle.version_pages.specs.Rows.{row_of}
+use Rattle.graph_version.specs.Rows.{row_of}
 use Rattle.graph_version.specs.Drafts.{row_values, row_among}
 use Rattle.graph_version.proofs.Drafting.{put_more}
 use Rattle.graph_version.proofs.drafts.VersionDraft.put_rows.Goals as goal

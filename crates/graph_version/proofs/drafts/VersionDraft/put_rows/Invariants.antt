@@ -1,5 +1,5 @@
 use Rattle.std.proofs.Common.{◌≡◌, ℕ}
-use Rattle.version_pages.specs.Rows.{row_of}
+use Rattle.graph_version.specs.Rows.{row_of}
 use Rattle.graph_version.specs.Drafts.{row_values, row_among}
 use Rattle.graph_version.proofs.drafts.VersionDraft.put_rows.Given as goal
 

@@ -2,8 +2,8 @@ use Rattle.std.proofs.{Common.{◌≡◌, ◌∙◌, ◌++◌, ℕ, List, [], ar
 use Rattle.std.specs.{Prelude.◌↔◌, List.Contains, declared.sync.Arc.Arc, declared.alloc.Global.Global}
 use Rattle.graph_types.specs.Analyses.{LeadsTo}
 use Rattle.edge_block.specs.declared.blocks.Block.{Block}
-use Rattle.version_pages.specs.Rows.{row_of}
-use Rattle.graph_version.{specs.{Versions.content, Shown.{shown_in, targets_of}}, proofs.{Rows.row_targets, Targets.targets_in}}
+use Rattle.graph_version.specs.Rows.{row_of}
+use Rattle.graph_version.{specs.{Versions.content, Shown.{shown_in, targets_of}}, proofs.{RowTargets.row_targets, Targets.targets_in}}
 use Rattle.graph_version.proofs.version_edges.VersionEdgesViewEdges.list_targets.Goals as goal
 
 pub returns : goal.returns

@@ -1,5 +1,5 @@
 use Rattle.std.proofs.Common.{length, ap, arith}
-use Rattle.version_pages.specs.Rows.{blocks_of}
+use Rattle.graph_version.specs.Rows.{blocks_of}
 use Rattle.graph_version.{specs.Versions.VersionView, proofs.BlockCounts.few_blocks}
 use Rattle.graph_version.proofs.versions.Version.block_count.Goals as goal
 

@@ -1,8 +1,9 @@
 use Rattle.std.{proofs.Common.{◌≡◌, ◌∙◌, List, map, sym, ap, subst, arith}, specs.declared.{sync.Arc.Arc, alloc.Global.Global}}
+use Rattle.graph_types.proofs.ListPlaces.{written}
 use Rattle.edge_block.specs.declared.blocks.Block.{Block}
-use Rattle.version_pages.specs.{Rows.blocks_of, Rows.numbers_of, Sharing.block_values}
+use Rattle.graph_version.specs.{Rows.blocks_of, Rows.numbers_of, Sharing.block_values}
 use Rattle.graph_version.specs.{Versions.VersionView, Rebased.AreCopies, Rebased.unnumbered}
-use Rattle.graph_version.proofs.Rebased.{written, numbers_long, mapped_numbers, all_copied}
+use Rattle.graph_version.proofs.Rebased.{numbers_long, mapped_numbers, all_copied}
 use Rattle.graph_version.proofs.versions.Version.copied_into.Goals as goal
 
 pub returns : goal.returns

@@ -2,9 +2,10 @@ use Rattle.std.proofs.{Common.{◌≡◌, ◌∙◌, List, get_or, ap, sym, arit
 use Rattle.std.specs.{Option.option_map, declared.sync.Arc.Arc, declared.alloc.Global.Global}
 use Rattle.edge_block.specs.{Slots.BlockView, Slots.first_some, Lending.lent_edge, declared.blocks.Block.Block}
 use Rattle.edge_block.specs.Rows.{shape_of, block_at}
-use Rattle.version_pages.specs.{Rows.row_of, Sharing.block_value, Sharing.block_values}
+use Rattle.edge_block.proofs.SlotTargets.{none_more}
+use Rattle.graph_version.specs.{Rows.row_of, Sharing.block_value, Sharing.block_values}
 use Rattle.graph_version.specs.{Versions.VersionView, Versions.IsVersion, Edges.lent_to}
-use Rattle.graph_version.proofs.Looks.{place_at, found_edge, no_edge, none_more, none_there}
+use Rattle.graph_version.proofs.Looks.{place_at, found_edge, no_edge, none_there}
 use Rattle.graph_version.proofs.versions.Version.edge.Goals as goal
 
 pub returns-in-Some : goal.returns-in-Some

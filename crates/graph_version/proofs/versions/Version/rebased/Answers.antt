@@ -3,7 +3,7 @@ use Rattle.graph_types.specs.Graph.{Graph}
 use Rattle.graph_version.specs.{Versions.VersionView, Versions.content, Kept.{IsSummary, opening_graph}, Rebased.rows_like}
 use Rattle.graph_version.specs.Logs.{LogView, keeps_batches}
 use Rattle.graph_version.proofs.Rebased.{LookLike, look_blocks, rebased_kept, rebased_is}
-use Rattle.version_pages.specs.{Rows.row_of, Sharing.block_values}
+use Rattle.graph_version.specs.{Rows.row_of, Sharing.block_values}
 use Rattle.graph_version.proofs.versions.Version.rebased.Goals as goal
 
 pub invariant_of-result : goal.invariant_of-result

@@ -1,10 +1,12 @@
 use Rattle.std.proofs.Common.{rules, refl, ◌≡◌, ◌∙◌, List, [], ap, sym, subst}
-use Rattle.store_steps.specs.{Desks.DeskView, Steps.Accepts}
+use Rattle.store_steps.specs.{Desks.DeskView, Acceptances.Accepts}
 use Rattle.stream_store.specs.Kept.{DeskState}
 use Rattle.script_commands.specs.{Servers.ShowsDesk, Servers.IsServer, declared.server.Server.Server}
 use Rattle.graph_types.specs.{Graph.Graph, declared.batches.NamedOp.NamedOp}
-use Rattle.script_commands.proofs.DeskLaws.{batches_after, blocks_after, commit_done, commit_refused, opening_after}
-use Rattle.script_commands.proofs.{DeskLaws.shows_committed, DeskLaws.shows_given_up, NamesApart.AreApart, SlotLaws.slots_more}
+use Rattle.graph_types.proofs.NamesApart.{AreApart}
+use Rattle.store_steps.proofs.AcceptedDesk.{opening_after, batches_after, blocks_after}
+use Rattle.script_commands.proofs.DeskLaws.{commit_done, commit_refused}
+use Rattle.script_commands.proofs.{DeskLaws.{shows_committed, shows_given_up}, SlotLaws.slots_more}
 use Rattle.script_commands.proofs.MachineMoves.{commit_moves, nothing_moves}
 use Rattle.script_commands.proofs.server.Server.commit.Goals as goal
 
@@ -36,7 +38,7 @@ pub returns-in_ok-commit_line-in-Ok-clause-obeys : goal.returns-in_ok-commit_lin
 returns-in_ok-commit_line-in-Ok-clause-obeys g c = λ s shows.
     let batch : c.replace-batch.result ≡ s.pending = search (rules, shows) in (
       commit_done s c.args.self.now.desk.desk c.apply.new.self.desk c.replace-batch.result c.in-Ok.receipt.number
-          c.in-Ok.receipt.outcomes _ shows.desk batch c.facts.ensures.used c.in-Ok.ensures.within c.in-Ok.ensures.accepted
+          c.in-Ok.receipt.outcomes _ shows.desk batch c.in-Ok.ensures.used c.in-Ok.ensures.within c.in-Ok.ensures.accepted
           c.in-Ok.ensures.receipt.number_is c.in-Ok.ensures.receipt.outcomes_are
           (rw (c.requires.empty, c.as_slice.ensures) at c.in_ok-commit_line-in-Ok.ensures),
       record {
@@ -54,7 +56,7 @@ returns-in_ok-word-in-Err-clause-obeys g c = λ s shows.
     ap (λ (d : DeskState). d.desk) c.in-Err.ensures.unchanged in (
       rw c.in_ok-word-in-Err.ensures.word
           (commit_refused s c.args.self.now.desk.desk c.replace-batch.result c.in-Err.error shows.desk batch
-          c.facts.ensures.used
+          c.in-Err.ensures.used
           c.in_ok-word-in-Err.ensures.known c.in-Err.ensures.refused),
       record {
         pending = search rules;

@@ -1,5 +1,6 @@
 use Rattle.std.{proofs.{Common.{◌∙◌, ap, length, replicate}, lemmas.List.length-replicate}, specs.Prelude.None}
-use Rattle.script_commands.proofs.{DeskLaws.shows_opened, MachineStarts.starts, NamesApart.none_apart}
+use Rattle.graph_types.proofs.NamesApart.{none_apart}
+use Rattle.script_commands.proofs.{DeskLaws.shows_opened, MachineStarts.starts}
 use Rattle.script_commands.specs.{Servers.ShowsDesk, States.beginning, States.set_up}
 use Rattle.script_commands.proofs.server.Server.new.Goals as goal
 

@@ -1,10 +1,12 @@
 use Rattle.std.proofs.{Common.{◌≡◌, ◌∙◌, ap, length, replicate, rules, subst, sym}, lemmas.List.length-replicate}
 use Rattle.std.specs.Prelude.{IfErr, None, Ok, slice_get}
 use Rattle.graph_types.specs.Graph.{Graph}
+use Rattle.graph_types.proofs.NamesApart.{AreApart}
+use Rattle.store_steps.proofs.Reopening.{length_opened}
 use Rattle.stream_store.specs.Seats.{held_graph, held_version}
-use Rattle.script_commands.proofs.{Asking.{asked_there, graph_there, stops_reopening, version_there}, NamesApart.AreApart}
+use Rattle.script_commands.proofs.Asking.{asked_there, graph_there, stops_reopening, version_there}
 use Rattle.script_commands.proofs.MachineStarts.{restarts}
-use Rattle.script_commands.proofs.Rebasing.{length_opened, rebase_done, shows_rebased}
+use Rattle.script_commands.proofs.Rebasing.{rebase_done, shows_rebased}
 use Rattle.script_commands.specs.{Servers.LacksReader, Slots.held_of, States.version, States.version_in}
 use Rattle.script_commands.proofs.server.Server.rebase.Goals as goal
 

@@ -1,6 +1,7 @@
 use Rattle.std.proofs.{Common.{rules, arith, ◌≡◌, ◌<◌, length}, lemmas.Option.{get_or_from_slice_get, slice_get_within}}
 use Rattle.std.specs.Prelude.{None, Some, slice_get}
-use Rattle.script_commands.proofs.SlotLaws.{held_acquired, read_some, slots_acquired, slots_back}
+use Rattle.graph_types.proofs.ListPlaces.{read_some}
+use Rattle.script_commands.proofs.SlotLaws.{held_acquired, slots_acquired, slots_back}
 use Rattle.script_commands.proofs.slots.Slots.acquire.Goals as goal
 
 pub returns-in-Ok-clause-slots : goal.returns-in-Ok-clause-slots

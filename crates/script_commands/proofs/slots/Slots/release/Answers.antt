@@ -1,5 +1,6 @@
 use Rattle.std.{proofs.{Common.{rules, ◌≡◌}, lemmas.Option.slice_get_within}, specs.Prelude.{Some, slice_get}}
-use Rattle.script_commands.proofs.SlotLaws.{held_released, read_some, slots_released}
+use Rattle.graph_types.proofs.ListPlaces.{read_some}
+use Rattle.script_commands.proofs.SlotLaws.{held_released, slots_released}
 use Rattle.script_commands.proofs.slots.Slots.release.Goals as goal
 
 pub returns-clause-slots : goal.returns-clause-slots

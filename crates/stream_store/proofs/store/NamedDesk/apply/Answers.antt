@@ -1,7 +1,8 @@
 use Rattle.std.{proofs.Common.ℕ, proofs.lemmas.Result.IfErr-weaker, specs.Prelude.count_by}
 use Rattle.block_reclamation.specs.Status.{is_free}
-use Rattle.store_steps.specs.Steps.{Accepts}
-use Rattle.stream_store.{specs.Applying.IsReceipt, proofs.ReceiptLaws.by_three, proofs.ReceiptLaws.receipt_of}
+use Rattle.graph_types.proofs.Cases.{by_three}
+use Rattle.store_steps.specs.Acceptances.{Accepts}
+use Rattle.stream_store.{specs.Applying.IsReceipt, proofs.ReceiptLaws.receipt_of}
 use Rattle.stream_store.specs.{Kept.DeskState, Refusals.Refuses, Refusals.IsWithin, Stores.IsReceiptOf, Stores.IsRefusalOf}
 use Rattle.stream_store.proofs.store.NamedDesk.apply.Goals as goal
 

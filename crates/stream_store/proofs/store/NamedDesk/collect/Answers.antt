@@ -1,6 +1,6 @@
 use Rattle.std.{proofs.Common.ap, proofs.Common.subst, proofs.Common.◌∙◌, specs.Prelude.count_by}
 use Rattle.block_reclamation.specs.{declared.copies.PinCopy.PinCopy, Status.is_reclaimable}
-use Rattle.store_steps.specs.{Desks.IsCollected, Steps.TakesAt, Steps.recycling}
+use Rattle.store_steps.specs.{Desks.IsCollected, Steps.SimulatesAt, Steps.recycling}
 use Rattle.stream_store.specs.Kept.{DeskState}
 use Rattle.stream_store.proofs.store.NamedDesk.collect.Goals as goal
 
@@ -13,7 +13,7 @@ returns-clause-collected g c =
 pub returns-clause-steps : goal.returns-clause-steps
 returns-clause-steps g c =
     let old : DeskState = c.args.self.now.desk in
-    subst (λ (copy : PinCopy). TakesAt copy old.desk (recycling copy old.desk.pool) c.collect.new.self.desk)
+    subst (λ (copy : PinCopy). SimulatesAt copy old.desk (recycling copy old.desk.pool) c.collect.new.self.desk)
     c.copy_of-copy.ensures.copied c.collect.ensures.steps
 
 pub returns-clause-recycled : goal.returns-clause-recycled

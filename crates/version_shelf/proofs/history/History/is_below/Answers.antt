@@ -1,7 +1,7 @@
 use Rattle.graph_types.specs.declared.batches.NamedOp.{NamedOp}
 use Rattle.std.proofs.Common.{ap, subst, List, refl}
+use Rattle.graph_types.proofs.Prefixes.{below_by}
 use mathlib.Core.List.{IsPrefix}
-use Rattle.version_shelf.proofs.Beginnings.{below_by}
 use Rattle.version_shelf.proofs.history.History.is_below.Goals as goal
 
 pub returns : goal.returns

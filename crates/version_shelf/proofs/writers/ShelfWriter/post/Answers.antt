@@ -1,8 +1,9 @@
 use Rattle.std.proofs.Common.{◌≡◌, ◌++◌, ◌∷◌, [], length, inr, Some, sym, ap, subst, ◌∙◌, arith, length-append}
+use Rattle.graph_types.proofs.Prefixes.{ends_with_last}
 use mathlib.Core.List.{IsPrefix}
 use Rattle.graph_version.specs.Versions.{VersionView}
 use Rattle.version_shelf.specs.{Histories.HistoryView, Shelves.ToldView, Shelves.ShelfView}
-use Rattle.version_shelf.proofs.Steps.{still_showing, ends_with_last}
+use Rattle.version_shelf.proofs.Steps.{still_showing}
 use Rattle.version_shelf.proofs.writers.ShelfWriter.post.Given.{Over}
 use Rattle.version_shelf.proofs.writers.ShelfWriter.post.Goals as goal
 use Rattle.version_shelf.proofs.writers.ShelfWriter.post.Goals.{After-again}

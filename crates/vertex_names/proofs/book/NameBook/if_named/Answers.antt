@@ -1,5 +1,6 @@
 use Rattle.std.{proofs.Common.{◌≡◌, Some}, specs.List.slice_get}
-use Rattle.vertex_names.{specs.Tables.names_of, proofs.Names.listed_at}
+use Rattle.graph_types.proofs.ListedNames.{listed_at}
+use Rattle.vertex_names.specs.Tables.{names_of}
 use Rattle.vertex_names.proofs.book.NameBook.if_named.Goals as goal
 
 pub returns-then-is_at : goal.returns-then-is_at

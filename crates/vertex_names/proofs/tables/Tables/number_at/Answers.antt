@@ -1,5 +1,6 @@
 use Rattle.std.{proofs.Common.{◌≡◌, ◌≢◌, ◌∙◌, ℕ, List, sym, ap, subst, Some, None, true≢false, AllPairs}, specs.List.slice_get}
-use Rattle.vertex_names.{specs.Index.{found_at, text_hash}, proofs.Names.{none_listed, listed_at, SomeIff-among}}
+use Rattle.graph_types.proofs.ListedNames.{listed_at}
+use Rattle.vertex_names.{specs.Index.{found_at, text_hash}, proofs.Names.{none_listed, SomeIff-among}}
 use Rattle.vertex_names.proofs.tables.Tables.number_at.Goals as goal
 
 pub returns-in_err-first : goal.returns-in_err-first

@@ -1,0 +1,7 @@
+use Rattle.std.proofs.Common.{◌≡◌, false, take, All}
+use Rattle.edge_block.specs.Slots.{has_before}
+use Rattle.graph_version.specs.Sharing.{block_value}
+use Rattle.graph_version.proofs.row.blocks_since.Given as goal
+
+abbrev pub invariant-loop-block : goal.invariant-loop-block
+invariant-loop-block l = All (λ b. has_before l.since (block_value b).slots ≡ false) (take l.block-index l.blocks)

@@ -1,4 +1,0 @@
-pub mod Ages
-pub mod Copies
-pub mod Places
-mod Shown

@@ -1,7 +1,0 @@
-use Rattle.std.proofs.Common.{◌≡◌, false, take, All}
-use Rattle.edge_block.specs.Slots.{has_before}
-use Rattle.version_pages.specs.Sharing.{block_value}
-use Rattle.version_pages.proofs.row.blocks_since.Given as goal
-
-abbrev pub invariant-loop-block : goal.invariant-loop-block
-invariant-loop-block l = All (λ b. has_before l.since (block_value b).slots ≡ false) (take l.block-index l.blocks)

@@ -1,6 +1,0 @@
-use Rattle.std.proofs.Common.{take}
-use Rattle.version_pages.specs.Ages.{AreSince}
-use Rattle.version_pages.proofs.row_page.rows_since.Given as goal
-
-abbrev pub invariant-loop-row : goal.invariant-loop-row
-invariant-loop-row l = AreSince l.since (take l.row-index l.rows)
