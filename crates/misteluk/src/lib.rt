@@ -9,9 +9,7 @@ pub use graph_types::{
     AskError, BadLimits, Batch, Content, Degree, Edge, Filter, KindId, Limits, List, Name,
     NamedFilter, NamedOp, Outcome, PushError, Reply, Request, VertexId, is_kind_name, is_name,
 };
-pub use graph_version::{
-    BatchIter, BlockNumbers, EdgeIter, InEdgeIter, RowIter, Version,
-};
+pub use graph_version::{BatchIter, BlockNumbers, EdgeIter, InEdgeIter, RowIter, Version};
 pub use stream_store::{
     ApplyError, BadConfig, Collected, Config, Desk, JournalEntry, Naming, OpenError, Opened,
     PinnedSeat, Receipt, Seat, Session, Stat, Store, open_parts, open_parts_from,
