@@ -168,8 +168,6 @@ pub(crate) fn do_alone<G: Gate>(
     requires { IsShard (row_of version.now.rows) job.shard }
     ensures { IfOk result (λ d. IsShardDone (row_of version.now.rows) job.shard d) }
 {
-    if !job.is_busy() {
-        gate.arrive(job.worker, 1);
-    }
-    do_one(alloc, gate, version, 1, job)
+    gate.arrive(job.worker, 1);
+    work_on(alloc, version, job.shard)
 }
