@@ -1,12 +1,13 @@
 -- What was found of the ends of operations, as more names appear.
 use Rattle.std.proofs.Common.{◌≡◌, ◌∙◌, ℕ, ◌+◌, Bool, true, false, if◌then◌else◌, IsTrue, List, [], ◌∷◌, map, drop, refl}
-use Rattle.std.proofs.Common.{sym, ap, Option, Some, None, subst}
+use Rattle.std.proofs.Common.{sym, ap, Option, Some, None, subst, length, ◌<◌, ◌≤◌, arith}
 use Rattle.std.{specs.Option.IfSome, proofs.lemmas.Option.IfSome_then}
 use Rattle.graph_types.specs.{Step.{with_name, makes_names, number_of}, Answer.is_listed, declared.batches.NamedOp.NamedOp}
 use Rattle.graph_types.specs.Parts.{Parts, OfEdge, OfAll, parts_of, names_by, names_after}
 use Rattle.batch_apply.specs.{declared.resolve.Ends.Ends, Plan.{known, ends_by, ends_in, IsFound, AreFound}}
 use Rattle.std.proofs.lemmas.List.{drop-drop}
-use Rattle.graph_types.proofs.ListedNames.{kept}
+use Rattle.graph_types.proofs.{ListedNames.kept, NameLists.number_of-lt}
+use Rattle.vertex_names.specs.Book.{Book}
 use Rattle.batch_apply.proofs.Names.{known_listed}
 
 listed_if : (b : Bool) (n i : ℕ) → (if b then Some n else None) ≡ Some i → IsTrue b
@@ -91,3 +92,14 @@ pub rest_found : (names : List (List ℕ)) (op : NamedOp) (ops : List NamedOp) (
     → AreFound names (op ∷ ops) (drop k found) → AreFound names ops (drop (k + 1) found)
 rest_found names op ops found k are =
     subst (λ l. AreFound names ops l) (drop-drop 1 k found) (tail_found names op ops (drop k found) are)
+
+-- a kind's number is small, if the kinds are few
+few_listed : (kinds : Book) (kind : List ℕ) (b : Bool) → b ≡ is_listed kinds.names kind → length kinds.names ≤ kinds.limit
+    → kinds.limit ≤ 64 → IfSome (if b then Some (number_of kinds.names kind) else None) (λ n. n < 256)
+few_listed kinds kind true is within few = omega (arith, within, few, number_of-lt kinds.names kind (sym is))
+few_listed kinds kind false is within few = tt
+
+pub few_known : (kinds : Book) (kind : List ℕ) (number : Option ℕ) → number ≡ known kinds.names kind
+    → length kinds.names ≤ kinds.limit → kinds.limit ≤ 64 → IfSome number (λ n. n < 256)
+few_known kinds kind number is within few =
+    subst (λ o. IfSome o (λ n. n < 256)) (sym is) (few_listed kinds kind (is_listed kinds.names kind) refl within few)

@@ -1,5 +1,5 @@
 -- A plan's names are those that the batch rule leaves, and its refusals the batch rule's.
-use Rattle.std.proofs.Common.{◌≡◌, ◌∙◌, List, refl, sym, ap, arith}
+use Rattle.std.proofs.Common.{◌≡◌, ◌∙◌, List, sym, ap, arith}
 use Rattle.std.proofs.lemmas.Grind.{common_steps}
 use Rattle.graph_types.specs.{Graph.Graph, Step.after_all, declared.batches.NamedOp.NamedOp}
 use Rattle.graph_types.proofs.LimitsKept.{limits_after_all}

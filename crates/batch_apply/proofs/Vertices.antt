@@ -1,7 +1,7 @@
 -- The numbers of vertices, one after another.
-use Rattle.std.proofs.Common.{◌≡◌, ◌<◌, ◌+◌, ◌++◌, ◌-◌, ◌==◌, ℕ, List, [], ◌∷◌, length, get_or, refl, sym, ap, ◌∙◌, arith, true, false, not, Bool}
+use Rattle.std.proofs.Common.{◌≡◌, ◌<◌, ◌+◌, ◌++◌, ◌==◌, ℕ, List, [], ◌∷◌, length, get_or, refl, sym, ap, ◌∙◌, arith, true, false, not, Bool}
 use Rattle.std.proofs.lemmas.{List.{length-map, get_or-map, map-append}, Bool.{true≢false, eqb-true}, Option.{slice_get-map, slice_get-get_or}}
-use Rattle.std.proofs.lemmas.List.{get_or_append_left, get_or-append-add}
+use Rattle.std.proofs.lemmas.List.{get_or_append_left}
 use Rattle.std.specs.{Prelude.slice_get, Option.{option_map, option_eq}, declared.option.Option.Option}
 use Rattle.std.specs.declared.option.Option.TheVariants.{None, Some}
 use Rattle.graph_types.specs.declared.ids.VertexId.{VertexId}

@@ -10,7 +10,7 @@ use Rattle.edge_block.specs.Slots.{BlockView}
 use Rattle.batch_shards.specs.RowBlocks as shared
 use Rattle.batch_shards.specs.{Closing.row_values, declared.shard.{Shard.Shard, ShardDone.ShardDone}, Shards.AreSteps}
 use Rattle.batch_shards.specs.{Done.{IsShardDone, sources_in}, Spending.needed}
-use Rattle.batch_apply.specs.{Applied.written_from, declared.{applied.Gathered.Gathered, workers.Job.Job}}
+use Rattle.batch_apply.specs.{Applied.written_from, declared.{gathering.Gathered.Gathered, workers.Job.Job}}
 
 -- a shard that can be worked on over these rows: its sources are distinct, and it has as many fresh blocks as it may take
 pub record IsShard (rows : ℕ → List BlockView) (shard : Shard) : Type 0 where

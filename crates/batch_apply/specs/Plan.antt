@@ -1,7 +1,7 @@
 -- The numbers of a batch's names, each operation by the names at its place.
-use Rattle.std.specs.{Prelude.{ℕ, ◌≡◌, ◌<◌, ◌≤◌, List, ◌∷◌, length, if◌then◌else◌}, Option.{option_map, IfSome}}
+use Rattle.std.specs.{Prelude.{ℕ, ◌≡◌, ◌<◌, ◌≤◌, List, ◌∷◌, length, Bool, if◌then◌else◌}, Option.{option_map, IfSome}}
 use Rattle.std.specs.declared.option.Option.{Option, TheVariants.{None, Some}}
-use Rattle.graph_types.specs.{Graph.{Graph, Key}, Limits.standard_limits, Step.{number_of, empty_graph}, Changes.IsChange}
+use Rattle.graph_types.specs.{Graph.{Graph, Key}, Limits.standard_limits, Step.{number_of, with_name, empty_graph}, Changes.IsChange}
 use Rattle.graph_types.specs.{Refusals.IsLimitRefusal, declared.{batches.NamedOp.NamedOp, refusals.ApplyError.ApplyError}}
 use Rattle.vertex_names.specs.{Book.Book, declared.book.AddError.{AddError, TheVariants.{NamesFull, OutOfMemory}}}
 use Rattle.graph_types.specs.Parts.{Parts, OfEdge, OfAll, parts_of}
@@ -39,6 +39,13 @@ kind_by kinds (OfAll time) = None
 -- a kind that was seen has its number
 abbrev pub IsSeen : List (List ℕ) → Option SeenKind → Type 0
 IsSeen kinds seen = IfSome seen (λ k. known kinds k.text.now ≡ Some k.number.0)
+
+-- the names behind an edge, and the kinds behind it: with those of its ends, and with its kind, where its change makes names
+abbrev pub ends_made : Bool → List ℕ → List ℕ → List (List ℕ) → List (List ℕ)
+ends_made makes source target names = if makes then with_name (with_name names source) target else names
+
+abbrev pub kind_made : Bool → List ℕ → List (List ℕ) → List (List ℕ)
+kind_made makes kind kinds = if makes then with_name kinds kind else kinds
 
 -- the key of three numbers, if all of them are known
 abbrev pub key_from : Option ℕ → Option ℕ → Option ℕ → Option Key

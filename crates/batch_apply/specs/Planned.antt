@@ -1,6 +1,6 @@
 -- The plan of a batch: what it leaves of the names, and its operations by worker.
-use Rattle.std.specs.{Prelude.{◌≡◌, ℕ, ◌+◌, ◌<◌, List, length, map, nat_lt, if◌then◌else◌}, List.{range_with_len, AllZip}}
-use Rattle.graph_types.specs.{Graph.Graph, Step.after_all, declared.batches.NamedOp.NamedOp}
+use Rattle.std.specs.{Prelude.{◌≡◌, ℕ, ◌+◌, ◌<◌, ◌≤◌, List, length, map, nat_lt, if◌then◌else◌}, List.{range_with_len, AllZip}}
+use Rattle.graph_types.specs.{Graph.Graph, Limits.most_operations, Step.after_all, declared.batches.NamedOp.NamedOp}
 use Rattle.edge_block.specs.{Slots.BlockView, Batches.resolved}
 use Rattle.batch_shards.specs.{Done.{layout_by, sources_in}, Spending.needed}
 use Rattle.graph_version.specs.Kept.{vertex_book, kind_book}
@@ -11,6 +11,8 @@ use Rattle.batch_apply.specs.{Shards.IsShardOf, OldRows.{AreOldRows, expiry_time
 pub record IsPlan (workers : ℕ) (ops : List NamedOp) (g : Graph) (rows : ℕ → List BlockView) (plan : Plan) : Type 0 where
   pub names : plan.names ≡ vertex_book (after_all ops g)
   pub kinds : plan.kinds ≡ kind_book (after_all ops g)
+  pub operations : plan.operations ≡ length ops
+  pub few : length ops ≤ most_operations
   pub shards : AllZip (IsShardOf workers (resolved ops g) (layout_by rows)) (range_with_len 0 workers)
       plan.shards.items
   pub needs : plan.needs.items ≡ map (λ shard. needed rows (sources_in shard) shard.steps.items) plan.shards.items

@@ -3,6 +3,7 @@
 ghost use Rattle.std.specs.Prelude.{◌≡◌, ◌∷◌, ◌++◌, [], ◌-◌, ◌≤◌, ◌<◌, ◌^◌, ℕ, List, length, map, min, IfOk, IfErr, OnOk, All};
 ghost use Rattle.std.specs.List.{range_with_len, AllZip};
 ghost use Rattle.graph_types.specs.Limits.{most_names, most_operations};
+ghost use Rattle.graph_types.specs.Valid.{IsBatch};
 ghost use Rattle.edge_block.specs.Slots.{BlockView};
 ghost use Rattle.edge_block.specs.Batches.{IsPlaced};
 ghost use Rattle.graph_types.specs.Step.{after_all};
@@ -22,7 +23,7 @@ use crate::old::OldRow;
 use crate::resolve::{Ends, ResolvedOp};
 use crate::shards::{Needing, shard_for};
 use batch_shards::Shard;
-use graph_types::{ApplyError, Batch};
+use graph_types::{ApplyError, NamedOp};
 use graph_version::Version;
 use std::alloc::{AllocError, Global};
 use std::thread::{Threads, map_indices};
@@ -36,32 +37,35 @@ pub struct NamedBatch {
     pub ops: Vec<ResolvedOp>,
 }
 
-/// Resolves the names of a batch over a version. This was found of the ends of its first operations among the version's names.
+/// Resolves the names of a batch's operations over a version and its names. This was found of the ends of the first among these.
 ///
 /// `NamesFull` where the batch would leave more vertex names than the limits allow, else `KindsFull` where it would
 /// leave more kinds, and `OutOfMemory` where a growth was refused. The books share the version's names, and copy no text
 /// but those of the last 256 where the batch has new ones.
-pub fn name_batch(
+pub fn name_ops(
     alloc: Global,
     version: &Version,
-    batch: &Batch,
+    names: &NameBook,
+    ops: &[NamedOp],
     found: &[Ends],
 ) -> Result<NamedBatch, ApplyError>
-    requires { AreFound (content version.now).names batch.now found.now }
-    ensures names { IfOk result (λ n. n.names ≡ vertex_book (after_all batch.now (content version.now))) }
-    ensures kinds { IfOk result (λ n. n.kinds ≡ kind_book (after_all batch.now (content version.now))) }
-    ensures ops { IfOk result (λ n. map shown_op n.ops.items ≡ resolved batch.now (content version.now)) }
+    requires names { names.now ≡ vertex_book (content version.now) }
+    requires batch { IsBatch ops.now }
+    requires found { AreFound (content version.now).names ops.now found.now }
+    ensures names { IfOk result (λ n. n.names ≡ vertex_book (after_all ops.now (content version.now))) }
+    ensures kinds { IfOk result (λ n. n.kinds ≡ kind_book (after_all ops.now (content version.now))) }
+    ensures ops { IfOk result (λ n. map shown_op n.ops.items ≡ resolved ops.now (content version.now)) }
     ensures few { IfOk result (λ n. length n.ops.items ≤ most_operations) }
     ensures placed { IfOk result (λ n. All IsPlaced (map shown_op n.ops.items)) }
     ensures changes { IfOk result (λ n. All IsInRange n.ops.items) }
     ensures version { IsVersion version.now }
-    ensures limits { OnOk result (MeetsNeitherLimit batch.now (content version.now)) }
-    ensures refused { IfErr result (λ error. IsLimitRefusal error batch.now (content version.now)) }
+    ensures limits { OnOk result (MeetsNeitherLimit ops.now (content version.now)) }
+    ensures refused { IfErr result (λ error. IsLimitRefusal error ops.now (content version.now)) }
 {
-    let mut names = version.names().share()?;
-    let mut kinds = version.kinds().share()?;
     let most = version.limits().weight();
-    let ops = resolve_batch(alloc, &mut names, &mut kinds, most, batch.ops(), found)?;
+    let mut names = names.share()?;
+    let mut kinds = version.kinds().share()?;
+    let ops = resolve_batch(alloc, &mut names, &mut kinds, most, ops, found)?;
     Ok(NamedBatch { names, kinds, ops })
 }
 

@@ -9,6 +9,7 @@ mod applied;
 mod counting;
 mod dividing;
 mod finding;
+mod gathering;
 mod laws;
 mod naming;
 mod old;
@@ -28,7 +29,6 @@ pub use laws::{
     law_all_written, law_batch_totals, law_needs, law_needs_example, law_shard_results,
     law_sum_all, law_worker_rows,
 };
-pub use old::{OldRow, old_rows};
 pub use planning::{plan, plan_shared, plan_with};
 pub use plans::Plan;
 pub use ranks::{Ranks, rank};

@@ -3,32 +3,15 @@
 ghost use Rattle.std.specs.Prelude.{◌≡◌, ◌≤◌, ℕ, List, map, IfOk, IfErr, OnOk, All};
 ghost use Rattle.graph_types.specs.Valid.{IsValid};
 ghost use Rattle.graph_types.specs.Limits.{weight_limit};
-ghost use Rattle.graph_types.specs.Parts.{parts_in, names_after_all, kinds_after_all};
-ghost use Rattle.edge_block.specs.Batches.{resolve_parts, resolved_by, IsPlaced};
-ghost use Rattle.batch_apply.specs.Plan.{shown_op, with_names, AreFound, Fits, IsInRange, IsSeen, IsUnplanned};
+ghost use Rattle.graph_types.specs.Parts.{names_after_all, kinds_after_all};
+ghost use Rattle.edge_block.specs.Batches.{resolved_by, IsPlaced};
+ghost use Rattle.batch_apply.specs.Plan.{shown_op, with_names, AreFound, Fits, IsInRange, IsUnplanned};
 
 use crate::finding::found_at;
-use crate::resolve::{Ends, ResolvedOp, SeenKind, resolve_op};
-use graph_types::{ApplyError, MOST_WEIGHT, NamedOp, OpParts, parts_in};
+use crate::resolve::{Ends, ResolvedOp, resolve_op};
+use graph_types::{ApplyError, NamedOp};
 use std::alloc::Global;
 use vertex_names::NameBook;
-
-/// An operation's kind with its number, by the operation resolved; none where its edge's key is not known.
-fn kind_seen<'a>(op: &'a NamedOp, resolved: ResolvedOp) -> Option<SeenKind<'a>>
-    ensures { (most : ℕ) (names kinds : List (List ℕ)) → shown_op resolved ≡ resolve_parts names kinds (parts_in most op.now)
-        → IsSeen kinds result }
-{
-    let ResolvedOp::Edge(_, Some(key), _) = resolved else {
-        return None;
-    };
-    match parts_in(op, MOST_WEIGHT) {
-        OpParts::OfEdge(_, kind, _, _) => Some(SeenKind {
-            text: kind.as_str(),
-            number: key.kind,
-        }),
-        OpParts::OfAll(_) => None,
-    }
-}
 
 /// A batch's operations with the numbers of their names, each by the names at its place, where weights are of at most this size;
 /// the books then have the names that the batch leaves, and are within their limits as they were before.
@@ -60,18 +43,17 @@ pub fn resolve_batch(
     let mut found = Vec::with_capacity(alloc, ops.len())?;
     let mut seen = None;
     for k in 0..ops.len() {
-        let asked = &ops[k];
-        let op = resolve_op(
+        let resolved = resolve_op(
             names,
             kinds,
-            asked,
+            &ops[k],
             most,
             &ops[k + 1..],
             found_at(found_before, k),
             seen,
         )?;
-        seen = kind_seen(asked, op);
-        let Ok(()) = found.push(op) else {
+        seen = resolved.kind;
+        let Ok(()) = found.push(resolved.op) else {
             return Err(ApplyError::OutOfMemory);
         };
     }

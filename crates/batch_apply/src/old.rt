@@ -5,7 +5,7 @@ ghost use Rattle.graph_types.specs.Parts.{parts_of};
 ghost use Rattle.graph_version.specs.Rows.{row_of};
 ghost use Rattle.batch_apply.specs.OldRows.{AreOldRows, expiry_time, time_in};
 
-use graph_types::{Batch, MOST_WEIGHT, NamedOp, OpParts, VertexId, parts_in};
+use graph_types::{MOST_WEIGHT, NamedOp, OpParts, VertexId, parts_in};
 use graph_version::Version;
 use std::alloc::{AllocError, Global};
 
@@ -38,14 +38,18 @@ fn expiry_time(ops: &[NamedOp]) -> u64
     time
 }
 
-/// The rows of a version with an edge from before the greatest time of a batch's expiries, sources rising.
+/// The rows of a version with an edge from before the greatest time of the expiries among operations, sources rising.
 ///
-/// Of these rows alone headers are read, however many expiries the batch has; none where it has no expiry.
-pub fn old_rows(alloc: Global, version: &Version, batch: &Batch) -> Result<Vec<OldRow>, AllocError>
-    ensures { IfOk result (λ v. AreOldRows (expiry_time batch.now) (row_of version.now.rows) v.items) }
+/// Of these rows alone headers are read, however many expiries there are; none where there is no expiry.
+pub fn old_rows(
+    alloc: Global,
+    version: &Version,
+    ops: &[NamedOp],
+) -> Result<Vec<OldRow>, AllocError>
+    ensures { IfOk result (λ v. AreOldRows (expiry_time ops.now) (row_of version.now.rows) v.items) }
 {
     let mut found = Vec::new(alloc);
-    let time = expiry_time(batch.ops());
+    let time = expiry_time(ops);
     if time == 0 {
         return Ok(found);
     }

@@ -1,17 +1,18 @@
 //! The plan of a batch by version, batch and workers.
 
-ghost use Rattle.std.specs.Prelude.{◌≡◌, ◌+◌, ◌<◌, IfOk, IfErr, OnOk};
+ghost use Rattle.std.specs.Prelude.{◌≡◌, ◌+◌, ◌<◌, length, IfOk, IfErr, OnOk};
 ghost use Rattle.graph_version.specs.Versions.{content};
 ghost use Rattle.graph_version.specs.Rows.{row_of};
 ghost use Rattle.batch_apply.specs.OldRows.{AreOldRows, expiry_time};
+ghost use Rattle.graph_types.specs.Valid.{IsBatch};
 ghost use Rattle.graph_types.specs.Refusals.{MeetsNeitherLimit, IsLimitRefusal};
 ghost use Rattle.batch_apply.specs.Planned.{IsPlan, IsSharedPlan, workers_for};
 
-use crate::dividing::{NamedBatch, Shards, name_batch, shards_at_once, shards_for};
+use crate::dividing::{NamedBatch, Shards, name_ops, shards_at_once, shards_for};
 use crate::finding::look_up;
 use crate::old::{OldRow, old_rows};
 use crate::plans::Plan;
-use graph_types::{ApplyError, Batch};
+use graph_types::{ApplyError, Batch, NamedOp};
 use graph_version::Version;
 use std::alloc::Global;
 use std::thread::Threads;
@@ -37,30 +38,70 @@ pub fn plan(
     ensures limits { OnOk result (MeetsNeitherLimit batch.now (content version.now)) }
     ensures refused { IfErr result (λ error. IsLimitRefusal error batch.now (content version.now)) }
 {
-    let old = old_rows(alloc, version, batch)?;
-    let named = name_batch(alloc, version, batch, &[])?;
+    plan_alone(alloc, version, batch.ops(), workers)
+}
+
+/// Plans operations as [`plan`] does a batch.
+fn plan_alone(
+    alloc: Global,
+    version: &Version,
+    ops: &[NamedOp],
+    workers: usize,
+) -> Result<Plan, ApplyError>
+    requires workers { 0 < workers }
+    requires batch { IsBatch ops.now }
+    ensures plan { IfOk result (IsPlan workers ops.now (content version.now) (row_of version.now.rows)) }
+    ensures limits { OnOk result (MeetsNeitherLimit ops.now (content version.now)) }
+    ensures refused { IfErr result (λ error. IsLimitRefusal error ops.now (content version.now)) }
+{
+    let old = old_rows(alloc, version, ops)?;
+    let named = name_ops(alloc, version, version.names(), ops, &[])?;
     let planned = shards_for(alloc, workers, named.ops.as_slice(), old.as_slice())?;
     Ok(plan_of(named, planned))
 }
 
-/// Plans a batch as [`plan`] does, for who has found the version's old rows for it. Several workers look the names of its
-/// operations up at once before, and plan their shards at once; what the plan is doesn't depend on it.
+/// Plans a batch as [`plan`] does, by as many threads at once as it is planned for. What the plan is doesn't depend on it.
+///
+/// ```
+/// let plan = plan_with(rt, alloc, &version, &batch, 4)?;
+/// ```
 pub fn plan_with<R: Threads + Sync>(
     rt: &R,
     alloc: Global,
     version: &Version,
     batch: &Batch,
-    old: &[OldRow],
     workers: usize,
 ) -> Result<Plan, ApplyError>
     requires workers { 0 < workers }
-    requires old { AreOldRows (expiry_time batch.now) (row_of version.now.rows) old.now }
     ensures plan { IfOk result (IsPlan workers batch.now (content version.now) (row_of version.now.rows)) }
     ensures limits { OnOk result (MeetsNeitherLimit batch.now (content version.now)) }
     ensures refused { IfErr result (λ error. IsLimitRefusal error batch.now (content version.now)) }
 {
-    let found = look_up(rt, alloc, version.names(), batch.ops(), workers)?;
-    let named = name_batch(alloc, version, batch, &found)?;
+    let ops = batch.ops();
+    let old = old_rows(alloc, version, ops)?;
+    Ok(plan_ops(rt, alloc, version, ops, &old, workers)?)
+}
+
+/// Plans operations as [`plan_with`] does a batch, over the version's old rows for them. Several workers look the names up at
+/// once before, and plan their shards at once.
+fn plan_ops<R: Threads + Sync>(
+    rt: &R,
+    alloc: Global,
+    version: &Version,
+    ops: &[NamedOp],
+    old: &[OldRow],
+    workers: usize,
+) -> Result<Plan, ApplyError>
+    requires workers { 0 < workers }
+    requires batch { IsBatch ops.now }
+    requires old { AreOldRows (expiry_time ops.now) (row_of version.now.rows) old.now }
+    ensures plan { IfOk result (IsPlan workers ops.now (content version.now) (row_of version.now.rows)) }
+    ensures limits { OnOk result (MeetsNeitherLimit ops.now (content version.now)) }
+    ensures refused { IfErr result (λ error. IsLimitRefusal error ops.now (content version.now)) }
+{
+    let names = version.names();
+    let found = look_up(rt, alloc, names, ops, workers)?;
+    let named = name_ops(alloc, version, names, ops, &found)?;
     let planned = shards_at_once(rt, alloc, workers, named.ops.as_slice(), old)?;
     Ok(plan_of(named, planned))
 }
@@ -94,23 +135,27 @@ pub fn plan_shared<R: Threads + Sync>(
     ensures limits { OnOk result (MeetsNeitherLimit batch.now (content version.now)) }
     ensures refused { IfErr result (λ error. IsLimitRefusal error batch.now (content version.now)) }
 {
-    let old = old_rows(alloc, version, batch)?;
-    let workers = workers_for(workers, batch.len(), old.len());
-    Ok(plan_with(rt, alloc, version, batch, &old, workers)?)
+    let ops = batch.ops();
+    let old = old_rows(alloc, version, ops)?;
+    let sharing = workers_for(workers, ops.len(), old.len());
+    Ok(plan_ops(rt, alloc, version, ops, &old, sharing)?)
 }
 
 /// The plan of these names and these shards.
 fn plan_of(named: NamedBatch, planned: Shards) -> Plan
-    ensures { result ≡ record { names = named.names; kinds = named.kinds; shards = planned.shards; needs = planned.needs } }
+    ensures { result ≡ record {
+      names = named.names;
+      kinds = named.kinds;
+      operations = length named.ops.items;
+      shards = planned.shards;
+      needs = planned.needs;
+    } }
 {
-    let NamedBatch {
-        names,
-        kinds,
-        ops: _ops,
-    } = named;
+    let NamedBatch { names, kinds, ops } = named;
     Plan {
         names,
         kinds,
+        operations: ops.len(),
         shards: planned.shards,
         needs: planned.needs,
     }

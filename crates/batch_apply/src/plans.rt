@@ -13,6 +13,8 @@ pub struct Plan {
     pub names: NameBook,
     /// The kind names that the batch leaves.
     pub kinds: NameBook,
+    /// How many operations the batch has.
+    pub operations: usize,
     /// The batch's operations by worker: a shard for each worker, in order, without fresh blocks.
     pub shards: Vec<Shard>,
     /// How many fresh blocks each shard may take: one for each operation on an edge, and one for each block of its rows

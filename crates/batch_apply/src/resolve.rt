@@ -1,16 +1,15 @@
 //! The numbers of a batch's names, each operation by the names at its place.
 
 ghost use Rattle.std.specs.Prelude.{◌≡◌, ◌≤◌, ◌<◌, ◌∷◌, ℕ, List, [], length, IfOk, IfErr, OnOk, IfSome, Some, IsTrue, All};
-ghost use Rattle.graph_types.specs.Step.{with_name, names_made, kinds_made};
+ghost use Rattle.graph_types.specs.Step.{with_name};
 ghost use Rattle.edge_block.specs.Batches.{AtKey, resolve_parts};
 ghost use Rattle.vertex_names.specs.Book.{Book};
 ghost use Rattle.graph_types.specs.declared.batches.NamedOp.{NamedOp};
 ghost use Rattle.graph_types.specs.Valid.{is_name, is_kind_name, has_names, IsValid};
 ghost use Rattle.std.specs.Option.{option_map};
-ghost use Rattle.graph_types.specs.Parts.{parts_in, parts_of, names_after, kinds_after, names_after_all};
+ghost use Rattle.graph_types.specs.Parts.{parts_in, names_after, kinds_after, names_after_all};
 ghost use Rattle.graph_types.specs.Limits.{weight_limit};
-ghost use Rattle.batch_apply.specs.Plan as plan;
-ghost use Rattle.batch_apply.specs.Plan.{known, ends_in, key_from, key_shown, shown_op, with_names, kind_by};
+ghost use Rattle.batch_apply.specs.Plan.{known, key_from, key_shown, shown_op, with_names, ends_made, kind_made};
 ghost use Rattle.batch_apply.specs.Plan.{Fits, IsFound, IsSeen, IsInRange, IsRefusal, IsUnplanned};
 
 use graph_types::{ApplyError, EdgeChange, KindId, MOST_WEIGHT, NamedOp, OpParts, parts_in};
@@ -41,7 +40,7 @@ pub enum ResolvedOp {
 }
 
 /// The number of a name, which is added. It may have been found before: a name keeps its number.
-fn add_end(names: &mut NameBook, name: &str, found: Option<u32>) -> Result<u32, AddError>
+fn add_name(names: &mut NameBook, name: &str, found: Option<u32>) -> Result<u32, AddError>
     requires within { Fits names.old }
     requires name { IsTrue (is_name name.now) }
     requires found { IfSome found (λ number. known names.old.names name.now ≡ Some number) }
@@ -70,8 +69,8 @@ fn add_ends(names: &mut NameBook, source: &str, target: &str, found: Ends) -> Re
     ensures refused { IfErr result (λ error. IsRefusal error names.old
         (with_name (with_name names.old.names source.now) target.now)) }
 {
-    let source = add_end(names, source, found.source)?;
-    let target = add_end(names, target, found.target)?;
+    let source = add_name(names, source, found.source)?;
+    let target = add_name(names, target, found.target)?;
     Ok(Ends {
         source: Some(source),
         target: Some(target),
@@ -79,7 +78,7 @@ fn add_ends(names: &mut NameBook, source: &str, target: &str, found: Ends) -> Re
 }
 
 /// The number of a name, where it has appeared. It may have been found before.
-fn find_end(names: &NameBook, name: &str, found: Option<u32>) -> Option<u32>
+fn find_name(names: &NameBook, name: &str, found: Option<u32>) -> Option<u32>
     requires { IfSome found (λ number. known names.now.names name.now ≡ Some number) }
     ensures { result ≡ known names.now.names name.now }
 {
@@ -89,11 +88,10 @@ fn find_end(names: &NameBook, name: &str, found: Option<u32>) -> Option<u32>
     }
 }
 
-/// The numbers of an edge's ends, of which some may have been found before; its names are added first, where the change makes
-/// any.
+/// The numbers of an edge's ends, of which some may have been found before; where its change makes names, they are added first.
 fn edge_ends(
     names: &mut NameBook,
-    change: EdgeChange,
+    makes: bool,
     source: &str,
     target: &str,
     found: Ends,
@@ -103,42 +101,19 @@ fn edge_ends(
     requires target { IsTrue (is_name target.now) }
     requires found_source { IfSome found.source (λ number. known names.old.names source.now ≡ Some number) }
     requires found_target { IfSome found.target (λ number. known names.old.names target.now ≡ Some number) }
-    ensures ends { let after = names_made change source.now target.now names.old.names in
+    ensures ends { let after = ends_made makes source.now target.now names.old.names in
         IfOk result (λ e. e ≡ record { source = known after source.now; target = known after target.now }) }
-    ensures names { OnOk result (names.new ≡ with_names names.old (names_made change source.now target.now names.old.names)) }
+    ensures names { OnOk result (names.new ≡ with_names names.old (ends_made makes source.now target.now names.old.names)) }
     ensures within { OnOk result (Fits names.new) }
-    ensures refused { IfErr result (λ error. IsRefusal error names.old
-        (names_made change source.now target.now names.old.names)) }
+    ensures refused { IfErr result (λ error. IsRefusal error names.old (ends_made makes source.now target.now names.old.names)) }
 {
-    if change.makes_names() {
+    if makes {
         return add_ends(names, source, target, found);
     }
     Ok(Ends {
-        source: find_end(names, source, found.source),
-        target: find_end(names, target, found.target),
+        source: find_name(names, source, found.source),
+        target: find_name(names, target, found.target),
     })
-}
-
-/// The numbers of an operation's ends, of which some may have been found before; its names are added first, where it makes
-/// any.
-fn op_ends(names: &mut NameBook, op: &NamedOp, found: Ends) -> Result<Ends, AddError>
-    requires within { Fits names.old }
-    requires names { IsTrue (has_names op.now) }
-    requires found { IsFound names.old.names op.now found }
-    ensures ends { IfOk result (λ e. e ≡ ends_in (names_after op.now names.old.names) op.now) }
-    ensures names { OnOk result (names.new ≡ with_names names.old (names_after op.now names.old.names)) }
-    ensures within { OnOk result (Fits names.new) }
-    ensures refused { IfErr result (λ error. IsRefusal error names.old (names_after op.now names.old.names)) }
-{
-    match parts_in(op, MOST_WEIGHT) {
-        OpParts::OfEdge(change, _, source, target) => {
-            edge_ends(names, change, source.as_str(), target.as_str(), found)
-        }
-        OpParts::OfAll(_) => Ok(Ends {
-            source: None,
-            target: None,
-        }),
-    }
 }
 
 /// A kind's text and its number.
@@ -149,56 +124,42 @@ pub struct SeenKind<'a> {
 }
 
 /// The number of a kind, if it was seen before: a name keeps its number.
-fn if_seen(kind: &str, seen: Option<SeenKind<'_>>) -> Option<KindId>
-    ensures { (kinds : List (List ℕ)) → IsSeen kinds seen.entry → IfSome result (λ k. known kinds kind.now ≡ Some k.0) }
+fn if_seen(kind: &str, seen: Option<SeenKind<'_>>) -> Option<u32>
+    ensures { (kinds : List (List ℕ)) → IsSeen kinds seen.entry → IfSome result (λ n. known kinds kind.now ≡ Some n) }
 {
     let seen = seen?;
     if is_same_name(seen.text, kind) {
-        Some(seen.number)
+        Some(u32::from(seen.number.0))
     } else {
         None
     }
 }
 
-/// The number of a kind, which is added. It may have been seen before.
-fn add_kind(
+/// The number of an edge's kind, which may have been found before; where the edge's change makes names, it is added first.
+fn kind_number(
     kinds: &mut NameBook,
+    makes: bool,
     kind: &str,
-    seen: Option<SeenKind<'_>>,
-) -> Result<Option<KindId>, AddError>
-    requires limit { kinds.old.limit ≤ 64 }
+    found: Option<u32>,
+) -> Result<Option<u32>, AddError>
     requires within { Fits kinds.old }
     requires kind { IsTrue (is_name kind.now) }
-    requires seen { IsSeen kinds.old.names seen }
-    ensures kind { IfOk result (λ k. option_map (λ k. k.0) k ≡ known (with_name kinds.old.names kind.now) kind.now) }
-    ensures kinds { OnOk result (kinds.new ≡ with_names kinds.old (with_name kinds.old.names kind.now)) }
+    requires found { IfSome found (λ n. known kinds.old.names kind.now ≡ Some n) }
+    ensures number { IfOk result (λ n. n ≡ known (kind_made makes kind.now kinds.old.names) kind.now) }
+    ensures kinds { OnOk result (kinds.new ≡ with_names kinds.old (kind_made makes kind.now kinds.old.names)) }
     ensures within { OnOk result (Fits kinds.new) }
-    ensures refused { IfErr result (λ error. IsRefusal error kinds.old (with_name kinds.old.names kind.now)) }
+    ensures refused { IfErr result (λ error. IsRefusal error kinds.old (kind_made makes kind.now kinds.old.names)) }
 {
-    if let Some(number) = if_seen(kind, seen) {
-        return Ok(Some(number));
+    if makes {
+        return Ok(Some(add_name(kinds, kind, found)?));
     }
-    let number = kinds.add(kind)?;
-    Ok(Some(KindId(number as u8)))
+    Ok(find_name(kinds, kind, found))
 }
 
-/// The number of a kind, where it has appeared. It may have been seen before.
-fn find_kind(kinds: &NameBook, kind: &str, seen: Option<SeenKind<'_>>) -> Option<KindId>
-    requires limit { kinds.now.limit ≤ 64 }
-    requires seen { IsSeen kinds.now.names seen }
-    ensures { option_map (λ k. k.0) result ≡ known kinds.now.names kind.now }
-{
-    if let Some(number) = if_seen(kind, seen) {
-        return Some(number);
-    }
-    let number = kinds.number(kind)?;
-    Some(KindId(number as u8))
-}
-
-/// The number of an edge's kind, which is added first, where the change makes it. It may have been seen before.
+/// The number of an edge's kind, which may have been seen before; where the edge's change makes names, it is added first.
 fn edge_kind(
     kinds: &mut NameBook,
-    change: EdgeChange,
+    makes: bool,
     kind: &str,
     seen: Option<SeenKind<'_>>,
 ) -> Result<Option<KindId>, AddError>
@@ -206,36 +167,22 @@ fn edge_kind(
     requires within { Fits kinds.old }
     requires kind { IsTrue (is_name kind.now) }
     requires seen { IsSeen kinds.old.names seen }
-    ensures kind { IfOk result (λ k. option_map (λ k. k.0) k ≡ known (kinds_made change kind.now kinds.old.names) kind.now) }
-    ensures kinds { OnOk result (kinds.new ≡ with_names kinds.old (kinds_made change kind.now kinds.old.names)) }
+    ensures kind { IfOk result (λ k. option_map (λ k. k.0) k ≡ known (kind_made makes kind.now kinds.old.names) kind.now) }
+    ensures kinds { OnOk result (kinds.new ≡ with_names kinds.old (kind_made makes kind.now kinds.old.names)) }
     ensures within { OnOk result (Fits kinds.new) }
-    ensures refused { IfErr result (λ error. IsRefusal error kinds.old (kinds_made change kind.now kinds.old.names)) }
+    ensures refused { IfErr result (λ error. IsRefusal error kinds.old (kind_made makes kind.now kinds.old.names)) }
 {
-    if change.makes_names() {
-        return add_kind(kinds, kind, seen);
-    }
-    Ok(find_kind(kinds, kind, seen))
+    let found = if_seen(kind, seen);
+    let number = kind_number(kinds, makes, kind, found)?;
+    Ok(kind_of(number))
 }
 
-/// The number of an operation's kind, which is added first, where the operation makes kinds. It may have been seen before.
-fn op_kind(
-    kinds: &mut NameBook,
-    op: &NamedOp,
-    seen: Option<SeenKind<'_>>,
-) -> Result<Option<KindId>, AddError>
-    requires limit { kinds.old.limit ≤ 64 }
-    requires within { Fits kinds.old }
-    requires names { IsTrue (has_names op.now) }
-    requires seen { IsSeen kinds.old.names seen }
-    ensures kind { IfOk result (λ k. option_map (λ k. k.0) k ≡ kind_by (kinds_after op.now kinds.old.names) (parts_of op.now)) }
-    ensures kinds { OnOk result (kinds.new ≡ with_names kinds.old (kinds_after op.now kinds.old.names)) }
-    ensures within { OnOk result (Fits kinds.new) }
-    ensures refused { IfErr result (λ error. IsRefusal error kinds.old (kinds_after op.now kinds.old.names)) }
+/// A kind by its number.
+fn kind_of(number: Option<u32>) -> Option<KindId>
+    requires { IfSome number (λ n. n < 256) }
+    ensures { option_map (λ k. k.0) result ≡ number }
 {
-    match parts_in(op, MOST_WEIGHT) {
-        OpParts::OfEdge(change, kind, _, _) => edge_kind(kinds, change, kind.as_str(), seen),
-        OpParts::OfAll(_) => Ok(None),
-    }
+    Some(KindId(number? as u8))
 }
 
 /// The key of numbers of which each is known.
@@ -256,20 +203,6 @@ fn on_edge(ends: Ends, kind: Option<KindId>, change: EdgeChange) -> ResolvedOp
     ResolvedOp::Edge(ends.source, key_by(ends, kind), change)
 }
 
-/// An operation with these ends and this kind, where weights are of at most this size.
-fn resolved_op(op: &NamedOp, most: u64, ends: Ends, kind: Option<KindId>) -> ResolvedOp
-    requires op { IsValid op.now }
-    requires most { most ≤ weight_limit }
-    ensures shown { (kinds : List (List ℕ)) → option_map (λ k. k.0) kind ≡ kind_by kinds (parts_of op.now)
-        → shown_op result ≡ plan.with_kind kinds ends (parts_in most op.now) }
-    ensures valid { IsInRange result }
-{
-    match parts_in(op, most) {
-        OpParts::OfEdge(change, _, _, _) => on_edge(ends, kind, change),
-        OpParts::OfAll(time) => ResolvedOp::Expire(time),
-    }
-}
-
 /// Why a batch isn't planned whose names are refused.
 #[tactic(auto, using(crate::proofs::Names::unplanned_names))]
 fn names_refusal(error: AddError) -> ApplyError
@@ -282,6 +215,31 @@ fn names_refusal(error: AddError) -> ApplyError
     }
 }
 
+/// Adds the names of an operation's ends, where it makes any.
+fn add_op_names(names: &mut NameBook, op: &NamedOp) -> Result<(), AddError>
+    requires within { Fits names.old }
+    requires names { IsTrue (has_names op.now) }
+    ensures names { OnOk result (names.new ≡ with_names names.old (names_after op.now names.old.names)) }
+    ensures within { OnOk result (Fits names.new) }
+    ensures refused { IfErr result (λ error. IsRefusal error names.old (names_after op.now names.old.names)) }
+{
+    let OpParts::OfEdge(change, _, source, target) = parts_in(op, MOST_WEIGHT) else {
+        return Ok(());
+    };
+    let unfound = Ends {
+        source: None,
+        target: None,
+    };
+    edge_ends(
+        names,
+        change.makes_names(),
+        source.as_str(),
+        target.as_str(),
+        unfound,
+    )?;
+    Ok(())
+}
+
 /// Adds the names of operations in order.
 ///
 /// After an error the book has some of them.
@@ -292,11 +250,7 @@ fn add_names(names: &mut NameBook, ops: &[NamedOp]) -> Result<(), AddError>
     ensures refused { IfErr result (λ error. IsRefusal error names.old (names_after_all ops.now names.old.names)) }
 {
     for op in ops {
-        let unfound = Ends {
-            source: None,
-            target: None,
-        };
-        op_ends(names, op, unfound)?;
+        add_op_names(names, op)?;
     }
     Ok(())
 }
@@ -318,19 +272,36 @@ fn kinds_refusal(error: AddError, names: &mut NameBook, behind: &[NamedOp]) -> A
     }
 }
 
+/// An operation with its names resolved, and its kind, if that has a number.
+#[derive(Clone, Copy)]
+pub struct Resolution<'a> {
+    pub op: ResolvedOp,
+    pub kind: Option<SeenKind<'a>>,
+}
+
+/// A kind with its number, if it has one.
+fn seen_kind<'a>(text: &'a str, number: Option<KindId>) -> Option<SeenKind<'a>>
+    ensures { (kinds : List (List ℕ)) → option_map (λ k. k.0) number ≡ known kinds text.now → IsSeen kinds result }
+{
+    Some(SeenKind {
+        text,
+        number: number?,
+    })
+}
+
 /// An operation with the numbers of its names, which are added first, where it makes any; weights are of at most this size. These
 /// operations are behind it, and this was found of its ends. A kind may have been seen before.
 ///
 /// After an error the books have some of the names.
-pub fn resolve_op(
+pub fn resolve_op<'a>(
     names: &mut NameBook,
     kinds: &mut NameBook,
-    op: &NamedOp,
+    op: &'a NamedOp,
     most: u64,
     behind: &[NamedOp],
     found: Ends,
     seen: Option<SeenKind<'_>>,
-) -> Result<ResolvedOp, ApplyError>
+) -> Result<Resolution<'a>, ApplyError>
     requires limit { kinds.old.limit ≤ 64 }
     requires within { Fits names.old × Fits kinds.old }
     requires op { IsValid op.now }
@@ -338,20 +309,35 @@ pub fn resolve_op(
     requires behind { All IsValid behind.now }
     requires found { IsFound names.old.names op.now found }
     requires seen { IsSeen kinds.old.names seen }
-    ensures op { IfOk result (λ r. shown_op r
+    ensures op { IfOk result (λ r. shown_op r.op
         ≡ resolve_parts (names_after op.now names.old.names) (kinds_after op.now kinds.old.names) (parts_in most op.now)) }
-    ensures change { IfOk result IsInRange }
+    ensures change { IfOk result (λ r. IsInRange r.op) }
+    ensures kind { IfOk result (λ r. IsSeen (kinds_after op.now kinds.old.names) r.kind) }
     ensures names { OnOk result (names.new ≡ with_names names.old (names_after op.now names.old.names)) }
     ensures kinds { OnOk result (kinds.new ≡ with_names kinds.old (kinds_after op.now kinds.old.names)) }
     ensures within { OnOk result (Fits names.new × Fits kinds.new) }
     ensures refused { IfErr result (λ error. IsUnplanned error (op.now ∷ behind.now) names.old kinds.old) }
 {
-    let ends = match op_ends(names, op, found) {
+    let (change, kind, source, target) = match parts_in(op, most) {
+        OpParts::OfEdge(change, kind, source, target) => (change, kind, source, target),
+        OpParts::OfAll(time) => {
+            return Ok(Resolution {
+                op: ResolvedOp::Expire(time),
+                kind: None,
+            });
+        }
+    };
+    let makes = change.makes_names();
+    let (kind, source, target) = (kind.as_str(), source.as_str(), target.as_str());
+    let ends = match edge_ends(names, makes, source, target, found) {
         Ok(ends) => ends,
         Err(error) => return Err(names_refusal(error)),
     };
-    match op_kind(kinds, op, seen) {
-        Ok(kind) => Ok(resolved_op(op, most, ends, kind)),
+    match edge_kind(kinds, makes, kind, seen) {
+        Ok(number) => Ok(Resolution {
+            op: on_edge(ends, number, change),
+            kind: seen_kind(kind, number),
+        }),
         Err(error) => Err(kinds_refusal(error, names, behind)),
     }
 }

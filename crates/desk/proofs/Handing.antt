@@ -68,21 +68,21 @@ back_used pool new numbers free is =
 
 -- and so it is where some of the granted numbers were born meanwhile
 
-taken_within : (h : Handing) (m : ℕ) → is_among m h.prepared.taken ≡ true → is_among m h.numbers ≡ true
+taken_within : (h : Handing) (m : ℕ) → is_among m h.prepared.taken.items ≡ true → is_among m h.numbers ≡ true
 taken_within h m is = taken_granted (application h) m is
 
-pub born_used : (h : Handing) (number : ℕ) (new : List BlockStatus) → new ≡ marked h.prepared.taken (Used number) h.pool
+pub born_used : (h : Handing) (number : ℕ) (new : List BlockStatus) → new ≡ marked h.prepared.taken.items (Used number) h.pool
     → AreUsedOnce h.numbers new
 born_used h number new is =
-    let m = born_movable h.old.pool h.numbers h.prepared.taken number h.free in
-    subst (AreUsedOnce h.numbers) (sym (is ∙ ap (marked h.prepared.taken (Used number)) h.granted))
+    let m = born_movable h.old.pool h.numbers h.prepared.taken.items number h.free in
+    subst (AreUsedOnce h.numbers) (sym (is ∙ ap (marked h.prepared.taken.items (Used number)) h.granted))
     (record { pass = m.pass; apart = m.apart })
 
-pub born_same : (h : Handing) (number : ℕ) (new end : List BlockStatus) → new ≡ marked h.prepared.taken (Used number) h.pool
+pub born_same : (h : Handing) (number : ℕ) (new end : List BlockStatus) → new ≡ marked h.prepared.taken.items (Used number) h.pool
     → end ≡ marked h.numbers Free new → end ≡ h.old.pool
 born_same h number new end is after =
-    after ∙ ap (marked h.numbers Free) (is ∙ ap (marked h.prepared.taken (Used number)) h.granted)
-    ∙ born_given_back h.old.pool h.numbers h.prepared.taken number h.free (taken_within h)
+    after ∙ ap (marked h.numbers Free) (is ∙ ap (marked h.prepared.taken.items (Used number)) h.granted)
+    ∙ born_given_back h.old.pool h.numbers h.prepared.taken.items number h.free (taken_within h)
 
 -- The blocks' moves
 
@@ -90,22 +90,22 @@ dropped_is : (h : Handing) → shared_numbers h.prepared.dropped.items ≡ rows.
 dropped_is h = sym (numbers_mapped h.prepared.dropped.items)
 
 born_is : (h : Handing) (number : ℕ) (born : List BlockStatus) → number ≡ length h.old.last.batches + 1
-    → born ≡ marked h.prepared.taken (Used number) h.pool → born ≡ born_pool (application h)
-born_is h number born is made = made ∙ (λ i. marked h.prepared.taken (Used (is i)) (h.granted i))
+    → born ≡ marked h.prepared.taken.items (Used number) h.pool → born ≡ born_pool (application h)
+born_is h number born is made = made ∙ (λ i. marked h.prepared.taken.items (Used (is i)) (h.granted i))
 
 retired_is : (h : Handing) (number : ℕ) (born : List BlockStatus) → number ≡ length h.old.last.batches + 1
-    → born ≡ marked h.prepared.taken (Used number) h.pool
+    → born ≡ marked h.prepared.taken.items (Used number) h.pool
     → changed_numbers (retired number) (shared_numbers h.prepared.dropped.items) born ≡ retired_pool (application h)
 retired_is h number born is made =
     λ i. changed_numbers (retired (is i)) (dropped_is h i) (born_is h number born is made i)
 
-pub taken_once : (h : Handing) → AreUsedOnce h.prepared.taken h.pool
+pub taken_once : (h : Handing) → AreUsedOnce h.prepared.taken.items h.pool
 taken_once h =
     let m = taken_movable (application h) in
-    subst (AreUsedOnce h.prepared.taken) (sym h.granted) (record { pass = m.pass; apart = m.apart })
+    subst (AreUsedOnce h.prepared.taken.items) (sym h.granted) (record { pass = m.pass; apart = m.apart })
 
 pub dropped_once : (h : Handing) (number : ℕ) (born : List BlockStatus) → number ≡ length h.old.last.batches + 1
-    → born ≡ marked h.prepared.taken (Used number) h.pool → AreBornOnce (shared_numbers h.prepared.dropped.items) born
+    → born ≡ marked h.prepared.taken.items (Used number) h.pool → AreBornOnce (shared_numbers h.prepared.dropped.items) born
 dropped_once h number born is made =
     let m = dropped_movable (application h) in
     let once : AreBornOnce (rows.numbers_of (shared_blocks h.prepared.dropped.items)) (born_pool (application h)) =
@@ -114,7 +114,7 @@ dropped_once h number born is made =
     (subst (λ ns. AreBornOnce ns (born_pool (application h))) (sym (dropped_is h)) once)
 
 pub unused_once : (h : Handing) (number : ℕ) (born : List BlockStatus) → number ≡ length h.old.last.batches + 1
-    → born ≡ marked h.prepared.taken (Used number) h.pool
+    → born ≡ marked h.prepared.taken.items (Used number) h.pool
     → AreUsedOnce (shared_numbers h.prepared.unused.items) (changed_numbers (retired number) (shared_numbers h.prepared.dropped.items) born)
 unused_once h number born is made =
     let m = unused_movable (application h) in
@@ -122,7 +122,7 @@ unused_once h number born is made =
     (record { pass = m.pass; apart = m.apart })
 
 pub end_pool : (h : Handing) (number : ℕ) (born end : List BlockStatus) → number ≡ length h.old.last.batches + 1
-    → born ≡ marked h.prepared.taken (Used number) h.pool → end ≡ marked (shared_numbers h.prepared.unused.items) Free
+    → born ≡ marked h.prepared.taken.items (Used number) h.pool → end ≡ marked (shared_numbers h.prepared.unused.items) Free
     (changed_numbers (retired number) (shared_numbers h.prepared.dropped.items) born) → end ≡ (next_desk (application h)).pool
 end_pool h number born end is made moved =
     moved ∙ ap (marked (shared_numbers h.prepared.unused.items) Free) (retired_is h number born is made) ∙ moves_left (application h)
@@ -130,7 +130,7 @@ end_pool h number born end is made moved =
 -- The desk afterwards
 
 abbrev pub entry_in : Handing → JournalEntry
-entry_in h = entries.Applied h.prepared.batch h.prepared.taken h.prepared.dropped_numbers
+entry_in h = entries.Applied h.prepared.batch h.prepared.taken.items h.prepared.dropped_numbers.items
 
 pub end_desk : (h : Handing) (opened : List ℕ) (last : VersionView) (entries old_entries : List Entry)
     (pool : List BlockStatus) → h.old.opened ≡ opened → old_entries ≡ h.old.journal → last ≡ version_of h

@@ -16,7 +16,7 @@ application_of ops numbers p = record {
   batch = ops;
   granted = numbers;
   version = arc_value {X = Version} p.version;
-  taken = p.taken;
+  taken = p.taken.items;
   dropped = shared_blocks p.dropped.items;
   unused = shared_numbers p.unused.items;
 }
@@ -24,9 +24,9 @@ application_of ops numbers p = record {
 -- the operations were applied to this version, and what else their acceptance needs was made
 pub record IsPrepared (v : VersionView) (ops : List NamedOp) (numbers : List ℕ) (p : Prepared) : Type 0 where
   pub applied : IsAppliedTo v (application_of ops numbers p)
-  pub outcomes_are : p.outcomes ≡ outcomes ops (content v)
+  pub outcomes_are : p.outcomes.items ≡ outcomes ops (content v)
   pub batch_is : arc_value {X = Batch} p.batch ≡ ops
-  pub dropped_are : p.dropped_numbers ≡ shared_numbers p.dropped.items
+  pub dropped_are : p.dropped_numbers.items ≡ shared_numbers p.dropped.items
   pub rows_are : DifferAt p.sources.items v.rows (arc_value {X = Version} p.version).rows
 
 -- each of the numbers has a status that passes, and none stands twice

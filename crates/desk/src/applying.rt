@@ -2,7 +2,7 @@
 //! publication.
 
 ghost use Rattle.std.specs.Prelude.{◌≡◌, ◌≢◌, ◌+◌, ◌<◌, ◌≤◌, ◌^◌, ◌++◌, ◌∷◌, [], ℕ, List, length, IfOk, IfErr, OnOk, OnErr};
-ghost use Rattle.std.specs.Prelude.{AllPairs, All, false, count_by, vec_capacity, vec_len};
+ghost use Rattle.std.specs.Prelude.{AllPairs, All, false, count_by, vec_capacity, vec_len, IsTrue, ◌↔◌};
 ghost use Rattle.std.specs.List.{sum_by};
 ghost use Rattle.graph_version.specs.Rows as rows;
 ghost use Rattle.graph_version.specs.Batches.{batch_value};
@@ -18,11 +18,25 @@ ghost use Rattle.desk.specs.Refusals.{Refuses, RefusesGrant, IsAdmitted, IsPlann
 use batch_apply::{Applied, Plan, Rewritten, plan, plan_shared};
 use block_pool::{Grant, Pool};
 use edge_block::Block;
-use graph_types::{ApplyError, Batch, List, Outcome, VertexId};
+use graph_types::{ApplyError, Batch, Outcome, VertexId};
 use graph_version::Version;
 use std::alloc::{AllocError, Global};
 use std::sync::Arc;
 use std::thread::Threads;
+
+/// The number of the version after this one.
+pub(crate) fn next_number(last: &Version) -> u64
+    ensures { result ≡ length last.now.batches + 1 }
+{
+    last.number() + 1
+}
+
+/// Whether a version is behind as many batches as its limits allow.
+fn is_full(last: &Version) -> bool
+    ensures { IsTrue result ↔ ((content last.now).limits.batches ≤ length last.now.batches) }
+{
+    next_number(last) > u64::from(last.limits().batches())
+}
 
 /// The plan of a batch after this version, for one worker.
 #[tactic(auto, using(crate::proofs::Refused::plan_refuses))]
@@ -30,7 +44,7 @@ pub(crate) fn plan_next(alloc: Global, last: &Version, batch: &Batch) -> Result<
     ensures planned { IfOk result (IsPlanned last.now 1 batch.now) }
     ensures refused { IfErr result (λ e. (free : ℕ) → Refuses last.now free batch.now e) }
 {
-    if last.number() >= u64::from(last.limits().batches()) {
+    if is_full(last) {
         return Err(ApplyError::BatchLimit);
     }
     Ok(plan(alloc, last, batch, 1)?)
@@ -49,7 +63,7 @@ pub(crate) fn plan_at_once<R: Threads + Sync>(
     ensures admitted { IfOk result (IsAdmitted last.now workers batch.now) }
     ensures refused { IfErr result (λ e. (free : ℕ) → Refuses last.now free batch.now e) }
 {
-    if last.number() >= u64::from(last.limits().batches()) {
+    if is_full(last) {
         return Err(ApplyError::BatchLimit);
     }
     Ok(plan_shared(rt, alloc, last, batch, workers)?)
@@ -80,21 +94,14 @@ pub(crate) fn grant_blocks(pool: &mut Pool, batch: &Batch, plan: &Plan) -> Resul
     Ok(pool.grant_of(asked, plan.blocks_needed() as u32)?)
 }
 
-/// The number of the version after this one.
-pub(crate) fn next_number(last: &Version) -> u64
-    ensures { result ≡ length last.now.batches + 1 }
-{
-    last.number() + 1
-}
-
 /// What is made of a batch before anything of the desk changes.
 #[derive(Drop)]
 pub(crate) struct Prepared {
     pub(crate) version: Arc<Version>,
-    pub(crate) outcomes: List<Outcome>,
+    pub(crate) outcomes: Vec<Outcome>,
     pub(crate) batch: Arc<Batch>,
-    pub(crate) taken: List<u32>,
-    pub(crate) dropped_numbers: List<u32>,
+    pub(crate) taken: Vec<u32>,
+    pub(crate) dropped_numbers: Vec<u32>,
     pub(crate) dropped: Vec<Arc<Block>>,
     pub(crate) unused: Vec<Arc<Block>>,
     /// The sources whose rows the version before has otherwise.
@@ -130,13 +137,13 @@ pub(crate) fn made_of(
         dropped,
         unused,
     } = applied;
-    let dropped_numbers = List::of(numbers_in(alloc, dropped.as_slice())?);
+    let dropped_numbers = numbers_in(alloc, dropped.as_slice())?;
     let version = Arc::new(alloc, version)?;
     Ok(Prepared {
         version,
-        outcomes: List::of(outcomes),
+        outcomes,
         batch,
-        taken: List::of(taken),
+        taken,
         dropped_numbers,
         dropped,
         unused,

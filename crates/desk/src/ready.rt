@@ -258,12 +258,13 @@ impl Ready {
         born_blocks(&mut kept.pool, taken.as_slice(), number);
         let entry = JournalEntry::Applied {
             batch,
-            taken,
-            dropped: dropped_numbers,
+            taken: List::of(taken),
+            dropped: List::of(dropped_numbers),
         };
         kept.journal.enter(entry);
         kept.last.follow(version, sources.as_slice());
         move_blocks(&mut kept.pool, dropped, unused, number);
+        let outcomes = List::of(outcomes);
         (Desk { parts }, Accepted { number, outcomes })
     }
 

@@ -1,6 +1,5 @@
-use Rattle.std.proofs.Common.{ℕ, ◌≤◌, length, refl, ap, ◌∙◌, subst, zip, arith}
+use Rattle.std.proofs.Common.{ℕ, length, refl, ap, ◌∙◌, subst, zip, arith}
 use Rattle.std.proofs.lemmas.{List.length-map, Result.IfOk-weaker}
-use Rattle.graph_types.specs.Limits.{most_operations}
 use Rattle.edge_block.specs.Batches.{resolved}
 use Rattle.graph_version.specs.{Rows.row_of, Batches.batch_value, Versions.{VersionView, content, layout_of}}
 use Rattle.batch_shards.specs.RowBlocks.{shared_numbers}
@@ -32,9 +31,9 @@ worked c = record {
   names_are = refl;
   kinds_are = refl;
   few = c.requires.few;
-  short = subst (λ ops. length ops ≤ most_operations) c.deref.ensures c.len.ensures.batch.few;
+  short = c.requires.plan.few;
   gathered = subst (λ n. IsGathered (row_of c.args.version.now.rows) (zip c.args.plan.shards.items c.args.plan.needs.items)
-      (shared_numbers c.args.blocks.items) n c.in_ok-all.all) (c.len.ensures.count ∙ ap length c.deref.ensures) c.in_ok-all.ensures;
+      (shared_numbers c.args.blocks.items) n c.in_ok-all.all) c.requires.plan.operations c.in_ok-all.ensures;
   distinct = c.requires.distinct;
   unlisted = c.requires.unlisted;
 }

@@ -12,7 +12,7 @@ use Rattle.batch_shards.specs.Closing.{row_values}
 use Rattle.batch_shards.specs.RowBlocks.{shared_blocks, shared_numbers}
 use Rattle.batch_shards.proofs.Left.{rows_left}
 use Rattle.batch_apply.specs.{Applied.{is_inserted, taken_away, IsApplied, ReplacesRows}, Plan.Fits}
-use Rattle.batch_apply.{specs.{declared.applied.{Applied.Applied, Gathered.Gathered}, Gathered.IsWorked}, proofs.EdgeCounts.len_after_all}
+use Rattle.batch_apply.{specs.{declared.{applied.Applied.Applied, gathering.Gathered.Gathered}, Gathered.IsWorked}, proofs.EdgeCounts.len_after_all}
 use Rattle.batch_apply.proofs.Applying.{next_made}
 use Rattle.batch_apply.proofs.applied.finish.Goals.{In_ok-next}
 use Rattle.batch_apply.proofs.applied.finish.Goals as goal

@@ -20,21 +20,20 @@ loop-k-preserved c =
     let names : List (List ℕ) = c.loop-k.names.names in
     let kinds : List (List ℕ) = c.loop-k.kinds.names in
     let step : drop k ops ≡ op ∷ drop (k + 1) ops = search (rules, drop-cons) in
-    let more_names : c.resolve_op.new.names.names ≡ names_after op names = ap (λ (b : Book). b.names) c.in_ok-op.ensures.names in
-    let more_kinds : c.resolve_op.new.kinds.names ≡ kinds_after op kinds = ap (λ (b : Book). b.names) c.in_ok-op.ensures.kinds in
+    let more_names : c.resolve_op.new.names.names ≡ names_after op names = ap (λ (b : Book). b.names) c.in_ok-resolved.ensures.names in
+    let more_kinds : c.resolve_op.new.kinds.names ≡ kinds_after op kinds = ap (λ (b : Book). b.names) c.in_ok-resolved.ensures.kinds in
     record {
       names = ap (names_after_all rest) more_names ∙ ap (λ l. names_after_all l names) (sym step) ∙ c.loop-k.invariant.names;
       kinds = ap (kinds_after_all rest) more_kinds ∙ ap (λ l. kinds_after_all l kinds) (sym step) ∙ c.loop-k.invariant.kinds;
       found = (λ i. map shown_op (c.in-Ok.ensures.items i) ++ resolved_by c.args.most rest (more_names i) (more_kinds i))
-          ∙ one_more c.args.most (drop k ops) rest op c.loop-k.found.items c.in_ok-op.op names kinds
-          (resolved_by c.args.most ops c.args.names.now.names c.args.kinds.now.names) step c.in_ok-op.ensures.op c.loop-k.invariant.found;
-      changes = rw c.in-Ok.ensures.items (All-push IsInRange c.loop-k.found.items c.in_ok-op.op
-          c.loop-k.invariant.changes c.in_ok-op.ensures.change);
-      limit = ap (λ (b : Book). b.limit) c.in_ok-op.ensures.names ∙ c.loop-k.invariant.limit;
-      few = ap (λ (b : Book). b.limit) c.in_ok-op.ensures.kinds ∙ c.loop-k.invariant.few;
-      within = c.in_ok-op.ensures.within;
-      seen = subst (λ l. IsSeen l c.kind_seen-seen.result) (sym more_kinds)
-          (c.kind_seen-seen.ensures c.args.most (names_after op names) (kinds_after op kinds) c.in_ok-op.ensures.op);
+          ∙ one_more c.args.most (drop k ops) rest op c.loop-k.found.items c.in_ok-resolved.resolved.op names kinds
+          (resolved_by c.args.most ops c.args.names.now.names c.args.kinds.now.names) step c.in_ok-resolved.ensures.op c.loop-k.invariant.found;
+      changes = rw c.in-Ok.ensures.items (All-push IsInRange c.loop-k.found.items c.in_ok-resolved.resolved.op
+          c.loop-k.invariant.changes c.in_ok-resolved.ensures.change);
+      limit = ap (λ (b : Book). b.limit) c.in_ok-resolved.ensures.names ∙ c.loop-k.invariant.limit;
+      few = ap (λ (b : Book). b.limit) c.in_ok-resolved.ensures.kinds ∙ c.loop-k.invariant.few;
+      within = c.in_ok-resolved.ensures.within;
+      seen = subst (λ l. IsSeen l c.in_ok-resolved.resolved.kind) (sym more_kinds) c.in_ok-resolved.ensures.kind;
       before = subst (λ l. AreFound l rest (drop (k + 1) c.args.found_before.now)) (sym more_names)
           (all_later names op rest (drop (k + 1) c.args.found_before.now) (rest_found names op rest c.args.found_before.now k
           (subst (λ os. AreFound names os (drop k c.args.found_before.now)) step c.loop-k.invariant.before)));
@@ -55,8 +54,8 @@ returns-clause-placed c =
     (all_resolved c.args.most c.args.ops.now c.loop-k.k c.loop-k.found.items c.loop-k.names.names c.loop-k.kinds.names
     (resolved_by c.args.most c.args.ops.now c.args.names.now.names c.args.kinds.now.names) c.loop-k-test.false c.loop-k.invariant.found)
 
-pub returns-in_err-op-clause-refused : goal.returns-in_err-op-clause-refused
-returns-in_err-op-clause-refused c =
+pub returns-in_err-resolved-clause-refused : goal.returns-in_err-resolved-clause-refused
+returns-in_err-resolved-clause-refused c =
     let k : ℕ = c.loop-k.k in
     let ops : List NamedOp = c.args.ops.now in
     let op : NamedOp = c.index-ops-k.result in
@@ -64,9 +63,9 @@ returns-in_err-op-clause-refused c =
     let step : drop k ops ≡ op ∷ take (length ops - (k + 1)) (drop (k + 1) ops) =
     rw add-one (drop-cons ops k op c.loop-k-test.true) ∙ ap (λ (o : NamedOp). o ∷ drop (k + 1) ops) (sym c.index-ops-k.is)
     ∙ ap (λ (os : List NamedOp). op ∷ os) (sym behind) in
-    err_then c.from_residual-in_err-op.result (λ error. IsUnplanned error ops c.args.names.now c.args.kinds.now)
-    c.in_err-op.field-0.0 c.from_residual-in_err-op.ensures.1
-    (unplanned_all c.in_err-op.field-0.0 ops (drop k ops) c.args.names.now c.args.kinds.now c.loop-k.names c.loop-k.kinds
+    err_then c.from_residual-in_err-resolved.result (λ error. IsUnplanned error ops c.args.names.now c.args.kinds.now)
+    c.in_err-resolved.field-0.0 c.from_residual-in_err-resolved.ensures.1
+    (unplanned_all c.in_err-resolved.field-0.0 ops (drop k ops) c.args.names.now c.args.kinds.now c.loop-k.names c.loop-k.kinds
     c.loop-k.invariant.names c.loop-k.invariant.kinds c.loop-k.invariant.limit c.loop-k.invariant.few
-    (subst (λ (os : List NamedOp). IsUnplanned c.in_err-op.field-0.0 os c.loop-k.names c.loop-k.kinds) (sym step)
-    c.in_err-op.ensures.refused))
+    (subst (λ (os : List NamedOp). IsUnplanned c.in_err-resolved.field-0.0 os c.loop-k.names c.loop-k.kinds) (sym step)
+    c.in_err-resolved.ensures.refused))

@@ -1,4 +1,4 @@
-use Rattle.std.proofs.Common.{◌≡◌, ℕ, ◌+◌, ◌-◌, ◌<◌, ◌≤◌, List, length, refl, ap, sym, subst, ◌∙◌, arith}
+use Rattle.std.proofs.Common.{◌≡◌, ℕ, ◌+◌, ◌-◌, ◌<◌, ◌≤◌, List, length, refl, sym, subst, ◌∙◌, arith}
 use Rattle.edge_block.specs.Slots.{BlockView}
 use Rattle.graph_version.specs.{Rows.row_of, Versions.content}
 use Rattle.batch_shards.specs.Spending.{old_blocks}
@@ -9,8 +9,8 @@ use Rattle.batch_apply.proofs.old.old_rows.Goals as goal
 pub returns-then-time-eq0 : goal.returns-then-time-eq0
 returns-then-time-eq0 c =
     let rows : ℕ → List BlockView = row_of c.args.version.now.rows in
-    let none : expiry_time c.args.batch.now ≡ 0 =
-    ap expiry_time (sym c.ops.ensures.ops) ∙ sym c.expiry_time-time.ensures ∙ c.if-time-eq0.true in
+    let none : expiry_time c.args.ops.now ≡ 0 =
+    sym c.expiry_time-time.ensures ∙ c.if-time-eq0.true in
     subst (λ (t : ℕ). AreOldRows t rows c.new-found.result.items) (sym none)
     (subst (λ (l : List OldRow). AreOldRows 0 rows l) (sym c.new-found.ensures.items) (none_at_zero rows))
 
@@ -45,7 +45,7 @@ pub returns : goal.returns
 returns c =
     let time : ℕ = c.expiry_time-time.result in
     let rows : ℕ → List BlockView = row_of c.args.version.now.rows in
-    let same : time ≡ expiry_time c.args.batch.now = c.expiry_time-time.ensures ∙ ap expiry_time c.ops.ensures.ops in
+    let same : time ≡ expiry_time c.args.ops.now = c.expiry_time-time.ensures in
     subst (λ (t : ℕ). AreOldRows t rows c.loop-source.found.items) same
     (found_all time rows c.loop-source.from.0 c.loop-source.found.items c.loop-source.invariant c.in_default.ensures.next)
 

@@ -1,39 +1,9 @@
-use Rattle.std.proofs.Common.{◌∙◌, map, ap}
+use Rattle.std.proofs.Common.{subst}
 use Rattle.graph_version.specs.{Versions.content, Rows.row_of}
-use Rattle.batch_apply.specs.{Plan.shown_op, OldRows.expiry_time, declared.plans.Plan.Plan}
-use Rattle.batch_apply.proofs.{Needs.few_old_rows, Planned.{planned, old_resolved}}
+use Rattle.batch_apply.specs.Planned.{IsPlan}
 use Rattle.batch_apply.proofs.planning.plan_with.Goals as goal
-
-pub shards_at_once-requires-clause-few : goal.shards_at_once-requires-clause-few
-shards_at_once-requires-clause-few g c lifetimes outlive = rw c.as_slice.ensures.value c.in_ok-named.ensures.few
-
-pub shards_at_once-requires-clause-placed : goal.shards_at_once-requires-clause-placed
-shards_at_once-requires-clause-placed g c lifetimes outlive = rw c.as_slice.ensures.value c.in_ok-named.ensures.placed
-
-pub shards_at_once-requires-clause-valid : goal.shards_at_once-requires-clause-valid
-shards_at_once-requires-clause-valid g c lifetimes outlive = rw c.as_slice.ensures.value c.in_ok-named.ensures.changes
-
-pub shards_at_once-requires-clause-few_old : goal.shards_at_once-requires-clause-few_old
-shards_at_once-requires-clause-few_old g c lifetimes outlive =
-    few_old_rows c.args.version.now c.in_ok-named.ensures.version (expiry_time c.args.batch.now) _
-    c.requires.old
-
-pub shards_at_once-requires-clause-old : goal.shards_at_once-requires-clause-old
-shards_at_once-requires-clause-old g c lifetimes outlive = (
-  row_of c.args.version.now.rows,
-  old_resolved (content c.args.version.now).limits.weight c.args.batch.now (content c.args.version.now).names
-      (content c.args.version.now).kinds c.as_slice.result.now
-      (row_of c.args.version.now.rows) _ (ap (map shown_op) c.as_slice.ensures.value ∙ c.in_ok-named.ensures.ops)
-      c.requires.old,
-)
 
 pub returns-clause-plan : goal.returns-clause-plan
 returns-clause-plan g c =
-    let is = c.plan_of.ensures in
-    planned c.args.version.now c.in_ok-named.ensures.version c.args.workers c.args.batch.now c.as_slice.result.now _
-    c.plan_of.result (ap (λ (p : Plan). p.names) is ∙ c.in_ok-named.ensures.names)
-    (ap (λ (p : Plan). p.kinds) is ∙ c.in_ok-named.ensures.kinds)
-    (ap (map shown_op) c.as_slice.ensures.value ∙ c.in_ok-named.ensures.ops)
-    (rw c.as_slice.ensures.value c.in_ok-named.ensures.few)
-    c.requires.old
-    (λ rows are. rw is (c.in_ok-planned.ensures.shards rows are)) (λ rows are. rw is (c.in_ok-planned.ensures.needs rows are))
+    subst (λ ops. IsPlan c.args.workers ops (content c.args.version.now) (row_of c.args.version.now.rows) c.in_ok-plan_ops.field-0)
+    c.ops-ops.ensures.ops c.in_ok-plan_ops.ensures.plan

@@ -1,4 +1,4 @@
-use Rattle.std.proofs.Common.{◌≡◌, ◌-◌, ℕ, List, length, arith, ap, sym, refl, ◌∙◌, Some}
+use Rattle.std.proofs.Common.{◌≡◌, ◌-◌, List, length, arith, ap, sym, refl, ◌∙◌}
 use Rattle.std.{proofs.lemmas.Option.slice_get-map, specs.{Prelude.slice_get, Option.option_map}}
 use Rattle.graph_types.specs.declared.ids.VertexId.{VertexId}
 use Rattle.batch_apply.{specs.Sorting.ranked_numbers, proofs.Vertices.{number_of, stays, new_last, is_equal}}

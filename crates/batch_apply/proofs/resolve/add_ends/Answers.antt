@@ -5,8 +5,8 @@ use Rattle.vertex_names.specs.Book.{Book}
 use Rattle.batch_apply.{specs.Plan.known, proofs.{Names.same_ends, Found.known_next}}
 use Rattle.batch_apply.proofs.resolve.add_ends.Goals as goal
 
-pub add_end-requires-2-clause-found : goal.add_end-requires-2-clause-found
-add_end-requires-2-clause-found c =
+pub add_name-requires-2-clause-found : goal.add_name-requires-2-clause-found
+add_name-requires-2-clause-found c =
     let target : List ℕ = c.args.target.now in
     IfSome_then c.args.found.target c.requires.found_target (λ t is.
     ap (λ (b : Book). known b.names target) c.in_ok-source.ensures.names

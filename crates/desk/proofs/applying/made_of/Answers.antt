@@ -9,10 +9,10 @@ pub returns : goal.returns
 returns c = λ v numbers is.
     let version : arc_value {X = Version} c.in_ok-version.version ≡ c.args.rewritten.applied.version = c.in_ok-version.ensures.ok in
     record {
-      applied = made_of_applied v (batch_value c.args.batch) numbers c.args.rewritten.applied _ c.of-2.result version
-          c.of-2.ensures is.applied;
-      outcomes_are = c.of.ensures ∙ is.applied.outcomes_are;
+      applied = made_of_applied v (batch_value c.args.batch) numbers c.args.rewritten.applied _ c.args.rewritten.applied.taken.items
+          version refl is.applied;
+      outcomes_are = is.applied.outcomes_are;
       batch_is = refl;
-      dropped_are = c.of-dropped_numbers.ensures ∙ c.in_ok-numbers_in.ensures ∙ ap shared_numbers c.as_slice.ensures.value;
+      dropped_are = c.in_ok-dropped_numbers.ensures ∙ ap shared_numbers c.as_slice.ensures.value;
       rows_are = subst (λ (w : VersionView). DifferAt c.args.rewritten.sources.items v.rows w.rows) (sym version) is.rows;
     }

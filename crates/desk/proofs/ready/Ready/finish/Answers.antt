@@ -1,7 +1,9 @@
-use Rattle.std.proofs.Common.{◌≡◌, ◌+◌, length, refl, sym, ap, subst, ◌∙◌, arith, count_by, vec_len}
+use Rattle.std.proofs.Common.{◌≡◌, ◌+◌, ◌++◌, ◌∷◌, [], length, refl, sym, ap, subst, ◌∙◌, arith, count_by, vec_len}
 use Rattle.std.specs.Arc.{arc_value}
 use Rattle.graph_version.specs.{declared.versions.Version.Version, Versions.VersionView}
+use Rattle.graph_version.specs.Batches.{batch_value}
 use Rattle.block_pool.specs.Pools.{marked}
+use Rattle.store_steps.specs.Journal as kept
 use Rattle.block_reclamation.specs.{Status.is_retired, declared.status.BlockStatus.TheVariants.Used}
 use Rattle.desk.specs.{Applying.AreUsedOnce, Ready.{ReadyView, IsReady, ready_of}, declared.desks.Parts.Parts}
 use Rattle.desk.proofs.Handing.{Handing, taken_once, dropped_once, unused_once, end_pool, end_desk, end_kept, end_fits}
@@ -23,13 +25,13 @@ number_is c =
     c.next_number-number.ensures ∙ ap (λ (v : VersionView). length v.batches + 1) (c.deref.ensures ∙ c.version.ensures)
 
 born_is : (c : After-born_blocks) → c.born_blocks.new.pool
-    ≡ marked c.self.inside.prepared.taken (Used c.next_number-number.result) c.deref_mut-kept.result.now.pool
+    ≡ marked c.self.inside.prepared.taken.items (Used c.next_number-number.result) c.deref_mut-kept.result.now.pool
 born_is c =
-    c.born_blocks.ensures ∙ ap (λ ns. marked ns (Used c.next_number-number.result) c.deref_mut-kept.result.now.pool) c.as_slice.ensures
+    c.born_blocks.ensures ∙ ap (λ ns. marked ns (Used c.next_number-number.result) c.deref_mut-kept.result.now.pool) c.as_slice.ensures.value
 
 pub born_blocks-requires : goal.born_blocks-requires
 born_blocks-requires c =
-    subst (λ ns. AreUsedOnce ns c.deref_mut-kept.result.now.pool) (sym c.as_slice.ensures)
+    subst (λ ns. AreUsedOnce ns c.deref_mut-kept.result.now.pool) (sym c.as_slice.ensures.value)
     (taken_once (handed (goal.at.born_blocks-requires c).After-as_slice))
 
 pub move_blocks-requires-clause-dropped : goal.move_blocks-requires-clause-dropped
@@ -53,7 +55,9 @@ invariant_of-result c =
     let pool = end_pool h c.next_number-number.result c.born_blocks.new.pool c.move_blocks.new.pool (number_is a) (born_is b)
     c.move_blocks.ensures in
     let end = end_desk h p.opened c.follow.new.self c.enter.new.self.entries p.journal.entries
-    c.move_blocks.new.pool refl refl c.follow.ensures c.enter.ensures.entered pool in
+    c.move_blocks.new.pool refl refl c.follow.ensures
+    (c.enter.ensures.entered ∙ (λ i. p.journal.entries ++ kept.Applied (batch_value c.self.inside.prepared.batch) (c.of.ensures i)
+    (c.of-2.ensures i) ∷ [])) pool in
     let room = (ready a).room in
     end_kept h _ _ _ end (ready a).granted.before.blocks_some
     (c.enter.ensures.keeps ∙ (ready a).granted.before.keeps_are)
@@ -69,6 +73,8 @@ returns-clause-desk c =
     let pool = end_pool h c.next_number-number.result c.born_blocks.new.pool c.move_blocks.new.pool (number_is a) (born_is b)
     c.move_blocks.ensures in
     end_desk h p.opened c.follow.new.self c.enter.new.self.entries p.journal.entries
-    c.move_blocks.new.pool refl refl c.follow.ensures c.enter.ensures.entered pool
+    c.move_blocks.new.pool refl refl c.follow.ensures
+    (c.enter.ensures.entered ∙ (λ i. p.journal.entries ++ kept.Applied (batch_value c.self.inside.prepared.batch) (c.of.ensures i)
+    (c.of-2.ensures i) ∷ [])) pool
     ∙ ap (λ (r : ReadyView). r.new)
     (ap (λ (q : Parts). ready_of q c.self.inside.numbers.items c.self.inside.prepared) c.deref_mut-kept.ensures.value ∙ c.self.view_is)

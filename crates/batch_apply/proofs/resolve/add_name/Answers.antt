@@ -3,7 +3,7 @@ use Rattle.std.proofs.lemmas.Result.{IfOk-weaker}
 use Rattle.graph_types.specs.Step.{with_name, number_of}
 use Rattle.graph_types.proofs.ListedNames.{placed}
 use Rattle.batch_apply.{specs.Plan.known, proofs.Names.target_known}
-use Rattle.batch_apply.proofs.resolve.add_end.Goals as goal
+use Rattle.batch_apply.proofs.resolve.add_name.Goals as goal
 
 pub returns-in-None-clause-number : goal.returns-in-None-clause-number
 returns-in-None-clause-number c =

@@ -1,7 +1,7 @@
 use Rattle.std.{proofs.{Common.{ap, ◌∙◌}, lemmas.List.map-append}, specs.declared.{sync.Arc.Arc, alloc.Global.Global}}
 use Rattle.edge_block.specs.declared.blocks.Block.{Block}
 use Rattle.batch_shards.specs.RowBlocks.{block_of, shared_blocks, shared_numbers}
-use Rattle.batch_apply.proofs.applied.add_blocks.Goals as goal
+use Rattle.batch_apply.proofs.gathering.add_blocks.Goals as goal
 
 pub returns-clause-dropped : goal.returns-clause-dropped
 returns-clause-dropped c =

@@ -3,8 +3,8 @@ use Rattle.std.{specs.List.AllZip, proofs.lemmas.List.append-nil, proofs.lemmas.
 use Rattle.graph_types.proofs.{Sums.{only, numbers_one}, ZippedRows.paired}
 use Rattle.batch_shards.specs.{RowBlocks.shared_blocks, RowBlocks.shared_numbers, Closing.row_values, declared.shard.Shard.Shard}
 use Rattle.batch_apply.specs.{Gathered.IsDealt, Plans.written, declared.workers.Job.Job}
-use Rattle.batch_apply.proofs.applied.work_alone.{Given.Over, Goals.In_ok-fresh}
-use Rattle.batch_apply.proofs.applied.work_alone.Goals as goal
+use Rattle.batch_apply.proofs.gathering.work_alone.{Given.Over, Goals.In_ok-fresh}
+use Rattle.batch_apply.proofs.gathering.work_alone.Goals as goal
 
 pub take_last-requires : goal.take_last-requires
 take_last-requires g c =

@@ -1,7 +1,7 @@
 use Rattle.std.{proofs.Common.{◌≡◌, ◌+◌, ℕ, Bool, length, flat_map, count_by, zip, take}, specs.List.{sum_by, AllZip}}
 use Rattle.batch_shards.specs.RowBlocks.{shared_numbers}
 use Rattle.batch_apply.specs.Gathered.{IsDealt}
-use Rattle.batch_apply.proofs.applied.deal.Given as goal
+use Rattle.batch_apply.proofs.gathering.deal.Given as goal
 
 abbrev pub invariant-loop-shard : goal.invariant-loop-shard
 invariant-loop-shard l = record {

@@ -1,4 +1,4 @@
-use Rattle.batch_apply.proofs.applied.take_last.Goals as goal
+use Rattle.batch_apply.proofs.gathering.take_last.Goals as goal
 use Rattle.batch_shards.proofs.SharedNumbers.{cut_numbers}
 
 pub returns-clause-numbers : goal.returns-clause-numbers

@@ -1,7 +1,7 @@
 use Rattle.std.{proofs.Common.{zip, subst}, specs.List.AllZip}
 use Rattle.batch_shards.specs.RowBlocks.{shared_numbers}
 use Rattle.batch_apply.specs.Gathered.{IsDealt}
-use Rattle.batch_apply.proofs.applied.work.Goals as goal
+use Rattle.batch_apply.proofs.gathering.work.Goals as goal
 
 pub do_all-requires-after_bounds : goal.do_all-requires-after_bounds
 do_all-requires-after_bounds g c κs within = c.requires.ready c.in_ok-jobs.jobs.items

@@ -2,7 +2,7 @@ use Rattle.std.proofs.Common.{◌≡◌, ◌++◌, flat_map, replicate}
 use Rattle.graph_types.specs.declared.batches.Outcome.TheVariants.{Absent}
 use Rattle.batch_shards.specs.{RowBlocks.shared_blocks, RowBlocks.shared_numbers, Closing.row_values}
 use Rattle.batch_apply.specs.Applied.{written_from}
-use Rattle.batch_apply.proofs.applied.gather.Given as goal
+use Rattle.batch_apply.proofs.gathering.gather.Given as goal
 
 abbrev pub invariant-loop-done : goal.invariant-loop-done
 invariant-loop-done l = record {

@@ -4,8 +4,8 @@ use Rattle.std.{proofs.lemmas.{Iterator.Consumers.YieldsList-turn, List.Sums.sum
 use Rattle.graph_types.proofs.{Elements.zip_more, Joined.one_piece, Sums.{sum_taken, count_by-append}, ZippedRows.zip_push}
 use Rattle.batch_shards.specs.{RowBlocks.shared_numbers, declared.shard.Shard.Shard}
 use Rattle.batch_apply.specs.{Gathered.IsDealt, declared.workers.Job.Job}
-use Rattle.batch_apply.proofs.applied.deal.Goals.{After-len-in-loop-shard}
-use Rattle.batch_apply.proofs.applied.deal.Goals as goal
+use Rattle.batch_apply.proofs.gathering.deal.Goals.{After-len-in-loop-shard}
+use Rattle.batch_apply.proofs.gathering.deal.Goals as goal
 
 -- the next shard is one of the plan's, and what it needs is read at its place
 turned : (c : After-len-in-loop-shard) → (length c.loop-shard.yielded < length c.args.needs.now)

@@ -3,7 +3,7 @@ use Rattle.graph_types.specs.declared.batches.Outcome.TheVariants.{Absent}
 use Rattle.graph_types.proofs.Joined.{one_piece}
 use Rattle.batch_shards.specs.{RowBlocks.shared_blocks, RowBlocks.shared_numbers, Closing.row_values, declared.shard.ShardDone.ShardDone}
 use Rattle.batch_apply.{specs.Plans.written, proofs.Loops.from_more}
-use Rattle.batch_apply.proofs.applied.gather.Goals as goal
+use Rattle.batch_apply.proofs.gathering.gather.Goals as goal
 
 pub loop-done-preserved : goal.loop-done-preserved
 loop-done-preserved c =
