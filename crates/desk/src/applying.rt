@@ -4,6 +4,7 @@
 ghost use Rattle.std.specs.Prelude.{◌≡◌, ◌≢◌, ◌+◌, ◌<◌, ◌≤◌, ◌^◌, ◌++◌, ◌∷◌, [], ℕ, List, length, IfOk, IfErr, OnOk, OnErr};
 ghost use Rattle.std.specs.Prelude.{AllPairs, All, false, count_by, vec_capacity, vec_len, IsTrue, ◌↔◌};
 ghost use Rattle.std.specs.List.{sum_by};
+ghost use Rattle.graph_types.specs.Limits.{most_operations};
 ghost use Rattle.graph_version.specs.Rows as rows;
 ghost use Rattle.graph_version.specs.Batches.{batch_value};
 ghost use Rattle.graph_version.specs.Versions.{VersionView, content};
@@ -69,19 +70,23 @@ pub(crate) fn plan_at_once<R: Threads + Sync>(
     Ok(plan_shared(rt, alloc, last, batch, workers)?)
 }
 
-/// How many blocks a batch asks for behind a version that uses so many.
-fn asked_by(batch: &Batch, used: u32) -> u32
-    requires { used ≤ most_blocks }
+/// How many blocks a batch of so many operations asks for after a version that uses so many.
+fn asked_by(batch: &Batch, operations: usize, used: u32) -> u32
+    requires operations { operations ≡ length batch.now }
+    requires few { operations ≤ most_operations }
+    requires used { used ≤ most_blocks }
     ensures { result ≡ asked batch.now used }
 {
     let more = if batch.has_expire() { used } else { 0 };
-    batch.len() as u32 + more
+    operations as u32 + more
 }
 
-/// Grants as many blocks as a plan's shards may take, where all those are free that its batch asks for behind the version
+/// Grants as many blocks as a plan's shards may take, where all those are free that its batch asks for after the version
 /// that uses the used ones.
 pub(crate) fn grant_blocks(pool: &mut Pool, batch: &Batch, plan: &Plan) -> Result<Grant, ApplyError>
-    requires { sum_by (λ n. n) plan.now.needs.items ≤ asked batch.now (count_by is_in_use pool.old) }
+    requires needs { sum_by (λ n. n) plan.now.needs.items ≤ asked batch.now (count_by is_in_use pool.old) }
+    requires operations { plan.now.operations ≡ length batch.now }
+    requires few { length batch.now ≤ most_operations }
     ensures numbers { IfOk result (λ g. AreFree pool.old g.numbers.items
         × (length g.numbers.items ≡ sum_by (λ n. n) plan.now.needs.items)) }
     ensures blocks { IfOk result (λ g. shared_numbers g.blocks.items ≡ g.numbers.items) }
@@ -90,7 +95,7 @@ pub(crate) fn grant_blocks(pool: &mut Pool, batch: &Batch, plan: &Plan) -> Resul
     ensures refused { IfErr result (RefusesGrant (asked batch.now (count_by is_in_use pool.old)) (count_by is_free pool.old)) }
     ensures unchanged { OnErr result (pool.new ≡ pool.old) }
 {
-    let asked = asked_by(batch, pool.used());
+    let asked = asked_by(batch, plan.operations, pool.used());
     Ok(pool.grant_of(asked, plan.blocks_needed() as u32)?)
 }
 

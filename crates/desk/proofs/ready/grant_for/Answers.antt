@@ -1,6 +1,6 @@
-use Rattle.std.proofs.Common.{◌≤◌, List, refl, sym, subst, count_by}
+use Rattle.std.proofs.Common.{◌≤◌, ◌∙◌, List, length, refl, sym, ap, subst, count_by}
 use Rattle.std.specs.{Arc.arc_value, List.sum_by}
-use Rattle.graph_types.specs.declared.batches.NamedOp.{NamedOp}
+use Rattle.graph_types.specs.{Limits.most_operations, declared.batches.NamedOp.NamedOp}
 use Rattle.graph_version.specs.{Batches.batch_value, declared.versions.Version.Version}
 use Rattle.block_reclamation.specs.Status.{is_free, is_in_use}
 use Rattle.graph_types.proofs.Cases.{err_then}
@@ -8,12 +8,19 @@ use Rattle.desk.specs.{Kept.desk_in, Refusals.{Refuses, RefusesGrant, asked}}
 use Rattle.desk.proofs.Handing.{grant_within, desk_refuses, desk_admits}
 use Rattle.desk.proofs.ready.grant_for.Goals as goal
 
-pub grant_blocks-requires : goal.grant_blocks-requires
-grant_blocks-requires c =
+pub grant_blocks-requires-clause-needs : goal.grant_blocks-requires-clause-needs
+grant_blocks-requires-clause-needs c =
     let p = c.args.parts.now in
     subst (λ ops. sum_by (λ n. n) c.args.plan.needs.items ≤ asked ops (count_by is_in_use p.pool)) (sym c.deref.ensures)
     (grant_within (desk_in p) p.last c.requires.planned.0 (batch_value c.args.batch.now) c.args.plan
     c.requires.desk refl c.requires.planned.1)
+
+pub grant_blocks-requires-clause-operations : goal.grant_blocks-requires-clause-operations
+grant_blocks-requires-clause-operations c = c.requires.planned.1.planned.operations ∙ ap length (sym c.deref.ensures)
+
+pub grant_blocks-requires-clause-few : goal.grant_blocks-requires-clause-few
+grant_blocks-requires-clause-few c =
+    subst (λ (ops : List NamedOp). length ops ≤ most_operations) (sym c.deref.ensures) c.requires.planned.1.planned.few
 
 pub returns-in_err-numbers-clause-refused : goal.returns-in_err-numbers-clause-refused
 returns-in_err-numbers-clause-refused c =
