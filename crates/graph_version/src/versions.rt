@@ -1,9 +1,10 @@
 //! The version and its calls.
 
-ghost use Rattle.std.specs.Prelude.{◌≡◌, ◌%◌, ◌^◌, ◌++◌, ◌∷◌, [], true, List, length, IfSome, MatchOption};
+ghost use Rattle.std.specs.Prelude.{◌≡◌, ◌<◌, ◌%◌, ◌^◌, ◌++◌, ◌∷◌, [], true, List, length, IfSome, IsTrue, MatchOption, SomeIff};
 ghost use Rattle.std.specs.Option.{option_map};
 ghost use Rattle.graph_types.specs.Graph.{IsContentIn, graph_in};
 ghost use Rattle.graph_types.specs.Limits.{AreLimits};
+ghost use Rattle.graph_types.specs.{Answer.is_listed, Step.number_of};
 ghost use Rattle.graph_types.specs.declared.batches.NamedOp.{NamedOp};
 ghost use Rattle.edge_block.specs.Lending.{lent_edge};
 ghost use Rattle.graph_version.specs.Rows.{row_of, blocks_of, numbers_of};
@@ -203,6 +204,41 @@ impl Version {
         ensures { result.now ≡ kind_book (content self.now) }
     {
         &self.kinds
+    }
+
+    /// The vertex of a name, if the name has appeared. It takes no memory.
+    ///
+    /// ```
+    /// if let Some(source) = version.vertex("berlin") {
+    ///     println!(&rt; "{}", version.out_edges(source).count())?;
+    /// }
+    /// ```
+    #[tactic(auto, using(graph_types::proofs::ListedNames::listed_below))]
+    pub fn vertex(&self, name: &str) -> Option<VertexId>
+        ensures number { SomeIff (option_map (λ vertex. vertex.0) result) (IsTrue (is_listed (content self.now).names name.now))
+            (number_of (content self.now).names name.now) }
+        ensures below { IfSome result (λ vertex. vertex.0 < length (content self.now).names) }
+        ensures version { IsVersion self.now }
+    {
+        let number = self.names.number(name)?;
+        Some(VertexId(number))
+    }
+
+    /// The kind of a name, if the name has appeared. It takes no memory.
+    ///
+    /// ```
+    /// let edge = version.edge(version.kind("road")?, source, target)?;
+    /// ```
+    #[tactic(auto, using(graph_types::proofs::ListedNames::listed_below))]
+    pub fn kind(&self, name: &str) -> Option<KindId>
+        ensures number { SomeIff (option_map (λ kind. kind.0) result) (IsTrue (is_listed (content self.now).kinds name.now))
+            (number_of (content self.now).kinds name.now) }
+        ensures below { IfSome result (λ kind. kind.0 < length (content self.now).kinds) }
+        ensures version { IsVersion self.now }
+    {
+        let number = self.kinds.number(name)?;
+        // There are at most 64 kinds, so a kind's number has 8 bits.
+        Some(KindId(number as u8))
     }
 
     /// How many edges there are. The number is kept, and no block is read.
