@@ -257,7 +257,7 @@ class LibraryNotFound(StoreError):
 
 
 class NoMemory(StoreError, MemoryError):
-    """The library found no memory for a call. All is as it was before it."""
+    """The library ran out of memory for a call. All is as it was before it."""
 
 
 class NoAnswer(StoreError, TimeoutError):
@@ -275,7 +275,7 @@ class ProgramEnded(StoreError):
 
 
 class OutOfMemory(ProgramEnded):
-    """The program found no memory for a record, and ended."""
+    """The program ran out of memory for a record, and ended."""
 
 
 class Busy(StoreError):

@@ -26,7 +26,8 @@ use std::sync::Arc;
 impl Desk {
     /// Opens the desk anew over what its last version holds, in the very rows and blocks: version 0 begins with that content, no
     /// batch is kept, and no block is retired or granted. It takes memory and time by blocks, 4 bytes each, and not by edges;
-    /// where batches are kept, also for the content as plain lists. `AllocError` where memory was wanting; all is as it was then.
+    /// where batches are kept, also for the content as plain lists. The error is `AllocError` if memory runs out; all is as it was
+    /// then.
     pub(crate) fn reopen(&mut self) -> Result<(), AllocError>
         ensures zero { OnOk result (IsVersionZero (length self.old.pool) self.new.last) }
         ensures rebased { OnOk result (IsRebased self.old.last self.new.last) }
