@@ -14,6 +14,7 @@
   word of this house (HOUSE) that a page uses stands in that table, or that page or the README explains it, where it shows
   it *so*.
 - No page has a word of COINED, and none of its sentences begins with one of OPENERS, unless it is a question.
+- No file's name, and no comment, docstring or text of code, has a phrase of WANTED, on one line or over several.
 - Each crate has a README of fewer than 60 lines, whose list of calls is the one that `tools/docs --readmes` writes.
 - docs/LIBRARY.md shows each program that stands on `misteluk`: its row of crates.txt, and each of its files as it is, or a link
   to it.
@@ -73,6 +74,13 @@ COINED = {
     r"walls?": "limit",
 }
 OPENERS = ("Behind", "Beside", "Of", "That", "Where")
+# What stands between two words of a comment, which may be wrapped there, or of a name; and phrases that say "out of memory" by a
+# detour.
+GAP = r"(?:\s|//[/!]?|--|#|_)+"
+WANTED = re.compile(
+    rf"(?<![a-z])(?:want(?:s|ed|ing)?{GAP}(?:of{GAP})?memory|memory{GAP}(?:(?:is|was|were|be){GAP})?(?:wanting|wanted)"
+    rf"|(?:finds?|found){GAP}no{GAP}memory)(?![a-z])", re.I)
+CODE = {".rt", ".antt", ".py", ".txt", ".c", ".h", ""}
 
 
 def git(*words):
@@ -267,6 +275,19 @@ def coined_words(page):
             yield f"{name}: a sentence begins with {first[1]}: {' '.join(sentence.split()[:8])} .."
 
 
+def memory_detours():
+    """Yields each phrase of WANTED in a file's name, and in what isn't a page."""
+    for name in git("ls-files"):
+        path = TOP / name
+        if WANTED.search(name):
+            yield f"{name}: its name: say out of memory"
+        if path.suffix in CODE and path.is_file():
+            text = path.read_text(encoding="utf-8")
+            for found in WANTED.finditer(text):
+                line = text.count("\n", 0, found.start()) + 1
+                yield f"{name}:{line}: {' '.join(found[0].split())!r}: say out of memory"
+
+
 def rooms():
     """Returns the crates' READMEs."""
     return sorted((TOP / "crates").glob("*/README.md"))
@@ -367,7 +388,7 @@ def main():
         "names of definitions": [it for page in pages for it in undefined_names(page)],
         "crates": [*unnamed_crates(), *misplaced_crates(), *misnamed_crates()],
         "words": list(words_astray([*told, *rooms()])),
-        "plain English": [it for page in pages for it in coined_words(page)],
+        "plain English": [*(it for page in pages for it in coined_words(page)), *memory_detours()],
         "READMEs of crates": [*long_rooms(), *readmes.stale(TOP)],
         "programs over the library": [*unshown_programs(), *unnamed_exports()],
         "statements": list(statements.told_twice(TOP)),
