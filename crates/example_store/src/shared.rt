@@ -3,10 +3,10 @@
 ghost use Rattle.misteluk.specs.Opened.{IsOpeningOf};
 ghost use Rattle.misteluk.specs.Stores.{IsSeatOfOpening};
 
-use anyhow::{Context, Result, bail};
+use anyhow::{Result, bail};
 use misteluk::{
     Batch, Command, Config, EndlessFeed, NamedFilter, NamedOp, Naming, Opened, PassAll, Reply,
-    Request, Seat, Session, Store, Version, answer,
+    Request, Seat, Store, Version, answer,
 };
 use std::alloc::Global;
 use std::io::Read;
@@ -53,10 +53,10 @@ fn feed<J: Naming, R: Threads + Wait + Sync>(
     Ok(bern.number)
 }
 
-/// How many towns roads join in the version held.
-fn towns(session: &Session) -> Result<usize> {
+/// How many towns roads join in this version.
+fn towns(alloc: Global, version: &Version) -> Result<usize> {
     let question = Request::labels(NamedFilter::all());
-    match session.ask(&question)? {
+    match answer(alloc, version, &question)? {
         Reply::Labels(labels) => Ok(labels.len()),
         _ => bail!("no labels"),
     }
@@ -79,7 +79,8 @@ fn read<J: Naming, R: Threads + Wait + Sync>(
     seat: Seat,
 ) -> Result<bool> {
     let session = seat.pin(rt, store).enter(rt, store);
-    let (all, led) = join(rt, || towns(&session), || reached(alloc, session.version()));
+    let version = session.version();
+    let (all, led) = join(rt, || towns(alloc, version), || reached(alloc, version));
     let _seat = session.release(rt, store);
     let (all, led) = (all?, led?);
     Ok(all >= 2 && all == led)
@@ -109,8 +110,9 @@ fn over<J: Naming + Send + Sync, R: Threads + Wait + Sync>(
     requires { IsOpeningOf J.book J.opening opened }
 {
     let (store, mut seats) = opened.named::<J>();
-    let one = seats.pop().context("the store has a seat")?;
-    let two = seats.pop().context("the store has another seat")?;
+    let (Some(one), Some(two)) = (seats.pop(), seats.pop()) else {
+        bail!("the store has two seats");
+    };
     let one = learnt(rt, alloc, &store, one, "kiel")?;
     let two = learnt(rt, alloc, &store, two, "trier")?;
     let (fed, (one, two)) = join(
