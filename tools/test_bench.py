@@ -186,6 +186,18 @@ class Measuring(unittest.TestCase):
         self.assertEqual((done.returncode, done.stdout.splitlines()[-1]), (1, "0 passed, 1 failed"), done.stdout)
         self.assertIn("DEARER  rebases: ", done.stdout)
 
+    def test_costs_without_valgrind(self) -> None:
+        """Memory and writes are compared all the same; and nothing is kept, since figures would be missing."""
+        kept, words = self.room / "kept.txt", ["run", "costs", "empty commits", "--program", str(self.program)]
+        for figures, status in (("1 9000000 90000", 0), ("1 9000000 10000", 1), ("1 1 90000", 1)):
+            kept.write_text(f"{figures} empty commits\n")
+            done = bench(*words, "--kept", str(kept), PATH=str(self.room))
+            self.assertEqual(done.returncode, status, done.stdout + done.stderr)
+            self.assertIn("valgrind isn't here", done.stdout)
+        before = kept.read_text()
+        self.assertIn("without valgrind", bench(*words, "--keep", "--kept", str(kept), PATH=str(self.room)).stderr)
+        self.assertEqual(kept.read_text(), before)
+
     def test_each_figure_counts(self) -> None:
         before = {"instructions": 10_000_000, "kilobytes": 9_000, "writes": 100}
         for what, count in before.items():
