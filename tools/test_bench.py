@@ -18,6 +18,7 @@ import shutil
 import subprocess
 import sys
 import tempfile
+import time
 import unittest
 from contextlib import redirect_stderr, redirect_stdout
 from typing import Dict, List, Optional, Tuple
@@ -144,6 +145,16 @@ class Measuring(unittest.TestCase):
         self.assertEqual(measuring.medians(runs), measuring.Spent(3.0, 20.0))
         self.assertEqual((runs[2] - runs[0]) / 2, measuring.Spent(3.0, 5.0))
         self.assertEqual(measuring.spread([4.0, 1.0, 9.0]), measuring.Spread(4.0, 1.0, 9.0))
+        hundred = random.Random(1).sample(range(100), 100)
+        self.assertEqual([measuring.percentile(hundred, it) for it in (0, 50, 99)], [0, 50, 99])
+        self.assertEqual(measuring.percentile([7.0], 99), 7.0)
+
+    def test_a_watch_runs_on(self) -> None:
+        """Elapsed time passes while a process sleeps, its processor's doesn't."""
+        spent = measuring.watch()
+        time.sleep(0.2)
+        first, last = spent(), spent()
+        self.assertTrue(0.2 <= first.elapsed <= last.elapsed and first.processor < 0.1, (first, last))
 
     def test_numbers(self) -> None:
         times = [tables.seconds(it) for it in (12.345, 0.012345, 0.0000012345, None)]
