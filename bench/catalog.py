@@ -41,7 +41,7 @@ def debian_packages(needs: List[str]) -> str:
     return " ".join(PYTHON_PACKAGES.get(it) or COMMANDS[it] for it in needs)
 
 
-def every() -> Iterator[Measurement]:
+def of_the_program() -> Iterator[Measurement]:
     rust, count = ("rustc",), ("valgrind",)
     plain = (*rust, *count)
     yield Measurement("costs", "Has a script become more expensive than its kept figures? (`./check` asks this.)", 2, (), count)
@@ -62,6 +62,9 @@ def every() -> Iterator[Measurement]:
     yield Measurement("rebases", "How long does a `rebase` of a small graph take?", 0.2, (), count)
     yield Measurement("memory", "How much memory do unused blocks take, and how does a long run grow?", 1, ("/usr/bin/time",))
     yield Measurement("drives", "Does each of many `stinger drive` find no difference?", 5)
+
+
+def of_the_library_and_client() -> Iterator[Measurement]:
     yield Measurement("library", "How fast is the C library, compared with igraph and networkx in the same process?", 3, (),
                       ("igraph", "networkx"))
     yield Measurement("scale", "How do time and memory of the C library grow, up to a million names?", 8, ("numpy",))
@@ -85,4 +88,4 @@ def every() -> Iterator[Measurement]:
                       ("rustc", "/usr/bin/time", "igraph", "networkx", "numpy", "starlette", "uvicorn"))
 
 
-CATALOG: Dict[str, Measurement] = {it.name: it for it in every()}
+CATALOG: Dict[str, Measurement] = {it.name: it for it in (*of_the_program(), *of_the_library_and_client())}

@@ -37,8 +37,8 @@ def expiries() -> Lines:
 
 
 def idle_expiries() -> Lines:
-    """Expiries that find nothing over many rows, whose bounds say so."""
-    yield from batches(f"i,link,v{place},w{place % 100},1,9" for place in range(8_000))
+    """Expiries that find nothing over many rows, a third of which have two blocks. Bounds of the rows say so."""
+    yield from batches(f"i,k{place // 6_000},v{place % 6_000},w{place % 100},1,9" for place in range(8_000))
     yield from ["x,5", "commit"] * 1_000
 
 

@@ -9,6 +9,7 @@ import math
 import os
 import pathlib
 import re
+import resource
 import statistics
 import subprocess
 import sys
@@ -56,6 +57,11 @@ def spread(figures: Sequence[float]) -> Spread:
     return Spread(statistics.median(figures), min(figures), max(figures))
 
 
+def percentile(figures: Sequence[float], percent: int) -> float:
+    """The least figure that more than so many percent of them don't exceed."""
+    return sorted(figures)[len(figures) * percent // 100]
+
+
 def medians(runs: Sequence[Spent]) -> Spent:
     """The median of the elapsed times, and that of the processor times."""
     return Spent(statistics.median(it.elapsed for it in runs), statistics.median(it.processor for it in runs))
@@ -100,14 +106,22 @@ def run(words: Words, given: Script, lines: Script = os.devnull) -> Spent:
     return Spent(elapsed, usage.ru_utime + usage.ru_stime)
 
 
+def watch() -> Callable[[], Spent]:
+    """A watch that runs from now on: each call of it gives what this process spent since. Garbage is collected as usual, so it is
+    for one of several threads, and for work that is part of a longer one."""
+    def spent() -> Spent:
+        return Spent(time.perf_counter() - elapsed, time.process_time() - processor)
+    elapsed, processor = time.perf_counter(), time.process_time()  # (last, so that little else is in it)
+    return spent
+
+
 def timed(work: Callable[[], Answer]) -> Tuple[Answer, Spent]:
     """What some work in this process gives, and its time. Garbage is collected before and not meanwhile."""
     gc.collect()
     gc.disable()
     try:
-        elapsed, processor = time.perf_counter(), time.process_time()
-        found = work()
-        return found, Spent(time.perf_counter() - elapsed, time.process_time() - processor)
+        spent = watch()
+        return work(), spent()
     finally:
         gc.enable()
 
@@ -152,6 +166,12 @@ def peak(words: Words, given: Script) -> int:
     if ran.returncode:
         stop(f"{' '.join(words)} ended in status {ran.returncode} on {given}:\n{ran.stderr}")
     return int(ran.stderr.splitlines()[-1]) * 1024
+
+
+def peak_of_children() -> int:
+    """The greatest peak resident memory in bytes of the processes that this one started and waited for; or this one's own size
+    when it started one, if that is more."""
+    return resource.getrusage(resource.RUSAGE_CHILDREN).ru_maxrss * 1024
 
 
 def of_process(word: str, process: Union[int, str] = "self", file: str = "status") -> int:

@@ -43,7 +43,8 @@ def stinger_run(words: argparse.Namespace, workers: Optional[int] = 1, blocks: i
 def compiled(name: str) -> str:
     """A program of bench/rust, by rustc -O with the standard library, compiled once for each form of its source."""
     source, made = TOP / f"bench/rust/{name}.rs", OUT / "bin" / name
-    if not made.exists() or made.stat().st_mtime < source.stat().st_mtime:
+    newest = max(it.stat().st_mtime for it in source.parent.glob("*.rs"))  # (one may be a module of another)
+    if not made.exists() or made.stat().st_mtime < newest:
         made.parent.mkdir(parents=True, exist_ok=True)
         subprocess.run(["rustc", "--edition", "2021", "-O", "-o", str(made), str(source)], check=True)
     return str(made)

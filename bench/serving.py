@@ -13,6 +13,7 @@ import time
 from multiprocessing import get_context
 from typing import IO, Any, Callable, Dict, Iterator, List, Tuple, cast
 
+from bench.measuring import watch
 from bench.places import TOP
 
 NAMES, THREADS = 20_000, 8
@@ -31,12 +32,12 @@ def rows(seed: int) -> Iterator[str]:
 
 def feed(pipe: IO[str], rate: int, is_over: threading.Event) -> None:
     """Writes rows at a rate, or as fast as they are taken."""
-    begun = time.monotonic()
+    spent = watch()
     for count, part in enumerate(rows(1)):
         if is_over.is_set():
             return
         if rate:
-            is_over.wait(max(0.0, begun + count * 100 / rate - time.monotonic()))
+            is_over.wait(max(0.0, count * 100 / rate - spent().elapsed))
         try:
             pipe.write(part)
             pipe.flush()
@@ -58,9 +59,9 @@ def ask(url: str, seed: int, pause: float, until: float, times: Times) -> None:
                     lambda: session.edges([("link", source, target)], missing=None), lambda: source in session,
                     lambda: session.degrees())
                 for name, call in zip(QUESTIONS, calls):
-                    begun = time.perf_counter()
+                    spent = watch()
                     call()
-                    times[name].append(time.perf_counter() - begun)
+                    times[name].append(spent().elapsed)
                     time.sleep(pause)
     store.close()
 
@@ -113,11 +114,11 @@ def asked(store: Any, url: str, count: int, pause: float, seconds: float) -> Tup
         it.start()
     for _ in running:
         ready.acquire()
-    before, begun = fed_rows(store), time.time()
+    before, spent = fed_rows(store), watch()
     go.set()
     times = [found.get(timeout=seconds + 60) for _ in running]
-    time.sleep(max(0.0, begun + seconds - time.time()))
-    taken = (fed_rows(store) - before) / (time.time() - begun)
+    time.sleep(max(0.0, seconds - spent().elapsed))
+    taken = (fed_rows(store) - before) / spent().elapsed
     return {name: [it for some in times for it in some[name]] for name in QUESTIONS}, taken
 
 

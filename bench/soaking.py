@@ -142,6 +142,14 @@ class Clients:
             self._end(it)
 
 
+def has_more(there: socket.socket, pace: int) -> bool:
+    """Takes so many bytes of an answer, and says whether there may be more of it."""
+    try:
+        return not pace or bool(there.recv(pace))
+    except OSError:
+        return False
+
+
 def read_slowly(path: str, pace: int, is_over: threading.Event) -> None:
     """Asks all edges, and takes so many bytes of them each tenth of a second; again and again."""
     while not is_over.is_set():
@@ -149,12 +157,8 @@ def read_slowly(path: str, pace: int, is_over: threading.Event) -> None:
             there.connect(path)
             there.sendall(b"GET /v1/edges HTTP/1.1\r\nHost: localhost\r\nConnection: close\r\n\r\n")
             until = time.monotonic() + 4 * IDLE
-            while not is_over.wait(0.1) and time.monotonic() < until:
-                try:
-                    if pace and not there.recv(pace):
-                        break
-                except OSError:
-                    break
+            while not is_over.wait(0.1) and time.monotonic() < until and has_more(there, pace):
+                pass
 
 
 def status_of_post(path: str) -> int:

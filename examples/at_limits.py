@@ -1,5 +1,5 @@
 #!/usr/bin/env python3
-"""Runs the program at its limits: a body that gives up from some size on is seen by no contract where it tells want of memory.
+"""Runs the program at its limits: no contract sees a body that reports out of memory from some size on.
 
     ./at_limits.py PROGRAM [--seconds]
 

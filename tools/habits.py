@@ -14,6 +14,7 @@
   word of this house (HOUSE) that a page uses stands in that table, or that page or the README explains it, where it shows
   it *so*.
 - No page has a word of COINED, and none of its sentences begins with one of OPENERS, unless it is a question.
+- No file's name, and no comment, docstring or text of code, has a phrase of WANTED, on one line or over several.
 - Each crate has a README of fewer than 60 lines, whose list of calls is the one that `tools/docs --readmes` writes.
 - docs/LIBRARY.md shows each program that stands on `misteluk`: its row of crates.txt, and each of its files as it is, or a link
   to it.
@@ -22,6 +23,8 @@
 - A wrong body names files of its crate, and has pairs of an old line, which stands in its file once, and a new one.
 - README.md, CONTRIBUTING.md, CHANGELOG.md, docs/ and python/README.md have together at most 160,000 bytes: a page that gets
   longer has another get shorter.
+- A script, and a file in a language that no prover reads, has at most 400 lines. A function's body in Python (after its
+  docstring) or Rust has at most 40 lines; in Python its blocks nest at most three deep, where `with` isn't counted.
 - A commit's subject has at most 72 characters.
 
 Its last line is 'N passed, M failed'.
@@ -31,9 +34,10 @@ import re
 import subprocess
 import sys
 
+import crate_rows
+import lengths
 import statements
 from crate_docs import readmes
-from crate_docs.sources import OWN
 
 TOP = pathlib.Path(__file__).resolve().parent.parent
 WIDTH = 130
@@ -73,6 +77,13 @@ COINED = {
     r"walls?": "limit",
 }
 OPENERS = ("Behind", "Beside", "Of", "That", "Where")
+# What stands between two words of a comment, which may be wrapped there, or of a name; and phrases that say "out of memory" by a
+# detour.
+GAP = r"(?:\s|//[/!]?|--|#|_)+"
+WANTED = re.compile(
+    rf"(?<![a-z])(?:want(?:s|ed|ing)?{GAP}(?:of{GAP})?memory|memory{GAP}(?:(?:is|was|were|be){GAP})?(?:wanting|wanted)"
+    rf"|(?:finds?|found){GAP}no{GAP}memory)(?![a-z])", re.I)
+CODE = {".rt", ".antt", ".py", ".txt", ".c", ".h", ""}
 
 
 def git(*words):
@@ -151,73 +162,6 @@ def undefined_names(page):
             yield f"{page.relative_to(TOP)}: {target} doesn't define {name}"
 
 
-def rows_in(text):
-    return [row for line in text.splitlines() if (row := line.partition("#")[0]).strip()]
-
-
-def rows():
-    return rows_in((TOP / "crates.txt").read_text(encoding="utf-8"))
-
-
-def crates():
-    return [row.partition(":")[0].split()[0] for row in rows()]
-
-
-def own_crates():
-    """Returns the crates below the line OWN of crates.txt."""
-    below = (TOP / "crates.txt").read_text(encoding="utf-8").partition(f"\n{OWN}\n")[2]
-    return {row.partition(":")[0].split()[0] for row in rows_in(below)}
-
-
-def unnamed_crates():
-    page = (TOP / "docs/ARCHITECTURE.md").read_text(encoding="utf-8")
-    listed, own = crates(), own_crates()
-    for name in listed:
-        if name not in own and f"`{name}`" not in page:
-            yield f"docs/ARCHITECTURE.md doesn't name {name}"
-    for folder in sorted((TOP / "crates").iterdir()):
-        if folder.name not in listed and any(folder.glob("src/*.rt")):
-            yield f"crates.txt doesn't list {folder.name}"
-
-
-def misplaced_crates():
-    part = WORDS.read_text(encoding="utf-8").partition("\n## The map\n")[2].partition("\n## ")[0]
-    lines = [line.split("|")[1] for line in part.splitlines() if line.startswith("| ")]
-    places = {name: at for at, cell in enumerate(lines) for name in re.findall(r"`(\w+)`", cell)}
-    for row in rows():
-        name, _, below = row.partition(":")
-        crate = name.split()[0]
-        for it in below.split():
-            if crate in places and places.get(it, 0) > places[crate]:
-                yield f"docs/ARCHITECTURE.md: the map has {crate} in a row above {it}, on which it stands"
-
-
-def named_by(crate):
-    """Returns what may be crates that a crate's sources, specs and proofs name: what stands before a path."""
-    found = set()
-    for part in ("src", "specs", "proofs"):
-        for path in (TOP / "crates" / crate / part).rglob("*"):
-            if path.suffix in (".rt", ".antt"):
-                code = re.sub(r"^\s*(?://|--).*$", "", path.read_text(encoding="utf-8"), flags=re.M)
-                found |= set(re.findall(r"\bRattle\.(\w+)", code))
-                if path.suffix == ".rt":
-                    found |= set(re.findall(r"(?<![\w.:])(\w+)::", code))
-                    found |= set(re.findall(r"^\s*(?:pub )?use (\w+)(?: as \w+)?;", code, re.M))
-    return found - {crate}
-
-
-def misnamed_crates():
-    listed = crates()
-    for row in rows():
-        name, _, below = row.partition(":")
-        crate, below = name.split()[0], {it for it in below.split() if it in listed}
-        named = named_by(crate) & set(listed)
-        for it in sorted(named - below):
-            yield f"crates.txt: the row of {crate} doesn't have {it}, which it names"
-        for it in sorted(below - named):
-            yield f"crates.txt: the row of {crate} has {it}, which it doesn't name"
-
-
 def table_of_words():
     """Returns the words that ARCHITECTURE's table explains, in its order; a row may have several."""
     part = WORDS.read_text(encoding="utf-8").partition("\n## Words\n")[2].partition("\n## ")[0]
@@ -259,12 +203,24 @@ def coined_words(page):
         if not line.startswith(("#", "    ")):
             plain = re.sub(r"`[^`]*`|\"[^\"]*\"", "", re.sub(r"\]\([^)]*\)", "]", line))
             for words, better in COINED.items():
-                for found in re.finditer(rf"\b(?:{words})\b", plain, re.I):
-                    yield f"{name}:{number}: {found[0]!r}: say {better}"
+                yield from (f"{name}:{number}: {it[0]!r}: say {better}" for it in re.finditer(rf"\b(?:{words})\b", plain, re.I))
     for sentence in sentences(page):
         first = re.match(r"\W*(\w+)", sentence)
         if first and first[1] in OPENERS and not sentence.rstrip("*)").endswith("?"):
             yield f"{name}: a sentence begins with {first[1]}: {' '.join(sentence.split()[:8])} .."
+
+
+def memory_detours():
+    """Yields each phrase of WANTED in a file's name, and in what isn't a page."""
+    for name in git("ls-files"):
+        path = TOP / name
+        if WANTED.search(name):
+            yield f"{name}: its name: say out of memory"
+        if path.suffix in CODE and path.is_file():
+            text = path.read_text(encoding="utf-8")
+            for found in WANTED.finditer(text):
+                line = text.count("\n", 0, found.start()) + 1
+                yield f"{name}:{line}: {' '.join(found[0].split())!r}: say out of memory"
 
 
 def rooms():
@@ -281,8 +237,8 @@ def long_rooms():
 
 def programs():
     """Returns each program over the library that others learn from: its row of crates.txt, and its files."""
-    own = own_crates()
-    found = [row for row in rows() if "misteluk" in row.partition(":")[2].split() and row.split()[0].rstrip(":") not in own]
+    rows, own = crate_rows.rows(), crate_rows.own_crates()
+    found = [row for row in rows if "misteluk" in row.partition(":")[2].split() and row.split()[0].rstrip(":") not in own]
     paths = {row: git("ls-files", f"crates/{row.partition(':')[0].split()[0]}") for row in found}
     return {row: [TOP / it for it in them if not it.endswith("README.md")] for row, them in paths.items()}
 
@@ -365,15 +321,16 @@ def main():
         "length of sentences": [it for page in [*told, *rooms()] for it in long_sentences(page)],
         "links": [it for page in pages for it in dead_links(page)],
         "names of definitions": [it for page in pages for it in undefined_names(page)],
-        "crates": [*unnamed_crates(), *misplaced_crates(), *misnamed_crates()],
+        "crates": [*crate_rows.unnamed(), *crate_rows.misplaced(), *crate_rows.misnamed()],
         "words": list(words_astray([*told, *rooms()])),
-        "plain English": [it for page in pages for it in coined_words(page)],
+        "plain English": [*(it for page in pages for it in coined_words(page)), *memory_detours()],
         "READMEs of crates": [*long_rooms(), *readmes.stale(TOP)],
         "programs over the library": [*unshown_programs(), *unnamed_exports()],
         "statements": list(statements.told_twice(TOP)),
         "names of several crates": list(statements.in_several(TOP)),
         "wrong bodies": [it for path in edits for it in lost_edits(path)],
         "bytes of pages": list(too_many_bytes(plain_pages(known))),
+        "lengths": list(lengths.too_long(TOP, git("ls-files"))),
         "subjects": list(long_subjects()),
     }
     for habit, places in habits.items():

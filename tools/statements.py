@@ -62,6 +62,14 @@ def imports(text: str, crates: Set[str]) -> Dict[str, str]:
     return found
 
 
+def cases_end(lines: List[str], place: int, indent: int, name: str) -> int:
+    """Returns where the cases of a definition end that stand from this place on."""
+    case = " " * indent + name + " "
+    while place < len(lines) and lines[place].startswith(case):
+        place = block_end(lines, place, is_deeper(indent))
+    return place
+
+
 def statements(lines: List[str], is_definitions: bool) -> Iterator[Tuple[int, str, str]]:
     """Yields each statement of a file: its line, its name, and its text with what the modules round it take.
 
@@ -84,9 +92,7 @@ def statements(lines: List[str], is_definitions: bool) -> Iterator[Tuple[int, st
             yield place + 1, item["name"], text_of(around, lines[place:end], item["words"])
         elif item and re.match(r"\S+ : (?!goal\.)", bare[len(item["words"]):]):
             if is_definitions or "abbrev" in item["words"] or "unfoldable" in item["words"]:
-                case = " " * indent + item["name"] + " "
-                while end < len(lines) and lines[end].startswith(case):
-                    end = block_end(lines, end, is_deeper(indent))
+                end = cases_end(lines, end, indent, item["name"])
             yield place + 1, item["name"], text_of(around, lines[place:end], item["words"])
         place = end
 

@@ -18,6 +18,7 @@ import shutil
 import subprocess
 import sys
 import tempfile
+import time
 import unittest
 from contextlib import redirect_stderr, redirect_stdout
 from typing import Dict, List, Optional, Tuple
@@ -144,6 +145,16 @@ class Measuring(unittest.TestCase):
         self.assertEqual(measuring.medians(runs), measuring.Spent(3.0, 20.0))
         self.assertEqual((runs[2] - runs[0]) / 2, measuring.Spent(3.0, 5.0))
         self.assertEqual(measuring.spread([4.0, 1.0, 9.0]), measuring.Spread(4.0, 1.0, 9.0))
+        hundred = random.Random(1).sample(range(100), 100)
+        self.assertEqual([measuring.percentile(hundred, it) for it in (0, 50, 99)], [0, 50, 99])
+        self.assertEqual(measuring.percentile([7.0], 99), 7.0)
+
+    def test_a_watch_runs_on(self) -> None:
+        """Elapsed time passes while a process sleeps, its processor's doesn't."""
+        spent = measuring.watch()
+        time.sleep(0.2)
+        first, last = spent(), spent()
+        self.assertTrue(0.2 <= first.elapsed <= last.elapsed and first.processor < 0.1, (first, last))
 
     def test_numbers(self) -> None:
         times = [tables.seconds(it) for it in (12.345, 0.012345, 0.0000012345, None)]
@@ -185,6 +196,18 @@ class Measuring(unittest.TestCase):
         done = bench(*words)
         self.assertEqual((done.returncode, done.stdout.splitlines()[-1]), (1, "0 passed, 1 failed"), done.stdout)
         self.assertIn("DEARER  rebases: ", done.stdout)
+
+    def test_costs_without_valgrind(self) -> None:
+        """Memory and writes are compared all the same; and nothing is kept, since figures would be missing."""
+        kept, words = self.room / "kept.txt", ["run", "costs", "empty commits", "--program", str(self.program)]
+        for figures, status in (("1 9000000 90000", 0), ("1 9000000 10000", 1), ("1 1 90000", 1)):
+            kept.write_text(f"{figures} empty commits\n")
+            done = bench(*words, "--kept", str(kept), PATH=str(self.room))
+            self.assertEqual(done.returncode, status, done.stdout + done.stderr)
+            self.assertIn("valgrind isn't here", done.stdout)
+        before = kept.read_text()
+        self.assertIn("without valgrind", bench(*words, "--keep", "--kept", str(kept), PATH=str(self.room)).stderr)
+        self.assertEqual(kept.read_text(), before)
 
     def test_each_figure_counts(self) -> None:
         before = {"instructions": 10_000_000, "kilobytes": 9_000, "writes": 100}

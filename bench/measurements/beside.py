@@ -8,7 +8,6 @@ from __future__ import annotations
 import argparse
 import collections
 import pathlib
-import statistics
 import subprocess
 from typing import Dict, List, Tuple
 
@@ -42,9 +41,8 @@ def measure(words: argparse.Namespace, _: pathlib.Path) -> None:
     runs = [one_run(program) for _ in range(words.runs)]
     rows = []
     for request in dict.fromkeys(name for name, _ in runs[0][0]):
-        ratios = spread([statistics.median(times[request, "beside"]) / statistics.median(times[request, "alone"])
-                         for times, _ in runs])
-        alone, beside = (statistics.median(it for times, _ in runs for it in times[request, when]) / 1e9
+        ratios = spread([spread(times[request, "beside"]).median / spread(times[request, "alone"]).median for times, _ in runs])
+        alone, beside = (spread([it for times, _ in runs for it in times[request, when]]).median / 1e9
                          for when in ("alone", "beside"))
         rows.append([request, tables.seconds(alone), tables.seconds(beside), f"{ratios.median:.2f}",
                      f"{ratios.least:.2f} to {ratios.most:.2f}"])

@@ -14,7 +14,7 @@ import functools
 import math
 import pathlib
 import subprocess
-from typing import Dict, List
+from typing import Dict, Iterator, List
 
 from bench import scripts, tables
 from bench.measuring import Spent, in_turns, medians, peak, run, stop
@@ -65,8 +65,8 @@ class Comparison:
     def times(self, script: pathlib.Path, without: Dict[str, Spent], among: int = 1) -> Figures:
         return {name: (it.processor - without[name].processor) / among for name, it in self.measure(script).items()}
 
-    def add(self, what: str, figures: Figures, unit: str = "s", is_of_mean: bool = False) -> None:
-        """A row of the table; ratios are ours by theirs."""
+    def row(self, what: str, figures: Figures, unit: str = "s", is_of_mean: bool = False) -> List[str]:
+        """A row of the table, which is kept; ratios are ours by theirs."""
         self.rows.append({"work": what, "unit": unit, **{name: round(it, 6) for name, it in figures.items()}})
         show = tables.seconds if unit == "s" else tables.count
         cells = [what, show(figures["stinger"])]
@@ -74,29 +74,32 @@ class Comparison:
             cells += [show(figures[name]), tables.ratio(figures["stinger"], figures[name])]
             if is_of_mean and min(figures["stinger"], figures[name]) > 0:
                 self.ratios[name].append(figures["stinger"] / figures[name])
-        print(f"| {' | '.join(cells)} |", flush=True)
+        return cells
 
 
-def requests(it: Comparison, graph: str, word: str, without: Dict[str, Spent], is_of_mean: bool) -> None:
+def requests(it: Comparison, graph: str, word: str, without: Dict[str, Spent], is_of_mean: bool) -> Iterator[List[str]]:
     for request in REQUESTS:
         times = it.times(it.script(graph, request, repeats=REPEATS), without, REPEATS)
-        it.add(word + request, times, is_of_mean=is_of_mean)
+        yield it.row(word + request, times, is_of_mean=is_of_mean)
+
+
+def rows(it: Comparison) -> Iterator[List[str]]:
+    start, rmat, tree = (it.measure(it.script(load)) for load in ("none", "rmat", "sparse"))
+    yield it.row("start", {name: spent.processor for name, spent in start.items()})
+    yield it.row("load", {name: spent.processor - start[name].processor for name, spent in rmat.items()}, is_of_mean=True)
+    yield from requests(it, "rmat", "", rmat, True)
+    yield it.row("memory", {name: peak(words, it.script("rmat")) / 2**20 for name, words in it.stores.items()}, "MB")
+    yield it.row("sparse load", {name: spent.processor - start[name].processor for name, spent in tree.items()})
+    yield from requests(it, "sparse", "sparse ", tree, False)
+    yield it.row("hub", it.times(it.script("hub"), start))
+    yield it.row("empty commits", {name: spent.processor for name, spent in it.measure(it.script("empty")).items()})
 
 
 def everything(it: Comparison) -> None:
     for load, asked in LOADS.items():
         it.have_equal_lines(it.script(load, *asked))
     print("equal lines on all scripts; processor time, ratios are ours by theirs\n")
-    tables.show(["work", "stinger run", *(cell for name in it.others for cell in (name, "ratio"))], [])
-    start, rmat, tree = (it.measure(it.script(load)) for load in ("none", "rmat", "sparse"))
-    it.add("start", {name: spent.processor for name, spent in start.items()})
-    it.add("load", {name: spent.processor - start[name].processor for name, spent in rmat.items()}, is_of_mean=True)
-    requests(it, "rmat", "", rmat, True)
-    it.add("memory", {name: peak(words, it.script("rmat")) / 2**20 for name, words in it.stores.items()}, "MB")
-    it.add("sparse load", {name: spent.processor - start[name].processor for name, spent in tree.items()})
-    requests(it, "sparse", "sparse ", tree, False)
-    it.add("hub", it.times(it.script("hub"), start))
-    it.add("empty commits", {name: spent.processor for name, spent in it.measure(it.script("empty")).items()})
+    tables.show(["work", "stinger run", *(cell for name in it.others for cell in (name, "ratio"))], rows(it))
     for name, ratios in it.ratios.items():
         mean = f"{math.prod(ratios) ** (1 / len(ratios)):.2f}" if ratios else "lost"
         print(f"geometric mean of {len(ratios)} ratios of the R-MAT graph to {name}: {mean}")

@@ -7,6 +7,7 @@ store that is never given back or an answer in small pieces would pass for right
     python3 -m bench run costs NAME ..     compares these scripts alone
 
 One worker runs each script, since how two share the work differs from run to run. `./check` calls this over the proved program.
+Without valgrind the instructions are left out, and nothing is kept.
 """
 from __future__ import annotations
 
@@ -64,7 +65,8 @@ def memory_and_writes(command: List[str], script: bytes) -> Figures:
 
 def costs(command: List[str], room: pathlib.Path, name: str) -> Figures:
     script = scripts.kept(room / name, SCRIPTS[name]())
-    return {"instructions": instructions(command, script), **memory_and_writes(command, script.read_bytes())}
+    counted = {"instructions": instructions(command, script)} if is_here("valgrind") else {}
+    return {**counted, **memory_and_writes(command, script.read_bytes())}
 
 
 def kept(file: pathlib.Path) -> Dict[str, Figures]:
@@ -90,8 +92,9 @@ def measure(words: argparse.Namespace, room: pathlib.Path) -> int:
     if unknown := set(words.names) - set(SCRIPTS):
         stop(f"no script {', '.join(sorted(unknown))}; there are {', '.join(SCRIPTS)}")
     if not is_here("valgrind"):
-        print("costs: passed over, since valgrind isn't here")
-        return 0
+        if words.keep:
+            stop("nothing is kept without valgrind, which counts the instructions")
+        print("costs: no instructions are compared, since valgrind isn't here")
     command, names = stinger_run(words), words.names or list(SCRIPTS)
     found = side_by_side({name: functools.partial(costs, command, room, name) for name in names})
     if words.keep:

@@ -7,10 +7,9 @@ from __future__ import annotations
 import argparse
 import pathlib
 import random
-import time
 from typing import Any, Dict, Iterator, Set, Tuple
 
-from bench.measuring import stop
+from bench.measuring import stop, watch
 from bench.places import BLOCKS
 from misteluk import Store
 
@@ -55,7 +54,7 @@ class Feed:
     """The feed so far: the model, all names, and the longest commit."""
 
     def __init__(self, store: Any) -> None:
-        self.store, self.begun, self.longest, self.compared = store, time.monotonic(), 0.0, 0.0
+        self.store, self.spent, self.longest, self.compared = store, watch(), 0.0, 0.0
         self.model: Model = {}
         self.names: Set[str] = set()
 
@@ -67,17 +66,17 @@ class Feed:
 
     def commit(self, when: int) -> None:
         self.store.expire(max(when - WINDOW, 0))
-        sent = time.monotonic()
+        spent = watch()
         self.store.commit()
-        self.longest = max(self.longest, time.monotonic() - sent)
+        self.longest = max(self.longest, spent().elapsed)
         self.model = {it: edge for it, edge in self.model.items() if edge[2] >= when - WINDOW}
 
     def compare(self, at: int) -> None:
-        sent = time.monotonic()
+        spent = watch()
         compare(self.store, self.model)
-        self.compared += time.monotonic() - sent
+        self.compared += spent().elapsed
         stat = self.store.stat()
-        print(f"{time.monotonic() - self.begun:.1f} s: {at} operations, {len(self.names)} names in all; equal: version "
+        print(f"{self.spent().elapsed:.1f} s: {at} operations, {len(self.names)} names in all; equal: version "
               f"{stat.version}, {len(self.model)} edges, {stat.names} names there", flush=True)
 
 
@@ -93,6 +92,6 @@ def measure(words: argparse.Namespace, _: pathlib.Path) -> None:
                 feed.commit(row[3])
             if at % (operations // POINTS) == 0:
                 feed.compare(at)
-    seconds = time.monotonic() - feed.begun - feed.compared
+    seconds = feed.spent().elapsed - feed.compared
     print(f"{operations / seconds:.0f} operations a second with the model, without the comparisons")
     print(f"the longest commit took {feed.longest:.2f} s")

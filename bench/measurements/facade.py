@@ -11,12 +11,12 @@ from __future__ import annotations
 
 import argparse
 import pathlib
-import resource
 import subprocess
 import sys
 
 from bench import rattle
 from bench.checks import Checks
+from bench.measuring import peak_of_children
 from bench.stores.facade_lines import Lines
 
 
@@ -44,8 +44,7 @@ def measure(words: argparse.Namespace, _: pathlib.Path) -> int:
     checks.equal("public calls that are read", len(calls) > 100, True)
     checks.equal("public calls that the program lacks", [it for it in calls if not rattle.is_called(text, *it)], [])
     ran = subprocess.run([made, *map(str, (words.scale, words.edges, words.workers))], stdout=subprocess.PIPE, text=True)
-    most = resource.getrusage(resource.RUSAGE_CHILDREN).ru_maxrss / 2**20
-    print(f"the program: at most {most:.1f} GiB", file=sys.stderr, flush=True)
+    print(f"the program: at most {peak_of_children() / 2**30:.1f} GiB", file=sys.stderr, flush=True)
     checks.equal("the program's status", ran.returncode, 0)
     checks.part("lines", lambda: compare(checks, words, ran.stdout))
     return checks.status()

@@ -16,13 +16,12 @@ import os
 import pathlib
 import random
 import resource
-import statistics
 import subprocess
 import sys
 from typing import Any, Dict, Iterator, List
 
 from bench import tables
-from bench.measuring import of_process, stop, timed
+from bench.measuring import of_process, spread, stop, timed
 from bench.places import TOP, program, takes_program
 from misteluk import Columns, Fleet
 
@@ -87,7 +86,7 @@ def times(words: argparse.Namespace, path: str) -> Iterator[List[str]]:
     for parts, workers, alive in TIMES:
         write_rows(path, parts, words.rows // parts)
         runs = [measured(words, path, workers, alive) for _ in range(RUNS)]
-        middle = (tables.seconds(statistics.median(it[what] for it in runs)) for what in ("loading", "first", "second"))
+        middle = (tables.seconds(spread([it[what] for it in runs]).median) for what in ("loading", "first", "second"))
         yield [f"{parts:,}", str(workers), str(runs[0]["kept"]), *middle, f"{max(it['own'] for it in runs):,.0f} MB"]
 
 

@@ -10,11 +10,10 @@ import functools
 import itertools
 import pathlib
 import random
-import statistics
 from typing import Iterator, List, Tuple
 
 from bench import scripts, tables
-from bench.measuring import in_turns, instructions, run, side_by_side
+from bench.measuring import in_turns, instructions, medians, run, side_by_side
 from bench.places import stinger_run, takes_program
 
 BATCHES, ASKED = 256, 1_024
@@ -59,7 +58,7 @@ def row(words: argparse.Namespace, room: pathlib.Path, blocks: int) -> List[str]
         figures = [(found[it] - found[works[0]]) / many for it, many in zip(works, among)]
         return [tables.count(blocks), *map(tables.count, figures[1:])]
     runs = in_turns({it: functools.partial(run, command, it) for it in works}, 7)
-    times = [statistics.median(spent.processor for spent in runs[it]) for it in works]
+    times = [medians(runs[it]).processor for it in works]
     return [tables.count(blocks), *(tables.seconds((time - times[0]) / many) for time, many in zip(times[1:], among[1:]))]
 
 

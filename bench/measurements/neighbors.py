@@ -13,11 +13,10 @@ import argparse
 import functools
 import os
 import pathlib
-import statistics
 from typing import Any, Callable, Dict, List, Tuple
 
 from bench import tables
-from bench.measuring import in_turns, stop, timed
+from bench.measuring import in_turns, spread, stop, timed
 from bench.places import program, takes_program
 from bench.stores import remembered
 from bench.stores.transfers import HOPS, SIDES, chosen, plain, questions, write_transfers
@@ -71,7 +70,7 @@ def walks(path: str, transfers: int, turns: int) -> None:
     sizes: Tuple[int, int] = (len(answers["SQLite"][PATH]) - 1, len(answers["SQLite"][NEAR]) - 1)
     print(f"{transfers:,} transfers, {edges:,} edges; {senders:,} send to the hub; the path has {sizes[0]} steps; "
           f"{sizes[1]:,} other names are within {HOPS} hops. All answers are equal.\n")
-    tables.show(["what", *SIDES], ([what, *(tables.seconds(statistics.median(it[what] for it in runs[side])) for side in SIDES)]
+    tables.show(["what", *SIDES], ([what, *(tables.seconds(spread([it[what] for it in runs[side]]).median) for side in SIDES)]
                                    for what in runs["SQLite"][0]))
 
 

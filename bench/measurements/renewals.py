@@ -8,11 +8,10 @@ from __future__ import annotations
 import argparse
 import pathlib
 import random
-import statistics
-import time
 from typing import Any, Iterator, List
 
 from bench import tables
+from bench.measuring import spread, watch
 
 BATCH, RENEWALS = 4_096, 5
 
@@ -31,9 +30,9 @@ def feed(store: Any, edges: int) -> None:
 
 
 def renewed(store: Any) -> float:
-    begun = time.process_time()
+    spent = watch()
     store.renew()
-    return time.process_time() - begun
+    return spent().processor
 
 
 def rows(sizes: List[int]) -> Iterator[List[str]]:
@@ -41,7 +40,7 @@ def rows(sizes: List[int]) -> Iterator[List[str]]:
     for edges in sizes:
         with misteluk.Store(engine="library") as store:
             feed(store, edges)
-            renewal = statistics.median(renewed(store) for _ in range(RENEWALS))
+            renewal = spread([renewed(store) for _ in range(RENEWALS)]).median
             there = store.stat().edges
             yield [tables.count(there), tables.seconds(renewal), f"{1e6 * renewal / there:.2f} µs"]
 

@@ -17,7 +17,6 @@ import argparse
 import json
 import os
 import pathlib
-import statistics
 import subprocess
 import sys
 from ctypes import c_uint32
@@ -25,7 +24,7 @@ from typing import Any, Callable, Dict, List
 
 from bench import tables
 from bench.calls import loaded, must
-from bench.measuring import of_process, stop, timed
+from bench.measuring import of_process, spread, stop, timed
 from bench.places import TOP
 from bench.stores.growing import SHAPES, SINGLE, STEP, Store, columns_of
 
@@ -79,7 +78,7 @@ def measured(shape: str, scale: int, edges: int, endless: bool) -> Figures:
     store.commits("", "", 2)  # The first brings the second table of rows up to the load's last batch.
     found["hold us"] = seconds(lambda: holds(store)) / SINGLE * 1e6
     for name, words in (("empty commit us", ("", "")), ("known names us", ("v%d", "v1%d")), ("new names us", ("s%d", "t%d"))):
-        found[name] = statistics.median(store.commits(*words)) * 1e6
+        found[name] = spread(store.commits(*words)).median * 1e6
     found |= questions(store, library)
     held = resident()
     pathlib.Path("/proc/self/clear_refs").write_text("5")  # From here the kernel counts the peak anew.

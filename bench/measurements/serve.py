@@ -14,10 +14,10 @@ from __future__ import annotations
 
 import argparse
 import pathlib
-import statistics
 from typing import Iterator, List
 
 from bench import tables
+from bench.measuring import percentile, spread
 from bench.serving import QUESTIONS, Times, measured
 
 
@@ -40,9 +40,9 @@ def rows(words: argparse.Namespace, room: pathlib.Path) -> Iterator[List[str]]:
 def row(rate: int, count: int, times: Times) -> List[str]:
     cells = []
     for name in QUESTIONS:
-        ordered = sorted(times[name])
-        if ordered:
-            cells += [f"{1000 * statistics.median(ordered):.2f}", f"{1000 * ordered[int(0.99 * len(ordered))]:.1f}"]
+        found = times[name]
+        if found:
+            cells += [f"{1000 * spread(found).median:.2f}", f"{1000 * percentile(found, 99):.1f}"]
         else:
             cells += [tables.ABSENT, tables.ABSENT]
     return [f"{rate:,} a second" if rate else "full speed", str(count), *cells]

@@ -2,6 +2,7 @@
 crates."""
 from __future__ import annotations
 
+import itertools
 import pathlib
 import re
 import shutil
@@ -53,14 +54,13 @@ def public_calls() -> Iterator[Tuple[str, str, bool]]:
     a value of the type. A function without a type has none."""
     for crate, names in re.findall(r"pub use (\w+)::\{?([^;}]*)\}?;", (TOP / "crates/misteluk/src/lib.rt").read_text()):
         sources = [it.read_text() for it in sorted((TOP / "crates" / crate / "src").rglob("*.rt"))]
-        for name in filter(None, map(str.strip, names.split(","))):
-            for text in sources:
-                yield from (("", name, False) for _ in re.findall(rf"(?m)^pub fn {name}\b", text))
-                kinds = rf"(?ms)^(?:impl(?:<[^{{]*?>)? {name}\b(?! for)|pub trait {name}\b)[^\n]*\{{\n(.*?)^\}}"
-                for body in re.findall(kinds, text):
-                    found = re.findall(r"(?ms)^    (?:pub )?fn (\w+)(?:<.*?>)?\(\s*(&?(?:mut |'\w+ )*self\b)?", body)
-                    private = re.findall(r"(?m)^    fn (\w+)", body) if "pub fn" in body else []
-                    yield from ((name, call, bool(of)) for call, of in found if call not in private)
+        for name, text in itertools.product(filter(None, map(str.strip, names.split(","))), sources):
+            yield from (("", name, False) for _ in re.findall(rf"(?m)^pub fn {name}\b", text))
+            kinds = rf"(?ms)^(?:impl(?:<[^{{]*?>)? {name}\b(?! for)|pub trait {name}\b)[^\n]*\{{\n(.*?)^\}}"
+            for body in re.findall(kinds, text):
+                found = re.findall(r"(?ms)^    (?:pub )?fn (\w+)(?:<.*?>)?\(\s*(&?(?:mut |'\w+ )*self\b)?", body)
+                private = re.findall(r"(?m)^    fn (\w+)", body) if "pub fn" in body else []
+                yield from ((name, call, bool(of)) for call, of in found if call not in private)
 
 
 def is_called(text: str, kind: str, name: str, is_method: bool) -> bool:

@@ -10,16 +10,58 @@ struct Graph {
     names: HashMap<Vec<u8>, u32>,
     kinds: HashMap<Vec<u8>, u8>,
     edges: HashMap<Key, (i64, u64, u64)>,
+    version: u64,
+    inserted: u64,
 }
 
 fn number(text: &[u8]) -> u64 {
     std::str::from_utf8(text).unwrap().parse().unwrap()
 }
 
+impl Graph {
+    fn insert(&mut self, kind: &[u8], source: &[u8], target: &[u8], weight: u64, time: u64) {
+        let kinds = self.kinds.len() as u8;
+        let kind = *self.kinds.entry(kind.to_vec()).or_insert(kinds);
+        let names = self.names.len() as u32;
+        let source = *self.names.entry(source.to_vec()).or_insert(names);
+        let names = self.names.len() as u32;
+        let target = *self.names.entry(target.to_vec()).or_insert(names);
+        self.edges.insert((kind, source, target), (weight as i64, time, time));
+        self.inserted += 1;
+    }
+
+    fn edge(&self, slot: u64, ends: [&[u8]; 3], text: &mut Vec<u8>) -> io::Result<()> {
+        let [kind, source, target] = ends;
+        match (self.kinds.get(kind), self.names.get(source), self.names.get(target)) {
+            (Some(kind), Some(source), Some(target)) => match self.edges.get(&(*kind, *source, *target)) {
+                Some((weight, first, recent)) => writeln!(text, "edge {slot} {weight} {first} {recent}"),
+                None => writeln!(text, "edge {slot} none"),
+            },
+            _ => writeln!(text, "error NoVertex"),
+        }
+    }
+
+    /// Does what a record says, and writes its line.
+    fn read(&mut self, fields: &[&[u8]], text: &mut Vec<u8>) -> io::Result<()> {
+        match fields {
+            [b"i", kind, source, target, weight, time] => {
+                self.insert(kind, source, target, number(weight), number(time));
+                Ok(())
+            }
+            [b"commit"] => {
+                self.version += 1;
+                let inserted = std::mem::take(&mut self.inserted);
+                writeln!(text, "commit v={} ins={inserted} upd=0 rem=0 abs=0 ovf=0", self.version)
+            }
+            [b"open", slot] => writeln!(text, "open {} v={}", number(slot), self.version),
+            [b"edge", slot, kind, source, target] => self.edge(number(slot), [kind, source, target], text),
+            _ => writeln!(text, "error BadCommand"),
+        }
+    }
+}
+
 fn main() -> io::Result<()> {
     let mut graph = Graph::default();
-    let mut version = 0;
-    let mut inserted = 0;
     let stdin = io::stdin();
     let mut reader = io::BufReader::new(stdin.lock());
     let stdout = io::stdout();
@@ -36,36 +78,7 @@ fn main() -> io::Result<()> {
         }
         let fields: Vec<&[u8]> = line.split(|byte| *byte == b',').collect();
         text.clear();
-        match fields.as_slice() {
-            [b"i", kind, source, target, weight, time] => {
-                let kinds = graph.kinds.len() as u8;
-                let kind = *graph.kinds.entry(kind.to_vec()).or_insert(kinds);
-                let names = graph.names.len() as u32;
-                let source = *graph.names.entry(source.to_vec()).or_insert(names);
-                let names = graph.names.len() as u32;
-                let target = *graph.names.entry(target.to_vec()).or_insert(names);
-                let time = number(time);
-                graph.edges.insert((kind, source, target), (number(weight) as i64, time, time));
-                inserted += 1;
-            }
-            [b"commit"] => {
-                version += 1;
-                writeln!(text, "commit v={version} ins={inserted} upd=0 rem=0 abs=0 ovf=0")?;
-                inserted = 0;
-            }
-            [b"open", slot] => writeln!(text, "open {} v={version}", number(slot))?,
-            [b"edge", slot, kind, source, target] => {
-                let slot = number(slot);
-                match (graph.kinds.get(*kind), graph.names.get(*source), graph.names.get(*target)) {
-                    (Some(kind), Some(source), Some(target)) => match graph.edges.get(&(*kind, *source, *target)) {
-                        Some((weight, first, recent)) => writeln!(text, "edge {slot} {weight} {first} {recent}")?,
-                        None => writeln!(text, "edge {slot} none")?,
-                    },
-                    _ => writeln!(text, "error NoVertex")?,
-                }
-            }
-            _ => writeln!(text, "error BadCommand")?,
-        }
+        graph.read(&fields, &mut text)?;
         out.write_all(&text)?;
     }
 }

@@ -1,13 +1,13 @@
 """A desk of the C library as large as a graph of `scale` needs, the shapes of such graphs, and what is asked."""
 from __future__ import annotations
 
-import time
 from ctypes import c_uint32, c_uint64
 from typing import Any, Callable, List, Tuple
 
 import numpy
 
 from bench.calls import VIEW, must
+from bench.measuring import watch
 from misteluk.engine import interface
 from misteluk.engine.interface import Code
 
@@ -67,11 +67,11 @@ class Store:
         for first in range(0, count, STEP):
             part = [it[first:first + STEP] for it in columns]
             table = [word for it in part for word in (at(it), len(it))]
-            begun = time.process_time()
+            since = watch()
             must(self.library.desk_insert_columns(self.desk, b"e", 1, text, len(text), at(ends), len(ends), *table,
                                                   self.counts, self.done))
             must(self.library.desk_collect(self.desk, self.done))
-            spent.append(time.process_time() - begun)
+            spent.append(since().processor)
         return spent
 
     def stat(self) -> Any:
@@ -96,9 +96,9 @@ class Store:
             if source:
                 tail, head = (word.replace("%d", str(it)).encode() for word in (source, target))
                 must(self.library.batch_insert(batch, b"e", 1, tail, len(tail), head, len(head), it, it))
-            begun = time.process_time()
+            since = watch()
             must(self.library.desk_apply(self.desk, batch, self.counts))
-            spent.append(time.process_time() - begun)
+            spent.append(since().processor)
         self.library.batch_free(batch)
         return spent
 

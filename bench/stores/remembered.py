@@ -5,12 +5,11 @@ import contextlib
 import functools
 import os
 import pathlib
-import statistics
 from typing import Any, Callable, Dict, Iterator, List, Tuple
 from unittest import mock
 
 from bench import tables
-from bench.measuring import Spent, in_turns, stop, timed
+from bench.measuring import Spent, in_turns, spread, stop, timed
 from bench.places import BLOCKS, program
 from bench.scripts import BATCH
 from bench.stores.transfers import COLUMNS, rows_of
@@ -55,9 +54,9 @@ def memory_of_edges(path: str, count: int, turns: int) -> None:
         runs = in_turns(works, turns)
         for clock, is_elapsed in (("elapsed", True), ("processor time of Python's process", False)):
             times = [[it.elapsed if is_elapsed else it.processor for it, _ in runs[remembers]] for remembers in (True, False)]
-            one, other = (tables.seconds(statistics.median(it)) for it in times)
-            rows.append([f"{way}, {clock}", one, other, f"{statistics.median(a / b for a, b in zip(*times)):.2f}"])
-        ready[way] = tables.seconds(statistics.median(it for _, it in runs[True]))
+            one, other = (tables.seconds(spread(it).median) for it in times)
+            rows.append([f"{way}, {clock}", one, other, f"{spread([a / b for a, b in zip(*times)]).median:.2f}"])
+        ready[way] = tables.seconds(spread([it for _, it in runs[True]]).median)
     print()
     tables.show([f"{count:,} transfers, the memory of edges", "with", "without", "ratio"], rows)
     print("\nReady for the first question, processor time: " + ", ".join(f"after {way} {it}" for way, it in ready.items()))
@@ -87,5 +86,5 @@ def saved(path: str, room: pathlib.Path, turns: int) -> None:
     found: Dict[str, List[Tuple[float, float, int]]] = in_turns(works, turns)
     print()
     tables.show(["a version saved", "save", "restore", "bytes"],
-                ([form, *(tables.seconds(statistics.median(it[at] for it in runs)) for at in (0, 1)), tables.count(runs[0][2])]
+                ([form, *(tables.seconds(spread([it[at] for it in runs]).median) for at in (0, 1)), tables.count(runs[0][2])]
                  for form, runs in found.items()))

@@ -66,10 +66,12 @@ class Refused(StoreError):
 
     @property
     def field(self) -> Optional[str]:
+        """Which field is wrong; `None` where none was named, as where the program refused the record."""
         return self.fault.field if self.fault else None
 
     @property
     def reason(self) -> Optional[str]:
+        """Why it is refused; `None` where only the program's word is known."""
         return self.fault.reason if self.fault else None
 
 
@@ -90,47 +92,69 @@ class BadWeight(Refused):
 
 
 class BadTime(Refused):
+    """A time, or an end of a window, is no whole number, or outside its limits."""
+
     advice = "Dates are taken by a store with times='iso' (--times iso)"
 
 
 class BadSlot(Refused):
+    """A slot is no number from 0 to the number of seats minus 1."""
+
     advice = "Ask for more seats when the store is made (seats=, 16 at most)"
 
 
 class NotOpen(Refused):
+    """No session is open in this slot."""
+
     advice = "Open a session first"
 
 
 class AlreadyOpen(Refused):
+    """A session is open in this slot already."""
+
     advice = "Close the session in that slot, or take another slot"
 
 
 class BadWindow(Refused):
+    """A window begins after it ends."""
+
     advice = "A window begins no later than it ends"
 
 
 class NoKind(Refused, LookupError):
+    """The version that the session holds has no such kind."""
+
     advice = "The version that the session holds has no edge of this kind, and never had; a later one may"
 
 
 class NoVertex(Refused, LookupError):
+    """The version that the session holds has no such name."""
+
     advice = "The version that the session holds has no such name; a later one may"
 
 
 class BatchFull(Refused):
+    """As many operations are pending as a batch has room for. They stay so."""
+
     advice = "A batch has at most 4,096 operations: commit in between"
 
 
 class BatchLimit(Refused):
+    """As many batches were applied as the store takes."""
+
     advice = ("A program takes at most 65,536 batches: make them larger, or begin it anew from a session (Store.rebase), or take "
               "a store in this process (engine='library')")
 
 
 class NamesFull(Refused):
+    """With the batch there would be more names than the store takes."""
+
     advice = "A program's graph has at most 65,536 names, those of removed edges too: a store in this process takes more"
 
 
 class KindsFull(Refused):
+    """With the batch there would be more kinds than the store takes."""
+
     advice = "A graph has at most 64 kinds, those of removed edges too"
 
 
@@ -257,7 +281,7 @@ class LibraryNotFound(StoreError):
 
 
 class NoMemory(StoreError, MemoryError):
-    """The library found no memory for a call. All is as it was before it."""
+    """The library ran out of memory for a call. All is as it was before it."""
 
 
 class NoAnswer(StoreError, TimeoutError):
@@ -275,7 +299,7 @@ class ProgramEnded(StoreError):
 
 
 class OutOfMemory(ProgramEnded):
-    """The program found no memory for a record, and ended."""
+    """The program ran out of memory for a record, and ended."""
 
 
 class Busy(StoreError):

@@ -54,9 +54,11 @@ class Session(Generic[W, T]):
 
     @property
     def is_open(self) -> bool:
+        """Whether the session holds its version still."""
         return self.held.is_open
 
     def must_be_open(self) -> None:
+        """Raises `SessionClosed` where the session is closed."""
         if not self.is_open:
             raise SessionClosed(f"the session of version {self.version} is closed")
 

@@ -24,7 +24,8 @@ from .values.limits import Limits, within
 from .values.units import Amount, Moment, Units
 
 if TYPE_CHECKING:
-    from .feeds.following import Following, Span
+    from .feeds.following import Following
+    from .feeds.spans import Span
     from .feeds.loading import Loaded
 
 R = TypeVar("R")
@@ -341,6 +342,7 @@ class Store(Generic[W, T]):
 
     @property
     def is_closed(self) -> bool:
+        """Whether the store was closed or killed."""
         return self._is_closed
 
     def kill(self) -> None:

@@ -21,7 +21,7 @@ ONCE = ("fields", "lint", "package", "records", "release", "types", "serve", "se
         "serve_fuzz", "serve_apart", "serve_direct", "serve_killed", "serve_kept", "serve_page", "serve_pending", "serve_talk",
         "serve_versions")
 # Files of tests that also run over stores that a server has, and what a server needs.
-SERVED = ("arrays", "names", "objects", "store", "units", "view", "view_dense", "walking")
+SERVED = ("arrays", "names", "objects", "store", "units", "view", "view_browsers", "view_dense", "walking", "walking_calls")
 OF_SERVER = ("starlette", "uvicorn")
 
 

@@ -1,4 +1,5 @@
 """A copy of a version answers every request as the version does: names and kinds in their order, both times of each edge."""
+import itertools
 import random
 import unittest
 from unittest import mock
@@ -16,15 +17,14 @@ WINDOWS = ({}, {"since": 30}, {"until": 40}, {"since": 20, "until": 50}, {"since
 
 def answers_of(session, sources):
     """What a session says to every request, and in which order."""
+    asks = (session.degrees, session.components, session.cores, *(lambda it=it, **how: session.levels(it, **how)
+                                                                  for it in sources))
     told = []
-    for kind in (None, *KINDS, "no kind"):
-        for window in WINDOWS:
-            for ask in (session.degrees, session.components, session.cores, *(lambda it=it, **how: session.levels(it, **how)
-                                                                            for it in sources)):
-                try:
-                    told.append(list(ask(kind=kind, **window).items()))
-                except (misteluk.NoKind, misteluk.NoVertex) as fault:
-                    told.append(fault.word)
+    for kind, window, ask in itertools.product((None, *KINDS, "no kind"), WINDOWS, asks):
+        try:
+            told.append(list(ask(kind=kind, **window).items()))
+        except (misteluk.NoKind, misteluk.NoVertex) as fault:
+            told.append(fault.word)
     edges = [(kind, source, target) for kind in (*KINDS, "no kind") for source in sources for target in sources]
     return told + session.edges(edges, missing="no such name")
 

@@ -1,4 +1,5 @@
 """How much a store takes: limits that are said, and a store in process that has more room once it is needed."""
+import itertools
 import unittest
 from unittest import mock
 
@@ -54,14 +55,14 @@ class OfLimits(unittest.TestCase):
     def test_shapes(self):
         """A desk's limits have room for what there is, and are within the walls."""
         light = Limits(weight=1 << 39), Limits(weight=1), Limits(kinds=3, weight=1_000), Limits(16_000_000, weight=1 << 39)
-        for said in (Limits(), Limits(vertices=1_000), Limits(kinds=3), Limits(500_000, 16), *light):
-            for vertices in (0, 1, 1_000, 131_071, 131_072, 1_048_575, 1_048_576, 8_388_606, 8_388_607, 16_777_214, 67_108_863):
-                for kinds in (0, 1, 2, 3, 8, 9, 17, 33, 64):
-                    if not said.over(vertices, kinds):
-                        found = said.shape(vertices, kinds)
-                        self.assertTrue(found.vertices >= vertices and found.kinds >= kinds, (said, vertices, kinds, found))
-                        self.assertLessEqual(found.vertices * found.kinds, said.product)
-                        self.assertEqual((found.checked(), found.weight), (found, said.weight))
+        limits = (Limits(), Limits(vertices=1_000), Limits(kinds=3), Limits(500_000, 16), *light)
+        sizes = 0, 1, 1_000, 131_071, 131_072, 1_048_575, 1_048_576, 8_388_606, 8_388_607, 16_777_214, 67_108_863
+        for said, vertices, kinds in itertools.product(limits, sizes, (0, 1, 2, 3, 8, 9, 17, 33, 64)):
+            if not said.over(vertices, kinds):
+                found = said.shape(vertices, kinds)
+                self.assertTrue(found.vertices >= vertices and found.kinds >= kinds, (said, vertices, kinds, found))
+                self.assertLessEqual(found.vertices * found.kinds, said.product)
+                self.assertEqual((found.checked(), found.weight), (found, said.weight))
 
 
 @unittest.skipUnless(ENGINE == "library", OF_LIBRARY)

@@ -64,8 +64,8 @@ class Programs(Case):
     def test_an_end_by_a_signal(self):
         self.fault(misteluk.ProgramEnded, "ended by signal 9 before record 2", SAID + "os.kill(os.getpid(), 9)")
 
-    def test_want_of_memory(self):
-        self.fault(misteluk.OutOfMemory, "no memory for record 2", SAID + "print('error 2 Memory'); sys.exit(1)")
+    def test_out_of_memory(self):
+        self.fault(misteluk.OutOfMemory, "out of memory for record 2", SAID + "print('error 2 Memory'); sys.exit(1)")
 
     def test_a_read_that_failed(self):
         self.fault(misteluk.ProgramEnded, "could not read record 2", SAID + "print('error 2 Read'); sys.exit(1)")

@@ -5,6 +5,7 @@ again with faults that are planted, and have to find them.
 """
 import gzip
 import hashlib
+import itertools
 import os
 import subprocess
 import unittest
@@ -26,15 +27,14 @@ ENDINGS = ("", ".gz", ".xz", ".bz2")
 def answers_of(session, of_names):
     """What a session says to every request, and in which order, but for neighbors: those come as the blocks have them."""
     told, store = [session.store.kinds, session.store.units, len(session)], session.store
-    for kind in (None, *store.kinds, "no kind"):
-        for since, until in WINDOWS:
-            for ask, *given in ((session.degrees,), (session.components,), (session.cores,), (session.weights_in,),
-                                *((ask, it) for it in of_names for ask in (session.levels, session.neighbors))):
-                try:
-                    found = list(ask(*given, kind=kind, since=since, until=until).items())
-                    told.append(sorted(found) if ask == session.neighbors else found)
-                except (misteluk.NoKind, misteluk.NoVertex) as fault:
-                    told.append(fault.word)
+    asks = ((session.degrees,), (session.components,), (session.cores,), (session.weights_in,),
+            *((ask, it) for it in of_names for ask in (session.levels, session.neighbors)))
+    for kind, (since, until), (ask, *given) in itertools.product((None, *store.kinds, "no kind"), WINDOWS, asks):
+        try:
+            found = list(ask(*given, kind=kind, since=since, until=until).items())
+            told.append(sorted(found) if ask == session.neighbors else found)
+        except (misteluk.NoKind, misteluk.NoVertex) as fault:
+            told.append(fault.word)
     return told + sorted(session.edges()) + [of_names[0] in session, session.path(*session.degrees().most(2)[0][:1] * 2)
                                              if session.degrees() else None]
 

@@ -80,9 +80,8 @@ class Faults(Case):
             left = self.path.read_bytes(), sorted(os.listdir(self.room))
             if left not in ((self.old, ["new.csv.gz", "s.csv.gz"]), (self.new, ["new.csv.gz", "s.csv.gz"])):
                 wrong.append(at)
-                for it in os.listdir(self.room):
-                    if it.endswith(".part"):
-                        os.remove(self.room / it)
+                for it in self.room.glob("*.part"):
+                    it.unlink()
             if not interrupted:
                 self.assertEqual(left[0], self.new)
                 return at - 1, wrong

@@ -1,6 +1,5 @@
-"""Views of one held version and of two: what they say beside a plain model and by hand, and the page in Chromium."""
+"""Views of one held version and of two: what they say beside a plain model and by hand."""
 import html
-import json
 import os
 import random
 import re
@@ -10,7 +9,7 @@ import unittest
 from collections import defaultdict
 from unittest import mock
 
-from pages import CHROMIUM, NO_CHROMIUM, Pixels, Reader, browse
+from pages import Reader
 from support import ENGINE, HERE, OF_PIPES, Case
 
 import misteluk
@@ -23,7 +22,6 @@ from misteluk.page.neighborhood import CHANGED, GONE, KEPT, NEW
 BEFORE = ("insert transfer ana funnel 980 1", "insert transfer ben funnel 950 1", "insert transfer funnel offshore 3850 3",
           "insert transfer boss ana 2100 1")
 AFTER = ("remove transfer ben funnel", "add transfer funnel offshore -940 4", "insert transfer zed funnel 7 5")
-GONE_COLOR, NEW_COLOR, CHANGED_COLOR = "#d55e00", "#0072b2", "#93509e"
 ODD = ("<script>alert(1)</script>", "Иванов Пётр", "O\"Brien & 'Sons'", "王小明", "</style><b>", "&amp;", "a b",
        "~~0123456789abcdefghij")
 
@@ -388,103 +386,6 @@ class Layouts(unittest.TestCase):
         for count in (1, 2, 3):
             at = place([0, 1, 1][:count], [(0, it) for it in range(1, count)])
             self.assertEqual(len(set(at)), count)
-
-
-WIDE = "--window-size=1300,900"
-# What is done to a page by a reader, and what is seen then: names of vertices and edges by their classes, and rows that are left.
-DEEDS = """<script>
-    const names = (query) => [...new Set(all(query).map((it) => it.getAttribute("aria-label") ?? it.dataset.edge))].sort();
-    const rows = (table, cell) => all(`#${table} tbody tr:not(.out)`).map((it) => it.cells[cell].textContent).sort();
-    const all = (query) => [...document.querySelectorAll(query)], seen = {};
-    const look = (deed) => { seen[deed] = {lit: names(".vertex.lit"), found: names(".vertex.found"), core: names(".vertex.core"),
-        edges: all(".edge.lit").length, rows: rows("vertices", 0), edgeRows: rows("edges", 1),
-        told: document.getElementById("told").textContent, focused: document.body.classList.contains("focused")}; };
-    const vertex = (name, deed) => all(`.vertex[aria-label="${name}"]`)[0].dispatchEvent(new Event(deed));
-    const search = document.getElementById("search");
-    const type = (text) => { search.value = text; search.dispatchEvent(new Event("input")); };
-    look("nothing");
-    vertex("ben", "mouseenter"); look("point"); vertex("ben", "mouseleave"); look("away");
-    type("AN"); look("search"); type(""); vertex("funnel", "click"); look("click");
-    document.dispatchEvent(new KeyboardEvent("keydown", {key: "Escape"})); look("escape");
-    all("#edges tbody tr")[0].dispatchEvent(new Event("mouseenter")); look("row");
-    const wide = () => all(".pictures section")[0].getBoundingClientRect().width;
-    const before = wide(); document.getElementById("large").click(); seen.larger = wide() / before;
-    all("#vertices th button")[2].click(); seen.order = all("#vertices tbody tr").map((it) => it.cells[2].textContent);
-    document.body.innerHTML = ""; document.body.textContent = JSON.stringify(seen);
-</script>"""
-
-
-@unittest.skipUnless(CHROMIUM, NO_CHROMIUM)
-class Browsers(Case):
-    pair = Views.pair
-
-    def test_the_page_in_chromium(self):
-        """It shows what its text says, runs no script but its own, and loads nothing."""
-        store = self.store(*BEFORE)
-        for it in ODD:
-            store.insert("transfer", it, "funnel", 1)
-        store.commit()
-        first = store.open()
-        self.feed(store, *AFTER)
-        found = view(first, "funnel", beside=store.open())
-        found.save(self.room / "page.html")
-        dom = Reader(browse(str(self.room / "page.html"), "--dump-dom"))
-        self.assertEqual({row[0] for row in rows_of(dom, "vertices")}, {*ODD, "ana", "ben", "boss", "funnel", "offshore", "zed"})
-        self.assertEqual([dom.texts[it].split()[0] for it in (GONE, NEW, CHANGED, KEPT)], ["1", "1", "1", "10"])
-        self.assertEqual(dom.elements["script"], 1)
-
-    def test_pointing_searching_clicking(self):
-        first, last = self.pair(BEFORE, AFTER)
-        page = view(first, "funnel", beside=last).html
-        path = self.file("deeds.html", page.replace("</body>", DEEDS + "</body>"))
-        seen = json.loads(html.unescape(re.search(r"<body[^>]*>(.*)</body>", browse(path, "--dump-dom", WIDE), re.S)[1]))
-        every = sorted(["ana", "ben", "boss", "funnel", "offshore", "zed"])
-        self.assertEqual((seen["nothing"]["focused"], seen["nothing"]["rows"], seen["nothing"]["told"]), (False, every, ""))
-        self.assertEqual((seen["point"]["core"], seen["point"]["lit"], seen["point"]["edges"]), (["ben"], ["ben", "funnel"], 1))
-        self.assertEqual((seen["away"]["focused"], seen["escape"]["focused"]), (False, False))
-        self.assertEqual((seen["search"]["found"], seen["search"]["rows"], seen["search"]["told"]), (["ana"], ["ana"], "1 of 6"))
-        self.assertEqual(seen["search"]["edgeRows"], ["ana", "boss"])
-        self.assertEqual((seen["click"]["lit"], seen["click"]["edges"]), (["ana", "ben", "funnel", "offshore", "zed"], 6))
-        self.assertEqual(seen["click"]["edgeRows"], ["ana", "ben", "funnel", "zed"])
-        self.assertEqual(len(seen["escape"]["edgeRows"]), 5)
-        self.assertEqual((seen["row"]["lit"], seen["row"]["edges"]), (["ben", "funnel"], 1))
-        self.assertTrue(1.8 < seen["larger"] < 2.2, seen["larger"])
-        self.assertEqual(seen["order"], ["1", "1", "1", "1", "0", "–"])
-
-    def test_no_border_cuts_a_name(self):
-        """Whether it is seen always, while it is pointed at, or bold: of 300 vertices with the widest names most have no room."""
-        store = self.store(*(f"insert k hub {'W' * 20}{it} 1 1" for it in range(299)))
-        page = view(store.open(), "hub", most=300).html
-        look = ("<script>const cut = [];\nfor (const it of document.querySelectorAll('.picture .name')) {\n"
-                "    it.style.fontWeight = 600;\n    const box = it.getBBox();\n"
-                "    const wide = it.ownerSVGElement.viewBox.baseVal.width;\n"
-                "    if (box.x < 0 || box.x + box.width > wide) cut.push(it.textContent);\n}\n"
-                "const count = document.querySelectorAll('.picture .name').length;\n"
-                "document.body.textContent = JSON.stringify({cut, count});</script>")
-        dumped = browse(self.file("wide.html", page.replace("</body>", look + "</body>")), "--dump-dom", WIDE)
-        seen = json.loads(html.unescape(re.search(r"<body[^>]*>(.*)</body>", dumped, re.S)[1]))
-        self.assertEqual((seen["count"], seen["cut"]), (300, []))
-
-    def test_colors(self):
-        """Gone edges are red in the picture before and not in the one after, new ones blue after and not before; the one that
-        changed is in both. A notebook's styles don't reach the frame."""
-        first, last = self.pair(BEFORE, AFTER)
-        found = view(first, "funnel", beside=last)
-        bare = found.html.replace("</head>", "<style>header, .legend, .tables, .note { display: none }</style></head>")
-        frame = ("<style>* { background: #d55e00 !important; margin: 0 }</style>"
-                 f'<iframe srcdoc="{html.escape(bare)}" sandbox="allow-scripts" width="880" height="440" frameborder="0">'
-                 "</iframe>")
-        for page in (bare, frame):
-            path = self.file("page.html", page)
-            browse(path, f"--screenshot={self.room / 'page.png'}", "--window-size=880,440")
-            pixels = Pixels(str(self.room / "page.png"))
-            self.assertEqual((pixels.width, pixels.height), (880, 440))
-            left, right = range(440), range(440, 880)
-            counts = {color: (pixels.count(color, left), pixels.count(color, right))
-                      for color in (GONE_COLOR, NEW_COLOR, CHANGED_COLOR)}
-            self.assertTrue(counts[GONE_COLOR][0] > 8 and counts[GONE_COLOR][1] == 0, counts)
-            self.assertTrue(counts[NEW_COLOR][0] == 0 and counts[NEW_COLOR][1] > 40, counts)
-            self.assertTrue(min(counts[CHANGED_COLOR]) > 8, counts)
 
 
 if __name__ == "__main__":

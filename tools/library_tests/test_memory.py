@@ -171,15 +171,14 @@ class Memory(unittest.TestCase):
             with self.subTest(call=name):
                 _, asked, wanted = self.play(call, 0, 0)
                 _, _, without = self.play(lambda it: None, 0, 0)
-                for place in range(1, asked + 1):
-                    for last in (place, 1 << 60):
-                        code, _, found = self.play(call, place, last)
-                        if code is None:
-                            self.assertEqual(found, wanted)
-                        else:
-                            assert isinstance(found, tuple) and isinstance(without, tuple)
-                            self.assertEqual(found[1:], without[1:])
-                            refused += 1
+                for place, last in ((it, last) for it in range(1, asked + 1) for last in (it, 1 << 60)):
+                    code, _, found = self.play(call, place, last)
+                    if code is None:
+                        self.assertEqual(found, wanted)
+                    else:
+                        assert isinstance(found, tuple) and isinstance(without, tuple)
+                        self.assertEqual(found[1:], without[1:])
+                        refused += 1
         self.assertGreater(refused, 100)
 
     def test_no_call_is_forgotten(self) -> None:

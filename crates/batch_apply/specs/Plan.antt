@@ -2,16 +2,16 @@
 use Rattle.std.specs.{Prelude.{ℕ, ◌≡◌, ◌<◌, ◌≤◌, List, ◌∷◌, length, Bool, if◌then◌else◌}, Option.{option_map, IfSome}}
 use Rattle.std.specs.declared.option.Option.{Option, TheVariants.{None, Some}}
 use Rattle.graph_types.specs.{Graph.{Graph, Key}, Limits.standard_limits, Step.{number_of, with_name, empty_graph}, Changes.IsChange}
-use Rattle.graph_types.specs.{Refusals.IsLimitRefusal, declared.{batches.NamedOp.NamedOp, refusals.ApplyError.ApplyError}}
+use Rattle.graph_types.specs.{Answer.is_listed, Refusals.IsLimitRefusal, declared.{batches.NamedOp.NamedOp, refusals.ApplyError.ApplyError}}
 use Rattle.vertex_names.specs.{Book.Book, declared.book.AddError.{AddError, TheVariants.{NamesFull, OutOfMemory}}}
 use Rattle.graph_types.specs.Parts.{Parts, OfEdge, OfAll, parts_of}
-use Rattle.edge_block.specs.Batches.{Resolved, AtKey, InAll, is_known}
+use Rattle.edge_block.specs.Batches.{Resolved, AtKey, InAll}
 use Rattle.batch_apply.specs.declared.resolve.{Ends.Ends, EdgeKey.EdgeKey, SeenKind.SeenKind}
 use Rattle.batch_apply.specs.declared.resolve.ResolvedOp.{ResolvedOp, TheVariants.{Edge, Expire}}
 
 -- a name's number, if it has appeared
 abbrev pub known : List (List ℕ) → List ℕ → Option ℕ
-known names name = if is_known names name then Some (number_of names name) else None
+known names name = if is_listed names name then Some (number_of names name) else None
 
 -- the numbers of an operation's source and target, by these names
 abbrev pub ends_by : List (List ℕ) → Parts → Ends

@@ -30,8 +30,8 @@ abbrev pub insertion : List ℕ → ℤ → ℕ → Option (List ℕ) → Option
 insertion kind weight time (Some source) (Some target) = Some (Insert kind source target weight time)
 insertion kind weight time _ _ = None
 
--- an operation is appended to a batch that may have as many as the limit; or nothing is, and the first refusal that holds is told:
--- want of memory may be told in place of any
+-- an operation is appended to a batch that may have as many as the limit; or nothing is, and the first refusal that holds is
+-- reported: out of memory may be reported in place of any
 abbrev pub IsPushed : ℕ → NamedOp → List NamedOp → List NamedOp → Result (Unit {0}) PushError → Type 0
 IsPushed limit op old new (Ok _) = (push_refusal_within limit op (length old) ≡ None) × (new ≡ old ++ op ∷ [])
 IsPushed limit op old new (Err error) =

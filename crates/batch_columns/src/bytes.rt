@@ -22,7 +22,7 @@ fn text_of(bytes: &[u8]) -> Result<&str, PushError>
 }
 
 /// Appends an insertion to a batch, which may have as many operations as the limit; or changes nothing and tells the first refusal
-/// that holds: `BadName`, `BadWeight`, `BadTime`, `BatchFull`. Want of memory may be told in place of any of these.
+/// that holds: `BadName`, `BadWeight`, `BadTime`, `BatchFull`. Out of memory may be reported in place of any of these.
 pub fn push_insert(
     alloc: Global,
     batch: &mut Batch,

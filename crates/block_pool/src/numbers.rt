@@ -165,10 +165,10 @@ impl Numbers {
         self.statuses.set(number as usize, BlockStatus::Granted);
     }
 
-    /// Makes a used number free.
+    /// Makes a number in use free.
     pub fn give_back(&mut self, number: u32)
         requires kept { IsNumbers self.old }
-        requires used { is_in_use_at (statuses self.old) number ≡ true }
+        requires in_use { is_in_use_at (statuses self.old) number ≡ true }
         ensures kept { IsNumbers self.new }
         ensures statuses { statuses self.new ≡ slice_set (statuses self.old) number Free }
     {
@@ -177,10 +177,10 @@ impl Numbers {
         self.free_len += 1;
     }
 
-    /// Notes the version that first lists a used number.
+    /// Notes the version that first lists a number in use.
     pub fn born(&mut self, number: u32, version: u64)
         requires kept { IsNumbers self.old }
-        requires used { is_in_use_at (statuses self.old) number ≡ true }
+        requires in_use { is_in_use_at (statuses self.old) number ≡ true }
         ensures kept { IsNumbers self.new }
         ensures statuses { statuses self.new ≡ slice_set (statuses self.old) number (Used version) }
     {

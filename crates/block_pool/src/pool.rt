@@ -167,7 +167,7 @@ impl Pool {
     /// Gives back what was granted and neither given back nor retired, with the block or without it. It takes no
     /// memory.
     pub fn give_back(&mut self, number: u32, block: Option<Arc<Block>>)
-        requires used { is_in_use_at self.old number ≡ true }
+        requires in_use { is_in_use_at self.old number ≡ true }
         requires block { IfSome block (λ b. (arc_value {X = Block} b).number ≡ number) }
         ensures { self.new ≡ marked (number ∷ []) Free self.old }
     {

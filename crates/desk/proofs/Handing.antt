@@ -18,7 +18,7 @@ use Rattle.batch_apply.{specs.declared.plans.Plan.Plan, proofs.Asked.needs_withi
 use Rattle.graph_types.specs.declared.refusals.ApplyError.{ApplyError}
 use Rattle.desk.specs.declared.entries.JournalEntry.{JournalEntry}
 use Rattle.desk.specs.{declared.applying.Prepared.Prepared, Kept.{IsKeptDesk, desk_of, journal_entry}}
-use Rattle.desk.specs.{Applying.{AreUsedOnce, AreBornOnce, IsPrepared, application_of}, Refusals.{Refuses, RefusesGrant, IsPlanned, IsWithin, asked}}
+use Rattle.desk.specs.{Applying.{AreInUseOnce, AreUsedOnce, IsPrepared, application_of}, Refusals.{Refuses, RefusesGrant, IsPlanned, IsWithin, asked}}
 use Rattle.desk.{specs.Refusals.block_count, proofs.UsedBlocks.used_blocks}
 use Rattle.graph_version.specs.Rows as rows
 use Rattle.batch_shards.proofs.SharedNumbers.{numbers_mapped}
@@ -62,9 +62,9 @@ grant_within d v workers ops plan desk last admitted =
 -- The grant is given back
 
 pub back_used : (pool new : List BlockStatus) (numbers : List ℕ) → AreFree pool numbers → new ≡ marked numbers Granted pool
-    → AreUsedOnce numbers new
+    → AreInUseOnce numbers new
 back_used pool new numbers free is =
-    let m = granted_movable pool numbers free in subst (AreUsedOnce numbers) (sym is) (record { pass = m.pass; apart = m.apart })
+    let m = granted_movable pool numbers free in subst (AreInUseOnce numbers) (sym is) (record { pass = m.pass; apart = m.apart })
 
 -- and so it is where some of the granted numbers were born meanwhile
 
@@ -72,10 +72,10 @@ taken_within : (h : Handing) (m : ℕ) → is_among m h.prepared.taken.items ≡
 taken_within h m is = taken_granted (application h) m is
 
 pub born_used : (h : Handing) (number : ℕ) (new : List BlockStatus) → new ≡ marked h.prepared.taken.items (Used number) h.pool
-    → AreUsedOnce h.numbers new
+    → AreInUseOnce h.numbers new
 born_used h number new is =
     let m = born_movable h.old.pool h.numbers h.prepared.taken.items number h.free in
-    subst (AreUsedOnce h.numbers) (sym (is ∙ ap (marked h.prepared.taken.items (Used number)) h.granted))
+    subst (AreInUseOnce h.numbers) (sym (is ∙ ap (marked h.prepared.taken.items (Used number)) h.granted))
     (record { pass = m.pass; apart = m.apart })
 
 pub born_same : (h : Handing) (number : ℕ) (new end : List BlockStatus) → new ≡ marked h.prepared.taken.items (Used number) h.pool
@@ -99,26 +99,26 @@ retired_is : (h : Handing) (number : ℕ) (born : List BlockStatus) → number �
 retired_is h number born is made =
     λ i. changed_numbers (retired (is i)) (dropped_is h i) (born_is h number born is made i)
 
-pub taken_once : (h : Handing) → AreUsedOnce h.prepared.taken.items h.pool
+pub taken_once : (h : Handing) → AreInUseOnce h.prepared.taken.items h.pool
 taken_once h =
     let m = taken_movable (application h) in
-    subst (AreUsedOnce h.prepared.taken.items) (sym h.granted) (record { pass = m.pass; apart = m.apart })
+    subst (AreInUseOnce h.prepared.taken.items) (sym h.granted) (record { pass = m.pass; apart = m.apart })
 
 pub dropped_once : (h : Handing) (number : ℕ) (born : List BlockStatus) → number ≡ length h.old.last.batches + 1
-    → born ≡ marked h.prepared.taken.items (Used number) h.pool → AreBornOnce (shared_numbers h.prepared.dropped.items) born
+    → born ≡ marked h.prepared.taken.items (Used number) h.pool → AreUsedOnce (shared_numbers h.prepared.dropped.items) born
 dropped_once h number born is made =
     let m = dropped_movable (application h) in
-    let once : AreBornOnce (rows.numbers_of (shared_blocks h.prepared.dropped.items)) (born_pool (application h)) =
+    let once : AreUsedOnce (rows.numbers_of (shared_blocks h.prepared.dropped.items)) (born_pool (application h)) =
     record { pass = m.pass; apart = m.apart } in
-    subst (AreBornOnce (shared_numbers h.prepared.dropped.items)) (sym (born_is h number born is made))
-    (subst (λ ns. AreBornOnce ns (born_pool (application h))) (sym (dropped_is h)) once)
+    subst (AreUsedOnce (shared_numbers h.prepared.dropped.items)) (sym (born_is h number born is made))
+    (subst (λ ns. AreUsedOnce ns (born_pool (application h))) (sym (dropped_is h)) once)
 
 pub unused_once : (h : Handing) (number : ℕ) (born : List BlockStatus) → number ≡ length h.old.last.batches + 1
     → born ≡ marked h.prepared.taken.items (Used number) h.pool
-    → AreUsedOnce (shared_numbers h.prepared.unused.items) (changed_numbers (retired number) (shared_numbers h.prepared.dropped.items) born)
+    → AreInUseOnce (shared_numbers h.prepared.unused.items) (changed_numbers (retired number) (shared_numbers h.prepared.dropped.items) born)
 unused_once h number born is made =
     let m = unused_movable (application h) in
-    subst (AreUsedOnce (shared_numbers h.prepared.unused.items)) (sym (retired_is h number born is made))
+    subst (AreInUseOnce (shared_numbers h.prepared.unused.items)) (sym (retired_is h number born is made))
     (record { pass = m.pass; apart = m.apart })
 
 pub end_pool : (h : Handing) (number : ℕ) (born end : List BlockStatus) → number ≡ length h.old.last.batches + 1

@@ -13,7 +13,7 @@ use Rattle.graph_types.proofs.{ListPlaces.same_list, Numbers.not_past, Searches.
 use Rattle.block_pool.specs.Pools.{marked}
 use Rattle.store_steps.specs.{Dates.IsDatedBlock, Desks.{DeskView, IsDesk, last_numbers}, Opening.opened_desk}
 use Rattle.store_steps.proofs.{ChangedLists.marked_at, Dated.desk_dated, NumberLists.differ_from}
-use Rattle.desk.specs.{Applying.AreUsedOnce, Openings.without_pins}
+use Rattle.desk.specs.{Applying.AreInUseOnce, Openings.without_pins}
 
 -- No pin
 
@@ -50,7 +50,7 @@ reset_pool d desk = same_list _ _ (λ m.
 
 -- Their numbers
 
-pub last_used : (d : DeskView) → IsDesk d → AreUsedOnce (last_numbers d) d.pool
+pub last_used : (d : DeskView) → IsDesk d → AreInUseOnce (last_numbers d) d.pool
 last_used d desk = record {
   pass = all_by (λ n. is_at is_in_use (slice_get d.pool n)) (last_numbers d)
       (λ m is. in_use (slice_get d.pool m) (desk.listed m ∙ is));

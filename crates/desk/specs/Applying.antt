@@ -34,8 +34,8 @@ pub record AreOnce (test : BlockStatus → Bool) (numbers : List ℕ) (pool : Li
   pub pass : list_all (λ n. is_at test (slice_get pool n)) numbers ≡ true
   pub apart : all_differ numbers ≡ true
 
-abbrev pub AreUsedOnce : List ℕ → List BlockStatus → Type 0
-AreUsedOnce numbers pool = AreOnce is_in_use numbers pool
+abbrev pub AreInUseOnce : List ℕ → List BlockStatus → Type 0
+AreInUseOnce numbers pool = AreOnce is_in_use numbers pool
 
-abbrev pub AreBornOnce : List ℕ → List BlockStatus → Type 0
-AreBornOnce numbers pool = AreOnce is_used numbers pool
+abbrev pub AreUsedOnce : List ℕ → List BlockStatus → Type 0
+AreUsedOnce numbers pool = AreOnce is_used numbers pool

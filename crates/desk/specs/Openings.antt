@@ -16,7 +16,7 @@ pub record OpensWith (blocks : ℕ) (zero : Zero) : Type 0 where
 abbrev pub without_pins : ℕ → PinCopy
 without_pins last = record no_copy { last = last }
 
--- why no desk of so many blocks opens with a version that has `needed`; want of memory may come at any place
+-- why no desk of so many blocks opens with a version that has `needed`; memory may run out at any place
 abbrev pub RefusesOpening : ℕ → ℕ → OpenError → Type 0
 RefusesOpening needed blocks (PoolEmpty told free) = (told ≡ needed) × (free ≡ blocks) × (blocks < needed)
 RefusesOpening needed blocks OutOfMemory = Unit {0}

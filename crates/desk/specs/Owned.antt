@@ -60,7 +60,7 @@ pub record HoldsOnce (old : OwnedView) (number : ℕ) (new : OwnedView) : Type 0
   pub is_for : IsSeatFor old number seat
   pub new_is : new ≡ with_hold old seat (Some (held_pin number)) (count_at old.counts seat + 1)
 
--- why a number isn't held: all seats are other numbers'. Want of memory may come at any place
+-- why a number isn't held: all seats are other numbers'. Memory may run out at any place
 abbrev pub RefusesHold : OwnedView → ℕ → HoldError → Type 0
 RefusesHold o number NoSeat = (seat : ℕ) → IsSeatFor o number seat → ⊥
 RefusesHold o number OutOfMemory = Unit {0}

@@ -25,7 +25,7 @@ pub record Attempt : Type 0 where
   pub free : ℕ
 
 -- When a batch is refused, for the first of these that holds: behind so many batches; where it would leave more names or more
--- kinds than the limits; where it asks for more blocks than are free. Want of memory may come at any place.
+-- kinds than the limits; where it asks for more blocks than are free. Memory may run out at any place.
 abbrev pub BatchRefusal : Attempt → ApplyError → Type 0
 BatchRefusal a BatchLimit = a.graph.limits.batches ≤ a.batches
 BatchRefusal a NamesFull = (a.batches < a.graph.limits.batches) × IsLimitRefusal NamesFull a.ops a.graph
@@ -35,7 +35,7 @@ BatchRefusal a (PoolEmpty needed left) =
     × (a.free < asked a.ops a.used)
 BatchRefusal a OutOfMemory = Unit {0}
 
--- no refusal but want of memory holds
+-- no refusal holds, except that memory may run out
 pub record IsAdmissible (a : Attempt) : Type 0 where
   pub few : a.batches < a.graph.limits.batches
   pub limits : MeetsNeitherLimit a.ops a.graph

@@ -207,8 +207,8 @@ impl Desk {
     /// the batch, and gives the desk back as it was. Who wants a refused batch back keeps a shared copy of it.
     ///
     /// Refused are, in this order: a batch behind as many as the limits allow, one that would leave more vertex names than
-    /// these, one that would leave more kinds, and one that asks for more blocks than are free. Want of memory refuses it too,
-    /// at any place.
+    /// these, one that would leave more kinds, and one that asks for more blocks than are free. It is refused too if memory runs
+    /// out, at any place.
     ///
     /// ```
     /// let desk = match desk.begin(batch) {

@@ -75,7 +75,7 @@ impl Journal {
         ensures keeps { self.new.keeps ≡ self.old.keeps }
         ensures room { self.old.room ≤ self.new.room + 1 }
     {
-        let (told, entry) = self.told.again().and(entry);
+        let (told, entry) = self.told.share().and(entry);
         self.told = told;
         if self.keeps {
             push(&mut self.kept, entry);

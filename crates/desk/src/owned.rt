@@ -208,8 +208,8 @@ impl OwnedDesk {
 
     /// Opens the desk anew over what the last version holds, in the very blocks: version 0 begins with its content and is laid out
     /// as it, no batch is kept, and nothing is retired or held. Versions that were held answer on; the desk doesn't count their
-    /// blocks any more, and a batch that uses such a block takes new memory for it. `AllocError` where memory was wanting, or no
-    /// further opening can be counted; all is as it was then.
+    /// blocks any more, and a batch that uses such a block takes new memory for it. The error is `AllocError` if memory runs out,
+    /// or if no further opening can be counted; all is as it was then.
     ///
     /// It takes memory and time by blocks, 4 bytes each, and not by edges; where batches are kept, also for the content as plain
     /// lists.

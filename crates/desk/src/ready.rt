@@ -151,8 +151,8 @@ impl Granted {
         self.parts.last.version()
     }
 
-    /// Takes what the batch left of the last version, and makes room for its acceptance. Where memory was wanting, for that or
-    /// before, the desk comes back as it was.
+    /// Takes what the batch left of the last version, and makes room for its acceptance. If memory runs out, for that or before,
+    /// the desk comes back as it was.
     pub(crate) fn ready(self, rewritten: Result<Rewritten, AllocError>) -> Result<Ready, Desk>
         requires { IfOk rewritten (IsRewritten self.old.last self.ops self.numbers) }
         ensures begun { IfOk result (λ r. (r.old ≡ self.old) × (r.ops ≡ self.ops)) }

@@ -9,7 +9,7 @@ ghost use Rattle.block_reclamation.specs.declared.status.BlockStatus.TheVariants
 ghost use Rattle.block_reclamation.specs.Status.{recycled};
 ghost use Rattle.block_pool.specs.Pools.{marked};
 ghost use Rattle.store_steps.specs.Opening.{IsVersionZero, opened_desk};
-ghost use Rattle.desk.specs.Applying.{AreUsedOnce};
+ghost use Rattle.desk.specs.Applying.{AreInUseOnce};
 ghost use Rattle.desk.specs.Openings.{without_pins};
 
 use crate::desks::Desk;
@@ -26,7 +26,8 @@ use std::sync::Arc;
 impl Desk {
     /// Opens the desk anew over what its last version holds, in the very rows and blocks: version 0 begins with that content, no
     /// batch is kept, and no block is retired or granted. It takes memory and time by blocks, 4 bytes each, and not by edges;
-    /// where batches are kept, also for the content as plain lists. `AllocError` where memory was wanting; all is as it was then.
+    /// where batches are kept, also for the content as plain lists. The error is `AllocError` if memory runs out; all is as it was
+    /// then.
     pub(crate) fn reopen(&mut self) -> Result<(), AllocError>
         ensures zero { OnOk result (IsVersionZero (length self.old.pool) self.new.last) }
         ensures rebased { OnOk result (IsRebased self.old.last self.new.last) }
@@ -63,7 +64,7 @@ fn numbers_in(alloc: Global, version: &Version) -> Result<Vec<u32>, AllocError>
 
 /// Has blocks in use born with a version, and frees those that were retired up to another one.
 fn reset_pool(pool: &mut Pool, numbers: &[u32], born: u64, last: u64)
-    requires { AreUsedOnce numbers.now pool.old }
+    requires { AreInUseOnce numbers.now pool.old }
     ensures { pool.new ≡ map (recycled (without_pins last)) (marked numbers.now (Used born) pool.old) }
 {
     born_blocks(pool, numbers, born);

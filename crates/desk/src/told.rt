@@ -86,7 +86,7 @@ impl ToldEntries {
     }
 
     /// The same list.
-    pub(crate) fn again(&self) -> ToldEntries
+    pub(crate) fn share(&self) -> ToldEntries
         ensures { result ≡ self.now }
     {
         ToldEntries {

@@ -50,7 +50,7 @@ impl Zero {
         ensures rebased { IfOk result (λ zero. IsRebased version.now (arc_value {X = Version} zero.version)) }
     {
         let mut pool = Pool::new(alloc, blocks)?;
-        // So many are free, and so memory alone can be wanting.
+        // So many are free, and so only memory can run out.
         let Ok(Grant { numbers, blocks }) = pool.grant(version.block_count() as u32) else {
             return Err(AllocError);
         };

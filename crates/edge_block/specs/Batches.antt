@@ -8,7 +8,6 @@ use Rattle.graph_types.specs.{declared.changes.EdgeChange.EdgeChange, Answer.is_
 use Rattle.graph_types.specs.Parts.{Parts, OfEdge, OfAll, parts_in, names_after, kinds_after}
 use Rattle.edge_block.specs.Rows.{Shape, OpenBlock, row_at, edge_at, untouched, change_row, expire_row, old_in_row, row_end}
 use Rattle.edge_block.specs.Rows.{taken_in, dropped_in, IsRow}
-pub use Rattle.graph_types.specs.Answer.{is_listed as is_known}
 
 -- what an operation does, with the numbers of its names, none where a name is unknown at its place: it changes the edge at
 -- its key, or expires edges of every row

@@ -306,8 +306,8 @@ impl Block {
     }
 
     /// Adds the targets of a view's edges, in slot order, behind what `targets` has. Where many are at the block's first places, as
-    /// in a block that nothing was taken from, they are copied at once. The error is want of memory for the list, which then
-    /// may have some of them.
+    /// in a block that nothing was taken from, they are copied at once. The only error is that memory for the list runs out; then
+    /// the list may have some of them.
     pub fn list_targets(&self, view: &Filter, targets: &mut Vec<u32>) -> Result<(), AllocError>
         ensures { OnOk result (targets.new.items
             ≡ targets.old.items ++ map (λ e. e.0.target) (filter (in_view view.now) (entries_of self.now))) }

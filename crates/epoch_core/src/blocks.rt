@@ -62,8 +62,8 @@ pub fn recycle_block(status: &mut Vec<BlockStatus>, copy: &PinCopy, block: usize
 }
 
 /// Puts edges into a granted block in place of those that it has; the heap has a list of edges for each block that has a
-/// status. `Skipped`, with nothing changed, where there is no block of this number or it isn't granted. Want of memory is
-/// the only error, and leaves the heap as it was.
+/// status. `Skipped`, with nothing changed, where there is no block of this number or it isn't granted. Out of memory is the only
+/// error, and leaves the heap as it was.
 pub fn fill_block(
     alloc: Global,
     status: &[BlockStatus],

@@ -42,5 +42,5 @@ use std::alloc::AllocError;
 pub use step::Step;
 pub use versions::{blocks_at, content_with};
 
-/// Want of memory.
+/// A refused request for memory.
 pub type OutOfMemory = AllocError;

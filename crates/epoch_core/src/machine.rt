@@ -120,8 +120,8 @@ impl Core {
         Ok(Core { parts })
     }
 
-    /// One event: `Done` with its effect, or `Skipped` with nothing changed, as the machine has it. After want of
-    /// memory the machine is as before.
+    /// One event: `Done` with its effect, or `Skipped` with nothing changed, as the machine has it. If memory runs out, the machine
+    /// is as before.
     pub fn step(&mut self, event: Event) -> Result<Step, OutOfMemory>
         ensures steps { IfOk result (λ outcome. Steps self.old event outcome self.new) }
         ensures unchanged { OnErr result (self.new ≡ self.old) }
@@ -179,8 +179,8 @@ impl Core {
     }
 }
 
-/// Runs through the events, and answers how many were done, `u32::MAX` for more than that. After want of memory
-/// the machine is in the state after the events before the one that was refused it.
+/// Runs through the events, and answers how many were done, `u32::MAX` for more than that. If memory runs out, the machine is in
+/// the state after the events before the one that was refused memory.
 pub fn run(core: &mut Core, events: &[Event]) -> Result<u32, OutOfMemory>
     ensures done { IfOk result (λ n. n ≡ min (done_in events.now core.old.world) (2 ^ 32 - 1)) }
     ensures ran { OnOk result (Runs core.old events.now core.new) }

@@ -32,7 +32,7 @@ fn last_content(
     content_with(alloc, opening, versions, last, edges)
 }
 
-/// What a refused batch leaves: nothing where it meets the limit on names or on kinds; want of memory stays that.
+/// What a refused batch leaves: nothing where it meets the limit on names or on kinds; out of memory stays that.
 fn left_of(refusal: ApplyError) -> Result<Option<Content>, AllocError>
     ensures { MatchResult result (λ after. (after ≡ None) × (refusal ≢ ApplyError.OutOfMemory))
         (λ _. refusal ≡ ApplyError.OutOfMemory) }
@@ -112,7 +112,7 @@ fn version_on(
 /// What posting the batch on these blocks would set, each block's status and the new version; `None` where it
 /// is skipped: there are as many batches as there may be, a block is neither granted nor of the last version or stands twice, the
 /// batch meets a limit, or the blocks' edges aren't each once what the batch leaves. The edges of the last version are
-/// read from its blocks, which must show what the batches left. Want of memory is the only error.
+/// read from its blocks, which must show what the batches left. Out of memory is the only error.
 pub fn plan_post(
     alloc: Global,
     opening: &Opening,

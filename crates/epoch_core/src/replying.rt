@@ -25,7 +25,7 @@ fn is_all_read(opening: &Opening, versions: &[Version], hold: &Hold, inquiry: &I
     inquiry.next >= blocks_at(opening, versions, hold.version).len()
 }
 
-/// The answer that a reply or a refusal is; want of memory is none.
+/// The answer that a reply or a refusal is; out of memory is none.
 fn answer_of(reply: Result<Reply, AskError>) -> Result<Answer, AllocError>
     ensures { MatchResult result (λ answer. (answer ≡ reply) × (reply ≢ Err AskError.OutOfMemory))
         (λ _. reply ≡ Err AskError.OutOfMemory) }

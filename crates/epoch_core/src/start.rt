@@ -26,7 +26,7 @@ pub(crate) fn parts_at_start(
     let status = free_blocks(alloc, blocks)?;
     let replies = empty_lists(alloc, sessions)?;
     let sessions = idle_sessions(alloc, sessions)?;
-    // What takes no memory comes last: then there is less to let go of where memory is wanting.
+    // What takes no memory comes last: then there is less to free if memory runs out.
     Ok(Parts {
         alloc,
         opening: empty_opening(alloc, limits),

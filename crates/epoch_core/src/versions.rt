@@ -58,7 +58,7 @@ fn content_of(
 }
 
 /// The content of the names and kinds of the version of this number, the opening's for version 0 and for a number past
-/// the last, and of these edges. Want of memory is the only error.
+/// the last, and of these edges. Out of memory is the only error.
 pub fn content_with(
     alloc: Global,
     opening: &Opening,

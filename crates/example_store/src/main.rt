@@ -5,9 +5,9 @@
 mod lent;
 mod shared;
 
-use anyhow::{Context, Result};
+use anyhow::Result;
 
 fn main(rt: HostRuntime) -> Result<()> {
     lent::run(&rt)?;
-    shared::run(&rt, rt.alloc()).context("a call was refused")
+    shared::run(&rt, rt.alloc())
 }

@@ -1,11 +1,12 @@
-//! A store that threads share: one feeds it, and beside it two others read.
+//! A store that threads share: one feeds it while two others read. Each of these asks one version in two threads.
 
 ghost use Rattle.misteluk.specs.Opened.{IsOpeningOf};
 ghost use Rattle.misteluk.specs.Stores.{IsSeatOfOpening};
 
+use anyhow::{Result, bail};
 use misteluk::{
     Batch, Command, Config, EndlessFeed, NamedFilter, NamedOp, Naming, Opened, PassAll, Reply,
-    Request, Seat, Session, Store,
+    Request, Seat, Store, Version, answer,
 };
 use std::alloc::Global;
 use std::io::Read;
@@ -17,56 +18,72 @@ use std::thread::{Threads, join};
 const ROADS: &str = "i,road,ulm,jena,1,1\ni,road,ulm,bern,1,1\n";
 
 /// A batch of one operation.
-fn batch_of(alloc: Global, op: NamedOp) -> Option<Batch> {
+fn batch_of(alloc: Global, op: NamedOp) -> Result<Batch> {
     let mut batch = Batch::new(alloc);
-    batch.push(op).ok()?;
-    Some(batch)
+    batch.push(op)?;
+    Ok(batch)
 }
 
 /// A batch of one road, from `ulm` to this town.
-fn road(alloc: Global, town: &str) -> Option<Batch> {
-    let op = NamedOp::insert(alloc, "road", "ulm", town, 1, 1).ok()?;
+fn road(alloc: Global, town: &str) -> Result<Batch> {
+    let op = NamedOp::insert(alloc, "road", "ulm", town, 1, 1)?;
     batch_of(alloc, op)
 }
 
-/// A batch of the next record, where it is an operation.
-fn next_batch<R: Read>(alloc: Global, records: &mut EndlessFeed<R>) -> Option<Batch> {
-    match records.next().ok()? {
+/// A batch of the next record, if it is an operation.
+fn next_batch<R: Read>(alloc: Global, records: &mut EndlessFeed<R>) -> Result<Batch> {
+    match records.next()? {
         Some(Command::Op(op)) => batch_of(alloc, op),
-        _ => None,
+        _ => bail!("the record is no operation"),
     }
 }
 
-/// Builds the roads of the records, and tells the number of the version with both.
+/// Builds the roads of the records, and returns the number of the version with both.
 fn feed<J: Naming, R: Threads + Wait + Sync>(
     rt: &R,
     alloc: Global,
     store: &Store<J>,
-) -> Option<u64> {
+) -> Result<u64> {
     let mut records = EndlessFeed::over(alloc, ROADS.as_bytes());
     let first = next_batch(alloc, &mut records)?;
-    let _jena = store.apply(rt, &PassAll, first).ok()?;
+    let _jena = store.apply(rt, &PassAll, first)?;
     let second = next_batch(alloc, &mut records)?;
-    let bern = store.apply(rt, &PassAll, second).ok()?;
+    let bern = store.apply(rt, &PassAll, second)?;
     let _collected = store.collect(rt);
-    Some(bern.number)
+    Ok(bern.number)
 }
 
-/// How many towns roads join in the version held.
-fn towns(session: &Session) -> Option<usize> {
+/// How many towns roads join in this version.
+fn towns(alloc: Global, version: &Version) -> Result<usize> {
     let question = Request::labels(NamedFilter::all());
-    match session.ask(&question).ok()? {
-        Reply::Labels(labels) => Some(labels.len()),
-        _ => None,
+    match answer(alloc, version, &question)? {
+        Reply::Labels(labels) => Ok(labels.len()),
+        _ => bail!("no labels"),
     }
 }
 
-/// Whether a session shows two or more towns, and as many when it is asked once more.
-fn read<J: Naming, R: Wait>(rt: &R, store: &Store<J>, seat: Seat) -> bool {
+/// How many towns roads lead to from `ulm` in this version, `ulm` among them.
+fn reached(alloc: Global, version: &Version) -> Result<usize> {
+    let question = Request::levels(alloc, "ulm", NamedFilter::all())?;
+    match answer(alloc, version, &question)? {
+        Reply::Levels(levels) => Ok(levels.len()),
+        _ => bail!("no levels"),
+    }
+}
+
+/// Whether a session shows two or more towns, and roads lead to as many in its version, which another thread asks meanwhile.
+fn read<J: Naming, R: Threads + Wait + Sync>(
+    rt: &R,
+    alloc: Global,
+    store: &Store<J>,
+    seat: Seat,
+) -> Result<bool> {
     let session = seat.pin(rt, store).enter(rt, store);
-    let (once, again) = (towns(&session), towns(&session));
+    let version = session.version();
+    let (all, led) = join(rt, || towns(alloc, version), || reached(alloc, version));
     let _seat = session.release(rt, store);
-    matches!((once, again), (Some(once), Some(again)) if once >= 2 && once == again)
+    let (all, led) = (all?, led?);
+    Ok(all >= 2 && all == led)
 }
 
 /// Builds a road, of which the seat learns.
@@ -76,37 +93,47 @@ fn learnt<J: Naming, R: Threads + Wait + Sync>(
     store: &Store<J>,
     mut seat: Seat,
     town: &str,
-) -> Option<Seat>
+) -> Result<Seat>
     requires { IsSeatOfOpening J.book J.opening seat }
 {
-    let receipt = store.apply(rt, &PassAll, road(alloc, town)?).ok()?;
-    seat.learn(&receipt).ok()?;
-    Some(seat)
+    let receipt = store.apply(rt, &PassAll, road(alloc, town)?)?;
+    seat.learn(&receipt)?;
+    Ok(seat)
 }
 
-/// What a feeder and two readers tell, whose seats learn of a road each.
+/// What a feeder and two readers return, whose seats learn of a road each.
 fn over<J: Naming + Send + Sync, R: Threads + Wait + Sync>(
     rt: &R,
     alloc: Global,
     opened: Opened,
-) -> Option<(u64, (bool, bool))>
+) -> Result<(u64, (bool, bool))>
     requires { IsOpeningOf J.book J.opening opened }
 {
     let (store, mut seats) = opened.named::<J>();
-    let one = learnt(rt, alloc, &store, seats.pop()?, "kiel")?;
-    let two = learnt(rt, alloc, &store, seats.pop()?, "trier")?;
-    let (fed, held) = join(
+    let (Some(one), Some(two)) = (seats.pop(), seats.pop()) else {
+        bail!("the store has two seats");
+    };
+    let one = learnt(rt, alloc, &store, one, "kiel")?;
+    let two = learnt(rt, alloc, &store, two, "trier")?;
+    let (fed, (one, two)) = join(
         rt,
         || feed(rt, alloc, &store),
-        || join(rt, || read(rt, &store, one), || read(rt, &store, two)),
+        || {
+            join(
+                rt,
+                || read(rt, alloc, &store, one),
+                || read(rt, alloc, &store, two),
+            )
+        },
     );
     let _last = store.close(rt);
-    Some((fed?, held))
+    Ok((fed?, (one?, two?)))
 }
 
-/// Opens the store, and prints what was told.
-pub(crate) fn run<R: Threads + Wait + Sync + Print>(rt: &R, alloc: Global) -> Option<()> {
-    let opened = Store::open(rt, alloc, Config::new(2, 16, 2).ok()?).ok()?;
+/// Opens the store, and prints what was returned.
+pub(crate) fn run<R: Threads + Wait + Sync + Print>(rt: &R, alloc: Global) -> Result<()> {
+    let opened = Store::open(rt, alloc, Config::new(2, 16, 2)?)?;
     let (fed, (one, two)) = over::<Brand, R>(rt, alloc, opened)?;
-    println!(rt; "version {fed}, and each session as it was: {one}, {two}").ok()
+    println!(rt; "version {fed}, and each session as it was: {one}, {two}")?;
+    Ok(())
 }

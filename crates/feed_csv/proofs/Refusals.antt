@@ -1,4 +1,4 @@
--- A record is refused for what it says, and never for a failed read or want of memory; and an operation that it gives is valid.
+-- A record is refused for what it says, and never because a read failed or memory ran out; and an operation that it gives is valid.
 use Rattle.std.proofs.Common.{◌≡◌, ◌≢◌, ℕ, ◌+◌, ◌≤◌, ℤ, pos, neg_ℤ, Bool, true, false, cond, codes, List, Option, Some, None}
 use Rattle.std.proofs.Common.{Result, Ok, Err, IsTrue, length, nat_eq, IfOk, IfSome, option_map, drop, refl, subst, arith}
 use Rattle.std.{proofs.lemmas.Grind.common_steps, specs.Str.bytes_eq}

@@ -138,7 +138,7 @@ feed_word_text BadTime = codes "BadTime"
 feed_word_text BadSlot = codes "BadSlot"
 feed_word_text Memory = codes "Memory"
 
--- a word that stands for want of memory, or for the record's refusal
+-- a word that stands for out of memory, or for the record's refusal
 abbrev pub RefusesItem : {A : Type 0} → FeedWord → Result A FeedWord → Type 0
 RefusesItem Memory item = Unit {0}
 RefusesItem word item = item ≡ Err word
@@ -148,7 +148,7 @@ abbrev pub Gives : {A : Type 0} → Result A FeedWord → Result A FeedWord → 
 Gives (Ok value) item = item ≡ Ok value
 Gives (Err word) item = RefusesItem word item
 
--- want of memory has a word of its own, and every other fault is the reader's
+-- out of memory has a word of its own, and every other fault is the reader's
 abbrev pub fault_word : ErrorKind → FeedWord
 fault_word kind.OutOfMemory = Memory
 fault_word _ = Read

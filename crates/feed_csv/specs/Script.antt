@@ -63,7 +63,7 @@ pub record FailsWith (word : FeedWord) (script : Script) : Type 0 where
   pub told : script.fault ≡ Some kind
   pub called : fault_word kind ≡ word
 
--- why a call answers Read: csv's reader failed, and not for want of memory; the limit was reached, and nothing is read; or the
+-- why a call answers Read: csv's reader failed, and not because memory ran out; the limit was reached, and nothing is read; or the
 -- feed had stopped before
 abbrev pub ReadStopsIn : Option ℕ → Script → Script → Type 0
 ReadStopsIn limit old new =
@@ -71,7 +71,7 @@ ReadStopsIn limit old new =
     ⊎ ((old.phase ≡ Reading) × IsScriptFull limit old.given × (new ≡ record old { phase = Stopped }))
     ⊎ ((old.phase ≡ Stopped) × (new ≡ old))
 
--- where csv's reader failed, it was for want of memory; else memory was wanting for what a record asks
+-- if csv's reader failed, it ran out of memory; else memory ran out for what a record asks
 abbrev pub LacksMemory : Script → Type 0
 LacksMemory script = script.failed ≡ true → FailsWith Memory script
 

@@ -22,7 +22,7 @@ use std::mem;
 /// Peeling in rounds of rising k: what has at most k neighbors left is taken out with the number k, until none has
 /// (Matula, Beck, Smallest-last ordering and clustering and graph coloring algorithms, 1983). Each vertex is asked for its
 /// targets once, and looked at once in each round up to its own, so the time is linear in the edges. All tables come before
-/// the peeling: the links one way, twice the neighbors, and some numbers for each vertex. The error is want of memory.
+/// the peeling: the links one way, twice the neighbors, and some numbers for each vertex. The only error is out of memory.
 pub fn cores_over<E: ViewEdges>(alloc: Global, edges: &E) -> Result<Vec<u32>, AllocError>
     ensures { IfOk result (λ cores. AreCoreNumbers (E.filter edges.now) (E.graph edges.now) cores.items) }
 {

@@ -84,7 +84,7 @@ fn count_all(table: &mut [Degree], version: &Version, view: &Filter)
 /// The degrees of each vertex of a version, in number order: how many edges of the view leave it and how many enter it, a
 /// loop once in each, and the sum of the weights of those that leave it.
 ///
-/// One pass over the blocks; the table is all that takes memory. The error is want of memory. A window that ends before it
+/// One pass over the blocks; the table is all that takes memory. The only error is out of memory. A window that ends before it
 /// begins is an empty view.
 pub fn degrees(alloc: Global, version: &Version, view: &Filter) -> Result<Vec<Degree>, AllocError>
     ensures { IfOk result (λ degrees. degrees.items ≡ degree_table view.now (content version.now)) }

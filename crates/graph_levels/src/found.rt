@@ -42,7 +42,7 @@ fn table(
 /// from its source to its target, and none where no walk leads there. The source is a vertex.
 ///
 /// A breadth-first search: each vertex that a walk reaches is asked for its targets once. Beside what it finds it needs a bit
-/// for each vertex, and one vertex's targets. The table comes after it. The error is want of memory.
+/// for each vertex, and one vertex's targets. The table comes after it. The only error is out of memory.
 pub fn levels_over<R: ViewEdges>(
     alloc: Global,
     edges: &R,

@@ -114,7 +114,7 @@ fn own_parents(alloc: Global, count: u32) -> Result<Vec<u32>, AllocError>
 ///
 /// Trees of vertices, joined along each edge (Tarjan, Efficiency of a good but not linear set union algorithm, 1975), with
 /// the least vertex of a tree at its root. Each vertex is asked for its targets once. The table comes before the work;
-/// beside it there is one vertex's targets. The error is want of memory.
+/// beside it there is one vertex's targets. The only error is out of memory.
 pub fn labels_over<R: ViewEdges>(alloc: Global, edges: &R) -> Result<Vec<u32>, AllocError>
     ensures { IfOk result (λ labels. AreLabels (R.filter edges.now) (R.graph edges.now) labels.items) }
 {

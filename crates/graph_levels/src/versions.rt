@@ -34,8 +34,8 @@ impl From<AllocError> for LevelError {
 /// The level of each vertex of a version from the source, in number order: the least number of edges of a walk in the
 /// view, each taken from its source to its target, and none where no walk leads there.
 ///
-/// `NoVertex` exactly where the source is no vertex of the version, and that takes no memory; the other error is want of
-/// memory. A window that ends before it begins is an empty view.
+/// `NoVertex` exactly where the source is no vertex of the version, and that takes no memory; the other error is out of memory. A
+/// window that ends before it begins is an empty view.
 pub fn levels(
     alloc: Global,
     version: &Version,
@@ -79,7 +79,7 @@ pub fn reached(
 }
 
 /// The label of each vertex of a version, in number order: the least vertex to which edges of the view join it, each taken
-/// in either direction. The error is want of memory. A window that ends before it begins is an empty view.
+/// in either direction. The only error is out of memory. A window that ends before it begins is an empty view.
 pub fn labels(alloc: Global, version: &Version, view: &Filter) -> Result<Vec<VertexId>, AllocError>
     ensures { IfOk result (λ labels. AreLabels view.now (content version.now) (vertex_numbers labels.items)) }
 {

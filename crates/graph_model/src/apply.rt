@@ -11,7 +11,7 @@ ghost use Rattle.graph_types.specs.Refusals.{IsLimitRefusal};
 ghost use Rattle.graph_model.specs.Refusals.{Exceeds};
 
 use crate::drafts::Draft;
-use crate::names::names_left;
+use crate::names::names_after_all;
 use graph_types::{ApplyError, Batch, Content, Limits, NamedOp, Outcome};
 use std::alloc::Global;
 
@@ -112,7 +112,7 @@ fn kinds_refusal(alloc: Global, limits: Limits, content: &Content, ops: &[NamedO
     requires kinds { MeetsKindLimit ops.now (graph_in limits content.now) }
     ensures { IsLimitRefusal result ops.now (graph_in limits content.now) }
 {
-    match names_left(alloc, limits.names(), content.names.as_slice(), ops) {
+    match names_after_all(alloc, limits.names(), content.names.as_slice(), ops) {
         Ok(_) => ApplyError::KindsFull,
         Err(error) => error,
     }

@@ -17,7 +17,7 @@ use std::alloc::{AllocError, Global};
 ///
 /// Numbers start from how many neighbors there are. In each round those fall by one that fewer neighbors have as much as
 /// (Montresor, De Pellegrini, Miorandi, Distributed k-core decomposition, 2013, lower them all the way), until none does.
-/// A round is a pass over the edges. The error is want of memory for some tables and a list of the view's edges.
+/// A round is a pass over the edges. The only error is that memory runs out for some tables and a list of the view's edges.
 pub fn plain_cores(alloc: Global, content: &Content, filter: Filter) -> Result<Vec<u32>, AllocError>
     requires { IsContent content.now }
     ensures { IfOk result (λ cores. AreCoreNumbers filter (graph_of content.now) cores.items) }

@@ -114,7 +114,7 @@ fn make_names_of(names: &mut Vec<Name>, limit: u32, op: &NamedOp) -> Result<(), 
 }
 
 /// The vertices' names that the operations leave. `NamesFull` where they are more than the limit.
-pub(crate) fn names_left(
+pub(crate) fn names_after_all(
     alloc: Global,
     limit: u32,
     names: &[Name],

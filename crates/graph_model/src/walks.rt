@@ -15,8 +15,8 @@ use std::alloc::{AllocError, Global};
 /// The level of each vertex from the source, in number order: the least number of edges of a walk that the filter lets
 /// through, each taken from its source to its target, and none where there is no such walk.
 ///
-/// Each round is a pass over the edges, and there are at most as many rounds as the greatest level and one more. The error
-/// is want of memory for a table and a list of the view's edges.
+/// Each round is a pass over the edges, and there are at most as many rounds as the greatest level and one more. The only error is
+/// that memory runs out for a table and a list of the view's edges.
 pub fn plain_levels(
     alloc: Global,
     content: &Content,
@@ -58,8 +58,8 @@ fn reached(alloc: Global, numbers: &[u32], count: u32) -> Result<Vec<Option<u32>
 /// The label of each vertex, in number order: the least vertex to which edges that the filter lets through join it, taken in
 /// either direction.
 ///
-/// Each round is a pass over the edges, and there are at most as many rounds as a part has vertices. The error is want of
-/// memory for a table and a list of the view's edges.
+/// Each round is a pass over the edges, and there are at most as many rounds as a part has vertices. The only error is that memory
+/// runs out for a table and a list of the view's edges.
 pub fn plain_labels(
     alloc: Global,
     content: &Content,

@@ -250,8 +250,8 @@ impl Batch {
     }
 
     /// Appends a valid operation, or changes nothing and tells the first refusal that holds: a field that is no
-    /// name, a weight or an amount past 2^40, a time from 2^63 on, a batch that has 4,096 operations. Want of
-    /// memory may be told in place of any of these.
+    /// name, a weight or an amount past 2^40, a time from 2^63 on, a batch that has 4,096 operations. Out of memory may be reported
+    /// in place of any of these.
     pub fn push(&mut self, op: NamedOp) -> Result<(), PushError>
         ensures valid { OnOk result (push_refusal op (length self.old) ≡ None) }
         ensures added { OnOk result (self.new ≡ self.old ++ op ∷ []) }
@@ -283,7 +283,7 @@ impl Batch {
     }
 
     /// Appends an operation that is known to be valid, and isn't judged again; or changes nothing and tells that the batch has
-    /// 4,096 operations. Want of memory may be told in place of that.
+    /// 4,096 operations. Out of memory may be reported in place of that.
     pub fn push_valid(&mut self, op: NamedOp) -> Result<(), PushError>
         requires { IsValid op }
         ensures room { OnOk result (length self.old < operation_limit) }

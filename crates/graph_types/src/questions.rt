@@ -54,7 +54,7 @@ impl NamedFilter {
 
 impl Request {
     /// Asks for the level of each vertex from the source over the filter's view. A text that names no vertex is refused as
-    /// `NoVertex` by the graph that is asked. Where memory is wanting, the filter is given up.
+    /// `NoVertex` by the graph that is asked. If memory runs out, the filter is dropped.
     ///
     /// ```
     /// let levels = Request::levels(alloc, "ann", NamedFilter::all())?;

@@ -7,6 +7,7 @@ pub mod Totals
 pub mod Few
 pub mod Drafting
 pub mod BlockCounts
+pub mod InRange
 pub mod Rebased
 pub mod Arcs
 pub mod Members

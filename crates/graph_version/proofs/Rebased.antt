@@ -10,7 +10,7 @@ use Rattle.graph_types.{specs.declared.{batches.NamedOp.NamedOp, contents.Conten
 use Rattle.graph_types.{specs.Limits.AreLimits, proofs.{LimitsKept.{limits_left_by, each_fits, sums_within}, WeightsKept.weights_listed}}
 use Rattle.graph_types.specs.Step.{left_by}
 use Rattle.graph_types.proofs.ListPlaces.{length_dropped, map_take, take_front, map_drop, drop_front, at_drop, same_by_place}
-use Rattle.edge_block.specs.{Slots.{IsStamp, Slot, BlockView, entry_in, entries_of, edges_in}, Lending.{LentEdge, lent_of}}
+use Rattle.edge_block.specs.{Slots.{IsStamp, Slot, BlockView, entry_in, entries_of, edges_in}, Lending.{lent_of}}
 use Rattle.edge_block.specs.{declared.blocks.Block.Block, Rows.shape_of, Batches.{IsLayoutOf, HasEndsWithin}}
 use Rattle.edge_block.proofs.BlockCounts.{at_source, elsewhere}
 use Rattle.vertex_names.specs.Book.{Book}

@@ -1,5 +1,5 @@
 -- The batches of a version: a list in the proofs, and whether memory has it too.
-use Rattle.std.specs.{Prelude.{◌≡◌, Bool, List, [], ◌∷◌, ◌++◌, nat_lt, MatchOption}, Arc.arc_value}
+use Rattle.std.specs.{Prelude.{◌≡◌, Bool, List, [], ◌∷◌, ◌++◌, nat_lt, MatchOption}}
 use Rattle.std.specs.declared.{option.Option.Option, sync.Arc.Arc, alloc.Global.Global}
 use Rattle.graph_types.specs.{Limits.{LimitsView, most_batches}, declared.batches.NamedOp.NamedOp, declared.batches.Batch.Batch}
 use Rattle.graph_version.specs.Batches.{batch_value}

@@ -108,7 +108,7 @@ impl BatchLog {
         ensures unchanged { OnErr result (self.new ≡ self.old) }
     {
         keep(&mut self.kept, self.keeps, &batch)?;
-        let (told, batch) = self.told.again().and(batch);
+        let (told, batch) = self.told.share().and(batch);
         self.told = told;
         self.last = Some(batch);
         self.count += 1;
@@ -122,7 +122,7 @@ impl BatchLog {
         Ok(BatchLog {
             keeps: self.keeps,
             count: self.count,
-            told: self.told.again(),
+            told: self.told.share(),
             last: shared(&self.last)?,
             kept: self.kept.share()?,
         })

@@ -1,6 +1,7 @@
 //! Edges of a version by value: all of them, or those of a row.
 
-ghost use Rattle.std.specs.Prelude.{◌≡◌};
+ghost use Rattle.std.specs.Prelude.{◌≡◌, All};
+ghost use Rattle.edge_block.specs.Slots.{IsBlock};
 ghost use Rattle.graph_version.specs.Rows.{row_of, blocks_of};
 ghost use Rattle.edge_block.specs.Lending.{lent_edge};
 ghost use Rattle.graph_version.specs.Edges.{edges_in_blocks};
@@ -51,7 +52,8 @@ impl<'a> RowBlocks<'a> {
 
     /// The blocks of a source's row alone.
     fn of_row(rows: &'a Rows, source: VertexId) -> RowBlocks<'a>
-        ensures { blocks_left result ≡ row_of rows.now source.0 }
+        ensures blocks { blocks_left result ≡ row_of rows.now source.0 }
+        ensures each { All IsBlock (row_of rows.now source.0) }
     {
         RowBlocks {
             rows,
@@ -111,7 +113,8 @@ impl<'a> EdgeIter<'a> {
 
     /// The edges of a source's row.
     pub(crate) fn of_row(rows: &'a Rows, source: VertexId) -> EdgeIter<'a>
-        ensures { edges_to_come result ≡ edges_in_blocks (row_of rows.now source.0) }
+        ensures edges { edges_to_come result ≡ edges_in_blocks (row_of rows.now source.0) }
+        ensures each { All IsBlock (row_of rows.now source.0) }
     {
         EdgeIter {
             blocks: RowBlocks::of_row(rows, source),

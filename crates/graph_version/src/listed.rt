@@ -16,7 +16,7 @@ pub(crate) struct ListedContent {
 
 impl ListedContent {
     /// A copy.
-    pub(crate) fn again(&self) -> Result<ListedContent, AllocError>
+    pub(crate) fn share(&self) -> Result<ListedContent, AllocError>
         ensures content { IfOk result (λ copy. copy.content ≡ self.now.content) }
         ensures limits { IfOk result (λ copy. copy.limits ≡ self.now.limits) }
     {

@@ -65,9 +65,9 @@ impl Opening {
         ensures { IfOk result (λ opening. opening_graph opening ≡ opening_graph self.now) }
     {
         match self {
-            Opening::Alone(listed) => Ok(Opening::Alone(listed.again()?)),
+            Opening::Alone(listed) => Ok(Opening::Alone(listed.share()?)),
             Opening::Shared(listed) => Ok(Opening::Shared(Arc::try_clone(listed)?)),
-            Opening::Told(told) => Ok(Opening::Told(told.again()?)),
+            Opening::Told(told) => Ok(Opening::Told(told.share()?)),
         }
     }
 

@@ -1,8 +1,8 @@
 //! One source's row.
 
-ghost use Rattle.std.specs.Prelude.{◌≡◌, [], IfOk, false};
+ghost use Rattle.std.specs.Prelude.{◌≡◌, [], All, IfOk, false};
 ghost use Rattle.std.specs.Option.{option_to_list};
-ghost use Rattle.edge_block.specs.Slots.{has_before};
+ghost use Rattle.edge_block.specs.Slots.{IsBlock, has_before};
 ghost use Rattle.graph_version.specs.Sharing.{block_values, row_block_values};
 ghost use Rattle.graph_version.specs.Ages.{is_old_row, old_blocks};
 
@@ -60,8 +60,11 @@ fn listed(alloc: Global, mut blocks: Vec<Arc<Block>>) -> Result<Blocks, AllocErr
 /// A time such that no edge of a block was last touched before it: the least of their times, or the greatest number where
 /// there is no edge.
 fn block_since(block: &Block) -> u64
-    ensures { has_before result block.now.slots ≡ false }
+    ensures since { has_before result block.now.slots ≡ false }
+    ensures block { IsBlock block.now }
 {
+    // What is true of each block, as that its weights are in range, is so known of the row.
+    let _edges = block.len();
     match block.time_bounds() {
         None => u64::MAX,
         Some((least, _)) => least,
@@ -70,7 +73,8 @@ fn block_since(block: &Block) -> u64
 
 /// A time such that no edge of a row was last touched before it: the least of their times.
 fn blocks_since(blocks: &[Arc<Block>]) -> u64
-    ensures { is_old_row result (block_values blocks.now) ≡ false }
+    ensures since { is_old_row result (block_values blocks.now) ≡ false }
+    ensures blocks { All IsBlock (block_values blocks.now) }
 {
     let mut since = u64::MAX;
     for block in blocks {
@@ -125,8 +129,8 @@ impl Drop for Row {
 }
 
 impl Model for Row {
-    ghost use Rattle.std.specs.Prelude.{◌≡◌, List, false};
-    ghost use Rattle.edge_block.specs.Slots.{BlockView};
+    ghost use Rattle.std.specs.Prelude.{◌≡◌, List, All, false};
+    ghost use Rattle.edge_block.specs.Slots.{BlockView, IsBlock};
     ghost use Rattle.graph_version.specs.Sharing.{row_block_values};
     ghost use Rattle.graph_version.specs.Ages.{is_old_row};
 
@@ -134,7 +138,8 @@ impl Model for Row {
 
     ghost view = { λ row. row_block_values row.blocks };
 
-    ghost invariant = { λ row. is_old_row row.since (row_block_values row.blocks) ≡ false };
+    ghost invariant = { λ row. (is_old_row row.since (row_block_values row.blocks) ≡ false)
+        × All IsBlock (row_block_values row.blocks) };
 }
 
 impl Clone for Row {
@@ -187,7 +192,8 @@ impl Row {
 
     /// Its blocks, in order.
     pub fn blocks(&self) -> &[Arc<Block>]
-        ensures { block_values result.now ≡ self.now }
+        ensures blocks { block_values result.now ≡ self.now }
+        ensures each { All IsBlock self.now }
     {
         self.blocks.as_slice()
     }

@@ -1,6 +1,7 @@
 //! The rows of all sources.
 
-ghost use Rattle.std.specs.Prelude.{◌≡◌, ◌*◌, ◌^◌, ◌<◌, ◌≤◌, ℕ, [], IfOk, MatchOption, OnOk, length, slice_set};
+ghost use Rattle.std.specs.Prelude.{◌≡◌, ◌*◌, ◌^◌, ◌<◌, ◌≤◌, ℕ, [], All, IfOk, MatchOption, OnOk, length, slice_set};
+ghost use Rattle.edge_block.specs.Slots.{IsBlock};
 ghost use Rattle.graph_version.specs.Rows.{row_of, Replaces};
 ghost use Rattle.graph_version.specs.Differences.{DifferAt, SameRows};
 ghost use Rattle.graph_version.specs.Sharing.{block_values};
@@ -70,7 +71,8 @@ impl Rows {
 
     /// The blocks of a source's row, in order.
     pub fn row_blocks(&self, source: VertexId) -> &[Arc<Block>]
-        ensures { block_values result.now ≡ row_of self.now source.0 }
+        ensures blocks { block_values result.now ≡ row_of self.now source.0 }
+        ensures each { All IsBlock (row_of self.now source.0) }
     {
         match self.row(source) {
             None => &[],

@@ -27,7 +27,7 @@ pub trait ViewEdges {
 
     /// Puts the targets of the view's edges out of this vertex in place of what `targets` had, in any order; a target
     /// may stand more than once, as parallel edges of two kinds have it. None lead out of a number that is no vertex.
-    /// The error is want of memory for the list, which then may have anything.
+    /// It fails if memory runs out; then the list may have anything.
     fn list_targets(&self, source: u32, targets: &mut Vec<u32>) -> Result<(), AllocError>
         ensures { OnOk result ((b : ℕ) → Contains targets.new.items b ↔ LeadsTo (filter self.now) (graph self.now) source b) };
 }

@@ -75,7 +75,7 @@ impl ToldBatches {
     }
 
     /// The same list.
-    pub(crate) fn again(&self) -> ToldBatches
+    pub(crate) fn share(&self) -> ToldBatches
         ensures { result ≡ self.now }
     {
         ToldBatches {

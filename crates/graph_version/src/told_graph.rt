@@ -91,7 +91,7 @@ impl ToldGraph {
     }
 
     /// The same graph.
-    pub(crate) fn again(&self) -> ToldGraph
+    pub(crate) fn share(&self) -> ToldGraph
         ensures { result ≡ self.now }
     {
         ToldGraph {

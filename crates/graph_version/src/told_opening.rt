@@ -18,12 +18,12 @@ pub(crate) struct ToldOpening {
 
 impl ToldOpening {
     /// The same.
-    pub(crate) fn again(&self) -> Result<ToldOpening, AllocError>
+    pub(crate) fn share(&self) -> Result<ToldOpening, AllocError>
         ensures graph { IfOk result (λ copy. copy.graph ≡ self.now.graph) }
     {
         Ok(ToldOpening {
-            graph: self.graph.again(),
-            blank: self.blank.again()?,
+            graph: self.graph.share(),
+            blank: self.blank.share()?,
         })
     }
 }

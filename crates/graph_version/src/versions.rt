@@ -1,11 +1,12 @@
 //! The version and its calls.
 
-ghost use Rattle.std.specs.Prelude.{◌≡◌, ◌%◌, ◌^◌, ◌++◌, ◌∷◌, [], true, List, length, IfSome, MatchOption};
+ghost use Rattle.std.specs.Prelude.{◌≡◌, ◌<◌, ◌≤◌, ◌*◌, ◌%◌, ◌^◌, ◌++◌, ◌∷◌, [], true, All, List, length, IfSome, IsTrue, MatchOption, SomeIff};
 ghost use Rattle.std.specs.Option.{option_map};
-ghost use Rattle.graph_types.specs.Graph.{IsContentIn, graph_in};
-ghost use Rattle.graph_types.specs.Limits.{AreLimits};
+ghost use Rattle.graph_types.specs.Graph.{IsContentIn, graph_in, stamp_of};
+ghost use Rattle.graph_types.specs.Limits.{AreLimits, IsWeightIn};
+ghost use Rattle.graph_types.specs.{Answer.is_listed, Step.number_of};
 ghost use Rattle.graph_types.specs.declared.batches.NamedOp.{NamedOp};
-ghost use Rattle.edge_block.specs.Lending.{lent_edge};
+ghost use Rattle.edge_block.specs.{Lending.lent_edge, Slots.IsStamp};
 ghost use Rattle.graph_version.specs.Rows.{row_of, blocks_of, numbers_of};
 ghost use Rattle.graph_version.specs.Sharing.{block_values};
 ghost use Rattle.graph_version.specs.Ages.{IsNextOld, old_blocks};
@@ -205,6 +206,41 @@ impl Version {
         &self.kinds
     }
 
+    /// The vertex of a name, if the name has appeared. It takes no memory.
+    ///
+    /// ```
+    /// if let Some(source) = version.vertex("berlin") {
+    ///     println!(&rt; "{}", version.out_edges(source).count())?;
+    /// }
+    /// ```
+    #[tactic(auto, using(graph_types::proofs::ListedNames::listed_below))]
+    pub fn vertex(&self, name: &str) -> Option<VertexId>
+        ensures number { SomeIff (option_map (λ vertex. vertex.0) result) (IsTrue (is_listed (content self.now).names name.now))
+            (number_of (content self.now).names name.now) }
+        ensures below { IfSome result (λ vertex. vertex.0 < length (content self.now).names) }
+        ensures version { IsVersion self.now }
+    {
+        let number = self.names.number(name)?;
+        Some(VertexId(number))
+    }
+
+    /// The kind of a name, if the name has appeared. It takes no memory.
+    ///
+    /// ```
+    /// let edge = version.edge(version.kind("road")?, source, target)?;
+    /// ```
+    #[tactic(auto, using(graph_types::proofs::ListedNames::listed_below))]
+    pub fn kind(&self, name: &str) -> Option<KindId>
+        ensures number { SomeIff (option_map (λ kind. kind.0) result) (IsTrue (is_listed (content self.now).kinds name.now))
+            (number_of (content self.now).kinds name.now) }
+        ensures below { IfSome result (λ kind. kind.0 < length (content self.now).kinds) }
+        ensures version { IsVersion self.now }
+    {
+        let number = self.kinds.number(name)?;
+        // There are at most 64 kinds, so a kind's number has 8 bits.
+        Some(KindId(number as u8))
+    }
+
     /// How many edges there are. The number is kept, and no block is read.
     pub fn edge_count(&self) -> u64
         ensures edges { result ≡ edge_total self.now }
@@ -222,7 +258,8 @@ impl Version {
 
     /// The edge of a kind from a source to a target.
     pub fn edge(&self, kind: KindId, source: VertexId, target: VertexId) -> Option<EdgeRef<'_>>
-        ensures { option_map lent_edge result ≡ lent_at self.now kind.0 source.0 target.0 }
+        ensures edge { option_map lent_edge result ≡ lent_at self.now kind.0 source.0 target.0 }
+        ensures in_range { IfSome result (λ edge. IsStamp (lent_edge edge).stamp) }
     {
         for block in self.rows.row_blocks(source) {
             if let Some(edge) = edge_in(block, kind, target) {
@@ -243,6 +280,7 @@ impl Version {
     pub fn edges(&self) -> EdgeIter<'_>
         ensures edges { edges_to_come result ≡ edges_in_blocks (blocks_of self.now.rows) }
         ensures each_once { AreEachOnce (edges_to_come result) (content self.now) }
+        ensures weights { All (λ edge. IsWeightIn (content self.now).limits.weight edge.weight) (edges_to_come result) }
     {
         EdgeIter::over(&self.rows)
     }
@@ -254,6 +292,9 @@ impl Version {
     /// ```
     pub fn out_edges(&self, source: VertexId) -> EdgeIter<'_>
         ensures edges { edges_to_come result ≡ edges_in_blocks (row_of self.now.rows source.0) }
+        ensures in_range { All (λ edge. IsStamp (stamp_of edge)) (edges_to_come result) }
+        ensures weights { All (λ edge. IsWeightIn (content self.now).limits.weight edge.weight) (edges_to_come result) }
+        ensures few { length (edges_to_come result) ≤ length (content self.now).names * length (content self.now).kinds }
         ensures version { IsVersion self.now }
     {
         EdgeIter::of_row(&self.rows, source)
@@ -269,14 +310,19 @@ impl Version {
     /// ```
     pub fn in_edges(&self, target: VertexId) -> InEdgeIter<'_>
         ensures edges { into_left result ≡ edges_into target.0 (edges_in_blocks (blocks_of self.now.rows)) }
+        ensures weights { All (λ edge. IsWeightIn (content self.now).limits.weight edge.weight) (into_left result) }
         ensures version { IsVersion self.now }
     {
         InEdgeIter::over(&self.rows, target)
     }
 
-    /// Lends the edges that leave a vertex: blocks in row order, slots rising.
+    /// Lends the edges that leave a vertex: blocks in row order, slots rising. There are so few of them, and each weight is so
+    /// small, that a sum of all their weights is in the range of an `i64`.
     pub fn row(&self, source: VertexId) -> RowIter<'_>
         ensures lends { row_left result ≡ lent_in_blocks (row_of self.now.rows source.0) }
+        ensures in_range { All (λ edge. IsStamp edge.stamp) (row_left result) }
+        ensures weights { All (λ edge. IsWeightIn (content self.now).limits.weight edge.stamp.weight) (row_left result) }
+        ensures few { length (row_left result) ≤ length (content self.now).names * length (content self.now).kinds }
         ensures version { IsVersion self.now }
     {
         RowIter::over(self.rows.row_blocks(source))
@@ -337,7 +383,8 @@ fn blocks_in_rows(rows: &Rows) -> usize
 
 /// A block's edge of a kind to a target.
 fn edge_in(block: &Block, kind: KindId, target: VertexId) -> Option<EdgeRef<'_>>
-    ensures { option_map lent_edge result ≡ lent_to kind.0 target.0 (block_at (shape_of block.now) (kind.0, target.0)) }
+    ensures edge { option_map lent_edge result ≡ lent_to kind.0 target.0 (block_at (shape_of block.now) (kind.0, target.0)) }
+    ensures in_range { IfSome result (λ edge. IsStamp (lent_edge edge).stamp) }
 {
     if block.kind() == kind {
         block.find(target.0)

@@ -3,7 +3,8 @@
 
 pub use batch_apply::{Gate, PassAll};
 pub use block_reclamation::{Board, Pin, PinCopy, SeatNo};
-pub use edge_block::{Block, EdgeRef};
+pub use desk::KeptCopy;
+pub use edge_block::{Block, BlockIter, EdgeRef};
 pub use feed_csv::{Command, EndlessFeed, Feed, FeedFault, FeedWord};
 pub use graph_types::{
     AskError, BadLimits, Batch, Content, Degree, Edge, Filter, KindId, Limits, List, Name,
@@ -16,4 +17,4 @@ pub use stream_store::{
 };
 pub use version_answers::{NumberedReply, answer, answer_in_numbers};
 pub use version_shelf::Told;
-pub use vertex_names::{NameBook, NameIter};
+pub use vertex_names::{AddError, NameBook, NameIter};

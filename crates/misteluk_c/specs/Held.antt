@@ -34,7 +34,8 @@ abbrev pub Asks : {X : Type 0} → Option X → ℕ → (X → Type 0) → Type 
 Asks None code TellsCode = code ≡ 2
 Asks (Some x) code TellsCode = TellsCode x
 
--- a call that makes something in a handle: made, or not for want of memory; and the handle is as it was where it holds something
+-- a call that makes something in a handle: made, or not made because memory ran out; and the handle is as it was where it holds
+-- something
 abbrev pub MakesHeld : Option Held → Option Held → ℕ → (Option Held → Type 0) → Type 0
 MakesHeld None new code Made = ((code ≡ 0) × Made new) ⊎ ((code ≡ 1) × (new ≡ None))
 MakesHeld (Some held) new code Made = (code ≡ 3) × (new ≡ Some held)

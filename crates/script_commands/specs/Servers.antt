@@ -56,13 +56,13 @@ Obeys command old response lines new =
 abbrev pub ReopensIn : Command → Server → Type 0
 ReopensIn command server = (s : ServerState) → ShowsServer server s → Reopens (Ok command) s
 
--- what ends a run at a rebase whose store was not opened: want of memory has a word of its own
+-- what ends a run at a rebase whose store was not opened: out of memory has a word of its own
 abbrev pub stop_of : OpenError → Stop
 stop_of opening.OutOfMemory = Memory
 stop_of opening.NoReader = Start opening.NoReader
 stop_of (opening.PoolEmpty needed free) = Start (opening.PoolEmpty needed free)
 
--- a store that was not opened lacked a reader's place; want of memory is never told so
+-- a store that was not opened lacked a reader's place; out of memory is never reported so
 abbrev pub LacksReader : Stop → Type 0
 LacksReader stop = (error : OpenError) → stop ≡ Start error → error ≡ opening.NoReader
 

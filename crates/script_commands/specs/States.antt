@@ -153,8 +153,8 @@ attempt s = record {
   free = s.free;
 }
 
--- the pending batch is accepted, with a line on its outcomes; or refused, with the word for its refusal. No record is refused for
--- want of memory, which ends a run
+-- the pending batch is accepted, with a line on its outcomes; or refused, with the word for its refusal. No record is refused
+-- because memory ran out, which ends a run
 abbrev pub IsCommitted : ServerState → RecordResult → Type 0
 IsCommitted s (Ok lines) =
     IsAdmissible (attempt s) × (lines ≡ commit_line (length s.batches + 1) (outcomes s.pending (last_version s)))

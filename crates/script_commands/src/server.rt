@@ -80,8 +80,8 @@ impl Drop for Server {
 }
 
 impl Server {
-    /// The state before the first record, over a store of that configuration. `Start` where none was opened, also for want of
-    /// memory.
+    /// The state before the first record, over a store of that configuration. `Start` where none was opened, also if memory ran
+    /// out.
     pub fn begin<A: AllocGlobal + Wait>(rt: &A, config: Config) -> Result<Server, Stop>
         ensures server { IfOk result IsServer }
         ensures beginning { IfOk result (λ server. ShowsServer server (states.beginning (states.set_up config)).state) }
@@ -345,7 +345,7 @@ fn parts_from<R: Wait>(
     }
 }
 
-/// What ends a run at a rebase whose store was not opened: want of memory has a word of its own.
+/// What ends a run at a rebase whose store was not opened: out of memory has a word of its own.
 fn stop_of(error: OpenError) -> Stop
     ensures { result ≡ servers.stop_of error }
 {
@@ -355,7 +355,7 @@ fn stop_of(error: OpenError) -> Stop
     }
 }
 
-/// The word for a batch's refusal; want of memory has none.
+/// The word for a batch's refusal; out of memory has none.
 fn apply_word(error: ApplyError) -> Result<Word, AllocError>
     ensures known { OnOk result (error ≢ ApplyError.OutOfMemory) }
     ensures word { IfOk result (λ word. word ≡ states.batch_word error) }
@@ -369,7 +369,7 @@ fn apply_word(error: ApplyError) -> Result<Word, AllocError>
     }
 }
 
-/// The word for a request's refusal; want of memory has none.
+/// The word for a request's refusal; out of memory has none.
 fn ask_word(error: AskError) -> Result<Word, AllocError>
     ensures known { OnOk result (error ≢ AskError.OutOfMemory) }
     ensures word { IfOk result (λ word. word ≡ states.ask_word error) }

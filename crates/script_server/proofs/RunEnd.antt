@@ -176,7 +176,7 @@ turn_unread number feed feed' run before after fault ready step same told =
     stopped_at Unread number feed feed' run before after fault ready step.1 same (λ same. cc) (λ here shows. tt)
     (read_cause feed feed' ready.reading step.0 step.1) told
 
--- memory was wanting
+-- memory ran out
 pub turn_unfed : (number : ℕ) (feed feed' : Script) (run : Run) (before after : Option (List ℕ)) (fault : ServeFault)
     → IsReadyRun feed run → FaultStep feed_word.Memory feed feed' → number ≡ feed.given + 1
     → TellsAt NoMemory number fault before after

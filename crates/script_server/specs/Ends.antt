@@ -11,8 +11,8 @@ use Rattle.script_commands.specs.States.{IsRecordResult, Progress, RecordResult,
 use Rattle.script_server.specs.declared.script.{ServeFault.{ServeFault, TheVariants.{Read, Memory, Start, Write}}, Summary.Summary}
 use Rattle.script_server.specs.Writes.{AppendsPart, Output}
 
--- why a run ends at a record: csv's reader failed, or the limit of records was reached; memory was wanting; no store was opened; or
--- a write failed in what the record came to
+-- why a run ends at a record: csv's reader failed, or the limit of records was reached; memory ran out; no store was opened; or a
+-- write failed in what the record came to
 pub data End : Type 0 where
   Unread : End
   NoMemory : End
@@ -37,8 +37,8 @@ outcome_of (Unwritten outcome) = outcome
 abbrev pub last_text : End → ℕ → List ℕ
 last_text end records = printed (records + 1) (outcome_of end)
 
--- a run that has come here can end so, at this record or at none: for want of memory only before the limit of records; for want of
--- a store only at a record that opens one anew; and with a result unwritten only at a record that has this result
+-- a run that has come here can end so, at this record or at none: out of memory only before the limit of records; without a store
+-- only at a record that opens one anew; and with a result unwritten only at a record that has this result
 abbrev pub CanEnd : End → Option (Result Command FeedWord) → Progress → Type 0
 CanEnd Unread item here = Unit {0}
 CanEnd NoMemory item here = here.records < record_limit
@@ -61,8 +61,8 @@ abbrev pub records_done : Script → ℕ
 records_done feed = done_by feed.phase feed.given
 
 -- What the feed came to, by the result of the run: at Ok it met the end of the input, and csv's reader never failed; at Read it
--- stopped, since csv's reader failed, and not for want of memory, or the limit was reached. At Memory csv's reader failed for want
--- of it, or not at all, and the limit was not reached. Start comes while the feed gives records, and Write at any time.
+-- stopped, since csv's reader failed, and not because memory ran out, or the limit was reached. At Memory csv's reader ran out of
+-- memory, or didn't fail, and the limit was not reached. Start comes while the feed gives records, and Write at any time.
 abbrev pub HasCause : Script → Result Summary ServeFault → Type 0
 HasCause feed (Ok summary) = (feed.phase ≡ Ended) × (feed.failed ≡ false) × (summary.records ≡ feed.given)
 HasCause feed (Err Read) = (feed.phase ≡ Stopped) × (FailsWith word.Read feed ⊎ (feed.given ≡ record_limit))

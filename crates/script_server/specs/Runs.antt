@@ -42,8 +42,8 @@ IsStartup setup (Err fault) output = ((fault ≡ Start) × (output.after ≡ out
 abbrev pub ShowsStart : Server → Type 0
 ShowsStart server = (start : MachineState) × IsStart start × ShowsMachine server start.world
 
--- what is told of a server that did not begin: that no store was opened; or that memory was wanting behind the opening, or that
--- a write failed where this is told
+-- what is reported of a server that did not begin: that no store was opened; or that memory ran out after the opening, or that a
+-- write failed where this is reported
 abbrev pub TellsStop : {T : Type 0} → Stop → Result T ServeFault → Type 0
 TellsStop (stopped.Start error) result = result ≡ Err Start
 TellsStop stopped.Memory result = (result ≡ Err Memory) ⊎ (result ≡ Err Write)

@@ -147,8 +147,7 @@ fn start<A: AllocGlobal + Wait, W: Write>(
     begun(rt.alloc(), Server::begin(rt, config), sink)
 }
 
-/// The run of a server that has begun; or the end of one that hasn't, with an error line where memory was wanting behind the
-/// opening.
+/// The run of a server that has begun; or the end of one that hasn't, with an error line if memory ran out after the opening.
 fn begun<W: Write>(
     alloc: Global,
     server: Result<Server, Stop>,

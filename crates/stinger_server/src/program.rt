@@ -73,7 +73,7 @@ pub fn stinger<'a, A: AllocGlobal + Threads + Wait + Sync, R: Read + Drop, W: Wr
     }
 }
 
-/// Whether the arguments have a script served; an error where they can't be read for want of memory.
+/// Whether the arguments have a script served; an error if memory runs out while they are read.
 pub fn serves<'a, A: AllocGlobal>(rt: &A, arguments: &'a [&'a str]) -> Result<bool, AllocError>
     ensures { IfOk result (λ yes. yes ≡ is_served (asked_with (map (λ argument. argument.now) arguments.now))) }
 {
@@ -83,8 +83,8 @@ pub fn serves<'a, A: AllocGlobal>(rt: &A, arguments: &'a [&'a str]) -> Result<bo
     }
 }
 
-/// Whether the arguments have a script served whose progress may be shown, as it may without `--quiet`; an error where they can't be
-/// read for want of memory.
+/// Whether the arguments have a script served whose progress may be shown, as it may without `--quiet`; an error if memory runs out
+/// while they are read.
 pub fn shows_progress<'a, A: AllocGlobal>(
     rt: &A,
     arguments: &'a [&'a str],

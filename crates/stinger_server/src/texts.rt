@@ -5,7 +5,7 @@ pub(crate) const VERSION: &str = "stinger 0.1.0\n";
 // What stands on standard error where the output could not be written.
 pub(crate) const UNWRITTEN: &str = "error: the output can't be written\n";
 
-// What stands there where the store was not opened, for want of memory.
+// What stands there if the store was not opened because memory ran out.
 pub(crate) const UNOPENED: &str =
     "error: out of memory: the store can't be opened, and fewer blocks or seats take less\n";
 

@@ -9,7 +9,8 @@ abbrev pub store_error : errors.OpenError → OpenError
 store_error (kept.PoolEmpty needed free) = PoolEmpty needed free
 store_error kept.OutOfMemory = OutOfMemory
 
--- why no store of so many blocks opens with a version that has `needed`; no reader's place, or want of memory, may come at any place
+-- why no store of so many blocks opens with a version that has `needed`; at any place a reader's place may be missing, or memory
+-- may run out
 abbrev pub RefusesStore : ℕ → ℕ → OpenError → Type 0
 RefusesStore needed blocks (PoolEmpty told free) = (told ≡ needed) × (free ≡ blocks) × (blocks < needed)
 RefusesStore needed blocks NoReader = Unit {0}

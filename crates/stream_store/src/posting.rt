@@ -113,8 +113,8 @@ impl Desk {
     /// once and tell `gate` of themselves; no outcome depends on how many there are.
     ///
     /// Refused are, in this order: a batch behind as many as the limits allow, one that would leave more vertex names than
-    /// these, one that would leave more kinds, and one that asks for more blocks than are free. Want of memory refuses it too,
-    /// at any place.
+    /// these, one that would leave more kinds, and one that asks for more blocks than are free. It is refused too if memory runs
+    /// out, at any place.
     pub fn apply<R: Threads + Wait + Sync, G: Gate + Sync>(
         &mut self,
         rt: &R,

@@ -7,7 +7,7 @@ use Rattle.version_answers.proofs.NamedRows.{named_reply}
 use Rattle.graph_types.specs.declared.requests.Request.TheVariants as request
 use Rattle.graph_types.specs.declared.requests.AskError.TheVariants as ask
 
--- a result that isn't want of memory is an answer
+-- a result that isn't out of memory is an answer
 pub answer_ok : (request : Request) (g : Graph) (reply : NumberedReply)
     → ((let r : Result NumberedReply AskError = Ok reply in r ≡ Err ask.OutOfMemory) ⊎ IsNumberedAnswer request g (Ok reply))
     → IsAnswer request g (Ok (named g.names reply))

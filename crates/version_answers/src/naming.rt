@@ -19,7 +19,7 @@ use vertex_names::NameBook;
 /// no walk reaches are left out, and a label becomes the name of its vertex.
 ///
 /// Rows past the last vertex are left out, and a vertex past it that is a label or was reached becomes an empty text; a reply
-/// about this version has neither. The error is want of memory, and never comes for one edge.
+/// about this version has neither. The only error is out of memory, and it never comes for one edge.
 pub fn name_reply(
     alloc: Global,
     version: &Version,

@@ -13,7 +13,7 @@ use graph_version::{Version, VersionEdges};
 use std::alloc::Global;
 
 /// Writes the core number of each vertex (Seidman 1983) over the view, into as many places as there are vertices.
-/// `NoKind`, `BadLength`, or want of memory.
+/// `NoKind`, `BadLength`, or out of memory.
 pub fn write_cores(
     alloc: Global,
     version: &Version,
@@ -36,7 +36,7 @@ pub fn write_cores(
 }
 
 /// Writes for each vertex the least vertex that edges of the view join it to, whatever their direction.
-/// `NoKind`, `BadLength`, or want of memory.
+/// `NoKind`, `BadLength`, or out of memory.
 pub fn write_labels(
     alloc: Global,
     version: &Version,
@@ -60,7 +60,7 @@ pub fn write_labels(
 }
 
 /// Writes for each vertex the least number of edges of the view that lead to it from the source, or [`NO_NUMBER`].
-/// `NoKind`, `NoVertex`, `BadLength`, or want of memory.
+/// `NoKind`, `NoVertex`, `BadLength`, or out of memory.
 pub fn write_levels(
     alloc: Global,
     version: &Version,
@@ -98,7 +98,7 @@ fn put_levels(levels: &[Option<u32>], column: &mut [u32])
 }
 
 /// Writes for each vertex how many edges of the view leave it, how many enter it, and the sum of the weights of those that
-/// leave it. `NoKind`, `BadLength`, or want of memory.
+/// leave it. `NoKind`, `BadLength`, or out of memory.
 #[tactic(auto, using(graph_types::proofs::DegreeTables::degrees_long))]
 pub fn write_degrees(
     alloc: Global,

@@ -21,7 +21,7 @@ pub struct View {
     pub kind: u32,
 }
 
-/// Why nothing was told; the first that holds, in this order, and want of memory last.
+/// Why nothing was told; the first that holds, in this order, and out of memory last.
 #[derive(Clone, Copy, Debug, PartialEq, Eq, Error)]
 pub enum ColumnError {
     #[error("the version has no such kind")]

@@ -139,7 +139,7 @@ impl History {
     }
 
     /// A copy.
-    pub fn again(&self) -> History
+    pub fn share(&self) -> History
         ensures { result ≡ self.now }
     {
         History {

@@ -53,7 +53,7 @@ impl Told {
     {
         Ok(Told {
             version: Arc::try_clone(&self.version)?,
-            history: self.history.again(),
+            history: self.history.share(),
         })
     }
 

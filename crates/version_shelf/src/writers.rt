@@ -98,7 +98,7 @@ pub fn shelf<R: Wait>(
     };
     let told = Told {
         version: opening,
-        history: history.again(),
+        history: history.share(),
     };
     let place = opened(rt, alloc, &told, readers)?;
     let mut writer = ShelfWriter {
@@ -200,16 +200,16 @@ impl ShelfWriter {
         }
         let shown = Told {
             version: copy,
-            history: self.history.again(),
+            history: self.history.share(),
         };
         let again = Told {
             version: other,
-            history: self.history.again(),
+            history: self.history.share(),
         };
         show_twice(rt, &mut self.place, shown, again);
         Ok(Told {
             version,
-            history: self.history.again(),
+            history: self.history.share(),
         })
     }
 

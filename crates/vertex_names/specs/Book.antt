@@ -21,7 +21,7 @@ pub record IsBook (book : Book) : Type 0 where
   pub distinct : AllPairs (λ a b. a ≢ b) book.names
   pub named : All (λ name. IsTrue (is_name name)) book.names
 
--- when a name is refused: where the book would have more names than its limit; want of memory may come at any time
+-- when a name is refused: where the book would have more names than its limit; memory may run out at any time
 abbrev pub RefusesName : AddError → Book → List ℕ → Type 0
 RefusesName NamesFull book name = book.limit < length (with_name book.names name)
 RefusesName OutOfMemory book name = Unit {0}

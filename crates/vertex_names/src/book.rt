@@ -213,7 +213,7 @@ impl NameBook {
         ensures number { IfOk result (λ number. number ≡ number_of self.old.names name.now) }
         ensures added { OnOk result (self.new ≡ with_entry self.old name.now) }
 
-        // A name that has appeared is never refused, and another one within the limit only for want of memory.
+        // A name that has appeared is never refused, and another one within the limit only if memory runs out.
         ensures known { IsTrue (is_listed self.old.names name.now) → IsOk result }
         ensures within { OnOk result (length self.new.names ≤ self.new.limit) }
         ensures refused { IfErr result (λ error. RefusesName error self.old name.now) }

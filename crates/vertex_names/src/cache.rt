@@ -5,10 +5,10 @@ use std::sync::Arc;
 use std::sync::atomic::AtomicU64;
 use std::sync::atomic::Ordering::Relaxed;
 
-/// How many slots a cache has at first.
+/// How many cells a cache has at first.
 const FEWEST: usize = 16;
 
-/// Half of a word: a slot has a half of a name's short hash, and a number.
+/// Half of a word: a cell has a half of a name's short hash, and a number.
 const HALF: u64 = 1 << 32;
 
 /// A short hash of a text, in place of the long one of the index. Many names can be made that have one, and then each is
@@ -25,27 +25,27 @@ pub(crate) fn short_hash(text: &str) -> u64 {
 /// its text, and so no contract speaks of it.
 #[derive(Drop)]
 pub(crate) struct Cache {
-    slots: Vec<AtomicU64>,
+    cells: Vec<AtomicU64>,
 }
 
 impl Cache {
-    fn with_slots(alloc: Global, count: usize) -> Result<Cache, AllocError> {
-        let mut slots = Vec::with_capacity(alloc, count)?;
+    fn with_cells(alloc: Global, count: usize) -> Result<Cache, AllocError> {
+        let mut cells = Vec::with_capacity(alloc, count)?;
         for _ in 0..count {
-            slots.push(AtomicU64::new(0))?;
+            cells.push(AtomicU64::new(0))?;
         }
-        Ok(Cache { slots })
+        Ok(Cache { cells })
     }
 
-    /// The slot of a short hash: the number of slots is a power of two.
-    fn slot(&self, hash: u64) -> Option<&AtomicU64> {
-        let place = (hash / HALF) as usize & self.slots.len().wrapping_sub(1);
-        self.slots.get(place)
+    /// The cell of a short hash: the number of cells is a power of two.
+    fn cell(&self, hash: u64) -> Option<&AtomicU64> {
+        let place = (hash / HALF) as usize & self.cells.len().wrapping_sub(1);
+        self.cells.get(place)
     }
 
-    /// The number that was kept last of the names in a slot, if it was kept by this short hash.
+    /// The number that was kept last of the names in a cell, if it was kept by this short hash.
     pub(crate) fn get(&self, hash: u64) -> Option<u32> {
-        let word = self.slot(hash)?.load(Relaxed);
+        let word = self.cell(hash)?.load(Relaxed);
         if word / HALF == hash % HALF {
             Some((word % HALF) as u32)
         } else {
@@ -55,22 +55,22 @@ impl Cache {
 
     /// Keeps a number.
     fn put(&self, hash: u64, number: u32) {
-        if let Some(slot) = self.slot(hash) {
-            slot.store((hash % HALF) * HALF + u64::from(number), Relaxed);
+        if let Some(cell) = self.cell(hash) {
+            cell.store((hash % HALF) * HALF + u64::from(number), Relaxed);
         }
     }
 }
 
 /// A cache for a book of so many names, or none where that one is large enough or memory for another one is refused.
 fn larger(alloc: Global, cache: &Option<Arc<Cache>>, names: usize) -> Option<Arc<Cache>> {
-    let slots = match cache {
+    let cells = match cache {
         None => 0,
-        Some(cache) => cache.slots.len(),
+        Some(cache) => cache.cells.len(),
     };
-    if names < slots {
+    if names < cells {
         return None;
     }
-    let cache = Cache::with_slots(alloc, slots.saturating_mul(2).max(FEWEST)).ok()?;
+    let cache = Cache::with_cells(alloc, cells.saturating_mul(2).max(FEWEST)).ok()?;
     Arc::new(alloc, cache).ok()
 }
 

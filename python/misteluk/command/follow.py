@@ -11,7 +11,8 @@ from contextlib import contextmanager
 from typing import Any, Callable, Dict, Iterator, List, Optional
 
 from ..errors import StoreError
-from ..feeds.following import Followed, Following, kept_time
+from ..feeds.following import Followed, Following
+from ..feeds.spans import kept_time
 from .questions import for_json, lines
 from ..store import Store
 

@@ -38,7 +38,7 @@ def opened(path: str) -> "Tuple[Library, Handles]":
 def refusal_of(code: int) -> Exception:
     """What is raised where a call was refused."""
     if code == Code.MEMORY:
-        return NoMemory("the library found no memory for this call, and left all as it was")
+        return NoMemory("the library ran out of memory for this call, and left all as it was")
     if code in WORDS:
         return Denied(WORDS[Code(code)])
     return StoreError(f"the library refused a call by {Code(code).name}, for which this package knows no reason")

@@ -225,7 +225,7 @@ class Conversation:
             raise self._misread(f"a line that answers no record: {line!r}")
         number, word = int(words[1]), words[2]
         if word == "Memory":
-            self._fault = OutOfMemory(f"the program found no memory for record {number} and ended: fewer blocks, names or "
+            self._fault = OutOfMemory(f"the program ran out of memory for record {number} and ended: fewer blocks, names or "
                                       "records take less")
         elif word == "Read":
             self._fault = ProgramEnded(f"the program could not read record {number} and ended")

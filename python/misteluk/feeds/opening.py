@@ -51,6 +51,7 @@ class ReadAs(NamedTuple):
 
     @property
     def notation(self) -> Notation:
+        """How numbers and dates are written. Raises `ValueError` where they can't be written so."""
         return Notation(self.decimal, self.dates).checked()
 
     @property

@@ -120,10 +120,12 @@ class Survey:
 
     @property
     def edges(self) -> int:
+        """How many edges the feed has, each counted once."""
         return self._counted.edges
 
     @property
     def blocks(self) -> int:
+        """How many blocks these edges take in an empty store."""
         return self._counted.blocks
 
     def records(self, collect: bool = True, batches: Optional[int] = None) -> int:
@@ -165,6 +167,7 @@ class Survey:
         return min(max(records.USUAL_BLOCKS, self.needed), records.MOST_BLOCKS)
 
     def counts(self) -> Dict[str, int]:
+        """All that was counted, by its name."""
         return {"rows": self.rows, "names": self.names, "kinds": len(self.kinds), "edges": self.edges, "blocks": self.blocks,
                 "needed": self.needed, "records": self.records(), "bad": self.bad}
 

@@ -32,6 +32,7 @@ class View:
 
     @property
     def counts(self) -> Dict[str, int]:
+        """How many edges are gone, new, changed and the same, by these words."""
         return self.neighborhood.counts()
 
     def save(self, path: Path) -> None:

@@ -84,6 +84,69 @@ class Responder:
         return b"".join([b"HTTP/1.1 200 OK\r\n", *lines, b"content-length: "])
 
 
+# What uvicorn's protocol gives, which isn't there where this is read: `made` joins the two.
+_Protocol: Any = object
+
+
+class Direct(_Protocol):  # type: ignore[misc]
+    """uvicorn's protocol, that answers little questions at once between other requests. It stands before one in a class."""
+
+    responder: Responder
+    is_known, is_amid, heard = False, False, 0.0
+    head = b""
+    session: Optional[str] = None
+    dated: Any = None
+    begin = b""
+    timeout_keep_alive_task: Any = None
+
+    def connection_made(self, transport: Any) -> None:
+        super().connection_made(transport)
+        rest = super()
+        self.is_known = all(hasattr(self, it) for it in _STATE) and all(hasattr(rest, it) for it in _CALLS)
+
+    def data_received(self, data: bytes) -> None:
+        told = self._told(data) if self.is_known and self._is_free() else None
+        if told is None:
+            super().data_received(data)
+            return
+        self.heard = self.loop.time()
+        if self.timeout_keep_alive_task is None:
+            self.timeout_keep_alive_task = self.loop.call_later(self.timeout_keep_alive, self.timeout_keep_alive_handler)
+        usual = self.server_state.default_headers
+        if self.dated is not usual:
+            self.dated, self.begin = usual, self.responder.head(usual)
+        self.transport.writelines([b"%s%d\r\n\r\n" % (self.begin, len(told)), told])
+
+    def _is_free(self) -> bool:
+        """Whether no other request is under way here, and one may be answered."""
+        cycle, most = self.cycle, self.limit_concurrency
+        return not (self.is_amid or cycle is not None and not cycle.response_complete or self.flow.write_paused
+                    or self.transport.is_closing() or most is not None and len(self.connections) >= most)
+
+    def _told(self, data: bytes) -> Optional[bytes]:
+        request = whole(data)
+        if request is None:
+            return None
+        if request.head != self.head:
+            self.head, self.session = request.head, self.responder.session_of(request.head)
+        return None if self.session is None else self.responder.told(self.session, request.body)
+
+    def on_message_begin(self) -> None:
+        self.is_amid = True
+        super().on_message_begin()
+
+    def on_message_complete(self) -> None:
+        self.is_amid = False
+        super().on_message_complete()
+
+    def timeout_keep_alive_handler(self) -> None:
+        left = self.heard + self.timeout_keep_alive - self.loop.time()
+        if left <= 0:
+            super().timeout_keep_alive_handler()
+        elif not self.transport.is_closing():
+            self.timeout_keep_alive_task = self.loop.call_later(left, self.timeout_keep_alive_handler)
+
+
 def protocol(responder: Responder) -> "type | str":
     """What uvicorn makes for each connection: its own protocol, by its name, where httptools isn't there."""
     try:
@@ -95,58 +158,4 @@ def protocol(responder: Responder) -> "type | str":
 
 def made(base: Any, responder: Responder) -> type:
     """The protocol that does the rest as this one."""
-    class Direct(base):  # type: ignore[misc]
-        """uvicorn's protocol, that answers little questions at once between other requests."""
-
-        is_known, is_amid, heard = False, False, 0.0
-        head, session = b"", None
-        dated: Any = None
-        begin = b""
-        timeout_keep_alive_task: Any = None
-
-        def connection_made(self, transport: Any) -> None:
-            super().connection_made(transport)
-            self.is_known = all(hasattr(self, it) for it in _STATE) and all(hasattr(base, it) for it in _CALLS)
-
-        def data_received(self, data: bytes) -> None:
-            told = self._told(data) if self.is_known and self._is_free() else None
-            if told is None:
-                super().data_received(data)
-                return
-            self.heard = self.loop.time()
-            if self.timeout_keep_alive_task is None:
-                self.timeout_keep_alive_task = self.loop.call_later(self.timeout_keep_alive, self.timeout_keep_alive_handler)
-            usual = self.server_state.default_headers
-            if self.dated is not usual:
-                self.dated, self.begin = usual, responder.head(usual)
-            self.transport.writelines([b"%s%d\r\n\r\n" % (self.begin, len(told)), told])
-
-        def _is_free(self) -> bool:
-            """Whether no other request is under way here, and one may be answered."""
-            cycle, most = self.cycle, self.limit_concurrency
-            return not (self.is_amid or cycle is not None and not cycle.response_complete or self.flow.write_paused
-                        or self.transport.is_closing() or most is not None and len(self.connections) >= most)
-
-        def _told(self, data: bytes) -> Optional[bytes]:
-            request = whole(data)
-            if request is None:
-                return None
-            if request.head != self.head:
-                self.head, self.session = request.head, responder.session_of(request.head)
-            return None if self.session is None else responder.told(self.session, request.body)
-
-        def on_message_begin(self) -> None:
-            self.is_amid = True
-            super().on_message_begin()
-
-        def on_message_complete(self) -> None:
-            self.is_amid = False
-            super().on_message_complete()
-
-        def timeout_keep_alive_handler(self) -> None:
-            left = self.heard + self.timeout_keep_alive - self.loop.time()
-            if left <= 0:
-                super().timeout_keep_alive_handler()
-            elif not self.transport.is_closing():
-                self.timeout_keep_alive_task = self.loop.call_later(left, self.timeout_keep_alive_handler)
-    return Direct
+    return type("Direct", (Direct, base), {"responder": responder})

@@ -1,5 +1,5 @@
 "use strict";
-(() => {
+{
     const the = (name) => document.getElementById(name);
     const number = (it) => it.toLocaleString("en");
     // The version that this page holds, and the last one that it was told of.
@@ -181,4 +181,4 @@
     });
     setInterval(look, 1000);
     look();
-})();
+}

@@ -182,12 +182,15 @@ class Answer(Mapping[str, V], Generic[V]):
         return name in self.dict()
 
     def keys(self) -> KeysView[str]:
+        """The names, in the order of the rows."""
         return self.dict().keys()
 
     def values(self) -> ValuesView[V]:
+        """The values, in the order of the rows."""
         return self.dict().values()
 
     def items(self) -> ItemsView[str, V]:
+        """Each name with its value, in the order of the rows."""
         return self.dict().items()
 
     def __eq__(self, other: object) -> bool:

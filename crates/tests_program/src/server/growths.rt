@@ -23,7 +23,7 @@ fn is_cut_by_memory(text: &str, ends: &[usize], output: &str) -> bool {
 }
 
 // Whether such a run was ended so: at a record, where there was no memory; or before the first one, where no store was opened. A
-// store that is not opened at a rebase for want of memory is told as that.
+// store that is not opened at a rebase because memory ran out is reported as that.
 fn is_cut(text: &str, ends: &[usize], output: &str, fault: ServeFault) -> bool {
     match fault {
         ServeFault::Start => output.is_empty(),
@@ -86,7 +86,7 @@ fn refused_growth_of_a_rebase_leaves_the_lines_before(rt: HostRuntime) {
     runs_or_is_cut(&rt, REBASED, REBASED_TEXT, REBASED_ENDS.as_slice());
 }
 
-// Both end the run: the writer is told, which was full at the first line or at the error line for want of memory.
+// Both end the run: the writer is reported, which was full at the first line or at the error line of a run that is out of memory.
 #[test]
 fn refused_growth_into_a_full_writer_tells_the_writer(rt: HostRuntime) {
     let mut writer = FakeWriter::new(5);

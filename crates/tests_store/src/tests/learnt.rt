@@ -221,7 +221,8 @@ fn confirms_late<J: Naming, R: Threads + Wait + Sync>(
 type Learnt = (bool, Collected, Collected, Stat);
 
 /// A seat learns of a batch and acquires its version, lets it go behind the next batch, and the store is collected before and after.
-/// The store confirms what the seat has seen at the opening, behind the batch, at its entry, and behind a long feed.
+/// The store confirms what the seat has seen at the opening, behind the batch, at its entry, and behind a long feed; and also right
+/// before the second collection, to which it leaves what is no longer held.
 fn learnt_over<J: Naming, R: Threads + Wait + Sync>(
     rt: &R,
     alloc: Global,
@@ -238,9 +239,10 @@ fn learnt_over<J: Naming, R: Threads + Wait + Sync>(
     let held = store.collect(rt);
     let is_first = has_first(alloc, &session);
     let seat = session.release(rt, store);
+    let at_release = confirms(rt, store, seat.seen(), 2);
     let (free, stat) = (store.collect(rt), store.stat(rt));
     let is_late = confirms_late(rt, alloc, store, &seat);
-    let is_so = at_opening & is_learnt & at_entry & is_more & is_first & is_late;
+    let is_so = at_opening & is_learnt & at_entry & is_more & is_first & at_release & is_late;
     (is_so, held, free, stat)
 }
 

@@ -32,7 +32,7 @@ struct Play<'a> {
     shared: &'a str,
     last: u64,
     ended: &'a str,
-    /// Whether it accepts want of memory.
+    /// Whether it accepts out of memory.
     may_refuse: bool,
 }
 

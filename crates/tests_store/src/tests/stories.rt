@@ -13,7 +13,7 @@ use std::alloc::Global;
 use std::io::Print;
 use std::marker::Brand;
 use std::process::Abort;
-use std::sync::Wait;
+use std::sync::{Arc, Wait};
 use std::thread::Threads;
 use stream_store::{Config, Naming, Opened, Seat, Store};
 
@@ -65,7 +65,8 @@ fn check_seats<J: Naming + Send + Sync, R: Threads + Wait + Sync + Abort + Print
     }
 }
 
-/// Tells a story over the store of an opening, which takes this name, to its end.
+/// Tells a story over the store of an opening, which takes this name, to its end. By then the seats and receipts are gone, so
+/// nobody has the last version but whoever closed the store.
 fn check_named<J: Naming + Send + Sync, R: Threads + Wait + Sync + Abort + Print>(
     rt: &R,
     alloc: Global,
@@ -76,7 +77,12 @@ fn check_named<J: Naming + Send + Sync, R: Threads + Wait + Sync + Abort + Print
 {
     let (store, seats) = opened.named::<J>();
     check_seats(rt, alloc, &store, seats, story);
-    let _last = store.close(rt);
+    let last = store.close(rt);
+    check_so(
+        rt,
+        Arc::into_inner(last).is_some(),
+        "all that a closed store had is given back",
+    );
 }
 
 /// Tells a story over a new store of so many workers, blocks and seats; whether it opened.

@@ -12,8 +12,8 @@ loop-block-preserved c =
     (last_number _ c.pop.new.self.items c.in-Some.block c.in-Some.ensures.items)
     (c.give_back.ensures ∙ ap (λ n. set c.loop-block.pool n Free) number) c.loop-block.invariant
 
-pub give_back-requires-clause-used : goal.give_back-requires-clause-used
-give_back-requires-clause-used c =
+pub give_back-requires-clause-in_use : goal.give_back-requires-clause-in_use
+give_back-requires-clause-in_use c =
     let number : c.number.result ≡ (block_of c.in-Some.block).number = search rules in
     rw number (last_used _ (shared_numbers c.pop.new.self.items) (block_of c.in-Some.block).number Free c.loop-block.pool _
     (last_number _ c.pop.new.self.items c.in-Some.block c.in-Some.ensures.items) c.loop-block.invariant)

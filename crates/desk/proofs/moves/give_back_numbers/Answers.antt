@@ -7,6 +7,6 @@ loop-number-preserved c =
     rest_moving _ c.pop.new.self.items c.in-Some.number Free c.loop-number.pool _ _ c.in-Some.ensures.items c.give_back.ensures
     c.loop-number.invariant
 
-pub give_back-requires-clause-used : goal.give_back-requires-clause-used
-give_back-requires-clause-used c =
+pub give_back-requires-clause-in_use : goal.give_back-requires-clause-in_use
+give_back-requires-clause-in_use c =
     last_used _ c.pop.new.self.items c.in-Some.number Free c.loop-number.pool _ c.in-Some.ensures.items c.loop-number.invariant

@@ -12,7 +12,7 @@ returns c =
     let ops = c.args.ops.now in
     let g = graph_in c.args.limits c.args.content.now in
     let most : c.names.result ≡ g.limits.names = c.names.ensures.number in
-    elim c.match-names_left.branch [
+    elim c.match-names_after_all.branch [
       | in-Ok w ↦
           let few : length (names_after_all ops g.names) ≤ g.limits.names =
           subst (λ xs. length xs ≤ g.limits.names) (w.in-Ok.ensures.left ∙ ap (names_after_all ops) c.as_slice.ensures)

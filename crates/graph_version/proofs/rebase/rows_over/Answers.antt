@@ -8,7 +8,7 @@ pub loop-place-preserved : goal.loop-place-preserved
 loop-place-preserved c =
     let left = c.loop-place.left.now in
     let long : length c.row_blocks.result.now ≡ length (row_of c.args.rows.now c.loop-place.place) =
-    sym (length-map c.row_blocks.result.now block_value) ∙ ap length c.row_blocks.ensures in
+    sym (length-map c.row_blocks.result.now block_value) ∙ ap length c.row_blocks.ensures.blocks in
     row_more c.args.rows.now (block_values c.args.blocks.now) c.loop-place.place c.loop-place.copy c.in_ok-copy.copy
     (block_values left) (block_values c.split_at.result.0.now) (block_values c.split_at.result.1.now) c.loop-place.invariant
     (omega (arith, c.loop-place-test.true, c.len-place-end.ensures.count))

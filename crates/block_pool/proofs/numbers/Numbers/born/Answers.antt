@@ -6,14 +6,14 @@ use Rattle.block_pool.proofs.numbers.Numbers.born.Goals as goal
 
 pub set-requires : goal.set-requires
 set-requires c =
-    let at = used_at (statuses c.args.self.now) c.args.number c.requires.used in
+    let at = used_at (statuses c.args.self.now) c.args.number c.requires.in_use in
     record { within = at.within; room = c.requires.kept.roomy.status c.args.number at.within at.not_free }
 
 pub returns-clause-kept : goal.returns-clause-kept
 returns-clause-kept c =
     let n = c.args.self.now in
     let k = c.requires.kept in
-    let at = used_at (statuses n) c.args.number c.requires.used in
+    let at = used_at (statuses n) c.args.number c.requires.in_use in
     let long_after = length-set n.statuses.items c.args.number (Used c.args.version) in
     rw c.set.ensures (record {
       few = omega (arith, k.few);

@@ -8,13 +8,13 @@ use Rattle.block_pool.proofs.numbers.Numbers.give_back.Goals as goal
 pub set-requires : goal.set-requires
 set-requires c =
     let n = c.args.self.now in
-    let at = used_at (statuses n) c.args.number c.requires.used in
+    let at = used_at (statuses n) c.args.number c.requires.in_use in
     record { within = at.within; room = c.requires.kept.roomy.status c.args.number at.within at.not_free }
 
 pub set-requires-2 : goal.set-requires-2
 set-requires-2 c =
     let n = c.args.self.now in
-    let at = used_at (statuses n) c.args.number c.requires.used in
+    let at = used_at (statuses n) c.args.number c.requires.in_use in
     let lt = free_places n c.requires.kept c.args.number at.within at.not_free in
     record { within = lt; room = c.requires.kept.roomy.last n.free_len (omega arith) (omega (arith, lt, c.requires.kept.free_room)) }
 
@@ -22,7 +22,7 @@ pub returns-clause-kept : goal.returns-clause-kept
 returns-clause-kept c =
     let n = c.args.self.now in
     let k = c.requires.kept in
-    let at = used_at (statuses n) c.args.number c.requires.used in
+    let at = used_at (statuses n) c.args.number c.requires.in_use in
     let lt = free_places n k c.args.number at.within at.not_free in
     let long_after = length-set n.statuses.items c.args.number Free in
     let free = length-set n.free.items n.free_len c.args.number in

@@ -6,7 +6,7 @@ use Rattle.block_reclamation.specs.{declared.status.BlockStatus.{BlockStatus, Th
 use Rattle.block_pool.specs.Pools.{marked}
 use Rattle.store_steps.specs.{Desks.{DeskView, last_numbers}, Opening.{IsVersionZero, opened_desk}}
 use Rattle.store_steps.proofs.Reopening.{zero_over}
-use Rattle.desk.specs.{Applying.AreUsedOnce, Openings.without_pins, Kept.{IsKeptDesk, desk_in, desk_of}, declared.desks.Parts.Parts}
+use Rattle.desk.specs.{Applying.AreInUseOnce, Openings.without_pins, Kept.{IsKeptDesk, desk_in, desk_of}, declared.desks.Parts.Parts}
 use Rattle.desk.proofs.{Collections.{kept_same, opened_kept}, OpenedAnew.{last_used, pool_anew}}
 use Rattle.desk.proofs.desks.Desk.reopen.Goals.{After-as_slice, After-drop-numbers-2}
 use Rattle.desk.proofs.desks.Desk.reopen.Goals as goal
@@ -40,7 +40,7 @@ pub reset_pool-requires : goal.reset_pool-requires
 reset_pool-requires c =
     let same : c.as_slice.result.now ≡ last_numbers (old c) =
     c.as_slice.ensures.value ∙ c.in_ok-numbers.ensures ∙ ap (λ (rows : List (List BlockView)). numbers_of (blocks_of rows)) (very c) in
-    subst (λ ns. AreUsedOnce ns (old c).pool) (sym same) (last_used (old c) (lent c).desk)
+    subst (λ ns. AreInUseOnce ns (old c).pool) (sym same) (last_used (old c) (lent c).desk)
 
 -- Its pool
 

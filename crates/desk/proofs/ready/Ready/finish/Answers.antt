@@ -5,7 +5,7 @@ use Rattle.graph_version.specs.Batches.{batch_value}
 use Rattle.block_pool.specs.Pools.{marked}
 use Rattle.store_steps.specs.Journal as kept
 use Rattle.block_reclamation.specs.{Status.is_retired, declared.status.BlockStatus.TheVariants.Used}
-use Rattle.desk.specs.{Applying.AreUsedOnce, Ready.{ReadyView, IsReady, ready_of}, declared.desks.Parts.Parts}
+use Rattle.desk.specs.{Applying.AreInUseOnce, Ready.{ReadyView, IsReady, ready_of}, declared.desks.Parts.Parts}
 use Rattle.desk.proofs.Handing.{Handing, taken_once, dropped_once, unused_once, end_pool, end_desk, end_kept, end_fits}
 use Rattle.desk.proofs.{Readied.handing_of, ready.Ready.finish.Goals.{After-as_slice, After-born_blocks}}
 use Rattle.desk.proofs.ready.Ready.finish.Goals as goal
@@ -31,7 +31,7 @@ born_is c =
 
 pub born_blocks-requires : goal.born_blocks-requires
 born_blocks-requires c =
-    subst (λ ns. AreUsedOnce ns c.deref_mut-kept.result.now.pool) (sym c.as_slice.ensures.value)
+    subst (λ ns. AreInUseOnce ns c.deref_mut-kept.result.now.pool) (sym c.as_slice.ensures.value)
     (taken_once (handed (goal.at.born_blocks-requires c).After-as_slice))
 
 pub move_blocks-requires-clause-dropped : goal.move_blocks-requires-clause-dropped

@@ -4,14 +4,14 @@ use Rattle.graph_version.specs.{Rows.blocks_of, Rows.numbers_of, Sharing.block_v
 use Rattle.block_pool.specs.Pools.{AreFree, marked}
 use Rattle.block_reclamation.specs.declared.status.BlockStatus.TheVariants.{Free, Used}
 use Rattle.store_steps.proofs.Reopening.{zero_is, zero_pool}
-use Rattle.desk.{specs.Applying.AreUsedOnce, proofs.{Handing.back_used, Zeros.opens_with}}
+use Rattle.desk.{specs.Applying.AreInUseOnce, proofs.{Handing.back_used, Zeros.opens_with}}
 use Rattle.desk.proofs.zero.Zero.over.Goals as goal
 
 pub born_blocks-requires : goal.born_blocks-requires
 born_blocks-requires c =
     let numbers : List ℕ = c.in-Ok.field-0.numbers.items in
     let same : c.as_slice.result.now ≡ numbers = c.as_slice.ensures.value in
-    subst (λ ns. AreUsedOnce ns c.grant.new.self) (sym same)
+    subst (λ ns. AreInUseOnce ns c.grant.new.self) (sym same)
     (back_used c.in_ok-pool.pool c.grant.new.self numbers c.in-Ok.ensures.numbers.0 c.in-Ok.ensures.used)
 
 pub returns-clause-opens : goal.returns-clause-opens

@@ -1,6 +1,5 @@
-use Rattle.std.proofs.Common.{◌≡◌, ◌∙◌, ap, subst}
-use Rattle.graph_types.specs.Graph.{Graph}
-use Rattle.graph_version.specs.{Versions.VersionView, Versions.content, Kept.{IsSummary, opening_graph}, Rebased.rows_like}
+use Rattle.std.proofs.Common.{◌∙◌, ap, subst}
+use Rattle.graph_version.specs.{Versions.VersionView, Kept.{IsSummary}, Rebased.rows_like}
 use Rattle.graph_version.specs.Logs.{LogView, keeps_batches}
 use Rattle.graph_version.proofs.Rebased.{LookLike, look_blocks, rebased_kept, rebased_is}
 use Rattle.graph_version.specs.{Rows.row_of, Sharing.block_values}

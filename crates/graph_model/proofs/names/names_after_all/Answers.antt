@@ -3,7 +3,7 @@ use Rattle.std.proofs.{Common.◌≤◌, Common.length, Common.subst, lemmas.Res
 use Rattle.graph_types.specs.Parts.{names_after, names_after_all}
 use Rattle.graph_types.proofs.OperationParts.{length-names_after_all-drop}
 use Rattle.graph_model.proofs.BatchRefusals.{IsNamesRefusal-more}
-use Rattle.graph_model.proofs.names.names_left.Goals as goal
+use Rattle.graph_model.proofs.names.names_after_all.Goals as goal
 
 pub returns-in_err-make_names_of-clause-refused : goal.returns-in_err-make_names_of-clause-refused
 returns-in_err-make_names_of-clause-refused c =

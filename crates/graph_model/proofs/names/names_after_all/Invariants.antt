@@ -1,7 +1,7 @@
 -- What the operations that are left make of the names so far is what all of them make of the first.
 use Rattle.std.proofs.Common.{◌≡◌, ◌≤◌, drop, length}
 use Rattle.graph_types.specs.Parts.{names_after_all}
-use Rattle.graph_model.proofs.names.names_left.Given as goal
+use Rattle.graph_model.proofs.names.names_after_all.Given as goal
 
 abbrev pub invariant-loop-op : goal.invariant-loop-op
 invariant-loop-op l = record {

@@ -1,0 +1,50 @@
+"""Lengths of time as a caller says them: how long a feed waits for a commit, and how long an edge is kept."""
+from __future__ import annotations
+
+import re
+from datetime import timedelta
+from typing import Optional, Union
+
+from ..values import records
+from ..values.limits import within
+from ..values.units import MICROSECOND, Units
+
+Span = Union[str, int, float, timedelta]
+_SPAN = re.compile(r"(\d+(?:\.\d+)?)(ms|s|m|h|d|w)", re.A)
+_LENGTHS = {"ms": timedelta(milliseconds=1), "s": timedelta(seconds=1), "m": timedelta(minutes=1), "h": timedelta(hours=1),
+            "d": timedelta(days=1), "w": timedelta(weeks=1)}
+
+
+def span(text: str) -> timedelta:
+    """A length of time: `500ms`, `1.5s`, `10m` (minutes), `12h`, `14d`, `2w`. Raises `ValueError` for another text."""
+    found = _SPAN.fullmatch(text)
+    if not found:
+        raise ValueError(f"a length of time is a number with ms, s, m, h, d or w behind it, as 500ms or 14d, and not {text!r}")
+    try:
+        return _LENGTHS[found[2]] * float(found[1])
+    except OverflowError:
+        raise ValueError(f"{text} is longer than Python's times are") from None
+
+
+def seconds_of(every: Span) -> float:
+    """A length of time as seconds; a number is so many."""
+    if isinstance(every, str) and not re.fullmatch(r"\d+(?:\.\d+)?", every, re.A):
+        every = span(every)
+    seconds = every.total_seconds() if isinstance(every, timedelta) else float(every)
+    if not 0 <= seconds < 1e9:
+        raise ValueError(f"every is a number of seconds from 0 on, and not {every}")
+    return seconds
+
+
+def kept_time(keep: Optional[Span], units: Units, what: str = "keep") -> Optional[int]:
+    """How long an edge is kept, in the program's times: microseconds where times are dates, and else a whole number of what the
+    feed counts in."""
+    if keep is None:
+        return None
+    if isinstance(keep, str) and not keep.isdigit():
+        keep = span(keep)
+    if isinstance(keep, timedelta) != units.has_dates:
+        raise ValueError(f"{what} is a length of time, as 14d, since times are dates here" if units.has_dates else
+                         f"{what} is a whole number of what the times count, since they are no dates here (--times iso)")
+    length = keep // MICROSECOND if isinstance(keep, timedelta) else int(keep)
+    return within(what, length, 0, records.MOST_TIME)

@@ -1,0 +1,307 @@
+"""Calls that ask for neighbors, paths, reach and all edges: what they cost in records, what is refused, what files and frames
+get, and interrupts."""
+import csv
+import io
+import itertools
+import os
+import types
+import unittest
+import warnings
+from contextlib import redirect_stderr
+from unittest import mock
+
+from graphs import NAMES
+from interrupting import PATIENCE, SOON, Scene, at_line, made_at_once
+from support import ENGINE, OF_PIPES, Case, optional
+
+import misteluk
+from misteluk import Edge, Neighbor, Store
+from misteluk.engine import calls
+from misteluk.feeds import progress
+from misteluk.values import records
+
+pandas = optional("pandas")
+
+
+class Calls(Case):
+    @unittest.skipUnless(ENGINE == "program", OF_PIPES)
+    def test_records_by_degree(self):
+        """As many records as a vertex has edges, whatever else there is, once the kinds are known; none once all edges are."""
+        store = self.store(*(f"insert k s{it} t{it % 10} 1 1" for it in range(300)))
+        session = store.open()
+        session.out_of("s0")
+        for call, count in ((lambda: session.into("t3"), 30), (lambda: session.out_of("s7"), 1),
+                            (lambda: session.neighbors("t3"), 30), (lambda: session.path("s3", "t3"), 1 + 30),
+                            (lambda: session.within("s3", 2, directed=False), 1 + 1 + 30), (session.edges, 300 + 1),
+                            (session.edges, 0), (lambda: session.into("t3"), 0)):
+            before = store.records_sent
+            call()
+            self.assertEqual(store.records_sent - before, count)
+
+    @unittest.skipUnless(ENGINE == "program", OF_PIPES)
+    def test_exports_where_records_are_few(self):
+        """As where 500,000 rows leave 499,000 records: they go on as long as the first one found room."""
+        store = self.store(*(f"insert k s{it} t 1 1" for it in range(300)))
+        session = store.open()
+        store.engine.most_records = store.records_sent + 320
+        with warnings.catch_warnings():
+            warnings.simplefilter("ignore")
+            for _ in range(5):
+                self.assertEqual((len(list(session.edges())), session.weights_in()["t"], session.save(self.room / "s").edges),
+                                 (300, 300, 300))
+                self.assertLess(store.records_left, 20)
+
+    @unittest.skipUnless(ENGINE == "program", OF_PIPES)
+    def test_it_is_told_while_one_export_can_be_made(self):
+        """Once: when the records that are left are enough for one session's reading of all edges, and not for two."""
+        store = self.store(*(f"insert k s{it} t 1 1" for it in range(300)))
+        store.engine.most_records = store.records_sent + 1_150
+        with warnings.catch_warnings():
+            warnings.simplefilter("error")
+            for _ in range(2):
+                with store.open() as session:
+                    self.assertEqual(len(list(session.edges())), 300)
+        with self.assertWarnsRegex(misteluk.NearLimit, "takes 302: that can be once, and not twice"), store.open() as session:
+            self.assertEqual(len(list(session.edges())), 300)
+        with warnings.catch_warnings(), store.open() as session:
+            warnings.simplefilter("error")
+            self.refused(misteluk.RecordLimit, "begin a new store", session.edges)
+
+    @unittest.skipUnless(ENGINE == "program", OF_PIPES)
+    def test_a_load_tells_beforehand_that_records_will_be_few(self):
+        rows = [(f"s{it}", "t") for it in range(300)]
+        for most, told in ((1_050, "leaves 746 of the run's 1050 records.*all its 300 edges.*that can't be twice"),
+                           (650, "leaves 346 of .*: that can't be done. A store in this process")):
+            with mock.patch.object(records, "MOST_RECORDS", most), self.assertWarnsRegex(misteluk.NearLimit, told):
+                self.store().load(rows, by="set")
+        with mock.patch.object(records, "MOST_RECORDS", 1_150), warnings.catch_warnings():
+            warnings.simplefilter("error")
+            self.store().load(rows, by="set")
+
+    def test_a_path_whose_step_has_many_edges_that_are_gone(self):
+        """17 vertices stand a level below the last one, and the edges of the first 16 to it have expired; an earlier session
+        holds them, so the client knows of them still. The same in a window that has the last edge alone."""
+        ways = [(f"insert k a s{it} 1 9", f"insert k s{it} t 1 {9 if it == 16 else 1}") for it in range(17)]
+        store = self.store(*(it for way in ways for it in way))
+        held = store.open()
+        store.expire(5)
+        self.assertEqual(store.commit().expired, 16)
+        self.assertEqual(held.path("a", "t"), ["a", "s0", "t"])
+        self.assertEqual(held.path("a", "t", since=5), ["a", "s16", "t"])
+        self.assertEqual(store.open().path("a", "t"), ["a", "s16", "t"])
+
+    def test_a_path_whose_step_has_many_edges_from_elsewhere(self):
+        """No walk reaches the vertices of the first 16 edges into the last one."""
+        session = self.store(*(f"insert k b{it} t 1 1" for it in range(16)), "insert k a s 1 1", "insert k s t 1 1").open()
+        self.assertEqual(session.path("a", "t"), ["a", "s", "t"])
+
+    def test_one_vertex(self):
+        session = self.store("insert k a b 3 1", "insert l a b 4 5", "insert k b a 1 2", "insert k a a 9 3",
+                             "insert k c c 1 1").open()
+        self.assertEqual(session.out_of("a"), {"b": Edge(7, 1, 5), "a": Edge(9, 3, 3)})
+        self.assertEqual(session.out_of("a", "k"), {"b": Edge(3, 1, 1), "a": Edge(9, 3, 3)})
+        self.assertEqual(session.into("a", since=3), {"a": Edge(9, 3, 3)})
+        self.assertEqual(session.neighbors("a", "k", until=2), {"b": Neighbor(Edge(3, 1, 1), Edge(1, 2, 2))})
+        self.assertEqual(session.weights_in(), {"a": 10, "b": 7, "c": 1})
+        self.assertEqual(session.weights_in("l"), {"a": 0, "b": 4, "c": 0})
+        self.assertEqual((session.path("a", "b"), session.path("b", "c"), session.path("c", "c")), (["a", "b"], None, ["c"]))
+        self.assertEqual((len(session), bool(session), "a" in session, "z" in session, "" in session),
+                         (5, True, True, False, False))
+        self.assertEqual([it in session for it in (("k", "a", "b"), ("l", "b", "a"), ("k", "z", "b"), ("", "a", "b"))],
+                         [True, False, False, False])
+        self.assertEqual(list(session.edges(kind="l")), [("l", "a", "b", Edge(4, 5, 5))])
+        self.assertEqual(session.out_of("b", "l"), {})
+        self.assertEqual(session.within("b", 10 ** 18, directed=False), {"b": 0, "a": 1})
+        self.assertEqual(session.within("b", 0, directed=False), {"b": 0})
+
+    def test_edges_of_a_kind(self):
+        """The kind comes first, as in other calls."""
+        session = self.store("insert k a b 3 1", "insert l a b 4 5", "insert l b c 4 7").open()
+        self.assertEqual(list(session.edges("l")), list(session.edges(kind="l")))
+        self.assertEqual(list(session.edges("l", since=6)), [("l", "b", "c", Edge(4, 7, 7))])
+        self.refused(misteluk.NoKind, "nix", lambda: session.edges("nix"))
+        self.refused(ValueError, "a kind is said once", lambda: session.edges("l", kind="k"))
+        for wrong in (["lab"], [("l", "a")], [("l", "a", "b", "c")]):
+            self.refused(TypeError, f"by its kind, source and target, and not by {wrong[0]!r}", lambda: session.edges(wrong))
+
+    def test_an_empty_session(self):
+        session = self.store().open()
+        self.assertEqual((len(session), bool(session), list(session.edges()), session.weights_in()), (0, True, [], {}))
+        self.assertNotIn("a", session)
+        with self.assertRaises(misteluk.NoVertex):
+            session.neighbors("a")
+
+    def refused(self, word, text, call):
+        with self.assertRaises(word) as told:
+            call()
+        self.assertIn(text, str(told.exception))
+
+    def test_what_is_refused(self):
+        store = self.store("insert k a b 1 1")
+        session = store.open()
+        self.feed(store, "insert l y z 1 1")
+        for call in (session.out_of, session.into, session.neighbors, lambda it: session.path("a", it),
+                     lambda it: session.path(it, "a"), lambda it: session.within(it, 1, directed=False),
+                     lambda it: session.within(it, 1)):
+            self.refused(misteluk.NoVertex, "z", lambda: call("z"))
+            self.refused(misteluk.BadName, "at least one byte", lambda: call(""))
+        for call in (lambda **of: session.out_of("a", **of), lambda **of: session.path("a", "b", **of), session.weights_in,
+                     lambda **of: session.within("a", 1, directed=False, **of), session.edges):
+            self.refused(misteluk.NoKind, "l", lambda: call(kind="l"))
+            self.refused(misteluk.BadWindow, "", lambda: call(since=2, until=1))
+            self.refused(misteluk.BadTime, "", lambda: call(since=-1))
+        self.refused(ValueError, "hops is 0 or more", lambda: session.within("a", -1))
+        self.refused(ValueError, "for all edges", lambda: session.edges([("k", "a", "b")], kind="k"))
+        self.refused(TypeError, "may be in a session", lambda: 3 in session)
+        edges = session.edges()
+        session.close()
+        self.assertEqual(list(edges), [("k", "a", "b", Edge(1, 1, 1))])
+        for call in (session.edges, lambda: session.out_of("a"), lambda: len(session),
+                     lambda: "a" in session):
+            self.refused(misteluk.SessionClosed, "version 1 is closed", call)
+
+    @unittest.skipUnless(ENGINE == "program", OF_PIPES)
+    def test_progress(self):
+        """At a terminal it is told of many edges while they are asked for. The clock goes on by a second each time that it is
+        looked at."""
+        clock = mock.patch.object(progress, "time", types.SimpleNamespace(monotonic=itertools.count().__next__))
+        self.addCleanup(clock.stop)
+        clock.start()
+
+        class Terminal(io.StringIO):
+            def isatty(self):
+                return True
+        store = self.store()
+        store.load([(f"s{it % 300}", f"t{it}") for it in range(25_000)], by="set", progress=False)
+        session = store.open()
+        with redirect_stderr(Terminal()) as told:
+            session.weights_in()
+        self.assertIn("asking for edges", told.getvalue())
+        with redirect_stderr(Terminal()) as told:
+            self.assertEqual(len(list(session.edges())), 25_000)
+            self.store("insert k a b 1 1").open().weights_in()
+        self.assertEqual(told.getvalue(), "")  # (they were told, and few take no time)
+
+    def test_a_name_is_a_text(self):
+        """A frame's numbers are loaded as texts, so they are asked for as texts."""
+        store = self.store()
+        store.load({"source": [1, 2], "target": [2, 3]}, by="set")
+        session = store.open()
+        self.assertEqual(session.path("1", "3"), ["1", "2", "3"])
+        for call in (lambda: session.levels(1), lambda: session.into(1), lambda: session.neighbors(1),
+                     lambda: session.path(1, "3"), lambda: session.path("3", 1), lambda: session.within(1, 2),
+                     lambda: session.within(1, 2, directed=False), lambda: session.edge("link", "2", 1),
+                     lambda: session.edges([("link", 1, "2")]), lambda: session.degrees(1),
+                     lambda: session.into("2", kind=1), lambda: list(session.edges(kind=1)),
+                     lambda: misteluk.view(session, 1)):
+            self.refused(TypeError, "a kind and a name are texts, and not 1", call)
+
+    @unittest.skipUnless(ENGINE == "program", OF_PIPES)
+    def test_more_than_a_run_takes_is_told_before_anything_is_sent(self):
+        store = self.store(*(f"insert k a t{it} 1 1" for it in range(9)))
+        session = store.open()
+        session.out_of("t1")
+        sent = store.records_sent
+        store.engine.most_records = sent + 8
+        for call in (session.edges, session.weights_in, session.edges_frame if pandas else session.edges,
+                     lambda: session.out_of("a"), lambda: session.to_csv(self.room / "x")):
+            self.refused(misteluk.RecordLimit, f"a run takes {sent + 8} records; this one had {sent}, and ", call)
+        self.assertEqual((store.records_sent, os.listdir(self.room)), (sent, []))
+
+    def test_units(self):
+        store = Store(weight_scale=100, times="iso")
+        self.addCleanup(store.close)
+        store.add("k", "a", "b", "0.10", "2024-03-04T12:00:00")
+        store.add("l", "a", "b", "2.05", "2024-03-05")
+        store.commit()
+        session = store.open()
+        self.assertEqual(str(session.out_of("a")["b"].weight), "2.15")
+        self.assertEqual(list(map(str, session.weights_in(until="2024-03-04").values())), ["0.00", "0.10"])
+        self.assertEqual(session.path("a", "b", since="2024-03-06"), None)
+        session.to_csv(self.room / "edges.csv")
+        self.assertEqual((self.room / "edges.csv").read_text().splitlines(), [
+            "kind,source,target,weight,first,recent",
+            "k,a,b,0.10,2024-03-04T12:00:00+00:00,2024-03-04T12:00:00+00:00",
+            "l,a,b,2.05,2024-03-05T00:00:00+00:00,2024-03-05T00:00:00+00:00"])
+
+    def test_a_file(self):
+        """Any name comes back; and a fault on the way leaves the file that was there."""
+        store = Store()
+        self.addCleanup(store.close)
+        wanted = [["k", source, target, str(at - 5), str(at), str(at)]
+                  for at, (source, target) in enumerate(zip(NAMES, NAMES[3:]))]
+        for kind, source, target, weight, time, _ in wanted:
+            store.insert(kind, source, target, int(weight), int(time))
+        store.commit()
+        session, path = store.open(), self.room / "edges.csv"
+        self.assertEqual(session.to_csv(path), len(wanted))
+        with open(path, encoding="utf-8", newline="") as file:
+            header, *found = csv.reader(file)
+        self.assertEqual((header, sorted(found)), (["kind", "source", "target", "weight", "first", "recent"], sorted(wanted)))
+        with Store() as copy:
+            copy.load(str(path), by="set", columns=misteluk.Columns("source", "target", "kind", "weight", "recent"))
+            with copy.open() as there:
+                self.assertEqual(sorted(there.edges()), sorted(session.edges()))
+        before = path.read_bytes()
+        at = 1
+        with warnings.catch_warnings():
+            warnings.simplefilter("ignore")  # (an interrupt as the file is closed leaves that to Python)
+            while at_line(at, lambda: session.to_csv(path)):
+                self.assertTrue(path.read_bytes() == before and os.listdir(self.room) == ["edges.csv"], at)
+                at += 7
+        self.assertGreater(at, 30)
+        with self.assertRaises(OSError):
+            session.to_csv(self.room / "nowhere" / "x")
+
+    @unittest.skipUnless(pandas, "pandas is not there")
+    def test_a_frame(self):
+        frame = self.store("insert k a b 3 1", "add k a b 4 5").open().edges_frame()
+        self.assertEqual(list(frame.columns), ["kind", "source", "target", "weight", "first", "recent"])
+        self.assertEqual(frame.values.tolist(), [["k", "a", "b", 7, 1, 5]])
+        self.assertEqual(len(self.store("insert k a b 1 1").open().edges_frame(since=2)), 0)
+
+    def wrong_lines(self, session, call, step=3):
+        """At which of every so many lines an interrupt of the call makes it, or all edges, go wrong afterwards, three of them at
+        most; and how many lines it runs."""
+        right, edges, wrong, at = call(), list(session.edges()), [], 1
+        while len(wrong) < 3:
+            try:
+                session.held._degrees = None  # (it would have the answers already)
+                if ENGINE == "program":
+                    session.held._all = None
+                if not at_line(at, call):
+                    break
+                if (call(), list(session.edges())) != (right, edges):
+                    wrong.append(at)
+            except misteluk.StoreError:
+                wrong.append(at)
+            at += step
+        return wrong, at
+
+    def test_each_line_interrupted(self):
+        """A call that only asks, interrupted at each few lines: the same call then answers, and so do others."""
+        store = self.store("insert k a b 5 1", "insert k b c 7 1", "insert l a c 1 2")
+        session = store.open()
+        calls_ = {
+            "neighbors": lambda: session.neighbors("b"), "out_of": lambda: session.out_of("a"), "into": lambda: session.into("c"),
+            "weights_in": session.weights_in, "path": lambda: session.path("a", "c", "k"), "edges": lambda: list(session.edges()),
+            "within": lambda: session.within("b", 2, directed=False), "in": lambda: "a" in session, "len": lambda: len(session)}
+        for name, call in calls_.items():
+            with self.subTest(name):
+                wrong, count = self.wrong_lines(session, call)
+                self.assertEqual(wrong, [])
+                self.assertGreater(count, 5)
+        self.assertEqual(session.path("a", "c", "k"), ["a", "b", "c"])
+        self.assertEqual(store.stat().edges, 3)
+
+    @unittest.skipUnless(ENGINE == "program", OF_PIPES)
+    def test_each_line_interrupted_finds_a_fault(self):
+        with mock.patch.dict(PATIENCE, SOON):
+            scene = Scene()
+        self.addCleanup(scene.end)
+        with mock.patch.object(calls.Calls, "make", made_at_once):
+            self.assertGreater(len(self.wrong_lines(scene.session, lambda: scene.session.neighbors("b"), 17)[0]), 2)
+
+
+if __name__ == "__main__":
+    unittest.main()

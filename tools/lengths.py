@@ -1,0 +1,66 @@
+"""Lengths of what no prover reads: files, bodies of functions in Python and Rust, and in Python how deep their blocks nest."""
+from __future__ import annotations
+
+import ast
+import pathlib
+import re
+from typing import Iterable, Iterator, Tuple, Union
+
+FILE, BODY, DEPTH = 400, 40, 3
+# Languages that no prover reads (texts are programs in Rattle and their tests), and scripts; what is no work of ours, or made.
+WRITTEN = {".py", ".rs", ".txt", ".js", ".css", ".c", ".h", ""}
+APART = ("LICENSE", "share/")
+RUST = re.compile(r"(?ms)^( *)(?:pub(?:\(\w+\))? )?fn (\w+)[^\n]*?(?:\n\1[ )][^\n]*)*?\{\n(.*?)^\1\}$")
+Function = Union[ast.FunctionDef, ast.AsyncFunctionDef]
+BLOCKS = (ast.If, ast.For, ast.AsyncFor, ast.While, ast.Try, ast.Match)
+APART_IN_IT = (ast.FunctionDef, ast.AsyncFunctionDef, ast.ClassDef)
+
+
+def is_python(path: pathlib.Path, text: str) -> bool:
+    return path.suffix == ".py" or not path.suffix and text.startswith("#!") and "python" in text.partition("\n")[0]
+
+
+def body_length(function: Function) -> int:
+    """Returns how many lines a function's body has after its docstring."""
+    first = function.body[0]
+    before = first.lineno - 1 if ast.get_docstring(function) is None else first.end_lineno
+    return (function.end_lineno or 0) - (before or 0)
+
+
+def depth(node: ast.AST) -> int:
+    """Returns how deep blocks nest below a node. An `elif` nests no deeper than its `if`, and a function within counts apart."""
+    most = 0
+    for it in ast.iter_child_nodes(node):
+        if not isinstance(it, APART_IN_IT):
+            is_elif = isinstance(node, ast.If) and isinstance(it, ast.If) and it.col_offset == node.col_offset
+            most = max(most, depth(it) + (isinstance(it, BLOCKS) and not is_elif))
+    return most
+
+
+def in_python(text: str) -> Iterator[Tuple[int, str]]:
+    """Yields what departs in a file of Python, with its line."""
+    for it in ast.walk(ast.parse(text)):
+        if isinstance(it, (ast.FunctionDef, ast.AsyncFunctionDef)):
+            if (count := body_length(it)) > BODY:
+                yield it.lineno, f"the body of {it.name} has {count} lines"
+            if (count := depth(it)) > DEPTH:
+                yield it.lineno, f"{it.name} nests {count} deep"
+
+
+def in_rust(text: str) -> Iterator[Tuple[int, str]]:
+    for found in RUST.finditer(text):
+        if (count := found[3].count("\n")) > BODY:
+            yield text.count("\n", 0, found.start(2)) + 1, f"the body of {found[2]} has {count} lines"
+
+
+def too_long(top: pathlib.Path, names: Iterable[str]) -> Iterator[str]:
+    """Yields each file that is too long, and each function whose body is, or that nests too deep."""
+    for name in names:
+        path = top / name
+        if path.suffix not in WRITTEN or name.startswith(APART) or path.is_symlink() or not path.is_file():
+            continue
+        text = path.read_text(encoding="utf-8")
+        if (count := len(text.splitlines())) > FILE:
+            yield f"{name} has {count} lines"
+        found = in_python(text) if is_python(path, text) else in_rust(text) if path.suffix in (".rs", ".txt") else ()
+        yield from (f"{name}:{line}: {what}" for line, what in found)
