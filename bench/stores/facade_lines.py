@@ -1,10 +1,11 @@
 """The lines that bench/rattle/every_call has to print, by numpy, scipy and igraph over the same graph."""
 from __future__ import annotations
 
-from typing import Any, Iterator, Tuple
+from typing import Iterator
 
 import numpy
 
+from bench.stores.facade_graph import blocks_of, insertions, sum_of_edges, sum_of_rows, u8
 from bench.stores.wanted import Wanted
 from misteluk.engine.interface import NOT_REACHED
 
@@ -28,36 +29,9 @@ endless true 2 BadCommand true true
 feed true 2
 bounds true true true true 2
 batch true false true true 5 true
-full 4096 true 1044480 1048576""".splitlines()
-ODD, BATCH = numpy.uint64(0x9E37_79B9_7F4A_7C15), 1 << 20
-
-
-def u8(values: Any) -> Any:
-    """Numbers as they are when they wrap; those below nothing from the top."""
-    return numpy.asarray(values).astype("i8").view("u8")
-
-
-def insertions(scale: int, edges: int) -> Tuple[Any, ...]:
-    """Kinds, sources, targets, weights and times: a ring, and edges behind it whose ends are bits of their places, mixed."""
-    places, mask = numpy.arange(edges, dtype="u8"), numpy.uint64((1 << scale) - 1)
-    one = places * ODD
-    two = (one ^ (one >> numpy.uint64(29))) * numpy.uint64(0xBF58_476D_1CE4_E5B9)
-    bits = two ^ (two >> numpy.uint64(32))
-    ring = places <= mask
-    sources = numpy.where(ring, places, (bits >> numpy.uint64(8)) & mask).astype("u4")
-    targets = numpy.where(ring, (places + numpy.uint64(1)) & mask, (bits >> numpy.uint64(36)) & mask).astype("u4")
-    return numpy.zeros(edges, "u4"), sources, targets, (places % numpy.uint64(1_999)).astype("i8") - 999, places
-
-
-def sum_of_edges(graph: Wanted) -> int:
-    _, sources, targets, weights, firsts, recents = map(u8, graph.table)
-    places = (sources << numpy.uint64(32)) | targets
-    times = (firsts * numpy.uint64(3) + recents) | numpy.uint64(1)
-    return int(((places * ODD + weights) * times).sum(dtype="u8"))
-
-
-def sum_of_rows(vertices: Any, values: Any) -> int:
-    return int(((u8(vertices) * ODD + numpy.uint64(1)) * (u8(values) * numpy.uint64(2) + numpy.uint64(1))).sum(dtype="u8"))
+full 4096 true 1044480 1048576
+kept 3 1 0 2 true false true""".splitlines()
+BATCH = 1 << 20
 
 
 class Lines:
@@ -68,6 +42,7 @@ class Lines:
         kept = self.all.table[5] >= numpy.uint64(edges // 2)
         first = (self.all.table[1] == 0) & (self.all.table[2] == 1)
         self.expired, self.left = int((~kept & ~first).sum()), self.all.only(kept & ~first)
+        self.blocks = blocks_of(self.all)[kept & ~first]
 
     def answers(self, word: str, graph: Wanted) -> Iterator[str]:
         every = numpy.arange(self.count)
@@ -114,6 +89,17 @@ class Lines:
         yield "fresh 0"
         for _ in range(2):
             yield from self.opened(0)
+        yield from self.next()
+
+    def next(self) -> Iterator[str]:
+        """What is found by names and by age, and a version with one more batch, kind and name."""
+        every = numpy.arange(self.count)
+        is_old = self.left.table[5] < self.inserted - self.inserted // 10
+        old = numpy.unique((u8(self.left.table[1]) << numpy.uint64(32) | self.blocks)[is_old])
+        vertices, blocks = numpy.unique(old >> numpy.uint64(32), return_counts=True)
+        yield f"numbers {sum_of_rows(every, every)} 0 true true true"
+        yield f"old {len(vertices)} {sum_of_rows(vertices, blocks)} true"
+        yield from (f"next {self.number + 2} {self.number + 2} 2 {self.count} true", self.edges(self.left))
 
     def ends(self, vertex: int) -> str:
         out, into = (self.left.only(self.left.table[place] == vertex) for place in (1, 2))
