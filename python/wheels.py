@@ -61,7 +61,8 @@ def project() -> Project:
 
 def licences() -> Files:
     """The licences, beside the package or above it, by their names."""
-    found = sorted({it.name: it for folder in (HERE.parent, HERE) for it in folder.glob("LICENSE-*")}.items())
+    folders = [it for it in (around(), HERE) if it]
+    found = sorted({it.name: it for folder in folders for it in folder.glob("LICENSE-*")}.items())
     return {name: (path.read_bytes(), False) for name, path in found}
 
 
@@ -138,9 +139,17 @@ def _record(files: Files, itself: str) -> str:
     return "\n".join([*lines, f"{itself},,", ""])
 
 
+def around() -> Optional[pathlib.Path]:
+    """The archive or clone that the package stands in. An unpacked source archive, which has its `PKG-INFO`, stands in none: pip
+    unpacks it among strangers' files, which must neither run nor go into a wheel."""
+    return None if (HERE / "PKG-INFO").is_file() else HERE.parent
+
+
 def library_here() -> Files:
     """The library of the archive or clone that the package stands in, as it was made of the sources as they are, or nothing."""
-    top = HERE.parent
+    top = around()
+    if not top:
+        return {}
     path = top / "lib/libmisteluk.so"
     if (top / "stinger").is_file():
         where = subprocess.run([top / "stinger", "library", "--where"], stdout=subprocess.PIPE, stderr=subprocess.DEVNULL,
@@ -167,7 +176,9 @@ def with_note(name: str, path: pathlib.Path, proved: str) -> Files:
 
 def program_here() -> Files:
     """The program of the archive or clone that the package stands in, or a script that runs the clone's, or nothing."""
-    top = HERE.parent
+    top = around()
+    if not top:
+        return {}
     if (top / "prove").is_file():
         where = subprocess.run([top / "prove", "--where"], stdout=subprocess.PIPE, stderr=subprocess.DEVNULL, text=True)
         if where.returncode == 0:

@@ -119,10 +119,10 @@ class Installs(Case):
         path.chmod(0o755)
         return path
 
-    def install(self, *words) -> None:
+    def install(self, *words, env=None) -> None:
         """Without a network: no place of packages is asked."""
         done = run(sys.executable, "-m", "pip", "install", "--no-index", "--quiet", "--disable-pip-version-check", "--target",
-                   self.there, *words, cwd=self.room)
+                   self.there, *words, cwd=self.room, env=env)
         self.assertEqual(done.returncode, 0, done.stdout)
 
     def ask(self, code: str) -> str:
@@ -195,9 +195,21 @@ class Installs(Case):
         with zipfile.ZipFile(self.room / name) as packed:
             self.assertEqual(packed.read("misteluk.pth").decode(), f"{HERE.parent}\n")
 
+    def strangers(self) -> pathlib.Path:
+        """A folder for pip's temporary files with a stranger's programs in it, which leave a mark if they run."""
+        folder = self.room / "temporary"
+        (folder / "bin").mkdir(parents=True)
+        for place in ("stinger", "prove", "bin/stinger"):
+            (folder / place).write_text(f"#!/bin/sh\ntouch '{self.room}/ran'\n")
+            (folder / place).chmod(0o755)
+        (folder / "LICENSE-STRANGE").write_text("strange\n")
+        return folder
+
     def test_a_source_archive_can_be_installed(self):
         name = wheels.build_sdist(str(self.room))
-        self.install(self.room / name)
+        self.install(self.room / name, env={**os.environ, "TMPDIR": str(self.strangers())})
+        self.assertFalse((self.room / "ran").exists())
+        self.assertEqual([str(it) for it in self.there.rglob("LICENSE-STRANGE")], [])
         self.assertEqual(self.ask("import misteluk; print(misteluk.__version__)").strip(), misteluk.__version__)
         self.assertFalse((self.there / "misteluk/bin").exists())
         about = next(self.there.glob("*.dist-info"))
