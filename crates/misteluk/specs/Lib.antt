@@ -4,7 +4,10 @@ pub use Rattle.graph_types.specs.Graph
 pub use Rattle.graph_types.specs.Limits
 pub use Rattle.graph_types.specs.Step
 pub use Rattle.graph_types.specs.Valid
+pub use Rattle.edge_block.specs.Lending as LentBlocks
+pub use Rattle.edge_block.specs.Slots
 pub use Rattle.graph_version.specs.Versions
+pub use Rattle.graph_version.specs.Lending
 pub use Rattle.graph_version.specs.Edges
 pub use Rattle.graph_version.specs.LentEdges
 pub use Rattle.graph_version.specs.InEdges
