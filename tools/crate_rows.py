@@ -1,5 +1,6 @@
 """The rows of crates.txt: which crates they list, on which each stands, and where the rows, ARCHITECTURE's map and the sources
 differ."""
+import functools
 import pathlib
 import re
 
@@ -21,6 +22,7 @@ def crates():
     return [row.partition(":")[0].split()[0] for row in rows()]
 
 
+@functools.lru_cache(maxsize=None)
 def own_crates():
     """Returns the crates below the line OWN of crates.txt."""
     below = (TOP / "crates.txt").read_text(encoding="utf-8").partition(f"\n{OWN}\n")[2]

@@ -153,6 +153,12 @@ def dead_links(page):
             yield f"{page.relative_to(TOP)}: no heading for {target}"
 
 
+def of_ours(told):
+    """Yields what is told of the store's crates: a program of a reader's own may call a lemma as it likes."""
+    own = crate_rows.own_crates()
+    return (it for it in told if not own & set(re.findall(r"\w+", it)))
+
+
 def undefined_names(page):
     """Yields each name that a link shows and its file of specs doesn't define."""
     for name, target in DEFINED.findall(page.read_text(encoding="utf-8")):
@@ -326,8 +332,8 @@ def main():
         "plain English": [*(it for page in pages for it in coined_words(page)), *memory_detours()],
         "READMEs of crates": [*long_rooms(), *readmes.stale(TOP)],
         "programs over the library": [*unshown_programs(), *unnamed_exports()],
-        "statements": list(statements.told_twice(TOP)),
-        "names of several crates": list(statements.in_several(TOP)),
+        "statements": list(of_ours(statements.told_twice(TOP))),
+        "names of several crates": list(of_ours(statements.in_several(TOP))),
         "wrong bodies": [it for path in edits for it in lost_edits(path)],
         "bytes of pages": list(too_many_bytes(plain_pages(known))),
         "lengths": list(lengths.too_long(TOP, git("ls-files"))),

@@ -239,6 +239,7 @@ class Model:
             self.interrupts += 1
             return None, True
         finally:
+            IN_A_CALL[0] = False
             signal.setitimer(signal.ITIMER_REAL, 0)
 
     def run(self, interrupts):
