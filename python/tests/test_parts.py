@@ -10,7 +10,7 @@ import time
 import tracemalloc
 import unittest
 from collections import defaultdict
-from concurrent.futures import ThreadPoolExecutor
+from concurrent.futures import Future, ThreadPoolExecutor
 from unittest import mock
 
 from support import ENGINE, OF_PIPES, Case, optional
@@ -188,6 +188,20 @@ class Few(Case):
                 pass
             self.assertEqual(list(fleet.ask("degrees")), wanted)
         self.assertEqual((fleet.alive, fleet.made_again), (4, []))
+
+    def test_an_interrupt_that_comes_out_as_another_fault(self):
+        """Python's own wait raises such a fault, if the interrupt comes right after it gave its lock away."""
+        fleet = self.fleet([(f"part{it % 3}", "a", f"b{it}", it) for it in range(9)], alive=4, workers=2)
+        wanted = list(fleet.ask("degrees"))
+
+        def interrupted(*_):
+            try:
+                raise KeyboardInterrupt
+            finally:
+                raise RuntimeError("cannot release un-acquired lock")
+        with mock.patch.object(Future, "result", interrupted), self.assertRaises(KeyboardInterrupt):
+            list(fleet.ask("degrees"))
+        self.assertEqual(list(fleet.ask("degrees")), wanted)
 
     def test_two_threads_may_ask_at_once(self):
         fleet = self.fleet([(f"part{it % 40}", f"a{it % 5}", f"b{it % 7}", it) for it in range(400)], alive=20, workers=2)

@@ -67,6 +67,17 @@ class Cluster:
             it.cancel()
 
 
+def result_of(answer: Any) -> Answered:
+    """Returns what was answered. An interrupt in the midst of Python's wait for it may come out as a fault of the wait's lock."""
+    try:
+        answered: Answered = answer.result()
+        return answered
+    except RuntimeError as fault:
+        if isinstance(fault.__context__, KeyboardInterrupt):
+            raise fault.__context__ from None
+        raise
+
+
 class Fleet:
     """Many graphs: rows are parted by a key, each part has a store of its own, and a question goes to all of them.
 
@@ -184,7 +195,7 @@ class Fleet:
                     break
                 key, answer = begun.popleft()
                 try:
-                    answered = answer.result()
+                    answered = result_of(answer)
                 except Exception as fault:
                     faults[key] = fault
                 else:
