@@ -21,6 +21,14 @@ def single_edges() -> Lines:
     yield from batches(inserted(skewed(2_000, 2_000), 2), 1)
 
 
+def updates_far_apart() -> Lines:
+    """Batches that change a row in each of 64 pages of rows. No page is copied, since nobody else has the table of rows."""
+    yield from batches(inserted((source, source + 1) for source in range(4_096)))
+    for time in range(300):
+        yield from (f"a,link,v{source},v{source + 1},1,{time}" for source in range(time % 64, 4_096, 64))
+        yield from ("commit", "collect")
+
+
 def replaced_under_a_session() -> Lines:
     """Each of 6,000 blocks is replaced once while a session holds what was there, and then collections find nothing."""
     edges = [(source, source % 16) for source in range(6_000)]
@@ -98,6 +106,7 @@ SCRIPTS: Dict[str, Callable[[], Lines]] = {
                                                        *([f"i,link,hub,v{9_599},2,{time}", "commit"] for time in range(200))),
     "the last edge of a hub": lambda: edges_asked(300),
     "single edges": single_edges,
+    "updates far apart": updates_far_apart,
     "long names": long_names,
     "removals": lambda: itertools.chain(batches(inserted(tree(9_000))), batches(
         f"r,link,v{source},v{target}" for source, target in tree(9_000))),

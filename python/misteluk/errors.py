@@ -253,7 +253,8 @@ class NearLimit(UserWarning):
 
 
 class LeftOut(UserWarning):
-    """A graph has nodes without an edge: a store has the names of edges alone, and they aren't loaded."""
+    """Something of a feed isn't loaded: a graph's nodes without an edge, since a store has the names of edges alone; or a table's
+    columns `kind`, `weight` and `time`, where no column was named."""
 
 
 class Uncommitted(StoreError):

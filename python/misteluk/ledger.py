@@ -114,11 +114,12 @@ class Ledger:
 
     # Terms.
 
-    def terms_for(self, weight_scale: Optional[int], times: Optional[str]) -> Terms:
-        """The terms of a feed in the units that are said, or in the store's. Raises `ValueError` where the store has others."""
+    def terms_for(self, weight_scale: Optional[int], times: Optional[str], rounding: Optional[str]) -> Terms:
+        """The terms of a feed in the units that are said, or in the store's. Raises `ValueError` where the store has others, and
+        where there is no such rounding."""
         mine = self.terms.units
         said = Units(mine.weight_scale if weight_scale is None else weight_scale, times or mine.times, mine.decimals,
-                     mine.rounding)
+                     rounding or mine.rounding).checked()
         self.must_agree(said)
         return Terms(self.terms.names, said, self.terms.right)
 

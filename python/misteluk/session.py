@@ -136,13 +136,14 @@ class Session(Generic[W, T]):
         return self._answer("core", asked, {"core": Values(self._asked(self.held.cores, asked, scope))})
 
     def degrees(self, kind: Optional[str] = None, since: Moment = 0, until: Moment = LAST) -> Answer[Degree[W]]:
-        """For each vertex how many edges go out and come in, and the weight that goes out."""
+        """For each vertex how many edges go out and come in, and the weight that goes out. An edge in the window counts with its
+        whole weight, of which a part may be older."""
         scope, asked = self._scope("degrees", kind, since, until)
         found = self._asked(self.held.degrees, asked, scope)
         return self._answer("degree", asked, degrees(*found, self._terms.units.weights_told))
 
     def weights_in(self, kind: Optional[str] = None, since: Moment = 0, until: Moment = LAST) -> Answer[W]:
-        """For each vertex the weight that comes in."""
+        """For each vertex the weight that comes in. An edge in the window counts with its whole weight, as in `degrees`."""
         scope, asked = self._scope("weights_in", kind, since, until)
         found = self._asked(self.held.edges, asked, scope)
         weights = Values(found.weights_in(self.names), self._terms.units.weights_told)

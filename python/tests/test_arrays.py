@@ -5,6 +5,8 @@ import random
 import unittest
 from array import array
 from collections import Counter
+from datetime import datetime, timezone
+from decimal import Decimal
 from itertools import accumulate, product
 from unittest import mock
 
@@ -224,6 +226,23 @@ class EdgesOfAVersion(Case):
                     self.assertEqual({it[:3] for it in diff.new}, set(new) - set(old))
                     self.assertEqual({it[:3]: it[3:] for it in diff.changed},
                                      {it: (old[it], new[it]) for it in set(old) & set(new) if old[it] != new[it]})
+
+    @unittest.skipUnless(numpy and pandas, "numpy and pandas are not there")
+    def test_frames_of_dates(self):
+        """They have dates as pandas does; where one is of a year that it hasn't, all of its column are objects."""
+        for year, of_dates in ((2024, True), (9999, False)):
+            store = self.store(weight_scale=100, times="iso")
+            days = [datetime(1970, 1, 1, tzinfo=timezone.utc), datetime(year, 3, 4, 12, 0, 0, 250_001, tzinfo=timezone.utc)]
+            for day in days:
+                store.insert("road", "ulm", "kiel", "0.30", day)
+            store.insert("rail", "kiel", "ulm", 7)
+            store.commit()
+            frame = store.open().edges_frame()
+            self.assertEqual(list(frame.columns), ["kind", "source", "target", "weight", "first", "recent"])
+            self.assertEqual(list(zip(frame["kind"], frame["weight"])), [("road", Decimal("0.30")), ("rail", Decimal(7))])
+            for column, dates in (("first", [days[0]] * 2), ("recent", [days[1], days[0]])):
+                self.assertEqual([*frame[column]], dates)
+            self.assertEqual([frame[it].dtype == object for it in ("first", "recent")], [False, not of_dates])
 
     @unittest.skipUnless(numpy and pandas, "numpy and pandas are not there")
     def test_frames(self):

@@ -2,6 +2,7 @@
 import datetime
 import io
 import unittest
+import warnings
 from datetime import date
 from decimal import Decimal
 
@@ -75,6 +76,22 @@ class Graphs(Case):
         graph.add_edge("a", "d", recent=True)
         self.assertEqual([it[5] for it in misteluk.from_networkx(graph).rows], ["5", "7", "0"])
         self.assertEqual([it[5] for it in misteluk.from_networkx(graph, time="first").rows], ["1", "1", "0"])
+
+    def test_columns_that_no_one_named_are_told_of(self):
+        """A table with a column `weight` looks as if that were read; it is where it is named."""
+        table = {"source": ["a"], "target": ["b"], "weight": [7], "time": [3]}
+        row, file = {"source": "a", "target": "b", "kind": "road"}, self.file("rows.csv", "source,target,weight\na,b,7\n")
+        for data, told in ((table, r"Columns\(weight='weight', time='time'\), or --weight weight --time time"),
+                           ([row], r"Columns\(kind='kind'\), or --kind-column kind"), (file, r"rows.csv: only the columns")):
+            store = self.store()
+            with self.assertWarnsRegex(misteluk.LeftOut, told):
+                store.load(data, by="set")
+            self.assertEqual(list(store.open().edges()), [("link", "a", "b", Edge(1, 0, 0))])
+        with warnings.catch_warnings():
+            warnings.simplefilter("error")
+            for columns in (Columns(weight="weight"), Columns(time="time"), Columns("source", 2)):
+                misteluk.survey(table, by="set", columns=columns)
+            misteluk.survey({"source": ["a"], "target": ["b"], "amount": [7]}, by="set")
 
     def test_nodes_without_an_edge_are_told_of(self):
         import networkx

@@ -71,6 +71,18 @@ class Weights(Case):
         self.assertEqual(misteluk.survey(rows, by="set", columns=Columns(1, 2, weight=3), weight_scale=100,
                                          rounding="half-even").bad, 0)
 
+    def test_a_load_that_rounds(self):
+        """Its own rows alone: what the store takes beside them, and another load, are as exact as before."""
+        store, rows = self.store(weight_scale=100), self.file("rows.csv", "a,b,0.125\n")
+        how = {"by": "add", "columns": Columns(1, 2, weight=3)}
+        self.assertRaises(misteluk.BadRows, store.load, rows, **how)
+        store.load(rows, rounding="half-even", **how)
+        self.assertRaises(misteluk.BadWeight, store.add, "link", "a", "b", "0.125")
+        self.assertRaises(misteluk.BadRows, store.load, rows, **how)
+        self.assertEqual(store.open().edge("link", "a", "b").weight, Decimal("0.12"))
+        with self.assertRaisesRegex(ValueError, "rounding is 'half-even' or None, and not 'up'"):
+            store.load(rows, rounding="up", **how)
+
     def test_to_the_user(self):
         for scale, parts, text in ((100, 1250, "12.50"), (100, -5, "-0.05"), (8, 3, "0.375"), (1000, 1, "0.001"), (10, 0, "0.0"),
                                    (100, 3 * 10 ** 40, "3" + "0" * 38 + ".00")):

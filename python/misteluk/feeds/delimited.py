@@ -3,17 +3,20 @@ from __future__ import annotations
 
 import csv
 import io
+import warnings
 from itertools import chain
 from typing import Generator, Iterable, Iterator, List, Mapping, Optional, Sequence, Tuple, Union
 
 from . import feed as feeds
-from ..errors import FeedFault
+from ..errors import FeedFault, LeftOut
 from .feed import Block, Column, Columns, Feed, Path, Table, feed_name, open_text, parts_of
 from ..values.fields import fields_of
 
 # How many characters of a file are read at once.
 AT_ONCE = 1 << 22
 NO_ROW: Tuple[Sequence[str], int] = ((), 0)
+# Columns that are read only where they are named, and the commands' options for that.
+OPTIONS = {"kind": "--kind-column", "weight": "--weight", "time": "--time"}
 
 
 def delimited(path: Path, columns: Columns = Columns(), *, delimiter: Optional[str] = None, header: Optional[bool] = None,
@@ -130,6 +133,7 @@ class Picked:
 
     def __init__(self, feed: str, columns: Columns, names: Sequence[str]) -> None:
         source, target, kind, weight, time, key = (_place(feed, it, names) for it in columns.wanted)
+        warn_of_unread(feed, columns, names)
         self.feed = feed
         self.places = (kind, source, target, weight, time, *([] if key is None else [key]))
         self.usual = (columns.usual_kind, "", "", "1", columns.usual_time, "")
@@ -150,6 +154,16 @@ class Picked:
         if self.is_first and len(fields[0]) < self.least:
             raise FeedFault(f"{self.feed}:{lines[0]}: {len(fields[0])} fields, where the columns need {self.least}")
         yield self.of_columns(lines, list(zip(*([*it, *[""] * (self.least - len(it))] for it in fields))))
+
+
+def warn_of_unread(feed: str, columns: Columns, names: Sequence[str]) -> None:
+    """Tells of columns that are called as what they may hold, and aren't read since no column was said."""
+    unread = [it for it in OPTIONS if it in names]
+    if unread and columns.are_unsaid:
+        told = ", ".join(f"{it}={it!r}" for it in unread)
+        options = " ".join(f"{OPTIONS[it]} {it}" for it in unread)
+        warnings.warn(LeftOut(f"{feed}: only the columns source and target are read. Name the others to have them read, too: "
+                              f"Columns({told}), or {options}"), stacklevel=3)
 
 
 def _place(feed: str, column: Optional[Column], names: Sequence[str]) -> Optional[int]:

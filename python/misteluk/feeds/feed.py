@@ -89,6 +89,11 @@ class Columns(NamedTuple):
         """The columns themselves: of the source, the target, the kind, the weight, the time and the key."""
         return (*self[:5], self.key)
 
+    @property
+    def are_unsaid(self) -> bool:
+        """Whether no column but the key was said."""
+        return self[:5] == Columns()[:5]
+
 
 def parts_of(items: Iterable[T], size: int) -> Iterator[List[T]]:
     """The items in lists of so many."""

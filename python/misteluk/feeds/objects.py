@@ -6,7 +6,7 @@ from itertools import chain
 from typing import Any, Callable, Dict, Iterable, Iterator, List, Mapping, Sequence, Tuple
 
 from . import feed as feeds
-from .delimited import Picked
+from .delimited import Picked, warn_of_unread
 from ..errors import FeedFault, LeftOut
 from .feed import USUAL_KIND, Block, Columns, Feed, Row, Table, parts_of
 from ..values.units import whole_text
@@ -123,8 +123,9 @@ def _form_of_rows(first: Any, columns: Columns) -> Tuple[List[str], Picked]:
         raise FeedFault(f"rows:1: a row is a tuple or a dict, and not {type(first).__name__}")
     if isinstance(first, Mapping):
         wanted = [str(it) for it in columns.wanted if it is not None]
+        warn_of_unread("rows", columns, list(first))
         return wanted, Picked("rows", columns, [it for it in wanted if it in first])
-    if columns[:5] == Columns()[:5]:
+    if columns.are_unsaid:
         if columns.key is not None:
             raise FeedFault("rows:1: a tuple's columns are told by number where a key parts them, as Columns(1, 2, weight=3)")
         if len(first) > 5:

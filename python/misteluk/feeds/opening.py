@@ -31,8 +31,8 @@ class ReadAs(NamedTuple):
     them since 1970. They are read as with `times="iso"`.
 
     `names="escape"` writes names with escapes (see `turned`). `weight_scale` and `times` say the units of a store that has none
-    yet (see `Store`), and must be those of one that has; without them the feed is in the store's. `rounding` is for a survey:
-    a store has its own.
+    yet (see `Store`), and must be those of one that has; without them the feed is in the store's. `rounding="half-even"` rounds
+    this feed's weights (see `Store`, which may round all that it takes).
     """
 
     columns: Columns = Columns()
@@ -55,9 +55,9 @@ class ReadAs(NamedTuple):
         return Notation(self.decimal, self.dates).checked()
 
     @property
-    def units_said(self) -> Tuple[Optional[int], Optional[str]]:
-        """The weight scale and times that are said."""
-        return self.weight_scale, "iso" if self.dates else self.times
+    def units_said(self) -> Tuple[Optional[int], Optional[str], Optional[str]]:
+        """The weight scale, times and rounding that are said."""
+        return self.weight_scale, "iso" if self.dates else self.times, self.rounding
 
     def reading(self, data: Any, units: Units) -> Reading:
         """What advice on bad rows goes by. Data that is no file has no encoding."""

@@ -308,8 +308,8 @@ def survey(data: Any, *, by: str, batch: Optional[int] = None, progress: Optiona
     how, size = ReadAs(**read_as), records.MOST_OPERATIONS if batch is None else batch
     must_be_way(by, size)
     feed = turned(how.feed(data), names=how.names)
-    scale, times = how.units_said
-    terms = terms or Terms(units=Units(1 if scale is None else scale, times or "number", rounding=how.rounding))
+    scale, times, rounding = how.units_said
+    terms = terms or Terms(units=Units(1 if scale is None else scale, times or "number", rounding=rounding))
     counter, told = Count(feed.name, by, size, terms, how.decimal), Progress(f"reading {feed.name}", None, progress)
     with no_collection():
         for block in feed.blocks():

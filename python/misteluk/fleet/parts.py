@@ -116,9 +116,9 @@ class FleetRecipe(NamedTuple):
 
     def survey(self, rows: Iterable[Row]) -> Survey:
         """Counts and checks rows."""
-        scale, times = self.how.units_said
+        scale, times, rounding = self.how.units_said
         found = survey(Feed(self.feed, rows), by=self.by, batch=self.batch, names=self.how.names, weight_scale=scale, times=times,
-                       progress=False)
+                       rounding=rounding, progress=False)
         advise(found.faults, self.how.reading("" if self.is_file else None, found.terms.units)._replace(is_headless=False))
         return found
 

@@ -193,7 +193,7 @@ class ServedEngine:
             if self.talk.run == run or not flight.feeder:
                 raise
             # (the server before may have had it, and saved it)
-            raise SessionClosed(f"{fault}. {UNKNOWN}: look before") from None
+            raise SessionClosed(f"{fault}. {UNKNOWN}: look before you commit it again") from None
 
     def _body_of(self, flight: ServedFlight) -> Dict[str, Any]:
         text = flight.batch.text
@@ -222,7 +222,7 @@ class ServedEngine:
         except SessionClosed as fault:
             flight.feeder = ""
             raise SessionClosed(f"{fault} and applies the batch whose answer was lost, unless it is discarded. Whether that is "
-                                "in isn't known: look before") from None
+                                "in isn't known: look before you commit it again") from None
         flight.feeder = ""
         return None if found is None else Receipt(Commit(**found))
 

@@ -78,9 +78,20 @@ class Edges(Sequence[Told]):
         for name, numbers, texts in (("kind", self.kind, self.kinds), ("source", self.source, self.names),
                                      ("target", self.target, self.names)):
             found[name] = numpy.array([*texts, None], dtype=object)[:-1][numpy.asarray(numbers)]
-        for name, values, column in zip(Edge._fields, self.told(), (self.weight, self.first, self.recent)):
-            found[name] = numpy.asarray(column).astype("int64") if values is column else list(values)
-        return pandas.DataFrame(found, columns=list(HEADER))
+        weights, times = self.units.all_weights_to_user(self.weight), {"first": self.first, "recent": self.recent}
+        found["weight"] = numpy.asarray(weights).astype("int64") if weights is self.weight else list(weights)
+        found.update((name, self._times_of_frame(numpy.asarray(it).astype("int64"))) for name, it in times.items())
+        return pandas.DataFrame(found)  # (without `columns`, which has pandas make objects of the dates)
+
+    def _times_of_frame(self, times: Any) -> Any:
+        """A frame's column of an array of times. A date that pandas doesn't have as a number makes all of them objects."""
+        if not self.units.has_dates:
+            return times
+        pandas = needed("pandas", "a frame")
+        try:
+            return pandas.to_datetime(times, unit="us", utc=True)
+        except pandas.errors.OutOfBoundsDatetime:
+            return list(self.units.all_times_to_user(times.tolist()))
 
     def to_networkx(self, **about: Any) -> "networkx.MultiDiGraph":
         """The edges as a networkx graph, with every name as a node, in order. An edge's key is its kind; it has the attributes
