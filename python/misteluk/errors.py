@@ -100,7 +100,7 @@ class BadTime(Refused):
 class BadSlot(Refused):
     """A slot is no number from 0 to the number of seats minus 1."""
 
-    advice = "Ask for more seats when the store is made (seats=, 16 at most)"
+    advice = "Ask for more seats when the store is made (seats=, or --seats; 16 at most)"
 
 
 class NotOpen(Refused):

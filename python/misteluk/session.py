@@ -1,6 +1,7 @@
 """A session, which holds a version of a store and answers questions about it."""
 from __future__ import annotations
 
+import operator
 from array import array
 from typing import (TYPE_CHECKING, Any, Callable, Dict, Generic, Iterable, Iterator, List, Optional, Sequence, Tuple, TypeVar,
                     Union, overload)
@@ -319,7 +320,7 @@ class Session(Generic[W, T]):
                directed: bool = True) -> Answer[int]:
         """The vertices that are reached from this one in at most so many steps, and in how many. With `directed=False` a step
         goes along an edge either way."""
-        if hops < 0:
+        if operator.index(hops) < 0:
             raise ValueError(f"hops is 0 or more, and not {hops}")
         if directed:
             levels = self.levels(vertex, kind, since, until)

@@ -42,6 +42,9 @@ class Commands(CommandCase):
         self.load("components: 2 of 6 names\n  a 4\n  x 2", "--add", "--ask", "components")
         self.load("components: 4 of 6 names\n  a 2", "--add", "--ask", "components", "--top", "1", "--since", "13")
         self.load("cores: 6 names, greatest 1\n  a 1", "--add", "--ask", "cores", "--top", "1")
+        self.load("weights_in: 6 names, greatest 5\n  b 5\n  y 5\n  d 3", "--add", "--ask", "weights_in", "--top", "3")
+        self.load("weights_in link: 6 names, greatest 5\n  b 5", "--add", "--ask", "weights_in link", "--top", "1", "--since",
+                  "13")
         self.load("levels from a: 4 reached, the farthest at 2\n  0: 1\n  1: 2\n  2: 1", "--add", "--levels", "a")
         self.load("levels from a: 2 reached, the farthest at 1\n  0: 1\n  1: 1", "--add", "--levels", "a", "--until", "11")
 

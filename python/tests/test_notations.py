@@ -195,7 +195,7 @@ class Advice(Case):
             with self.assertRaises(misteluk.Refused) as fault:
                 call()
             self.assertNotIn(word, str(fault.exception))
-        with self.assertRaisesRegex(misteluk.BadSlot, "seats=, 16 at most"):
+        with self.assertRaisesRegex(misteluk.BadSlot, "seats=, or --seats; 16 at most"):
             self.store(seats=2).open(15)
         held = [store.open() for _ in range(16)]
         with self.assertRaises(misteluk.NoSeat) as told:

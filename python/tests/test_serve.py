@@ -1,5 +1,6 @@
 """A server: what it answers, beside a store in this process, and who may feed it."""
 import asyncio
+import errno
 import json
 import socket
 import threading
@@ -12,6 +13,7 @@ from support import as_soon_as
 import misteluk
 from misteluk import Busy, Edge, Served, connect, connect_async
 from misteluk.serve.feeding import checked_operations
+from misteluk.serve.server import Address
 
 
 class Answers(ServeCase):
@@ -36,6 +38,16 @@ class Answers(ServeCase):
         self.assertEqual(dict(self.rows_of("/v1/within?vertex=ben&hops=1&direction=both")), {"ben": 0, "funnel": 1})
         self.assertEqual(self.rows_of("/v1/names?like=N"), [("ana",), ("ben",), ("funnel",)])
         self.assertIn(b"Around funnel", self.ask("/v1/view?vertex=funnel").body)
+
+    def test_an_address_that_is_taken(self):
+        """The fault says which."""
+        for address in (Address("127.0.0.1"), Address(path=str(self.room / "socket"))):
+            listener, taken = address.bound()
+            self.addCleanup(listener.close)
+            with self.assertRaises(OSError) as fault:
+                taken.bound()
+            self.assertEqual((fault.exception.errno, fault.exception.filename), (errno.EADDRINUSE, taken.path or taken.url))
+        self.assertRaisesRegex(OSError, "path too long", Address(path=str(self.room / ("s" * 200))).bound)
 
     def test_units(self):
         """Weights that are decimals are texts, as dates are."""

@@ -151,6 +151,7 @@ class Calls(Case):
             self.refused(misteluk.BadWindow, "", lambda: call(since=2, until=1))
             self.refused(misteluk.BadTime, "", lambda: call(since=-1))
         self.refused(ValueError, "hops is 0 or more", lambda: session.within("a", -1))
+        self.refused(TypeError, "'str' object cannot be interpreted as an integer", lambda: session.within("a", "2"))
         self.refused(ValueError, "for all edges", lambda: session.edges([("k", "a", "b")], kind="k"))
         self.refused(TypeError, "may be in a session", lambda: 3 in session)
         edges = session.edges()

@@ -38,8 +38,8 @@ def asked(text: str) -> Question:
 BLOCKS = "as many as are needed, and no fewer than 16,384"
 
 
-QUESTIONS = ("degrees, components, cores or edges, with a kind behind them or none; 'levels NAME', 'into NAME', 'out_of NAME', "
-             "'neighbors NAME', 'within NAME HOPS', 'path SOURCE TARGET' or 'edge KIND SOURCE TARGET'")
+QUESTIONS = ("degrees, weights_in, components, cores or edges, with a kind behind them or none; 'levels NAME', 'into NAME', "
+             "'out_of NAME', 'neighbors NAME', 'within NAME HOPS', 'path SOURCE TARGET' or 'edge KIND SOURCE TARGET'")
 
 
 def add_feed_options(parser: argparse.ArgumentParser, blocks: Optional[str] = BLOCKS, edge_lists: bool = True,
@@ -84,7 +84,8 @@ def add_feed_options(parser: argparse.ArgumentParser, blocks: Optional[str] = BL
 
 def add_window(parser: argparse.ArgumentParser) -> None:
     parser.add_argument("--of-kind", metavar="KIND", help="answer over edges of one kind; else of any")
-    parser.add_argument("--since", default="0", metavar="TIME", help="answer over edges with a recent time from this on")
+    parser.add_argument("--since", default="0", metavar="TIME", help="answer over edges with a recent time from this on, "
+                        "each with its whole weight, of which a part may be older")
     parser.add_argument("--until", default=str(records.MOST_TIME), metavar="TIME", help="and up to this; to the end of a day")
 
 

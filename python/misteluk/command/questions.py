@@ -12,10 +12,12 @@ from ..values.names import shown
 from ..session import Session
 
 # How many names each question has, a kind behind them aside; the kind of an edge stands before them.
-NAMES = {"degrees": 0, "components": 0, "cores": 0, "edges": 0, "levels": 1, "into": 1, "out_of": 1, "neighbors": 1, "within": 2,
-         "path": 2, "edge": 3}
+NAMES = {"degrees": 0, "weights_in": 0, "components": 0, "cores": 0, "edges": 0, "levels": 1, "into": 1, "out_of": 1,
+         "neighbors": 1, "within": 2, "path": 2, "edge": 3}
 FORMS = {0: "[KIND]", 1: "NAME [KIND]", 2: "SOURCE TARGET [KIND]", 3: "KIND SOURCE TARGET"}
 OF_WITHIN = "NAME HOPS [KIND]"
+# The value of a table of one; the others have several, and are sorted by one of these.
+VALUES = {"cores": "core", "weights_in": "weight_in"}
 
 
 class Question(NamedTuple):
@@ -61,9 +63,10 @@ def _window(it: Question, window: Dict[str, Any]) -> Dict[str, Any]:
 
 def _table(it: Question, session: Session[Any, Any], top: int, column: str, window: Dict[str, Any]) -> Dict[str, Any]:
     table: Any = getattr(session, it.what)(**_window(it, window))
-    by = None if it.what == "cores" else column
-    rows = [{"name": name, **(value._asdict() if by else {"core": value})} for name, value in table.most(top, by)]
-    told: Dict[str, Any] = {"by": by} if by else {"greatest": max(table.values(), default=0)}
+    value = VALUES.get(it.what)
+    most = table.most(top, None if value else column)
+    rows = [{"name": name, **({value: found} if value else found._asdict())} for name, found in most]
+    told: Dict[str, Any] = {"greatest": max(table.values(), default=0)} if value else {"by": column}
     return {"names": len(table), **told, "most": rows}
 
 
@@ -136,8 +139,9 @@ def _edges(it: Question, session: Session[Any, Any], top: int, _: str, window: D
     return {"edges": len(found), "most": rows}
 
 
-_ANSWERS = {"degrees": _table, "cores": _table, "components": _components, "levels": _levels, "into": _beside, "out_of": _beside,
-            "neighbors": _neighbors, "within": _within, "edges": _edges, "path": _path, "edge": _edge}
+_ANSWERS = {"degrees": _table, "weights_in": _table, "cores": _table, "components": _components, "levels": _levels,
+            "into": _beside, "out_of": _beside, "neighbors": _neighbors, "within": _within, "edges": _edges, "path": _path,
+            "edge": _edge}
 
 
 def lines(asked: Question, found: Dict[str, Any], top: int) -> Iterator[str]:
@@ -187,7 +191,7 @@ def _row(row: Dict[str, Any]) -> str:
         return f"out {row['out']} in {row['into']} weight {row['weight_out']}"
     if "recent" in row:
         return _told_edge(row)
-    return str(next(row[it] for it in ("core", "level", "size") if it in row))
+    return str(next(row[it] for it in (*VALUES.values(), "level", "size") if it in row))
 
 
 def for_json(value: Any) -> Any:

@@ -58,10 +58,15 @@ class Address(NamedTuple):
             found.setsockopt(socket.SOL_SOCKET, socket.SO_REUSEADDR, 1)
             found.bind(place)
             found.listen(128)
-        except OSError:
+        except OSError as fault:
             found.close()
-            raise
+            raise _of(self.url, fault) from None
         return found, self._replace(port=found.getsockname()[1])
+
+
+def _of(address: str, fault: OSError) -> OSError:
+    """The fault with the address. (One that Python raises itself, as of a path that is too long, has no number.)"""
+    return OSError(fault.errno, fault.strerror, address) if fault.errno else fault
 
 
 def _bound_unix(path: str) -> socket.socket:
@@ -77,9 +82,9 @@ def _bound_unix(path: str) -> socket.socket:
             os.unlink(path)
             found.bind(path)
         found.listen(128)
-    except OSError:
+    except OSError as fault:
         found.close()
-        raise
+        raise _of(path, fault) from None
     finally:
         os.umask(before)
     return found
