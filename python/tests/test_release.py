@@ -106,8 +106,8 @@ class Pages(Case):
         """Files are offered by bash itself, where there is no word."""
         self.complete("load fleet restore follow serve lint doctor picture -h --help -V --version", "", name="misteluk")
         self.complete("--dry-run", "load", "file.csv", "--dr", name="misteluk")
-        self.complete("degrees components cores edges levels into out_of neighbors within path edge", "load", "file.csv", "--ask",
-                      "", name="misteluk")
+        self.complete("degrees weights_in components cores edges levels into out_of neighbors within path edge", "load",
+                      "file.csv", "--ask", "", name="misteluk")
         self.complete("components compare", "picture", "comp", name="misteluk")
         self.complete("--seats", "lint", "--s", name="misteluk")
         self.complete("", "load", "fi", name="misteluk")
