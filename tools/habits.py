@@ -21,8 +21,8 @@
 - No definition, and no lemma with its name and type, stands twice in `specs/` and `proofs/`.
 - The name of a definition of `specs/` stands in one crate, unless `statements.SEVERAL` says why in several.
 - A wrong body names files of its crate, and has pairs of an old line, which stands in its file once, and a new one.
-- README.md, CONTRIBUTING.md, CHANGELOG.md, docs/ and python/README.md have together at most 160,000 bytes: a page that gets
-  longer has another get shorter.
+- README.md, CONTRIBUTING.md, docs/ and python/README.md have together at most 160,000 bytes: a page that gets longer has another
+  get shorter. (CHANGELOG.md grows with each change that users see.)
 - A script, and a file in a language that no prover reads, has at most 400 lines. A function's body in Python (after its
   docstring) or Rust has at most 40 lines; in Python its blocks nest at most three deep, where `with` isn't counted.
 - A commit's subject has at most 72 characters.
@@ -300,7 +300,7 @@ def lost_edits(path):
 
 def plain_pages(known):
     """Returns the pages that users and contributors read: those at the top, in docs/, and the client's own."""
-    tops = {TOP / it for it in ("README.md", "CONTRIBUTING.md", "CHANGELOG.md", "python/README.md")}
+    tops = {TOP / it for it in ("README.md", "CONTRIBUTING.md", "python/README.md")}
     return [it for it in known if it in tops or it.suffix == ".md" and it.parent == TOP / "docs"]
 
 

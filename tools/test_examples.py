@@ -1,7 +1,9 @@
 #!/usr/bin/env python3
-"""Tests which program examples/check runs: that of the variable MISTELUK_PROGRAM; and ./check its own, whatever is named."""
+"""Tests which program examples/check runs: that of the variable MISTELUK_PROGRAM, the proved one, or the compiled one; and of
+./check that it runs its own, whatever is named, and which parts `--unproved` leaves out."""
 import os
 import pathlib
+import re
 import shutil
 import signal
 import subprocess
@@ -54,24 +56,68 @@ class Named(unittest.TestCase):
             self.assertEqual((done.returncode, done.stdout), (1, ""))
             self.assertEqual(done.stderr, f"examples/check: {named} (named by MISTELUK_PROGRAM) is no program that can be run\n")
 
-    def test_the_gate_runs_its_own(self):
-        """No part of ./check is given what a variable names."""
-        noted = f'env | grep ^MISTELUK_ >> "{self.room}/named"; echo "$0" >> "{self.room}/parts"'
+    def test_the_compiled_program_where_none_is_proved(self):
+        """As python/check does. The program that is proved is taken first."""
+        shutil.copytree(TOP / "examples", self.room / "examples")
+        self.script("prove", f'[ -e "{self.room}/proved" ] && echo "{self.room}/proved"')
+        self.script("stinger", f'echo built >> "{self.room}/built"')
+        self.script("out/compiled/stinger", f'echo compiled > "{self.room}/ran"; kill $PPID')
+        env = {it: text for it, text in os.environ.items() if it != "MISTELUK_PROGRAM"}
+        for ran, built in (("compiled", True), ("proved", False)):
+            nowhere = {"stdout": subprocess.DEVNULL, "stderr": subprocess.DEVNULL}
+            subprocess.run([self.room / "examples/check"], env=env, timeout=60, **nowhere)
+            self.assertEqual((self.room / "ran").read_text(), f"{ran}\n")
+            self.assertEqual((self.room / "built").exists(), built)
+            (self.room / "built").unlink(missing_ok=True)
+            self.script("proved", f'echo proved > "{self.room}/ran"; kill $PPID')
+
+    def gate(self, *words, path=""):
+        """Runs ./check where each of its parts is a script that notes its call, and returns what it said."""
+        noted = f'env | grep ^MISTELUK_ >> "{self.room}/named"; echo "${{0##*/}} $*" >> "{self.room}/parts"'
         shutil.copy(TOP / "check", self.room / "check")
-        first = [it.split()[0] for it in (TOP / "check").read_text().splitlines() if it]
-        parts = [it for it in first if it.startswith(("tools/", "examples/", "python/"))]
-        self.assertGreater(len(parts), 6)
-        for it in parts:
+        for it in sorted(set(re.findall(r"(?:\./|tools/|examples/|python/)[\w./-]+", (TOP / "check").read_text())) - {"./check"}):
             self.script(it, noted)
         self.script("bin/python3", noted)
-        self.script("bin/rt", "echo a kit")
-        env = {**os.environ, "PATH": f"{self.room}/bin:{os.environ['PATH']}",
-               **{f"MISTELUK_{it}": "/other" for it in ("PROGRAM", "LIBRARY", "ENGINE")}}
-        done = subprocess.run([self.room / "check"], env=env, stdout=subprocess.PIPE, stderr=subprocess.STDOUT, text=True,
+        path = path or f"{self.room}/bin:{os.environ['PATH']}"
+        env = {**os.environ, "PATH": path, **{f"MISTELUK_{it}": "/other" for it in ("PROGRAM", "LIBRARY", "ENGINE")}}
+        return subprocess.run([self.room / "check", *words], env=env, stdout=subprocess.PIPE, stderr=subprocess.STDOUT, text=True,
                               timeout=60)
-        self.assertEqual(done.returncode, 0, done.stdout)
-        self.assertEqual(len((self.room / "parts").read_text().splitlines()), len(parts) + 1)
-        self.assertEqual((self.room / "named").read_text(), "")
+
+    def parts(self):
+        return (self.room / "parts").read_text().splitlines()
+
+    def test_the_gate_runs_its_own(self):
+        """No part of ./check is given what a variable names."""
+        self.script("bin/rt", "echo a kit")
+        for words, first in (((), "gate-times ./prove rt ci"), (("--unproved",), "stinger library")):
+            done = self.gate(*words)
+            self.assertEqual(done.returncode, 0, done.stdout)
+            self.assertIn(first, self.parts())
+            self.assertEqual((self.room / "named").read_text(), "")
+
+    def test_the_gate_without_proofs(self):
+        """It leaves out the proofs and what is measured of a proved program, says so, and fails where a part of it fails."""
+        self.script("bin/rt", "echo a kit")
+        self.gate()
+        whole, _ = self.parts(), (self.room / "parts").unlink()
+        done = self.gate("--unproved")
+        self.assertEqual(set(whole) - set(self.parts()), {"gate-times ./prove rt ci", "python3 -m bench run costs"})
+        self.assertRegex(done.stdout, r"all passed in \d+ minutes on \d+ processors\. Nothing was proved: \./check does\n$")
+        for it in ("tools/test_parts", "tools/test_bench.py", "tools/habits.py", "python/check", "stinger"):
+            self.gate()  # (writes each script)
+            self.script(it, "echo a fault; exit 3")
+            failed = subprocess.run([self.room / "check", "--unproved"], stdout=subprocess.PIPE, stderr=subprocess.STDOUT,
+                                    text=True, timeout=60, env={**os.environ, "PATH": f"{self.room}/bin:{os.environ['PATH']}"})
+            self.assertNotEqual(failed.returncode, 0, it)
+            self.assertIn("a fault", failed.stdout)
+
+    def test_the_gate_without_the_toolchain(self):
+        done = self.gate(path="/usr/bin:/bin")
+        self.assertEqual((done.returncode, (self.room / "parts").exists()), (1, False))
+        self.assertIn("./check: no command rt is on the PATH", done.stdout)
+        self.assertIn("CONTRIBUTING.md", done.stdout)
+        self.script("bin/rt", "echo a kit")
+        self.assertEqual(self.gate("--all").returncode, 2)
 
 
 if __name__ == "__main__":

@@ -65,7 +65,7 @@ def main(*wanted: str) -> int:
         print(f"python/check: without {', '.join(missing)}: what needs them is passed over (apt-get install "
               f"{' '.join('python3-' + it for it in missing)})")
     passed = failed = passed_over = 0
-    with concurrent.futures.ThreadPoolExecutor(2) as pool:
+    with concurrent.futures.ThreadPoolExecutor(max(2, len(os.sched_getaffinity(0)))) as pool:
         over = engines()
         parts = [(name, engine) for name in names for engine in (over[:1] if name[5:-3] in ONCE else over)]
         if not NAMED and over[0] == "library" and not set(OF_SERVER) & set(missing):
