@@ -6,7 +6,7 @@ import threading
 import unittest
 from unittest import mock
 
-from serving import HAS_PACKAGES, ServeCase
+from serving import HAS_PACKAGES, NO_PACKAGES, ServeCase
 
 from misteluk import connect
 from misteluk.serve.limits import RUN, ServerLimits
@@ -200,6 +200,7 @@ class Direct(ServeCase):
         self.assertEqual(link.recv(1), b"")
 
 
+@unittest.skipUnless(HAS_PACKAGES, NO_PACKAGES)
 class Forms(unittest.TestCase):
     """What is read directly: one form alone, and nothing over a protocol that isn't known."""
 

@@ -11,12 +11,13 @@ from serving import HAS_PACKAGES, ServeCase
 
 from misteluk import connect
 from misteluk.engine.operations import row_of
+from misteluk.serve import answers, wire
 from misteluk.serve.feeding import _seen_rows
 from misteluk.serve.limits import ServerLimits
 from misteluk.values.names import NameTable
 
 if HAS_PACKAGES:
-    from misteluk.serve import answers, asking, wire
+    from misteluk.serve import asking
 
 WHOLE = b"HTTP/1.1 200 OK\r\nContent-Length: 5\r\nMisteluk-Server: x\r\n\r\nhello"
 CHUNKED = b"HTTP/1.1 200 OK\r\ntransfer-encoding: chunked\r\n\r\n5\r\nhello\r\n3\r\n!!!\r\n0\r\n\r\n"
