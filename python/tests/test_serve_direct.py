@@ -7,6 +7,7 @@ import unittest
 from unittest import mock
 
 from serving import HAS_PACKAGES, NO_PACKAGES, ServeCase
+from support import optional
 
 from misteluk import connect
 from misteluk.serve.limits import RUN, ServerLimits
@@ -16,6 +17,8 @@ if HAS_PACKAGES:
 
 ASKED = {"call": "found", "ends": [["transfer", "ana", "funnel"]]}
 ANSWER = b"[[980, 1, 1]]"
+# Without httptools uvicorn reads all itself.
+IF_READ = unittest.skipUnless(optional("httptools"), "httptools is not there")
 # A header that the direct way doesn't know.
 LONG_WAY = "X-Way: long"
 
@@ -63,6 +66,7 @@ class Direct(ServeCase):
         found = answers.read(link, "POST")
         return found.status, {name: it for name, it in found.headers.items() if name != "date"}, found.body
 
+    @IF_READ
     def test_the_client_is_answered_directly(self):
         self.begin()
         with connect(self.server.url) as session:
@@ -72,6 +76,7 @@ class Direct(ServeCase):
         self.assertEqual(self.told[:3], [ANSWER] * 3)
         self.assertIsNotNone(self.told[3])
 
+    @IF_READ
     def test_as_the_long_way(self):
         """Bodies that are right, and such with faults, have the same response both ways, on one connection."""
         self.begin(limits=ServerLimits(body=1_024))
