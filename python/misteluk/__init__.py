@@ -18,10 +18,12 @@ from .errors import (AlreadyOpen, BadCommand, BadFields, BadName, BadRows, BadSl
                      RecordLimit, Refused, SaveFault, SessionClosed, StoreError, TooLarge, Uncommitted)
 from .feeds.delimited import delimited
 from .feeds.feed import Columns, Feed, matrix_market, snap
-from .feeds.following import Followed, Following, follow
+from .feeds.following import Following, follow
 from .feeds.loading import Loaded, load, load_in_steps
 from .feeds.objects import from_columns, from_networkx, from_pandas, from_rows
 from .feeds.opening import ReadAs, open_feed
+from .feeds.rejects import Rejected
+from .feeds.steps import Followed
 from .feeds.surveys import Survey, survey
 from .fleet.fleet import Fleet
 from .lint import lint
@@ -39,7 +41,7 @@ from .version import VERSION as __version__
 # What there is, in the order in which a newcomer meets it.
 __all__ = [
     "Store", "Session", "Fleet", "Limits", "connect", "connect_async", "Served", "AwaitedSession",
-    "load", "survey", "load_in_steps", "Loaded", "Survey", "follow", "Following", "Followed",
+    "load", "survey", "load_in_steps", "Loaded", "Survey", "follow", "Following", "Followed", "Rejected",
     "Columns", "ReadAs", "Feed", "open_feed", "delimited", "snap", "matrix_market",
     "from_networkx", "from_pandas", "from_columns", "from_rows",
     "Answer", "Components", "Edges", "Diff", "Changed", "Collected", "Commit", "Degree", "Edge", "Neighbor", "Rebased", "Renewed",

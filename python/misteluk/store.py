@@ -190,21 +190,23 @@ class Store(Generic[W, T]):
 
     @reads
     def load(self, feed: Any, *, by: str, batch: Optional[int] = None, collect: bool = True, skip_bad: bool = False,
-             progress: Optional[bool] = None, **read_as: Any) -> "Loaded":
+             rejects: Optional[Path] = None, progress: Optional[bool] = None, **read_as: Any) -> "Loaded":
         """Loads a file, a networkx graph, a pandas frame, columns or rows; `by` is "set" or "add". See `misteluk.load`; the
         further options are those of `misteluk.ReadAs`."""
         from .feeds.loading import load
-        return load(self, feed, by=by, batch=batch, collect=collect, skip_bad=skip_bad, progress=progress, **read_as)
+        return load(self, feed, by=by, batch=batch, collect=collect, skip_bad=skip_bad, rejects=rejects, progress=progress,
+                    **read_as)
 
     @reads
     def follow(self, feed: Any, *, by: str, every: "Span" = 1.0, keep: "Optional[Span]" = None,
-               batch: int = records.MOST_OPERATIONS, until_end: bool = False, skip_bad: bool = False,
-               progress: Optional[bool] = None, **read_as: Any) -> "Following":
+               ahead: "Optional[Span]" = None, batch: int = records.MOST_OPERATIONS, until_end: bool = False,
+               skip_bad: bool = False, rejects: Optional[Path] = None, progress: Optional[bool] = None,
+               **read_as: Any) -> "Following":
         """Follows a file that grows, a pipe, or standard input: gives a step for each commit. See `misteluk.follow`; the further
         options are those of `misteluk.ReadAs`."""
         from .feeds.following import follow
-        return follow(self, feed, by=by, every=every, keep=keep, batch=batch, until_end=until_end, skip_bad=skip_bad,
-                      progress=progress, **read_as)
+        return follow(self, feed, by=by, every=every, keep=keep, ahead=ahead, batch=batch, until_end=until_end, skip_bad=skip_bad,
+                      rejects=rejects, progress=progress, **read_as)
 
     @classmethod
     def restore(cls, path: Path, *, blocks: Optional[int] = None, progress: Optional[bool] = None,

@@ -11,8 +11,9 @@ from contextlib import contextmanager
 from typing import Any, Callable, Dict, Iterator, List, Optional
 
 from ..errors import StoreError
-from ..feeds.following import Followed, Following
+from ..feeds.following import Following
 from ..feeds.spans import kept_time
+from ..feeds.steps import Followed
 from .questions import for_json, lines
 from ..store import Store
 
@@ -87,7 +88,9 @@ class Teller:
                 sys.stdout.flush()
 
     def tell(self, step: Followed) -> None:
-        told = {**step.commit._asdict(), "rows": step.rows, "bad": step.bad, "line": step.line, "newest": step.newest}
+        told = {**step.commit._asdict(), "rows": step.rows, "bad": step.bad, "line": step.line, "newest": step.newest,
+                **({} if step.last_bad is None else {"last_bad": step.last_bad._asdict()}),
+                **({} if step.behind is None else {"behind": step.behind})}
         self.write(told) if self.words.json else print(step)
         if not self.words.ask:
             return
@@ -120,8 +123,8 @@ class Teller:
 
 def follow(words: argparse.Namespace, store: Store[Any, Any], how: Dict[str, Any]) -> int:
     """Follows a feed and tells of it, until it ends or is ended."""
-    with store.follow(words.file, every=words.every, keep=words.keep, until_end=words.until_end, skip_bad=words.skip_bad,
-                      batch=words.batch, **how) as following:
+    with store.follow(words.file, every=words.every, keep=words.keep, ahead=words.ahead, until_end=words.until_end,
+                      skip_bad=words.skip_bad, rejects=words.rejects, batch=words.batch, **how) as following:
         try:
             with ended_by_signals(following.stop, following.cord):
                 Teller(words, store, following).run()

@@ -48,7 +48,8 @@ def form_of_feed(words: argparse.Namespace) -> Dict[str, Any]:
 
 
 def read(words: argparse.Namespace) -> Survey:
-    found = survey(words.file, batch=words.batch, rounding=words.rounding, **form_of_feed(words))
+    rejects = words.rejects if "rejects" in words else None
+    found = survey(words.file, batch=words.batch, rounding=words.rounding, rejects=rejects, **form_of_feed(words))
     is_program = choose(words.engine, words.program)[0] == PROGRAM
     check(found, skip_bad=words.skip_bad, **(OF_RUN if is_program else {}))
     return found

@@ -82,6 +82,19 @@ def add_feed_options(parser: argparse.ArgumentParser, blocks: Optional[str] = BL
     add_program(store)
 
 
+class RejectsFile(argparse.Action):
+    """The file for bad rows, which are then passed over."""
+
+    def __call__(self, parser: argparse.ArgumentParser, words: argparse.Namespace, values: Any,
+                 option: Optional[str] = None) -> None:
+        words.rejects, words.skip_bad = values, True
+
+
+def add_rejects(group: Any) -> None:
+    group.add_argument("--rejects", action=RejectsFile, metavar="FILE", help="pass over rows that can't be taken, and append "
+                       "them to this file, each with its line and the reason; mended ones are loaded from it by the same options")
+
+
 def add_window(parser: argparse.ArgumentParser) -> None:
     parser.add_argument("--of-kind", metavar="KIND", help="answer over edges of one kind; else of any")
     parser.add_argument("--since", default="0", metavar="TIME", help="answer over edges with a recent time from this on, "
@@ -151,6 +164,9 @@ def add_pace(live: Any) -> None:
                       "and when a batch is full (1s)")
     live.add_argument("--keep", metavar="TIME", help="let edges go that weren't touched for so long by the feed's own times: as "
                       "12h or 14d where they are dates, else a whole number")
+    live.add_argument("--ahead", metavar="TIME", help="a row whose date is further ahead of the clock than so, as 1h, can't be "
+                      "taken (with --keep 1d)")
+    add_rejects(live)
 
 
 def add_follow(follow: argparse.ArgumentParser) -> None:
@@ -205,6 +221,7 @@ def make_parser() -> argparse.ArgumentParser:
     load = commands.add_parser("load", help="load a file, and ask; nothing is kept unless it is saved")
     add_feed_options(load, batch=None)
     ask = load.add_argument_group("what then")
+    add_rejects(ask)
     ask.add_argument("--dry-run", action="store_true", help="count and check the file, and send nothing")
     ask.add_argument("--script", metavar="OUT", help="write the records as a script for `stinger run`, and send nothing")
     add_what_then(load, ask)

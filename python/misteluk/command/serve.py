@@ -78,7 +78,9 @@ def serve(words: argparse.Namespace, how: Dict[str, Any]) -> int:
             gc.unfreeze()
             sys.setswitchinterval(sys_turn)
             signal.signal(signal.SIGINT, before)
-    print(f"misteluk: ended at version {server.board.stat.version}, of {server.board.stat.edges} edges", file=sys.stderr)
+    bad = server.feeding.told()["bad"]
+    skipped = f"; {bad} bad rows were passed over" if bad else ""
+    print(f"misteluk: ended at version {server.board.stat.version}, of {server.board.stat.edges} edges{skipped}", file=sys.stderr)
     return int(keeper is not None and bool(keeper.fault))
 
 
@@ -96,7 +98,8 @@ def store_of(words: argparse.Namespace, keeper: Optional[Keeper]) -> Tuple[Store
 def follow(server: Server, words: argparse.Namespace, how: Dict[str, Any]) -> None:
     """Has the feed go in that is named."""
     if words.file is not None:
-        pace = {"every": words.every, "keep": words.keep, "batch": words.batch, "skip_bad": words.skip_bad}
+        pace = {"every": words.every, "keep": words.keep, "ahead": words.ahead, "batch": words.batch,
+                "skip_bad": words.skip_bad, "rejects": words.rejects}
         server.feeding.follow(server.store.follow(words.file, progress=False, **pace, **how))
 
 

@@ -9,12 +9,14 @@ import sys
 import threading
 import time
 from types import TracebackType
-from typing import Any, Iterator, NamedTuple, Optional, Type
+from typing import Any, Iterator, NamedTuple, Optional, Sequence, Type
 
 from . import parcels
-from .following import Following, FeedPlace
+from .following import Following
 from .parcels import Parcel
 from .reader import Wanted
+from .rejects import Lines, Rejected
+from .steps import FeedPlace
 from ..engine.conversation import how_ended, widen
 from ..engine.operations import Encoded, Numbered, Operations
 from ..errors import StoreError
@@ -52,7 +54,8 @@ class Apart(Iterator[Applied]):
     def __init__(self, following: Following) -> None:
         self.store, self.name, self._terms = following.store, following.name, following.terms
         self._recipe, self._begin, self._file = following.recipe, following.begin, os.dup(following.descriptor)
-        self._is_input = following.descriptor == 0
+        self._is_input, self._rejects = following.descriptor == 0, following.rejects
+        self.last_bad: Optional[Rejected] = None
         following.close()
         self.ended_half = self._is_stopped = False
         self.place, self.killed, self._in_vain = FeedPlace(), 0, 0
@@ -101,17 +104,32 @@ class Apart(Iterator[Applied]):
                 pass
 
     def __next__(self) -> Applied:
-        parcel = self._received()
-        while parcel is None:
-            self._start_again()
+        while True:
             parcel = self._received()
-        head = parcel.head
-        if "text" in head:
-            raise ReadFault(head["word"], head["text"])
-        if "place" not in head:
-            self.ended_half = head["is_half"]
-            raise StopIteration
-        return self._applied(parcel)
+            while parcel is None:
+                self._start_again()
+                parcel = self._received()
+            head = parcel.head
+            if "text" in head:
+                raise ReadFault(head["word"], head["text"])
+            if "place" not in head:
+                self.ended_half = head["is_half"]
+                raise StopIteration
+            self._keep(head["skipped"])
+            found = self._applied(parcel) if parcel.columns else None
+            self.place, self._in_vain = FeedPlace(*head["place"]), 0
+            self.last_bad = self.last_bad if head["last_bad"] is None else Rejected(*head["last_bad"])
+            if found is not None:
+                return found
+
+    def _keep(self, skipped: Optional[Sequence[Any]]) -> None:
+        """Keeps rows that were skipped, before those that came with them go in. A feed whose rows aren't kept ends."""
+        if skipped is None or self._rejects is None:
+            return
+        try:
+            self._rejects.append(Lines(*skipped))
+        except StoreError as fault:
+            raise ReadFault(type(fault).__name__, f"{fault}; {self.told}") from fault
 
     def _received(self) -> Optional[Parcel]:
         self._since = time.monotonic()
@@ -150,8 +168,17 @@ class Apart(Iterator[Applied]):
         except StoreError as fault:
             rows = f"{place.rows - self.place.rows} rows, lines {head['first']} to {place.line}, aren't"
             raise ReadFault(getattr(fault, "word", "") or type(fault).__name__, f"{fault}; {self.told}, and {rows}") from fault
-        self.place, self._in_vain = place, 0
         return Applied(commit, place.rows, place.line)
+
+    @property
+    def behind(self) -> Optional[int]:
+        """How many bytes of a file weren't read yet; `None` of anything else."""
+        if self._begin is None or self._file < 0:
+            return None
+        try:
+            return max(os.fstat(self._file).st_size - os.lseek(self._file, 0, os.SEEK_CUR), 0)
+        except OSError:  # (it was closed meanwhile)
+            return None
 
     @property
     def is_replaced(self) -> bool:

@@ -9,7 +9,7 @@ from typing import Generator, Iterable, Iterator, List, Mapping, Optional, Seque
 
 from . import feed as feeds
 from ..errors import FeedFault, LeftOut
-from .feed import Block, Column, Columns, Feed, Path, Table, feed_name, open_text, parts_of
+from .feed import Block, Came, Column, Columns, Feed, Path, Table, TableForm, feed_name, open_text, parts_of
 from ..values.fields import fields_of
 
 # How many characters of a file are read at once.
@@ -46,7 +46,7 @@ def _delimited_blocks(path: Path, columns: Columns, delimiter: Optional[str], he
         if named and not names:
             how = "name them by number (from 1)" if first else "the file is empty"
             raise FeedFault(f"{feed}: columns are named, and there is no header: {how}")
-        picked = Picked(feed, columns, names)
+        picked = Picked(feed, columns, names, sign)
         text = ("" if line else first) + opened.read(AT_ONCE) + opened.readline()
         while text:
             line = yield from _blocks_of(picked, text, opened, sign, line)
@@ -58,13 +58,13 @@ def _blocks_of(picked: "Picked", text: str, file: Iterable[str], sign: str, line
     in the file."""
     even = even_columns(text, sign)
     if len(even) >= picked.least:
-        yield picked.of_columns(range(line + 1, line + 1 + len(even[0])), even)
+        yield picked.of_lines(range(line + 1, line + 1 + len(even[0])), even)
         return line + len(even[0])
     lines = io.StringIO(text, newline="")
     for part in parts_of(lines, feeds.ROWS_AT_ONCE):
         even = even_columns("".join(part), sign)
         if len(even) >= picked.least:
-            yield picked.of_columns(range(line + 1, line + 1 + len(part)), even)
+            yield picked.of_lines(range(line + 1, line + 1 + len(part)), even)
             line += len(part)
             continue
         rows = _rows_begun(picked.feed, part, chain(lines, file), sign, line)
@@ -131,14 +131,20 @@ def _rows_begun(feed: str, lines: Sequence[str], file: Iterable[str], sign: str,
 class Picked:
     """The columns of a table that are wanted."""
 
-    def __init__(self, feed: str, columns: Columns, names: Sequence[str]) -> None:
+    def __init__(self, feed: str, columns: Columns, names: Sequence[str], sign: str = "") -> None:
         source, target, kind, weight, time, key = (_place(feed, it, names) for it in columns.wanted)
         warn_of_unread(feed, columns, names)
         self.feed = feed
         self.places = (kind, source, target, weight, time, *([] if key is None else [key]))
         self.usual = (columns.usual_kind, "", "", "1", columns.usual_time, "")
         self.least = max(it for it in self.places if it is not None) + 1
+        self.form = TableForm(names, sign, max(len(names), self.least))
         self.is_first = True
+
+    def of_lines(self, lines: range, columns: Sequence[Sequence[str]]) -> Block:
+        """The block of a file's lines, by their columns."""
+        came = Came(self.form, lambda at: [it[at] for it in columns], range(len(lines)))
+        return self.of_columns(lines, columns)._replace(came=came)
 
     def of_columns(self, lines: Sequence[int], columns: Union[Sequence[Sequence[str]], Mapping[int, Sequence[str]]]) -> Block:
         self.is_first = False
@@ -153,7 +159,8 @@ class Picked:
         fields, lines = zip(*rows)
         if self.is_first and len(fields[0]) < self.least:
             raise FeedFault(f"{self.feed}:{lines[0]}: {len(fields[0])} fields, where the columns need {self.least}")
-        yield self.of_columns(lines, list(zip(*([*it, *[""] * (self.least - len(it))] for it in fields))))
+        found = self.of_columns(lines, list(zip(*([*it, *[""] * (self.least - len(it))] for it in fields))))
+        yield found._replace(came=Came(self.form, fields.__getitem__, range(len(lines)))) if self.form.sign else found
 
 
 def warn_of_unread(feed: str, columns: Columns, names: Sequence[str]) -> None:

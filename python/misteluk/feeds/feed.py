@@ -7,7 +7,8 @@ import io
 import os
 import urllib.parse
 from itertools import chain, islice
-from typing import IO, Any, Callable, Iterable, Iterator, List, NamedTuple, Optional, Sequence, Tuple, TypeVar, Union, cast
+from typing import (IO, Any, Callable, Iterable, Iterator, List, NamedTuple, Optional, Sequence, Tuple, TypeVar, Union, cast,
+                    overload)
 
 from ..errors import FeedFault
 from ..values.units import each_once
@@ -24,6 +25,40 @@ ROWS_AT_ONCE = 1_024
 T = TypeVar("T")
 
 
+class TableForm(NamedTuple):
+    """How a table's rows are written: below a header, or none; the sign between fields; how many fields a row has at least."""
+
+    names: Sequence[str]
+    sign: str
+    width: int
+
+
+# That of rows whose feed is no table of text.
+OF_ROWS = TableForm(("source", "target", "kind", "weight", "time"), ",", 5)
+
+
+class Came(Sequence[Sequence[str]]):
+    """Rows with all their fields, as they came; a row is made once somebody asks for it, as where it can't be taken."""
+
+    def __init__(self, form: TableForm, fields: Callable[[int], Sequence[str]], places: range) -> None:
+        self.form, self._fields, self._places = form, fields, places
+
+    def __len__(self) -> int:
+        return len(self._places)
+
+    @overload
+    def __getitem__(self, at: int) -> Sequence[str]: ...
+
+    @overload
+    def __getitem__(self, at: slice) -> "Came": ...
+
+    def __getitem__(self, at: Any) -> Any:
+        if isinstance(at, slice):
+            return Came(self.form, self._fields, self._places[at])
+        found = list(self._fields(self._places[at]))
+        return found + [""] * (self.form.width - len(found))  # (a row may have too few)
+
+
 class Block(NamedTuple):
     """Rows that follow one another, by column: a call turns, checks or writes thousands of fields at once. Weights and times are
     texts, and in the engine's terms numbers."""
@@ -36,11 +71,21 @@ class Block(NamedTuple):
     times: Sequence[Any]
     # By what each row is parted; none where nothing is.
     keys: Sequence[str] = ()
+    # The rows as they came; none where they came as they are here.
+    came: Sequence[Sequence[str]] = ()
 
 
 def rows_of(block: Block) -> Iterator[Row]:
     """The rows of a block."""
     return cast("Iterator[Row]", zip(*block[:6]))
+
+
+def came_of(block: Block) -> Came:
+    """The rows of a block as they came."""
+    if isinstance(block.came, Came):
+        return block.came
+    columns = [block[2], block[3], block[1], *block[4:6]]
+    return Came(OF_ROWS, lambda at: [it[at] for it in columns], range(len(block.lines)))
 
 
 def part_of(block: Block, rows: slice) -> Block:
@@ -116,7 +161,7 @@ def turned(feed: Feed, *, names: str = "plain") -> Feed:
     def blocks() -> Iterator[Block]:
         for it in feed.blocks():
             kinds, sources, targets = (each_once(escaped, column) for column in it[1:4])
-            yield Block(it.lines, kinds, sources, targets, it.weights, it.times)
+            yield Block(it.lines, kinds, sources, targets, it.weights, it.times, came=came_of(it))
     return Feed(feed.name, Table(blocks))
 
 

@@ -7,12 +7,10 @@ import time
 from collections import deque
 from itertools import repeat
 from types import TracebackType
-from typing import TYPE_CHECKING, Any, Deque, Iterator, List, NamedTuple, Optional, Type, Union
+from typing import TYPE_CHECKING, Any, Callable, Deque, Iterator, List, Optional, Protocol, Tuple, Type, Union
 
 from ..values import records
-from ..values.answers import Commit
-from ..errors import (BadRows, NoAnswer, OperationsRefused, PoolEmpty, ProgramEnded, Refused, StoreError, Uncommitted,
-                     refusal)
+from ..errors import BadRows, NoAnswer, OperationsRefused, PoolEmpty, ProgramEnded, Refused, StoreError, Uncommitted, refusal
 from .advice import Reading, advise
 from .feed import Block, Feed, Path, part_of, turned
 from .growing import DelimitedRows, Growing, Incoming, Opened, Rows, SnapRows
@@ -21,7 +19,9 @@ from .opening import ReadAs, form_of, reads
 from ..engine.calls import Calls
 from ..engine.operations import EXPIRY
 from .progress import Progress
-from .spans import Span, kept_time, seconds_of
+from .rejects import Bin, Lines, Rejected, Rejects
+from .spans import Span, ahead_time, kept_time, seconds_of
+from .steps import Followed, FeedPlace, Pace, Recipe
 from ..values.terms import Terms
 
 if TYPE_CHECKING:
@@ -33,54 +33,10 @@ def _is_interrupted() -> bool:
     return threading.current_thread() is threading.main_thread()
 
 
-class Followed(NamedTuple):
-    """What a commit of a feed did, and how far it is: the rows that are in, the bad ones that were passed over, the last line
-    whose row is in, and the newest time of all rows, in the store's units."""
+class Keeps(Protocol):
+    """What keeps rows that were skipped, as a file does."""
 
-    commit: Commit
-    rows: int
-    bad: int
-    line: int
-    newest: Any
-
-    def __str__(self) -> str:
-        done = self.commit
-        counts = [(done.inserted, "inserted"), (done.updated, "updated"), (done.expired, "expired"),
-                  (done.overflowed, "amounts NOT added or set, since weights would leave their limits"),
-                  (self.bad, "bad rows passed over")]
-        told = ", ".join(f"{count} {word}" for count, word in counts if count) or "nothing changed"
-        return f"version {done.version}: {self.rows} rows to line {self.line}, {told}; newest {self.newest}"
-
-
-class Pace(NamedTuple):
-    """When a batch is committed, in seconds and rows; how long an edge is kept, in the program's times; what of bad rows; and how
-    the feed is written, for advice."""
-
-    every: float
-    room: int
-    keep: Optional[int]
-    skip_bad: bool
-    how: ReadAs
-
-
-class Recipe(NamedTuple):
-    """How a feed is followed: its form, how its rows go in and how many at once, and whether its end is that of all."""
-
-    form: str
-    by: str
-    batch: int
-    until_end: bool
-    pace: Pace
-
-
-class FeedPlace(NamedTuple):
-    """How far a feed is in: how many rows, to which line, their newest time in the program's times, and how many bytes of the
-    file were read by then."""
-
-    rows: int = 0
-    line: int = 0
-    newest: int = -1
-    read: int = 0
+    def append(self, lines: Lines) -> None: ...
 
 
 class Following(Iterator[Followed]):
@@ -92,15 +48,17 @@ class Following(Iterator[Followed]):
     """
 
     def __init__(self, store: "Store[Any, Any]", incoming: Incoming, count: Count, recipe: Recipe,
-                 progress: Optional[bool]) -> None:
+                 progress: Optional[bool], rejects: Optional[Keeps] = None) -> None:
         self.store, self.name, self._ledger = store, incoming.name, store.ledger
         self._incoming, self._source, self._count, self._pace = incoming, incoming.source, count, recipe.pace
-        self.recipe = recipe
+        self.recipe, self.rejects = recipe, rejects
+        # What is called where rows were skipped and none is pending, with which this would be told.
+        self.on_skipped: Callable[[], None] = lambda: None
         # Rows that were read, the lines of those that are pending, and since when the first of these is.
         self._blocks: Deque[Block] = deque()
         self._lines: List[int] = []
         self._since = 0.0
-        self._in = self._line = 0
+        self._in = self._line = self._done = 0
         self._newest, self._has_expiry = -1, False
         self._untaken: Deque[Followed] = deque()
         self._ending: Optional[Exception] = None
@@ -121,12 +79,13 @@ class Following(Iterator[Followed]):
     @property
     def place(self) -> FeedPlace:
         """How far it is in."""
-        return FeedPlace(self._in, self._line, self._newest, self._source.place)
+        return FeedPlace(self._in, self._line, self._newest, self._source.place, self._source.mark, self._done, self._count.bad)
 
     def go_on(self, place: FeedPlace) -> None:
         """Passes over what is in to a place, before the first step. The file is read from where the reading began."""
-        self._in, self._line, self._newest, self._source.least = place
-        self._incoming.rows.passed = place.line
+        self._in, self._line, self._newest, self._done, self._count.bad = *place[:3], place.done, place.bad
+        self._source.was_read(place.read, place.mark)
+        self._incoming.rows.passed = place.done
 
     @property
     def terms(self) -> Terms:
@@ -137,6 +96,11 @@ class Following(Iterator[Followed]):
     def faults(self) -> List[Refused]:
         """The faults of rows that were passed over: the first ten, and the first of each rule."""
         return list(self._count.faults)
+
+    @property
+    def last_bad(self) -> Optional[Rejected]:
+        """The last row that was skipped."""
+        return self._count.last_bad
 
     @property
     def half_line(self) -> bool:
@@ -245,14 +209,18 @@ class Following(Iterator[Followed]):
     def _fill(self) -> None:
         """Makes rows operations that are pending, as many as the batch has room for."""
         block, room = self._blocks.popleft(), self._pace.room - len(self._lines)
+        skipped = self._count.bad, self._count.last_bad
         if len(block.lines) > room:
             self._blocks.appendleft(part_of(block, slice(room, None)))
             block = part_of(block, slice(0, room))
-        count, before = self._count, self._count.bad
+        count = self._count
         right = count.written(block)
-        if count.bad > before and not self._pace.skip_bad:
-            right = self._before_the_first_bad(right)
+        self._done = block.lines[-1]
+        if count.bad > skipped[0]:
+            right = self._kept(right, skipped) if self._pace.skip_bad else self._before_the_first_bad(right)
         if not right.lines:
+            if count.bad > skipped[0] and not self._lines:
+                self.on_skipped()
             return
         self._since = self._since if self._lines else time.monotonic()
         self._ledger.kinds.update(dict.fromkeys(map(count.terms.names.to_user, dict.fromkeys(right.kinds))))
@@ -267,11 +235,27 @@ class Following(Iterator[Followed]):
         advise(count.faults, Reading(self._pace.how.encoding, self._pace.how.decimal, count.terms.units, self._pace.how.dates))
         place = count.faults[0].place
         first = place.line if place else 0
-        keep = sum(it < first for it in right.lines)
-        self._ending = BadRows(self.name, count.bad, count.rows, count.faults, count.fault_counts,
-                               stands=f"those before line {first} are in, and none behind it")
+        return self._before(first, right, BadRows(self.name, count.bad, count.rows, count.faults, count.fault_counts,
+                                                  stands=f"those before line {first} are in, and none behind it"))
+
+    def _kept(self, right: Block, before: "Tuple[int, Optional[Rejected]]") -> Block:
+        """Has the rows kept that were skipped. Where they can't be, the feed ends before the first of them, with as many skipped
+        as before."""
+        lines = None if self._count.bin is None else self._count.bin.emptied()
+        if lines is None or self.rejects is None:
+            return right
+        try:
+            self.rejects.append(lines)
+        except StoreError as fault:
+            self._count.bad, self._count.last_bad = before
+            return self._before(lines.first, right, fault)
+        return right
+
+    def _before(self, line: int, right: Block, ending: Exception) -> Block:
+        """The rows before a line; the feed ends there."""
+        self._ending = ending
         self._blocks.clear()
-        return part_of(right, slice(0, keep))
+        return part_of(right, slice(0, sum(it < line for it in right.lines)))
 
     def _commit(self) -> Followed:
         """Commits what is pending. Where that is refused or not answered all of it is pending still."""
@@ -290,8 +274,9 @@ class Following(Iterator[Followed]):
             raise self._with_rows(fault, self.store.pending < pending) from fault
         self._take_in()
         newest = self._count.terms.units.time_to_user(self._newest)
-        bad = self._count.bad if self._pace.skip_bad else 0  # (else it ends the feed, which is told then)
-        return Followed(receipt, self._in, bad, self._line, newest)
+        # (without that a bad row ends the feed, which is told then)
+        skipped = (self._count.bad, self._count.last_bad) if self._pace.skip_bad else (0, None)
+        return Followed(receipt, self._in, skipped[0], self._line, newest, skipped[1], self._source.behind)
 
     def _take_in(self) -> None:
         self._in, self._line, self._lines = self._in + len(self._lines), self._lines[-1], []
@@ -326,21 +311,24 @@ class Following(Iterator[Followed]):
 
 @reads
 def follow(store: "Store[Any, Any]", feed: Union[Path, Opened], *, by: str, every: Span = 1.0, keep: Optional[Span] = None,
-           batch: int = records.MOST_OPERATIONS, until_end: bool = False, skip_bad: bool = False,
-           progress: Optional[bool] = None, **read_as: Any) -> Following:
+           ahead: Optional[Span] = None, batch: int = records.MOST_OPERATIONS, until_end: bool = False,
+           skip_bad: bool = False, rejects: Optional[Path] = None, progress: Optional[bool] = None, **read_as: Any) -> Following:
     """Follows a feed into a store: a file that grows, standard input (`-`), or what has a descriptor, as a pipe. Each step of
     what this gives is a commit, with a collection.
 
     A commit comes when a row has waited for `every` (seconds, or a text as "500ms"), or when its batch has `batch` operations.
     With `keep` each commit expires the edges that weren't touched for so long: those with a recent time before the newest time of
-    the feed's rows minus `keep`. That is a length of time, as "14d", where times are dates, and else a whole number. So one row
-    with a time far ahead removes all that is older, and a late row sets its edge's time back. See `Store.expire` for the blocks.
+    the feed's rows minus `keep`. That is a length of time, as "14d", where times are dates, and else a whole number. A late row
+    sets its edge's time back. See `Store.expire` for the blocks. One row with a time far ahead would remove all that is older: a
+    date that is more than `ahead` of the clock here, as "1h", is a bad row. With `keep` that is "1d" if nothing is said. Numbers
+    are taken as they come.
 
     A file is followed beyond its end, unless `until_end`; a pipe ends where its writers do. `Following.stop` ends the steps with
-    all in that was read. A row that can't be taken ends them too, by `BadRows` when all before it is in, unless `skip_bad`; so
-    does a file that is cut short, by `FeedFault`, unless it is as long again when that is looked for. One that is replaced isn't
-    followed into the new one. Where a commit is refused or not answered the error says which rows aren't in; they are pending
-    still, and the next step goes on. Between steps the store may be asked, and other operations be committed.
+    all in that was read. A row that can't be taken ends them too, by `BadRows` when all before it is in, unless `skip_bad`, or
+    `rejects`, a file to which such rows are appended (see `load`). So does a file that is cut short or written anew, by
+    `FeedFault`: its first bytes that were read, and the last ones, are looked at again with more of it. One that is replaced
+    isn't followed into the new one. Where a commit is refused or not answered the error says which rows aren't in; they are
+    pending still, and the next step goes on. Between steps the store may be asked, and other operations be committed.
 
     The further options are those of `ReadAs`. Raises `ValueError` for options that there aren't, and for a file that is packed;
     `Uncommitted` where operations are pending; `OSError` where there is no such file.
@@ -349,7 +337,8 @@ def follow(store: "Store[Any, Any]", feed: Union[Path, Opened], *, by: str, ever
     how = ReadAs(**read_as)
     terms = store.ledger.terms_for(*how.units_said)
     kept = kept_time(keep, terms.units)
-    pace = Pace(seconds_of(every), max(batch - (kept is not None), 1), kept, skip_bad, how)
+    pace = Pace(seconds_of(every), max(batch - (kept is not None), 1), kept, ahead_time(ahead, kept, terms.units),
+                skip_bad or rejects is not None, rejects is not None, how)
     form = how.format or (form_of(feed, how.encoding) if isinstance(feed, (str, os.PathLike)) else "delimited")
     if form not in ("delimited", "snap"):
         raise ValueError(f"format is 'delimited' or 'snap' where a feed is followed, and not {form!r}")
@@ -357,11 +346,13 @@ def follow(store: "Store[Any, Any]", feed: Union[Path, Opened], *, by: str, ever
         raise Uncommitted(f"{store.pending} operations are pending: commit or discard them before a feed is followed",
                           store.ledger.told_pending)
     turned(Feed("", ()), names=how.names)
-    return following_of(store, feed, Recipe(form, by, batch, until_end, pace), terms, progress)
+    place = feed if isinstance(feed, (str, os.PathLike)) or rejects is None else feed.fileno()
+    kept_rows = None if rejects is None else Rejects(rejects, how.encoding, place)
+    return following_of(store, feed, Recipe(form, by, batch, until_end, pace), terms, progress, kept_rows)
 
 
 def following_of(store: "Store[Any, Any]", feed: Union[Path, Opened], recipe: Recipe, terms: Terms,
-                 progress: Optional[bool]) -> Following:
+                 progress: Optional[bool], rejects: Optional[Keeps] = None) -> Following:
     """A feed that is followed into a store by a recipe. See `follow`."""
     how = recipe.pace.how
     source = Growing(feed, how.encoding, recipe.until_end)
@@ -369,4 +360,5 @@ def following_of(store: "Store[Any, Any]", feed: Union[Path, Opened], recipe: Re
                   DelimitedRows(source.name, how.columns, how.delimiter, how.header))
     store.ledger.take_terms(terms)
     count = Count(source.name, recipe.by, recipe.batch, terms, how.decimal)
-    return Following(store, Incoming(source, rows, how.notation, how.names), count, recipe, progress)
+    count.ahead, count.bin = recipe.pace.ahead, Bin() if recipe.pace.has_rejects else None
+    return Following(store, Incoming(source, rows, how.notation, how.names), count, recipe, progress, rejects)

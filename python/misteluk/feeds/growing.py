@@ -2,6 +2,7 @@
 from __future__ import annotations
 
 import codecs
+import hashlib
 import io
 import os
 import select
@@ -14,8 +15,9 @@ from ..errors import FeedFault
 from .feed import STANDARD_INPUT, Block, Columns, Feed, Path, Table, codec_of, feed_name, snap_fields, snap_rows, turned
 from .notations import Notation
 
-# How many bytes are read at once, and how many characters a line may have.
-MOST_READ, MOST_LINE = 1 << 16, 1 << 20
+# How many bytes are read at once, how many characters a line may have, and by how many bytes at its begin and before the place
+# a file is known.
+MOST_READ, MOST_LINE, MARKED = 1 << 16, 1 << 20, 1 << 10
 # How long a file that has nothing new is left alone, in seconds.
 REST = 0.1
 
@@ -26,11 +28,35 @@ class Opened(Protocol):
     def fileno(self) -> int: ...
 
 
+class Mark:
+    """The first bytes of what was read of a file, and the last ones: by them it is seen that the file was written anew."""
+
+    def __init__(self) -> None:
+        self.at, self._head, self._tail = 0, b"", b""
+
+    def read(self, data: bytes) -> None:
+        """Takes what was read behind the rest."""
+        self.at += len(data)
+        self._head += data[:MARKED - len(self._head)]
+        self._tail = (self._tail + data[-MARKED:])[-MARKED:]
+
+    @property
+    def digest(self) -> str:
+        return hashlib.sha256(self._head + self._tail).hexdigest()
+
+    @staticmethod
+    def of(file: int, begin: int, at: int) -> str:
+        """The digest of a file that was read from one place so many bytes on."""
+        count = min(at, MARKED)
+        data = os.pread(file, count, begin) + os.pread(file, count, begin + at - count)
+        return hashlib.sha256(data).hexdigest()
+
+
 class Growing:
     """The whole lines of a file, a pipe, or standard input (`-`), as they come.
 
     A file is followed when it was read to its end, unless `until_end`; anything else ends where its writers do. A line that has
-    no end yet is none, but at the end of all. A file that is cut short while it is followed raises `FeedFault`.
+    no end yet is none, but at the end of all. A file that is cut short while it is read, or written anew, raises `FeedFault`.
     """
 
     def __init__(self, source: Union[Path, Opened], encoding: str = "utf-8", until_end: bool = False) -> None:
@@ -50,7 +76,7 @@ class Growing:
         self._is_dry = False
         # Where the reading of a file begins, and how long it is at least where some of it was read before.
         self.begin = os.lseek(self._file, 0, os.SEEK_CUR) if self._is_file else None
-        self.least = 0
+        self.least, self._mark, self._before = 0, Mark(), ""
         decoder = codecs.getincrementaldecoder(codec)(errors="surrogateescape")
         self._decoder = io.IncrementalNewlineDecoder(decoder, translate=False)
         self.half = ""
@@ -68,6 +94,20 @@ class Growing:
     def place(self) -> int:
         """How far a file was read, in bytes; 0 of anything else."""
         return os.lseek(self._file, 0, os.SEEK_CUR) if self._is_file else 0
+
+    @property
+    def mark(self) -> str:
+        """What tells that a file isn't the one any more that was read so far."""
+        return self._mark.digest if self._is_file else ""
+
+    def was_read(self, place: int, mark: str) -> None:
+        """Has it begin where a file was read to a place before, which had this mark then."""
+        self.least, self._before = place, mark
+
+    @property
+    def behind(self) -> Optional[int]:
+        """How many bytes of a file aren't read yet; `None` of anything else."""
+        return max(os.fstat(self._file).st_size - self.place, 0) if self._is_file else None
 
     @property
     def cord(self) -> int:
@@ -104,6 +144,8 @@ class Growing:
             return []
         data = os.read(self._file, MOST_READ)
         self._is_dry = not data
+        if self._is_file and data:
+            self._must_be_the_same(data)
         if self._is_dry and self._is_followed:
             self._must_be_whole()
             return []
@@ -126,6 +168,18 @@ class Growing:
         poll = select.poll()
         poll.register(self._file, select.POLLIN)
         return any(it & select.POLLIN for _, it in poll.poll(0))
+
+    def _must_be_the_same(self, data: bytes) -> None:
+        """Raises `FeedFault` where what a file had before isn't there any more by the time that more of it was read."""
+        begin, mark = self.begin or 0, self._mark
+        is_same = Mark.of(self._file, begin, mark.at) == mark.digest
+        if is_same and self._before:
+            is_same, self._before = Mark.of(self._file, begin, self.least - begin) == self._before, ""
+        if not is_same:
+            self._must_be_whole()
+            raise FeedFault(f"{self.name} was written anew while it was followed: what was read of it isn't there any more, and "
+                            "what it has now isn't known")
+        mark.read(data)
 
     def _must_be_whole(self) -> None:
         at, size = max(self.place, self.least), os.fstat(self._file).st_size
@@ -185,7 +239,7 @@ class DelimitedRows(Rows):
         even = even_columns("".join(lines), self.sign or "")
         if len(even) >= self.picked.least:
             self.line += len(lines)
-            return [self.picked.of_columns(range(self.line - len(lines) + 1, self.line + 1), even)]
+            return [self.picked.of_lines(range(self.line - len(lines) + 1, self.line + 1), even)]
         rows = whole_rows(self.feed, lines, self.sign or "", self.line, is_end)
         before, self.line = self.line, rows[-1][1] if rows else self.line
         self.kept = lines[self.line - before:]
@@ -203,7 +257,7 @@ class DelimitedRows(Rows):
             names, self.line = rows[0]
         if self.is_named and not names:
             raise FeedFault(f"{self.feed}: columns are named, and there is no header: name them by number (from 1)")
-        self.picked = Picked(self.feed, self.columns, names)
+        self.picked = Picked(self.feed, self.columns, names, self.sign)
         self.picked.is_first = self.passed <= self.line
         return lines[self.line:]
 

@@ -5,8 +5,10 @@ import time
 from typing import TYPE_CHECKING, Any, Dict, Iterator, List, NamedTuple, Optional, Tuple
 
 from .limits import check, check_room
+from .feed import Path
 from .opening import ReadAs, reads
 from .progress import Progress
+from .rejects import Rejected
 from .surveys import Part, Survey, survey
 from ..engine.calling import MOST_AT_ONCE
 from ..engine.making import LIBRARY
@@ -30,6 +32,16 @@ class Loaded(NamedTuple):
     seconds: float
     sending: float
 
+    @property
+    def bad(self) -> int:
+        """How many rows were skipped."""
+        return self.survey.bad
+
+    @property
+    def last_bad(self) -> Optional[Rejected]:
+        """The last of them, with its line, the reason and its text."""
+        return self.survey.last_bad
+
     def __str__(self) -> str:
         sent = self.records
         done = self.commit or Commit(0, 0, 0, 0, 0, 0, 0)
@@ -47,7 +59,7 @@ class Loaded(NamedTuple):
 
 @reads
 def load(store: "Store[Any, Any]", data: Any, *, by: str, batch: Optional[int] = None, collect: bool = True,
-         skip_bad: bool = False, progress: Optional[bool] = None, **read_as: Any) -> Loaded:
+         skip_bad: bool = False, rejects: Optional[Path] = None, progress: Optional[bool] = None, **read_as: Any) -> Loaded:
     """Loads a feed into a store: a file's path (`-` is standard input), a networkx graph, a pandas frame, columns by name, rows,
     a `Feed`, or a `Survey` made before (in its own batches, where it was said how large they are).
 
@@ -61,13 +73,22 @@ def load(store: "Store[Any, Any]", data: Any, *, by: str, batch: Optional[int] =
     edges or sessions already only a part of this is known beforehand: where it refuses a batch, `PoolEmpty` or another word
     says which lines are not in, and all lines before them are.
 
+    With `rejects`, a file's path, bad rows are skipped too, and appended to it as they came, with two columns more, `line` and
+    `reason`. Of a delimited file it has the header, if there is one, the delimiter and the encoding: mended rows are loaded from
+    it by the same options. Rows of other feeds have the columns source, target, kind, weight and time there. A feed that is read
+    again adds its rows again.
+
     `ValueError` is raised where the feed's units aren't the store's, and nothing is read. The further options are those of
     `ReadAs`. `progress` shows or hides a bar; without it a terminal has one.
     """
     if isinstance(data, Survey) and data.by != by:
         raise ValueError(f"the survey was made to {data.by}, and the load is to {by}")
+    if isinstance(data, Survey) and rejects is not None:
+        raise ValueError("a survey's rows were read already: say rejects= where it is made")
     terms = store.ledger.terms_for(*ReadAs(**read_as).units_said)
-    found = data if isinstance(data, Survey) else survey(data, by=by, batch=batch, progress=progress, terms=terms, **read_as)
+    found = data if isinstance(data, Survey) else survey(data, by=by, batch=batch, progress=progress, terms=terms,
+                                                             rejects=rejects, **read_as)
+    skip_bad = skip_bad or rejects is not None
     told = Progress(f"loading {found.feed}", found.rows - found.bad, progress)
     sent = time.monotonic()
     receipts: List[Commit] = []

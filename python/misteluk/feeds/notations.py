@@ -5,7 +5,7 @@ import re
 from datetime import date
 from typing import Dict, Iterator, NamedTuple, Optional
 
-from .feed import Block, Feed, Table
+from .feed import Block, Feed, Table, came_of
 from ..values.units import EPOCH, MICROSECOND, each_once
 
 DECIMALS = (".", ",")
@@ -50,7 +50,7 @@ class Notation(NamedTuple):
             for it in feed.blocks():
                 weights = each_once(with_point, it.weights) if self.decimal == "," else it.weights
                 times = each_once(self.date_of, it.times) if self.dates else it.times
-                yield it._replace(weights=weights, times=times)
+                yield it._replace(weights=weights, times=times, came=came_of(it))
         return Feed(feed.name, Table(blocks))
 
     def date_of(self, text: str) -> str:

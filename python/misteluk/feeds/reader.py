@@ -15,7 +15,9 @@ from itertools import islice
 from typing import Any, Dict, List, NamedTuple, Tuple
 
 from . import parcels
-from .following import Following, FeedPlace, Recipe, following_of
+from .following import Following, following_of
+from .rejects import Lines
+from .steps import FeedPlace, Recipe
 from ..engine.operations import Operations, Row
 from ..errors import StoreError
 from ..values.answers import Commit
@@ -50,6 +52,13 @@ class Outbox:
         self._descriptor, self._names = descriptor, names
         self._kinds_sent = self._texts_sent = 0
         self._batch = Operations([])
+        # From which line on what is sent next is, and rows that were skipped.
+        self.first = 1
+        self._skipped: List[Lines] = []
+
+    def append(self, lines: Lines) -> None:
+        """Has rows that were skipped go out with the next that does."""
+        self._skipped.append(lines)
 
     @property
     def pending(self) -> List[Row]:
@@ -63,14 +72,25 @@ class Outbox:
         self._batch, self.rows = Operations(self.rows), []
         return NOTHING, (NOTHING,)
 
-    def send(self, place: FeedPlace, first: int) -> None:
-        """Sends a batch with which so much is in, whose first row is that of a line, with the kinds and texts of ids that are
-        new."""
+    def _head(self, following: Following) -> Dict[str, Any]:
+        """How far the feed is in, and what was skipped."""
+        skipped, self._skipped = self._skipped, []
+        lines = Lines(skipped[0].first, skipped[0].header, "".join(it.rows for it in skipped)) if skipped else None
+        place, first = following.place, self.first
+        self.first = place.done + 1
+        return {"place": place, "first": first, "last_bad": following.last_bad, "skipped": lines}
+
+    def skip(self, following: Following) -> None:
+        """Sends that rows were skipped, where no batch is there to be sent."""
+        parcels.send(self._descriptor, parcels.packed(self._head(following)))
+
+    def send(self, following: Following) -> None:
+        """Sends a batch with how far the feed is in by it, with the kinds and texts of ids that are new."""
         kinds = list(islice(self.kinds, self._kinds_sent, None))
         texts = self._names.since(self._texts_sent)
         self._kinds_sent, self._texts_sent = self._kinds_sent + len(kinds), self._texts_sent + len(texts)
         of = self._batch.columns
-        head = {"place": place, "first": first, "kinds": kinds, "texts": texts}
+        head = {**self._head(following), "kinds": kinds, "texts": texts}
         parcels.send(self._descriptor, parcels.packed(head, [*of.of_kinds.encoded, *of.of_names.encoded, *of[:6]]))
 
     def end(self, **how: Any) -> None:
@@ -80,11 +100,11 @@ class Outbox:
 
 def read(following: Following, outbox: Outbox) -> None:
     """Sends what a feed has, to its end or until it is stopped, and what ended it."""
-    first = following.place.line + 1
+    outbox.first = following.place.done + 1
+    following.on_skipped = lambda: outbox.skip(following)
     try:
-        for step in following:
-            outbox.send(following.place, first)
-            first = step.line + 1
+        for _ in following:
+            outbox.send(following)
     except BrokenPipeError:  # (nobody wants it any more)
         raise
     except (StoreError, ValueError, OSError) as fault:
@@ -117,7 +137,7 @@ def main(said: int, descriptor: int) -> None:
         wanted: Wanted = pickle.load(file)
         names = NameTable()
         outbox: Any = Outbox(descriptor, names)
-        following = following_of(outbox, wanted, wanted.recipe, Terms(names, wanted.units), False)
+        following = following_of(outbox, wanted, wanted.recipe, Terms(names, wanted.units), False, outbox)
         following.go_on(wanted.place)
         # (by a thread that no signal interrupts, whose steps take less time)
         threading.Thread(target=run, args=(following, outbox), daemon=True).start()

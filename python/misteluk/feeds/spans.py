@@ -10,6 +10,9 @@ from ..values.limits import within
 from ..values.units import MICROSECOND, Units
 
 Span = Union[str, int, float, timedelta]
+# A day, in microseconds, and what is told of a length of time.
+USUAL_AHEAD = 86_400_000_000
+_UNITS = {"years": 31_556_952_000_000, "days": USUAL_AHEAD, "hours": 3_600_000_000, "minutes": 60_000_000, "seconds": 1_000_000}
 _SPAN = re.compile(r"(\d+(?:\.\d+)?)(ms|s|m|h|d|w)", re.A)
 _LENGTHS = {"ms": timedelta(milliseconds=1), "s": timedelta(seconds=1), "m": timedelta(minutes=1), "h": timedelta(hours=1),
             "d": timedelta(days=1), "w": timedelta(weeks=1)}
@@ -34,6 +37,23 @@ def seconds_of(every: Span) -> float:
     if not 0 <= seconds < 1e9:
         raise ValueError(f"every is a number of seconds from 0 on, and not {every}")
     return seconds
+
+
+def ahead_time(ahead: Optional[Span], kept: Optional[int], units: Units) -> Optional[int]:
+    """How far ahead of the clock a row may be, in microseconds: a day where edges are kept for a time, if nothing is said."""
+    if ahead is None:
+        return USUAL_AHEAD if kept is not None and units.has_dates else None
+    if not units.has_dates:
+        raise ValueError("ahead is for times that are dates (--times iso): of numbers nobody knows how far they are ahead")
+    return kept_time(ahead, units, "ahead")
+
+
+def shown_length(length: int) -> str:
+    """So many microseconds in the largest unit of which they are two or more."""
+    for name, size in _UNITS.items():
+        if length >= 2 * size:
+            return f"{length // size} {name}"
+    return f"{length / 1e6:g} seconds"
 
 
 def kept_time(keep: Optional[Span], units: Units, what: str = "keep") -> Optional[int]:

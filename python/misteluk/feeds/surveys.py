@@ -11,11 +11,13 @@ from operator import lshift, or_, rshift
 from typing import Any, Dict, Iterable, Iterator, List, NamedTuple, Optional, Sequence, Set, Tuple
 
 from .advice import advise, as_written
-from .feed import Block, rows_of, turned
+from .feed import Block, Path, came_of, rows_of, turned
 from .opening import ReadAs, reads
 from .progress import Progress, no_collection
+from .rejects import Bin, Rejected, Rejects, rejected
+from .spans import shown_length
 from ..engine.operations import COMMANDS as OF_COMMANDS, Dictionary, Numbered, Operations
-from ..errors import Place, Refused
+from ..errors import BadTime, Place, Refused
 from ..values import records
 from ..values.terms import Terms
 from ..values.units import Units
@@ -26,6 +28,11 @@ COMMANDS = {"set": "i", "add": "a"}
 BITS = 32
 # How many faults are told of, beside the first of each rule.
 MOST_FAULTS = 10
+
+
+def _now() -> int:
+    """The clock's time, in microseconds since 1970."""
+    return time.time_ns() // 1_000
 
 
 class Part(NamedTuple):
@@ -113,6 +120,7 @@ class Survey:
     seconds: float
     terms: Terms
     joins: bool = False
+    last_bad: Optional[Rejected] = None
 
     @cached_property
     def _counted(self) -> Counted:
@@ -215,6 +223,10 @@ class Count:
         self.faults: List[Refused] = []
         # How many rows break a rule, by its word and field.
         self.fault_counts: Dict[str, int] = {}
+        self.last_bad: Optional[Rejected] = None
+        # Where rows are kept that can't be taken, and how far ahead of the clock a row may be, in microseconds.
+        self.bin: Optional[Bin] = None
+        self.ahead: Optional[int] = None
 
     def _empty(self) -> Part:
         columns: Any = map(array, "BIIIqQ")
@@ -262,23 +274,56 @@ class Count:
         """The rows that can be taken, in the engine's terms; what is wrong with others is counted and told."""
         self.rows += len(block.lines)
         found = self.terms.written(block)
+        found = found._replace(times=self._not_too_far(found.times))
         if not any("" in it for it in found[1:4]) and None not in found.weights and None not in found.times:
             return found
         is_right = [bool(kind and source and target) and weight is not None and time is not None
                     for _, kind, source, target, weight, time in rows_of(found)]
-        for row, right in zip(rows_of(block), is_right):
-            if not right:
-                self._tell((self.command, *row[1:]), row[0])
+        wrong = [at for at, right in enumerate(is_right) if not right]
+        rows = list(rows_of(block))
+        reasons = [self._tell((self.command, *rows[at][1:]), rows[at][0]) for at in wrong]
+        self._keep_wrong(block, wrong, reasons)
         return Block(*(list(compress(it, is_right)) for it in found[:6]))
 
-    def _tell(self, fields: Sequence[str], line: int) -> None:
-        """Counts a row that breaks a rule, and tells of it."""
+    def _not_too_far(self, times: Sequence[Optional[int]]) -> Sequence[Optional[int]]:
+        """The times, with none for those that are too far ahead of the clock."""
+        latest = None if self.ahead is None else _now() + self.ahead
+        if latest is None or max((it for it in times if it is not None), default=0) <= latest:
+            return times
+        return [None if it is None or it > latest else it for it in times]
+
+    def _faults_of(self, fields: Sequence[str]) -> List[records.Fault]:
+        """The rules that a row breaks; where it breaks none its time is too far ahead."""
+        found = self.terms.faults_of(fields)
+        if found or self.ahead is None:
+            return found
+        far = shown_length(int(self.terms.units.time_to_program(fields[-1])) - _now())
+        reason = f"a time is at most {shown_length(self.ahead)} ahead of the clock here, and this is {far} ahead (ahead, --ahead)"
+        return [records.Fault(BadTime.word, "time", fields[-1], reason)]
+
+    def _keep_wrong(self, block: Block, wrong: Sequence[int], reasons: Sequence[str]) -> None:
+        """Keeps rows of a block that can't be taken, with their reasons: the last one, and all where they are written."""
+        came = came_of(block)
+        for at, reason in zip(wrong, reasons) if self.bin is not None else ():
+            self.bin.put(block.lines[at], reason, came[at], came.form)  # type: ignore[union-attr]
+        self.last_bad = rejected(block.lines[wrong[-1]], reasons[-1], came[wrong[-1]], came.form.sign)
+
+    def write_wrong(self, rejects: "Optional[Rejects]") -> None:
+        """Writes the rows that were kept since the last time."""
+        lines = None if self.bin is None else self.bin.emptied()
+        if lines is not None and rejects is not None:
+            rejects.append(lines)
+
+    def _tell(self, fields: Sequence[str], line: int) -> str:
+        """Counts a row that breaks a rule, and tells of it; gives the reason."""
         self.bad += 1
-        for it in self.terms.faults_of(fields):
+        faults = [as_written(it, self.decimal) for it in self._faults_of(fields)]
+        for it in faults:
             rule = f"{it.word} {it.field}"
             self.fault_counts[rule] = self.fault_counts.get(rule, 0) + 1
             if len(self.faults) < MOST_FAULTS or self.fault_counts[rule] == 1:
-                self.faults.append(self.terms.refusal(as_written(it, self.decimal), place=Place(self.feed, line)))
+                self.faults.append(self.terms.refusal(it, place=Place(self.feed, line)))
+        return "; ".join(map(str, faults))
 
     def survey(self, joins: bool = False) -> Survey:
         """What was counted, when all rows were taken."""
@@ -287,7 +332,7 @@ class Count:
             self.filling = self._empty()
         kinds = list(map(self.terms.names.to_user, self.of_kinds.names))
         return Survey(self.feed, self.by, self.parts, self.rows, len(self.of_names.numbers), kinds, self.bad, self.fault_counts,
-                      self.faults, time.monotonic() - self.begun, self.terms, joins)
+                      self.faults, time.monotonic() - self.begun, self.terms, joins, self.last_bad)
 
 
 def must_be_way(by: str, batch: int) -> None:
@@ -300,9 +345,9 @@ def must_be_way(by: str, batch: int) -> None:
 
 @reads
 def survey(data: Any, *, by: str, batch: Optional[int] = None, progress: Optional[bool] = None,
-           terms: Optional[Terms] = None, **read_as: Any) -> Survey:
+           terms: Optional[Terms] = None, rejects: Optional[Path] = None, **read_as: Any) -> Survey:
     """Reads a feed whole, counts and checks it: what it holds, how many blocks it needs, which rows are bad. Nothing is applied.
-    `batch`: see `load`.
+    `batch`, `rejects`: see `load`.
     The further options are those of `ReadAs`; a store that is loaded with it takes its units. `terms` are those of a store that
     is to take it, and stand for its units."""
     how, size = ReadAs(**read_as), records.MOST_OPERATIONS if batch is None else batch
@@ -311,9 +356,12 @@ def survey(data: Any, *, by: str, batch: Optional[int] = None, progress: Optiona
     scale, times, rounding = how.units_said
     terms = terms or Terms(units=Units(1 if scale is None else scale, times or "number", rounding=rounding))
     counter, told = Count(feed.name, by, size, terms, how.decimal), Progress(f"reading {feed.name}", None, progress)
+    kept = None if rejects is None else Rejects(rejects, how.encoding, data)
+    counter.bin = None if kept is None else Bin()
     with no_collection():
         for block in feed.blocks():
             counter.take(block)
+            counter.write_wrong(kept)
             told.step(len(block.lines))
     told.end()
     advise(counter.faults, how.reading(data, terms.units))

@@ -69,6 +69,7 @@ class Feeding:
         self.board, self.store, self.limits, self._clock = board, board.store, limits, clock
         self.rate = Rate(clock)
         self.state, self.fault, self.reason = "open", "", ""
+        self.expired = 0
         self._lock = threading.RLock()
         self._feeder: Optional[Feeder] = None
         self._before: Deque[Feeder] = deque(maxlen=FEEDERS)
@@ -89,6 +90,7 @@ class Feeding:
         try:
             for step in following:
                 self.rate.add(step.rows - before)
+                self.expired += step.commit.expired
                 before = step.rows
                 self.board.advance()
             self.state = "ended"
@@ -173,6 +175,7 @@ class Feeding:
         engine = self.store.engine
         receipt = engine.fly(engine.flight(operations, collect)).commit
         self.rate.add(operations.size)
+        self.expired += receipt.expired
         return receipt
 
     # Rows in the user's terms.
@@ -234,6 +237,7 @@ class Feeding:
         is_half, killed = (False, 0) if following is None else (following.ended_half, following.killed)
         is_replaced = following is not None and self._is_followed and following.is_replaced
         return {"state": state, "rows": self.rate.total, "rows_a_second": round(self.rate.a_second(), 1),
+                "bad": 0 if following is None else following.place.bad, "expired": self.expired, **_told_of_rows(following),
                 **({"half_line": True} if is_half else {}), **({"readers_killed": killed} if killed else {}),
                 **({"replaced": True} if is_replaced else {}),
                 **({"error": self.fault, "reason": self.reason} if self.fault else {})}
@@ -243,6 +247,15 @@ class Feeding:
         if self._following is not None and self._thread is not None:
             self._following.stop()
             self._thread.join()
+
+
+def _told_of_rows(following: Optional[Apart]) -> Dict[str, Any]:
+    """The last row of a feed that was passed over, and how many bytes of it are left to read."""
+    if following is None:
+        return {}
+    last, behind = following.last_bad, following.behind
+    told = None if last is None else {"line": last.line, "reason": without_paths(last.reason, following.name)}
+    return {**({} if told is None else {"last_bad": told}), **({} if behind is None else {"behind": behind})}
 
 
 def without_paths(text: str, name: str) -> str:

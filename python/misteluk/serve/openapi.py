@@ -11,7 +11,7 @@ FAULTS = {400: "it isn't asked so", 401: "the token is wrong or lacks", 404: "th
           410: "the session's version was let go", 503: "no seat, or too many ask; `Retry-After` has seconds"}
 # Calls beside the questions: what each does, and what its body is.
 CALLS: Dict[str, Dict[str, Any]] = {
-    "/v1/stat": {"get": "what the store holds, who holds which version, and how fast it is fed"},
+    "/v1/stat": {"get": "what the store holds, who holds which version, how fast it is fed, and which rows weren't taken"},
     "/v1/sessions": {"post": "holds the last version, or `version`, until the session is let go or silent too long"},
     "/v1/sessions/{session}": {"put": "says that the session is in use", "delete": "lets its version go"},
     "/v1/sessions/{session}/ask": {"post": "a question of the client in Python, whose answer is columns of bytes"},
