@@ -9,6 +9,7 @@ from serving import ServeCase
 from support import as_soon_as
 from test_rejects import NO_NAME, NO_NUMBER, shifted
 
+import misteluk
 from misteluk import Columns
 
 ROWS = Columns(1, 2, weight=3, time=4)
@@ -129,6 +130,9 @@ class Rejects(ServeCase):
         self.assertIn("No such file or directory", done.communicate(timeout=60)[1])
         self.assertEqual(done.returncode, 1)
         done, kept = self.command(*words, "--rejects", str(self.room / "r.csv"), "--ahead", "1h"), self.room / "r.csv"
+        self.assertIn("serves", done.stdout.readline())
+        with misteluk.connect(f"unix:{self.room}/socket") as session:  # (which answers once signals are heard)
+            self.assertLessEqual(len(list(session.edges())), 1)
         as_soon_as(lambda: kept.exists() and kept.read_text().count("\n") == 2)
         done.send_signal(signal.SIGTERM)
         self.assertIn("of 1 edges; 2 bad rows were passed over\n", done.communicate(timeout=60)[1])
