@@ -278,7 +278,7 @@ class ProgramNotFound(StoreError):
 
 
 class LibraryNotFound(StoreError):
-    """There is no library to load, or it isn't the one of this package."""
+    """There is no library to load, or it isn't the one of this package. Its text has the next step."""
 
 
 class NoMemory(StoreError, MemoryError):

@@ -15,7 +15,8 @@ from .values import records
 from .values.answers import Commit, Stat
 from .values.names import must_be_texts
 from .values.terms import Terms
-from .values.units import Units, whole_text
+from .values.texts import text_of
+from .values.units import Units
 
 
 # What a store takes of a feed: its terms and kinds.
@@ -70,7 +71,7 @@ class Ledger:
         if self._are_numbers(weight, time):
             return weight, time
         units = self.terms.units
-        return units.weights_of([whole_text(weight)])[0], units.times_of([whole_text(time)])[0]
+        return units.weights_of([text_of(weight)])[0], units.times_of([text_of(time)])[0]
 
     def _keep(self, code: int, names: Tuple[Any, Any, Any], weight: Any, time: Any) -> None:
         """Keeps an operation, or raises where a rule is broken."""
@@ -85,7 +86,7 @@ class Ledger:
             row: Row = (code, *names, *both)
         else:
             fields = {EXPIRE: (time,), REMOVE: names}.get(code, (*names, weight, time))
-            row = self.terms.row([COMMANDS[code], *map(whole_text, fields)])
+            row = self.terms.row([COMMANDS[code], *map(text_of, fields)])
         self.units_are_set = True
         if code != EXPIRE:
             self.kinds.setdefault(names[0])

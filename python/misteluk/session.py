@@ -15,6 +15,7 @@ from .values.answers import Answer, Components, Degree, Edge, Neighbor, T, Value
 from .values.edges import Diff, Edges
 from .values.names import Called, must_be_texts
 from .values.terms import Terms
+from .values.texts import text_of
 from .values.units import Moment
 
 if TYPE_CHECKING:
@@ -85,11 +86,11 @@ class Session(Generic[W, T]):
         said = (("kind", kind, None), ("since", since, 0), ("until", until, LAST))
         told = Called(call, names, {name: it for name, it, usual in said if str(it) != str(usual)})
         terms = self._terms
-        fields = ["bfs" if names else "deg", str(self.slot), *names[:1], kind or records.ANY, str(since), str(until)]
+        fields = ["bfs" if names else "deg", str(self.slot), *names[:1], kind or records.ANY, text_of(since), text_of(until)]
         for fault in terms.faults_of(fields, records.MOST_SEATS):
             raise terms.refusal(fault)
-        begin = int(terms.units.time_to_program(str(since)))
-        end = int(terms.units.time_to_program(str(until), is_end=True))
+        begin = int(terms.units.time_to_program(text_of(since)))
+        end = int(terms.units.time_to_program(text_of(until), is_end=True))
         if begin > end:
             raise refusal("BadWindow", f"{told}: since {since} is after until {until}")
         of_kind = None if kind in (None, records.ANY) else terms.names.to_program(str(kind), keep=False)

@@ -44,8 +44,9 @@ class Store(Generic[W, T]):
     it would have applied is pending still. The graph lives as long as the store, but for versions that sessions save as files.
 
     `engine`: "library", in this process, or "program", `stinger run` in a process of its own, through pipes; else what the
-    variable MISTELUK_ENGINE says, and else the library, where it can be loaded. `program` names the program to run (see
-    `find_program`), and so the second. A program shares no memory with what else this process loads; it takes 999,999 records.
+    variable MISTELUK_ENGINE says, and else the library: `LibraryNotFound` where it can't be loaded. `program` names the program
+    to run (see `find_program`), and so the second. A program shares no memory with what else this process loads; it takes 999,999
+    records.
 
     `blocks`: how many blocks hold edges, from 16 on; each has room for 32 edges of one kind and source, and takes 1 KB once it is
     used. Else the library has 65,536, and more once they are needed; a program has 16,384, and takes up to 65,536. `limits`: how
@@ -57,7 +58,8 @@ class Store(Generic[W, T]):
     A weight is an int, a `Decimal`, a float as it is printed, or a text; `BadWeight` where it is no whole number of parts, unless
     `rounding="half-even"` rounds it to the nearest one (of two equally near ones to the even one), also in loads.
     `times`: "iso" where times are dates, from 1970 (also where none is said) to 9999; else whole numbers. A date is a `datetime`,
-    a `date` or a text, in UTC where it has no zone; `BadTime` where it is finer than microseconds. `decimals`: answers have
+    a `date` or a text as 2024-05-01 or 2024-05-01T12:00:00.250+02:00, in UTC where it has no zone; `BadTime` for another text,
+    and where it is finer than microseconds. An `until` without a time of day is its day's end. `decimals`: answers have
     weights as "decimal" (`Decimal`) or "float". Where neither of the first two is said, the first load says both, unless an
     operation came before it.
     `endless`: whether names and kinds that have no edge are let go where there would be too many (see `renew`).
@@ -222,7 +224,7 @@ class Store(Generic[W, T]):
 
         def make(found: int, weight_scale: Optional[int], times: Optional[str]) -> "Store[Any, Any]":
             return cls(blocks=found, weight_scale=weight_scale, times=times, **options)
-        in_process = choose(options.get("engine"), options.get("program"))[0] == LIBRARY
+        in_process = choose(options.get("engine"), options.get("program")) == LIBRARY
         return restore(path, make, blocks, progress, in_process)
 
     # Requests.

@@ -3,6 +3,8 @@ import _ctypes
 import gc
 import multiprocessing
 import os
+import pathlib
+import platform
 import resource
 import subprocess
 import sys
@@ -10,11 +12,11 @@ import threading
 import unittest
 from unittest import mock
 
-from support import ENGINE, HERE, Case
+from support import ENGINE, HERE, Case, find_program
 
 import misteluk
 from misteluk import Edge, Store
-from misteluk.engine import calling, interface, making
+from misteluk.engine import calling, finding, interface, making
 from misteluk.engine.finding import OF_LIBRARY, find_library
 from misteluk.engine.guard import Guard, Notes, Owned, Step, alone
 
@@ -172,26 +174,61 @@ class InProcess(Case):
 
 class Choice(Case):
     def test_a_library_that_isn_t_there(self):
+        """No store takes another engine unasked: it says what to do. The program is taken where it is said, in each way."""
         with mock.patch.dict(os.environ, {OF_LIBRARY: "/no/such.so"}):
             os.environ.pop(making.VARIABLE, None)
-            self.assertEqual(making.choose()[0], "program")
-            self.assertRaisesRegex(misteluk.LibraryNotFound, "no library can be loaded: /no/such.so", Store, engine="library")
-            with Store(blocks=64) as store:
+            self.assertEqual(making.choose(), "library")
+            for options in ({}, {"engine": "library"}, {"blocks": 64}, {"endless": True}):
+                with self.assertRaises(misteluk.LibraryNotFound) as told:
+                    Store(**options)
+                self.assertEqual(str(told.exception), "no file /no/such.so (named by MISTELUK_LIBRARY) is there. Have "
+                                 "MISTELUK_LIBRARY name another one, or unset it: then the package's own is loaded, or the one "
+                                 "that ./stinger library makes in the repository")
+            for options, variable in (({"engine": "program"}, ""), ({"program": find_program()}, ""), ({}, "program")):
+                with mock.patch.dict(os.environ, {making.VARIABLE: variable}), Store(blocks=64, **options) as store:
+                    self.assertEqual(store.engine.name, "program")
+
+    def test_no_library_at_all(self):
+        """Of a package that stands alone, as one that was installed without one."""
+        program, alone = find_program(), str(self.room / "there" / "misteluk" / "engine" / "finding.py")
+        said = {OF_LIBRARY: "", making.VARIABLE: ""}
+        with mock.patch.dict(os.environ, said), mock.patch.object(finding, "__file__", alone):
+            self.assertRaisesRegex(misteluk.LibraryNotFound, "^no libmisteluk.so is here. Make it by ./stinger library in the "
+                                   "repository, or install the wheel of a release, or have MISTELUK_LIBRARY name a", Store)
+            with Store(engine="program", program=program, blocks=64) as store:
                 self.assertEqual(store.engine.name, "program")
+
+    def test_a_library_of_elsewhere(self):
+        """Of 32 bits, of another machine, and what is none: each tells the next step."""
+        data = pathlib.Path(find_library()).read_bytes()
+        of_32, of_another = bytearray(data), bytearray(data)
+        of_32[4], of_another[18:20] = 1, (183).to_bytes(2, "little")  # (the header's class; its machine, as that of ARM)
+        for name, held, why in (("of_32", of_32, "wrong ELF class: ELFCLASS32"), ("none", b"none\n", "file too short"),
+                                ("of_another", of_another, f"it is there, of another machine than {platform.machine()}")):
+            path = self.room / f"{name}.so"
+            path.write_bytes(held)
+            with mock.patch.dict(os.environ, {OF_LIBRARY: str(path), making.VARIABLE: ""}):
+                told = f"no library can be loaded: .*{why}.*Have MISTELUK_LIBRARY name another"
+                self.assertRaisesRegex(misteluk.LibraryNotFound, told, Store)
 
     def test_a_library_of_another_time(self):
         """One that lacks a function, and one of another interface."""
-        with mock.patch.dict(os.environ, {OF_LIBRARY: _ctypes.__file__}):
-            self.assertRaisesRegex(misteluk.LibraryNotFound, "has no function misteluk_", Store, engine="library")
-        with mock.patch.object(interface, "INTERFACE", 99), mock.patch.dict(calling._OPENED, clear=True):
-            self.assertRaisesRegex(misteluk.LibraryNotFound, "has interface 1, and this needs 99", calling.opened, find_library())
+        with mock.patch.dict(os.environ, {OF_LIBRARY: _ctypes.__file__, making.VARIABLE: ""}):
+            self.assertRaisesRegex(misteluk.LibraryNotFound, "has no function misteluk_.*Have MISTELUK_LIBRARY name", Store)
+        with mock.patch.object(interface, "INTERFACE", 99), mock.patch.dict(calling._OPENED, clear=True), mock.patch.dict(
+                os.environ, {OF_LIBRARY: find_library(), making.VARIABLE: ""}):
+            self.assertRaisesRegex(misteluk.LibraryNotFound, "has interface 1, and this needs 99. Have MISTELUK_LIBRARY", Store)
 
     def test_what_is_said(self):
         self.assertRaisesRegex(ValueError, "engine is 'library' or 'program'", Store, engine="pipes")
         self.assertRaisesRegex(ValueError, "a program is named", Store, engine="library", program="stinger")
         with mock.patch.dict(os.environ, {making.VARIABLE: "pipes"}):
             self.assertRaisesRegex(ValueError, "MISTELUK_ENGINE is", Store)
-        self.assertEqual(making.choose(program="x"), ("program", "it was said"))
+        with mock.patch.dict(os.environ, {making.VARIABLE: ""}):
+            self.assertEqual((making.choose(), making.choose("program"), making.choose(program="x")),
+                             ("library", "program", "program"))
+        with mock.patch.dict(os.environ, {making.VARIABLE: "program"}):
+            self.assertEqual((making.choose(), making.choose("library")), ("program", "library"))
 
 
 class Guarding(Case):

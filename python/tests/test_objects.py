@@ -198,7 +198,7 @@ class Rows(Case):
         self.fault("rows:1: 6 fields, where an edge has source, target", [tuple("abcdef")])
         self.fault("rows:1: 1 fields, where the columns need 2", [("a",)])
         self.fault("no column 'target'; the header has 'source'", [{"source": "a"}])
-        self.fault("the columns aren't equally long: source has 2, target has 1", {"source": "ab", "target": "c"})
+        self.fault("the columns aren't equally long: source has 2, target has 1", {"source": ["a", "b"], "target": ["c"]})
         with self.assertRaisesRegex(TypeError, "and not int"):
             self.store().load(7, by="set")
 

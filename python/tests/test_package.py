@@ -18,7 +18,7 @@ import zipfile
 from support import HERE, TOP, Case, find_program, optional
 
 import misteluk
-from misteluk import errors
+from misteluk import errors, find_library
 from misteluk.command.doctor import made
 
 sys.path.insert(0, str(HERE.parent))
@@ -102,7 +102,7 @@ class Wheels(Case):
 
 @unittest.skipUnless(HAS_PIP, "pip is not there")
 class Installs(Case):
-    """Over a copy of the package, with a stand-in where the clone has its program."""
+    """Over a copy of the package, with a stand-in where the clone has its program, and this library as the one that is made."""
 
     def setUp(self):
         super().setUp()
@@ -111,12 +111,16 @@ class Installs(Case):
         for it in TOP.glob("LICENSE-*"):
             shutil.copy(it, self.top)
 
-    def program(self, place: str) -> pathlib.Path:
-        """A script that runs this program, at that place of the copy."""
+    def program(self, place: str, library: str = find_library()) -> pathlib.Path:
+        """A script that runs this program, at that place of the copy; as the clone's it says where the library is, or nothing."""
         path = self.top / place
         path.parent.mkdir(exist_ok=True)
-        path.write_text(f'#!/bin/sh\nexec {find_program()} "$@"\n')
+        told = f"echo '{library}'" if library else "exit 1"
+        path.write_text(f'#!/bin/sh\n[ "$*" = "library --where" ] && {{ {told}; exit; }}\nexec {find_program()} "$@"\n')
         path.chmod(0o755)
+        if place.startswith("bin/"):
+            (self.top / "lib").mkdir(exist_ok=True)
+            shutil.copy(library, self.top / "lib")
         return path
 
     def install(self, *words, env=None) -> None:
@@ -140,7 +144,8 @@ class Installs(Case):
         self.assertEqual(self.listing(), before)
         told = self.ask("import misteluk; print(misteluk.find_program()); print(misteluk.Store().stat().free)")
         self.assertIn(f"{self.there}/misteluk/bin/stinger\n", told)
-        self.assertTrue(told.endswith("16384\n"), told)
+        self.assertTrue(told.endswith("65536\n"), told)
+        self.assertEqual((self.there / "misteluk/lib/libmisteluk.so").read_bytes(), pathlib.Path(find_library()).read_bytes())
 
     def test_a_wheel_of_a_clone_where_nothing_is_proved(self):
         self.program("stinger")
@@ -166,11 +171,11 @@ class Installs(Case):
         self.assertEqual((self.there / "misteluk/bin/stinger").read_bytes(), program.read_bytes())
         self.assertTrue(os.access(self.there / "misteluk/bin/stinger", os.X_OK))
 
-    def doctor(self) -> str:
-        """What is told of the program that was installed."""
-        found = run(sys.executable, "-B", "-m", "misteluk", "doctor", "--engine", "program", cwd="/",
-                    env={"PATH": "", "HOME": str(self.room), "PYTHONPATH": str(self.there)}).stdout
-        return next(it for it in found.splitlines() if it.startswith("program: "))
+    def doctor(self, *words: str, **env: str) -> list:
+        """What is told of what was installed, and the status."""
+        done = run(sys.executable, "-B", "-m", "misteluk", "doctor", *words, cwd="/",
+                   env={"PATH": "", "HOME": str(self.room), "PYTHONPATH": str(self.there), **env})
+        return [*done.stdout.splitlines(), done.returncode]
 
     def test_the_doctor_tells_what_was_proved(self):
         """By the archive's page, which an install writes a note by; and nothing where there is none."""
@@ -183,12 +188,55 @@ class Installs(Case):
                     wanted_here = "not proved (" if "UN" in page else "proved ("
                     self.assertTrue(made(str(program)).startswith(wanted_here))
                 self.install("--upgrade", self.top / "python")
-                self.assertTrue(self.doctor().endswith(wanted), self.doctor())
+                found = self.doctor("--engine", "program")
+                self.assertIn(f"program: {self.there}/misteluk/bin/stinger; {self.proved(wanted)}", found)
+                self.assertIn(f"library: {self.there}/misteluk/lib/libmisteluk.so; {self.proved(wanted)}; interface 1", found)
 
-    def test_without_a_program(self):
+    def proved(self, told: str) -> str:
+        return told if told.startswith("proved") else f"compiled, or of elsewhere: {told}"
+
+    def test_without_a_library(self):
+        """In a clone where it isn't made, or isn't of the sources as they are, and in an archive that lacks it: pip says what to
+        do, and installs nothing. It does once the library is there."""
+        by_hand = run(sys.executable, "-c", "import wheels; wheels.build_wheel('.')", cwd=self.top / "python")
+        self.program("bin/stinger")
+        shutil.rmtree(self.top / "lib")
+        of_archive = run(sys.executable, "-c", "import wheels; wheels.build_wheel('.')", cwd=self.top / "python")
+        self.program("stinger", library="")
+        by_pip = run(sys.executable, "-m", "pip", "install", "--no-index", "--disable-pip-version-check", "--target", self.there,
+                     self.top / "python", cwd=self.room)
+        for done in (by_hand, of_archive, by_pip):
+            self.assertNotEqual(done.returncode, 0)
+            self.assertIn(f"misteluk: no library of the sources as they are is in {self.top}, and the package needs it: run "
+                          "./stinger library there, which makes it, and then pip install ./python; without rt, install the wheel "
+                          "of a release", " ".join(done.stdout.split()))
+            self.assertNotIn("Traceback", done.stdout)
+        self.assertEqual([*self.top.rglob("*.whl"), *self.room.glob("there/misteluk")], [])
+        self.program("stinger")
         self.install(self.top / "python")
-        told = self.ask("import os; os.environ['PATH'] = ''; import misteluk; misteluk.Store()")
-        self.assertIn("ProgramNotFound: no program stinger is here or on the PATH", told)
+        self.assertEqual(self.doctor()[-1], 0)
+
+    def test_the_doctor_without_a_library(self):
+        """It tells what was found, what is missing and the next step, and ends with a status of its own."""
+        self.install(self.room / wheels.build_sdist(str(self.room)))
+        none = "no store can be made without the library: its line above says what to do"
+        told = self.ask("import misteluk; misteluk.Store()")
+        self.assertIn("LibraryNotFound: no libmisteluk.so is here. Make it by ./stinger library in the repository, or install the "
+                      "wheel of a release, or have MISTELUK_LIBRARY name a libmisteluk.so", told)
+        found = self.doctor()
+        self.assertIn("engine: library", found)
+        self.assertTrue(any(it.startswith("library: no libmisteluk.so is here. Make it by") for it in found[:-1]), found)
+        self.assertTrue(any(it.startswith("program: no program stinger is here") for it in found[:-1]), found)
+        self.assertEqual(found[-2:], [none, 1])
+        found = self.doctor(MISTELUK_LIBRARY="/no/such.so")
+        self.assertIn("MISTELUK_LIBRARY is /no/such.so", found)
+        self.assertTrue(any(it.startswith("library: no file /no/such.so (named by MISTELUK_LIBRARY) is there. Have") for it in
+                            found[:-1]), found)
+        self.assertEqual(found[-2:], [none, 1])
+        found = self.doctor("--engine", "program")
+        self.assertEqual(found[-2:], [none.replace("library", "program"), 1])
+        found = self.doctor(MISTELUK_LIBRARY=find_library())
+        self.assertEqual((found[2:3], found[-1]), (["engine: library"], 0))
 
     def test_an_editable_one(self):
         name = wheels.build_editable(str(self.room))
@@ -211,7 +259,7 @@ class Installs(Case):
         self.assertFalse((self.room / "ran").exists())
         self.assertEqual([str(it) for it in self.there.rglob("LICENSE-STRANGE")], [])
         self.assertEqual(self.ask("import misteluk; print(misteluk.__version__)").strip(), misteluk.__version__)
-        self.assertFalse((self.there / "misteluk/bin").exists())
+        self.assertEqual([it for it in ("bin", "lib") if (self.there / "misteluk" / it).exists()], [])
         about = next(self.there.glob("*.dist-info"))
         self.assertTrue((about / "LICENSE-MIT").is_file())
 

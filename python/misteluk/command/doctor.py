@@ -41,24 +41,30 @@ def limits_of(name: str) -> str:
             "blocks")
 
 
+def find(what: str, program: Optional[Path]) -> Tuple[str, bool]:
+    """Where an engine is, and by what it was made, or what is missing and the next step; and whether it can be had."""
+    try:
+        path = find_library() if what == LIBRARY else find_program(program)
+        if what == LIBRARY:
+            opened(path)
+    except StoreError as fault:
+        return str(fault), False
+    return f"{path}; {made(path)}" + (f"; interface {interface.INTERFACE}" if what == LIBRARY else ""), True
+
+
 def look(engine: Optional[str], program: Optional[Path]) -> Tuple[List[str], bool]:
     """What is told, and whether a store can be made."""
     told = [f"misteluk {VERSION} on Python {platform.python_version()}, {platform.system()} {platform.machine()}"]
     told += [f"{it} is {os.environ[it]}" for it in (VARIABLE, OF_LIBRARY, OF_PROGRAM) if it in os.environ]
     try:
-        name, why = choose(engine, program)
-        told.append(f"engine: {name}, since {why}" if name == LIBRARY or engine or program else
-                    f"engine: program, since the library can't be loaded: {why}")
+        name = choose(engine, program)
     except ValueError as fault:
         return [*told, str(fault)], False
-    for what in (LIBRARY, PROGRAM):
-        try:
-            path = find_library() if what == LIBRARY else find_program(program)
-            if what == LIBRARY:
-                opened(path)
-            told.append(f"{what}: {path}; {made(path)}" + (f"; interface {interface.INTERFACE}" if what == LIBRARY else ""))
-        except StoreError as fault:
-            told.append(f"{what}: {fault}")
+    told.append(f"engine: {name}")
+    found = {it: find(it, program) for it in (LIBRARY, PROGRAM)}
+    told += [f"{it}: {text}" for it, (text, _) in found.items()]
+    if not found[name][1]:
+        return [*told, f"no store can be made without the {name}: its line above says what to do"], False
     try:
         with Store(engine=name, program=program) as store:
             store.insert("kind", "a", "b")

@@ -50,7 +50,7 @@ def form_of_feed(words: argparse.Namespace) -> Dict[str, Any]:
 def read(words: argparse.Namespace) -> Survey:
     rejects = words.rejects if "rejects" in words else None
     found = survey(words.file, batch=words.batch, rounding=words.rounding, rejects=rejects, **form_of_feed(words))
-    is_program = choose(words.engine, words.program)[0] == PROGRAM
+    is_program = choose(words.engine, words.program) == PROGRAM
     check(found, skip_bad=words.skip_bad, **(OF_RUN if is_program else {}))
     return found
 
@@ -62,7 +62,7 @@ def engine_of(words: argparse.Namespace) -> Dict[str, Any]:
 
 def make_store(words: argparse.Namespace, found: Survey, holds: bool = False) -> Store[Any, Any]:
     """A store with the blocks that are said, or else enough: a program has as many as there can be where versions are held."""
-    if choose(words.engine, words.program)[0] == LIBRARY:
+    if choose(words.engine, words.program) == LIBRARY:
         return Store(blocks=words.blocks, **engine_of(words))
     return Store(blocks=words.blocks or (records.MOST_BLOCKS if holds else found.fitting()), **engine_of(words))
 
@@ -166,7 +166,7 @@ def run_fleet(words: argparse.Namespace) -> int:
 
 
 def run_follow(words: argparse.Namespace) -> int:
-    is_endless = choose(words.engine, words.program)[0] == LIBRARY
+    is_endless = choose(words.engine, words.program) == LIBRARY
     blocks = words.blocks or (None if is_endless else records.MOST_BLOCKS)
     with Store(blocks=blocks, endless=is_endless, rounding=words.rounding, **engine_of(words)) as store:
         return telling.follow(words, store, form_of_feed(words))

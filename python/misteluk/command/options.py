@@ -62,7 +62,8 @@ def add_feed_options(parser: argparse.ArgumentParser, blocks: Optional[str] = BL
     feed.add_argument("--delimiter", help="else the comma, tab, semicolon or bar of which the first line has most")
     feed.add_argument("--header", action=argparse.BooleanOptionalAction, help="else there is one where columns are named")
     feed.add_argument("--encoding", default="utf-8", help="the file's, as cp1252, latin-1 or utf-16 (utf-8)")
-    feed.add_argument("--decimal", choices=DECIMALS, default=".", help="the sign before decimals: , takes 12,50 and 1.234,50 (.)")
+    feed.add_argument("--decimal", choices=DECIMALS, default=".", help="the sign before decimals: . takes 12.50 and "
+                      "1,234.50; , takes 12,50 and 1.234,50 (.)")
     feed.add_argument("--dates", choices=TIMES, help="times are dates of this form, which a time of day may follow, or numbers "
                       "since 1970; else --times iso takes 2024-03-05")
     if edge_lists:
@@ -127,7 +128,7 @@ def add_what_then(parser: argparse.ArgumentParser, ask: Any) -> None:
 
 def add_engine(store: Any) -> None:
     store.add_argument("--engine", choices=ENGINES, help="the store in this process, or a program in one of its own; else "
-                       "MISTELUK_ENGINE, or the library where it can be loaded (`misteluk doctor`)")
+                       "what MISTELUK_ENGINE says, or the library (see `misteluk doctor`)")
 
 
 def add_program_alone(store: Any) -> None:

@@ -2,6 +2,7 @@
 from __future__ import annotations
 
 import os
+import platform
 import threading
 from array import array
 from ctypes import c_uint64
@@ -9,6 +10,7 @@ from itertools import chain
 from typing import Any, Dict, List, NamedTuple, Optional, Tuple
 
 from . import interface
+from .finding import next_step
 from .guard import Notes, Owned, Step
 from .interface import Code, Library
 from .operations import INSERT, REMOVE, Numbered, Operations
@@ -31,7 +33,10 @@ def opened(path: str) -> "Tuple[Library, Handles]":
         try:
             _OPENED[key] = Library(path), Handles(Notes(), Notes(), Notes())
         except OSError as fault:
-            raise LibraryNotFound(f"no library can be loaded: {fault}") from fault
+            # (the C library says of a file of another machine that it isn't there)
+            is_other = "No such file" in str(fault) and os.path.isfile(path)
+            why = f" (it is there, of another machine than {platform.machine()}, or needs what isn't here)" if is_other else ""
+            raise LibraryNotFound(f"no library can be loaded: {fault}{why}. {next_step()}") from fault
     return _OPENED[key]
 
 

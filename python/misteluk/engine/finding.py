@@ -13,6 +13,15 @@ LIBRARY = "libmisteluk.so"
 Path = Union[str, "os.PathLike[str]"]
 
 
+def next_step() -> str:
+    """What to do where there is no library, or the wrong one."""
+    if os.environ.get(OF_LIBRARY):
+        return (f"Have {OF_LIBRARY} name another one, or unset it: then the package's own is loaded, or the one that ./stinger "
+                "library makes in the repository")
+    return (f"Make it by ./stinger library in the repository, or install the wheel of a release, or have {OF_LIBRARY} name a "
+            f"{LIBRARY}")
+
+
 def find_program(program: Optional[Path] = None) -> str:
     """The program that is run: the one that is named, else that of the variable MISTELUK_PROGRAM, else the one that was installed
     with this package, else `./stinger` of the repository or `bin/stinger` of the archive that it stands in, else `stinger` on the
@@ -38,9 +47,12 @@ def find_program(program: Optional[Path] = None) -> str:
 def find_library(library: Optional[Path] = None) -> str:
     """The library that is loaded: the one that is named, else that of the variable MISTELUK_LIBRARY, else the one that was
     installed with this package, else the repository's, proved or compiled, which is the later one, or that of the archive that it
-    stands in."""
+    stands in. Raises `LibraryNotFound` where there is none, also where the one that is named isn't there."""
     named = library or os.environ.get(OF_LIBRARY)
     if named:
+        if not os.path.isfile(named):
+            whose = "" if library else f" (named by {OF_LIBRARY})"
+            raise LibraryNotFound(f"no file {os.fspath(named)}{whose} is there. {next_step()}")
         return os.path.abspath(named)
     here = pathlib.Path(__file__).resolve().parents[1]
     top = here.parents[1]
@@ -49,5 +61,4 @@ def find_library(library: Optional[Path] = None) -> str:
     for it in (here / "lib" / LIBRARY, *made, top / "lib" / LIBRARY):
         if it.is_file():
             return str(it)
-    raise LibraryNotFound(f"no {LIBRARY} is here: ./stinger library makes it in the repository, and the variable {OF_LIBRARY} "
-                          "names another")
+    raise LibraryNotFound(f"no {LIBRARY} is here. {next_step()}")

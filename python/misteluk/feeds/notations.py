@@ -6,6 +6,7 @@ from datetime import date
 from typing import Dict, Iterator, NamedTuple, Optional
 
 from .feed import Block, Feed, Table, came_of
+from ..values.texts import together
 from ..values.units import EPOCH, MICROSECOND, each_once
 
 DECIMALS = (".", ",")
@@ -21,9 +22,6 @@ TIMES = (*DATES, *SINCE_1970)
 _SINCE = re.compile(r"(\d{1,17})(?:\.(\d{1,15}))?", re.A)
 _WHOLE = re.compile(r"[-+]?\d+", re.A)
 _FRACTION = re.compile(r"[-+]?\d+,\d+", re.A)
-# Thousands may be parted where there is no doubt of it: where a comma follows, or where there are two signs that part them.
-_PARTED = re.compile(r"[-+]?\d{1,3}(?:([.' \u00a0\u202f])\d{3})(?:(?:\1\d{3})*,\d+|(?:\1\d{3})+)", re.A)
-_SIGNS_BETWEEN = re.compile(r"[.' \u00a0\u202f]")
 
 
 class Notation(NamedTuple):
@@ -84,11 +82,9 @@ def date_since(text: str, unit: str) -> str:
 def pointed(text: str) -> Optional[str]:
     """The number as 1234.50 that is written 1234,50 or 1.234,50; `None` for what isn't surely one of these, as 1.234."""
     number = text.strip()
-    if _PARTED.fullmatch(number):
-        number = _SIGNS_BETWEEN.sub("", number)
-    elif not (_WHOLE.fullmatch(number) or _FRACTION.fullmatch(number)):
-        return None
-    return number.replace(",", ".")
+    if _WHOLE.fullmatch(number) or _FRACTION.fullmatch(number):
+        return number.replace(",", ".")
+    return together(number, ",")
 
 
 def with_point(text: str) -> str:

@@ -1,21 +1,25 @@
 """Graphs of networkx, pandas frames, columns and rows of Python as feeds."""
 from __future__ import annotations
 
+import reprlib
 import warnings
 from itertools import chain
-from typing import Any, Callable, Dict, Iterable, Iterator, List, Mapping, Sequence, Tuple
+from typing import AbstractSet, Any, Callable, Dict, Iterable, Iterator, List, Mapping, Sequence, Tuple
 
 from . import feed as feeds
 from .delimited import Picked, warn_of_unread
 from ..errors import FeedFault, LeftOut
 from .feed import USUAL_KIND, Block, Columns, Feed, Row, Table, parts_of
-from ..values.units import whole_text
+from ..values import texts
+
+# What holds bytes, which are no text.
+BYTES = (bytes, bytearray, memoryview)
 
 
 def is_missing(value: Any) -> bool:
-    """Whether a value of a frame or graph stands for none: `None`, not a number, not a time, or pandas' `NA`."""
+    """Whether a value of a frame or graph stands for none: `None`, not a number, not a time, pandas' `NA`, or what is masked."""
     try:
-        return value is None or bool(value != value)
+        return value is None or bool(value != value) or type(value).__name__ == "MaskedConstant"
     except (TypeError, ArithmeticError):  # (pandas' NA is neither equal to itself nor unequal)
         return True
     except ValueError:  # (an array has many values)
@@ -23,13 +27,60 @@ def is_missing(value: Any) -> bool:
 
 
 def text_of(value: Any) -> str:
-    """The value as a feed's text: a float that is whole as a whole number, and a missing value as an empty text, which no field
-    takes."""
-    if isinstance(value, str):
-        return value
-    if is_missing(value):
-        return ""
-    return whole_text(value)
+    """The value as a feed's text; of a missing value an empty one, which no field takes."""
+    return "" if not isinstance(value, str) and is_missing(value) else texts.text_of(value)
+
+
+def texts_of(values: Sequence[Any], feed: str, begin: int) -> Sequence[str]:
+    """Many values as a feed's texts; the first is of the row of this number. Raises `FeedFault` where one of them is no value."""
+    kinds = set(map(type, values))
+    if kinds <= {str, int}:
+        return values if kinds <= {str} else list(map(str, values))
+    for kind in filter(_reason_against, kinds):
+        at, value = next((at, it) for at, it in enumerate(values, begin) if type(it) is kind)
+        raise FeedFault(f"{feed}:{at}: {reprlib.repr(value)}: {_reason_against(kind)}")
+    return [text_of(it) for it in values]
+
+
+def _reason_against(kind: type) -> str:
+    """Why values of a type stand for no text; nothing where they do."""
+    if issubclass(kind, BYTES):
+        return ("bytes are no text: decode them, as value.decode('utf-8'), numpy.char.decode(array, 'utf-8') or "
+                "frame[column].str.decode('utf-8')")
+    is_array = hasattr(kind, "ndim") and hasattr(kind, "__len__") and not issubclass(kind, str)
+    if is_array and kind.__name__ != "MaskedConstant":
+        return "an array where one value stands: give each column by itself, as array[:, 0]"
+    return ""
+
+
+def _column(name: str, values: Any) -> List[Any]:
+    """The values of a column. Raises `FeedFault` where it isn't one value after another."""
+    told = f"columns: the column {name!r} is"
+    if isinstance(values, (str, *BYTES, Mapping, AbstractSet)) or not isinstance(values, Iterable):
+        raise FeedFault(f"{told} {type(values).__name__}, {reprlib.repr(values)}: give a list or array, which has a value for "
+                        "each row")
+    must_not_be_masked(values, told)
+    if getattr(values, "ndim", 1) != 1:
+        raise FeedFault(f"{told} an array of {values.ndim} dimensions: give each column by itself, as array[:, 0]")
+    return values_of(values)
+
+
+def must_not_be_masked(values: Any, told: str) -> None:
+    """Raises `FeedFault` for an array of numpy that is masked: what stands behind the mask is no value."""
+    if hasattr(values, "mask") and hasattr(values, "filled"):
+        raise FeedFault(f"{told} a masked array: leave its masked rows out, as array[~array.mask] of each column, or fill them "
+                        "(.filled(value))")
+
+
+def values_of(column: Any) -> List[Any]:
+    """The values of a column, of an array or frame those of Python where they are told the same: floats of less than 64 bits are
+    not, since 0.1 of 32 bits is 0.10000000149011612 of 64."""
+    dtype: Any = getattr(column, "dtype", None)
+    if type(dtype).__module__.partition(".")[0] != "numpy":
+        return list(column)
+    values = column if not hasattr(column, "to_numpy") else column.to_numpy() if dtype.kind == "f" else column
+    is_same = dtype.kind in "iuU" or dtype == "float64"
+    return list(values.tolist() if is_same else values)
 
 
 def from_networkx(graph: Any, *, kind: str = USUAL_KIND, weight: str = "weight", time: str = "time", kind_of: str = "kind",
@@ -38,6 +89,10 @@ def from_networkx(graph: Any, *, kind: str = USUAL_KIND, weight: str = "weight",
     one that has none, but both times that `to_networkx` writes, is its `recent`. An edge of an undirected graph is one either
     way, or with `both_ways=False` one way alone. Nodes are named by `str`; those without an edge are left out, which a warning
     tells (`LeftOut`). An edge of which a node or an attribute is missing (`None`, not a number) is a bad row."""
+    name = f"graph {graph.name}".strip()
+    for it in graph:
+        if _reason_against(type(it)):
+            raise FeedFault(f"{name}: node {it!r}: {_reason_against(type(it))}")
     names: Dict[Any, str] = {it: "" if is_missing(it) else str(it) for it in graph}
     known = [it for it in names.values() if it]
     if len(set(known)) < len(known):
@@ -47,11 +102,11 @@ def from_networkx(graph: Any, *, kind: str = USUAL_KIND, weight: str = "weight",
     def rows() -> Iterator[Row]:
         for at, (source, target, told) in enumerate(graph.edges(data=True), 1):
             usual = told["recent"] if time == "time" and "first" in told and "recent" in told else 0
-            rest = text_of(told.get(weight, 1)), text_of(told.get(time, usual))
-            yield (at, text_of(told.get(kind_of, kind)), names[source], names[target], *rest)
+            of_kind, *rest = texts_of((told.get(kind_of, kind), told.get(weight, 1), told.get(time, usual)), name, at)
+            yield (at, of_kind, names[source], names[target], rest[0], rest[1])
             if both_ways and not graph.is_directed() and source != target:
-                yield (at, text_of(told.get(kind_of, kind)), names[target], names[source], *rest)
-    return Feed(f"graph {graph.name}".strip(), rows())
+                yield (at, of_kind, names[target], names[source], rest[0], rest[1])
+    return Feed(name, rows())
 
 
 def _warn_of_idle(names: Sequence[str]) -> None:
@@ -64,12 +119,12 @@ def _warn_of_idle(names: Sequence[str]) -> None:
 def from_pandas(frame: Any, columns: Columns = Columns()) -> Feed:
     """A pandas frame. A row with a missing value (`None`, NaN, NaT, NA) in one of the columns is a bad row."""
     names = [str(it) for it in frame.columns]
-    return Feed("frame", Table(lambda: _blocks("frame", columns, names, lambda at: list(frame.iloc[:, at]), len(frame))))
+    return Feed("frame", Table(lambda: _blocks("frame", columns, names, lambda at: values_of(frame.iloc[:, at]), len(frame))))
 
 
 def from_columns(table: Mapping[str, Iterable[Any]], columns: Columns = Columns()) -> Feed:
     """Columns by name, as a dict of lists or arrays, each as long as the others. Missing values are as in `from_pandas`."""
-    found = {str(name): list(values) for name, values in table.items()}
+    found = {str(name): _column(str(name), values) for name, values in table.items()}
     if len(set(map(len, found.values()))) > 1:
         raise FeedFault(f"the columns aren't equally long: {', '.join(f'{name} has {len(it)}' for name, it in found.items())}")
     values = list(found.values())
@@ -84,21 +139,16 @@ def _blocks(feed: str, columns: Columns, names: List[str], column: Callable[[int
     taken = {place: column(place) for place in picked.places if place is not None} if size else {}
     for at in range(0, size, feeds.ROWS_AT_ONCE):
         end = min(at + feeds.ROWS_AT_ONCE, size)
-        yield picked.of_columns(range(at + 1, end + 1), {place: texts_of(it[at:end]) for place, it in taken.items()})
-
-
-def texts_of(values: Sequence[Any]) -> Sequence[str]:
-    """Many values as a feed's texts."""
-    kinds = set(map(type, values))
-    if kinds <= {str, int}:
-        return values if kinds <= {str} else list(map(str, values))
-    return [text_of(it) for it in values]
+        yield picked.of_columns(range(at + 1, end + 1), {place: texts_of(it[at:end], feed, at + 1)
+                                                                 for place, it in taken.items()})
 
 
 def from_rows(rows: Iterable[Any], columns: Columns = Columns()) -> Feed:
     """Rows, as tuples or dicts. A tuple has the source, the target, and then, where there are more, the weight, the time and the
     kind, unless `columns` says other numbers; each has as many as the first. Of a dict `columns` says the names. Missing values
     are as in `from_pandas`, and so is a name that a dict doesn't have."""
+    must_not_be_masked(rows, "rows: this is")
+
     def blocks() -> Iterator[Block]:
         given = iter(rows)
         first = next(given, None)
@@ -111,9 +161,9 @@ def from_rows(rows: Iterable[Any], columns: Columns = Columns()) -> Feed:
             if names or not set(map(type, part)) <= {tuple, list} or set(map(len, part)) != {width}:
                 part = list(_even(part, begin, names, width))
             if set(map(len, part)) == {len(part[0])} and len(part[0]) >= picked.least:
-                yield picked.of_columns(range(begin, end + 1), list(map(texts_of, zip(*part))))
+                yield picked.of_columns(range(begin, end + 1), [texts_of(it, "rows", begin) for it in zip(*part)])
             else:
-                yield from picked.of_rows([(list(map(text_of, row)), at) for at, row in enumerate(part, begin)])
+                yield from picked.of_rows([(texts_of(row, "rows", at), at) for at, row in enumerate(part, begin)])
     return Feed("rows", Table(blocks))
 
 

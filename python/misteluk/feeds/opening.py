@@ -25,10 +25,10 @@ class ReadAs(NamedTuple):
     and .txt an edge list where it begins with #. `columns`, `delimiter`, `header` are of delimited files (see `delimited`),
     `columns` of frames and rows too, `third` of edge lists (see `snap`), `both_ways` of undirected graphs (see `from_networkx`).
 
-    `encoding` is a file's, by Python's name. `decimal` is "," where a file has amounts as 12,50 or 1.234,50; then 1.234 alone is
-    a bad amount, since it may be either. No form is guessed. `dates` is "dd.mm.yyyy", "dd/mm/yyyy" or "mm/dd/yyyy" where times
-    are such dates, which a time of day may follow; it is "seconds", "milliseconds" or "microseconds" where they are numbers of
-    them since 1970. They are read as with `times="iso"`.
+    `encoding` is a file's, by Python's name. `decimal` is "." where a file has amounts as 12.50 or 1,234.50; then 1,234 alone is
+    a bad amount, since it may be either. It is "," for 12,50 or 1.234,50, and then 1.234 is the bad one. No form is guessed.
+    `dates` is "dd.mm.yyyy", "dd/mm/yyyy" or "mm/dd/yyyy" where times are such dates, which a time of day may follow; it is
+    "seconds", "milliseconds" or "microseconds" where they are numbers of them since 1970. They are read as with `times="iso"`.
 
     `names="escape"` writes names with escapes (see `turned`). `weight_scale` and `times` say the units of a store that has none
     yet (see `Store`), and must be those of one that has; without them the feed is in the store's. `rounding="half-even"` rounds

@@ -3,6 +3,7 @@ from __future__ import annotations
 
 import re
 from datetime import timedelta
+from fractions import Fraction
 from typing import Optional, Union
 
 from ..values import records
@@ -14,17 +15,21 @@ Span = Union[str, int, float, timedelta]
 USUAL_AHEAD = 86_400_000_000
 _UNITS = {"years": 31_556_952_000_000, "days": USUAL_AHEAD, "hours": 3_600_000_000, "minutes": 60_000_000, "seconds": 1_000_000}
 _SPAN = re.compile(r"(\d+(?:\.\d+)?)(ms|s|m|h|d|w)", re.A)
-_LENGTHS = {"ms": timedelta(milliseconds=1), "s": timedelta(seconds=1), "m": timedelta(minutes=1), "h": timedelta(hours=1),
-            "d": timedelta(days=1), "w": timedelta(weeks=1)}
+# How many microseconds each has.
+_LENGTHS = {"ms": 1_000, "s": 10 ** 6, "m": 60 * 10 ** 6, "h": 3_600 * 10 ** 6, "d": 86_400 * 10 ** 6, "w": 604_800 * 10 ** 6}
 
 
 def span(text: str) -> timedelta:
-    """A length of time: `500ms`, `1.5s`, `10m` (minutes), `12h`, `14d`, `2w`. Raises `ValueError` for another text."""
+    """A length of time: `500ms`, `1.5s`, `10m` (minutes), `12h`, `14d`, `2w`. Raises `ValueError` for another text, and for one
+    that is no whole number of microseconds."""
     found = _SPAN.fullmatch(text)
     if not found:
         raise ValueError(f"a length of time is a number with ms, s, m, h, d or w behind it, as 500ms or 14d, and not {text!r}")
+    length = Fraction(found[1]) * _LENGTHS[found[2]]
+    if length.denominator != 1:
+        raise ValueError(f"a length of time is a whole number of microseconds, and {text} isn't")
     try:
-        return _LENGTHS[found[2]] * float(found[1])
+        return timedelta(microseconds=int(length))
     except OverflowError:
         raise ValueError(f"{text} is longer than Python's times are") from None
 
@@ -66,5 +71,7 @@ def kept_time(keep: Optional[Span], units: Units, what: str = "keep") -> Optiona
     if isinstance(keep, timedelta) != units.has_dates:
         raise ValueError(f"{what} is a length of time, as 14d, since times are dates here" if units.has_dates else
                          f"{what} is a whole number of what the times count, since they are no dates here (--times iso)")
+    if isinstance(keep, float) and not keep.is_integer():
+        raise ValueError(f"{what} is a whole number of what the times count, and not {keep}")
     length = keep // MICROSECOND if isinstance(keep, timedelta) else int(keep)
     return within(what, length, 0, records.MOST_TIME)

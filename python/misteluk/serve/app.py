@@ -5,6 +5,7 @@ import csv
 import io
 import json
 import pkgutil
+import re
 from typing import Any, Callable, Dict, Iterator, List, Mapping, Optional, Sequence, Tuple
 
 from starlette.applications import Starlette
@@ -28,9 +29,11 @@ from .questions import AT_ONCE, HELD, QUESTIONS, QUICK, WHOLE, ServedQuestion
 from ..engine.protocol import Denied
 from ..page.page import style
 from ..errors import Busy, NoKind, NoMemory, NoVertex, PoolEmpty, Refused, SessionClosed, StoreError
-from ..values.units import whole_text
+from ..values.texts import text_of
 
 QUICK_THREADS = 4
+# A date in an address, behind which + and a colon stand as they are: a zone or a time of day.
+_ZONE_OR_TIME = re.compile(r"(?:^|&)(?:since|until)=\d{4}-\d\d-\d\d\+\d\d:", re.A)
 
 
 class Api:
@@ -91,6 +94,8 @@ class Api:
 
         async def handle(request: Request) -> Any:
             given: Dict[str, Any] = {}
+            if _ZONE_OR_TIME.search(request.url.query):
+                raise ValueError("a + in an address stands for a space: write %2B before a zone, and T before a time of day")
             for name, text in request.query_params.multi_items():
                 if name not in parameters or name in given:
                     raise ValueError(f"{question.name} takes each of these once: {', '.join(parameters)}")
@@ -267,5 +272,5 @@ def _rows_of_json(found: Any) -> "Sequence[Sequence[str]]":
 def _field(at: int, value: Any) -> str:
     """A field's text; numbers stand for weights and times alone."""
     if isinstance(value, str) or type(value) in (int, float) and (at > 3 or at == 1):
-        return whole_text(value)
+        return text_of(value)
     raise ValueError("a row has texts, and numbers as weight or time")

@@ -3,49 +3,40 @@ from __future__ import annotations
 
 import re
 from array import array
-from datetime import date, datetime, timedelta, timezone
+from datetime import date, datetime, timezone
 from decimal import Decimal, InvalidOperation
 from fractions import Fraction
 from typing import Any, Callable, NamedTuple, Optional, Sequence, Union
 
 from . import records
 from .answers import Edge
+from .dates import MICROSECOND, all_microseconds, microseconds_of
+from .texts import together
 
 Amount = Union[int, float, Decimal, str]
 Moment = Union[int, str, date]
 EPOCH = datetime(1970, 1, 1, tzinfo=timezone.utc)
-_EPOCH_WITHOUT_ZONE = datetime(1970, 1, 1)
-MICROSECOND = timedelta(microseconds=1)
 NUMBER, ISO = "number", "iso"
 HALF_EVEN = "half-even"
-_WITH_FRACTION = re.compile(r"([^.,]*[T ]\d\d:\d\d:\d\d)[.,](\d+)((?:[Zz]|[+-][^.,]*)?)", re.A)
-_A_DAY = re.compile(r"\d{4}-\d{2}-\d{2}")
+_DECIMAL = re.compile(r"[-+]?(?:[0-9]+\.?[0-9]*|\.[0-9]+)(?:[eE]([-+]?[0-9]+))?")
 # How many signs a number may have that is looked at: a longer one is beyond every limit, and takes long.
 MOST_SIGNS = 400
 
 
-def whole_text(value: object) -> str:
-    """The value as a text; of a float that is whole that of the whole number, as 5 of 5.0."""
-    return str(int(value)) if isinstance(value, float) and value.is_integer() else str(value)
+def _decimal(text: str) -> Decimal:
+    """The number that a text is. Raises `ValueError` for another text, and for one that would take long."""
+    found = _DECIMAL.fullmatch(text) if len(text) <= MOST_SIGNS else None
+    try:
+        if found and int(found[1] or 0) > -MOST_SIGNS:
+            return Decimal(text)
+    except InvalidOperation:  # (it has a power that no number has)
+        pass
+    raise ValueError("a weight is a decimal number")
 
 
 def _places_of(scale: int) -> Optional[int]:
     """How many decimal places a part of so many has: 2 for a hundredth, 3 for an eighth; `None` where they have no end."""
     return next((it for it in range(64) if 10 ** it % scale == 0), None)
-
-
-def to_date(text: str) -> datetime:
-    """The time of a date, as 2024-05-01 or 2024-05-01T12:00:00.250+02:00, in UTC where no zone is said. Raises `ValueError` for
-    another text, and where it has more than microseconds, which would be cut off."""
-    found = _WITH_FRACTION.fullmatch(text.strip())
-    plain, digits = (found[1] + found[3], found[2]) if found else (text.strip(), "")
-    if len(digits.rstrip("0")) > 6:
-        raise ValueError("has more than microseconds")
-    if "." in plain or "," in plain:  # (Python would cut off what is beyond its sixth digit)
-        raise ValueError("has a fraction of something else than a second")
-    when = datetime.fromisoformat(re.sub("[Zz]$", "+00:00", plain))
-    when = when if when.tzinfo else when.replace(tzinfo=timezone.utc)
-    return when + timedelta(microseconds=int(digits[:6].ljust(6, "0"))) if digits else when
 
 
 class Units(NamedTuple):
@@ -92,14 +83,10 @@ class Units(NamedTuple):
     # To the program: texts, of which each is the program's number; those that are none raise `ValueError` with the reason.
 
     def weight_to_program(self, text: str) -> str:
+        text = together(text.strip()) or text
         if self.weight_scale == 1 and self.rounding is None:
             return text
-        try:
-            value = Decimal(text.strip()) if len(text) <= MOST_SIGNS else None
-        except InvalidOperation:
-            value = None
-        if value is None or not value.is_finite():
-            raise ValueError("a weight is a decimal number")
+        value = _decimal(text.strip())
         limit = Decimal(records.MOST_WEIGHT) / self.weight_scale
         if not -limit <= value <= limit:
             raise ValueError(f"a weight is from -{limit} to {limit} (2^40 parts, of which one has {self.weight_scale})")
@@ -116,19 +103,7 @@ class Units(NamedTuple):
         the end of a window that has none."""
         if self.times == NUMBER or text in ("0", str(records.MOST_TIME)):
             return text
-        try:
-            when = to_date(text).astimezone(timezone.utc)
-        except OverflowError:
-            raise ValueError("a date is in the years 1970 to 9999") from None
-        except ValueError as fault:
-            cut = "microseconds" in str(fault)
-            raise ValueError("a date has at most microseconds, and what is beyond them would be cut off" if cut else
-                             "a time is a date here, as 2024-05-01 or 2024-05-01T12:00:00.250+02:00 (times='iso')") from None
-        if when < EPOCH:
-            raise ValueError("a date is not before 1970")
-        if is_end and _A_DAY.fullmatch(text.strip()):
-            when += timedelta(days=1) - MICROSECOND
-        return str((when - EPOCH) // MICROSECOND)
+        return str(microseconds_of(text, is_end=is_end))
 
     def weights_of(self, texts: Sequence[str]) -> "Sequence[Optional[int]]":
         """The program's weights for many texts; `None` for what is none."""
@@ -149,7 +124,7 @@ class Units(NamedTuple):
 
     def times_of(self, texts: Sequence[str]) -> "Sequence[Optional[int]]":
         """The program's times for many texts; `None` for what is none."""
-        found = records.whole_numbers(texts, "Q", 18) if self.times == NUMBER else _plain_dates(texts)
+        found = records.whole_numbers(texts, "Q", 18) if self.times == NUMBER else all_microseconds(texts)
         return found if found is not None else each_once(self._time_of, texts)
 
     def _time_of(self, text: str) -> Optional[int]:
@@ -212,21 +187,6 @@ def _with_places(texts: Sequence[str], places: int) -> "Optional[array[int]]":
     is_right = all(whole not in ("", "-") and len(rest) <= places for whole, _, rest in parted)
     most = records.MOST_WEIGHT
     return found if is_right and -most <= min(found) and max(found) <= most else None
-
-
-def _plain_dates(texts: Sequence[str]) -> "Optional[array[int]]":
-    """The microseconds since 1970 of dates, where it is seen at once that each is one, without a zone and a fraction of a second;
-    `None` for others, which may be some too."""
-    signs = "".join(texts)
-    if "." in signs or "," in signs:
-        return None
-    try:
-        found = list(map(datetime.fromisoformat, texts))
-    except ValueError:
-        return None
-    if not found or {it.tzinfo for it in found} != {None} or min(found) < _EPOCH_WITHOUT_ZONE:
-        return None
-    return array("Q", [(it - _EPOCH_WITHOUT_ZONE) // MICROSECOND for it in found])
 
 
 PLAIN = Units()

@@ -1,0 +1,178 @@
+"""Plain rows of values, each worked out by hand: lengths of time, parts of weights, ties, and what a difference sees."""
+import unittest
+from datetime import timedelta
+from decimal import Decimal
+from itertools import chain
+
+from support import Case
+
+from misteluk import Columns, Edge
+from misteluk.feeds.spans import kept_time, seconds_of, span
+from misteluk.values.units import Units
+
+# Each length of time, and its microseconds.
+SPANS = (("0s", 0), ("1ms", 1_000), ("0.5ms", 500), ("500ms", 500_000), ("1s", 1_000_000), ("1.5s", 1_500_000),
+         ("0.000001s", 1), ("6s", 6_000_000), ("1m", 60_000_000), ("10m", 600_000_000), ("0.5m", 30_000_000),
+         ("1h", 3_600_000_000), ("1.5h", 5_400_000_000), ("12h", 43_200_000_000), ("24h", 86_400_000_000),
+         ("1d", 86_400_000_000), ("14d", 1_209_600_000_000), ("0.25d", 21_600_000_000), ("1w", 604_800_000_000),
+         ("2w", 1_209_600_000_000))
+NO_SPANS = ("", "1", "s", "m", "1x", "1M", "1S", "1min", "1 s", " 1s", "-1s", "+1s", "1e3s", "1.s", ".5s", "1,5s", "1s1m",
+            "\u0661s", "0.0005ms", "0.0000001s", "999999999999w")
+# By scale, parts of a weight and the number that they are.
+PARTS = {100: ((-1, "-0.01"), (1, "0.01"), (-5, "-0.05"), (-10, "-0.10"), (-99, "-0.99"), (-100, "-1.00"), (-101, "-1.01"),
+               (-12_345, "-123.45"), (0, "0.00"), (9, "0.09"), (10, "0.10"), (100, "1.00"), (12_345, "123.45"),
+               (1 << 40, "10995116277.76"), (-(1 << 40), "-10995116277.76")),
+         10: ((-1, "-0.1"), (1, "0.1"), (-9, "-0.9"), (-10, "-1.0"), (-11, "-1.1"), (105, "10.5")),
+         1000: ((-1, "-0.001"), (-10, "-0.010"), (-999, "-0.999"), (-1_001, "-1.001"), (1_234, "1.234")),
+         8: ((-1, "-0.125"), (1, "0.125"), (-3, "-0.375"), (-8, "-1.000"), (-9, "-1.125"), (15, "1.875")),
+         1: ((-1, "-1"), (0, "0"), (7, "7"))}
+# By scale, numbers and the parts that they are rounded to: of two equally near ones the even one.
+HALVES = {100: (("0.005", 0), ("0.015", 2), ("0.025", 2), ("0.035", 4), ("0.985", 98), ("0.995", 100), ("1.005", 100),
+                ("1.015", 102), ("0.0049", 0), ("0.0051", 1), ("0.0149", 1), ("0.0151", 2), ("0.014", 1), ("0.016", 2)),
+          10: (("0.05", 0), ("0.15", 2), ("0.25", 2), ("0.35", 4), ("0.249", 2), ("0.251", 3)),
+          8: (("0.0625", 0), ("0.1875", 2), ("0.3125", 2), ("0.4375", 4), ("0.1", 1), ("0.2", 2)),
+          1: (("0.5", 0), ("1.5", 2), ("2.5", 2), ("3.5", 4), ("0.49", 0), ("0.51", 1), ("1.49", 1), ("2.51", 3))}
+
+
+class Spans(unittest.TestCase):
+    def test_lengths(self):
+        for text, micros in SPANS:
+            self.assertEqual(span(text), timedelta(microseconds=micros), text)
+            self.assertAlmostEqual(seconds_of(text) * 10 ** 6, micros, 3, text)
+            self.assertEqual(kept_time(text, Units(times="iso")), micros, text)
+
+    def test_what_is_no_length(self):
+        for text in NO_SPANS:
+            self.assertRaises(ValueError, span, text)
+            self.assertRaises(ValueError, kept_time, text, Units(times="iso"))
+
+    def test_seconds(self):
+        for said, seconds in ((2, 2), ("2", 2), ("2.5", 2.5), (0.25, 0.25), (timedelta(milliseconds=250), 0.25), (0, 0),
+                              (timedelta(minutes=1), 60)):
+            self.assertEqual(seconds_of(said), seconds, said)
+        for wrong in (-1, "-1", 1e9, float("nan"), float("inf"), timedelta(seconds=-1), "2x", ""):
+            self.assertRaises(ValueError, seconds_of, wrong)
+
+    def test_what_is_kept(self):
+        """In the times' own unit: microseconds of dates, and else a whole number."""
+        for keep, units, wanted in ((None, Units(), None), (5, Units(), 5), ("5", Units(), 5), (5.0, Units(), 5), (0, Units(), 0),
+                                    (timedelta(days=1), Units(times="iso"), 86_400_000_000)):
+            self.assertEqual(kept_time(keep, units), wanted, keep)
+        for keep, units in ((5.5, Units()), ("5.5", Units()), (-1, Units()), (float("nan"), Units()), ("1d", Units()),
+                            (timedelta(days=1), Units()), (5, Units(times="iso")), ("5", Units(times="iso")),
+                            (timedelta(days=-1), Units(times="iso"))):
+            self.assertRaises(ValueError, kept_time, keep, units)
+
+
+class Parts(Case):
+    def test_to_the_user(self):
+        """Each part as it is written, its sign before a zero too."""
+        for scale, rows in PARTS.items():
+            units = Units(scale).checked()
+            for parts, text in rows:
+                self.assertEqual(str(units.weight_to_user(parts)), text)
+                if scale > 1:
+                    self.assertEqual(str(units._replace(decimals="float").weight_to_user(parts)), str(float(text)))
+            column = [parts for parts, _ in rows]
+            self.assertEqual(list(map(str, units.all_weights_to_user(column))), [text for _, text in rows])
+
+    def test_to_the_program(self):
+        """Alone, and many at once, by the quick way and by the slow one, which one of another form makes all take."""
+        for scale, rows in PARTS.items():
+            units, texts, column = Units(scale), [text for _, text in rows], [parts for parts, _ in rows]
+            self.assertEqual([int(units.weight_to_program(it)) for it in texts], column)
+            self.assertEqual(list(units.weights_of(texts)), column)
+            self.assertEqual(list(units.weights_of([*texts, "x"])), [*column, None])
+
+    def test_answers(self):
+        store = self.store(weight_scale=100)
+        rows = [(parts, text) for parts, text in PARTS[100] if parts]
+        for at, (_, text) in enumerate(rows):
+            store.insert("k", f"s{at}", "t", text)
+        store.commit()
+        with store.open() as session:
+            for at, (parts, text) in enumerate(rows):
+                self.assertEqual(str(session.edge("k", f"s{at}", "t").weight), text)
+                self.assertEqual(str(session.degrees()[f"s{at}"].weight_out), text)
+            self.assertEqual(session.edges_columns().weight.tolist(), [parts for parts, _ in rows])
+
+    def test_rounding(self):
+        """Of negative numbers as of positive ones."""
+        for scale, rows in HALVES.items():
+            units = Units(scale, rounding="half-even").checked()
+            for text, parts in chain(rows, ((f"-{text}", -parts) for text, parts in rows)):
+                self.assertEqual(units.weight_to_program(text), str(parts), (scale, text))
+                self.assertEqual(list(units.weights_of([text, "1"])), [parts, scale], (scale, text))
+
+    def test_rounding_in_each_way(self):
+        rows = [*HALVES[100], *((f"-{text}", -parts) for text, parts in HALVES[100])]
+        wanted, columns = [parts for _, parts in rows], Columns(1, 2, weight=3)
+        text = "".join(f"s{at},t,{text}\n" for at, (text, _) in enumerate(rows))
+        ways = (lambda store: [store.add("link", f"s{at}", "t", float(text)) for at, (text, _) in enumerate(rows)],
+                lambda store: [store.add("link", f"s{at}", "t", Decimal(text)) for at, (text, _) in enumerate(rows)],
+                lambda store: store.load([(f"s{at}", "t", float(text)) for at, (text, _) in enumerate(rows)], by="add"),
+                lambda store: store.load(self.file("rows.csv", text), by="add", columns=columns))
+        for way in ways:
+            store = self.store(weight_scale=100, rounding="half-even")
+            way(store)
+            store.commit()
+            with store.open() as session:
+                found = [int(session.edge("link", f"s{at}", "t").weight * 100) for at in range(len(rows))]
+            self.assertEqual(found, wanted)
+
+
+class Ties(Case):
+    # Of weight 5 are a, c and e; of the first time 2 are b, c and d, and of the recent time 9 are a, d and e.
+    ROWS = (("a", 5, 1, 9), ("b", 3, 2, 8), ("c", 5, 2, 7), ("d", 4, 2, 9), ("e", 5, 1, 9), ("f", -5, 3, 3))
+
+    def test_edges(self):
+        """Equal ones stand in the order of the table, however many are asked for."""
+        store = self.store()
+        for target, _, first, _ in self.ROWS:
+            store.insert("k", "s", target, 1, first)
+        store.commit()
+        for target, weight, _, recent in self.ROWS:
+            store.insert("k", "s", target, weight, recent)
+        store.commit()
+        edges = store.open().edges_columns()
+        self.assertEqual(list(edges), [("k", "s", target, Edge(*values)) for target, *values in self.ROWS])
+        for by, wanted in (("weight", "acedbf"), ("first", "fbcdae"), ("recent", "adebcf")):
+            for count in range(8):
+                self.assertEqual("".join(it[2] for it in edges.top(count, by)), wanted[:count], (by, count))
+
+    def test_tables(self):
+        store = self.store(*(f"insert k {source} {target} {weight}" for source, target, weight in (
+            ("a", "x", 2), ("b", "x", 2), ("c", "x", 1), ("c", "y", 1), ("d", "z", 1), ("e", "z", 7))))
+        with store.open() as session:
+            degrees = session.degrees()
+            self.assertEqual(list(degrees), ["a", "x", "b", "c", "y", "d", "z", "e"])
+            for by, wanted in (("out", "cabdexyz"), ("into", "xzyabcde"), ("weight", "eabcdxyz")):
+                self.assertEqual("".join(name for name, _ in degrees.top(8, by)), wanted, by)
+                self.assertEqual("".join(name for name, _ in degrees.top(3, by)), wanted[:3], by)
+            self.assertEqual(session.components().top(2), [("a", 5), ("d", 3)])
+
+    def test_components_of_one_size(self):
+        with self.store("insert k c d 1", "insert k a b 1", "insert k e f 1", "insert k e g 1").open() as session:
+            self.assertEqual(session.components().top(3), [("e", 3), ("c", 2), ("a", 2)])
+
+
+class Differences(Case):
+    def test_each_field(self):
+        """An edge has changed where its weight, its first or its recent time alone is another one."""
+        for field, before, after in (
+                ("weight", ("insert k a b 5 3",), ("insert k a b 6 3",)),
+                ("recent", ("insert k a b 5 3",), ("insert k a b 5 4",)),
+                ("first", ("insert k a b 5 3", "insert k a b 5 4"), ("remove k a b", "insert k a b 5 4")),
+                ("", ("insert k a b 5 3",), ("insert k a b 5 3",))):
+            store = self.store(*before)
+            earlier = store.open()
+            self.feed(store, *after)
+            later = store.open()
+            diff, one, other = earlier.diff(later), earlier.edge("k", "a", "b"), later.edge("k", "a", "b")
+            self.assertEqual([it for it in Edge._fields if getattr(one, it) != getattr(other, it)], [field] if field else [])
+            self.assertEqual([(it.before, it.after) for it in diff.changed], [(one, other)] if field else [], field)
+            self.assertEqual((len(diff.gone), len(diff.new)), (0, 0))
+
+
+if __name__ == "__main__":
+    unittest.main()
