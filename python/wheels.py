@@ -3,8 +3,8 @@ beside the package, so that a clone stays clean.
 
 A wheel that pip asks for has the library and the program of where it stands: the archive's, or the clone's proved ones, and else
 its compiled library; where there is none, no wheel is made. Beside what is proved it has a note that says so. Where no program is
-proved yet, it has a script that runs the clone's `./stinger`: such a wheel is of use on this machine alone, as long as the clone stands there, so its tags say the
-machine, and its version the clone.
+proved yet, it has a script that runs the clone's `./stinger`: such a wheel is of use on this machine alone, as long as the clone
+stands there, so its tags say the machine, and its version the clone.
 """
 from __future__ import annotations
 
@@ -202,7 +202,7 @@ def build_wheel(wheel_directory: str, config_settings: Any = None, metadata_dire
                          "./stinger library there, which makes it, and then pip install ./python; without rt, install the wheel "
                          "of a release (docs/USING.md)")
     if not library:
-        print("misteluk: a source archive has no library: name one by the variable MISTELUK_LIBRARY, or install a release's wheel",
+        print("misteluk: a source archive has no library: have MISTELUK_LIBRARY name one, or install the wheel of a release",
               file=sys.stderr)
     return write_wheel(wheel_directory, {**package(), **library, **program_here()}).name
 

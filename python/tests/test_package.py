@@ -221,8 +221,8 @@ class Installs(Case):
         self.install(self.room / wheels.build_sdist(str(self.room)))
         none = "no store can be made without the library: its line above says what to do"
         told = self.ask("import misteluk; misteluk.Store()")
-        self.assertIn("LibraryNotFound: no libmisteluk.so is here. Make it by ./stinger library in the repository, or install the "
-                      "wheel of a release, or have MISTELUK_LIBRARY name a libmisteluk.so", told)
+        self.assertIn("LibraryNotFound: no libmisteluk.so is here. Make it by ./stinger library in the repository, or install "
+                      "the wheel of a release, or have MISTELUK_LIBRARY name a libmisteluk.so", told)
         found = self.doctor()
         self.assertIn("engine: library", found)
         self.assertTrue(any(it.startswith("library: no libmisteluk.so is here. Make it by") for it in found[:-1]), found)
