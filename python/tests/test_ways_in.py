@@ -102,8 +102,8 @@ class Weights(Case):
             mirrored = text.translate(str.maketrans(".,", ",."))
             self.assertEqual(texts.together(mirrored, ","), wanted, mirrored)
         for text in ("1,234", "12,34.5", "1,234,56.5", "1,234,5678.9", "1,2345.0", "1,23.0", "1234,567.0", "1,234,56",
-                     "1,234 567", "1,234'567.0", ",234.5", "1,,234.5", "1,234.", "1,234.5,6", "1.234,50", "1.234.567", "1,234.5e3",
-                     "1,23\u0664.5", "0x1,234.5", "", "1", "1.5"):
+                     "1,234 567", "1,234'567.0", ",234.5", "1,,234.5", "1,234.", "1,234.5,6", "1.234,50", "1.234.567",
+                     "1,234.5e3", "1,23\u0664.5", "0x1,234.5", "", "1", "1.5"):
             self.assertIsNone(texts.together(text), text)
             self.assertIsNone(texts.together(text.translate(str.maketrans(".,", ",.")), ","), text)
 

@@ -28,6 +28,8 @@ def is_missing(value: Any) -> bool:
 
 def text_of(value: Any) -> str:
     """The value as a feed's text; of a missing value an empty one, which no field takes."""
+    if type(value) is float:  # (these are the most, and are looked at by less)
+        return texts.text_of(value) if value == value else ""
     return "" if not isinstance(value, str) and is_missing(value) else texts.text_of(value)
 
 

@@ -15,8 +15,9 @@ _END = (date(9999, 12, 31).toordinal() + 1 - _FIRST_DAY) * DAY
 _HOUR, _SIXTIETH = r"(?:[01]\d|2[0-3])", r"[0-5]\d"
 _DATE = re.compile(rf"(\d{{4}}-\d\d-\d\d)(?:[T ]({_HOUR}):({_SIXTIETH})(?::({_SIXTIETH})(?:[.,](\d+))?)?)?"
                    rf"(?:Z|([+-])({_HOUR}):({_SIXTIETH}))?", re.A)
-# Lines of dates without a zone and a fraction of a second.
-_PLAIN = re.compile(rf"(?:\d{{4}}-\d\d-\d\d(?:[T ]{_HOUR}:{_SIXTIETH}(?::{_SIXTIETH})?)?\n)+", re.A)
+# The forms of dates without a zone and a fraction of a second, and what makes them of such dates: each digit 0, and T a space.
+_FORMS = {b"0000-00-00", b"0000-00-00 00:00", b"0000-00-00 00:00:00"}
+_AS_FORM = bytes.maketrans(b"123456789T", b"000000000 ")
 
 
 def microseconds_of(text: str, *, is_end: bool = False) -> int:
@@ -48,8 +49,11 @@ def microseconds_of(text: str, *, is_end: bool = False) -> int:
 def all_microseconds(texts: Sequence[str]) -> "Optional[array[int]]":
     """The microseconds since 1970 of dates, where it is seen at once that each is one, without a zone and a fraction of a second;
     `None` for others, which may be some too."""
-    lines = "\n".join([*texts, ""])
-    if lines.count("\n") != len(texts) or not _PLAIN.fullmatch(lines):
+    lines = "\n".join(texts)
+    if not lines.isascii():
+        return None
+    forms = lines.encode("ascii").translate(_AS_FORM).split(b"\n")
+    if len(forms) != len(texts) or not _FORMS.issuperset(forms) or " 24:" in lines or "T24:" in lines:  # (as some Pythons take)
         return None
     try:
         found = list(map(datetime.fromisoformat, texts))

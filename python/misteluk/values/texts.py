@@ -31,14 +31,17 @@ def together(number: str, decimal: str = ".") -> Optional[str]:
 def text_of(value: Any) -> str:
     """The value as a text: a number that is whole without decimals, as 5 of 5.0, and else as it is printed; a moment with its
     zone."""
-    if type(value) is int:
+    kind = type(value)
+    if kind is int:
         return str(value)
+    if kind is float:  # (these are the most, and are looked at by less)
+        return str(int(value)) if value.is_integer() and -_FAR < value < _FAR else str(value)
     if isinstance(value, str):
         return str.__str__(value)
+    if isinstance(value, datetime):
+        return str(value) if value.tzinfo is None else _moment(value)
     if isinstance(value, (Real, Decimal)) and not isinstance(value, Integral):
         return _number(value)
-    if isinstance(value, datetime):
-        return _moment(value)
     # (numpy's own moments of whole hours have no minutes, which a date has)
     return f"{value}:00" if str(getattr(value, "dtype", "")) == "datetime64[h]" and value == value else str(value)
 
@@ -53,5 +56,5 @@ def _number(value: Any) -> str:
 
 def _moment(value: datetime) -> str:
     """A zone whose offset has seconds, which no date has, is told in UTC."""
-    offset = value.utcoffset() if value == value else None  # (pandas' NaT is a datetime without one)
+    offset = value.utcoffset()
     return str(value.astimezone(timezone.utc) if offset and offset % MINUTE else value)
